@@ -1,0 +1,4 @@
+pub mod Odd
+pub mod Signs
+pub mod Shift
+pub mod Nearest

@@ -1,0 +1,35 @@
+-- Fixed-point numbers: a number is its raw whole number, in units of 2^-24, from -greatest to greatest.
+-- Each operation is the exact value, rounded to the nearest even and then held in that range.
+use Rattle.std.specs.Prelude.{◌≤◌, ℤ, pos, ◌+ℤ◌, ◌-ℤ◌, ◌*ℤ◌, neg_ℤ, ◌==◌, if◌then◌else◌}
+use Rattle.std.specs.Int.{int_min, int_max, int_signum}
+use Rattle.std.specs.Int.RustNames.{unsigned_abs}
+use Rattle.pf_num.specs.Round.{near}
+
+-- the greatest raw number, 2^55 - 1
+abbrev pub greatest : ℤ
+greatest = pos 36028797018963967
+
+-- the raw number of 1
+abbrev pub one : ℤ
+one = pos 16777216
+
+-- a raw number in the range of fixed-point numbers
+abbrev pub IsRaw : ℤ → Type 0
+IsRaw z = unsigned_abs z ≤ 36028797018963967
+
+-- z held between -greatest and greatest
+unfoldable pub saturated : ℤ → ℤ
+saturated z = int_max (neg_ℤ greatest) (int_min z greatest)
+
+unfoldable pub sum : ℤ → ℤ → ℤ
+sum a b = saturated (a +ℤ b)
+
+unfoldable pub difference : ℤ → ℤ → ℤ
+difference a b = saturated (a -ℤ b)
+
+unfoldable pub product : ℤ → ℤ → ℤ
+product a b = saturated (near (a *ℤ b) one)
+
+-- by 0: the greatest number, with the sign of a
+unfoldable pub quotient : ℤ → ℤ → ℤ
+quotient a b = if unsigned_abs b == 0 then int_signum a *ℤ greatest else saturated (near (a *ℤ one) b)

@@ -1,0 +1,146 @@
+ghost use Rattle.std.specs.Prelude.{◌≡◌, ◌≤◌, ◌↔◌, ℤ, pos, neg_ℤ, IsSome, IfSome};
+ghost use Rattle.std.specs.Int.{int_min, int_max};
+ghost use Rattle.std.specs.Int.RustNames.{unsigned_abs};
+ghost use Rattle.pf_num.specs.Fx.{IsRaw, sum, difference, product, quotient};
+
+use crate::quotient::{rounded_product, rounded_quotient};
+use std::marker::Model;
+
+/// The greatest raw number, 2^55 - 1.
+const GREATEST: i64 = 36_028_797_018_963_967;
+
+/// A fixed-point number: a whole number of units of 2^-24, at most 2^55 - 1 of them either way.
+///
+/// Contracts see it as that whole number. No operation wraps or fails: what is too great or too small
+/// for the range is the range's end.
+#[derive(Clone, Copy, Debug, PartialEq, Eq, PartialOrd, Ord)]
+pub struct Fx {
+    raw: i64,
+}
+
+impl Model for Fx {
+    ghost Value = { ℤ };
+
+    ghost view = { λ x. x.raw };
+
+    ghost invariant = { λ x. IsRaw x.raw };
+
+    ghost inverse = { λ z. record { raw = z } };
+}
+
+impl Fx {
+    /// 0.
+    pub const ZERO: Fx = Fx { raw: 0 };
+
+    /// 1, which is 2^24 units.
+    pub const ONE: Fx = Fx { raw: 1 << 24 };
+
+    /// The greatest number, 2^55 - 1 units. Its negative is the least.
+    pub const MAX: Fx = Fx { raw: GREATEST };
+
+    /// The length of a tick, 1/64 of a second.
+    pub const TICK: Fx = Fx { raw: 1 << 18 };
+
+    /// The number of so many units of 2^-24, where it is in range.
+    #[inline]
+    pub const fn from_raw(raw: i64) -> Option<Fx>
+        ensures range { IsSome result ↔ IsRaw raw }
+        ensures value { IfSome result (λ x. x ≡ raw) }
+    {
+        if raw >= -GREATEST && raw <= GREATEST {
+            Some(Fx { raw })
+        } else {
+            None
+        }
+    }
+
+    /// How many units of 2^-24 the number is.
+    #[inline]
+    pub const fn raw(self) -> i64
+        ensures value { result ≡ self }
+        ensures range { IsRaw result }
+    {
+        self.raw
+    }
+
+    /// The sum, held in range.
+    #[inline]
+    #[tactic(auto, unfolding(crate::specs::Fx::sum, crate::specs::Fx::saturated))]
+    pub fn add(self, other: Fx) -> Fx
+        ensures { result ≡ sum self other }
+    {
+        Fx {
+            raw: (self.raw + other.raw).clamp(-GREATEST, GREATEST),
+        }
+    }
+
+    /// The difference, held in range.
+    #[inline]
+    #[tactic(auto, unfolding(crate::specs::Fx::difference, crate::specs::Fx::saturated))]
+    pub fn sub(self, other: Fx) -> Fx
+        ensures { result ≡ difference self other }
+    {
+        Fx {
+            raw: (self.raw - other.raw).clamp(-GREATEST, GREATEST),
+        }
+    }
+
+    /// The product, rounded to the nearest even and held in range.
+    #[inline]
+    pub fn mul(self, other: Fx) -> Fx
+        ensures { result ≡ product self other }
+    {
+        Fx {
+            raw: rounded_product(self.raw, other.raw),
+        }
+    }
+
+    /// The quotient, rounded to the nearest even and held in range. By 0 it is the greatest number
+    /// with the sign of `self`, and 0 where that is 0.
+    #[inline]
+    pub fn div(self, other: Fx) -> Fx
+        ensures { result ≡ quotient self other }
+    {
+        Fx {
+            raw: rounded_quotient(self.raw, other.raw),
+        }
+    }
+
+    /// The number with the other sign.
+    #[inline]
+    pub fn neg(self) -> Fx
+        ensures { result ≡ neg_ℤ self }
+    {
+        Fx { raw: -self.raw }
+    }
+
+    /// The magnitude.
+    #[inline]
+    pub fn abs(self) -> Fx
+        ensures { result ≡ pos (unsigned_abs self) }
+    {
+        Fx {
+            raw: self.raw.abs(),
+        }
+    }
+
+    /// The lesser of two numbers.
+    #[inline]
+    pub fn min(self, other: Fx) -> Fx
+        ensures { result ≡ int_min self other }
+    {
+        Fx {
+            raw: self.raw.min(other.raw),
+        }
+    }
+
+    /// The greater of two numbers.
+    #[inline]
+    pub fn max(self, other: Fx) -> Fx
+        ensures { result ≡ int_max self other }
+    {
+        Fx {
+            raw: self.raw.max(other.raw),
+        }
+    }
+}
