@@ -1,0 +1,11 @@
+//! Plane vectors and rotation pairs over fixed-point numbers.
+#![tactic(auto)]
+
+mod rotation;
+mod vector;
+
+pub use rotation::Rot;
+pub use vector::{V2, cross_sv};
+
+#[cfg(test)]
+mod tests;

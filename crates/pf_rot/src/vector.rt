@@ -1,0 +1,110 @@
+//! Plane vectors, with the products of Box2D-Lite's MathUtils.
+
+ghost use Rattle.std.specs.Prelude.{◌≡◌};
+ghost use Rattle.pf_rot.specs.Vector.{Vec2, zero_vector, plus, minus, negated, scaled, dot, cross, cross_sv as swept};
+
+use pf_num::Fx;
+use std::marker::Model;
+
+/// A vector, a place or a velocity of the plane. Contracts see its two parts as raw numbers, in units
+/// of 2^-24. Each operation rounds and holds in range as those on [`Fx`] do.
+#[derive(Clone, Copy, Debug, PartialEq, Eq)]
+pub struct V2 {
+    pub x: Fx,
+    pub y: Fx,
+}
+
+impl Model for V2 {
+    ghost Value = { Vec2 };
+
+    ghost view = { λ v. record { x = v.x; y = v.y } };
+
+    ghost inverse = { λ v. record { x = v.x; y = v.y } };
+}
+
+impl V2 {
+    /// The vector of length 0.
+    pub const ZERO: V2 = V2 {
+        x: Fx::ZERO,
+        y: Fx::ZERO,
+    };
+
+    /// The sum, part by part.
+    #[inline]
+    #[tactic(auto, unfolding(crate::specs::Vector::plus))]
+    pub fn add(self, other: V2) -> V2
+        ensures { result ≡ plus self other }
+    {
+        V2 {
+            x: self.x.add(other.x),
+            y: self.y.add(other.y),
+        }
+    }
+
+    /// The difference, part by part.
+    #[inline]
+    #[tactic(auto, unfolding(crate::specs::Vector::minus))]
+    pub fn sub(self, other: V2) -> V2
+        ensures { result ≡ minus self other }
+    {
+        V2 {
+            x: self.x.sub(other.x),
+            y: self.y.sub(other.y),
+        }
+    }
+
+    /// The vector the other way.
+    #[inline]
+    #[tactic(auto, unfolding(crate::specs::Vector::negated))]
+    pub fn neg(self) -> V2
+        ensures { result ≡ negated self }
+    {
+        V2 {
+            x: self.x.neg(),
+            y: self.y.neg(),
+        }
+    }
+
+    /// The vector so many times, each part's product rounded.
+    #[inline]
+    #[tactic(auto, unfolding(crate::specs::Vector::scaled))]
+    pub fn scale(self, by: Fx) -> V2
+        ensures { result ≡ scaled by self }
+    {
+        V2 {
+            x: by.mul(self.x),
+            y: by.mul(self.y),
+        }
+    }
+
+    /// The dot product.
+    #[inline]
+    #[tactic(auto, unfolding(crate::specs::Vector::dot))]
+    pub fn dot(self, other: V2) -> Fx
+        ensures { result ≡ dot self other }
+    {
+        self.x.mul(other.x).add(self.y.mul(other.y))
+    }
+
+    /// The cross product of two vectors, a number.
+    #[inline]
+    #[tactic(auto, unfolding(crate::specs::Vector::cross))]
+    pub fn cross(self, other: V2) -> Fx
+        ensures { result ≡ cross self other }
+    {
+        self.x.mul(other.y).sub(self.y.mul(other.x))
+    }
+}
+
+/// The cross product of a number and a vector: the velocity of the point at `r` of a body that spins
+/// by `w`.
+#[inline]
+#[tactic(auto, unfolding(crate::specs::Vector::cross_sv))]
+pub fn cross_sv(w: Fx, r: V2) -> V2
+    ensures { result ≡ swept w r }
+{
+    V2 {
+        x: w.mul(r.y).neg(),
+        y: w.mul(r.x),
+    }
+}
