@@ -1,0 +1,193 @@
+//! The plain twin of the Rattle program `pf_bench`: the same operations on the same numbers, in
+//! plain Rust without proofs. Called as `plain OPERATION COUNT`, it makes the operation COUNT times
+//! in a chain and prints the last number, and nothing else.
+//!
+//! A number is a whole number of units of 2^-24, held between -M and M, M = 2^55 - 1. ONE is 2^24.
+//! `add` is `sat(a + b)`, `mul` is `sat(near(a * b, 2^24))`, `div` is `sat(near(a * 2^24, b))`:
+//! exact, rounded to the nearest, a tie to the even one, held to the range. `div` by 0 is M, -M or
+//! 0, as `a` is above, below or equal to 0. The paths are those of `pf_num`, a short one in 64 bits
+//! and one over 128 bits for the rest, so that only the languages differ.
+//!
+//! # The recipes
+//!
+//! Each chain has a state `x` and goes over `i` from 0 to COUNT - 1, `i` of 64 bits. Every step
+//! takes the `x` of the step before, and an operand that changes with `i`. In the table `i & m` is
+//! the bitwise and, and each line is done in its order:
+//!
+//! | OPERATION  | start           | step                                                        |
+//! |------------|-----------------|-------------------------------------------------------------|
+//! | `add`      | x = 0           | y = (i & 0xffff) * 2^30; x = add(x, y); if x == M: x = -M   |
+//! | `mul`      | x = 2^24        | y = 2^24 + (i & 0xffff); x = mul(x, y);                     |
+//! |            |                 | if x > 2^30: x = x - 1072693248   (2^30 - 2^20)             |
+//! | `div`      | x = 2^30        | y = 2^24 + (i & 0xffff); x = div(x, y);                     |
+//! |            |                 | if x < 2^20: x = x + 1072693248                             |
+//! | `mul-wide` | x = 2^50        | y = 2^24 + (i & 0xffff); x = mul(x, y);                     |
+//! |            |                 | if x > 2^54: x = x - 2^53                                   |
+//! | `div-wide` | x = 2^54        | y = 2^24 + (i & 0xffff); x = div(x, y);                     |
+//! |            |                 | if x < 2^50: x = x + 2^53                                   |
+//!
+//! The corrections stay in the range, so plain and saturating sums are the same there. In `mul` and
+//! `div` x stays between 2^20 and about 2^30, so every product and every numerator is below 2^55;
+//! in the two wide ones x is at least about 2^50, so every product is above 2^62 and every
+//! numerator above 2^64, and each step takes the exact path over 128 bits.
+
+use std::process::ExitCode;
+
+const M: i64 = (1 << 55) - 1;
+const ONE: i64 = 1 << 24;
+
+/// `n` held between -M and M.
+#[inline(always)]
+fn sat(n: i64) -> i64 {
+    n.clamp(-M, M)
+}
+
+#[inline(always)]
+fn add(a: i64, b: i64) -> i64 {
+    sat(a + b)
+}
+
+/// What rounding adds to a quotient with this remainder: 1 above a half, and at a half what makes the
+/// quotient even.
+#[inline(always)]
+fn carry(n: u64, remainder: u64, divisor: u64) -> u64 {
+    let rest = divisor - remainder;
+    if remainder < rest {
+        0
+    } else if rest < remainder {
+        1
+    } else {
+        n % 2
+    }
+}
+
+/// The number nearest to `p / q`, at most M.
+#[cold]
+#[inline(never)]
+fn nearest_wide(p: u128, q: u64) -> u64 {
+    let wide = u128::from(q);
+    let n = p / wide;
+    if n > M as u128 {
+        return M as u64;
+    }
+    let n = n as u64;
+    (n + carry(n, (p % wide) as u64, q)).min(M as u64)
+}
+
+/// The number of this magnitude, negative where it is said so.
+#[inline(always)]
+fn signed(magnitude: u64, negative: bool) -> i64 {
+    let magnitude = magnitude as i64;
+    if negative {
+        -magnitude
+    } else {
+        magnitude
+    }
+}
+
+/// A product within 2^62 is rounded in 64 bits; it is then at most 2^38.
+#[inline(always)]
+fn mul(a: i64, b: i64) -> i64 {
+    match a.checked_mul(b) {
+        Some(p) if p.unsigned_abs() <= 1 << 62 => (p + 0x7f_ffff + ((p >> 24) & 1)) >> 24,
+        _ => mul_wide(a, b),
+    }
+}
+
+/// The product over 128 bits, for all numbers.
+#[cold]
+#[inline(never)]
+fn mul_wide(a: i64, b: i64) -> i64 {
+    let p = u128::from(a.unsigned_abs()) * u128::from(b.unsigned_abs());
+    signed(nearest_wide(p, ONE as u64), (a < 0) != (b < 0))
+}
+
+/// A numerator below 2^63 is divided in 64 bits.
+#[inline(always)]
+fn div(a: i64, b: i64) -> i64 {
+    if b == 0 {
+        return a.signum() * M;
+    }
+    let (over, under) = (a.unsigned_abs(), b.unsigned_abs());
+    let magnitude = if over < 1 << 39 {
+        let p = over << 24;
+        let n = p / under;
+        (n + carry(n, p % under, under)).min(M as u64)
+    } else {
+        nearest_wide(u128::from(over) << 24, under)
+    };
+    signed(magnitude, (a < 0) != (b < 0))
+}
+
+/// The operand of step `i` in products and quotients: 1 or a little above it.
+#[inline(always)]
+fn beside_one(i: u64) -> i64 {
+    ONE + (i & 0xffff) as i64
+}
+
+fn add_chain(count: u64) -> i64 {
+    let mut x = 0;
+    for i in 0..count {
+        x = add(x, ((i & 0xffff) as i64) << 30);
+        if x == M {
+            x = -M;
+        }
+    }
+    x
+}
+
+/// Products with numbers beside 1, taken back by `back` where they are above `most`.
+#[inline(always)]
+fn mul_chain(count: u64, start: i64, most: i64, back: i64) -> i64 {
+    let mut x = start;
+    for i in 0..count {
+        x = mul(x, beside_one(i));
+        if x > most {
+            x -= back;
+        }
+    }
+    x
+}
+
+/// Quotients by numbers beside 1, raised by `back` where they are below `least`.
+#[inline(always)]
+fn div_chain(count: u64, start: i64, least: i64, back: i64) -> i64 {
+    let mut x = start;
+    for i in 0..count {
+        x = div(x, beside_one(i));
+        if x < least {
+            x += back;
+        }
+    }
+    x
+}
+
+fn chain(operation: &str, count: u64) -> Option<i64> {
+    let step = (1 << 30) - (1 << 20);
+    match operation {
+        "add" => Some(add_chain(count)),
+        "mul" => Some(mul_chain(count, 1 << 24, 1 << 30, step)),
+        "div" => Some(div_chain(count, 1 << 30, 1 << 20, step)),
+        "mul-wide" => Some(mul_chain(count, 1 << 50, 1 << 54, 1 << 53)),
+        "div-wide" => Some(div_chain(count, 1 << 54, 1 << 50, 1 << 53)),
+        _ => None,
+    }
+}
+
+fn main() -> ExitCode {
+    let words: Vec<String> = std::env::args().skip(1).collect();
+    let last = match words.as_slice() {
+        [operation, count] => count.parse().ok().and_then(|count| chain(operation, count)),
+        _ => None,
+    };
+    match last {
+        Some(number) => {
+            println!("{number}");
+            ExitCode::SUCCESS
+        }
+        None => {
+            eprintln!("usage: plain add|mul|div|mul-wide|div-wide COUNT");
+            ExitCode::from(2)
+        }
+    }
+}

@@ -1,0 +1,34 @@
+-- The chains: each step makes its number of the one before and of the step's own number.
+use Rattle.std.specs.Prelude.{ℕ, zero, suc, ◌+◌, ◌-◌, ◌*◌, ◌%◌, ◌^◌, ℤ, pos, neg_ℤ, int_lt, if◌then◌else◌}
+use Rattle.pf_num.specs.Fx.{greatest, sum, difference, product, quotient}
+use Rattle.pf_bench.specs.declared.operation.Operation.{Operation}
+use Rattle.pf_bench.specs.declared.operation.Operation.TheVariants.{Add, Mul, Div, MulWide, DivWide}
+
+-- the number after so many steps
+abbrev pub chain : (ℤ → ℕ → ℤ) → ℤ → ℕ → ℤ
+chain step first zero = first
+chain step first (suc i) = step (chain step first i) i
+
+-- 1 and up to 65535 units
+abbrev pub beside_one : ℕ → ℤ
+beside_one i = pos (2 ^ 24 + i % 65536)
+
+-- a sum; from the greatest number it begins again at the least
+unfoldable pub add_step : ℤ → ℕ → ℤ
+add_step x i = let y = sum x (pos (i % 65536 * 2 ^ 30)) in if int_lt y greatest then y else neg_ℤ greatest
+
+-- a product, taken back where it is above a limit
+unfoldable pub mul_step : ℤ → ℤ → ℤ → ℕ → ℤ
+mul_step most back x i = let y = product x (beside_one i) in if int_lt most y then difference y back else y
+
+-- a quotient, raised where it is below a limit
+unfoldable pub div_step : ℤ → ℤ → ℤ → ℕ → ℤ
+div_step least back x i = let y = quotient x (beside_one i) in if int_lt y least then sum y back else y
+
+-- the last number of each operation's chain
+abbrev pub last_of : Operation → ℕ → ℤ
+last_of Add n = chain add_step (pos 0) n
+last_of Mul n = chain (mul_step (pos (2 ^ 30)) (pos (2 ^ 30 - 2 ^ 20))) (pos (2 ^ 24)) n
+last_of Div n = chain (div_step (pos (2 ^ 20)) (pos (2 ^ 30 - 2 ^ 20))) (pos (2 ^ 30)) n
+last_of MulWide n = chain (mul_step (pos (2 ^ 54)) (pos (2 ^ 53))) (pos (2 ^ 50)) n
+last_of DivWide n = chain (div_step (pos (2 ^ 50)) (pos (2 ^ 53))) (pos (2 ^ 54)) n

@@ -1,0 +1,32 @@
+ghost use Rattle.std.specs.Prelude.{◌≡◌, IfSome};
+ghost use Rattle.pf_bench.specs.declared.operation.Operation.{Operation};
+ghost use Rattle.pf_bench.specs.Operation.{word_of};
+
+/// What the steps of a chain do.
+#[derive(Clone, Copy, Debug, PartialEq, Eq)]
+pub enum Operation {
+    Add,
+    Mul,
+    Div,
+    /// Products that 64 bits can't hold.
+    MulWide,
+    /// Quotients whose numerators 64 bits can't hold.
+    DivWide,
+}
+
+impl Operation {
+    /// The operation of this word.
+    pub fn parse(word: &str) -> Option<Operation>
+        ensures known { (o : Operation) → word.now ≡ word_of o → result ≡ Some o }
+        ensures value { IfSome result (λ o. word.now ≡ word_of o) }
+    {
+        match word {
+            "add" => Some(Operation::Add),
+            "mul" => Some(Operation::Mul),
+            "div" => Some(Operation::Div),
+            "mul-wide" => Some(Operation::MulWide),
+            "div-wide" => Some(Operation::DivWide),
+            _ => None,
+        }
+    }
+}

@@ -1,0 +1,5 @@
+pub mod Ticks
+pub mod Bodies
+pub mod Sleepers
+pub mod Events
+mod Faults

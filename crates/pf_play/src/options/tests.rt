@@ -1,0 +1,94 @@
+use super::*;
+use std::test::Fail;
+
+const USAGE: &str = "\nUsage: pf_play <COMMAND>\n\nFor more information, try '--help'.\n";
+
+const RUN_USAGE: &str = "\nUsage: pf_play run\n\nFor more information, try '--help'.\n";
+
+// What `options` says to the words behind the program's name, and by which status.
+fn said(alloc: Global, words: &[&str]) -> Result<(u8, String), AllocError> {
+    match options(alloc, words) {
+        Ok(Request::Run) => Ok((0, String::new(alloc))),
+        Ok(Request::Say(text)) => Ok((0, text)),
+        Err(PlayFault::Words(text)) => Ok((2, text)),
+        Err(_) => Err(AllocError),
+    }
+}
+
+#[test]
+fn runs(rt: HostRuntime) -> Result<(), Fail> {
+    assert!(rt; matches!(options(rt.alloc(), &["pf_play", "run"])?, Request::Run));
+    assert!(rt;
+        matches!(
+            options(rt.alloc(), &["./out/pf_play", "run", "--"])?,
+            Request::Run
+        )
+    );
+    Ok(())
+}
+
+#[test]
+fn says_the_version(rt: HostRuntime) -> Result<(), Fail> {
+    let (status, text) = said(rt.alloc(), &["pf_play", "--version"])?;
+    assert_eq!(rt; text.as_str(), "pf_play 0.1.0\n");
+    assert_eq!(rt; status, 0);
+    Ok(())
+}
+
+#[test]
+fn says_help(rt: HostRuntime) -> Result<(), Fail> {
+    let (status, text) = said(rt.alloc(), &["pf_play", "--help"])?;
+    assert_eq!(rt; status, 0);
+    assert!(rt; text.as_str().starts_with(ABOUT));
+    assert!(rt; text.as_str().contains("\nUsage: pf_play <COMMAND>\n"));
+    assert!(rt; text.as_str().contains(RUN_HELP));
+    let (status, text) = said(rt.alloc(), &["pf_play", "run", "--help"])?;
+    assert_eq!(rt; status, 0);
+    assert!(rt; text.as_str().starts_with(RUN_ABOUT));
+    assert!(rt; text.as_str().contains("\nUsage: pf_play run\n"));
+    assert!(rt; text.as_str().contains(RUN_HELP));
+    Ok(())
+}
+
+#[test]
+fn refuses_wrong_words(rt: HostRuntime) -> Result<(), Fail> {
+    let alloc = rt.alloc();
+    for (words, fault, usage) in [
+        (
+            ["pf_play"].as_slice(),
+            "error: 'pf_play' requires a subcommand but one was not provided\n  [subcommands: run]\n",
+            USAGE,
+        ),
+        (
+            ["pf_play", "fall"].as_slice(),
+            "error: unrecognized subcommand 'fall'\n",
+            USAGE,
+        ),
+        (
+            ["pf_play", "help"].as_slice(),
+            "error: unrecognized subcommand 'help'\n",
+            USAGE,
+        ),
+        (
+            ["pf_play", "--fast"].as_slice(),
+            "error: unexpected argument '--fast' found\n",
+            USAGE,
+        ),
+        (
+            ["pf_play", "run", "--crew"].as_slice(),
+            "error: unexpected argument '--crew' found\n",
+            RUN_USAGE,
+        ),
+        (
+            ["pf_play", "run", "more"].as_slice(),
+            "error: unexpected argument 'more' found\n",
+            RUN_USAGE,
+        ),
+    ] {
+        let (status, text) = said(alloc, words)?;
+        let expected = format!(in alloc; "{fault}{usage}")?;
+        assert_eq!(rt; text.as_str(), expected.as_str());
+        assert_eq!(rt; status, 2);
+    }
+    Ok(())
+}

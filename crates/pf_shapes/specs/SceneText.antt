@@ -1,0 +1,150 @@
+-- The lines of a scene: what each spells. The first fault from the left is the line's: first the word and the count
+-- of fields, then a body too many, then the fields one after the other.
+use Rattle.std.specs.Prelude.{◌≡◌, ℕ, ◌^◌, ℤ, pos, neg_ℤ, List, [], ◌∷◌, length, Option, Some, None, Result, Ok, Err, ◌==◌, nat_lt, codes, if◌then◌else◌}
+use Rattle.std.specs.Int.RustNames.{unsigned_abs}
+use Rattle.std.specs.Str.{bytes_eq}
+use Rattle.pf_text.specs.declared.fault.LineFault.{LineFault}
+use Rattle.pf_text.specs.declared.fault.LineFault.TheVariants as line_faults
+use Rattle.pf_text.specs.declared.numbers.Spelled.{Spelled}
+use Rattle.pf_text.specs.declared.numbers.Spelled.TheVariants.{Within, Outside, Misspelt}
+use Rattle.pf_text.specs.declared.driver.TakeRefusal.{TakeRefusal}
+use Rattle.pf_text.specs.declared.driver.TakeRefusal.TheVariants as refusals
+use Rattle.pf_text.specs.Numbers.{whole_of, spelled}
+use Rattle.pf_rot.specs.Vector.{Vec2}
+use Rattle.pf_rot.specs.Rotation.{upright}
+use Rattle.pf_shapes.specs.declared.fault.SceneFault.{SceneFault}
+use Rattle.pf_shapes.specs.declared.fault.SceneFault.TheVariants.{BadLine, BadNumber, TooMany, BadMass, BadSize}
+use Rattle.pf_shapes.specs.declared.fixture.Shape.TheVariants.{Circle}
+use Rattle.pf_shapes.specs.declared.words.SceneWord.{SceneWord}
+use Rattle.pf_shapes.specs.declared.words.SceneWord.TheVariants as words
+use Rattle.pf_shapes.specs.Fixture.{FixtureDef}
+use Rattle.pf_shapes.specs.declared.reader.Progress.{Progress}
+use Rattle.pf_shapes.specs.declared.reader.Progress.TheVariants.{More, Ended}
+use Rattle.pf_shapes.specs.Body.{State, start_of}
+use Rattle.pf_shapes.specs.Reader.{Reader}
+use Rattle.pf_shapes.specs.Scene.{Setting, empty_setting, with_body}
+
+infixl 10 ◌>>=◌
+abbrev pub ◌>>=◌ : {A B : Type 0} → Result A SceneFault → (A → Result B SceneFault) → Result B SceneFault
+(Ok x) >>= f = f x
+(Err fault) >>= f = Err fault
+
+-- what a function gave is what the definition reads, unless memory ran out
+abbrev pub Reads : {X F : Type 0} → Result X (TakeRefusal F) → Result X F → Type 0
+Reads (Ok x) read = read ≡ Ok x
+Reads (Err refusals.Memory) read = Unit {0}
+Reads (Err (refusals.Fault fault)) read = read ≡ Err fault
+
+-- ---- fields
+
+-- a number of a range, where one that is out of it has this name
+abbrev pub named : SceneFault → Spelled → Result ℤ SceneFault
+named outside (Within z) = Ok z
+named outside Outside = Err outside
+named outside Misspelt = Err BadNumber
+
+abbrev pub number_of : SceneFault → ℤ → ℤ → List ℕ → Result ℤ SceneFault
+number_of outside low high field = named outside (spelled low high (whole_of field))
+
+-- up to 2^34 either way
+abbrev pub acceleration_of : List ℕ → Result ℤ SceneFault
+acceleration_of field = number_of BadNumber (neg_ℤ (pos 17179869184)) (pos 17179869184) field
+
+-- up to 2^44 either way
+abbrev pub coordinate_of : List ℕ → Result ℤ SceneFault
+coordinate_of field = number_of BadNumber (neg_ℤ (pos 17592186044416)) (pos 17592186044416) field
+
+-- a radius or a half extent: 2^20 to 2^34
+abbrev pub size_of : List ℕ → Result ℤ SceneFault
+size_of field = number_of BadSize (pos 1048576) (pos 17179869184) field
+
+-- up to 2^26
+abbrev pub friction_of : List ℕ → Result ℤ SceneFault
+friction_of field = number_of BadNumber (pos 0) (pos 67108864) field
+
+-- `0`, or 2^20 to 2^34
+abbrev pub mass_of : List ℕ → Result ℤ SceneFault
+mass_of field = if bytes_eq field (codes "0") then Ok (pos 0) else number_of BadMass (pos 1048576) (pos 17179869184) field
+
+abbrev pub player_of : Result ℤ SceneFault → Result (Option ℕ) SceneFault
+player_of (Ok z) = Ok (Some (unsigned_abs z))
+player_of (Err fault) = Err fault
+
+-- `-` for nobody, or a player from 0 to 7
+abbrev pub owner_of : List ℕ → Result (Option ℕ) SceneFault
+owner_of field = if bytes_eq field (codes "-") then Ok None else player_of (number_of BadNumber (pos 0) (pos 7) field)
+
+-- the first field of a line of a scene
+abbrev pub word_of : List ℕ → Option SceneWord
+word_of field =
+    if bytes_eq field (codes "gravity") then Some words.Gravity else
+    (if bytes_eq field (codes "circle") then Some words.Circle else (if bytes_eq field (codes "end") then Some words.End else None))
+
+-- `gravity GX GY`
+unfoldable pub gravity_of : List ℕ → List ℕ → Result Vec2 SceneFault
+gravity_of x y = do
+  x ← acceleration_of x
+  y ← acceleration_of y
+  Ok (record { x = x; y = y })
+
+-- a body at its start, upright
+abbrev pub placed : FixtureDef → Vec2 → FixtureDef × State
+placed fixture place = (fixture, start_of fixture place upright)
+
+-- what six fields say of a circle and its start
+unfoldable pub circle_body : List ℕ → List ℕ → List ℕ → List ℕ → List ℕ → List ℕ → Result (FixtureDef × State) SceneFault
+circle_body owner mass friction r x y = do
+  owner ← owner_of owner
+  mass ← mass_of mass
+  friction ← friction_of friction
+  r ← size_of r
+  x ← coordinate_of x
+  y ← coordinate_of y
+  Ok (placed (record { shape = Circle r; mass = mass; friction = friction; owner = owner }) (record { x = x; y = y }))
+
+-- `circle OWNER MASS FRICTION R X Y`
+unfoldable pub circle_of : List (List ℕ) → Result (FixtureDef × State) SceneFault
+circle_of (owner ∷ mass ∷ friction ∷ r ∷ x ∷ y ∷ []) = circle_body owner mass friction r x y
+circle_of args = Err BadLine
+
+-- ---- lines
+
+-- more is to come: the scene so far
+abbrev pub so_far : ℕ → Setting → Progress
+so_far most s = More (record { most = most; scene = Some s })
+
+-- gravity comes first, and once
+unfoldable pub gravity_line : ℕ → Option Setting → List (List ℕ) → Result Progress SceneFault
+gravity_line most None (x ∷ y ∷ []) = do
+  gravity ← gravity_of x y
+  Ok (so_far most (empty_setting gravity))
+gravity_line most scene args = Err BadLine
+
+abbrev pub circle_added : ℕ → Setting → Result (FixtureDef × State) SceneFault → Result Progress SceneFault
+circle_added most s (Ok body) = Ok (so_far most (with_body s body.0 body.1))
+circle_added most s (Err fault) = Err fault
+
+-- a circle has the next number, where the scene may have one body more
+abbrev pub with_circle : ℕ → Setting → List (List ℕ) → Result Progress SceneFault
+with_circle most s args =
+    if length args == 6 then (if nat_lt (length s.fixtures) most then circle_added most s (circle_of args) else Err TooMany) else Err BadLine
+
+abbrev pub circle_line : ℕ → Option Setting → List (List ℕ) → Result Progress SceneFault
+circle_line most None args = Err BadLine
+circle_line most (Some s) args = with_circle most s args
+
+unfoldable pub end_line : Option Setting → List (List ℕ) → Result Progress SceneFault
+end_line (Some s) [] = Ok (Ended s)
+end_line scene args = Err BadLine
+
+-- a line by its word
+abbrev pub spoken : Reader → Option SceneWord → List (List ℕ) → Result Progress SceneFault
+spoken reader (Some words.Gravity) args = gravity_line reader.most reader.scene args
+spoken reader (Some words.Circle) args = circle_line reader.most reader.scene args
+spoken reader (Some words.End) args = end_line reader.scene args
+spoken reader None args = Err BadLine
+
+-- what a line of a scene makes of what was read
+unfoldable pub line_of : Reader → List (List ℕ) → Result Progress SceneFault
+line_of reader [] = Err BadLine
+line_of reader (word ∷ args) = spoken reader (word_of word) args

@@ -1,0 +1,69 @@
+//! A scene read from a text that holds nothing else.
+
+ghost use Rattle.std.specs.Prelude.{◌≡◌};
+
+use crate::fault::SceneFault;
+use crate::reader::{Progress, SceneReader};
+use crate::scene::{MAX_BODIES, Scene};
+use pf_text::{Bytes, Collected, DriveFault, LineFault, Machine, TakeRefusal, drive};
+use std::alloc::Global;
+use thiserror::Error;
+
+/// Why a text gave no scene.
+#[derive(Clone, Copy, Debug, PartialEq, Eq, Error)]
+pub enum ReadError {
+    /// The line of this number, from 1, is at fault.
+    #[error("line {0}: {1}")]
+    Line(u64, SceneFault),
+    /// No memory is left.
+    #[error("out of memory")]
+    Memory,
+}
+
+impl Machine<()> for Progress {
+    ghost use Rattle.pf_shapes.specs.SceneRead.{scene_rules};
+
+    type Fault = SceneFault;
+
+    ghost rules = { scene_rules };
+
+    fn refuse(fault: LineFault) -> SceneFault {
+        SceneFault::from(fault)
+    }
+
+    #[tactic(auto, unfolding(crate::specs::SceneRead::says))]
+    fn take(
+        self,
+        alloc: Global,
+        _lent: &mut (),
+        fields: &[&[u8]],
+    ) -> Result<(String, Self), TakeRefusal<SceneFault>> {
+        match self {
+            Progress::More(reader) => {
+                let progress = reader.take(alloc, fields)?;
+                Ok((String::new(alloc), progress))
+            }
+            Progress::Ended(_) => Err(TakeRefusal::Fault(SceneFault::BadLine)),
+        }
+    }
+}
+
+impl Scene {
+    ghost use Rattle.pf_shapes.specs.SceneRead.{scene_of, ReadsScene};
+
+    /// Reads a text that holds a scene of at most 1,024 bodies and nothing else: only lines that are skipped
+    /// may follow its `end`.
+    #[tactic(auto, unfolding(crate::specs::SceneRead::scene_of))]
+    pub fn read(alloc: Global, text: &[u8]) -> Result<Scene, ReadError>
+        ensures { ReadsScene result (scene_of text.now) }
+    {
+        let opening = Progress::More(SceneReader::new(MAX_BODIES));
+        let mut silence = Collected::new(alloc);
+        match drive(alloc, &mut (), &mut Bytes::new(text), &mut silence, opening) {
+            Ok((_, Progress::Ended(scene))) => Ok(scene),
+            Ok((number, Progress::More(_))) => Err(ReadError::Line(number, SceneFault::BadLine)),
+            Err(DriveFault::Line(number, fault)) => Err(ReadError::Line(number, fault)),
+            Err(_) => Err(ReadError::Memory),
+        }
+    }
+}

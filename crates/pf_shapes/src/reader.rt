@@ -1,0 +1,159 @@
+//! A scene read line by line.
+
+ghost use Rattle.std.specs.Prelude.{◌≡◌, ◌<◌, ◌≤◌, length, map};
+ghost use Rattle.pf_shapes.specs.SceneText.{Reads, so_far, circle_added, with_circle};
+
+use crate::body::BodyState;
+use crate::fault::SceneFault;
+use crate::fixture::Fixture;
+use crate::scene::{MAX_BODIES, Scene};
+use crate::scene_text::{read_circle, read_gravity};
+use crate::words::{SceneWord, word};
+use pf_text::TakeRefusal;
+use std::alloc::Global;
+use std::marker::Model;
+
+/// How many fields a circle has after its word.
+const CIRCLE_FIELDS: usize = 6;
+
+/// A scene that is read line by line: `gravity` first and once, then the bodies, then `end`.
+#[derive(Debug, Drop)]
+pub struct SceneReader {
+    most_bodies: usize,
+    scene: Option<Scene>,
+}
+
+impl Model for SceneReader {
+    ghost use Rattle.std.specs.Prelude.{◌≤◌};
+    ghost use Rattle.pf_shapes.specs.Reader.{Reader};
+
+    ghost Value = { Reader };
+
+    ghost view = { λ r. record { most = r.most_bodies; scene = r.scene } };
+
+    ghost invariant = { λ r. r.most_bodies ≤ 1024 };
+}
+
+/// What a line made of what was read.
+#[derive(Debug, Drop)]
+pub enum Progress {
+    /// More is to come.
+    More(SceneReader),
+    /// The line was `end`.
+    Ended(Scene),
+}
+
+impl SceneReader {
+    ghost use Rattle.std.specs.Prelude.{◌≡◌, ◌≤◌, ℕ, Option, None, map};
+    ghost use Rattle.pf_shapes.specs.Reader.{Reader};
+    ghost use Rattle.pf_shapes.specs.SceneText.{Reads, gravity_line, circle_line, end_line, line_of};
+
+    /// A reader of a scene of at most so many bodies, before its first line.
+    pub fn new(most_bodies: usize) -> SceneReader
+        requires { most_bodies ≤ MAX_BODIES }
+        ensures { result ≡ record { most = most_bodies; scene = None } }
+    {
+        SceneReader {
+            most_bodies,
+            scene: None,
+        }
+    }
+
+    /// Takes the fields of the next line that is not skipped.
+    #[tactic(auto, unfolding(crate::specs::SceneText::line_of))]
+    pub fn take(self, alloc: Global, fields: &[&[u8]]) -> Result<Progress, TakeRefusal<SceneFault>>
+        ensures { Reads result (line_of self (map (λ field. field.now) fields.now)) }
+    {
+        let [first, arguments @ ..] = fields else {
+            return Err(TakeRefusal::Fault(SceneFault::BadLine));
+        };
+        match word(first) {
+            Some(SceneWord::Gravity) => self.take_gravity(alloc, arguments),
+            Some(SceneWord::Circle) => self.take_circle(arguments),
+            Some(SceneWord::End) => self.take_end(arguments),
+            None => Err(TakeRefusal::Fault(SceneFault::BadLine)),
+        }
+    }
+
+    #[tactic(auto, unfolding(crate::specs::SceneText::gravity_line))]
+    fn take_gravity(
+        self,
+        alloc: Global,
+        arguments: &[&[u8]],
+    ) -> Result<Progress, TakeRefusal<SceneFault>>
+        ensures { Reads result (gravity_line self.most self.scene (map (λ field. field.now) arguments.now)) }
+    {
+        match (self.scene, arguments) {
+            (None, [x, y]) => {
+                let gravity = read_gravity(x, y).map_err(TakeRefusal::Fault)?;
+                Ok(so_far(self.most_bodies, Scene::new(alloc, gravity)))
+            }
+            _ => Err(TakeRefusal::Fault(SceneFault::BadLine)),
+        }
+    }
+
+    fn take_circle(self, arguments: &[&[u8]]) -> Result<Progress, TakeRefusal<SceneFault>>
+        ensures { Reads result (circle_line self.most self.scene (map (λ field. field.now) arguments.now)) }
+    {
+        let most_bodies = self.most_bodies;
+        match self.scene {
+            Some(scene) => with_circle(most_bodies, scene, arguments),
+            None => Err(TakeRefusal::Fault(SceneFault::BadLine)),
+        }
+    }
+
+    #[tactic(auto, unfolding(crate::specs::SceneText::end_line))]
+    fn take_end(self, arguments: &[&[u8]]) -> Result<Progress, TakeRefusal<SceneFault>>
+        ensures { Reads result (end_line self.scene (map (λ field. field.now) arguments.now)) }
+    {
+        match (self.scene, arguments) {
+            (Some(scene), []) => Ok(Progress::Ended(scene)),
+            _ => Err(TakeRefusal::Fault(SceneFault::BadLine)),
+        }
+    }
+}
+
+/// The scene with the circle of a line, where it may have one body more.
+fn with_circle(
+    most_bodies: usize,
+    scene: Scene,
+    arguments: &[&[u8]],
+) -> Result<Progress, TakeRefusal<SceneFault>>
+    requires { most_bodies ≤ MAX_BODIES }
+    ensures { Reads result (with_circle most_bodies scene (map (λ field. field.now) arguments.now)) }
+{
+    if arguments.len() != CIRCLE_FIELDS {
+        return Err(TakeRefusal::Fault(SceneFault::BadLine));
+    }
+    if scene.len() >= most_bodies {
+        return Err(TakeRefusal::Fault(SceneFault::TooMany));
+    }
+    circle_added(most_bodies, scene, read_circle(arguments))
+}
+
+/// The scene with the body that was read, if one was.
+fn circle_added(
+    most_bodies: usize,
+    scene: Scene,
+    body: Result<(Fixture, BodyState), SceneFault>,
+) -> Result<Progress, TakeRefusal<SceneFault>>
+    requires limit { most_bodies ≤ MAX_BODIES }
+    requires room { length scene.fixtures < most_bodies }
+    ensures { Reads result (circle_added most_bodies scene body) }
+{
+    let (fixture, start) = body.map_err(TakeRefusal::Fault)?;
+    let mut scene = scene;
+    scene.push(fixture, start)?;
+    Ok(so_far(most_bodies, scene))
+}
+
+/// More is to come of this scene.
+fn so_far(most_bodies: usize, scene: Scene) -> Progress
+    requires { most_bodies ≤ MAX_BODIES }
+    ensures { result ≡ so_far most_bodies scene }
+{
+    Progress::More(SceneReader {
+        most_bodies,
+        scene: Some(scene),
+    })
+}

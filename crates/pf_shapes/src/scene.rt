@@ -1,0 +1,93 @@
+//! Scenes.
+
+use crate::body::BodyState;
+use crate::fixture::Fixture;
+use pf_rot::V2;
+use std::alloc::{AllocError, Global};
+use std::marker::Model;
+
+/// The most bodies of a scene.
+pub const MAX_BODIES: usize = 1024;
+
+/// What a simulation starts from: gravity, and the bodies in order of their numbers, each with its start.
+#[derive(Debug, Drop)]
+pub struct Scene {
+    gravity: V2,
+    fixtures: Vec<Fixture>,
+    starts: Vec<BodyState>,
+}
+
+impl Model for Scene {
+    ghost use Rattle.pf_shapes.specs.Scene.{Setting, IsSetting};
+
+    ghost Value = { Setting };
+
+    ghost view = { λ s. record { gravity = s.gravity; fixtures = s.fixtures.items; starts = s.starts.items } };
+
+    ghost invariant = { λ s. IsSetting (record { gravity = s.gravity; fixtures = s.fixtures.items; starts = s.starts.items }) };
+}
+
+impl Scene {
+    ghost use Rattle.std.specs.Prelude.{◌≡◌, ◌<◌, ◌≤◌, ◌↔◌, [], length, IsTrue, OnOk, OnErr};
+    ghost use Rattle.pf_shapes.specs.Scene.{Setting, IsSetting, empty_setting, with_body};
+
+    /// A scene without bodies.
+    pub fn new(alloc: Global, gravity: V2) -> Scene
+        ensures { result ≡ empty_setting gravity }
+    {
+        Scene {
+            gravity,
+            fixtures: Vec::new(alloc),
+            starts: Vec::new(alloc),
+        }
+    }
+
+    /// How many bodies the scene has.
+    pub fn len(&self) -> usize
+        ensures { result ≡ length self.now.fixtures }
+    {
+        self.fixtures.len()
+    }
+
+    /// Whether the scene has no body.
+    pub fn is_empty(&self) -> bool
+        ensures { IsTrue result ↔ (self.now.fixtures ≡ []) }
+    {
+        self.fixtures.is_empty()
+    }
+
+    /// The gravity, in lengths a second squared.
+    pub fn gravity(&self) -> V2
+        ensures { result ≡ self.now.gravity }
+    {
+        self.gravity
+    }
+
+    /// What each body is, in order of their numbers.
+    pub fn fixtures(&self) -> &[Fixture]
+        ensures value { result.now ≡ self.now.fixtures }
+        ensures setting { IsSetting self.now }
+    {
+        self.fixtures.as_slice()
+    }
+
+    /// How each body starts, in order of their numbers.
+    pub fn starts(&self) -> &[BodyState]
+        ensures value { result.now ≡ self.now.starts }
+        ensures setting { IsSetting self.now }
+    {
+        self.starts.as_slice()
+    }
+
+    /// Adds a body with the next number. An `Err` leaves the scene as it was.
+    pub fn push(&mut self, fixture: Fixture, start: BodyState) -> Result<(), AllocError>
+        requires { length self.old.fixtures < MAX_BODIES }
+        ensures ok { OnOk result (self.new ≡ with_body self.old fixture start) }
+        ensures err { OnErr result (self.new ≡ self.old) }
+    {
+        self.starts.reserve(1)?;
+        self.fixtures.push(fixture)?;
+        self.starts.push_reserved(start);
+        Ok(())
+    }
+}

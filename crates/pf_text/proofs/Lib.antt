@@ -1,0 +1,8 @@
+-- The lemmas of this crate.
+pub mod Parts
+pub mod Digits
+pub mod Taking
+pub mod LinesOf
+pub mod Progress
+pub mod Buffered
+pub mod Answering

@@ -1,0 +1,87 @@
+-- What a machine that is handed a text's lines one by one writes, and how it ends.
+use Rattle.std.specs.Prelude.{◌≡◌, ℕ, ◌+◌, Bool, true, ◌&&◌, List, [], ◌∷◌, ◌++◌, length, Option, Some, Result, Ok, Err, ◌==◌, nat_lt, nat_le, if◌then◌else◌, String, string_bytes}
+use Rattle.std.specs.List.{list_all}
+use Rattle.std.specs.Global.{Global}
+use Rattle.pf_text.specs.declared.fault.LineFault.{LineFault}
+use Rattle.pf_text.specs.declared.fault.LineFault.TheVariants.{BadLine}
+use Rattle.pf_text.specs.declared.driver.TakeRefusal.{TakeRefusal}
+use Rattle.pf_text.specs.declared.driver.TakeRefusal.TheVariants as refusals
+use Rattle.pf_text.specs.declared.driver.DriveFault.{DriveFault}
+use Rattle.pf_text.specs.declared.driver.DriveFault.TheVariants as faults
+use Rattle.pf_text.specs.declared.lines.TakeError.{TakeError}
+use Rattle.pf_text.specs.declared.lines.TakeError.TheVariants as takes
+use Rattle.pf_text.specs.Fields.{fields_of}
+use Rattle.pf_text.specs.Lines.{lines_of, is_line, AreLines}
+
+-- a line has at most 4,096 bytes, all of ASCII
+abbrev pub is_plain : List ℕ → Bool
+is_plain line = nat_le (length line) 4096 && list_all (λ byte. nat_lt byte 128) line
+
+-- an empty line, or one that begins with `#`
+abbrev pub is_skipped : List ℕ → Bool
+is_skipped [] = true
+is_skipped (byte ∷ bytes) = byte == 35
+
+-- what a machine does: its answer to the fields of a line and its next state, or its fault; and its fault for a line that has no fields
+pub record Rules (S F : Type 0) : Type 0 where
+  pub says : S → List (List ℕ) → Result (List ℕ × S) F
+  pub refused : LineFault → F
+
+-- the answer to the fields of a line, where it has any
+abbrev pub said : {S F : Type 0} → Rules S F → S → Result (List (List ℕ)) LineFault → Result (List ℕ × S) F
+said rules state (Ok fields) = rules.says state fields
+said rules state (Err fault) = Err (rules.refused fault)
+
+-- the answer to a line, and the next state
+unfoldable pub step : {S F : Type 0} → Rules S F → S → List ℕ → Result (List ℕ × S) F
+step rules state line =
+    if is_plain line then (if is_skipped line then Ok ([], state) else said rules state (fields_of line)) else Err (rules.refused BadLine)
+
+-- what is written, and how it ends: with the number of the next line, or with that of the line at fault
+pub record Output (S F : Type 0) : Type 0 where
+  pub text : List ℕ
+  pub ending : Result (ℕ × S) (ℕ × F)
+
+-- the output of a line, and of what follows where the line is answered
+abbrev pub and_then : {S F : Type 0} → ℕ → Result (List ℕ × S) F → (S → Output S F) → Output S F
+and_then number (Err fault) others = record { text = []; ending = Err (number, fault) }
+and_then number (Ok answer) others = record { text = answer.0 ++ (others answer.1).text; ending = (others answer.1).ending }
+
+-- the output of lines, the first of which has this number
+unfoldable pub answers : {S F : Type 0} → Rules S F → ℕ → S → List (List ℕ) → Output S F
+answers rules number state [] = record { text = []; ending = Ok (number, state) }
+answers rules number state (line ∷ lines) = and_then number (step rules state line) (λ next. answers rules (number + 1) next lines)
+
+-- the output of a text
+abbrev pub output_of : {S F : Type 0} → Rules S F → S → List ℕ → Output S F
+output_of rules start input = answers rules 1 start (lines_of input)
+
+-- What was driven: the bytes of the input, the bytes that were there before, those that are there after, and what of
+-- the input is left, if that is known. Where memory or a reader failed, the lines before are answered.
+abbrev pub Drives : {S F : Type 0} → Rules S F → S → List ℕ → Option (List ℕ) → List ℕ → Option (List ℕ) → Result (ℕ × S) (DriveFault F) → Type 0
+Drives rules start input left before after (Ok ended) =
+    (left ≡ Some []) × (after ≡ Some (before ++ (output_of rules start input).text)) × ((output_of rules start input).ending ≡ Ok ended)
+Drives rules start input left before after (Err (faults.Line number fault)) =
+    (after ≡ Some (before ++ (output_of rules start input).text)) × ((output_of rules start input).ending ≡ Err (number, fault))
+Drives rules start input left before after (Err faults.Memory) =
+    (lines : List (List ℕ)) × (others : List (List ℕ)) × (lines_of input ≡ lines ++ others) × (after ≡ Some (before ++ (answers rules 1 start lines).text))
+Drives rules start input left before after (Err faults.Read) =
+    (lines : List (List ℕ)) × (part : List ℕ) × (rest : List ℕ) × AreLines input lines (part ++ rest) × (is_line part ≡ true) × (left ≡ Some rest) × (after ≡ Some (before ++ (answers rules 1 start lines).text))
+Drives rules start input left before after (Err faults.Write) =
+    (part : List ℕ) × (rest : List ℕ) × (part ++ rest ≡ (output_of rules start input).text) × (after ≡ Some (before ++ part))
+
+-- what a line that was not taken makes of the run
+abbrev pub fault_of : {F : Type 0} → TakeError → DriveFault F
+fault_of takes.Memory = faults.Memory
+fault_of takes.Read = faults.Read
+
+-- what a refusal of a line makes of it
+abbrev pub fault_at : {F : Type 0} → ℕ → TakeRefusal F → DriveFault F
+fault_at number refusals.Memory = faults.Memory
+fault_at number (refusals.Fault fault) = faults.Line number fault
+
+-- what a machine returned is what its rules say, unless memory ran out
+abbrev pub Tells : {S F : Type 0} → Result (String Global × S) (TakeRefusal F) → Result (List ℕ × S) F → Type 0
+Tells (Ok told) read = read ≡ Ok (string_bytes told.0, told.1)
+Tells (Err refusals.Memory) read = Unit {0}
+Tells (Err (refusals.Fault fault)) read = read ≡ Err fault

@@ -1,0 +1,23 @@
+//! Texts as lines, fields and whole numbers: what a program that answers lines needs, whatever the lines mean.
+#![tactic(auto)]
+
+mod driver;
+mod fault;
+mod fields;
+mod laws;
+mod lines;
+mod memory;
+mod numbers;
+mod streams;
+
+pub use driver::{DriveFault, Machine, TakeRefusal, drive};
+pub use fault::{LineError, LineFault};
+pub use fields::fields_of;
+pub use laws::{answers_stand, skipped_line};
+pub use lines::{MAX_LINE, ReadFailed, Sink, Source, TakeError, Taken, WriteFailed, take_line};
+pub use memory::{Bytes, Collected};
+pub use numbers::{Spelled, integer, number, whole};
+pub use streams::{Input, Output};
+
+#[cfg(test)]
+mod tests;

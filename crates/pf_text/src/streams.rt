@@ -1,0 +1,168 @@
+//! Any reader as a source, any writer as a sink: standard input and output among them.
+
+ghost use Rattle.std.specs.Prelude.{◌≡◌, ◌+◌, ◌^◌, ◌<◌, ◌≤◌, length, take, IfOk, OnOk, OnErr};
+ghost use Rattle.std.specs.Io.KnownBytes.{Appends, Keeps, IsAtEnd, ReadConsumes, prepend_known};
+ghost use Rattle.pf_text.specs.Lines.{AppendsFront, Counts};
+ghost use Rattle.pf_text.specs.Streams.{unread};
+
+use crate::lines::{ReadFailed, Sink, Source, WriteFailed};
+use std::io::{ErrorKind, Read, Write};
+
+/// How many bytes are read at once.
+const BUFFER: usize = 8192;
+
+/// Reads what there is, and again after an interrupt; it reads no byte at the end alone.
+#[tactic(auto, using(crate::proofs::Taking::keeps_same, crate::proofs::Taking::keeps_more, crate::proofs::Taking::consumes_after))]
+#[inline(never)]
+fn read_some<R: Read>(reader: &mut R, buffer: &mut [u8]) -> Result<usize, ReadFailed>
+    ensures within { IfOk result (λ count. count ≤ length buffer.new) }
+    ensures read { ReadConsumes (R.remaining reader.old) (R.remaining reader.new) result buffer.new }
+{
+    for _ in 0..u64::MAX {
+        match reader.read(buffer) {
+            Ok(count) => return Ok(count),
+            Err(error) if error.kind() == ErrorKind::Interrupted => {}
+            Err(_) => return Err(ReadFailed),
+        }
+    }
+    Err(ReadFailed)
+}
+
+/// A reader as a source, which tells of its bytes what the reader does.
+#[derive(Drop)]
+pub struct Input<R: Read> {
+    reader: R,
+    buffer: [u8; BUFFER],
+    start: usize,
+    end: usize,
+    failures: u64,
+    ghost ordered: { start ≤ end },
+    ghost filled: { end ≤ length buffer },
+}
+
+impl<R: Read> Input<R> {
+    /// The bytes of a reader.
+    #[tactic(auto, using(crate::proofs::Taking::keeps_same))]
+    pub fn new(reader: R) -> Self
+        ensures remaining { Keeps (R.remaining reader) (⟦<Input<R> as Source>⟧.remaining result) }
+        ensures failures { ⟦<Input<R> as Source>⟧.failures result ≡ 0 }
+    {
+        Input {
+            reader,
+            buffer: [0; BUFFER],
+            start: 0,
+            end: 0,
+            failures: 0,
+        }
+    }
+
+    /// Has a byte ready, if one is left.
+    #[tactic(auto, using(crate::proofs::Buffered::keeps_filled, crate::proofs::Buffered::keeps_unfilled, crate::proofs::Taking::keeps_same))]
+    #[inline]
+    fn fill(&mut self) -> Result<(), ReadFailed>
+        requires { self.old.failures + 1 < 2 ^ 64 }
+        ensures kept { Keeps (prepend_known (unread self.old.start self.old.end self.old.buffer) (R.remaining self.old.reader))
+            (prepend_known (unread self.new.start self.new.end self.new.buffer) (R.remaining self.new.reader)) }
+        ensures end { OnOk result (self.new.start ≡ self.new.end → IsAtEnd (R.remaining self.new.reader)) }
+        ensures counted { Counts self.old.failures result self.new.failures }
+    {
+        if self.start < self.end {
+            return Ok(());
+        }
+        match read_some(&mut self.reader, &mut self.buffer) {
+            Ok(count) => {
+                self.start = 0;
+                self.end = count;
+                Ok(())
+            }
+            Err(failed) => {
+                self.failures += 1;
+                Err(failed)
+            }
+        }
+    }
+}
+
+impl<R: Read> Source for Input<R> {
+    ghost remaining = { λ source. prepend_known (unread source.start source.end source.buffer) (R.remaining source.reader) };
+
+    ghost failures = { λ source. source.failures };
+
+    #[tactic(auto, using(crate::proofs::Buffered::consumes_unread))]
+    #[inline]
+    fn next_byte(&mut self) -> Result<Option<u8>, ReadFailed> {
+        self.fill()?;
+        if self.start == self.end {
+            return Ok(None);
+        }
+        let byte = self.buffer[self.start];
+        self.start += 1;
+        Ok(Some(byte))
+    }
+}
+
+/// Writes a beginning of the bytes, which are not empty, and again after an interrupt.
+#[tactic(auto, using(crate::proofs::Taking::keeps_same, crate::proofs::Taking::keeps_more, crate::proofs::Taking::appends_after, crate::proofs::Buffered::keeps_from_appends))]
+fn write_some<W: Write>(writer: &mut W, bytes: &[u8]) -> Result<usize, WriteFailed>
+    ensures some { IfOk result (λ count. (0 < count) × (count ≤ length bytes.now)) }
+    ensures ok { IfOk result (λ count. Appends (W.contents writer.old) (W.contents writer.new) (take count bytes.now)) }
+    ensures err { OnErr result (Keeps (W.contents writer.old) (W.contents writer.new)) }
+{
+    for _ in 0..u64::MAX {
+        match writer.write(bytes) {
+            Ok(0) => return Err(WriteFailed),
+            Ok(count) => return Ok(count),
+            Err(fault) if fault.kind() == ErrorKind::Interrupted => {}
+            Err(_) => return Err(WriteFailed),
+        }
+    }
+    Err(WriteFailed)
+}
+
+/// Writes all the bytes.
+#[tactic(auto, using(crate::proofs::Buffered::appends_front_kept, crate::proofs::Buffered::appends_whole))]
+fn write_whole<W: Write>(writer: &mut W, bytes: &[u8]) -> Result<(), WriteFailed>
+    ensures ok { OnOk result (Appends (W.contents writer.old) (W.contents writer.new) bytes.now) }
+    ensures err { OnErr result (AppendsFront (W.contents writer.old) (W.contents writer.new) bytes.now) }
+{
+    let mut rest = bytes;
+    while !rest.is_empty() {
+        let count = write_some(writer, rest)?;
+        rest = &rest[count..];
+    }
+    Ok(())
+}
+
+/// A writer as a sink, which is flushed at each write and tells of its bytes what the writer does.
+#[derive(Debug, Drop)]
+pub struct Output<W: Write> {
+    writer: W,
+    failures: u64,
+}
+
+impl<W: Write> Output<W> {
+    /// What goes to a writer.
+    pub fn new(writer: W) -> Self
+        ensures contents { ⟦<Output<W> as Sink>⟧.contents result ≡ W.contents writer }
+        ensures failures { ⟦<Output<W> as Sink>⟧.failures result ≡ 0 }
+    {
+        Output {
+            writer,
+            failures: 0,
+        }
+    }
+}
+
+impl<W: Write> Sink for Output<W> {
+    ghost contents = { λ sink. W.contents sink.writer };
+
+    ghost failures = { λ sink. sink.failures };
+
+    fn write_all(&mut self, bytes: &[u8]) -> Result<(), WriteFailed> {
+        if write_whole(&mut self.writer, bytes).is_ok() && self.writer.flush().is_ok() {
+            return Ok(());
+        }
+        self.failures += 1;
+        Err(WriteFailed)
+    }
+}
