@@ -61,9 +61,9 @@ fn carry(n: u64, remainder: u64, divisor: u64) -> u64 {
     }
 }
 
-/// The number nearest to `p / q`, at most M.
-#[cold]
-#[inline(never)]
+/// The number nearest to `p / q`, at most M. Inlined, so that a division by a power of two becomes a
+/// shift.
+#[inline(always)]
 fn nearest_wide(p: u128, q: u64) -> u64 {
     let wide = u128::from(q);
     let n = p / wide;
@@ -85,11 +85,34 @@ fn signed(magnitude: u64, negative: bool) -> i64 {
     }
 }
 
-/// A product within 2^62 is rounded in 64 bits; it is then at most 2^38.
+/// Whether a number is short: two short ones have a product within 2^62.
+#[inline(always)]
+fn is_short(a: i64) -> bool {
+    (-(1 << 31)..1 << 31).contains(&a)
+}
+
+/// A product within 2^62, which is then at most 2^38 when it's rounded.
+#[inline(always)]
+fn shifted(p: i64) -> i64 {
+    (p + 0x7f_ffff + ((p >> 24) & 1)) >> 24
+}
+
+/// A product of short numbers is rounded in 64 bits.
 #[inline(always)]
 fn mul(a: i64, b: i64) -> i64 {
+    if is_short(a) && is_short(b) {
+        shifted(a * b)
+    } else {
+        mul_long(a, b)
+    }
+}
+
+/// The same where a factor isn't short.
+#[cold]
+#[inline(never)]
+fn mul_long(a: i64, b: i64) -> i64 {
     match a.checked_mul(b) {
-        Some(p) if p.unsigned_abs() <= 1 << 62 => (p + 0x7f_ffff + ((p >> 24) & 1)) >> 24,
+        Some(p) if p.unsigned_abs() <= 1 << 62 => shifted(p),
         _ => mul_wide(a, b),
     }
 }
@@ -100,6 +123,13 @@ fn mul(a: i64, b: i64) -> i64 {
 fn mul_wide(a: i64, b: i64) -> i64 {
     let p = u128::from(a.unsigned_abs()) * u128::from(b.unsigned_abs());
     signed(nearest_wide(p, ONE as u64), (a < 0) != (b < 0))
+}
+
+/// A quotient's magnitude over 128 bits.
+#[cold]
+#[inline(never)]
+fn div_wide(over: u64, under: u64) -> u64 {
+    nearest_wide(u128::from(over) << 24, under)
 }
 
 /// A numerator below 2^63 is divided in 64 bits.
@@ -114,7 +144,7 @@ fn div(a: i64, b: i64) -> i64 {
         let n = p / under;
         (n + carry(n, p % under, under)).min(M as u64)
     } else {
-        nearest_wide(u128::from(over) << 24, under)
+        div_wide(over, under)
     };
     signed(magnitude, (a < 0) != (b < 0))
 }

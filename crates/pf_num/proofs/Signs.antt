@@ -1,7 +1,8 @@
 -- Signs and magnitudes: a rounded quotient by its magnitude.
-use Rattle.std.proofs.Common.{◌≡◌, ℕ, zero, suc, ◌*◌, ◌<◌, ◌≤◌, ℤ, pos, negsuc, ◌*ℤ◌, neg_ℤ, Bool, false, true, refl, sym, ◌∙◌, arith, min, ltb, eqb, ◌^◌}
+use Rattle.std.proofs.Common.{◌≡◌, ℕ, zero, suc, ◌*◌, ◌<◌, ◌≤◌, ℤ, pos, negsuc, ◌*ℤ◌, neg_ℤ, Bool, false, true, refl, sym, ◌∙◌, arith, min, ltb, eqb, ◌^◌, w64, FitsSigned}
 use Rattle.std.proofs.lemmas.Bool.Decides.{nat_tests}
-use Rattle.std.proofs.lemmas.Int.{ints, clamps}
+use Rattle.std.proofs.lemmas.Int.{ints, clamps, unsigned_abs-mul}
+use Rattle.std.proofs.Math.Nat.{mul-le-mul}
 use Rattle.std.specs.Int.{int_signum}
 use Rattle.std.specs.Int.RustNames.{unsigned_abs}
 use Rattle.pf_num.specs.Round.{nearest, near, with_sign, is_opposite}
@@ -90,3 +91,13 @@ quotient-zero a = refl
 pub product_in_range : (a b : ℤ) → unsigned_abs (near (a *ℤ b) (pos 16777216)) ≤ 2 ^ 38 → near (a *ℤ b) (pos 16777216) ≡ product a b
 unfolding product saturated
 product_in_range a b h = omega (arith, ints, clamps)
+
+-- a product of short numbers is within 2^62, and fits a machine's number
+pub short-product : (a b : ℤ) → unsigned_abs a ≤ 2147483648 → unsigned_abs b ≤ 2147483648 → unsigned_abs (a *ℤ b) ≤ 4611686018427387904
+short-product a b ha hb = rw (unsigned_abs-mul a b) (mul-le-mul ha hb)
+
+small_fits : (z : ℤ) → unsigned_abs z ≤ 4611686018427387904 → FitsSigned w64 z
+small_fits z h = omega (arith, ints)
+
+pub short_fits : (a b : ℤ) → unsigned_abs a ≤ 2147483648 → unsigned_abs b ≤ 2147483648 → FitsSigned w64 (a *ℤ b)
+short_fits a b ha hb = small_fits (a *ℤ b) (short-product a b ha hb)

@@ -1,6 +1,6 @@
 //! Rounded quotients: a short path in 64 bits for what scenes have, and one exact path for the rest.
 
-ghost use Rattle.std.specs.Prelude.{◌≡◌, ◌≢◌, ◌≤◌, ◌<◌, ◌^◌, ◌*◌, ◌%◌, pos, neg_ℤ, min, if◌then◌else◌};
+ghost use Rattle.std.specs.Prelude.{◌≡◌, ◌≢◌, ◌≤◌, ◌<◌, IsTrue, ◌^◌, ◌*◌, ◌%◌, pos, neg_ℤ, min, if◌then◌else◌};
 ghost use Rattle.std.specs.Int.RustNames.{unsigned_abs};
 ghost use Rattle.pf_num.specs.Round.{carry, nearest, with_sign, near};
 ghost use Rattle.pf_num.specs.Fx.{IsRaw, product, quotient};
@@ -38,13 +38,24 @@ fn nearest_quotient(a: u64, b: u64) -> u64
         let n = p / b;
         (n + carry_of(n, p % b, b)).min(GREATEST)
     } else {
-        nearest_wide(a as u128 * 16_777_216, b)
+        long_quotient(a, b)
     }
 }
 
-/// The number nearest to `p / q`, at most the greatest.
+/// The same over 128 bits.
 #[cold]
 #[inline(never)]
+fn long_quotient(a: u64, b: u64) -> u64
+    requires some { b ≢ 0 }
+    requires few { a < 2 ^ 63 }
+    ensures { result ≡ min (nearest (a * 16777216) b) GREATEST }
+{
+    nearest_wide(a as u128 * 16_777_216, b)
+}
+
+/// The number nearest to `p / q`, at most the greatest. Inlined, so that a division by a power of two
+/// becomes a shift.
+#[inline]
 #[tactic(auto, unfolding(crate::specs::Round::nearest))]
 fn nearest_wide(p: u128, q: u64) -> u64
     requires some { q ≢ 0 }
@@ -78,9 +89,33 @@ fn shifted(p: i64) -> i64
     (p + 0x7f_ffff + odd(p >> 24)) >> 24
 }
 
+/// Whether a number is short: two short ones have a product within 2^62.
+#[inline]
+fn is_short(a: i64) -> bool
+    ensures { IsTrue result → unsigned_abs a ≤ 2 ^ 31 }
+{
+    a >= -(1 << 31) && a < 1 << 31
+}
+
 /// The product of two raw numbers, rounded and held in range.
 #[inline]
 pub fn rounded_product(a: i64, b: i64) -> i64
+    requires left { IsRaw a }
+    requires right { IsRaw b }
+    ensures value { result ≡ product a b }
+    ensures range { IsRaw result }
+{
+    if is_short(a) && is_short(b) {
+        shifted(a * b)
+    } else {
+        long_product(a, b)
+    }
+}
+
+/// The same where a factor isn't short.
+#[cold]
+#[inline(never)]
+fn long_product(a: i64, b: i64) -> i64
     requires left { IsRaw a }
     requires right { IsRaw b }
     ensures value { result ≡ product a b }

@@ -1,7 +1,13 @@
 use Rattle.std.proofs.Common.{arith}
-use Rattle.std.proofs.lemmas.Int.{ints, to_z-of_z}
-use Rattle.pf_num.proofs.Signs.{product_in_range}
+use Rattle.std.proofs.lemmas.Int.{to_z-of_z}
+use Rattle.pf_num.proofs.Signs.{short-product, short_fits, product_in_range}
 use Rattle.pf_num.proofs.quotient.rounded_product.Goals as goal
 
-pub returns-in-Some-clause-value : goal.returns-in-Some-clause-value
-returns-in-Some-clause-value c = grind (arith, ints, to_z-of_z, product_in_range)
+pub overflow_mul-a : goal.overflow_mul-a
+overflow_mul-a c = grind (arith, to_z-of_z, short_fits)
+
+pub shifted-requires : goal.shifted-requires
+shifted-requires c = grind (arith, to_z-of_z, short_fits, short-product)
+
+pub returns-then-is_short-2-clause-value : goal.returns-then-is_short-2-clause-value
+returns-then-is_short-2-clause-value c = grind (arith, to_z-of_z, short_fits, product_in_range)
