@@ -26,6 +26,14 @@
 //! | `div-wide` | x = 2^54        | y = 2^24 + (i & 0xffff); x = div(x, y);                     |
 //! |            |                 | if x < 2^50: x = x + 2^53                                   |
 //!
+//! | `root`     | x = 2^24        | x = add(root(x), (i & 0xffff) * 2^16)                       |
+//! | `length`   | x = 2^24        | x = length(x, (i & 0xffff) * 2^10);                         |
+//! |            |                 | if x > 2^30: x = x - 1072693248                             |
+//! | `turn`     | c = 2^24, s = 0 | (c, s) = turn((c, s), 2^24 + (i & 0xffff)); prints c        |
+//!
+//! Roots and lengths are by std's `isqrt`: `root(a)` is the whole root of `a * 2^24`, `length(x, y)` that of
+//! `x * x + y * y`. `turn` is `unit(c - a * s, s + a * c)` with `a = w / 64`, and `unit` divides by the length.
+//!
 //! The corrections stay in the range, so plain and saturating sums are the same there. In `mul` and
 //! `div` x stays between 2^20 and about 2^30, so every product and every numerator is below 2^55;
 //! in the two wide ones x is at least about 2^50, so every product is above 2^62 and every
@@ -155,6 +163,66 @@ fn beside_one(i: u64) -> i64 {
     ONE + (i & 0xffff) as i64
 }
 
+/// The whole root, in 64 bits where the number fits them.
+#[inline(always)]
+fn whole_root(n: u128) -> i64 {
+    match u64::try_from(n) {
+        Ok(n) => n.isqrt() as i64,
+        Err(_) => n.isqrt().min(M as u128) as i64,
+    }
+}
+
+#[inline(always)]
+fn root(a: i64) -> i64 {
+    whole_root(u128::from(a.max(0) as u64) << 24)
+}
+
+#[inline(always)]
+fn length(x: i64, y: i64) -> i64 {
+    let (x, y) = (u128::from(x.unsigned_abs()), u128::from(y.unsigned_abs()));
+    whole_root(x * x + y * y)
+}
+
+#[inline(always)]
+fn turn(c: i64, s: i64, w: i64) -> (i64, i64) {
+    let a = mul(1 << 18, w);
+    if a == 0 {
+        return (c, s);
+    }
+    let (c, s) = (sat(c - mul(a, s)), sat(s + mul(a, c)));
+    match length(c, s) {
+        0 => (ONE, 0),
+        l => (div(c, l), div(s, l)),
+    }
+}
+
+fn root_chain(count: u64) -> i64 {
+    let mut x = ONE;
+    for i in 0..count {
+        x = add(root(x), ((i & 0xffff) as i64) << 16);
+    }
+    x
+}
+
+fn length_chain(count: u64) -> i64 {
+    let mut x = ONE;
+    for i in 0..count {
+        x = length(x, ((i & 0xffff) as i64) << 10);
+        if x > 1 << 30 {
+            x -= (1 << 30) - (1 << 20);
+        }
+    }
+    x
+}
+
+fn turn_chain(count: u64) -> i64 {
+    let (mut c, mut s) = (ONE, 0);
+    for i in 0..count {
+        (c, s) = turn(c, s, beside_one(i));
+    }
+    c
+}
+
 fn add_chain(count: u64) -> i64 {
     let mut x = 0;
     for i in 0..count {
@@ -200,6 +268,9 @@ fn chain(operation: &str, count: u64) -> Option<i64> {
         "div" => Some(div_chain(count, 1 << 30, 1 << 20, step)),
         "mul-wide" => Some(mul_chain(count, 1 << 50, 1 << 54, 1 << 53)),
         "div-wide" => Some(div_chain(count, 1 << 54, 1 << 50, 1 << 53)),
+        "root" => Some(root_chain(count)),
+        "length" => Some(length_chain(count)),
+        "turn" => Some(turn_chain(count)),
         _ => None,
     }
 }
@@ -216,7 +287,7 @@ fn main() -> ExitCode {
             ExitCode::SUCCESS
         }
         None => {
-            eprintln!("usage: plain add|mul|div|mul-wide|div-wide COUNT");
+            eprintln!("usage: plain add|mul|div|mul-wide|div-wide|root|length|turn COUNT");
             ExitCode::from(2)
         }
     }

@@ -1,8 +1,10 @@
 -- The chains: each step makes its number of the one before and of the step's own number.
 use Rattle.std.specs.Prelude.{ℕ, zero, suc, ◌+◌, ◌-◌, ◌*◌, ◌%◌, ◌^◌, ℤ, pos, neg_ℤ, int_lt, if◌then◌else◌}
-use Rattle.pf_num.specs.Fx.{greatest, sum, difference, product, quotient}
+use Rattle.pf_num.specs.Fx.{greatest, sum, difference, product, quotient, root}
+use Rattle.pf_rot.specs.Vector.{length_of}
+use Rattle.pf_rot.specs.Rotation.{Pair, upright, turned}
 use Rattle.pf_bench.specs.declared.operation.Operation.{Operation}
-use Rattle.pf_bench.specs.declared.operation.Operation.TheVariants.{Add, Mul, Div, MulWide, DivWide}
+use Rattle.pf_bench.specs.declared.operation.Operation.TheVariants.{Add, Mul, Div, MulWide, DivWide, Root, Length, Turn}
 
 -- the number after so many steps
 abbrev pub chain : (ℤ → ℕ → ℤ) → ℤ → ℕ → ℤ
@@ -25,6 +27,21 @@ mul_step most back x i = let y = product x (beside_one i) in if int_lt most y th
 unfoldable pub div_step : ℤ → ℤ → ℤ → ℕ → ℤ
 div_step least back x i = let y = quotient x (beside_one i) in if int_lt y least then sum y back else y
 
+-- a root, raised by up to 65535 times 2^16
+unfoldable pub root_step : ℤ → ℕ → ℤ
+root_step x i = sum (root x) (pos (i % 65536 * 2 ^ 16))
+
+-- the length of a vector of x and up to 65535 times 2^10, taken back where it is above 64
+unfoldable pub length_step : ℤ → ℕ → ℤ
+length_step x i =
+    let y = length_of (record { x = x; y = pos (i % 65536 * 2 ^ 10) }) in
+    if int_lt (pos (2 ^ 30)) y then difference y (pos (2 ^ 30 - 2 ^ 20)) else y
+
+-- a rotation after so many turns, each by a little more than 1 a second
+unfoldable pub turns : ℕ → Pair
+turns zero = upright
+turns (suc i) = turned (turns i) (beside_one i)
+
 -- the last number of each operation's chain
 abbrev pub last_of : Operation → ℕ → ℤ
 last_of Add n = chain add_step (pos 0) n
@@ -32,3 +49,6 @@ last_of Mul n = chain (mul_step (pos (2 ^ 30)) (pos (2 ^ 30 - 2 ^ 20))) (pos (2 
 last_of Div n = chain (div_step (pos (2 ^ 20)) (pos (2 ^ 30 - 2 ^ 20))) (pos (2 ^ 30)) n
 last_of MulWide n = chain (mul_step (pos (2 ^ 54)) (pos (2 ^ 53))) (pos (2 ^ 50)) n
 last_of DivWide n = chain (div_step (pos (2 ^ 50)) (pos (2 ^ 53))) (pos (2 ^ 54)) n
+last_of Root n = chain root_step (pos (2 ^ 24)) n
+last_of Length n = chain length_step (pos (2 ^ 24)) n
+last_of Turn n = (turns n).c

@@ -2,10 +2,11 @@
 
 ghost use Rattle.std.specs.Prelude.{◌≡◌, ◌%◌, pos};
 ghost use Rattle.pf_num.specs.Fx.{IsRaw};
-ghost use Rattle.pf_bench.specs.Chain.{chain, last_of, beside_one, add_step, mul_step, div_step};
+ghost use Rattle.pf_bench.specs.Chain.{chain, last_of, beside_one, add_step, mul_step, div_step, root_step, length_step, turns};
 
 use crate::operation::Operation;
 use pf_num::Fx;
+use pf_rot::{Rot, V2};
 
 /// The number of so many units.
 #[inline]
@@ -105,6 +106,67 @@ fn div_chain(count: u64, first: Fx, least: Fx, back: Fx) -> Fx
     x
 }
 
+/// A root, raised by up to 65535 times 2^16.
+#[inline]
+#[tactic(auto, unfolding(crate::specs::Chain::root_step))]
+fn root_step(x: Fx, i: u64) -> Fx
+    ensures { result ≡ root_step x i }
+{
+    x.root().add(units(low_bits(i) * (1 << 16)))
+}
+
+/// The length of a vector of `x` and up to 65535 times 2^10, taken back where it is above 64.
+#[inline]
+#[tactic(auto, unfolding(crate::specs::Chain::length_step))]
+fn length_step(x: Fx, i: u64) -> Fx
+    ensures { result ≡ length_step x i }
+{
+    let vector = V2 {
+        x,
+        y: units(low_bits(i) * (1 << 10)),
+    };
+    let length = vector.length();
+    if length > units(1 << 30) {
+        length.sub(units((1 << 30) - (1 << 20)))
+    } else {
+        length
+    }
+}
+
+/// Roots, one after the other.
+fn root_chain(count: u64) -> Fx
+    ensures { result ≡ chain root_step (pos 16777216) count }
+{
+    let mut x = Fx::ONE;
+    for i in 0..count {
+        x = root_step(x, i);
+    }
+    x
+}
+
+/// Lengths, one after the other.
+fn length_chain(count: u64) -> Fx
+    ensures { result ≡ chain length_step (pos 16777216) count }
+{
+    let mut x = Fx::ONE;
+    for i in 0..count {
+        x = length_step(x, i);
+    }
+    x
+}
+
+/// A rotation that is turned again and again.
+#[tactic(auto, using(crate::proofs::Turns::turns_none, crate::proofs::Turns::turns_more))]
+fn turn_chain(count: u64) -> Rot
+    ensures { result ≡ turns count }
+{
+    let mut pair = Rot::UPRIGHT;
+    for i in 0..count {
+        pair = pair.turn(beside_one(i));
+    }
+    pair
+}
+
 /// The last number of the operation's chain of so many steps.
 pub fn last(operation: Operation, count: u64) -> Fx
     ensures { result ≡ last_of operation count }
@@ -116,5 +178,8 @@ pub fn last(operation: Operation, count: u64) -> Fx
         Operation::Div => div_chain(count, units(1 << 30), units(1 << 20), step),
         Operation::MulWide => mul_chain(count, units(1 << 50), units(1 << 54), units(1 << 53)),
         Operation::DivWide => div_chain(count, units(1 << 54), units(1 << 50), units(1 << 53)),
+        Operation::Root => root_chain(count),
+        Operation::Length => length_chain(count),
+        Operation::Turn => turn_chain(count).c,
     }
 }

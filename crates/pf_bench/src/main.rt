@@ -1,8 +1,8 @@
-//! Makes one operation of `pf_num` many times in a chain, and prints the last number: what proofs
+//! Makes one operation of `pf_num` or `pf_rot` many times in a chain, and prints the last number: what proofs
 //! cost is measured on it, beside the same chains in plain Rust.
 //!
-//! Called as `pf_bench OPERATION COUNT`, with an operation `add`, `mul`, `div`, `mul-wide` or
-//! `div-wide`. In the wide two each step takes the exact path over 128 bits.
+//! Called as `pf_bench OPERATION COUNT`, with an operation `add`, `mul`, `div`, `mul-wide`, `div-wide`,
+//! `root`, `length` or `turn`. In the wide two each step takes the exact path over 128 bits.
 #![tactic(auto)]
 
 mod chain;
@@ -29,7 +29,7 @@ fn request(rt: &(impl Env + Alloc)) -> Option<(Operation, u64)> {
 
 fn main(rt: HostRuntime) -> io::Result<ExitCode> {
     let Some((operation, count)) = request(&rt) else {
-        eprintln!(rt; "usage: pf_bench add|mul|div|mul-wide|div-wide COUNT")?;
+        eprintln!(rt; "usage: pf_bench add|mul|div|mul-wide|div-wide|root|length|turn COUNT")?;
         return Ok(ExitCode::from(2));
     };
     println!(rt; "{}", chain::last(operation, count).raw())?;

@@ -12,6 +12,9 @@ pub enum Operation {
     MulWide,
     /// Quotients whose numerators 64 bits can't hold.
     DivWide,
+    Root,
+    Length,
+    Turn,
 }
 
 impl Operation {
@@ -26,6 +29,9 @@ impl Operation {
             "div" => Some(Operation::Div),
             "mul-wide" => Some(Operation::MulWide),
             "div-wide" => Some(Operation::DivWide),
+            "root" => Some(Operation::Root),
+            "length" => Some(Operation::Length),
+            "turn" => Some(Operation::Turn),
             _ => None,
         }
     }

@@ -2,3 +2,4 @@ pub mod Odd
 pub mod Signs
 pub mod Shift
 pub mod Nearest
+pub mod Roots

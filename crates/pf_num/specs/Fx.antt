@@ -1,8 +1,9 @@
 -- Fixed-point numbers: a number is its raw whole number, in units of 2^-24, from -greatest to greatest.
 -- Each operation is the exact value, rounded to the nearest even and then held in that range.
-use Rattle.std.specs.Prelude.{◌≤◌, ℤ, pos, ◌+ℤ◌, ◌-ℤ◌, ◌*ℤ◌, neg_ℤ, ◌==◌, if◌then◌else◌}
-use Rattle.std.specs.Int.{int_min, int_max, int_signum}
+use Rattle.std.specs.Prelude.{◌≤◌, ◌*◌, ℤ, pos, ◌+ℤ◌, ◌-ℤ◌, ◌*ℤ◌, neg_ℤ, ◌==◌, if◌then◌else◌}
+use Rattle.std.specs.Int.{int_min, int_max, int_signum, is_negative}
 use Rattle.std.specs.Int.RustNames.{unsigned_abs}
+use Rattle.pf_num.specs.Root.{whole_root}
 use Rattle.pf_num.specs.Round.{near}
 
 -- the greatest raw number, 2^55 - 1
@@ -12,6 +13,10 @@ greatest = pos 36028797018963967
 -- the raw number of 1
 abbrev pub one : ℤ
 one = pos 16777216
+
+-- the raw number of 1/64, the length of a tick in seconds
+abbrev pub tick : ℤ
+tick = pos 262144
 
 -- a raw number in the range of fixed-point numbers
 abbrev pub IsRaw : ℤ → Type 0
@@ -33,3 +38,7 @@ product a b = saturated (near (a *ℤ b) one)
 -- by 0: the greatest number, with the sign of a
 unfoldable pub quotient : ℤ → ℤ → ℤ
 quotient a b = if unsigned_abs b == 0 then int_signum a *ℤ greatest else saturated (near (a *ℤ one) b)
+
+-- the greatest r with r * r at most a * 2^24, and 0 below 0
+unfoldable pub root : ℤ → ℤ
+root a = if is_negative a then pos 0 else pos (whole_root (unsigned_abs a * 16777216))

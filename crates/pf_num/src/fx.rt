@@ -1,9 +1,10 @@
 ghost use Rattle.std.specs.Prelude.{◌≡◌, ◌≤◌, ◌↔◌, ℤ, pos, neg_ℤ, IsSome, IfSome};
 ghost use Rattle.std.specs.Int.{int_min, int_max};
 ghost use Rattle.std.specs.Int.RustNames.{unsigned_abs};
-ghost use Rattle.pf_num.specs.Fx.{IsRaw, sum, difference, product, quotient};
+ghost use Rattle.pf_num.specs.Fx.{IsRaw, sum, difference, product, quotient, root};
 
 use crate::quotient::{rounded_product, rounded_quotient};
+use crate::root::raw_root;
 use std::marker::Model;
 
 /// The greatest raw number, 2^55 - 1.
@@ -103,6 +104,19 @@ impl Fx {
     {
         Fx {
             raw: rounded_quotient(self.raw, other.raw),
+        }
+    }
+
+    /// The root, rounded down, and 0 below 0.
+    #[tactic(auto, unfolding(crate::specs::Fx::root))]
+    pub fn root(self) -> Fx
+        ensures { result ≡ root self }
+    {
+        if self.raw < 0 {
+            return Fx::ZERO;
+        }
+        Fx {
+            raw: raw_root(self.raw.unsigned_abs()) as i64,
         }
     }
 

@@ -1,10 +1,18 @@
-//! What the definitions of rounding mean, as laws.
+//! What the definitions of rounding and roots mean, as laws. Their functions do nothing: their clauses are what
+//! they are for.
 
-ghost use Rattle.std.specs.Prelude.{◌≡◌, ◌≢◌, ℤ, pos};
+ghost use Rattle.std.specs.Prelude.{◌≡◌, ◌≢◌, ℕ, ℤ, pos};
+ghost use Rattle.pf_num.specs.Root.{IsRoot, whole_root};
 ghost use Rattle.pf_num.specs.Round.{IsNear, near};
 
 /// The rounded quotient is a nearest whole number, the even one of two, and it is the only one.
 pub fn rounds_to_nearest_even()
     ensures meets { (p q : ℤ) → q ≢ pos 0 → IsNear p q (near p q) }
     ensures unique { (p q n : ℤ) → q ≢ pos 0 → IsNear p q n → near p q ≡ n }
+{}
+
+/// The whole root is the greatest number whose square is at most `n`, and it is the only one.
+pub fn roots_are_greatest()
+    ensures meets { (n : ℕ) → IsRoot n (whole_root n) }
+    ensures unique { (n r : ℕ) → IsRoot n r → whole_root n ≡ r }
 {}

@@ -7,8 +7,10 @@
 mod fx;
 pub mod laws;
 mod quotient;
+mod root;
 
 pub use fx::Fx;
+pub use root::whole_root;
 
 #[cfg(test)]
 mod tests;

@@ -2,19 +2,16 @@
 -- one body alone goes through, and the sleep of Box2D 2.x.
 use Rattle.std.specs.Prelude.{ℕ, zero, suc, ◌+◌, ◌*◌, ℤ, pos, Bool, true, false, ◌&&◌, List, map, min, ◌==◌, nat_le, if◌then◌else◌}
 use Rattle.std.specs.Int.RustNames.{unsigned_abs}
+use Rattle.pf_num.specs.Fx.{tick}
 use Rattle.pf_rot.specs.Vector.{Vec2, zero_vector, plus, scaled}
 use Rattle.pf_shapes.specs.Body.{State}
 use Rattle.pf_shapes.specs.Scene.{Setting}
 
 -- ---- one body, one phase after the other
 
--- 1/64 of a second
-abbrev pub tick_length : ℤ
-tick_length = pos 262144
-
 -- what gravity adds to a velocity in a tick
 abbrev pub pull_of : Vec2 → Vec2
-pull_of gravity = scaled tick_length gravity
+pull_of gravity = scaled tick gravity
 
 -- Gravity
 unfoldable pub fallen : Vec2 → State → State
@@ -22,7 +19,7 @@ fallen pull b = record b { vel = plus b.vel pull }
 
 -- Places: the place goes on by the new velocity, and the pair stays, since nothing spins
 unfoldable pub moved : State → State
-moved b = record b { place = plus b.place (scaled tick_length b.vel) }
+moved b = record b { place = plus b.place (scaled tick b.vel) }
 
 -- at most 1/64 a second, by exact squares
 abbrev pub is_slow : Vec2 → Bool

@@ -1,7 +1,9 @@
 -- Plane vectors over fixed-point numbers, with the products of Box2D-Lite's MathUtils. Each part is rounded and
 -- held in range as the operations on numbers are.
-use Rattle.std.specs.Prelude.{ℤ, pos, neg_ℤ}
-use Rattle.pf_num.specs.Fx.{sum, difference, product}
+use Rattle.std.specs.Prelude.{◌+◌, ◌*◌, ℤ, pos, neg_ℤ}
+use Rattle.std.specs.Int.RustNames.{unsigned_abs}
+use Rattle.pf_num.specs.Root.{whole_root}
+use Rattle.pf_num.specs.Fx.{saturated, sum, difference, product}
 
 -- a vector, or a place: its two parts as raw numbers
 pub record Vec2 : Type 0 where
@@ -34,3 +36,7 @@ cross a b = difference (product a.x b.y) (product a.y b.x)
 -- the velocity of a point at r of a body that spins by w
 unfoldable pub cross_sv : ℤ → Vec2 → Vec2
 cross_sv w r = record { x = neg_ℤ (product w r.y); y = product w r.x }
+
+-- the length, rounded down: the root of the exact sum of squares
+unfoldable pub length_of : Vec2 → ℤ
+length_of v = saturated (pos (whole_root (unsigned_abs v.x * unsigned_abs v.x + unsigned_abs v.y * unsigned_abs v.y)))

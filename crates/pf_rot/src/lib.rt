@@ -1,6 +1,7 @@
 //! Plane vectors and rotation pairs over fixed-point numbers.
 #![tactic(auto)]
 
+pub mod laws;
 mod rotation;
 mod vector;
 

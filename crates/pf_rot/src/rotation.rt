@@ -1,7 +1,7 @@
 //! Rotations as a pair of cosine and sine, as Box2D's `b2Rot`.
 
 ghost use Rattle.std.specs.Prelude.{◌≡◌};
-ghost use Rattle.pf_rot.specs.Rotation.{Pair, rotated, unrotated};
+ghost use Rattle.pf_rot.specs.Rotation.{Pair, unit, turned, rotated, unrotated};
 
 use crate::vector::V2;
 use pf_num::Fx;
@@ -29,6 +29,35 @@ impl Rot {
         c: Fx::ONE,
         s: Fx::ZERO,
     };
+
+    /// The rotation whose cosine and sine are as `c` to `s`: each divided by their length, and upright where
+    /// that is 0.
+    #[tactic(auto, unfolding(crate::specs::Rotation::unit))]
+    pub fn unit(c: Fx, s: Fx) -> Rot
+        ensures { result ≡ unit c s }
+    {
+        let length = V2 { x: c, y: s }.length();
+        if length == Fx::ZERO {
+            return Rot::UPRIGHT;
+        }
+        Rot {
+            c: c.div(length),
+            s: s.div(length),
+        }
+    }
+
+    /// The rotation after a tick of this angular velocity, in radians a second. It stays as it is, bit for
+    /// bit, where the angle of a tick rounds to 0.
+    #[tactic(auto, unfolding(crate::specs::Rotation::turned))]
+    pub fn turn(self, spin: Fx) -> Rot
+        ensures { result ≡ turned self spin }
+    {
+        let angle = Fx::TICK.mul(spin);
+        if angle == Fx::ZERO {
+            return self;
+        }
+        Rot::unit(self.c.sub(angle.mul(self.s)), self.s.add(angle.mul(self.c)))
+    }
 
     /// The vector turned by this rotation: from a body's own axes to the world's.
     #[inline]

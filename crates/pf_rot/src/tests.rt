@@ -35,3 +35,78 @@ fn turns_vectors(rt: HostRuntime) {
     assert_eq!(rt; Rot::UPRIGHT.rotate(v), v);
     assert_eq!(rt; v.sub(v), V2::ZERO);
 }
+
+// Answers by Python's whole numbers; the first turn is that of a disc after a push of its spin to 2.
+#[test]
+fn lengths_and_turns(rt: HostRuntime) {
+    for (x, y, length) in LENGTHS {
+        assert_eq!(rt; vector(&rt, x, y).length().raw(), length, "({x}, {y})");
+    }
+    for (c, s, unit_c, unit_s) in UNITS {
+        let from = vector(&rt, c, s);
+        let unit = Rot::unit(from.x, from.y);
+        assert_eq!(rt;
+            (unit.c.raw(), unit.s.raw()),
+            (unit_c, unit_s),
+            "({c}, {s})"
+        );
+    }
+    for (c, s, spin, turned_c, turned_s) in TURNS {
+        let from = vector(&rt, c, s);
+        let pair = Rot {
+            c: from.x,
+            s: from.y,
+        };
+        let turned = pair.turn(Fx::from_raw(spin).expect(&rt, "in range"));
+        assert_eq!(rt;
+            (turned.c.raw(), turned.s.raw()),
+            (turned_c, turned_s),
+            "({c}, {s}) by {spin}"
+        );
+    }
+    laws::lengths_are_greatest();
+    laws::nothing_turns_nothing();
+}
+
+// x, y and the length.
+#[rattlefmt::skip]
+const LENGTHS: [(i64, i64, i64); 11] = [
+    (0, 0, 0),
+    (3, 4, 5),
+    (-3, -4, 5),
+    (1, 1, 1),
+    (16777216, 16777216, 23726566),
+    (36028797018963967, 0, 36028797018963967),
+    (36028797018963967, 36028797018963967, 36028797018963967),
+    (-36028797018963967, 1, 36028797018963967),
+    (2147483648, -2147483648, 3037000499),
+    (4294967301, 8589934593, 9603838838),
+    (5497558138880, 13194139533312, 14293651161088),
+];
+
+// c, s and the pair of length 1.
+#[rattlefmt::skip]
+const UNITS: [(i64, i64, i64, i64); 7] = [
+    (0, 0, 16777216, 0),
+    (16777216, 0, 16777216, 0),
+    (0, -5, 0, -16777216),
+    (3, 4, 10066330, 13421773),
+    (-16777216, 16777216, -11863283, 11863283),
+    (1, -1, 16777216, -16777216),
+    (16777216, 16777216, 11863283, 11863283),
+];
+
+// A pair, a spin, and the pair after a tick.
+#[rattlefmt::skip]
+const TURNS: [(i64, i64, i64, i64, i64); 10] = [
+    (16777216, 0, 33554432, 16769030, 524032),
+    (16777216, 0, 36028797018963967, 0, 16777216),
+    (0, 16777216, 36028797018963967, -16777216, 0),
+    (16777216, 0, 31, 16777216, 0),
+    (16777216, 0, 33, 16777216, 1),
+    (3, 4, 31, 3, 4),
+    (3, 4, -32, 3, 4),
+    (16769030, 524032, -33554432, 16777216, 0),
+    (0, 0, 83886080, 16777216, 0),
+    (-16777216, 0, 67108864, -16744544, -1046534),
+];

@@ -1,10 +1,13 @@
 //! Plane vectors, with the products of Box2D-Lite's MathUtils.
 
 ghost use Rattle.std.specs.Prelude.{◌≡◌};
-ghost use Rattle.pf_rot.specs.Vector.{Vec2, zero_vector, plus, minus, negated, scaled, dot, cross, cross_sv as swept};
+ghost use Rattle.pf_rot.specs.Vector.{Vec2, zero_vector, plus, minus, negated, scaled, length_of, dot, cross, cross_sv as swept};
 
-use pf_num::Fx;
+use pf_num::{Fx, whole_root};
 use std::marker::Model;
+
+/// The greatest raw number, 2^55 - 1.
+const GREATEST: u64 = 36_028_797_018_963_967;
 
 /// A vector, a place or a velocity of the plane. Contracts see its two parts as raw numbers, in units
 /// of 2^-24. Each operation rounds and holds in range as those on [`Fx`] do.
@@ -84,6 +87,18 @@ impl V2 {
         ensures { result ≡ dot self other }
     {
         self.x.mul(other.x).add(self.y.mul(other.y))
+    }
+
+    /// The length, rounded down, by the exact sum of squares.
+    #[inline]
+    #[tactic(auto, unfolding(crate::specs::Vector::length_of, pf_num::specs::Fx::saturated))]
+    pub fn length(self) -> Fx
+        ensures { result ≡ length_of self }
+    {
+        let x = u128::from(self.x.raw().unsigned_abs());
+        let y = u128::from(self.y.raw().unsigned_abs());
+        let length = whole_root(x * x + y * y).min(GREATEST);
+        Fx::from_raw(length as i64).unwrap()
     }
 
     /// The cross product of two vectors, a number.

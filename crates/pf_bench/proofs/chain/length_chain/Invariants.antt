@@ -1,0 +1,6 @@
+use Rattle.std.proofs.Common.{◌≡◌, pos}
+use Rattle.pf_bench.specs.Chain.{chain, length_step}
+use Rattle.pf_bench.proofs.chain.length_chain.Given as goal
+
+abbrev pub invariant-loop-i : goal.invariant-loop-i
+invariant-loop-i l = l.x ≡ chain length_step (pos 16777216) l.i

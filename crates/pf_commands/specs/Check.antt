@@ -1,0 +1,24 @@
+-- Which commands a scene allows: a player moves the bodies that it owns.
+use Rattle.std.specs.Prelude.{ℕ, Bool, true, false, Option, Some, None, Result, Ok, Err, ◌==◌, slice_get, if◌then◌else◌}
+use Rattle.pf_shapes.specs.Fixture.{FixtureDef, is_static}
+use Rattle.pf_shapes.specs.Scene.{Setting}
+use Rattle.pf_commands.specs.declared.checking.CheckFault.{CheckFault}
+use Rattle.pf_commands.specs.declared.checking.CheckFault.TheVariants.{UnknownBody, StaticBody, NotOwner}
+use Rattle.pf_commands.specs.declared.payload.Payload.{Payload}
+use Rattle.pf_commands.specs.Name.{CommandName}
+use Rattle.pf_commands.specs.Payload.{body_of}
+
+-- a body of nobody has no owner
+abbrev pub owns : ℕ → Option ℕ → Bool
+owns player None = false
+owns player (Some owner) = owner == player
+
+-- what keeps a player from moving a body, if there is one with this number
+abbrev pub allowed : ℕ → Option FixtureDef → Result (Unit {0}) CheckFault
+allowed player None = Err UnknownBody
+allowed player (Some f) =
+    if is_static f then Err StaticBody else (if owns player f.owner then Ok tt else Err NotOwner)
+
+-- whether the scene allows the command
+abbrev pub check_of : Setting → CommandName → Payload → Result (Unit {0}) CheckFault
+check_of s name payload = allowed name.player (slice_get s.fixtures (body_of payload))

@@ -1,0 +1,4 @@
+pub mod Name
+pub mod Payload
+pub mod Frame
+pub mod Check

@@ -1,0 +1,207 @@
+//! Commands as 27 bytes on the wire.
+
+ghost use Rattle.std.specs.Prelude.{◌≡◌, ◌<◌, ◌^◌, length, IfOk, Ok};
+ghost use Rattle.pf_commands.specs.declared.payload.Command.{Command};
+ghost use Rattle.pf_commands.specs.Name.{IsName};
+ghost use Rattle.pf_commands.specs.Payload.{IsPayload, body_of};
+ghost use Rattle.pf_commands.specs.Frame.{Spells, spelling, decode_of, payload_of};
+
+use crate::fault::FrameFault;
+use crate::name::Name;
+use crate::payload::{Command, Payload};
+use byteorder::{BigEndian, ByteOrder};
+use pf_num::Fx;
+
+mod laws;
+
+pub use laws::one_spelling;
+
+#[cfg(test)]
+mod tests;
+
+/// The length of a frame, in bytes.
+pub const FRAME_LEN: usize = 27;
+
+/// The first byte of a frame.
+const VERSION: u8 = 1;
+
+/// The kind of a push.
+const PUSH: u8 = 0;
+
+/// The kind of a turn, which has no y.
+const TURN: u8 = 1;
+
+/// The kind of a stop, which has neither x nor y.
+const STOP: u8 = 2;
+
+/// Frames name ticks below this.
+const TICKS: u32 = 1 << 20;
+
+/// Frames name players below this.
+const PLAYERS: u8 = 8;
+
+/// Frames name bodies below this.
+const BODIES: u16 = 1 << 10;
+
+/// The fields of a frame as they stand there, x and y in two's complement.
+#[derive(Clone, Copy)]
+struct Fields {
+    version: u8,
+    tick: u32,
+    player: u8,
+    number: u16,
+    kind: u8,
+    body: u16,
+    x: u64,
+    y: u64,
+}
+
+impl Fields {
+    ghost use Rattle.pf_commands.specs.Frame.{fields_of, fields_in, bytes_in, is_canonical, command_of};
+
+    /// The fields of 27 bytes.
+    #[tactic(auto, unfolding(crate::specs::Frame::fields_of))]
+    fn of_bytes(bytes: &[u8]) -> Fields
+        requires { length bytes.now ≡ FRAME_LEN }
+        ensures { result ≡ fields_of bytes.now }
+    {
+        Fields {
+            version: bytes[0],
+            tick: BigEndian::read_u32(&bytes[1..]),
+            player: bytes[5],
+            number: BigEndian::read_u16(&bytes[6..]),
+            kind: bytes[8],
+            body: BigEndian::read_u16(&bytes[9..]),
+            x: BigEndian::read_u64(&bytes[11..]),
+            y: BigEndian::read_u64(&bytes[19..]),
+        }
+    }
+
+    /// The fields of a command's frame.
+    #[tactic(auto, unfolding(crate::specs::Frame::fields_in))]
+    fn of_command(command: &Command) -> Fields
+        ensures value { result ≡ fields_in command.now }
+        ensures name { IsName command.now.name }
+        ensures payload { IsPayload command.now.payload }
+    {
+        let (kind, x, y) = match command.payload {
+            Payload::Push { x, y, .. } => (PUSH, x, y),
+            Payload::Turn { x, .. } => (TURN, x, Fx::ZERO),
+            Payload::Stop { .. } => (STOP, Fx::ZERO, Fx::ZERO),
+        };
+        Fields {
+            version: VERSION,
+            tick: command.name.tick(),
+            player: command.name.player(),
+            number: command.name.number(),
+            kind,
+            body: command.payload.body(),
+            x: x.raw().cast_unsigned(),
+            y: y.raw().cast_unsigned(),
+        }
+    }
+
+    /// The fields as 27 bytes.
+    #[tactic(auto, unfolding(crate::specs::Frame::bytes_in))]
+    fn bytes(self) -> [u8; FRAME_LEN]
+        ensures { result ≡ bytes_in self }
+    {
+        let mut frame = [0; FRAME_LEN];
+        frame[0] = self.version;
+        BigEndian::write_u32(&mut frame[1..], self.tick);
+        frame[5] = self.player;
+        BigEndian::write_u16(&mut frame[6..], self.number);
+        frame[8] = self.kind;
+        BigEndian::write_u16(&mut frame[9..], self.body);
+        BigEndian::write_u64(&mut frame[11..], self.x);
+        BigEndian::write_u64(&mut frame[19..], self.y);
+        frame
+    }
+
+    /// Whether x and y are 0 where the kind has none.
+    fn is_canonical(self) -> bool
+        ensures { result ≡ is_canonical self.kind self.x self.y }
+    {
+        match self.kind {
+            PUSH => true,
+            TURN => self.y == 0,
+            _ => self.x == 0 && self.y == 0,
+        }
+    }
+
+    /// The command that the fields name, or the first cause why they name none.
+    #[tactic(auto, unfolding(crate::specs::Frame::command_of, crate::specs::Frame::command_in, crate::specs::Frame::is_in_range))]
+    fn command(self) -> Result<Command, FrameFault>
+        ensures { result ≡ command_of self }
+    {
+        if self.version != VERSION {
+            return Err(FrameFault::BadVersion);
+        }
+        if self.kind > STOP {
+            return Err(FrameFault::BadKind);
+        }
+        if !self.is_canonical() {
+            return Err(FrameFault::NotCanonical);
+        }
+        if self.tick >= TICKS || self.player >= PLAYERS || self.body >= BODIES {
+            return Err(FrameFault::OutOfRange);
+        }
+        let x = Fx::from_raw(self.x.cast_signed());
+        let y = Fx::from_raw(self.y.cast_signed());
+        match (x, y) {
+            (Some(x), Some(y)) => Ok(Command {
+                name: Name::new(self.tick, self.player, self.number),
+                payload: payload_of(self.kind, self.body, x, y),
+            }),
+            _ => Err(FrameFault::OutOfRange),
+        }
+    }
+}
+
+/// The payload of a kind.
+fn payload_of(kind: u8, body: u16, x: Fx, y: Fx) -> Payload
+    ensures { result ≡ payload_of kind body x y }
+{
+    match kind {
+        PUSH => Payload::Push { body, x, y },
+        TURN => Payload::Turn { body, x },
+        _ => Payload::Stop { body },
+    }
+}
+
+/// The command that bytes spell, or the first cause why they spell none.
+#[tactic(auto, unfolding(crate::specs::Frame::decode_of))]
+fn decoded(bytes: &[u8]) -> Result<Command, FrameFault>
+    ensures { result ≡ decode_of bytes.now }
+{
+    if bytes.len() < FRAME_LEN {
+        return Err(FrameFault::Short);
+    }
+    if bytes.len() > FRAME_LEN {
+        return Err(FrameFault::Long);
+    }
+    Fields::of_bytes(bytes).command()
+}
+
+/// The command that bytes spell. It takes no memory.
+pub fn decode(bytes: &[u8]) -> Result<Command, FrameFault>
+    // What is answered is spelled so.
+    ensures found { IfOk result (Spells bytes.now) }
+
+    // What is spelled so is answered.
+    ensures only { (c : Command) → Spells bytes.now c → result ≡ Ok c }
+
+    // Which refusal it is: the first that holds of the six, in the order of `FrameFault`.
+    ensures exact { result ≡ decode_of bytes.now }
+{
+    decoded(bytes)
+}
+
+/// The one spelling of a command whose body is below 1,024. Other commands have none.
+pub fn encode(command: &Command) -> [u8; FRAME_LEN]
+    requires { body_of command.now.payload < 2 ^ 10 }
+    ensures spelled { Spells result command.now }
+    ensures value { result ≡ spelling command.now }
+{
+    Fields::of_command(command).bytes()
+}
