@@ -1,5 +1,18 @@
--- The lemmas of this crate.
+-- Frames.
 pub mod Digits
 pub mod Fields
 pub mod Frames
 pub mod Spelling
+-- Command maps.
+pub mod Names
+pub mod WeightOrder
+pub mod Weights
+pub mod Merging
+pub mod Ranges
+pub mod Lists
+pub mod Changes
+pub mod Stored
+pub mod Spans
+pub mod Ticks
+-- Checks.
+pub mod Checks

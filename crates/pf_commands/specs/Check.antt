@@ -1,5 +1,5 @@
 -- Which commands a scene allows: a player moves the bodies that it owns.
-use Rattle.std.specs.Prelude.{ℕ, Bool, true, false, Option, Some, None, Result, Ok, Err, ◌==◌, slice_get, if◌then◌else◌}
+use Rattle.std.specs.Prelude.{ℕ, Bool, false, Option, Some, None, List, [], ◌∷◌, Result, Ok, Err, ◌==◌, slice_get, if◌then◌else◌}
 use Rattle.pf_shapes.specs.Fixture.{FixtureDef, is_static}
 use Rattle.pf_shapes.specs.Scene.{Setting}
 use Rattle.pf_commands.specs.declared.checking.CheckFault.{CheckFault}
@@ -22,3 +22,13 @@ allowed player (Some f) =
 -- whether the scene allows the command
 abbrev pub check_of : Setting → CommandName → Payload → Result (Unit {0}) CheckFault
 check_of s name payload = allowed name.player (slice_get s.fixtures (body_of payload))
+
+-- one check, and then the others
+abbrev pub and_then : Result (Unit {0}) CheckFault → Result (Unit {0}) CheckFault → Result (Unit {0}) CheckFault
+and_then (Ok done) others = others
+and_then (Err fault) others = Err fault
+
+-- whether the scene allows each command, in order: the first fault
+abbrev pub check_all_of : Setting → List (CommandName × Payload) → Result (Unit {0}) CheckFault
+check_all_of s [] = Ok tt
+check_all_of s (e ∷ es) = and_then (check_of s e.0 e.1) (check_all_of s es)

@@ -1,4 +1,6 @@
 pub mod Name
 pub mod Payload
 pub mod Frame
+pub mod Merge
+pub mod News
 pub mod Check

@@ -1,5 +1,5 @@
 -- Whole square roots, rounded down.
-use Rattle.std.specs.Prelude.{◌≡◌, ℕ, zero, suc, ◌+◌, ◌*◌, ◌<◌, ◌≤◌, nat_le, if◌then◌else◌}
+use Rattle.std.specs.Prelude.{ℕ, zero, suc, ◌+◌, ◌*◌, ◌<◌, ◌≤◌, nat_le, if◌then◌else◌}
 
 -- r is the greatest number whose square is at most n
 pub record IsRoot (n r : ℕ) : Type 0 where

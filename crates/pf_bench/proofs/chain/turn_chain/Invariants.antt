@@ -1,4 +1,4 @@
-use Rattle.std.proofs.Common.{◌≡◌, pos}
+use Rattle.std.proofs.Common.{◌≡◌}
 use Rattle.pf_bench.specs.Chain.{turns}
 use Rattle.pf_bench.proofs.chain.turn_chain.Given as goal
 

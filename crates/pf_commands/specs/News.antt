@@ -1,0 +1,48 @@
+-- What putting a command into a map and merging maps answer.
+use Rattle.std.specs.Prelude.{◌≡◌, ℕ, length, Bool, true, false, nat_lt, ◌==◌, if◌then◌else◌, Option, Some, None, List, [], ◌∷◌, filter, map, min}
+use Rattle.std.specs.FinMap.{get, entries}
+use Rattle.pf_commands.specs.Name.{CommandName}
+use Rattle.pf_commands.specs.Payload.{weight}
+use Rattle.pf_commands.specs.Merge.{Commands}
+use Rattle.pf_commands.specs.declared.payload.Payload.{Payload}
+use Rattle.pf_commands.specs.declared.map.Put.{Put}
+use Rattle.pf_commands.specs.declared.map.Put.TheVariants.{New, Same, Greater, Lesser}
+
+-- the answer to a payload, given what is held under its name
+abbrev pub answer_to : Option Payload → Payload → Put
+answer_to None p = New
+answer_to (Some q) p = if weight q == weight p then Same else (if nat_lt (weight q) (weight p) then Greater else Lesser)
+
+-- the answers after which the map is another
+abbrev pub is_change : Put → Bool
+is_change New = true
+is_change Same = false
+is_change Greater = true
+is_change Lesser = false
+
+-- the command is new to the map, or greater than what it holds under that name
+abbrev pub is_news : Commands → CommandName × Payload → Bool
+is_news m e = is_change (answer_to (get m e.0) e.1)
+
+-- the commands of the second map that are new or greater to the first
+abbrev pub news : Commands → Commands → List (CommandName × Payload)
+news m k = filter (is_news m) (entries k)
+
+-- the lesser of a number and another that may be missing
+abbrev pub lesser : ℕ → Option ℕ → ℕ
+lesser n None = n
+lesser n (Some m) = min n m
+
+-- the least of some numbers, if there are any
+abbrev pub least_of : List ℕ → Option ℕ
+least_of [] = None
+least_of (n ∷ ns) = Some (lesser n (least_of ns))
+
+-- the least tick of some commands, if there are any
+abbrev pub least_tick : List (CommandName × Payload) → Option ℕ
+least_tick es = least_of (map (λ e. e.0.tick) es)
+
+-- how many of some commands are news to a map, and the least tick of these
+pub record NotesNews (m : Commands) (es : List (CommandName × Payload)) (count : ℕ) (least : Option ℕ) : Type 0 where
+  pub count_is : count ≡ length (filter (is_news m) es)
+  pub least_is : least ≡ least_tick (filter (is_news m) es)

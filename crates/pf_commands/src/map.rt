@@ -1,0 +1,293 @@
+//! Maps of commands: from names to payloads, in the order of names.
+
+ghost use Rattle.std.specs.Prelude.{◌≡◌};
+ghost use Rattle.pf_commands.specs.News.{lesser};
+
+use crate::checking::{CheckFault, check};
+use crate::name::Name;
+use crate::payload::{Command, Payload};
+use crate::weight::places_of;
+use pf_shapes::Scene;
+use std::alloc::{AllocError, Global};
+use std::cmp::Ordering;
+use std::collections::BTreeMap;
+use std::collections::btree_map::Iter;
+use std::marker::Model;
+
+/// The ticks that names are for lie below this one.
+const TICKS: u32 = 1 << 20;
+
+/// How many players there can be.
+const PLAYERS: u8 = 8;
+
+/// What putting a command into a map did.
+#[derive(Clone, Copy, Debug, PartialEq, Eq)]
+pub enum Put {
+    /// Its name was new.
+    New,
+    /// The map held the very command.
+    Same,
+    /// The new payload is the greater one, and stays.
+    Greater,
+    /// The new payload is the lesser one: the old one stays.
+    Lesser,
+}
+
+impl Put {
+    ghost use Rattle.std.specs.Prelude.{◌≡◌};
+    ghost use Rattle.pf_commands.specs.News.{is_change};
+
+    /// Whether the map has changed.
+    pub fn is_change(self) -> bool
+        ensures { result ≡ is_change self }
+    {
+        matches!(self, Put::New | Put::Greater)
+    }
+}
+
+/// What merging a map into another did.
+#[derive(Clone, Copy, Debug, PartialEq, Eq)]
+pub struct Merged {
+    /// How many names were new, or have a greater payload now.
+    pub count: usize,
+    /// The least tick of these names, if there are any.
+    pub least: Option<u32>,
+}
+
+/// Commands by their names. Of two payloads of one name the one of greater weight stays, so a map depends on which
+/// commands were put into it, and neither on their order nor on how often.
+///
+/// Contracts see it as a finite map.
+#[derive(Drop)]
+pub struct CommandMap {
+    commands: BTreeMap<Name, Payload>,
+}
+
+impl Model for CommandMap {
+    ghost use Rattle.std.specs.FinMap as map;
+    ghost use Rattle.pf_commands.specs.Merge.{Commands, AreCommands, name_code};
+    ghost use Rattle.pf_commands.specs.contracts.payload.Payload.{the_row};
+
+    ghost Value = { Commands };
+
+    ghost coded = { map.code name_code the_row.coded };
+
+    ghost view = { λ m. map.from_entries m.commands.entries };
+
+    ghost invariant = { λ m. AreCommands (map.from_entries m.commands.entries) };
+}
+
+impl CommandMap {
+    ghost use Rattle.pf_commands.specs.Check.{check_all_of};
+    ghost use Rattle.std.specs.Prelude.{◌≡◌, ◌≤◌, ◌<◌, ◌^◌, ◌↔◌, ℕ, None, [], length, IfOk, IfSome, IfNone, IsOk, IsSome, IsTrue, OnOk, OnErr};
+    ghost use Rattle.std.specs.FinMap as map;
+    ghost use Rattle.pf_commands.specs.Merge.{AreCommands, IsCommand, merge, one, payloads_at, name_at};
+    ghost use Rattle.pf_commands.specs.News.{answer_to, news, least_tick, NotesNews};
+
+    /// The map of no commands. Takes no memory.
+    pub fn new(alloc: Global) -> CommandMap
+        ensures { result ≡ map.empty }
+    {
+        CommandMap {
+            commands: BTreeMap::new(alloc),
+        }
+    }
+
+    /// How many names the map has.
+    pub fn len(&self) -> usize
+        ensures value { result ≡ map.len self.now }
+        ensures small { result < 2 ^ 63 }
+        ensures range { AreCommands self.now }
+    {
+        self.commands.len()
+    }
+
+    /// Whether the map has no names.
+    pub fn is_empty(&self) -> bool
+        ensures { IsTrue result ↔ (map.len self.now ≡ 0) }
+    {
+        self.len() == 0
+    }
+
+    /// The commands in order of their names.
+    pub fn iter(&self) -> Iter<'_, Name, Payload>
+        ensures entries { result ≡ map.entries self.now }
+        ensures range { AreCommands self.now }
+    {
+        self.commands.iter()
+    }
+
+    /// The payload that the map holds under the name. Takes logarithmic time.
+    pub fn get(&self, name: Name) -> Option<Payload>
+        ensures { result ≡ map.get self.now name }
+    {
+        self.commands.get(&name).copied()
+    }
+
+    /// Puts the command into the map: under its name the payload of greater weight stays. Takes logarithmic time, and
+    /// memory only for a new name. Without it the map stays as it was.
+    pub fn put(&mut self, command: &Command) -> Result<Put, AllocError>
+        ensures answer { let c = command.now in IfOk result (λ put. put ≡ answer_to (map.get self.old c.name) c.payload) }
+        ensures ok { OnOk result (self.new ≡ merge self.old (one command.now.name command.now.payload)) }
+        ensures err { OnErr result (self.new ≡ self.old) }
+        ensures held { IsSome (map.get self.old command.now.name) → IsOk result }
+        ensures range { IsCommand command.now }
+    {
+        let put = self.answer(command);
+        if put.is_change() {
+            self.write(command)?;
+        }
+        Ok(put)
+    }
+
+    /// What putting the command would answer.
+    fn answer(&self, command: &Command) -> Put
+        ensures value { result ≡ answer_to (map.get self.now command.now.name) command.now.payload }
+        ensures range { IsCommand command.now }
+    {
+        let _tick = command.name.tick();
+        let weight = places_of(&command.payload);
+        match self.get(command.name) {
+            None => Put::New,
+            Some(held) => match places_of(&held).cmp(&weight) {
+                Ordering::Less => Put::Greater,
+                Ordering::Equal => Put::Same,
+                Ordering::Greater => Put::Lesser,
+            },
+        }
+    }
+
+    /// Holds the command's payload under its name from now on.
+    fn write(&mut self, command: &Command) -> Result<(), AllocError>
+        requires { IsCommand command.now }
+        ensures ok { OnOk result (self.new ≡ map.insert self.old command.now.name command.now.payload) }
+        ensures err { OnErr result (self.new ≡ self.old) }
+        ensures held { IsSome (map.get self.old command.now.name) → IsOk result }
+    {
+        self.commands.insert(command.name, command.payload)?;
+        Ok(())
+    }
+
+    /// The payloads of the tick, in order of player, then number. Takes logarithmic time, and then time and memory for
+    /// these payloads alone.
+    pub fn at_tick(&self, alloc: Global, tick: u32) -> Result<Vec<Payload>, AllocError>
+        ensures { IfOk result (λ payloads. payloads.items ≡ payloads_at self.now tick) }
+    {
+        let commands = &self.commands;
+        if tick >= TICKS {
+            return Ok(Vec::new(alloc));
+        }
+        let first = Name::new(tick, 0, 0);
+        let last = Name::new(tick, PLAYERS - 1, u16::MAX);
+        commands
+            .range(first..=last)
+            .map(|(_, payload)| *payload)
+            .collect(alloc)
+    }
+
+    /// The greatest number that the map holds at the tick for the player. Takes logarithmic time.
+    pub fn greatest(&self, tick: u32, player: u8) -> Option<u16>
+        ensures held { IfSome result (λ number. IsSome (map.get self.now (name_at tick player number))) }
+        ensures most { IfSome result (λ number. (other : ℕ) → IsSome (map.get self.now (name_at tick player other)) → other ≤ number) }
+        ensures none { IfNone result ((number : ℕ) → map.get self.now (name_at tick player number) ≡ None) }
+    {
+        let commands = &self.commands;
+        if tick >= TICKS || player >= PLAYERS {
+            return None;
+        }
+        let first = Name::new(tick, player, 0);
+        let last = Name::new(tick, player, u16::MAX);
+        let (name, _) = commands.range(first..=last).next_back()?;
+        Some(name.number())
+    }
+
+    /// A map of the same commands. Takes time and memory for all of them.
+    pub fn try_clone(&self) -> Result<CommandMap, AllocError>
+        ensures { IfOk result (λ copy. copy ≡ self.now) }
+    {
+        let commands = self.commands.clone()?;
+        Ok(CommandMap { commands })
+    }
+
+    /// Merges the other map into this one: under each name of either the payload of greater weight stays. Where
+    /// nothing is new or greater this takes no memory and changes nothing; else it takes time and memory for all
+    /// commands of this map, and without the memory the map stays as it was.
+    pub fn merge(&mut self, other: &CommandMap) -> Result<Merged, AllocError>
+        ensures ok { OnOk result (self.new ≡ merge self.old other.now) }
+        ensures count { IfOk result (λ merged. merged.count ≡ length (news self.old other.now)) }
+        ensures least { IfOk result (λ merged. merged.least ≡ least_tick (news self.old other.now)) }
+        ensures err { OnErr result (self.new ≡ self.old) }
+        ensures quiet { news self.old other.now ≡ [] → IsOk result }
+    {
+        let merged = self.news(other);
+        if merged.count > 0 {
+            let mut all = self.try_clone()?;
+            all.put_all(other)?;
+            *self = all;
+        }
+        Ok(merged)
+    }
+
+    /// What merging the other map would answer. Takes logarithmic time for each of its commands, and no memory.
+    fn news(&self, other: &CommandMap) -> Merged
+        ensures { NotesNews self.now (map.entries other.now) result.count result.least }
+    {
+        let mut count = 0;
+        let mut least = None;
+        for (name, payload) in other.commands.iter() {
+            let command = Command {
+                name: *name,
+                payload: *payload,
+            };
+            if self.answer(&command).is_change() {
+                count += 1;
+                least = Some(earlier(least, name.tick()));
+            }
+        }
+        Merged { count, least }
+    }
+
+    /// Puts each command of the other map into this one.
+    fn put_all(&mut self, other: &CommandMap) -> Result<(), AllocError>
+        ensures { OnOk result (self.new ≡ merge self.old other.now) }
+    {
+        for (name, payload) in other.commands.iter() {
+            let command = Command {
+                name: *name,
+                payload: *payload,
+            };
+            self.put(&command)?;
+        }
+        Ok(())
+    }
+
+    /// Whether the scene allows each command, in order of their names: the first fault. Takes no memory.
+    pub fn check_all(&self, scene: &Scene) -> Result<(), CheckFault>
+        ensures { result ≡ check_all_of scene.now (map.entries self.now) }
+    {
+        let held = &self.commands;
+        for (name, payload) in held.iter() {
+            let command = Command {
+                name: *name,
+                payload: *payload,
+            };
+            if let Err(fault) = check(scene, &command) {
+                return Err(fault);
+            }
+        }
+        Ok(())
+    }
+}
+
+/// The lesser of two ticks, of which the first may be missing.
+fn earlier(least: Option<u32>, tick: u32) -> u32
+    ensures { result ≡ lesser tick least }
+{
+    match least {
+        None => tick,
+        Some(least) => tick.min(least),
+    }
+}
+
+#[cfg(test)]
+mod tests;

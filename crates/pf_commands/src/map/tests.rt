@@ -1,0 +1,114 @@
+ghost use Rattle.std.specs.Prelude.{◌<◌, ◌^◌};
+
+use super::*;
+use pf_num::Fx;
+use std::test::Fail;
+
+/// A command of the tick, the player and the number.
+fn command(tick: u32, player: u8, number: u16, payload: Payload) -> Command
+    requires tick { tick < 2 ^ 20 }
+    requires player { player < 8 }
+{
+    Command {
+        name: Name::new(tick, player, number),
+        payload,
+    }
+}
+
+/// A push of the body 3 by x units and 0.
+fn push(x: i64) -> Payload {
+    Payload::Push {
+        body: 3,
+        x: Fx::from_raw(x).unwrap_or(Fx::ZERO),
+        y: Fx::ZERO,
+    }
+}
+
+#[test]
+fn the_greater_payload_stays_in_either_order(rt: HostRuntime) -> Result<(), Fail> {
+    let right = command(5, 2, 7, push(1));
+    let left = command(5, 2, 7, push(-1));
+
+    let mut map = CommandMap::new(rt.alloc());
+    assert_eq!(rt; map.put(&right)?, Put::New);
+    assert_eq!(rt; map.put(&left)?, Put::Greater);
+    assert_eq!(rt; map.get(left.name), Some(push(-1)));
+
+    let mut map = CommandMap::new(rt.alloc());
+    assert_eq!(rt; map.put(&left)?, Put::New);
+    assert_eq!(rt; map.put(&right)?, Put::Lesser);
+    assert_eq!(rt; map.get(left.name), Some(push(-1)));
+    assert_eq!(rt; map.put(&left)?, Put::Same);
+    assert_eq!(rt; map.len(), 1);
+    Ok(())
+}
+
+#[test]
+fn a_tick_is_in_order_of_players_then_numbers(rt: HostRuntime) -> Result<(), Fail> {
+    let mut map = CommandMap::new(rt.alloc());
+    map.put(&command(4, 7, 65_535, Payload::Stop { body: 0 }))?;
+    map.put(&command(5, 1, 0, Payload::Stop { body: 1 }))?;
+    map.put(&command(5, 0, 9, Payload::Stop { body: 2 }))?;
+    map.put(&command(
+        5,
+        1,
+        3,
+        Payload::Turn {
+            body: 3,
+            x: Fx::ONE,
+        },
+    ))?;
+    map.put(&command(6, 0, 0, Payload::Stop { body: 4 }))?;
+    let payloads = map.at_tick(rt.alloc(), 5)?;
+    let expected = [
+        Payload::Stop { body: 2 },
+        Payload::Stop { body: 1 },
+        Payload::Turn {
+            body: 3,
+            x: Fx::ONE,
+        },
+    ];
+    assert_eq!(rt; payloads.as_slice(), expected.as_slice());
+    assert!(rt; map.at_tick(rt.alloc(), 7)?.is_empty());
+    assert_eq!(rt; map.greatest(5, 1), Some(3));
+    assert_eq!(rt; map.greatest(5, 2), None);
+    assert_eq!(rt; map.greatest(1 << 20, 8), None);
+    Ok(())
+}
+
+#[test]
+fn a_map_is_merged_once(rt: HostRuntime) -> Result<(), Fail> {
+    let mut map = CommandMap::new(rt.alloc());
+    map.put(&command(9, 0, 0, push(1)))?;
+    map.put(&command(2, 0, 0, push(8)))?;
+    let mut other = CommandMap::new(rt.alloc());
+    assert!(rt; other.is_empty());
+    other.put(&command(2, 0, 0, push(7)))?;
+    other.put(&command(8, 0, 0, push(1)))?;
+    other.put(&command(9, 0, 0, push(-1)))?;
+
+    let merged = map.merge(&other)?;
+    assert!(rt; merged.count == 2 && merged.least == Some(8));
+    assert_eq!(rt; map.get(Name::new(2, 0, 0)), Some(push(8)));
+    assert_eq!(rt; map.get(Name::new(9, 0, 0)), Some(push(-1)));
+
+    let before = map.try_clone()?;
+    let again = map.merge(&other)?;
+    assert!(rt; again.count == 0 && again.least.is_none());
+    assert_eq!(rt; map.len(), before.len());
+    assert!(rt; map.iter().eq(before.iter()));
+    Ok(())
+}
+
+#[test]
+fn the_first_command_that_is_not_allowed_is_named(rt: HostRuntime) -> Result<(), Fail> {
+    let text = b"gravity 0 0\ncircle 0 16777216 0 16777216 0 0\ncircle 1 0 0 16777216 0 0\nend\n";
+    let scene = Scene::read(rt.alloc(), text)?;
+    let mut map = CommandMap::new(rt.alloc());
+    map.put(&command(3, 0, 0, Payload::Stop { body: 0 }))?;
+    assert!(rt; map.check_all(&scene).is_ok());
+    map.put(&command(5, 0, 0, Payload::Stop { body: 9 }))?;
+    map.put(&command(4, 1, 0, Payload::Stop { body: 1 }))?;
+    assert!(rt; map.check_all(&scene) == Err(CheckFault::StaticBody));
+    Ok(())
+}

@@ -1,0 +1,22 @@
+//! The weight of payloads, by which one of two under a name stays.
+
+ghost use Rattle.std.specs.Prelude.{◌≡◌};
+ghost use Rattle.std.specs.Int.{w64, cast_unsigned};
+ghost use Rattle.pf_commands.specs.Payload.{IsPayload, kind_of, body_of, x_of, y_of};
+
+use crate::payload::Payload;
+
+/// The places of a payload's weight, the highest first: kind, body, x and y in two's complement. Payloads are compared
+/// by weight as these are.
+pub(crate) fn places_of(payload: &Payload) -> (u8, u16, u64, u64)
+    ensures value { let p = payload.now in
+        result ≡ (kind_of p, body_of p, cast_unsigned w64 (x_of p), cast_unsigned w64 (y_of p)) }
+    ensures range { IsPayload payload.now }
+{
+    let body = payload.body();
+    match *payload {
+        Payload::Push { x, y, .. } => (0, body, x.raw().cast_unsigned(), y.raw().cast_unsigned()),
+        Payload::Turn { x, .. } => (1, body, x.raw().cast_unsigned(), 0),
+        Payload::Stop { .. } => (2, body, 0, 0),
+    }
+}
