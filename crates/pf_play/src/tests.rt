@@ -4,7 +4,7 @@ use crate::report::report;
 use crate::run::run_text;
 use pf_shapes::SceneFault;
 use pf_text::{Bytes, Collected, Input, Output};
-use std::alloc::Global;
+use std::alloc::{AllocError, Global};
 use std::io::{Error, ErrorKind, Read, Write};
 use std::test::Fail;
 
@@ -20,19 +20,31 @@ const FIRST_REPLY: usize = 12;
 
 const SECOND_REPLY: usize = 69;
 
-/// What the program writes for a text in memory, what it says of a fault, and its status.
-fn played(alloc: Global, text: &[u8]) -> (Collected, Collected, u8) {
-    let mut output = Collected::new(alloc);
+/// What the program says of a fault, and its status. What is kept in memory fails for want of it alone.
+fn reported(alloc: Global, fault: &PlayFault) -> Result<(Collected, u8), AllocError> {
     let mut said = Collected::new(alloc);
-    let status = match run_text(alloc, &mut Bytes::new(text), &mut output) {
-        Ok(()) => 0,
-        Err(fault) => report(&fault, &mut said),
-    };
-    (output, said, status)
+    let status = report(fault, &mut said);
+    if said.bytes().is_empty() {
+        return Err(AllocError);
+    }
+    Ok((said, status))
+}
+
+/// What the program writes for a text in memory, what it says of a fault, and its status.
+fn played(alloc: Global, text: &[u8]) -> Result<(Collected, Collected, u8), AllocError> {
+    let mut output = Collected::new(alloc);
+    match run_text(alloc, &mut Bytes::new(text), &mut output) {
+        Ok(()) => Ok((output, Collected::new(alloc), 0)),
+        Err(PlayFault::Memory | PlayFault::Write) => Err(AllocError),
+        Err(fault) => {
+            let (said, status) = reported(alloc, &fault)?;
+            Ok((output, said, status))
+        }
+    }
 }
 
 #[test]
-fn worked_rows(rt: HostRuntime) {
+fn worked_rows(rt: HostRuntime) -> Result<(), Fail> {
     let rows = [
         (
             b"gravity 0 0\nend\npeers 1\nadvance 0 5\nshow 0 5\n".as_slice(),
@@ -53,14 +65,15 @@ fn worked_rows(rt: HostRuntime) {
         ),
     ];
     for (text, expected) in rows {
-        let (output, said, status) = played(rt.alloc(), text);
+        let (output, said, status) = played(rt.alloc(), text)?;
         assert_eq!(rt; output.bytes(), expected);
         assert!(rt; said.bytes().is_empty() && status == 0);
     }
+    Ok(())
 }
 
 #[test]
-fn each_fault_has_its_line_and_name(rt: HostRuntime) {
+fn each_fault_has_its_line_and_name(rt: HostRuntime) -> Result<(), Fail> {
     let rows = [
         (
             b"gravity 0 -167772160\ncircle 0 1 0 16777216 0 0\nend\n".as_slice(),
@@ -105,18 +118,17 @@ fn each_fault_has_its_line_and_name(rt: HostRuntime) {
         ),
     ];
     for (text, expected) in rows {
-        let (output, said, status) = played(rt.alloc(), text);
+        let (output, said, status) = played(rt.alloc(), text)?;
         assert!(rt; output.bytes().is_empty() && status == 1);
         assert_eq!(rt; said.bytes(), expected);
     }
-    let mut text = Vec::new(rt.alloc());
-    assert!(rt;
-        text.extend_from_slice(FALLING).is_ok() && text.extend_from_slice(b"\nadvance 0 05").is_ok()
-    );
-    let (output, said, status) = played(rt.alloc(), &text);
+    let mut text = Vec::from_slice(rt.alloc(), FALLING)?;
+    text.extend_from_slice(b"\nadvance 0 05")?;
+    let (output, said, status) = played(rt.alloc(), &text)?;
     assert_eq!(rt; output.bytes(), FALLEN);
     assert_eq!(rt; said.bytes(), b"pf_play: line 9: BadNumber\n".as_slice());
     assert_eq!(rt; status, 1);
+    Ok(())
 }
 
 #[test]
@@ -138,8 +150,8 @@ fn other_faults_have_their_texts(rt: HostRuntime) -> Result<(), Fail> {
         (PlayFault::Write, 3, b"pf_play: write failed\n".as_slice()),
     ];
     for (fault, status, expected) in rows {
-        let mut said = Collected::new(rt.alloc());
-        assert_eq!(rt; report(&fault, &mut said), status);
+        let (said, told) = reported(rt.alloc(), &fault)?;
+        assert_eq!(rt; told, status);
         assert_eq!(rt; said.bytes(), expected);
     }
     Ok(())
@@ -174,7 +186,7 @@ impl Read for Trickle {
 }
 
 #[test]
-fn a_reader_may_fail_at_each_call(rt: HostRuntime) {
+fn a_reader_may_fail_at_each_call(rt: HostRuntime) -> Result<(), Fail> {
     let calls = 2 * (FALLING.len() + 1);
     for fails_at in 1..calls + 2 {
         let reader = Trickle {
@@ -184,6 +196,9 @@ fn a_reader_may_fail_at_each_call(rt: HostRuntime) {
         };
         let mut output = Collected::new(rt.alloc());
         let result = run_text(rt.alloc(), &mut Input::new(reader), &mut output);
+        if matches!(result, Err(PlayFault::Memory | PlayFault::Write)) {
+            return Err(AllocError)?;
+        }
         if fails_at > calls {
             assert!(rt; result.is_ok() && output.bytes() == FALLEN);
         } else {
@@ -195,6 +210,7 @@ fn a_reader_may_fail_at_each_call(rt: HostRuntime) {
             assert!(rt; FALLEN.starts_with(output.bytes()));
         }
     }
+    Ok(())
 }
 
 /// A writer that takes three bytes at a time and fails at one call.
@@ -222,7 +238,7 @@ impl Write for Brittle {
 }
 
 #[test]
-fn a_writer_may_fail_at_each_call(rt: HostRuntime) {
+fn a_writer_may_fail_at_each_call(rt: HostRuntime) -> Result<(), Fail> {
     for fails_at in 1..60 {
         let mut writer = Brittle {
             taken: Vec::new(rt.alloc()),
@@ -231,6 +247,9 @@ fn a_writer_may_fail_at_each_call(rt: HostRuntime) {
         };
         let mut output = Output::new(&mut writer);
         let result = run_text(rt.alloc(), &mut Bytes::new(FALLING), &mut output);
+        if writer.calls < fails_at && result.is_err() {
+            return Err(AllocError)?;
+        }
         if writer.calls < fails_at {
             assert!(rt; result.is_ok() && writer.taken.as_slice() == FALLEN);
         } else {
@@ -242,4 +261,5 @@ fn a_writer_may_fail_at_each_call(rt: HostRuntime) {
     }
     laws::events_are_answered();
     laws::sleepers_stay();
+    Ok(())
 }

@@ -2,7 +2,7 @@ ghost use Rattle.std.specs.Prelude.{length, codes, [], Ok, Err, ◌==◌, if◌t
 ghost use Rattle.pf_text.specs.declared.fault.LineFault.TheVariants.{BadNumber};
 
 use super::*;
-use std::alloc::Global;
+use std::alloc::{AllocError, Global};
 use std::io::{Error, ErrorKind, Read, Write};
 use std::process::Abort;
 use std::test::Fail;
@@ -21,6 +21,9 @@ fn fields_are_parted_by_one_space(rt: HostRuntime) -> Result<(), Fail> {
         b"".as_slice(),
     ] {
         let refused = fields_of(rt.alloc(), line).err();
+        if refused == Some(LineError::Memory) {
+            return Err(AllocError)?;
+        }
         assert!(rt;
             refused == Some(LineError::Fault(LineFault::BadLine)),
             "{line:?}"
@@ -131,24 +134,27 @@ const TEXT: &[u8] = b"a\nb\n# c\n\nd e\nf";
 
 const OUTPUT: &[u8] = b"ok\nok\nok\n";
 
-/// Drives a parrot over a text in memory.
-fn driven(
-    alloc: Global,
-    text: &[u8],
-) -> (Result<(u64, Parrot), DriveFault<LineFault>>, Collected, u32) {
+/// What came of a parrot over a text in memory, what it wrote, and how often it was asked.
+type Driven = (Result<(u64, Parrot), DriveFault<LineFault>>, Collected, u32);
+
+/// Drives a parrot over a text in memory. What is kept in memory fails for want of it alone.
+fn driven(alloc: Global, text: &[u8]) -> Result<Driven, AllocError> {
     let mut lent = 0;
     let mut sink = Collected::new(alloc);
     let result = drive(alloc, &mut lent, &mut Bytes::new(text), &mut sink, Parrot);
-    (result, sink, lent)
+    if matches!(result, Err(DriveFault::Memory | DriveFault::Write)) {
+        return Err(AllocError);
+    }
+    Ok((result, sink, lent))
 }
 
 #[test]
 fn a_text_is_answered(rt: HostRuntime) -> Result<(), Fail> {
-    let (result, sink, lent) = driven(rt.alloc(), TEXT);
+    let (result, sink, lent) = driven(rt.alloc(), TEXT)?;
     assert!(rt; result == Ok((7, Parrot)));
     assert_eq!(rt; sink.bytes(), OUTPUT);
     assert_eq!(rt; lent, 4);
-    let (result, sink, _) = driven(rt.alloc(), b"");
+    let (result, sink, _) = driven(rt.alloc(), b"")?;
     assert!(rt; result == Ok((1, Parrot)) && sink.bytes().is_empty());
     Ok(())
 }
@@ -156,16 +162,16 @@ fn a_text_is_answered(rt: HostRuntime) -> Result<(), Fail> {
 #[test]
 fn replies_before_a_fault_stand(rt: HostRuntime) -> Result<(), Fail> {
     let mut long = vec![in rt.alloc(); b'#'; MAX_LINE]?;
-    assert!(rt; driven(rt.alloc(), &long).0 == Ok((2, Parrot)));
+    assert!(rt; driven(rt.alloc(), &long)?.0 == Ok((2, Parrot)));
     long.push(b'#')?;
-    assert!(rt; driven(rt.alloc(), &long).0 == Err(DriveFault::Line(1, LineFault::BadLine)));
+    assert!(rt; driven(rt.alloc(), &long)?.0 == Err(DriveFault::Line(1, LineFault::BadLine)));
     let table = [
         (b"a\n\nb c d\ne".as_slice(), 3, LineFault::BadNumber),
         (b"a\nb  c\n".as_slice(), 2, LineFault::BadLine),
         (b"a\n# \xff\n".as_slice(), 2, LineFault::BadLine),
     ];
     for (text, number, fault) in table {
-        let (result, sink, _) = driven(rt.alloc(), text);
+        let (result, sink, _) = driven(rt.alloc(), text)?;
         assert!(rt; result == Err(DriveFault::Line(number, fault)), "{text:?}");
         assert_eq!(rt; sink.bytes(), b"ok\n".as_slice());
     }
@@ -199,7 +205,7 @@ impl Read for Trickle<'_> {
 }
 
 #[test]
-fn a_reader_may_fail_at_each_call(rt: HostRuntime) {
+fn a_reader_may_fail_at_each_call(rt: HostRuntime) -> Result<(), Fail> {
     let calls = 2 * (TEXT.len() + 1);
     for fails_at in 1..calls + 2 {
         let reader = Trickle {
@@ -215,6 +221,9 @@ fn a_reader_may_fail_at_each_call(rt: HostRuntime) {
             &mut sink,
             Parrot,
         );
+        if matches!(result, Err(DriveFault::Memory | DriveFault::Write)) {
+            return Err(AllocError)?;
+        }
         let written = sink.bytes();
         assert!(rt; OUTPUT.starts_with(written) && written.len() % 3 == 0);
         if fails_at > calls {
@@ -223,6 +232,7 @@ fn a_reader_may_fail_at_each_call(rt: HostRuntime) {
             assert!(rt; result == Err(DriveFault::Read), "call {fails_at}");
         }
     }
+    Ok(())
 }
 
 /// A writer that takes two bytes at a time, is interrupted before each write, and fails at one call.
@@ -260,7 +270,7 @@ impl Write for Brittle {
 }
 
 #[test]
-fn a_writer_may_fail_at_each_call(rt: HostRuntime) {
+fn a_writer_may_fail_at_each_call(rt: HostRuntime) -> Result<(), Fail> {
     let calls = 13;
     for fails_at in 1..calls + 2 {
         let mut writer = Brittle {
@@ -270,6 +280,9 @@ fn a_writer_may_fail_at_each_call(rt: HostRuntime) {
         };
         let mut sink = Output::new(&mut writer);
         let result = drive(rt.alloc(), &mut 0, &mut Bytes::new(TEXT), &mut sink, Parrot);
+        if writer.calls < fails_at && result.is_err() {
+            return Err(AllocError)?;
+        }
         let taken = writer.taken.as_slice();
         assert!(rt; OUTPUT.starts_with(taken));
         if fails_at > calls {
@@ -278,6 +291,7 @@ fn a_writer_may_fail_at_each_call(rt: HostRuntime) {
             assert!(rt; result == Err(DriveFault::Write), "call {fails_at}");
         }
     }
+    Ok(())
 }
 
 #[test]
