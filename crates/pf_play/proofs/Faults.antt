@@ -7,8 +7,8 @@ use Rattle.clap.specs.declared.error.kind.ErrorKind.TheVariants as kind
 use Rattle.pf_play.specs.Options.{Answers, RunsUnlessMemory, command_line}
 use Rattle.pf_play.specs.declared.options.Request.{Request}
 use Rattle.pf_play.specs.declared.options.Request.TheVariants.{Run, Say}
-use Rattle.pf_play.specs.declared.fault.PlayFault.{PlayFault}
-use Rattle.pf_play.specs.declared.fault.PlayFault.TheVariants.{Words, Line, Memory, Read, Write}
+use Rattle.pf_console.specs.declared.fault.PlayFault.{PlayFault}
+use Rattle.pf_console.specs.declared.fault.PlayFault.TheVariants.{Words, Line, Memory, Read, Write}
 
 module _ (fault : ErrorKind) (faults : Kinds) where
   pub answers_among : (r : Result Request PlayFault) → Answers (fault ∷ []) r

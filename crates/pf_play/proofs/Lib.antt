@@ -1,5 +1,1 @@
-pub mod Ticks
-pub mod Bodies
-pub mod Sleepers
-pub mod Events
 mod Faults

@@ -1,9 +1,1 @@
-pub mod Simulation
-pub mod Peer
-pub mod Print
-pub mod Grammar
-pub mod Phase
-pub mod Text
-pub mod Report
 pub mod Options
-pub mod Laws

@@ -7,8 +7,8 @@ use Rattle.clap.specs.declared.error.kind.ErrorKind.{ErrorKind}
 use Rattle.clap.specs.declared.error.kind.ErrorKind.TheVariants as kind
 use Rattle.pf_play.specs.declared.options.Request.{Request}
 use Rattle.pf_play.specs.declared.options.Request.TheVariants.{Run, Say}
-use Rattle.pf_play.specs.declared.fault.PlayFault.{PlayFault}
-use Rattle.pf_play.specs.declared.fault.PlayFault.TheVariants.{Words, Memory}
+use Rattle.pf_console.specs.declared.fault.PlayFault.{PlayFault}
+use Rattle.pf_console.specs.declared.fault.PlayFault.TheVariants.{Words, Memory}
 
 -- the flags `--help` and `--version`, and a subcommand, which has to be there
 abbrev pub own_words : App

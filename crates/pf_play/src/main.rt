@@ -1,23 +1,11 @@
 //! The program: texts of scenes and events in, worlds out.
 #![tactic(auto)]
 
-mod event;
-mod fault;
-mod grammar;
-mod laws;
 mod options;
-mod peer;
-mod phase;
-mod print;
-mod report;
-mod run;
-mod simulation;
 
-use fault::PlayFault;
 use options::{Request, options, words_of};
+use pf_console::{PlayFault, report, run_text};
 use pf_text::{Input, Output, Sink};
-use report::report;
-use run::run_text;
 use std::process::ExitCode;
 
 /// Does what the words of the call ask for.
@@ -39,6 +27,3 @@ fn main(rt: HostRuntime) -> ExitCode {
         Err(fault) => ExitCode::from(report(&fault, &mut Output::new(rt.stderr()))),
     }
 }
-
-#[cfg(test)]
-mod tests;

@@ -3,9 +3,9 @@ ghost use Rattle.std.specs.Prelude.{◌≡◌, ℕ, List, [], ◌∷◌, codes, 
 ghost use Rattle.clap.specs.Words.{app_of, fault_of, kind_of};
 ghost use Rattle.pf_play.specs.Options.{Answers, RunsUnlessMemory, command_line};
 
-use crate::fault::PlayFault;
 use clap::error::ErrorKind;
 use clap::{Command, Error};
+use pf_console::PlayFault;
 use std::alloc::{AllocError, Global};
 use std::convert::AsStr;
 use std::rt::Env;

@@ -1,6 +1,6 @@
 -- What a body is apart from its motion, as Box2D's b2FixtureDef: shape, mass, friction and owner, and the inverse
 -- masses that follow from them.
-use Rattle.std.specs.Prelude.{◌≡◌, ℕ, ◌≤◌, ◌<◌, ℤ, pos, ◌≤ℤ◌, ◌+ℤ◌, ◌⊎◌, Bool, ◌==◌, Option, IfSome, if◌then◌else◌}
+use Rattle.std.specs.Prelude.{◌≡◌, ℕ, ◌<◌, ℤ, pos, ◌≤ℤ◌, ◌⊎◌, Bool, ◌==◌, Option, IfSome, if◌then◌else◌}
 use Rattle.std.specs.Int.RustNames.{unsigned_abs}
 use Rattle.pf_num.specs.Fx.{one, sum, product, quotient}
 use Rattle.pf_shapes.specs.declared.fixture.Shape.{Shape}

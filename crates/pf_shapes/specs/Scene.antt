@@ -1,5 +1,5 @@
 -- A scene: what a simulation starts from.
-use Rattle.std.specs.Prelude.{◌≡◌, ℕ, ◌≤◌, List, [], ◌∷◌, ◌++◌, length}
+use Rattle.std.specs.Prelude.{◌≡◌, ◌≤◌, List, [], ◌∷◌, ◌++◌, length}
 use Rattle.pf_rot.specs.Vector.{Vec2}
 use Rattle.pf_shapes.specs.Fixture.{FixtureDef}
 use Rattle.pf_shapes.specs.Body.{State}

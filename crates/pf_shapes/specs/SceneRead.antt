@@ -1,6 +1,6 @@
 -- A text that holds a scene and nothing else.
-use Rattle.std.specs.Prelude.{◌≡◌, ℕ, List, [], Option, None, Result, Ok, Err}
-use Rattle.pf_text.specs.Driver.{Rules, output_of}
+use Rattle.std.specs.Prelude.{◌≡◌, ℕ, List, None, Result, Ok, Err}
+use Rattle.pf_text.specs.Driver.{Rules, silent, output_of}
 use Rattle.pf_shapes.specs.declared.fault.SceneFault.{SceneFault}
 use Rattle.pf_shapes.specs.declared.fault.SceneFault.TheVariants.{BadLine}
 use Rattle.pf_shapes.specs.declared.reader.Progress.{Progress}
@@ -11,12 +11,7 @@ use Rattle.pf_shapes.specs.Fault.{scene_fault_of}
 use Rattle.pf_shapes.specs.Scene.{Setting}
 use Rattle.pf_shapes.specs.SceneText.{line_of}
 
--- a line is answered with nothing
-abbrev pub silent : Result Progress SceneFault → Result (List ℕ × Progress) SceneFault
-silent (Ok progress) = Ok ([], progress)
-silent (Err fault) = Err fault
-
--- nothing follows the scene's end
+-- a line is answered with nothing, and nothing follows the scene's end
 unfoldable pub says : Progress → List (List ℕ) → Result (List ℕ × Progress) SceneFault
 says (More reader) fields = silent (line_of reader fields)
 says (Ended scene) fields = Err BadLine

@@ -1,10 +1,8 @@
 -- The lines of a scene: what each spells. The first fault from the left is the line's: first the word and the count
 -- of fields, then a body too many, then the fields one after the other.
-use Rattle.std.specs.Prelude.{◌≡◌, ℕ, ◌^◌, ℤ, pos, neg_ℤ, List, [], ◌∷◌, length, Option, Some, None, Result, Ok, Err, ◌==◌, nat_lt, codes, if◌then◌else◌}
+use Rattle.std.specs.Prelude.{◌≡◌, ℕ, ℤ, pos, neg_ℤ, List, [], ◌∷◌, length, Option, Some, None, Result, Ok, Err, ◌==◌, nat_lt, codes, if◌then◌else◌}
 use Rattle.std.specs.Int.RustNames.{unsigned_abs}
 use Rattle.std.specs.Str.{bytes_eq}
-use Rattle.pf_text.specs.declared.fault.LineFault.{LineFault}
-use Rattle.pf_text.specs.declared.fault.LineFault.TheVariants as line_faults
 use Rattle.pf_text.specs.declared.numbers.Spelled.{Spelled}
 use Rattle.pf_text.specs.declared.numbers.Spelled.TheVariants.{Within, Outside, Misspelt}
 use Rattle.pf_text.specs.declared.driver.TakeRefusal.{TakeRefusal}

@@ -27,6 +27,11 @@ pub record Rules (S F : Type 0) : Type 0 where
   pub says : S → List (List ℕ) → Result (List ℕ × S) F
   pub refused : LineFault → F
 
+-- a state that a line leads to without an answer
+abbrev pub silent : {S F : Type 0} → Result S F → Result (List ℕ × S) F
+silent (Ok state) = Ok ([], state)
+silent (Err fault) = Err fault
+
 -- the answer to the fields of a line, where it has any
 abbrev pub said : {S F : Type 0} → Rules S F → S → Result (List (List ℕ)) LineFault → Result (List ℕ × S) F
 said rules state (Ok fields) = rules.says state fields

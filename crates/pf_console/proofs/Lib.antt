@@ -1,0 +1,4 @@
+pub mod Ticks
+pub mod Bodies
+pub mod Sleepers
+pub mod Events

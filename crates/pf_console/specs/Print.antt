@@ -1,0 +1,56 @@
+-- The texts of replies.
+use Rattle.std.specs.Prelude.{ℕ, ◌+◌, ℤ, pos, Bool, true, false, List, [], ◌∷◌, ◌++◌, codes, if◌then◌else◌}
+use Rattle.std.specs.List.{flat_map}
+use Rattle.std.specs.Fmt.{signed_decimal}
+use Rattle.pf_shapes.specs.Fixture.{FixtureDef, is_static}
+use Rattle.pf_shapes.specs.Body.{State}
+use Rattle.pf_console.specs.declared.event.Reply.{Reply}
+use Rattle.pf_console.specs.declared.event.Reply.TheVariants.{Advanced, Shown, Refused}
+use Rattle.pf_console.specs.declared.event.Refusal.{Refusal}
+use Rattle.pf_console.specs.declared.event.Refusal.TheVariants.{NotReached, TickLimit}
+
+-- a field with the space before it
+abbrev pub spaced : ℤ → List ℕ
+spaced z = 32 ∷ signed_decimal z
+
+-- a word, numbers and the line's end
+unfoldable pub line_text : List ℕ → List ℤ → List ℕ
+line_text word numbers = word ++ flat_map spaced numbers ++ 10 ∷ []
+
+-- 1 or 0
+abbrev pub flag : Bool → ℤ
+flag true = pos 1
+flag false = pos 0
+
+-- the numbers of a body's line: I X Y C S VX VY W TIMER AWAKE
+abbrev pub body_numbers : ℕ → State → List ℤ
+body_numbers i b =
+    pos i ∷ b.place.x ∷ b.place.y ∷ b.rot.c ∷ b.rot.s ∷ b.vel.x ∷ b.vel.y ∷ b.spin ∷ pos b.timer ∷ flag b.awake ∷ []
+
+abbrev pub body_text : ℕ → State → List ℕ
+body_text i b = line_text (codes "body") (body_numbers i b)
+
+-- the line of a body, if it moves
+abbrev pub moving_text : ℕ → FixtureDef → State → List ℕ
+moving_text i f b = if is_static f then [] else body_text i b
+
+-- a line for each body that moves, the first of which has this number
+unfoldable pub bodies_text : ℕ → List FixtureDef → List State → List ℕ
+bodies_text i (f ∷ fixtures) (b ∷ bodies) =
+    moving_text i f b ++ bodies_text (i + 1) fixtures bodies
+bodies_text i fixtures bodies = []
+
+-- the block of a world
+unfoldable pub block_text : List FixtureDef → ℕ → ℕ → List State → List ℕ
+block_text fixtures peer tick bodies =
+    line_text (codes "show") (pos peer ∷ pos tick ∷ []) ++ bodies_text 0 fixtures bodies ++ line_text (codes "end") []
+
+unfoldable pub refusal_text : Refusal → List ℕ
+refusal_text (NotReached reached) = line_text (codes "refused NotReached") (pos reached ∷ [])
+refusal_text TickLimit = line_text (codes "refused TickLimit") []
+
+-- the text of a reply, whose worlds have these fixtures
+unfoldable pub reply_text : List FixtureDef → Reply → List ℕ
+reply_text fixtures (Advanced peer reached) = line_text (codes "advance") (pos peer ∷ pos reached ∷ [])
+reply_text fixtures (Shown peer tick world) = block_text fixtures peer tick world
+reply_text fixtures (Refused refusal) = refusal_text refusal

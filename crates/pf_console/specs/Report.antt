@@ -1,0 +1,38 @@
+-- What the program says of a fault on standard error, and the status it ends with.
+use Rattle.std.specs.Prelude.{◌≡◌, ℕ, ◌+◌, List, ◌++◌, ◌⊎◌, Option, codes, decimal, string_bytes}
+use Rattle.std.specs.Io.KnownBytes.{Appends}
+use Rattle.pf_text.specs.Lines.{AppendsFront}
+use Rattle.pf_shapes.specs.declared.fault.SceneFault.{SceneFault}
+use Rattle.pf_shapes.specs.declared.fault.SceneFault.TheVariants.{BadLine, BadNumber, TooMany, BadMass, BadSize}
+use Rattle.pf_console.specs.declared.fault.PlayFault.{PlayFault}
+use Rattle.pf_console.specs.declared.fault.PlayFault.TheVariants.{Words, Line, Memory, Read, Write}
+
+abbrev pub fault_name : SceneFault → List ℕ
+fault_name BadLine = codes "BadLine"
+fault_name BadNumber = codes "BadNumber"
+fault_name TooMany = codes "TooMany"
+fault_name BadMass = codes "BadMass"
+fault_name BadSize = codes "BadSize"
+
+-- the line of a line that is refused
+unfoldable pub refused_line : ℕ → SceneFault → List ℕ
+refused_line number fault = codes "pf_play: line " ++ decimal number ++ codes ": " ++ fault_name fault ++ codes "\n"
+
+abbrev pub fault_text : PlayFault → List ℕ
+fault_text (Words text) = string_bytes text
+fault_text (Line number fault) = refused_line number fault
+fault_text Memory = codes "pf_play: out of memory\n"
+fault_text Read = codes "pf_play: read failed\n"
+fault_text Write = codes "pf_play: write failed\n"
+
+abbrev pub status_of : PlayFault → ℕ
+status_of (Words text) = 2
+status_of (Line number fault) = 1
+status_of Memory = 3
+status_of Read = 3
+status_of Write = 3
+
+-- all of a text was written; or else the writer failed, and a beginning of it was
+abbrev pub Reports : ℕ → ℕ → Option (List ℕ) → Option (List ℕ) → List ℕ → Type 0
+Reports failures after old new text =
+    ((after ≡ failures) × Appends old new text) ⊎ ((after ≡ failures + 1) × AppendsFront old new text)

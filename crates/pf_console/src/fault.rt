@@ -1,0 +1,44 @@
+//! Why the program ended with another status than 0.
+
+ghost use Rattle.std.specs.Prelude.{◌≡◌};
+ghost use Rattle.pf_console.specs.declared.fault.PlayFault.TheVariants.{Memory};
+
+use pf_shapes::SceneFault;
+use std::alloc::{AllocError, AllocFailed};
+use thiserror::Error;
+
+/// Why the program ended with another status than 0.
+#[derive(Debug, Drop, Error)]
+pub enum PlayFault {
+    /// The command line is wrong, and this text says how.
+    #[error("{0}")]
+    Words(String),
+    /// The line of this number, from 1, is refused.
+    #[error("line {0}: {1}")]
+    Line(u64, SceneFault),
+    /// No memory is left.
+    #[error("out of memory")]
+    Memory,
+    /// The reader failed.
+    #[error("read failed")]
+    Read,
+    /// The writer failed.
+    #[error("write failed")]
+    Write,
+}
+
+impl From<AllocError> for PlayFault {
+    ghost from_gives = { λ _ fault. fault ≡ Memory };
+
+    fn from(_error: AllocError) -> PlayFault {
+        PlayFault::Memory
+    }
+}
+
+impl<T: Drop> From<AllocFailed<T>> for PlayFault {
+    ghost from_gives = { λ _ fault. fault ≡ Memory };
+
+    fn from(_error: AllocFailed<T>) -> PlayFault {
+        PlayFault::Memory
+    }
+}

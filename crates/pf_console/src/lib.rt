@@ -1,0 +1,21 @@
+//! The console: a text's lines are read as a scene and events, and answered line by line.
+#![tactic(auto)]
+
+mod event;
+mod fault;
+mod grammar;
+mod laws;
+mod peer;
+mod phase;
+mod print;
+mod reporting;
+mod run;
+mod simulation;
+
+pub use fault::PlayFault;
+pub use laws::{events_are_answered, sleepers_stay};
+pub use reporting::report;
+pub use run::run_text;
+
+#[cfg(test)]
+mod tests;

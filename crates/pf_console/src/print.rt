@@ -1,0 +1,121 @@
+//! The texts of replies.
+
+ghost use Rattle.std.specs.Prelude.{◌≡◌, ◌++◌, ◌<◌, ◌^◌, OnOk, IfOk};
+ghost use Rattle.std.specs.String.{string_bytes};
+ghost use Rattle.pf_console.specs.Print.{line_text, body_numbers, moving_text, bodies_text, block_text, refusal_text, reply_text};
+
+use crate::event::{Refusal, Reply};
+use pf_shapes::{BodyState, Fixture};
+use std::alloc::{AllocError, Global};
+
+/// Adds a line: a word and numbers.
+#[tactic(auto, unfolding(crate::specs::Print::line_text))]
+fn push_line(text: &mut String, word: &str, numbers: &[i64]) -> Result<(), AllocError>
+    ensures { OnOk result (string_bytes text.new ≡ string_bytes text.old ++ line_text word.now numbers.now) }
+{
+    text.push_str(word)?;
+    for number in numbers {
+        write!(text, " {number}")?;
+    }
+    text.push('\n')
+}
+
+/// The numbers of a body's line.
+fn body_numbers(number: usize, body: &BodyState) -> [i64; 10]
+    requires { number < 2 ^ 63 }
+    ensures { result ≡ body_numbers number body.now }
+{
+    [
+        number as i64,
+        body.place.x.raw(),
+        body.place.y.raw(),
+        body.rot.c.raw(),
+        body.rot.s.raw(),
+        body.vel.x.raw(),
+        body.vel.y.raw(),
+        body.spin.raw(),
+        i64::from(body.timer),
+        i64::from(body.awake),
+    ]
+}
+
+/// Adds the line of a body, if it moves.
+fn push_body(
+    text: &mut String,
+    number: usize,
+    fixture: &Fixture,
+    body: &BodyState,
+) -> Result<(), AllocError>
+    requires { number < 2 ^ 63 }
+    ensures { OnOk result (string_bytes text.new ≡ string_bytes text.old ++ moving_text number fixture.now body.now) }
+{
+    if fixture.is_static() {
+        return Ok(());
+    }
+    push_line(text, "body", &body_numbers(number, body))
+}
+
+/// Adds a line for each body that moves.
+fn push_bodies(
+    text: &mut String,
+    fixtures: &[Fixture],
+    bodies: &[BodyState],
+) -> Result<(), AllocError>
+    ensures { OnOk result (string_bytes text.new ≡ string_bytes text.old ++ bodies_text 0 fixtures.now bodies.now) }
+{
+    for i in 0..fixtures.len().min(bodies.len()) {
+        push_body(text, i, &fixtures[i], &bodies[i])?;
+    }
+    Ok(())
+}
+
+/// Adds the text of a refusal.
+#[tactic(auto, unfolding(crate::specs::Print::refusal_text))]
+fn push_refusal(text: &mut String, refusal: Refusal) -> Result<(), AllocError>
+    ensures { OnOk result (string_bytes text.new ≡ string_bytes text.old ++ refusal_text refusal) }
+{
+    match refusal {
+        Refusal::NotReached(reached) => {
+            push_line(text, "refused NotReached", &[i64::from(reached)])
+        }
+        Refusal::TickLimit => push_line(text, "refused TickLimit", &[]),
+    }
+}
+
+/// Adds the block of a world.
+#[tactic(auto, unfolding(crate::specs::Print::block_text))]
+fn push_block(
+    text: &mut String,
+    fixtures: &[Fixture],
+    peer: u8,
+    tick: u32,
+    bodies: &[BodyState],
+) -> Result<(), AllocError>
+    ensures { OnOk result (string_bytes text.new ≡ string_bytes text.old ++ block_text fixtures.now peer tick bodies.now) }
+{
+    push_line(text, "show", &[i64::from(peer), i64::from(tick)])?;
+    push_bodies(text, fixtures, bodies)?;
+    push_line(text, "end", &[])
+}
+
+/// The text of a reply, whose worlds have these fixtures.
+#[tactic(auto, unfolding(crate::specs::Print::reply_text))]
+pub fn reply_text(alloc: Global, fixtures: &[Fixture], reply: &Reply) -> Result<String, AllocError>
+    ensures { IfOk result (λ text. string_bytes text ≡ reply_text fixtures.now reply.now) }
+{
+    let mut text = String::new(alloc);
+    match reply {
+        Reply::Advanced { peer, reached } => {
+            push_line(
+                &mut text,
+                "advance",
+                &[i64::from(*peer), i64::from(*reached)],
+            )?;
+        }
+        Reply::Shown { peer, tick, world } => {
+            push_block(&mut text, fixtures, *peer, *tick, world.bodies())?;
+        }
+        Reply::Refused(refusal) => push_refusal(&mut text, *refusal)?,
+    }
+    Ok(text)
+}

@@ -1,0 +1,71 @@
+//! What the program says of a fault, and the status it ends with.
+
+ghost use Rattle.std.specs.Prelude.{◌≡◌, ◌+◌, ◌^◌, ◌<◌};
+ghost use Rattle.pf_console.specs.Report.{fault_name, refused_line, fault_text, status_of, Reports};
+
+use crate::fault::PlayFault;
+use arrayvec::ArrayString;
+use itoa::Buffer;
+use pf_shapes::SceneFault;
+use pf_text::Sink;
+
+/// More bytes than the line of a refused line can have.
+const LINE_ROOM: usize = 64;
+
+/// The name of a fault.
+fn fault_name(fault: SceneFault) -> &'static str
+    ensures { result.now ≡ fault_name fault }
+{
+    match fault {
+        SceneFault::BadLine => "BadLine",
+        SceneFault::BadNumber => "BadNumber",
+        SceneFault::TooMany => "TooMany",
+        SceneFault::BadMass => "BadMass",
+        SceneFault::BadSize => "BadSize",
+    }
+}
+
+/// The line of a line that is refused, in room of its own: memory may be what is wanting.
+#[tactic(auto, unfolding(crate::specs::Report::refused_line))]
+fn refused_line(number: u64, fault: SceneFault) -> ArrayString<LINE_ROOM>
+    ensures { result.bytes ≡ refused_line number fault }
+{
+    let mut line = ArrayString::new();
+    line.push_str("pf_play: line ");
+    line.push_str(Buffer::new().format(number));
+    line.push_str(": ");
+    line.push_str(fault_name(fault));
+    line.push_str("\n");
+    line
+}
+
+/// Writes what is to be said of a fault, and answers the status that the program ends with. A writer that
+/// fails changes no status.
+pub fn report<W: Sink>(fault: &PlayFault, writer: &mut W) -> u8
+    requires { W.failures writer.old + 1 < 2 ^ 64 }
+    ensures status { result ≡ status_of fault.now }
+    ensures text { Reports (W.failures writer.old) (W.failures writer.new)
+        (W.contents writer.old) (W.contents writer.new) (fault_text fault.now) }
+{
+    let _ = match fault {
+        PlayFault::Words(text) => writer.write_all(text.as_bytes()),
+        PlayFault::Line(number, name) => {
+            writer.write_all(refused_line(*number, *name).as_str().as_bytes())
+        }
+        PlayFault::Memory => writer.write_all(b"pf_play: out of memory\n"),
+        PlayFault::Read => writer.write_all(b"pf_play: read failed\n"),
+        PlayFault::Write => writer.write_all(b"pf_play: write failed\n"),
+    };
+    status(fault)
+}
+
+/// The status of a fault.
+fn status(fault: &PlayFault) -> u8
+    ensures { result ≡ status_of fault.now }
+{
+    match fault {
+        PlayFault::Line(_, _) => 1,
+        PlayFault::Words(_) => 2,
+        PlayFault::Memory | PlayFault::Read | PlayFault::Write => 3,
+    }
+}

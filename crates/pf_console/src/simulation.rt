@@ -1,0 +1,162 @@
+//! The simulation of a scene whose bodies touch nothing: one body's tick, phase by phase.
+
+ghost use Rattle.std.specs.Prelude.{◌≡◌, map, IfOk};
+ghost use Rattle.pf_shapes.specs.Scene.{Setting};
+ghost use Rattle.pf_console.specs.Simulation.{fallen, moved, is_slow, is_still, timed, rested, body_step, step, sim_from, sim};
+
+use pf_num::Fx;
+use pf_rot::V2;
+use pf_shapes::{BodyState, Scene};
+use std::alloc::{AllocError, Global};
+use std::marker::Model;
+
+/// The speed, in units of 2^-24, up to which a body is still.
+const STILL_SPEED: u128 = 262_144;
+/// The spin, in units of 2^-24, up to which a body is still.
+const STILL_SPIN: u64 = 524_288;
+/// For how many ticks a body is still before it goes to sleep.
+const STILL_TICKS: u8 = 32;
+
+/// The state of each body of a scene at one tick, in order of their numbers.
+#[derive(Debug, Drop)]
+pub struct World {
+    bodies: Vec<BodyState>,
+}
+
+impl Model for World {
+    ghost use Rattle.std.specs.Prelude.{List};
+    ghost use Rattle.pf_shapes.specs.Body.{State};
+
+    ghost Value = { List State };
+
+    ghost view = { λ w. w.bodies.items };
+}
+
+impl World {
+    /// The bodies in order of their numbers, static ones among them.
+    pub fn bodies(&self) -> &[BodyState]
+        ensures { result.now ≡ self.now }
+    {
+        self.bodies.as_slice()
+    }
+}
+
+/// The world of a scene at a tick, simulated from tick zero.
+pub fn simulate(alloc: Global, scene: &Scene, tick: u32) -> Result<World, AllocError>
+    ensures { IfOk result (λ world. world ≡ sim scene.now tick) }
+{
+    let mut bodies = Vec::from_slice(alloc, scene.starts())?;
+    advance(scene.gravity().scale(Fx::TICK), &mut bodies, tick);
+    Ok(World { bodies })
+}
+
+/// So many ticks of all bodies.
+#[tactic(auto, using(crate::proofs::Ticks::sim_from_none, crate::proofs::Ticks::sim_from_more))]
+fn advance(pull: V2, bodies: &mut [BodyState], ticks: u32)
+    ensures { bodies.new ≡ sim_from pull bodies.old ticks }
+{
+    for _ in 0..ticks {
+        step(pull, bodies);
+    }
+}
+
+/// One tick of all bodies.
+#[tactic(auto, using(std::proofs::lemmas::List::Edits::map_over_more))]
+fn step(pull: V2, bodies: &mut [BodyState])
+    ensures { bodies.new ≡ step pull bodies.old }
+{
+    for body in bodies.iter_mut() {
+        *body = body_step(pull, *body);
+    }
+}
+
+/// One tick of one body, which is simulated where it is awake.
+#[inline]
+#[tactic(auto, unfolding(crate::specs::Simulation::body_step))]
+fn body_step(pull: V2, body: BodyState) -> BodyState
+    ensures { result ≡ body_step pull body }
+{
+    if body.awake {
+        rested(timed(moved(fallen(pull, body))))
+    } else {
+        body
+    }
+}
+
+/// The phase Gravity.
+#[inline]
+#[tactic(auto, unfolding(crate::specs::Simulation::fallen))]
+fn fallen(pull: V2, body: BodyState) -> BodyState
+    ensures { result ≡ fallen pull body }
+{
+    BodyState {
+        vel: body.vel.add(pull),
+        ..body
+    }
+}
+
+/// The phase Places. The pair stays as it is, since nothing spins.
+#[inline]
+#[tactic(auto, unfolding(crate::specs::Simulation::moved))]
+fn moved(body: BodyState) -> BodyState
+    ensures { result ≡ moved body }
+{
+    BodyState {
+        place: body.place.add(body.vel.scale(Fx::TICK)),
+        ..body
+    }
+}
+
+/// The phase Timers.
+#[inline]
+#[tactic(auto, unfolding(crate::specs::Simulation::timed))]
+fn timed(body: BodyState) -> BodyState
+    ensures { result ≡ timed body }
+{
+    let timer = if !is_still(body) {
+        0
+    } else if body.timer < STILL_TICKS {
+        body.timer + 1
+    } else {
+        STILL_TICKS
+    };
+    BodyState { timer, ..body }
+}
+
+/// Whether a body is slow enough to be still, by exact squares.
+#[inline]
+#[tactic(auto, unfolding(crate::specs::Simulation::is_still))]
+fn is_still(body: BodyState) -> bool
+    ensures { result ≡ is_still body }
+{
+    let spin = body.spin;
+    is_slow(body.vel) && spin.raw().unsigned_abs() <= STILL_SPIN
+}
+
+/// Whether a velocity is at most `STILL_SPEED`.
+#[inline]
+fn is_slow(velocity: V2) -> bool
+    ensures { result ≡ is_slow velocity }
+{
+    let x = u128::from(velocity.x.raw().unsigned_abs());
+    let y = u128::from(velocity.y.raw().unsigned_abs());
+    x * x + y * y <= STILL_SPEED * STILL_SPEED
+}
+
+/// The phase Sleep.
+#[inline]
+#[tactic(auto, unfolding(crate::specs::Simulation::rested))]
+fn rested(body: BodyState) -> BodyState
+    ensures { result ≡ rested body }
+{
+    if body.timer != STILL_TICKS {
+        return body;
+    }
+    BodyState {
+        vel: V2::ZERO,
+        spin: Fx::ZERO,
+        timer: 0,
+        awake: false,
+        ..body
+    }
+}

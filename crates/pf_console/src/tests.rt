@@ -1,0 +1,265 @@
+use crate::fault::PlayFault;
+use crate::laws;
+use crate::reporting::report;
+use crate::run::run_text;
+use pf_shapes::SceneFault;
+use pf_text::{Bytes, Collected, Input, Output};
+use std::alloc::{AllocError, Global};
+use std::io::{Error, ErrorKind, Read, Write};
+use std::test::Fail;
+
+/// A circle that falls, shown twice.
+const FALLING: &[u8] =
+    b"gravity 0 -167772160\ncircle 0 16777216 0 16777216 0 0\nend\npeers 1\nadvance 0 2\nshow 0 1\nshow 0 2\n";
+
+const FALLEN: &[u8] =
+    b"advance 0 2\nshow 0 1\nbody 0 0 -40960 16777216 0 0 -2621440 0 0 1\nend\nshow 0 2\nbody 0 0 -122880 16777216 0 0 -5242880 0 0 1\nend\n";
+
+/// Where the first and the second reply to that text end.
+const FIRST_REPLY: usize = 12;
+
+const SECOND_REPLY: usize = 69;
+
+/// What the program says of a fault, and its status. What is kept in memory fails for want of it alone.
+fn reported(alloc: Global, fault: &PlayFault) -> Result<(Collected, u8), AllocError> {
+    let mut said = Collected::new(alloc);
+    let status = report(fault, &mut said);
+    if said.bytes().is_empty() {
+        return Err(AllocError);
+    }
+    Ok((said, status))
+}
+
+/// What the program writes for a text in memory, what it says of a fault, and its status.
+fn played(alloc: Global, text: &[u8]) -> Result<(Collected, Collected, u8), AllocError> {
+    let mut output = Collected::new(alloc);
+    match run_text(alloc, &mut Bytes::new(text), &mut output) {
+        Ok(()) => Ok((output, Collected::new(alloc), 0)),
+        Err(PlayFault::Memory | PlayFault::Write) => Err(AllocError),
+        Err(fault) => {
+            let (said, status) = reported(alloc, &fault)?;
+            Ok((output, said, status))
+        }
+    }
+}
+
+#[test]
+fn worked_rows(rt: HostRuntime) -> Result<(), Fail> {
+    let rows = [
+        (
+            b"gravity 0 0\nend\npeers 1\nadvance 0 5\nshow 0 5\n".as_slice(),
+            b"advance 0 5\nshow 0 5\nend\n".as_slice(),
+        ),
+        (FALLING, FALLEN),
+        (
+            b"gravity 0 0\ncircle 0 16777216 0 16777216 0 0\nend\npeers 1\nadvance 0 32\nshow 0 31\nshow 0 32\n".as_slice(),
+            b"advance 0 32\nshow 0 31\nbody 0 0 0 16777216 0 0 0 0 31 1\nend\nshow 0 32\nbody 0 0 0 16777216 0 0 0 0 0 0\nend\n".as_slice(),
+        ),
+        (
+            b"gravity 0 0\nend\npeers 1\nadvance 0 5\nshow 0 6\nadvance 0 1048572\nadvance 0 0\nadvance 0 1048571\nshow 0 4294967295".as_slice(),
+            b"advance 0 5\nrefused NotReached 5\nrefused TickLimit\nadvance 0 5\nadvance 0 1048576\nrefused NotReached 1048576\n".as_slice(),
+        ),
+        (
+            b"gravity 0 -1\ncircle - 0 0 1048576 3 4\nend\npeers 1\nadvance 0 9\nshow 0 9\n".as_slice(),
+            b"advance 0 9\nshow 0 9\nend\n".as_slice(),
+        ),
+    ];
+    for (text, expected) in rows {
+        let (output, said, status) = played(rt.alloc(), text)?;
+        assert_eq!(rt; output.bytes(), expected);
+        assert!(rt; said.bytes().is_empty() && status == 0);
+    }
+    Ok(())
+}
+
+#[test]
+fn each_fault_has_its_line_and_name(rt: HostRuntime) -> Result<(), Fail> {
+    let rows = [
+        (
+            b"gravity 0 -167772160\ncircle 0 1 0 16777216 0 0\nend\n".as_slice(),
+            b"pf_play: line 2: BadMass\n".as_slice(),
+        ),
+        (
+            b"gravity 0 0\ncircle 0 0 0 1 0 0\n".as_slice(),
+            b"pf_play: line 2: BadSize\n".as_slice(),
+        ),
+        (
+            b"gravity 0 0\ncircle 0 0 0 1048576 0 0\ncircle 0 0 0 1048576 0 0\n".as_slice(),
+            b"pf_play: line 3: TooMany\n".as_slice(),
+        ),
+        (b"".as_slice(), b"pf_play: line 1: BadLine\n".as_slice()),
+        (
+            b"gravity 0 0\nend\n".as_slice(),
+            b"pf_play: line 3: BadLine\n".as_slice(),
+        ),
+        (
+            b"gravity 0 0\nend\npeers 2\n".as_slice(),
+            b"pf_play: line 3: BadNumber\n".as_slice(),
+        ),
+        (
+            b"gravity 0 0\nend\npears 1\n".as_slice(),
+            b"pf_play: line 3: BadLine\n".as_slice(),
+        ),
+        (
+            b"gravity 0 0\nend\npeers 1\npeers 1\n".as_slice(),
+            b"pf_play: line 4: BadLine\n".as_slice(),
+        ),
+        (
+            b"gravity 0 0\nend\npeers 1\nsettle 0\n".as_slice(),
+            b"pf_play: line 4: BadLine\n".as_slice(),
+        ),
+        (
+            b"gravity 0 0\nend\npeers 1\nadvance 1 0\n".as_slice(),
+            b"pf_play: line 4: BadNumber\n".as_slice(),
+        ),
+        (
+            b"gravity 0 0\nend\npeers 1\nshow 0 4294967296\n".as_slice(),
+            b"pf_play: line 4: BadNumber\n".as_slice(),
+        ),
+    ];
+    for (text, expected) in rows {
+        let (output, said, status) = played(rt.alloc(), text)?;
+        assert!(rt; output.bytes().is_empty() && status == 1);
+        assert_eq!(rt; said.bytes(), expected);
+    }
+    let mut text = Vec::from_slice(rt.alloc(), FALLING)?;
+    text.extend_from_slice(b"\nadvance 0 05")?;
+    let (output, said, status) = played(rt.alloc(), &text)?;
+    assert_eq!(rt; output.bytes(), FALLEN);
+    assert_eq!(rt; said.bytes(), b"pf_play: line 9: BadNumber\n".as_slice());
+    assert_eq!(rt; status, 1);
+    Ok(())
+}
+
+#[test]
+fn other_faults_have_their_texts(rt: HostRuntime) -> Result<(), Fail> {
+    let words = String::from_str(rt.alloc(), "error: such words\n")?;
+    let rows = [
+        (
+            PlayFault::Words(words),
+            2,
+            b"error: such words\n".as_slice(),
+        ),
+        (
+            PlayFault::Line(u64::MAX, SceneFault::BadNumber),
+            1,
+            b"pf_play: line 18446744073709551615: BadNumber\n".as_slice(),
+        ),
+        (PlayFault::Memory, 3, b"pf_play: out of memory\n".as_slice()),
+        (PlayFault::Read, 3, b"pf_play: read failed\n".as_slice()),
+        (PlayFault::Write, 3, b"pf_play: write failed\n".as_slice()),
+    ];
+    for (fault, status, expected) in rows {
+        let (said, told) = reported(rt.alloc(), &fault)?;
+        assert_eq!(rt; told, status);
+        assert_eq!(rt; said.bytes(), expected);
+    }
+    Ok(())
+}
+
+/// A reader of a text that gives a byte at a time, is interrupted before each, and fails at one call.
+#[derive(Drop)]
+struct Trickle {
+    taken: usize,
+    calls: usize,
+    fails_at: usize,
+}
+
+impl Read for Trickle {
+    fn read(&mut self, buffer: &mut [u8]) -> std::io::Result<usize> {
+        self.calls = self.calls.wrapping_add(1);
+        if self.calls == self.fails_at {
+            return Err(Error::from(ErrorKind::BrokenPipe));
+        }
+        if self.calls % 2 == 1 {
+            return Err(Error::from(ErrorKind::Interrupted));
+        }
+        match FALLING.get(self.taken) {
+            Some(byte) if !buffer.is_empty() => {
+                buffer[0] = *byte;
+                self.taken = self.taken.wrapping_add(1);
+                Ok(1)
+            }
+            _ => Ok(0),
+        }
+    }
+}
+
+#[test]
+fn a_reader_may_fail_at_each_call(rt: HostRuntime) -> Result<(), Fail> {
+    let calls = 2 * (FALLING.len() + 1);
+    for fails_at in 1..calls + 2 {
+        let reader = Trickle {
+            taken: 0,
+            calls: 0,
+            fails_at,
+        };
+        let mut output = Collected::new(rt.alloc());
+        let result = run_text(rt.alloc(), &mut Input::new(reader), &mut output);
+        if matches!(result, Err(PlayFault::Memory | PlayFault::Write)) {
+            return Err(AllocError)?;
+        }
+        if fails_at > calls {
+            assert!(rt; result.is_ok() && output.bytes() == FALLEN);
+        } else {
+            assert!(rt; matches!(result, Err(PlayFault::Read)), "call {fails_at}");
+            let read = FALLING.iter().take((fails_at - 1) / 2);
+            let lines = read.filter(|byte| **byte == b'\n').count();
+            let lengths = [0, 0, 0, 0, 0, FIRST_REPLY, SECOND_REPLY, FALLEN.len()];
+            assert_eq!(rt; lengths.get(lines), Some(&output.bytes().len()));
+            assert!(rt; FALLEN.starts_with(output.bytes()));
+        }
+    }
+    Ok(())
+}
+
+/// A writer that takes three bytes at a time and fails at one call.
+#[derive(Drop)]
+struct Brittle {
+    taken: Vec<u8>,
+    calls: usize,
+    fails_at: usize,
+}
+
+impl Write for Brittle {
+    fn write(&mut self, bytes: &[u8]) -> std::io::Result<usize> {
+        self.calls = self.calls.wrapping_add(1);
+        if self.calls == self.fails_at {
+            return Err(Error::from(ErrorKind::BrokenPipe));
+        }
+        let count = bytes.len().min(3);
+        self.taken.extend_from_slice(&bytes[..count])?;
+        Ok(count)
+    }
+
+    fn flush(&mut self) -> std::io::Result<()> {
+        Ok(())
+    }
+}
+
+#[test]
+fn a_writer_may_fail_at_each_call(rt: HostRuntime) -> Result<(), Fail> {
+    for fails_at in 1..60 {
+        let mut writer = Brittle {
+            taken: Vec::new(rt.alloc()),
+            calls: 0,
+            fails_at,
+        };
+        let mut output = Output::new(&mut writer);
+        let result = run_text(rt.alloc(), &mut Bytes::new(FALLING), &mut output);
+        if writer.calls < fails_at && result.is_err() {
+            return Err(AllocError)?;
+        }
+        if writer.calls < fails_at {
+            assert!(rt; result.is_ok() && writer.taken.as_slice() == FALLEN);
+        } else {
+            assert!(rt; matches!(result, Err(PlayFault::Write)), "call {fails_at}");
+            assert!(rt; FALLEN.starts_with(writer.taken.as_slice()));
+            let mut closed = Output::new(&mut writer);
+            assert_eq!(rt; report(&PlayFault::Write, &mut closed), 3);
+        }
+    }
+    laws::events_are_answered();
+    laws::sleepers_stay();
+    Ok(())
+}

@@ -1,6 +1,0 @@
-use Rattle.pf_play.specs.Simulation.{pull_of}
-use Rattle.pf_play.proofs.Sleepers.{stays}
-use Rattle.pf_play.proofs.laws.sleepers_stay.Goals as goal
-
-pub returns : goal.returns
-returns c = λ scene. stays (pull_of scene.gravity) scene.starts

@@ -1,6 +1,0 @@
-use Rattle.std.proofs.Common.{◌≡◌}
-use Rattle.pf_play.specs.Simulation.{sim_from}
-use Rattle.pf_play.proofs.simulation.advance.Given as goal
-
-abbrev pub invariant-loop : goal.invariant-loop
-invariant-loop l = l.bodies ≡ sim_from l.pull l.initial.bodies l.counter
