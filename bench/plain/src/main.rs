@@ -38,6 +38,10 @@
 //! `div` x stays between 2^20 and about 2^30, so every product and every numerator is below 2^55;
 //! in the two wide ones x is at least about 2^50, so every product is above 2^62 and every
 //! numerator above 2^64, and each step takes the exact path over 128 bits.
+//!
+//! The tasks on maps of commands, `plain TASK COUNT HELD`, are in `maps`.
+
+mod maps;
 
 use std::process::ExitCode;
 
@@ -277,17 +281,22 @@ fn chain(operation: &str, count: u64) -> Option<i64> {
 
 fn main() -> ExitCode {
     let words: Vec<String> = std::env::args().skip(1).collect();
-    let last = match words.as_slice() {
-        [operation, count] => count.parse().ok().and_then(|count| chain(operation, count)),
+    let words: Vec<&str> = words.iter().map(String::as_str).collect();
+    let answer = match words.as_slice() {
+        [operation, count] => count.parse().ok().and_then(|count| chain(operation, count)).map(i128::from),
+        [task, count, held] => match (count.parse(), held.parse()) {
+            (Ok(count), Ok(held)) if held > 0 => maps::sum(task, count, held).map(i128::from),
+            _ => None,
+        },
         _ => None,
     };
-    match last {
+    match answer {
         Some(number) => {
             println!("{number}");
             ExitCode::SUCCESS
         }
         None => {
-            eprintln!("usage: plain add|mul|div|mul-wide|div-wide|root|length|turn COUNT");
+            eprintln!("usage: plain OPERATION COUNT, or plain TASK COUNT HELD");
             ExitCode::from(2)
         }
     }

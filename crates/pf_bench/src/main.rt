@@ -1,14 +1,20 @@
-//! Makes one operation of `pf_num` or `pf_rot` many times in a chain, and prints the last number: what proofs
-//! cost is measured on it, beside the same chains in plain Rust.
+//! Does one thing many times and prints what came out: what proofs cost is measured on it, beside the same in plain
+//! Rust.
 //!
-//! Called as `pf_bench OPERATION COUNT`, with an operation `add`, `mul`, `div`, `mul-wide`, `div-wide`,
-//! `root`, `length` or `turn`. In the wide two each step takes the exact path over 128 bits.
+//! Called as `pf_bench OPERATION COUNT`, it makes an operation of `pf_num` or `pf_rot` in a chain and prints the last
+//! number: `add`, `mul`, `div`, `mul-wide`, `div-wide`, `root`, `length` or `turn`. In the wide two each step takes
+//! the exact path over 128 bits. Called as `pf_bench TASK COUNT HELD`, it does something with a map of so many
+//! commands and prints the sum of the answers: `put`, `get`, `greatest`, `at-tick`, `merge-known`, `merge-greater`, `copy`
+//! or `decode`.
 #![tactic(auto)]
 
 mod chain;
+mod maps;
 mod operation;
 
+use maps::Task;
 use operation::Operation;
+use std::alloc::Global;
 use std::env::Env;
 use std::process::ExitCode;
 use std::{env, io};
@@ -16,22 +22,41 @@ use std::{env, io};
 #[cfg(test)]
 mod tests;
 
-/// The two words of the command line, as an operation and how many times to make it.
-fn request(rt: &(impl Env + Alloc)) -> Option<(Operation, u64)> {
+const USAGE: &str = "\
+usage: pf_bench add|mul|div|mul-wide|div-wide|root|length|turn COUNT
+       pf_bench put|get|greatest|at-tick|merge-known|merge-greater|copy|decode COUNT HELD
+";
+
+/// What came of a task, where the word names one, done with a map of so many commands.
+fn summed(alloc: Global, task: &str, count: u64, held: &str) -> Option<i128> {
+    let task = Task::parse(task)?;
+    let held = held.parse().ok()?;
+    if held == 0 {
+        return None;
+    }
+    Some(i128::from(maps::sum(alloc, task, count, held).ok()?))
+}
+
+/// The number that the words of the command line ask for, if they ask for one.
+fn answer(rt: &(impl Env + Alloc<A = Global>)) -> Option<i128> {
     let mut words = env::args(rt).ok()?.skip(1);
-    let operation = Operation::parse(words.next()?.as_str())?;
+    let what = words.next()?;
     let count = words.next()?.parse().ok()?;
+    let held = words.next();
     if words.next().is_some() {
         return None;
     }
-    Some((operation, count))
+    match held {
+        None => Some(i128::from(chain::last(Operation::parse(what.as_str())?, count).raw())),
+        Some(held) => summed(rt.alloc(), what.as_str(), count, held.as_str()),
+    }
 }
 
 fn main(rt: HostRuntime) -> io::Result<ExitCode> {
-    let Some((operation, count)) = request(&rt) else {
-        eprintln!(rt; "usage: pf_bench add|mul|div|mul-wide|div-wide|root|length|turn COUNT")?;
+    let Some(number) = answer(&rt) else {
+        eprint!(rt; "{USAGE}")?;
         return Ok(ExitCode::from(2));
     };
-    println!(rt; "{}", chain::last(operation, count).raw())?;
+    println!(rt; "{number}")?;
     Ok(ExitCode::SUCCESS)
 }

@@ -1,5 +1,7 @@
 use super::chain::last;
+use super::maps::{Task, sum};
 use super::operation::Operation;
+use std::test::Fail;
 
 // Answers of the same chains in plain Rust.
 #[test]
@@ -17,4 +19,29 @@ const ANSWERS: [(&str, i64); 5] = [
     ("div", 1042245619),
     ("mul-wide", 1159924088395361),
     ("div-wide", 17485980165917884),
+];
+
+// Answers of the same tasks in plain Rust.
+#[test]
+fn tasks_answer_as_in_plain_rust(rt: HostRuntime) -> Result<(), Fail> {
+    for (word, want) in SUMS {
+        let task = Task::parse(word);
+        assert!(rt; task.is_some(), "{word}");
+        for task in task {
+            assert_eq!(rt; sum(rt.alloc(), task, 10, 1000)?, want, "{word}");
+        }
+    }
+    assert_eq!(rt; Task::parse("merge"), None);
+    Ok(())
+}
+
+const SUMS: [(&str, u64); 8] = [
+    ("put", 10000),
+    ("get", 5355),
+    ("greatest", 10),
+    ("at-tick", 80),
+    ("merge-known", 0),
+    ("merge-greater", 80),
+    ("copy", 10000),
+    ("decode", 81006),
 ];

@@ -7,7 +7,7 @@ ghost use Rattle.pf_commands.specs.Payload.{IsPayload, body_of};
 ghost use Rattle.pf_commands.specs.Frame.{Spells, spelling, decode_of, payload_of};
 
 use crate::fault::FrameFault;
-use crate::name::Name;
+use crate::name::{Name, PLAYERS, TICKS};
 use crate::payload::{Command, Payload};
 use byteorder::{BigEndian, ByteOrder};
 use pf_num::Fx;
@@ -33,12 +33,6 @@ const TURN: u8 = 1;
 
 /// The kind of a stop, which has neither x nor y.
 const STOP: u8 = 2;
-
-/// Frames name ticks below this.
-const TICKS: u32 = 1 << 20;
-
-/// Frames name players below this.
-const PLAYERS: u8 = 8;
 
 /// Frames name bodies below this.
 const BODIES: u16 = 1 << 10;

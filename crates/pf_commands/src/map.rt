@@ -4,7 +4,7 @@ ghost use Rattle.std.specs.Prelude.{◌≡◌};
 ghost use Rattle.pf_commands.specs.News.{lesser};
 
 use crate::checking::{CheckFault, check};
-use crate::name::Name;
+use crate::name::{Name, PLAYERS, TICKS};
 use crate::payload::{Command, Payload};
 use crate::weight::places_of;
 use pf_shapes::Scene;
@@ -13,12 +13,6 @@ use std::cmp::Ordering;
 use std::collections::BTreeMap;
 use std::collections::btree_map::Iter;
 use std::marker::Model;
-
-/// The ticks that names are for lie below this one.
-const TICKS: u32 = 1 << 20;
-
-/// How many players there can be.
-const PLAYERS: u8 = 8;
 
 /// What putting a command into a map did.
 #[derive(Clone, Copy, Debug, PartialEq, Eq)]
@@ -235,10 +229,7 @@ impl CommandMap {
         let mut count = 0;
         let mut least = None;
         for (name, payload) in other.commands.iter() {
-            let command = Command {
-                name: *name,
-                payload: *payload,
-            };
+            let command = command_of(name, payload);
             if self.answer(&command).is_change() {
                 count += 1;
                 least = Some(earlier(least, name.tick()));
@@ -252,10 +243,7 @@ impl CommandMap {
         ensures { OnOk result (self.new ≡ merge self.old other.now) }
     {
         for (name, payload) in other.commands.iter() {
-            let command = Command {
-                name: *name,
-                payload: *payload,
-            };
+            let command = command_of(name, payload);
             self.put(&command)?;
         }
         Ok(())
@@ -267,15 +255,23 @@ impl CommandMap {
     {
         let held = &self.commands;
         for (name, payload) in held.iter() {
-            let command = Command {
-                name: *name,
-                payload: *payload,
-            };
+            let command = command_of(name, payload);
             if let Err(fault) = check(scene, &command) {
                 return Err(fault);
             }
         }
         Ok(())
+    }
+}
+
+/// The command that a map holds as this entry.
+#[inline]
+fn command_of(name: &Name, payload: &Payload) -> Command
+    ensures { result ≡ record { name = name.now; payload = payload.now } }
+{
+    Command {
+        name: *name,
+        payload: *payload,
     }
 }
 

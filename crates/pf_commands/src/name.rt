@@ -4,6 +4,12 @@ ghost use Rattle.std.specs.Prelude.{◌≡◌, ◌^◌, ◌<◌};
 
 use std::marker::Model;
 
+/// Names are for ticks below this one.
+pub(crate) const TICKS: u32 = 1 << 20;
+
+/// How many players there can be.
+pub(crate) const PLAYERS: u8 = 8;
+
 /// The name of a command. Names are ordered by tick, then player, then number.
 #[derive(Clone, Copy, Debug, PartialEq, Eq, PartialOrd, Ord)]
 pub struct Name {

@@ -8,7 +8,7 @@ use crate::root::raw_root;
 use std::marker::Model;
 
 /// The greatest raw number, 2^55 - 1.
-const GREATEST: i64 = 36_028_797_018_963_967;
+const GREATEST: i64 = crate::quotient::GREATEST as i64;
 
 /// A fixed-point number: a whole number of units of 2^-24, at most 2^55 - 1 of them either way.
 ///

@@ -6,7 +6,7 @@ ghost use Rattle.pf_num.specs.Round.{carry, nearest, with_sign, near};
 ghost use Rattle.pf_num.specs.Fx.{IsRaw, product, quotient};
 
 /// The greatest raw number, 2^55 - 1.
-const GREATEST: u64 = 36_028_797_018_963_967;
+pub(crate) const GREATEST: u64 = 36_028_797_018_963_967;
 
 /// What rounding adds to a quotient with this remainder.
 #[inline]

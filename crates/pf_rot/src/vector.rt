@@ -6,9 +6,6 @@ ghost use Rattle.pf_rot.specs.Vector.{Vec2, zero_vector, plus, minus, negated, s
 use pf_num::{Fx, whole_root};
 use std::marker::Model;
 
-/// The greatest raw number, 2^55 - 1.
-const GREATEST: u64 = 36_028_797_018_963_967;
-
 /// A vector, a place or a velocity of the plane. Contracts see its two parts as raw numbers, in units
 /// of 2^-24. Each operation rounds and holds in range as those on [`Fx`] do.
 #[derive(Clone, Copy, Debug, PartialEq, Eq)]
@@ -97,7 +94,8 @@ impl V2 {
     {
         let x = u128::from(self.x.raw().unsigned_abs());
         let y = u128::from(self.y.raw().unsigned_abs());
-        let length = whole_root(x * x + y * y).min(GREATEST);
+        let greatest = Fx::MAX.raw().unsigned_abs();
+        let length = whole_root(x * x + y * y).min(greatest);
         Fx::from_raw(length as i64).unwrap()
     }
 
