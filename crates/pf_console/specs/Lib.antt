@@ -4,5 +4,7 @@ pub mod Print
 pub mod Grammar
 pub mod Phase
 pub mod Text
+pub mod Digits
+pub mod FrameText
 pub mod Report
 pub mod Laws

@@ -4,6 +4,9 @@ use Rattle.std.specs.List.{flat_map}
 use Rattle.std.specs.Fmt.{signed_decimal}
 use Rattle.pf_shapes.specs.Fixture.{FixtureDef, is_static}
 use Rattle.pf_shapes.specs.Body.{State}
+use Rattle.pf_commands.specs.declared.payload.Command.{Command}
+use Rattle.pf_commands.specs.declared.payload.Payload.{Payload}
+use Rattle.pf_commands.specs.declared.payload.Payload.TheVariants.{Push, Turn, Stop}
 use Rattle.pf_console.specs.declared.event.Reply.{Reply}
 use Rattle.pf_console.specs.declared.event.Reply.TheVariants.{Advanced, Shown, Refused}
 use Rattle.pf_console.specs.declared.event.Refusal.{Refusal}
@@ -13,9 +16,25 @@ use Rattle.pf_console.specs.declared.event.Refusal.TheVariants.{NotReached, Tick
 abbrev pub spaced : ℤ → List ℕ
 spaced z = 32 ∷ signed_decimal z
 
+-- a word and numbers
+abbrev pub words_text : List ℕ → List ℤ → List ℕ
+words_text word numbers = word ++ flat_map spaced numbers
+
 -- a word, numbers and the line's end
 unfoldable pub line_text : List ℕ → List ℤ → List ℕ
-line_text word numbers = word ++ flat_map spaced numbers ++ 10 ∷ []
+line_text word numbers = words_text word numbers ++ 10 ∷ []
+
+-- what a command does, and the line's end
+abbrev pub payload_text : Payload → List ℕ
+payload_text (Push body x y) = line_text (codes " push") (pos body ∷ x ∷ y ∷ [])
+payload_text (Turn body x) = line_text (codes " turn") (pos body ∷ x ∷ [])
+payload_text (Stop body) = line_text (codes " stop") (pos body ∷ [])
+
+-- the line of a command: its name, and what it does
+unfoldable pub command_line : Command → List ℕ
+command_line c =
+    words_text (codes "tick") (pos c.name.tick ∷ []) ++ words_text (codes " player") (pos c.name.player ∷ [])
+    ++ words_text (codes " number") (pos c.name.number ∷ []) ++ payload_text c.payload
 
 -- 1 or 0
 abbrev pub flag : Bool → ℤ

@@ -4,8 +4,12 @@ use Rattle.std.specs.Io.KnownBytes.{Appends}
 use Rattle.pf_text.specs.Lines.{AppendsFront}
 use Rattle.pf_shapes.specs.declared.fault.SceneFault.{SceneFault}
 use Rattle.pf_shapes.specs.declared.fault.SceneFault.TheVariants.{BadLine, BadNumber, TooMany, BadMass, BadSize}
+use Rattle.pf_commands.specs.declared.fault.FrameFault.{FrameFault}
+use Rattle.pf_commands.specs.declared.fault.FrameFault.TheVariants.{Short, Long, BadVersion, BadKind, NotCanonical, OutOfRange}
+use Rattle.pf_console.specs.declared.fault.DigitsFault.{DigitsFault}
+use Rattle.pf_console.specs.declared.fault.DigitsFault.TheVariants as digits
 use Rattle.pf_console.specs.declared.fault.PlayFault.{PlayFault}
-use Rattle.pf_console.specs.declared.fault.PlayFault.TheVariants.{Words, Line, Memory, Read, Write}
+use Rattle.pf_console.specs.declared.fault.PlayFault.TheVariants.{Words, Line, Frame, Memory, Read, Write}
 
 abbrev pub fault_name : SceneFault → List ℕ
 fault_name BadLine = codes "BadLine"
@@ -14,6 +18,22 @@ fault_name TooMany = codes "TooMany"
 fault_name BadMass = codes "BadMass"
 fault_name BadSize = codes "BadSize"
 
+abbrev pub frame_fault_name : FrameFault → List ℕ
+frame_fault_name Short = codes "Short"
+frame_fault_name Long = codes "Long"
+frame_fault_name BadVersion = codes "BadVersion"
+frame_fault_name BadKind = codes "BadKind"
+frame_fault_name NotCanonical = codes "NotCanonical"
+frame_fault_name OutOfRange = codes "OutOfRange"
+
+abbrev pub digits_fault_name : DigitsFault → List ℕ
+digits_fault_name digits.BadNumber = codes "BadNumber"
+digits_fault_name (digits.Refused fault) = frame_fault_name fault
+
+-- the line of a frame that is refused
+unfoldable pub refused_frame : DigitsFault → List ℕ
+refused_frame fault = codes "pf_play: frame: " ++ digits_fault_name fault ++ codes "\n"
+
 -- the line of a line that is refused
 unfoldable pub refused_line : ℕ → SceneFault → List ℕ
 refused_line number fault = codes "pf_play: line " ++ decimal number ++ codes ": " ++ fault_name fault ++ codes "\n"
@@ -21,6 +41,7 @@ refused_line number fault = codes "pf_play: line " ++ decimal number ++ codes ":
 abbrev pub fault_text : PlayFault → List ℕ
 fault_text (Words text) = string_bytes text
 fault_text (Line number fault) = refused_line number fault
+fault_text (Frame fault) = refused_frame fault
 fault_text Memory = codes "pf_play: out of memory\n"
 fault_text Read = codes "pf_play: read failed\n"
 fault_text Write = codes "pf_play: write failed\n"
@@ -28,6 +49,7 @@ fault_text Write = codes "pf_play: write failed\n"
 abbrev pub status_of : PlayFault → ℕ
 status_of (Words text) = 2
 status_of (Line number fault) = 1
+status_of (Frame fault) = 1
 status_of Memory = 3
 status_of Read = 3
 status_of Write = 3

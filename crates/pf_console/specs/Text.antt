@@ -5,7 +5,7 @@ use Rattle.pf_text.specs.Driver.{answers, output_of}
 use Rattle.pf_shapes.specs.declared.fault.SceneFault.{SceneFault}
 use Rattle.pf_shapes.specs.declared.fault.SceneFault.TheVariants.{BadLine}
 use Rattle.pf_console.specs.declared.fault.PlayFault.{PlayFault}
-use Rattle.pf_console.specs.declared.fault.PlayFault.TheVariants.{Words, Line, Memory, Read, Write}
+use Rattle.pf_console.specs.declared.fault.PlayFault.TheVariants.{Words, Line, Frame, Memory, Read, Write}
 use Rattle.pf_console.specs.declared.phase.Phase.{Phase}
 use Rattle.pf_console.specs.declared.phase.Phase.TheVariants.{Reading, Seating, Playing}
 use Rattle.pf_console.specs.Phase.{text_rules, opening}
@@ -50,3 +50,4 @@ Runs input left before after (Err Read) =
 Runs input left before after (Err Write) =
     (part : List ℕ) × (rest : List ℕ) × (part ++ rest ≡ (text_of input).written) × (after ≡ Some (before ++ part))
 Runs input left before after (Err (Words text)) = ⊥
+Runs input left before after (Err (Frame fault)) = ⊥

@@ -3,9 +3,21 @@
 ghost use Rattle.std.specs.Prelude.{◌≡◌};
 ghost use Rattle.pf_console.specs.declared.fault.PlayFault.TheVariants.{Memory};
 
+use pf_commands::FrameFault;
 use pf_shapes::SceneFault;
 use std::alloc::{AllocError, AllocFailed};
 use thiserror::Error;
+
+/// Why digits are refused that were to spell a frame.
+#[derive(Clone, Copy, Debug, PartialEq, Eq, Error)]
+pub enum DigitsFault {
+    /// They are no bytes: their number is odd, or one is no hexadecimal digit.
+    #[error("BadNumber")]
+    BadNumber,
+    /// The bytes spell no command.
+    #[error("{0}")]
+    Refused(FrameFault),
+}
 
 /// Why the program ended with another status than 0.
 #[derive(Debug, Drop, Error)]
@@ -16,6 +28,9 @@ pub enum PlayFault {
     /// The line of this number, from 1, is refused.
     #[error("line {0}: {1}")]
     Line(u64, SceneFault),
+    /// The frame of the command line is refused.
+    #[error("frame: {0}")]
+    Frame(DigitsFault),
     /// No memory is left.
     #[error("out of memory")]
     Memory,

@@ -1,8 +1,10 @@
 //! The console: a text's lines are read as a scene and events, and answered line by line.
 #![tactic(auto)]
 
+mod digits;
 mod event;
 mod fault;
+mod frame;
 mod grammar;
 mod laws;
 mod peer;
@@ -12,7 +14,8 @@ mod reporting;
 mod run;
 mod simulation;
 
-pub use fault::PlayFault;
+pub use fault::{DigitsFault, PlayFault};
+pub use frame::frame_text;
 pub use laws::{events_are_answered, sleepers_stay};
 pub use reporting::report;
 pub use run::run_text;

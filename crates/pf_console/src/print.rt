@@ -2,22 +2,57 @@
 
 ghost use Rattle.std.specs.Prelude.{◌≡◌, ◌++◌, ◌<◌, ◌^◌, OnOk, IfOk};
 ghost use Rattle.std.specs.String.{string_bytes};
-ghost use Rattle.pf_console.specs.Print.{line_text, body_numbers, moving_text, bodies_text, block_text, refusal_text, reply_text};
+ghost use Rattle.pf_console.specs.Print.{words_text, line_text, payload_text, command_line, body_numbers, moving_text, bodies_text, block_text, refusal_text, reply_text};
 
 use crate::event::{Refusal, Reply};
+use pf_commands::{Command, Payload};
 use pf_shapes::{BodyState, Fixture};
 use std::alloc::{AllocError, Global};
+
+/// Adds a word and numbers.
+fn push_words(text: &mut String, word: &str, numbers: &[i64]) -> Result<(), AllocError>
+    ensures { OnOk result (string_bytes text.new ≡ string_bytes text.old ++ words_text word.now numbers.now) }
+{
+    text.push_str(word)?;
+    for number in numbers {
+        write!(text, " {number}")?;
+    }
+    Ok(())
+}
 
 /// Adds a line: a word and numbers.
 #[tactic(auto, unfolding(crate::specs::Print::line_text))]
 fn push_line(text: &mut String, word: &str, numbers: &[i64]) -> Result<(), AllocError>
     ensures { OnOk result (string_bytes text.new ≡ string_bytes text.old ++ line_text word.now numbers.now) }
 {
-    text.push_str(word)?;
-    for number in numbers {
-        write!(text, " {number}")?;
-    }
+    push_words(text, word, numbers)?;
     text.push('\n')
+}
+
+/// Adds what a command does, and the line's end.
+fn push_payload(text: &mut String, payload: &Payload) -> Result<(), AllocError>
+    ensures { OnOk result (string_bytes text.new ≡ string_bytes text.old ++ payload_text payload.now) }
+{
+    match *payload {
+        Payload::Push { body, x, y } => {
+            push_line(text, " push", &[i64::from(body), x.raw(), y.raw()])
+        }
+        Payload::Turn { body, x } => push_line(text, " turn", &[i64::from(body), x.raw()]),
+        Payload::Stop { body } => push_line(text, " stop", &[i64::from(body)]),
+    }
+}
+
+/// The line of a command.
+#[tactic(auto, unfolding(crate::specs::Print::command_line))]
+pub fn command_text(alloc: Global, command: &Command) -> Result<String, AllocError>
+    ensures { IfOk result (λ text. string_bytes text ≡ command_line command.now) }
+{
+    let mut text = String::new(alloc);
+    push_words(&mut text, "tick", &[i64::from(command.name.tick())])?;
+    push_words(&mut text, " player", &[i64::from(command.name.player())])?;
+    push_words(&mut text, " number", &[i64::from(command.name.number())])?;
+    push_payload(&mut text, &command.payload)?;
+    Ok(text)
 }
 
 /// The numbers of a body's line.

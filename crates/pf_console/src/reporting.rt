@@ -1,11 +1,12 @@
 //! What the program says of a fault, and the status it ends with.
 
 ghost use Rattle.std.specs.Prelude.{◌≡◌, ◌+◌, ◌^◌, ◌<◌};
-ghost use Rattle.pf_console.specs.Report.{fault_name, refused_line, fault_text, status_of, Reports};
+ghost use Rattle.pf_console.specs.Report.{fault_name, frame_fault_name, digits_fault_name, refused_line, refused_frame, fault_text, status_of, Reports};
 
-use crate::fault::PlayFault;
+use crate::fault::{DigitsFault, PlayFault};
 use arrayvec::ArrayString;
 use itoa::Buffer;
+use pf_commands::FrameFault;
 use pf_shapes::SceneFault;
 use pf_text::Sink;
 
@@ -23,6 +24,42 @@ fn fault_name(fault: SceneFault) -> &'static str
         SceneFault::BadMass => "BadMass",
         SceneFault::BadSize => "BadSize",
     }
+}
+
+/// The name of a fault of a frame.
+fn frame_fault_name(fault: FrameFault) -> &'static str
+    ensures { result.now ≡ frame_fault_name fault }
+{
+    match fault {
+        FrameFault::Short => "Short",
+        FrameFault::Long => "Long",
+        FrameFault::BadVersion => "BadVersion",
+        FrameFault::BadKind => "BadKind",
+        FrameFault::NotCanonical => "NotCanonical",
+        FrameFault::OutOfRange => "OutOfRange",
+    }
+}
+
+/// The name of a fault of digits.
+fn digits_fault_name(fault: DigitsFault) -> &'static str
+    ensures { result.now ≡ digits_fault_name fault }
+{
+    match fault {
+        DigitsFault::BadNumber => "BadNumber",
+        DigitsFault::Refused(fault) => frame_fault_name(fault),
+    }
+}
+
+/// The line of a frame that is refused.
+#[tactic(auto, unfolding(crate::specs::Report::refused_frame))]
+fn refused_frame(fault: DigitsFault) -> ArrayString<LINE_ROOM>
+    ensures { result.bytes ≡ refused_frame fault }
+{
+    let mut line = ArrayString::new();
+    line.push_str("pf_play: frame: ");
+    line.push_str(digits_fault_name(fault));
+    line.push_str("\n");
+    line
 }
 
 /// The line of a line that is refused, in room of its own: memory may be what is wanting.
@@ -52,6 +89,7 @@ pub fn report<W: Sink>(fault: &PlayFault, writer: &mut W) -> u8
         PlayFault::Line(number, name) => {
             writer.write_all(refused_line(*number, *name).as_str().as_bytes())
         }
+        PlayFault::Frame(name) => writer.write_all(refused_frame(*name).as_str().as_bytes()),
         PlayFault::Memory => writer.write_all(b"pf_play: out of memory\n"),
         PlayFault::Read => writer.write_all(b"pf_play: read failed\n"),
         PlayFault::Write => writer.write_all(b"pf_play: write failed\n"),
@@ -64,7 +102,7 @@ fn status(fault: &PlayFault) -> u8
     ensures { result ≡ status_of fault.now }
 {
     match fault {
-        PlayFault::Line(_, _) => 1,
+        PlayFault::Line(_, _) | PlayFault::Frame(_) => 1,
         PlayFault::Words(_) => 2,
         PlayFault::Memory | PlayFault::Read | PlayFault::Write => 3,
     }

@@ -1,4 +1,5 @@
 use crate::fault::PlayFault;
+use crate::frame::frame_text;
 use crate::laws;
 use crate::reporting::report;
 use crate::run::run_text;
@@ -128,6 +129,71 @@ fn each_fault_has_its_line_and_name(rt: HostRuntime) -> Result<(), Fail> {
     assert_eq!(rt; output.bytes(), FALLEN);
     assert_eq!(rt; said.bytes(), b"pf_play: line 9: BadNumber\n".as_slice());
     assert_eq!(rt; status, 1);
+    Ok(())
+}
+
+/// What the program writes for a frame's digits, what it says of a fault, and its status.
+fn framed(alloc: Global, digits: &str) -> Result<(Collected, Collected, u8), AllocError> {
+    let mut output = Collected::new(alloc);
+    match frame_text(alloc, digits, &mut output) {
+        Ok(()) => Ok((output, Collected::new(alloc), 0)),
+        Err(PlayFault::Memory | PlayFault::Write) => Err(AllocError),
+        Err(fault) => {
+            let (said, status) = reported(alloc, &fault)?;
+            Ok((output, said, status))
+        }
+    }
+}
+
+#[test]
+fn frames_are_told(rt: HostRuntime) -> Result<(), Fail> {
+    let rows = [
+        (
+            "010000000301000000000200000000010000000000000000000000",
+            b"tick 3 player 1 number 0 push 2 16777216 0\n".as_slice(),
+        ),
+        (
+            "01000FFFFF01FFFF010002ff800000000000010000000000000000",
+            b"tick 1048575 player 1 number 65535 turn 2 -36028797018963967\n".as_slice(),
+        ),
+        (
+            "0100000000000000020000000000000000000000000000000000ff",
+            b"pf_play: frame: NotCanonical\n".as_slice(),
+        ),
+        (
+            "010000000000000002000000000000000000000000000000000000",
+            b"tick 0 player 0 number 0 stop 0\n".as_slice(),
+        ),
+        ("", b"pf_play: frame: Short\n".as_slice()),
+        (
+            "01000000030100000000020000000001000000000000000000000000",
+            b"pf_play: frame: Long\n".as_slice(),
+        ),
+        (
+            "020000000301000000000200000000010000000000000000000000",
+            b"pf_play: frame: BadVersion\n".as_slice(),
+        ),
+        (
+            "010000000301000007000200000000010000000000000000000000",
+            b"pf_play: frame: BadKind\n".as_slice(),
+        ),
+        (
+            "010000000308000000000200000000010000000000000000000000",
+            b"pf_play: frame: OutOfRange\n".as_slice(),
+        ),
+        ("0", b"pf_play: frame: BadNumber\n".as_slice()),
+        ("zz", b"pf_play: frame: BadNumber\n".as_slice()),
+    ];
+    for (digits, expected) in rows {
+        let (output, said, status) = framed(rt.alloc(), digits)?;
+        if expected.starts_with(b"tick") {
+            assert_eq!(rt; output.bytes(), expected);
+            assert!(rt; said.bytes().is_empty() && status == 0);
+        } else {
+            assert_eq!(rt; said.bytes(), expected);
+            assert!(rt; output.bytes().is_empty() && status == 1);
+        }
+    }
     Ok(())
 }
 

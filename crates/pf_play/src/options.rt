@@ -1,10 +1,12 @@
 //! The command line: which subcommand the words of a call ask for.
-ghost use Rattle.std.specs.Prelude.{◌≡◌, ℕ, List, [], ◌∷◌, codes, map, IfOk};
-ghost use Rattle.clap.specs.Words.{app_of, fault_of, kind_of};
-ghost use Rattle.pf_play.specs.Options.{Answers, RunsUnlessMemory, command_line};
+ghost use Rattle.std.specs.Prelude.{◌≡◌, ℕ, List, [], ◌∷◌, None, false, codes, map, IfOk};
+ghost use Rattle.clap.specs.Words.{app_of, fault_of, kind_of, shape_of, subcommand_of, subcommand_rows_of};
+ghost use Rattle.clap.specs.Simple.{new_shape};
+ghost use Rattle.clap.specs.declared.builder.command.Command.TheViews.{out-Command as fields_of};
+ghost use Rattle.pf_play.specs.Options.{Answers, AsksFor, RunsUnlessMemory, command_line, frame_words};
 
 use clap::error::ErrorKind;
-use clap::{Command, Error};
+use clap::{Arg, ArgMatches, Command, Error};
 use pf_console::PlayFault;
 use std::alloc::{AllocError, Global};
 use std::convert::AsStr;
@@ -13,14 +15,29 @@ use std::{env, io};
 
 /// What a command line asks for.
 #[derive(Debug, Drop)]
-pub enum Request {
+pub enum Request<'a> {
     /// Answer a text on standard input line by line.
     Run,
+    /// Print the fields of the frame that these digits spell.
+    Frame(&'a str),
     /// Write this text, help or the version, to standard output.
     Say(String),
 }
 
 const ABOUT: &str = "An exact 2D physics core for rollback games";
+
+/// What the digits of a frame are called.
+const DIGITS: &str = "HEX";
+
+const FRAME_ABOUT: &str = "Prints the fields of one command's frame";
+
+const FRAME_HELP: &str = "\
+HEX is the 27 bytes of a frame as 54 hexadecimal digits. Of the command that they spell
+it prints tick, player and number, and what it does to which body, on one line:
+
+  tick 0 player 0 number 0 push 0 16777216 0
+  tick 0 player 0 number 1 turn 0 16777216
+  tick 0 player 0 number 2 stop 0";
 
 const RUN_ABOUT: &str = "Answers a text on standard input, line by line";
 
@@ -52,13 +69,31 @@ place, pair of rotation, velocity, spin, ticks at rest, and 1 if awake:
   body 0 0 -122880 16777216 0 0 -5242880 0 0 1
   end";
 
+/// The subcommand `run`.
+fn run_command<'a>(alloc: Global) -> Command<'a>
+    ensures shape { shape_of result ≡ new_shape (codes "run") }
+    ensures local { (fields_of result).has_globals ≡ false }
+{
+    Command::new(alloc, "run")
+        .about(RUN_ABOUT)
+        .after_help(RUN_HELP)
+}
+
+/// The subcommand `frame`, with its one word.
+fn frame_command<'a>(alloc: Global) -> Result<Command<'a>, AllocError>
+    ensures words { IfOk result (λ command. app_of command ≡ frame_words) }
+    ensures local { IfOk result (λ command. (fields_of command).has_globals ≡ false) }
+{
+    Command::new(alloc, "frame")
+        .about(FRAME_ABOUT)
+        .after_help(FRAME_HELP)
+        .arg(Arg::new(alloc, DIGITS).required(true))
+}
+
 /// The command line that the program takes.
 fn command<'a>(alloc: Global) -> Result<Command<'a>, AllocError>
     ensures { IfOk result (λ command. app_of command ≡ command_line) }
 {
-    let run = Command::new(alloc, "run")
-        .about(RUN_ABOUT)
-        .after_help(RUN_HELP);
     Command::new(alloc, "pf_play")
         .bin_name("pf_play")?
         .version("0.1.0")
@@ -66,13 +101,14 @@ fn command<'a>(alloc: Global) -> Result<Command<'a>, AllocError>
         .after_help(RUN_HELP)
         .disable_help_subcommand(true)
         .subcommand_required(true)
-        .subcommand(run)
+        .subcommand(run_command(alloc))?
+        .subcommand(frame_command(alloc)?)
 }
 
 /// What `clap`'s answer other than a parse means here: help and version are texts to say, and what
 /// else it answers is a fault of the words, or want of memory.
-fn answer_of(alloc: Global, error: &Error) -> Result<Request, PlayFault>
-    ensures { Answers (kind_of error.now ∷ []) result }
+fn answer_of<'a>(alloc: Global, error: &Error) -> Result<Request<'a>, PlayFault>
+    ensures { Answers (kind_of error.now ∷ []) None result }
 {
     match error.kind() {
         ErrorKind::OutOfMemory => Err(PlayFault::Memory),
@@ -87,6 +123,16 @@ fn answer_of(alloc: Global, error: &Error) -> Result<Request, PlayFault>
 const NOT_TEXT: &str = "error: invalid UTF-8 was detected in one or more arguments\n\n\
 Usage: pf_play <COMMAND>\n\nFor more information, try '--help'.\n";
 
+/// What words without a fault ask for.
+fn asked<'a>(matches: &ArgMatches<'a>) -> Request<'a>
+    ensures { AsksFor (subcommand_rows_of matches.now) result }
+{
+    match matches.subcommand_matches("frame") {
+        Some(frame) => Request::Frame(frame.get_str(DIGITS).unwrap_or("")),
+        None => Request::Run,
+    }
+}
+
 /// The words of this call, the program's name first.
 pub fn words_of<R: Env + Alloc<A = Global>>(rt: &R) -> Result<Vec<String>, PlayFault> {
     match env::args(rt) {
@@ -97,13 +143,14 @@ pub fn words_of<R: Env + Alloc<A = Global>>(rt: &R) -> Result<Vec<String>, PlayF
 }
 
 /// Reads the words of a call, of which the first is the program's name.
-pub fn options<S: AsStr>(alloc: Global, words: &[S]) -> Result<Request, PlayFault>
-    ensures answers { Answers (fault_of command_line (map S.text words.now)) result }
+pub fn options<'a, S: AsStr>(alloc: Global, words: &'a [S]) -> Result<Request<'a>, PlayFault>
+    ensures answers { let them = map S.text words.now in
+        Answers (fault_of command_line them) (subcommand_of command_line them) result }
     ensures runs { (program : List ℕ) → map S.text words.now ≡ program ∷ codes "run" ∷ []
         → RunsUnlessMemory result }
 {
     match command(alloc)?.try_get_matches_from(words) {
-        Ok(_matches) => Ok(Request::Run),
+        Ok(matches) => Ok(asked(&matches)),
         Err(error) => answer_of(alloc, &error),
     }
 }

@@ -3,12 +3,14 @@ use std::test::Fail;
 
 const USAGE: &str = "\nUsage: pf_play <COMMAND>\n\nFor more information, try '--help'.\n";
 
+const FRAME_USAGE: &str = "\nUsage: pf_play frame <HEX>\n\nFor more information, try '--help'.\n";
+
 const RUN_USAGE: &str = "\nUsage: pf_play run\n\nFor more information, try '--help'.\n";
 
 // What `options` says to the words behind the program's name, and by which status.
 fn said(alloc: Global, words: &[&str]) -> Result<(u8, String), AllocError> {
     match options(alloc, words) {
-        Ok(Request::Run) => Ok((0, String::new(alloc))),
+        Ok(Request::Run | Request::Frame(_)) => Ok((0, String::new(alloc))),
         Ok(Request::Say(text)) => Ok((0, text)),
         Err(PlayFault::Words(text)) => Ok((2, text)),
         Err(_) => Err(AllocError),
@@ -24,6 +26,16 @@ fn runs(rt: HostRuntime) -> Result<(), Fail> {
             Request::Run
         )
     );
+    Ok(())
+}
+
+#[test]
+fn takes_the_digits_of_a_frame(rt: HostRuntime) -> Result<(), Fail> {
+    for digits in ["01ff", "", "no digits"] {
+        let words = ["pf_play", "frame", digits];
+        let request = options(rt.alloc(), &words)?;
+        assert!(rt; matches!(request, Request::Frame(found) if found == digits), "{digits}");
+    }
     Ok(())
 }
 
@@ -56,7 +68,7 @@ fn refuses_wrong_words(rt: HostRuntime) -> Result<(), Fail> {
     for (words, fault, usage) in [
         (
             ["pf_play"].as_slice(),
-            "error: 'pf_play' requires a subcommand but one was not provided\n  [subcommands: run]\n",
+            "error: 'pf_play' requires a subcommand but one was not provided\n  [subcommands: run, frame]\n",
             USAGE,
         ),
         (
@@ -78,6 +90,16 @@ fn refuses_wrong_words(rt: HostRuntime) -> Result<(), Fail> {
             ["pf_play", "run", "--crew"].as_slice(),
             "error: unexpected argument '--crew' found\n",
             RUN_USAGE,
+        ),
+        (
+            ["pf_play", "frame"].as_slice(),
+            "error: the following required arguments were not provided:\n  <HEX>\n",
+            FRAME_USAGE,
+        ),
+        (
+            ["pf_play", "frame", "01", "02"].as_slice(),
+            "error: unexpected argument '02' found\n",
+            FRAME_USAGE,
         ),
         (
             ["pf_play", "run", "more"].as_slice(),

@@ -1,0 +1,41 @@
+//! The fields of one frame, as a line.
+
+ghost use Rattle.std.specs.Prelude.{◌≡◌, ℕ, ◌+◌, ◌^◌, ◌<◌, List, Some, IsErrOf};
+ghost use Rattle.pf_console.specs.FrameText.{Reads, digits_command, PrintsFrame};
+
+use crate::digits::bytes;
+use crate::fault::{DigitsFault, PlayFault};
+use crate::print::command_text;
+use pf_commands::{Command, decode};
+use pf_text::{LineError, Sink};
+use std::alloc::Global;
+
+/// The command that digits spell.
+fn read(alloc: Global, digits: &[u8]) -> Result<Command, PlayFault>
+    ensures { Reads result (digits_command digits.now) }
+{
+    let frame = match bytes(alloc, digits) {
+        Ok(frame) => frame,
+        Err(LineError::Memory) => return Err(PlayFault::Memory),
+        Err(LineError::Fault(_)) => return Err(PlayFault::Frame(DigitsFault::BadNumber)),
+    };
+    match decode(&frame) {
+        Ok(command) => Ok(command),
+        Err(fault) => Err(PlayFault::Frame(DigitsFault::Refused(fault))),
+    }
+}
+
+/// Writes the fields of the frame that hexadecimal digits spell, as one line.
+pub fn frame_text<W: Sink>(alloc: Global, digits: &str, writer: &mut W) -> Result<(), PlayFault>
+    requires { W.failures writer.old + 1 < 2 ^ 64 }
+    ensures text { (before : List ℕ) → W.contents writer.old ≡ Some before
+        → PrintsFrame digits.now before (W.contents writer.new) result }
+    ensures written { IsErrOf result PlayFault.Write → W.failures writer.old < W.failures writer.new }
+{
+    let command = read(alloc, digits.as_bytes())?;
+    let text = command_text(alloc, &command)?;
+    match writer.write_all(text.as_bytes()) {
+        Ok(()) => Ok(()),
+        Err(_) => Err(PlayFault::Write),
+    }
+}

@@ -1,0 +1,38 @@
+-- The subcommand that words enter, as the matches of a parse tell it.
+use Rattle.std.proofs.Common.{rules, refl, ap, sym, codes, ◌≡◌, ◌∙◌, List, ℕ, Option, Some, None, [], Ok}
+use Rattle.std.specs.Prelude.{option_map, unwrap_or}
+use Rattle.clap.specs.Words.{Kinds, Row, Text, first_of, subcommand_name_of, subcommand_rows_of}
+use Rattle.clap.specs.declared.parser.matches.ArgMatches.{ArgMatches}
+use Rattle.clap.specs.declared.parser.matches.ArgMatches.TheViews.{out-ArgMatches}
+use Rattle.pf_play.specs.Options.{Answers, AsksFor, digits_in}
+use Rattle.pf_play.specs.declared.options.Request.{Request}
+use Rattle.pf_play.specs.declared.options.Request.TheVariants.{Run, Frame, Say}
+
+digits_of : (entered : Option (Text × List Row)) (rows : List Row) (value : Option Text) → option_map (λ p. p.0) entered ≡ Some (codes "frame")
+    → option_map (λ p. p.1) entered ≡ Some rows → first_of (codes "HEX") rows ≡ value → digits_in entered ≡ Some (unwrap_or value [])
+digits_of None rows value name_is rows_are value_is = search rules
+digits_of (Some entered) rows value name_is rows_are value_is =
+    let name : entered.0 ≡ codes "frame" = ap (λ (o : Option Text). unwrap_or o []) name_is in
+    let same : entered.1 ≡ rows = ap (λ (o : Option (List Row)). unwrap_or o rows) rows_are in
+    rw (name, same, value_is) refl
+
+map_map : {X Y Z : Type 0} (f : Y → Z) (g : X → Y) (o : Option X) → option_map f (option_map g o) ≡ option_map (λ x. f (g x)) o
+map_map f g None = refl
+map_map f g (Some x) = refl
+
+named : (m : ArgMatches) → option_map (λ p. p.0) (subcommand_rows_of m) ≡ subcommand_name_of m
+named m = map_map (λ (p : Text × List Row). p.0) _ (out-ArgMatches m).subcommand
+
+pub digits_found : (m : ArgMatches) (rows : List Row) (value : Option Text) → subcommand_name_of m ≡ Some (codes "frame")
+    → option_map (λ p. p.1) (subcommand_rows_of m) ≡ Some rows → first_of (codes "HEX") rows ≡ value → digits_in (subcommand_rows_of m) ≡ Some (unwrap_or value [])
+digits_found m rows value name_is rows_are value_is = digits_of (subcommand_rows_of m) rows value (named m ∙ name_is) rows_are value_is
+
+pub unwrap_map : {X Y : Type 0} (f : X → Y) (o : Option X) (d : X) → unwrap_or (option_map f o) (f d) ≡ f (unwrap_or o d)
+unwrap_map f None d = refl
+unwrap_map f (Some x) d = refl
+
+-- what words without a fault ask for answers them
+pub request_answers : (faults : Kinds) (entered : Option (Text × List Row)) (r : Request) → faults ≡ [] → AsksFor entered r → Answers faults entered (Ok r)
+request_answers faults entered Run fit asked = (fit, asked)
+request_answers faults entered (Frame digits) fit asked = (fit, asked)
+request_answers faults entered (Say text) fit asked = elim asked [ ]
