@@ -1,11 +1,11 @@
 -- Lines that each say an event, one after the other.
-use Rattle.std.proofs.Common.{◌≡◌, ℕ, suc, ◌+◌, true, false, List, [], ◌∷◌, length, Ok, refl, add-zero, arith, Bool, nat_le, if◌then◌else◌}
+use Rattle.std.proofs.Common.{◌≡◌, ℕ, suc, ◌+◌, List, [], ◌∷◌, length, Ok, refl, add-zero, arith}
 use Rattle.pf_text.specs.Driver.{step, answers}
 use Rattle.pf_console.specs.declared.event.Event.{Event}
-use Rattle.pf_console.specs.declared.event.Event.TheVariants.{Advance, Show}
 use Rattle.pf_console.specs.declared.peer.Peer.{Peer}
 use Rattle.pf_console.specs.declared.phase.Phase.TheVariants.{Playing}
 use Rattle.pf_console.specs.Peer.{reply_of, after, replies, played}
+use Rattle.pf_console.proofs.Calls.{same_scene}
 use Rattle.pf_console.specs.Phase.{says, text_rules}
 use Rattle.pf_console.specs.Print.{reply_text}
 use Rattle.pf_console.specs.Laws.{Says, SayEvents, played_out}
@@ -15,16 +15,6 @@ answer_is : (p : Peer) (line : List ℕ) (event : Event) → Says line event →
     step text_rules (Playing p) line ≡ Ok (reply_text p.scene.fixtures (reply_of p event), Playing (after p event))
 unfolding step says
 answer_is p line event h = rw (h.plain, h.asks, h.parted, h.event_is) refl
-
--- no event changes the scene
-same_scene : (p : Peer) (event : Event) → (after p event).scene ≡ p.scene
-unfolding after
-same_scene p (Advance peer ticks) = either (nat_le (p.reached + ticks) 1048576)
-  where
-    either : (fits : Bool) → (if fits then record p { reached = p.reached + ticks } else p).scene ≡ p.scene
-    either true = refl
-    either false = refl
-same_scene p (Show peer tick) = refl
 
 pub answered : (number : ℕ) (p : Peer) (lines : List (List ℕ)) (events : List Event) → SayEvents lines events →
     answers text_rules number (Playing p) lines ≡ played_out (number + length lines) p events

@@ -7,7 +7,7 @@ use Rattle.pf_commands.specs.Frame.{decode_of}
 use Rattle.pf_console.specs.declared.fault.DigitsFault.{DigitsFault}
 use Rattle.pf_console.specs.declared.fault.DigitsFault.TheVariants.{BadNumber, Refused}
 use Rattle.pf_console.specs.declared.fault.PlayFault.{PlayFault}
-use Rattle.pf_console.specs.declared.fault.PlayFault.TheVariants.{Words, Line, Frame, Memory, Read, Write}
+use Rattle.pf_console.specs.declared.fault.PlayFault.TheVariants.{Frame, Memory, Write}
 use Rattle.pf_console.specs.Digits.{bytes_of}
 use Rattle.pf_console.specs.Print.{command_line}
 

@@ -1,14 +1,20 @@
 -- The lines of events: what each says. The word and the count of fields come first, then the fields from the left.
-use Rattle.std.specs.Prelude.{ℕ, ℤ, pos, List, [], ◌∷◌, Option, Some, None, Result, Ok, Err, codes, if◌then◌else◌}
+use Rattle.std.specs.Prelude.{ℕ, ℤ, pos, neg_ℤ, List, [], ◌∷◌, Option, Some, None, Result, Ok, Err, codes, if◌then◌else◌}
 use Rattle.std.specs.Int.RustNames.{unsigned_abs}
 use Rattle.std.specs.Str.{bytes_eq}
+use Rattle.pf_num.specs.Fx.{greatest}
 use Rattle.pf_text.specs.declared.fault.LineFault.{LineFault}
 use Rattle.pf_text.specs.declared.fault.LineFault.TheVariants.{BadLine}
 use Rattle.pf_text.specs.Numbers.{whole_of, within}
 use Rattle.pf_console.specs.declared.event.Event.{Event}
-use Rattle.pf_console.specs.declared.event.Event.TheVariants.{Advance, Show}
+use Rattle.pf_commands.specs.declared.payload.Payload.TheVariants.{Push, Turn, Stop}
+use Rattle.pf_commands.specs.Frame.{decode_of}
+use Rattle.pf_console.specs.declared.event.Event.TheVariants.{Issue, Take, Advance, Show}
 use Rattle.pf_console.specs.declared.grammar.EventWord.{EventWord}
 use Rattle.pf_console.specs.declared.grammar.EventWord.TheVariants as words
+use Rattle.pf_console.specs.declared.grammar.Kind.{Kind}
+use Rattle.pf_console.specs.declared.grammar.Kind.TheVariants as kinds
+use Rattle.pf_console.specs.Digits.{bytes_of}
 
 infixl 10 ◌>>=◌
 abbrev pub ◌>>=◌ : {A B : Type 0} → Result A LineFault → (A → Result B LineFault) → Result B LineFault
@@ -30,7 +36,73 @@ tick_of field = counted (within (pos 0) (pos 4294967295) (whole_of field))
 -- the first field of an event's line
 abbrev pub word_of : List ℕ → Option EventWord
 word_of field =
-    if bytes_eq field (codes "advance") then Some words.Advance else (if bytes_eq field (codes "show") then Some words.Show else None)
+    if bytes_eq field (codes "issue") then Some words.Issue
+    else (if bytes_eq field (codes "take") then Some words.Take
+    else (if bytes_eq field (codes "advance") then Some words.Advance
+    else (if bytes_eq field (codes "show") then Some words.Show
+    else None)))
+
+-- the kind of a command
+abbrev pub kind_of : List ℕ → Option Kind
+kind_of field =
+    if bytes_eq field (codes "push") then Some kinds.Push
+    else (if bytes_eq field (codes "turn") then Some kinds.Turn
+    else (if bytes_eq field (codes "stop") then Some kinds.Stop
+    else None))
+
+-- the number of a body
+abbrev pub body_of : List ℕ → Result ℕ LineFault
+body_of field = counted (within (pos 0) (pos 65535) (whole_of field))
+
+-- a number of physics
+abbrev pub real_of : List ℕ → Result ℤ LineFault
+real_of field = within (neg_ℤ greatest) greatest (whole_of field)
+
+-- `issue P push B X Y`
+unfoldable pub push_of : List ℕ → List (List ℕ) → Result Event LineFault
+push_of peer (body ∷ x ∷ y ∷ []) = do
+  peer ← peer_of peer
+  body ← body_of body
+  x ← real_of x
+  y ← real_of y
+  Ok (Issue peer (Push body x y))
+push_of peer args = Err BadLine
+
+-- `issue P turn B X`
+unfoldable pub turn_of : List ℕ → List (List ℕ) → Result Event LineFault
+turn_of peer (body ∷ x ∷ []) = do
+  peer ← peer_of peer
+  body ← body_of body
+  x ← real_of x
+  Ok (Issue peer (Turn body x))
+turn_of peer args = Err BadLine
+
+-- `issue P stop B`
+unfoldable pub stop_of : List ℕ → List (List ℕ) → Result Event LineFault
+stop_of peer (body ∷ []) = do
+  peer ← peer_of peer
+  body ← body_of body
+  Ok (Issue peer (Stop body))
+stop_of peer args = Err BadLine
+
+abbrev pub given : Option Kind → List ℕ → List (List ℕ) → Result Event LineFault
+given (Some kinds.Push) peer args = push_of peer args
+given (Some kinds.Turn) peer args = turn_of peer args
+given (Some kinds.Stop) peer args = stop_of peer args
+given None peer args = Err BadLine
+
+-- `issue P` and what is issued
+unfoldable pub issue_of : List (List ℕ) → Result Event LineFault
+issue_of (peer ∷ kind ∷ args) = given (kind_of kind) peer args
+issue_of args = Err BadLine
+
+-- `take P HEX`
+unfoldable pub take_of : List (List ℕ) → Result Event LineFault
+take_of (peer ∷ digits ∷ []) = do
+  peer ← peer_of peer
+  bytes ← bytes_of digits
+  Ok (Take peer (decode_of bytes))
+take_of args = Err BadLine
 
 -- `advance P K`
 unfoldable pub advance_of : List (List ℕ) → Result Event LineFault
@@ -49,6 +121,8 @@ show_of (peer ∷ tick ∷ []) = do
 show_of args = Err BadLine
 
 abbrev pub spoken : Option EventWord → List (List ℕ) → Result Event LineFault
+spoken (Some words.Issue) args = issue_of args
+spoken (Some words.Take) args = take_of args
 spoken (Some words.Advance) args = advance_of args
 spoken (Some words.Show) args = show_of args
 spoken None args = Err BadLine

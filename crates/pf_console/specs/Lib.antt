@@ -1,4 +1,5 @@
 pub mod Simulation
+pub mod Names
 pub mod Peer
 pub mod Print
 pub mod Grammar

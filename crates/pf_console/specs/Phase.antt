@@ -16,7 +16,7 @@ use Rattle.pf_console.specs.declared.peer.Peer.{Peer}
 use Rattle.pf_console.specs.declared.phase.Phase.{Phase}
 use Rattle.pf_console.specs.declared.phase.Phase.TheVariants.{Reading, Seating, Playing}
 use Rattle.pf_console.specs.Grammar.{event_of}
-use Rattle.pf_console.specs.Peer.{reply_of, after}
+use Rattle.pf_console.specs.Peer.{fresh, reply_of, after}
 use Rattle.pf_console.specs.Print.{reply_text}
 
 -- an answer, and the next phase
@@ -29,9 +29,9 @@ onward (Ok (More reader)) = Ok ([], Reading reader)
 onward (Ok (Ended scene)) = Ok ([], Seating scene)
 onward (Err fault) = Err fault
 
--- peers begin at tick 0
+-- peers begin fresh
 abbrev pub begun : Setting → Result ℤ LineFault → Answer
-begun scene (Ok count) = Ok ([], Playing (record { scene = scene; reached = 0 }))
+begun scene (Ok count) = Ok ([], Playing (fresh scene))
 begun scene (Err fault) = Err (scene_fault_of fault)
 
 -- `peers 1`

@@ -2,15 +2,17 @@
 use Rattle.std.specs.Prelude.{ℕ, ◌+◌, ℤ, pos, Bool, true, false, List, [], ◌∷◌, ◌++◌, codes, if◌then◌else◌}
 use Rattle.std.specs.List.{flat_map}
 use Rattle.std.specs.Fmt.{signed_decimal}
+use Rattle.hex.specs.Hex.{encode_lower}
 use Rattle.pf_shapes.specs.Fixture.{FixtureDef, is_static}
 use Rattle.pf_shapes.specs.Body.{State}
 use Rattle.pf_commands.specs.declared.payload.Command.{Command}
 use Rattle.pf_commands.specs.declared.payload.Payload.{Payload}
 use Rattle.pf_commands.specs.declared.payload.Payload.TheVariants.{Push, Turn, Stop}
 use Rattle.pf_console.specs.declared.event.Reply.{Reply}
-use Rattle.pf_console.specs.declared.event.Reply.TheVariants.{Advanced, Shown, Refused}
+use Rattle.pf_console.specs.declared.event.Reply.TheVariants.{Issued, Took, Advanced, Shown, Refused}
 use Rattle.pf_console.specs.declared.event.Refusal.{Refusal}
-use Rattle.pf_console.specs.declared.event.Refusal.TheVariants.{NotReached, TickLimit}
+use Rattle.pf_console.specs.declared.event.Refusal.TheVariants.{TickLimit, NumbersSpent, Frame, Check, NotReached}
+use Rattle.pf_console.specs.Names.{frame_fault_name, check_fault_name, put_name}
 
 -- a field with the space before it
 abbrev pub spaced : ℤ → List ℕ
@@ -64,12 +66,25 @@ unfoldable pub block_text : List FixtureDef → ℕ → ℕ → List State → L
 block_text fixtures peer tick bodies =
     line_text (codes "show") (pos peer ∷ pos tick ∷ []) ++ bodies_text 0 fixtures bodies ++ line_text (codes "end") []
 
+-- a word, a peer, and what it is answered
+abbrev pub answer_text : List ℕ → ℕ → List ℕ → List ℕ
+answer_text word peer answer = words_text word (pos peer ∷ []) ++ 32 ∷ answer ++ 10 ∷ []
+
+-- a refusal by its name
+abbrev pub refused_text : List ℕ → List ℕ
+refused_text name = codes "refused " ++ name ++ 10 ∷ []
+
 unfoldable pub refusal_text : Refusal → List ℕ
+refusal_text TickLimit = refused_text (codes "TickLimit")
+refusal_text NumbersSpent = refused_text (codes "NumbersSpent")
+refusal_text (Frame fault) = refused_text (frame_fault_name fault)
+refusal_text (Check fault) = refused_text (check_fault_name fault)
 refusal_text (NotReached reached) = line_text (codes "refused NotReached") (pos reached ∷ [])
-refusal_text TickLimit = line_text (codes "refused TickLimit") []
 
 -- the text of a reply, whose worlds have these fixtures
 unfoldable pub reply_text : List FixtureDef → Reply → List ℕ
+reply_text fixtures (Issued peer frame) = answer_text (codes "issue") peer (encode_lower frame)
+reply_text fixtures (Took peer put) = answer_text (codes "take") peer (put_name put)
 reply_text fixtures (Advanced peer reached) = line_text (codes "advance") (pos peer ∷ pos reached ∷ [])
 reply_text fixtures (Shown peer tick world) = block_text fixtures peer tick world
 reply_text fixtures (Refused refusal) = refusal_text refusal

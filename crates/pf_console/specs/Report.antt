@@ -4,8 +4,7 @@ use Rattle.std.specs.Io.KnownBytes.{Appends}
 use Rattle.pf_text.specs.Lines.{AppendsFront}
 use Rattle.pf_shapes.specs.declared.fault.SceneFault.{SceneFault}
 use Rattle.pf_shapes.specs.declared.fault.SceneFault.TheVariants.{BadLine, BadNumber, TooMany, BadMass, BadSize}
-use Rattle.pf_commands.specs.declared.fault.FrameFault.{FrameFault}
-use Rattle.pf_commands.specs.declared.fault.FrameFault.TheVariants.{Short, Long, BadVersion, BadKind, NotCanonical, OutOfRange}
+use Rattle.pf_console.specs.Names.{frame_fault_name}
 use Rattle.pf_console.specs.declared.fault.DigitsFault.{DigitsFault}
 use Rattle.pf_console.specs.declared.fault.DigitsFault.TheVariants as digits
 use Rattle.pf_console.specs.declared.fault.PlayFault.{PlayFault}
@@ -17,14 +16,6 @@ fault_name BadNumber = codes "BadNumber"
 fault_name TooMany = codes "TooMany"
 fault_name BadMass = codes "BadMass"
 fault_name BadSize = codes "BadSize"
-
-abbrev pub frame_fault_name : FrameFault → List ℕ
-frame_fault_name Short = codes "Short"
-frame_fault_name Long = codes "Long"
-frame_fault_name BadVersion = codes "BadVersion"
-frame_fault_name BadKind = codes "BadKind"
-frame_fault_name NotCanonical = codes "NotCanonical"
-frame_fault_name OutOfRange = codes "OutOfRange"
 
 abbrev pub digits_fault_name : DigitsFault → List ℕ
 digits_fault_name digits.BadNumber = codes "BadNumber"

@@ -1,11 +1,17 @@
--- The simulation of bodies that touch nothing, one tick after the other: the phases of Box2D-Lite's World::Step that
--- one body alone goes through, and the sleep of Box2D 2.x.
-use Rattle.std.specs.Prelude.{ℕ, zero, suc, ◌+◌, ◌*◌, pos, Bool, false, ◌&&◌, List, map, min, ◌==◌, nat_le, if◌then◌else◌}
+-- The simulation of bodies that touch nothing, one tick after the other: players' commands, the phases of Box2D-Lite's
+-- World::Step that one body alone goes through, and the sleep of Box2D 2.x.
+use Rattle.std.specs.Prelude.{ℕ, zero, suc, ◌+◌, ◌*◌, pos, Bool, true, false, ◌&&◌, List, [], ◌∷◌, map, min, Option, Some, ◌==◌, nat_le, if◌then◌else◌, slice_get, slice_set}
 use Rattle.std.specs.Int.RustNames.{unsigned_abs}
-use Rattle.pf_num.specs.Fx.{tick}
+use Rattle.pf_num.specs.Fx.{tick, sum, product}
 use Rattle.pf_rot.specs.Vector.{Vec2, zero_vector, plus, scaled}
+use Rattle.pf_rot.specs.Rotation.{turned}
+use Rattle.pf_shapes.specs.Fixture.{FixtureDef, inverse_mass, inverse_inertia}
 use Rattle.pf_shapes.specs.Body.{State}
 use Rattle.pf_shapes.specs.Scene.{Setting}
+use Rattle.pf_commands.specs.declared.payload.Payload.{Payload}
+use Rattle.pf_commands.specs.declared.payload.Payload.TheVariants.{Push, Turn, Stop}
+use Rattle.pf_commands.specs.Payload.{body_of}
+use Rattle.pf_commands.specs.Merge.{Commands, payloads_at}
 
 -- ---- one body, one phase after the other
 
@@ -17,9 +23,9 @@ pull_of gravity = scaled tick gravity
 unfoldable pub fallen : Vec2 → State → State
 fallen pull b = record b { vel = plus b.vel pull }
 
--- Places: the place goes on by the new velocity, and the pair stays, since nothing spins
+-- Places: the place goes on by the new velocity, and the pair turns by the spin
 unfoldable pub moved : State → State
-moved b = record b { place = plus b.place (scaled tick b.vel) }
+moved b = record b { place = plus b.place (scaled tick b.vel); rot = turned b.rot b.spin }
 
 -- at most 1/64 a second, by exact squares
 abbrev pub is_slow : Vec2 → Bool
@@ -33,9 +39,13 @@ is_still b = is_slow b.vel && nat_le (unsigned_abs b.spin) 524288
 unfoldable pub timed : State → State
 timed b = record b { timer = if is_still b then min (b.timer + 1) 32 else 0 }
 
+-- a body without velocity and spin
+abbrev pub stopped : State → State
+stopped b = record b { vel = zero_vector; spin = pos 0 }
+
 -- a body that goes to sleep stops
 abbrev pub asleep : State → State
-asleep b = record b { vel = zero_vector; spin = pos 0; timer = 0; awake = false }
+asleep b = record (stopped b) { timer = 0; awake = false }
 
 -- Sleep: a body whose timer is full
 unfoldable pub rested : State → State
@@ -45,17 +55,41 @@ rested b = if b.timer == 32 then asleep b else b
 unfoldable pub body_step : Vec2 → State → State
 body_step pull b = if b.awake then rested (timed (moved (fallen pull b))) else b
 
+-- ---- commands
+
+-- what a payload makes of the state of its body, which has this fixture: an impulse, an angular one, or a stop; the body
+-- is awake, and still for no tick
+unfoldable pub commanded : FixtureDef → Payload → State → State
+commanded f (Push body x y) b =
+    record b { vel = plus b.vel (scaled (inverse_mass f) (record { x = x; y = y })); timer = 0; awake = true }
+commanded f (Turn body x) b = record b { spin = sum b.spin (product (inverse_inertia f) x); timer = 0; awake = true }
+commanded f (Stop body) b = record (stopped b) { timer = 0; awake = true }
+
+abbrev pub changed : List State → Payload → Option FixtureDef → Option State → List State
+changed world p (Some f) (Some b) = slice_set world (body_of p) (commanded f p b)
+changed world p fixture state = world
+
+-- a payload changes the state of its body
+unfoldable pub applied : List FixtureDef → List State → Payload → List State
+applied fixtures world p = changed world p (slice_get fixtures (body_of p)) (slice_get world (body_of p))
+
+-- Commands: one payload after the other
+unfoldable pub ordered : List FixtureDef → List State → List Payload → List State
+ordered fixtures world [] = world
+ordered fixtures world (p ∷ payloads) = ordered fixtures (applied fixtures world p) payloads
+
 -- ---- worlds: one state for each body of the scene, in order
 
--- one tick
-abbrev pub step : Vec2 → List State → List State
-step pull world = map (body_step pull) world
+-- one tick, with the payloads of its commands
+unfoldable pub step : Setting → List State → List Payload → List State
+step s world payloads = map (body_step (pull_of s.gravity)) (ordered s.fixtures world payloads)
 
--- so many ticks after a world
-unfoldable pub sim_from : Vec2 → List State → ℕ → List State
-sim_from pull world zero = world
-sim_from pull world (suc ticks) = step pull (sim_from pull world ticks)
+-- so many ticks after a world at a tick, with the commands of these ticks
+unfoldable pub sim_from : Setting → Commands → List State → ℕ → ℕ → List State
+sim_from s commands base tick zero = base
+sim_from s commands base tick (suc ticks) =
+    step s (sim_from s commands base tick ticks) (payloads_at commands (tick + ticks))
 
--- the world of a scene at a tick
-abbrev pub sim : Setting → ℕ → List State
-sim setting tick = sim_from (pull_of setting.gravity) setting.starts tick
+-- the world of a scene at a tick, by these commands
+abbrev pub sim : Setting → Commands → ℕ → List State
+sim s commands tick = sim_from s commands s.starts 0 tick

@@ -1,19 +1,40 @@
 //! What a text asks of a peer, and what it is answered.
 
 use crate::simulation::World;
+use pf_commands::{CheckFault, Command, FRAME_LEN, FrameFault, Payload, Put};
 
 /// A line that asks something of a peer.
 #[derive(Clone, Copy, Debug, PartialEq, Eq)]
 pub enum Event {
+    /// Give a command of the peer's own player.
+    Issue {
+        peer: u8,
+        payload: Payload,
+    },
+    /// Take a frame: the command that it spells, or why it spells none.
+    Take {
+        peer: u8,
+        frame: Result<Command, FrameFault>,
+    },
     /// Go on by so many ticks of 1/64 s.
-    Advance { peer: u8, ticks: u32 },
+    Advance {
+        peer: u8,
+        ticks: u32,
+    },
     /// Show the world at this tick.
-    Show { peer: u8, tick: u32 },
+    Show {
+        peer: u8,
+        tick: u32,
+    },
 }
 
 /// The answer to an event.
 #[derive(Debug, Drop)]
 pub enum Reply {
+    /// The peer holds its own command, which has this frame.
+    Issued { peer: u8, frame: [u8; FRAME_LEN] },
+    /// The peer holds the command, or a greater one of its name.
+    Took { peer: u8, put: Put },
     /// The peer has reached this tick.
     Advanced { peer: u8, reached: u32 },
     /// The world at this tick.
@@ -25,8 +46,14 @@ pub enum Reply {
 /// Why an event was refused.
 #[derive(Clone, Copy, Debug, PartialEq, Eq)]
 pub enum Refusal {
-    /// The tick is above the reached one, which this is.
-    NotReached(u32),
     /// The peer would pass the last tick, 1,048,576.
     TickLimit,
+    /// All 65,536 numbers of the tick and player are taken, or one above them all is.
+    NumbersSpent,
+    /// The frame spells no command.
+    Frame(FrameFault),
+    /// The scene does not allow the command.
+    Check(CheckFault),
+    /// The tick is above the reached one, which this is.
+    NotReached(u32),
 }

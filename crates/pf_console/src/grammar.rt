@@ -1,26 +1,60 @@
 //! The lines of events.
 
 ghost use Rattle.std.specs.Prelude.{◌≡◌, map};
-ghost use Rattle.pf_console.specs.Grammar.{peer_of, tick_of, word_of, advance_of, show_of, event_of};
+ghost use Rattle.pf_text.specs.Fault.{Gives};
+ghost use Rattle.pf_console.specs.Grammar.{peer_of, tick_of, body_of, real_of, word_of, kind_of, push_of, turn_of, stop_of, issue_of, take_of, advance_of, show_of, event_of};
 
+use crate::digits::bytes;
 use crate::event::Event;
-use pf_text::{LineFault, Spelled, number};
+use pf_commands::{Payload, decode};
+use pf_num::Fx;
+use pf_text::{LineError, LineFault, Spelled, number};
+use std::alloc::Global;
 
 /// The first field of an event's line.
 #[derive(Clone, Copy, Debug, PartialEq, Eq)]
 pub enum EventWord {
+    Issue,
+    Take,
     Advance,
     Show,
+}
+
+/// What a command does, in the third field of its line.
+#[derive(Clone, Copy, Debug, PartialEq, Eq)]
+pub enum Kind {
+    Push,
+    Turn,
+    Stop,
 }
 
 /// The word that a field is, if it is one.
 fn word(field: &[u8]) -> Option<EventWord>
     ensures { result ≡ word_of field.now }
 {
-    if field == b"advance".as_slice() {
+    if field == b"issue".as_slice() {
+        Some(EventWord::Issue)
+    } else if field == b"take".as_slice() {
+        Some(EventWord::Take)
+    } else if field == b"advance".as_slice() {
         Some(EventWord::Advance)
     } else if field == b"show".as_slice() {
         Some(EventWord::Show)
+    } else {
+        None
+    }
+}
+
+/// The kind that a field is, if it is one.
+fn kind_in(field: &[u8]) -> Option<Kind>
+    ensures { result ≡ kind_of field.now }
+{
+    if field == b"push".as_slice() {
+        Some(Kind::Push)
+    } else if field == b"turn".as_slice() {
+        Some(Kind::Turn)
+    } else if field == b"stop".as_slice() {
+        Some(Kind::Stop)
     } else {
         None
     }
@@ -44,6 +78,101 @@ fn tick(field: &[u8]) -> Result<u32, LineFault>
         Spelled::Within(tick) => Ok(tick as u32),
         _ => Err(LineFault::BadNumber),
     }
+}
+
+/// The number of a body.
+fn body(field: &[u8]) -> Result<u16, LineFault>
+    ensures { result ≡ body_of field.now }
+{
+    match number(field, 0, 0xffff) {
+        Spelled::Within(body) => Ok(body as u16),
+        _ => Err(LineFault::BadNumber),
+    }
+}
+
+/// A number of physics, in units of 2^-24.
+fn real(field: &[u8]) -> Result<Fx, LineFault>
+    ensures { result ≡ real_of field.now }
+{
+    match number(field, Fx::MAX.neg().raw(), Fx::MAX.raw()) {
+        Spelled::Within(raw) => Fx::from_raw(raw).ok_or(LineFault::BadNumber),
+        _ => Err(LineFault::BadNumber),
+    }
+}
+
+/// `issue P push B X Y`.
+#[tactic(auto, unfolding(crate::specs::Grammar::push_of))]
+fn push(of: &[u8], arguments: &[&[u8]]) -> Result<Event, LineFault>
+    ensures { result ≡ push_of of.now (map (λ field. field.now) arguments.now) }
+{
+    let [moved, x, y] = arguments else {
+        return Err(LineFault::BadLine);
+    };
+    let peer = peer(of)?;
+    let body = body(moved)?;
+    let x = real(x)?;
+    let y = real(y)?;
+    let payload = Payload::Push { body, x, y };
+    Ok(Event::Issue { peer, payload })
+}
+
+/// `issue P turn B X`.
+#[tactic(auto, unfolding(crate::specs::Grammar::turn_of))]
+fn turn(of: &[u8], arguments: &[&[u8]]) -> Result<Event, LineFault>
+    ensures { result ≡ turn_of of.now (map (λ field. field.now) arguments.now) }
+{
+    let [moved, x] = arguments else {
+        return Err(LineFault::BadLine);
+    };
+    let peer = peer(of)?;
+    let body = body(moved)?;
+    let x = real(x)?;
+    let payload = Payload::Turn { body, x };
+    Ok(Event::Issue { peer, payload })
+}
+
+/// `issue P stop B`.
+#[tactic(auto, unfolding(crate::specs::Grammar::stop_of))]
+fn stop(of: &[u8], arguments: &[&[u8]]) -> Result<Event, LineFault>
+    ensures { result ≡ stop_of of.now (map (λ field. field.now) arguments.now) }
+{
+    let [moved] = arguments else {
+        return Err(LineFault::BadLine);
+    };
+    let peer = peer(of)?;
+    let body = body(moved)?;
+    let payload = Payload::Stop { body };
+    Ok(Event::Issue { peer, payload })
+}
+
+/// `issue P` and what is issued.
+#[tactic(auto, unfolding(crate::specs::Grammar::issue_of))]
+fn issue(arguments: &[&[u8]]) -> Result<Event, LineFault>
+    ensures { result ≡ issue_of (map (λ field. field.now) arguments.now) }
+{
+    let [of, kind, arguments @ ..] = arguments else {
+        return Err(LineFault::BadLine);
+    };
+    match kind_in(kind) {
+        Some(Kind::Push) => push(of, arguments),
+        Some(Kind::Turn) => turn(of, arguments),
+        Some(Kind::Stop) => stop(of, arguments),
+        None => Err(LineFault::BadLine),
+    }
+}
+
+/// `take P HEX`.
+#[tactic(auto, unfolding(crate::specs::Grammar::take_of))]
+fn take(alloc: Global, arguments: &[&[u8]]) -> Result<Event, LineError>
+    ensures { Gives (λ event. event) result (take_of (map (λ field. field.now) arguments.now)) }
+{
+    let [of, digits] = arguments else {
+        return Err(LineError::Fault(LineFault::BadLine));
+    };
+    let peer = peer(of)?;
+    let bytes = bytes(alloc, digits)?;
+    let frame = decode(&bytes);
+    Ok(Event::Take { peer, frame })
 }
 
 /// `advance P K`.
@@ -76,15 +205,17 @@ fn show(arguments: &[&[u8]]) -> Result<Event, LineFault>
 
 /// The event that a line's fields say.
 #[tactic(auto, unfolding(crate::specs::Grammar::event_of))]
-pub fn event(fields: &[&[u8]]) -> Result<Event, LineFault>
-    ensures { result ≡ event_of (map (λ field. field.now) fields.now) }
+pub fn event(alloc: Global, fields: &[&[u8]]) -> Result<Event, LineError>
+    ensures { Gives (λ event. event) result (event_of (map (λ field. field.now) fields.now)) }
 {
     let [first, arguments @ ..] = fields else {
-        return Err(LineFault::BadLine);
+        return Err(LineError::Fault(LineFault::BadLine));
     };
     match word(first) {
-        Some(EventWord::Advance) => advance(arguments),
-        Some(EventWord::Show) => show(arguments),
-        None => Err(LineFault::BadLine),
+        Some(EventWord::Issue) => Ok(issue(arguments)?),
+        Some(EventWord::Take) => take(alloc, arguments),
+        Some(EventWord::Advance) => Ok(advance(arguments)?),
+        Some(EventWord::Show) => Ok(show(arguments)?),
+        None => Err(LineError::Fault(LineFault::BadLine)),
     }
 }

@@ -1,49 +1,114 @@
-//! A peer: a scene and the tick that it has reached. Each world that it shows is simulated from tick zero.
+//! A peer: a scene, the commands that it holds and the tick that it has reached. Each world that it shows is simulated
+//! from tick zero.
 
 use crate::event::{Event, Refusal, Reply};
 use crate::simulation::simulate;
+use pf_commands::{Command, CommandMap, FrameFault, Name, Payload, check, encode};
 use pf_shapes::Scene;
 use std::alloc::{AllocError, Global};
 
 /// The last tick that a peer may reach.
 pub const MAX_TICK: u32 = 1_048_576;
 
+/// The player whose commands the peer issues.
+const PLAYER: u8 = 0;
+
 /// One player's view of a simulation.
-#[derive(Debug, Drop)]
+#[derive(Drop)]
 pub struct Peer {
     pub scene: Scene,
+    pub commands: CommandMap,
     pub reached: u32,
 }
 
 impl Peer {
     ghost use Rattle.std.specs.Prelude.{◌≡◌, IfOk, OnOk, OnErr};
-    ghost use Rattle.pf_console.specs.Peer.{reply_of, after};
+    ghost use Rattle.pf_console.specs.declared.event.Reply.TheVariants.{Issued, Took, Advanced, Shown};
+    ghost use Rattle.pf_console.specs.Peer.{fresh, take_of, issue_of, advance_of, show_of, told, happens, next_number, NumberIs};
 
-    /// A peer at tick 0.
-    pub fn new(scene: Scene) -> Peer
-        ensures { result ≡ record { scene = scene; reached = 0 } }
+    /// A peer at tick 0 that holds no commands.
+    pub fn new(alloc: Global, scene: Scene) -> Peer
+        ensures { result ≡ fresh scene }
     {
-        Peer { scene, reached: 0 }
+        Peer {
+            scene,
+            commands: CommandMap::new(alloc),
+            reached: 0,
+        }
     }
 
     /// Answers an event. An `Err` leaves the peer as it was.
-    #[tactic(auto, unfolding(crate::specs::Peer::reply_of, crate::specs::Peer::after))]
+    #[tactic(auto, unfolding(crate::specs::Peer::happens))]
     pub fn answer(&mut self, alloc: Global, event: Event) -> Result<Reply, AllocError>
-        ensures reply { IfOk result (λ reply. reply ≡ reply_of self.old event) }
-        ensures ok { OnOk result (self.new ≡ after self.old event) }
+        ensures reply { IfOk result (λ reply. (reply, self.new) ≡ happens self.old event) }
         ensures err { OnErr result (self.new ≡ self.old) }
         ensures scene { self.new.scene ≡ self.old.scene }
     {
         match event {
+            Event::Issue { peer, payload } => self.issue(peer, payload),
+            Event::Take { peer, frame } => self.take(peer, frame),
             Event::Advance { peer, ticks } => Ok(self.advance(peer, ticks)),
             Event::Show { peer, tick } => self.show(alloc, peer, tick),
         }
     }
 
-    #[tactic(auto, unfolding(crate::specs::Peer::reply_of, crate::specs::Peer::after))]
+    /// The number of the next command at the reached tick, if there is one left.
+    #[tactic(auto, using(crate::proofs::Numbers::first_number, crate::proofs::Numbers::number_after))]
+    fn next_number(&self) -> Option<u16>
+        ensures { NumberIs result (next_number self.now.commands self.now.reached PLAYER) }
+    {
+        match self.commands.greatest(self.reached, PLAYER) {
+            None => Some(0),
+            Some(greatest) => greatest.checked_add(1),
+        }
+    }
+
+    #[tactic(auto, unfolding(crate::specs::Peer::issue_of, crate::specs::Peer::put_of))]
+    fn issue(&mut self, peer: u8, payload: Payload) -> Result<Reply, AllocError>
+        ensures reply { IfOk result (λ reply. (reply, self.new) ≡ told (λ frame. Issued peer frame) self.old (issue_of self.old payload)) }
+        ensures err { OnErr result (self.new ≡ self.old) }
+        ensures scene { self.new.scene ≡ self.old.scene }
+    {
+        if self.reached >= MAX_TICK {
+            return Ok(Reply::Refused(Refusal::TickLimit));
+        }
+        let Some(number) = self.next_number() else {
+            return Ok(Reply::Refused(Refusal::NumbersSpent));
+        };
+        let command = Command {
+            name: Name::new(self.reached, PLAYER, number),
+            payload,
+        };
+        if let Err(fault) = check(&self.scene, &command) {
+            return Ok(Reply::Refused(Refusal::Check(fault)));
+        }
+        self.commands.put(&command)?;
+        Ok(Reply::Issued {
+            peer,
+            frame: encode(&command),
+        })
+    }
+
+    #[tactic(auto, unfolding(crate::specs::Peer::put_of))]
+    fn take(&mut self, peer: u8, frame: Result<Command, FrameFault>) -> Result<Reply, AllocError>
+        ensures reply { IfOk result (λ reply. (reply, self.new) ≡ told (λ put. Took peer put) self.old (take_of self.old frame)) }
+        ensures err { OnErr result (self.new ≡ self.old) }
+        ensures scene { self.new.scene ≡ self.old.scene }
+    {
+        let command = match frame {
+            Ok(command) => command,
+            Err(fault) => return Ok(Reply::Refused(Refusal::Frame(fault))),
+        };
+        if let Err(fault) = check(&self.scene, &command) {
+            return Ok(Reply::Refused(Refusal::Check(fault)));
+        }
+        let put = self.commands.put(&command)?;
+        Ok(Reply::Took { peer, put })
+    }
+
+    #[tactic(auto, unfolding(crate::specs::Peer::advance_of))]
     fn advance(&mut self, peer: u8, ticks: u32) -> Reply
-        ensures reply { result ≡ reply_of self.old (Event.Advance peer ticks) }
-        ensures after { self.new ≡ after self.old (Event.Advance peer ticks) }
+        ensures reply { (result, self.new) ≡ told (λ reached. Advanced peer reached) self.old (advance_of self.old ticks) }
         ensures scene { self.new.scene ≡ self.old.scene }
     {
         match self.reached.checked_add(ticks) {
@@ -55,14 +120,14 @@ impl Peer {
         }
     }
 
-    #[tactic(auto, unfolding(crate::specs::Peer::reply_of))]
+    #[tactic(auto, unfolding(crate::specs::Peer::show_of))]
     fn show(&self, alloc: Global, peer: u8, tick: u32) -> Result<Reply, AllocError>
-        ensures { IfOk result (λ reply. reply ≡ reply_of self.now (Event.Show peer tick)) }
+        ensures { IfOk result (λ reply. (reply, self.now) ≡ told (λ world. Shown peer tick world) self.now (show_of self.now tick)) }
     {
         if tick > self.reached {
             return Ok(Reply::Refused(Refusal::NotReached(self.reached)));
         }
-        let world = simulate(alloc, &self.scene, tick)?;
+        let world = simulate(alloc, &self.scene, &self.commands, tick)?;
         Ok(Reply::Shown { peer, tick, world })
     }
 }

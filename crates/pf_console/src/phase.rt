@@ -10,14 +10,14 @@ use crate::grammar::event;
 use crate::peer::Peer;
 use crate::print::reply_text;
 use pf_shapes::{Progress, Scene, SceneFault, SceneReader};
-use pf_text::{LineFault, Machine, TakeRefusal, integer};
+use pf_text::{LineError, LineFault, Machine, TakeRefusal, integer};
 use std::alloc::Global;
 
 /// How many bodies a scene may have.
 const MOST_BODIES: usize = 1;
 
 /// Where a text stands.
-#[derive(Debug, Drop)]
+#[derive(Drop)]
 pub enum Phase {
     /// In its scene.
     Reading(SceneReader),
@@ -51,7 +51,7 @@ fn onward(progress: Progress) -> Phase
 
 /// `peers 1`.
 #[tactic(auto, unfolding(crate::specs::Phase::seated))]
-fn seated(scene: Scene, fields: &[&[u8]]) -> Result<Phase, SceneFault>
+fn seated(alloc: Global, scene: Scene, fields: &[&[u8]]) -> Result<Phase, SceneFault>
     ensures { seated scene (map (λ field. field.now) fields.now) ≡ silent result }
 {
     let [word, count] = fields else {
@@ -61,7 +61,7 @@ fn seated(scene: Scene, fields: &[&[u8]]) -> Result<Phase, SceneFault>
         return Err(SceneFault::BadLine);
     }
     integer(count, 1, 1)?;
-    Ok(Phase::Playing(Peer::new(scene)))
+    Ok(Phase::Playing(Peer::new(alloc, scene)))
 }
 
 /// The answer to an event, and the phase after it.
@@ -86,9 +86,10 @@ fn happened(
 ) -> Result<(String, Phase), TakeRefusal<SceneFault>>
     ensures { Tells result (happened peer (event_of (map (λ field. field.now) fields.now))) }
 {
-    match event(fields) {
+    match event(alloc, fields) {
         Ok(event) => answered(alloc, peer, event),
-        Err(fault) => Err(TakeRefusal::Fault(SceneFault::from(fault))),
+        Err(LineError::Memory) => Err(TakeRefusal::Memory),
+        Err(LineError::Fault(fault)) => Err(TakeRefusal::Fault(SceneFault::from(fault))),
     }
 }
 
@@ -114,7 +115,7 @@ impl Machine<()> for Phase {
                 Ok((String::new(alloc), onward(progress)))
             }
             Phase::Seating(scene) => {
-                let next = seated(scene, fields).map_err(TakeRefusal::Fault)?;
+                let next = seated(alloc, scene, fields).map_err(TakeRefusal::Fault)?;
                 Ok((String::new(alloc), next))
             }
             Phase::Playing(peer) => happened(alloc, peer, fields),

@@ -2,9 +2,10 @@
 
 ghost use Rattle.std.specs.Prelude.{◌≡◌, ◌++◌, ◌<◌, ◌^◌, OnOk, IfOk};
 ghost use Rattle.std.specs.String.{string_bytes};
-ghost use Rattle.pf_console.specs.Print.{words_text, line_text, payload_text, command_line, body_numbers, moving_text, bodies_text, block_text, refusal_text, reply_text};
+ghost use Rattle.pf_console.specs.Print.{words_text, line_text, payload_text, command_line, body_numbers, moving_text, bodies_text, block_text, answer_text, refused_text, refusal_text, reply_text};
 
 use crate::event::{Refusal, Reply};
+use crate::names::{check_fault_name, frame_fault_name, put_name};
 use pf_commands::{Command, Payload};
 use pf_shapes::{BodyState, Fixture};
 use std::alloc::{AllocError, Global};
@@ -104,16 +105,38 @@ fn push_bodies(
     Ok(())
 }
 
+/// Adds a line: a word, a peer, and what it is answered.
+fn push_answer(text: &mut String, word: &str, peer: u8, answer: &str) -> Result<(), AllocError>
+    ensures { OnOk result (string_bytes text.new ≡ string_bytes text.old ++ answer_text word.now peer answer.now) }
+{
+    push_words(text, word, &[i64::from(peer)])?;
+    text.push(' ')?;
+    text.push_str(answer)?;
+    text.push('\n')
+}
+
+/// Adds the line of a refusal by its name.
+fn push_refused(text: &mut String, name: &str) -> Result<(), AllocError>
+    ensures { OnOk result (string_bytes text.new ≡ string_bytes text.old ++ refused_text name.now) }
+{
+    text.push_str("refused ")?;
+    text.push_str(name)?;
+    text.push('\n')
+}
+
 /// Adds the text of a refusal.
 #[tactic(auto, unfolding(crate::specs::Print::refusal_text))]
 fn push_refusal(text: &mut String, refusal: Refusal) -> Result<(), AllocError>
     ensures { OnOk result (string_bytes text.new ≡ string_bytes text.old ++ refusal_text refusal) }
 {
     match refusal {
+        Refusal::TickLimit => push_refused(text, "TickLimit"),
+        Refusal::NumbersSpent => push_refused(text, "NumbersSpent"),
+        Refusal::Frame(fault) => push_refused(text, frame_fault_name(fault)),
+        Refusal::Check(fault) => push_refused(text, check_fault_name(fault)),
         Refusal::NotReached(reached) => {
             push_line(text, "refused NotReached", &[i64::from(reached)])
         }
-        Refusal::TickLimit => push_line(text, "refused TickLimit", &[]),
     }
 }
 
@@ -140,6 +163,11 @@ pub fn reply_text(alloc: Global, fixtures: &[Fixture], reply: &Reply) -> Result<
 {
     let mut text = String::new(alloc);
     match reply {
+        Reply::Issued { peer, frame } => {
+            let digits = hex::encode(alloc, frame.as_slice())?;
+            push_answer(&mut text, "issue", *peer, &digits)?;
+        }
+        Reply::Took { peer, put } => push_answer(&mut text, "take", *peer, put_name(*put))?,
         Reply::Advanced { peer, reached } => {
             push_line(
                 &mut text,

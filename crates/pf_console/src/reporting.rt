@@ -1,12 +1,12 @@
 //! What the program says of a fault, and the status it ends with.
 
 ghost use Rattle.std.specs.Prelude.{◌≡◌, ◌+◌, ◌^◌, ◌<◌};
-ghost use Rattle.pf_console.specs.Report.{fault_name, frame_fault_name, digits_fault_name, refused_line, refused_frame, fault_text, status_of, Reports};
+ghost use Rattle.pf_console.specs.Report.{fault_name, digits_fault_name, refused_line, refused_frame, fault_text, status_of, Reports};
 
 use crate::fault::{DigitsFault, PlayFault};
+use crate::names::frame_fault_name;
 use arrayvec::ArrayString;
 use itoa::Buffer;
-use pf_commands::FrameFault;
 use pf_shapes::SceneFault;
 use pf_text::Sink;
 
@@ -23,20 +23,6 @@ fn fault_name(fault: SceneFault) -> &'static str
         SceneFault::TooMany => "TooMany",
         SceneFault::BadMass => "BadMass",
         SceneFault::BadSize => "BadSize",
-    }
-}
-
-/// The name of a fault of a frame.
-fn frame_fault_name(fault: FrameFault) -> &'static str
-    ensures { result.now ≡ frame_fault_name fault }
-{
-    match fault {
-        FrameFault::Short => "Short",
-        FrameFault::Long => "Long",
-        FrameFault::BadVersion => "BadVersion",
-        FrameFault::BadKind => "BadKind",
-        FrameFault::NotCanonical => "NotCanonical",
-        FrameFault::OutOfRange => "OutOfRange",
     }
 }
 

@@ -1,12 +1,13 @@
-//! The simulation of a scene whose bodies touch nothing: one body's tick, phase by phase.
+//! The simulation of a scene whose bodies touch nothing: commands, and one body's tick, phase by phase.
 
-ghost use Rattle.std.specs.Prelude.{◌≡◌, map, IfOk};
+ghost use Rattle.std.specs.Prelude.{◌≡◌, map, IfOk, OnOk};
 ghost use Rattle.pf_shapes.specs.Scene.{Setting};
-ghost use Rattle.pf_console.specs.Simulation.{fallen, moved, is_slow, is_still, timed, rested, body_step, step, sim_from, sim};
+ghost use Rattle.pf_console.specs.Simulation.{fallen, moved, is_slow, is_still, timed, rested, body_step, stopped, commanded, applied, ordered, step, sim_from, sim};
 
+use pf_commands::{CommandMap, Payload};
 use pf_num::Fx;
 use pf_rot::V2;
-use pf_shapes::{BodyState, Scene};
+use pf_shapes::{BodyState, Fixture, Scene};
 use std::alloc::{AllocError, Global};
 use std::marker::Model;
 
@@ -41,29 +42,109 @@ impl World {
     }
 }
 
-/// The world of a scene at a tick, simulated from tick zero.
-pub fn simulate(alloc: Global, scene: &Scene, tick: u32) -> Result<World, AllocError>
-    ensures { IfOk result (λ world. world ≡ sim scene.now tick) }
+/// The world of a scene at a tick, simulated from tick zero by these commands.
+pub fn simulate(
+    alloc: Global,
+    scene: &Scene,
+    commands: &CommandMap,
+    tick: u32,
+) -> Result<World, AllocError>
+    ensures { IfOk result (λ world. world ≡ sim scene.now commands.now tick) }
 {
     let mut bodies = Vec::from_slice(alloc, scene.starts())?;
-    advance(scene.gravity().scale(Fx::TICK), &mut bodies, tick);
+    advance(alloc, scene, commands, &mut bodies, tick)?;
     Ok(World { bodies })
 }
 
-/// So many ticks of all bodies.
+/// So many ticks of all bodies, from tick zero.
 #[tactic(auto, using(crate::proofs::Ticks::sim_from_none, crate::proofs::Ticks::sim_from_more))]
-fn advance(pull: V2, bodies: &mut [BodyState], ticks: u32)
-    ensures { bodies.new ≡ sim_from pull bodies.old ticks }
+fn advance(
+    alloc: Global,
+    scene: &Scene,
+    commands: &CommandMap,
+    bodies: &mut [BodyState],
+    ticks: u32,
+) -> Result<(), AllocError>
+    ensures { OnOk result (bodies.new ≡ sim_from scene.now commands.now bodies.old 0 ticks) }
 {
-    for _ in 0..ticks {
-        step(pull, bodies);
+    for tick in 0..ticks {
+        let payloads = commands.at_tick(alloc, tick)?;
+        step(scene, bodies, &payloads);
+    }
+    Ok(())
+}
+
+/// One tick of all bodies, with the payloads of its commands.
+#[inline]
+#[tactic(auto, unfolding(crate::specs::Simulation::step))]
+fn step(scene: &Scene, bodies: &mut [BodyState], payloads: &[Payload])
+    ensures { bodies.new ≡ step scene.now bodies.old payloads.now }
+{
+    order(scene.fixtures(), bodies, payloads);
+    go_on(scene.gravity().scale(Fx::TICK), bodies);
+}
+
+/// The phase Commands.
+#[inline]
+#[tactic(auto, using(crate::proofs::Orders::ordered_none, crate::proofs::Orders::ordered_take))]
+fn order(fixtures: &[Fixture], bodies: &mut [BodyState], payloads: &[Payload])
+    ensures { bodies.new ≡ ordered fixtures.now bodies.old payloads.now }
+{
+    for payload in payloads {
+        apply(fixtures, bodies, payload);
     }
 }
 
-/// One tick of all bodies.
+/// One command.
+#[tactic(auto, unfolding(crate::specs::Simulation::applied))]
+fn apply(fixtures: &[Fixture], bodies: &mut [BodyState], payload: &Payload)
+    ensures { bodies.new ≡ applied fixtures.now bodies.old payload.now }
+{
+    let body = usize::from(payload.body());
+    if let (Some(fixture), Some(state)) = (fixtures.get(body), bodies.get(body)) {
+        bodies[body] = commanded(fixture, payload, *state);
+    }
+}
+
+/// What a command makes of the state of its body.
+#[tactic(auto, unfolding(crate::specs::Simulation::commanded))]
+fn commanded(fixture: &Fixture, payload: &Payload, body: BodyState) -> BodyState
+    ensures { result ≡ commanded fixture.now payload.now body }
+{
+    let woken = BodyState {
+        timer: 0,
+        awake: true,
+        ..body
+    };
+    match *payload {
+        Payload::Push { x, y, .. } => BodyState {
+            vel: body.vel.add(V2 { x, y }.scale(fixture.inverse_mass())),
+            ..woken
+        },
+        Payload::Turn { x, .. } => BodyState {
+            spin: body.spin.add(fixture.inverse_inertia().mul(x)),
+            ..woken
+        },
+        Payload::Stop { .. } => stopped(woken),
+    }
+}
+
+/// The body without velocity and spin.
+#[inline]
+fn stopped(body: BodyState) -> BodyState
+    ensures { result ≡ stopped body }
+{
+    BodyState {
+        vel: V2::ZERO,
+        spin: Fx::ZERO,
+        ..body
+    }
+}
+
+/// What each body goes through in a tick.
 #[tactic(auto, using(std::proofs::lemmas::List::Edits::map_over_more))]
-fn step(pull: V2, bodies: &mut [BodyState])
-    ensures { bodies.new ≡ step pull bodies.old }
+fn go_on(pull: V2, bodies: &mut [BodyState])
+    ensures { bodies.new ≡ map (body_step pull) bodies.old }
 {
     for body in bodies.iter_mut() {
         *body = body_step(pull, *body);
@@ -95,7 +176,7 @@ fn fallen(pull: V2, body: BodyState) -> BodyState
     }
 }
 
-/// The phase Places. The pair stays as it is, since nothing spins.
+/// The phase Places.
 #[inline]
 #[tactic(auto, unfolding(crate::specs::Simulation::moved))]
 fn moved(body: BodyState) -> BodyState
@@ -103,6 +184,7 @@ fn moved(body: BodyState) -> BodyState
 {
     BodyState {
         place: body.place.add(body.vel.scale(Fx::TICK)),
+        rot: body.rot.turn(body.spin),
         ..body
     }
 }
@@ -153,10 +235,8 @@ fn rested(body: BodyState) -> BodyState
         return body;
     }
     BodyState {
-        vel: V2::ZERO,
-        spin: Fx::ZERO,
         timer: 0,
         awake: false,
-        ..body
+        ..stopped(body)
     }
 }

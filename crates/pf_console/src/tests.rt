@@ -61,8 +61,28 @@ fn worked_rows(rt: HostRuntime) -> Result<(), Fail> {
             b"advance 0 5\nrefused NotReached 5\nrefused TickLimit\nadvance 0 5\nadvance 0 1048576\nrefused NotReached 1048576\n".as_slice(),
         ),
         (
-            b"gravity 0 -1\ncircle - 0 0 1048576 3 4\nend\npeers 1\nadvance 0 9\nshow 0 9\n".as_slice(),
-            b"advance 0 9\nshow 0 9\nend\n".as_slice(),
+            b"gravity 0 0\ncircle 0 1048576 0 16777216 0 0\nend\npeers 1\nissue 0 push 0 36028797018963967 0\nadvance 0 64\nshow 0 1\nshow 0 64\n".as_slice(),
+            b"issue 0 0100000000000000000000007fffffffffffff0000000000000000\nadvance 0 64\nshow 0 1\nbody 0 562949953421312 0 16777216 0 36028797018963967 0 0 0 1\nend\nshow 0 64\nbody 0 36028797018963967 0 16777216 0 36028797018963967 0 0 0 1\nend\n".as_slice(),
+        ),
+        (
+            b"gravity 0 0\ncircle 0 16777216 0 16777216 0 0\nend\npeers 1\nissue 0 turn 0 16777216\nadvance 0 1\nshow 0 1\n".as_slice(),
+            b"issue 0 010000000000000001000000000000010000000000000000000000\nadvance 0 1\nshow 0 1\nbody 0 0 0 16769030 524032 0 0 33554432 0 1\nend\n".as_slice(),
+        ),
+        (
+            b"gravity 0 0\ncircle 0 16777216 0 16777216 0 0\nend\npeers 1\ntake 0 010000000001000000000000000000010000000000000000000000\ntake 0 010000000001000000000700000000010000000000000000000000\n".as_slice(),
+            b"refused NotOwner\nrefused UnknownBody\n".as_slice(),
+        ),
+        (
+            b"gravity 0 0\ncircle 0 16777216 0 16777216 0 0\nend\npeers 1\ntake 0 010000000000000000000000000000000000010000000000000000\ntake 0 0100000000000000000000ffffffffffffffff0000000000000000\nadvance 0 1\nshow 0 1\n".as_slice(),
+            b"take 0 new\ntake 0 greater\nadvance 0 1\nshow 0 1\nbody 0 0 0 16777216 0 -1 0 0 1 1\nend\n".as_slice(),
+        ),
+        (
+            b"gravity 0 0\ncircle 0 16777216 0 16777216 0 0\nend\npeers 1\ntake 0 01\ntake 0 010000000000ffff00000000000000000000010000000000000000\nissue 0 stop 0\nadvance 0 1\nissue 0 stop 65535\nissue 0 push 0 1 1\nadvance 0 1048575\nissue 0 stop 0\n".as_slice(),
+            b"refused Short\ntake 0 new\nrefused NumbersSpent\nadvance 0 1\nrefused UnknownBody\nissue 0 010000000100000000000000000000000000010000000000000001\nadvance 0 1048576\nrefused TickLimit\n".as_slice(),
+        ),
+        (
+            b"gravity 0 -1\ncircle - 0 0 1048576 3 4\nend\npeers 1\nadvance 0 9\nissue 0 stop 0\nshow 0 9\n".as_slice(),
+            b"advance 0 9\nrefused StaticBody\nshow 0 9\nend\n".as_slice(),
         ),
     ];
     for (text, expected) in rows {
@@ -108,6 +128,22 @@ fn each_fault_has_its_line_and_name(rt: HostRuntime) -> Result<(), Fail> {
         (
             b"gravity 0 0\nend\npeers 1\nsettle 0\n".as_slice(),
             b"pf_play: line 4: BadLine\n".as_slice(),
+        ),
+        (
+            b"gravity 0 0\nend\npeers 1\nissue 0 jump 0\n".as_slice(),
+            b"pf_play: line 4: BadLine\n".as_slice(),
+        ),
+        (
+            b"gravity 0 0\nend\npeers 1\nissue 0 stop 65536\n".as_slice(),
+            b"pf_play: line 4: BadNumber\n".as_slice(),
+        ),
+        (
+            b"gravity 0 0\nend\npeers 1\nissue 0 turn 0 36028797018963968\n".as_slice(),
+            b"pf_play: line 4: BadNumber\n".as_slice(),
+        ),
+        (
+            b"gravity 0 0\nend\npeers 1\ntake 0 0\n".as_slice(),
+            b"pf_play: line 4: BadNumber\n".as_slice(),
         ),
         (
             b"gravity 0 0\nend\npeers 1\nadvance 1 0\n".as_slice(),
@@ -327,5 +363,9 @@ fn a_writer_may_fail_at_each_call(rt: HostRuntime) -> Result<(), Fail> {
     }
     laws::events_are_answered();
     laws::sleepers_stay();
+    laws::refused_events_change_nothing();
+    laws::commands_change_later_worlds();
+    laws::same_commands_same_worlds();
+    laws::order_and_repeats_do_not_matter();
     Ok(())
 }

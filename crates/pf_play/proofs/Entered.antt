@@ -1,5 +1,5 @@
 -- The subcommand that words enter, as the matches of a parse tell it.
-use Rattle.std.proofs.Common.{rules, refl, ap, sym, codes, ◌≡◌, ◌∙◌, List, ℕ, Option, Some, None, [], Ok}
+use Rattle.std.proofs.Common.{rules, refl, ap, codes, ◌≡◌, ◌∙◌, List, Option, Some, None, [], Ok}
 use Rattle.std.specs.Prelude.{option_map, unwrap_or}
 use Rattle.clap.specs.Words.{Kinds, Row, Text, first_of, subcommand_name_of, subcommand_rows_of}
 use Rattle.clap.specs.declared.parser.matches.ArgMatches.{ArgMatches}

@@ -32,8 +32,8 @@ const DIGITS: &str = "HEX";
 const FRAME_ABOUT: &str = "Prints the fields of one command's frame";
 
 const FRAME_HELP: &str = "\
-HEX is the 27 bytes of a frame as 54 hexadecimal digits. Of the command that they spell
-it prints tick, player and number, and what it does to which body, on one line:
+HEX is the 27 bytes of a frame as 54 hexadecimal digits, as the line `issue` of a run answers
+them. It prints tick, player and number of the command that they spell, and what it does:
 
   tick 0 player 0 number 0 push 0 16777216 0
   tick 0 player 0 number 1 turn 0 16777216
@@ -44,8 +44,12 @@ const RUN_ABOUT: &str = "Answers a text on standard input, line by line";
 const RUN_HELP: &str = "\
 Standard input holds a scene, a line `peers 1`, and then events, a line each:
 
-  advance 0 K   goes K ticks of 1/64 s further, and answers the tick reached
-  show 0 T      shows the world at tick T, at or below the tick reached
+  issue 0 push B X Y   gives body B an impulse now, and answers the command's frame
+  issue 0 turn B X     gives body B an angular impulse
+  issue 0 stop B       stops body B
+  take 0 HEX           takes a command's frame, also of a tick that is past
+  advance 0 K          goes K ticks of 1/64 s further, and answers the tick reached
+  show 0 T             shows the world at tick T, at or below the tick reached
 
 Numbers are whole, in units of 1/16777216. Save this text as scene.txt, a circle
 of mass 1 and radius 1 that falls with gravity 10:

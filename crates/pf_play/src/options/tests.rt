@@ -34,7 +34,10 @@ fn takes_the_digits_of_a_frame(rt: HostRuntime) -> Result<(), Fail> {
     for digits in ["01ff", "", "no digits"] {
         let words = ["pf_play", "frame", digits];
         let request = options(rt.alloc(), &words)?;
-        assert!(rt; matches!(request, Request::Frame(found) if found == digits), "{digits}");
+        assert!(rt;
+            matches!(request, Request::Frame(found) if found == digits),
+            "{digits}"
+        );
     }
     Ok(())
 }

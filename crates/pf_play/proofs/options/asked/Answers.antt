@@ -1,5 +1,5 @@
-use Rattle.std.proofs.Common.{rules, refl, ◌≡◌, ◌∙◌, ap, sym, codes, Some}
-use Rattle.clap.specs.Words.{found_of, rows_of}
+use Rattle.std.proofs.Common.{refl, ◌∙◌, ap, sym, codes, Some}
+use Rattle.clap.specs.Words.{found_of}
 use Rattle.clap.proofs.WalkLemmas.{first_value-rows}
 use Rattle.pf_play.proofs.Entered.{digits_found, unwrap_map}
 use Rattle.pf_play.proofs.options.asked.Goals as goal

@@ -1,4 +1,4 @@
-use Rattle.std.proofs.Common.{rules, ap, ap₂, subst, refl, true, ◌≡◌, ◌∙◌, [], map, Ok}
+use Rattle.std.proofs.Common.{ap, subst, refl, true, ◌≡◌, ◌∙◌, [], map, Ok}
 use Rattle.clap.specs.Words.{App, HasKind, app_of, fault_of, is_simple, is_simple_and_free, subcommand_of}
 use Rattle.pf_play.specs.Options.{Answers, AsksFor, command_line}
 use Rattle.pf_play.proofs.Entered.{request_answers}

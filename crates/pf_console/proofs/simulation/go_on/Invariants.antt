@@ -1,6 +1,6 @@
 use Rattle.std.proofs.Common.{◌≡◌, map, take, drop, ◌++◌}
 use Rattle.pf_console.specs.Simulation.{body_step}
-use Rattle.pf_console.proofs.simulation.step.Given as goal
+use Rattle.pf_console.proofs.simulation.go_on.Given as goal
 
 abbrev pub invariant-loop-body : goal.invariant-loop-body
 invariant-loop-body l =

@@ -1,0 +1,115 @@
+-- What calls on a peer leave as it was, and what events leave behind.
+use Rattle.std.proofs.Common.{◌≡◌, ℕ, ◌+◌, Bool, true, false, if◌then◌else◌, List, [], ◌∷◌, ◌++◌, Result, Ok, Err, refl, ap, sym, ◌∙◌, nat_le}
+use Rattle.std.specs.FinMap.{get}
+use Rattle.pf_commands.specs.declared.checking.CheckFault.{CheckFault}
+use Rattle.pf_commands.specs.declared.map.Put.{Put}
+use Rattle.pf_commands.specs.declared.payload.Command.{Command}
+use Rattle.pf_commands.specs.declared.payload.Payload.{Payload}
+use Rattle.pf_commands.specs.Check.{check_of}
+use Rattle.pf_commands.specs.Merge.{Commands, merge, one, put_all}
+use Rattle.pf_commands.specs.News.{answer_to}
+use Rattle.pf_console.specs.declared.event.Event.{Event}
+use Rattle.pf_console.specs.declared.event.Event.TheVariants.{Issue, Take, Advance, Show}
+use Rattle.pf_console.specs.declared.event.Reply.{Reply}
+use Rattle.pf_console.specs.declared.event.Reply.TheVariants.{Issued, Took, Advanced, Shown}
+use Rattle.pf_console.specs.declared.event.Refusal.{Refusal}
+use Rattle.pf_console.specs.declared.peer.Peer.{Peer}
+use Rattle.pf_console.specs.Peer.{allowed, framed, told, put_of, issue_of, advance_of, show_of, next_command, next_number, happens, reply_of, after, played}
+use Rattle.pf_console.specs.Laws.{brought, handed_by, handed}
+
+-- a call that brings a command, refused or not: its scene stays, and its map is the one with the command put in
+record Brings {A : Type 0} (p : Peer) (c : Command) (r : Result (A × Peer) Refusal) : Type 0 where
+  scene : (reply : A → Reply) → (told reply p r).1.scene ≡ p.scene
+  commands : (reply : A → Reply) → (told reply p r).1.commands ≡ put_all p.commands (brought r c)
+
+-- a call that was refused
+refused : {A : Type 0} (p : Peer) (c : Command) (refusal : Refusal) → Brings {A = A} p c (Err refusal)
+refused p c refusal = record { scene = λ reply. refl; commands = λ reply. refl }
+
+-- one of two calls
+either : {A : Type 0} (p : Peer) (c : Command) (test : Bool) (r s : Result (A × Peer) Refusal) → Brings p c r → Brings p c s
+    → Brings p c (if test then r else s)
+either p c true r s first second = first
+either p c false r s first second = second
+
+put_allowed : (p : Peer) (c : Command) (put : Put) (checked : Result (Unit {0}) CheckFault) →
+    Brings p c (allowed checked (put, record p { commands = merge p.commands (one c.name c.payload) }))
+put_allowed p c put (Ok done) = record { scene = λ reply. refl; commands = λ reply. refl }
+put_allowed p c put (Err fault) = record { scene = λ reply. refl; commands = λ reply. refl }
+
+put_framed : (p : Peer) (c : Command) (put : Put) (checked : Result (Unit {0}) CheckFault) →
+    Brings p c (framed c (allowed checked (put, record p { commands = merge p.commands (one c.name c.payload) })))
+put_framed p c put (Ok done) = record { scene = λ reply. refl; commands = λ reply. refl }
+put_framed p c put (Err fault) = record { scene = λ reply. refl; commands = λ reply. refl }
+
+puts : (p : Peer) (c : Command) → Brings p c (put_of p c)
+unfolding put_of
+puts p c = put_allowed p c (answer_to (get p.commands c.name) c.payload) (check_of p.scene c.name c.payload)
+
+issues : (p : Peer) (payload : Payload) → Brings p (next_command p payload) (issue_of p payload)
+unfolding issue_of put_of
+issues p payload =
+    let c = next_command p payload in
+    either p c (nat_le 1048576 p.reached) (Err _) _ (refused p c _)
+    (either p c (nat_le 65536 (next_number p.commands p.reached 0)) (Err _) _ (refused p c _)
+    (put_framed p c (answer_to (get p.commands c.name) c.payload) (check_of p.scene c.name c.payload)))
+
+-- a call that changes neither scene nor commands
+record Keeps {A : Type 0} (p : Peer) (r : Result (A × Peer) Refusal) : Type 0 where
+  scene : (reply : A → Reply) → (told reply p r).1.scene ≡ p.scene
+  commands : (reply : A → Reply) → (told reply p r).1.commands ≡ p.commands
+
+keeps : {A : Type 0} (p : Peer) (test : Bool) (r s : Result (A × Peer) Refusal) → Keeps p r → Keeps p s → Keeps p (if test then r else s)
+keeps p true r s first second = first
+keeps p false r s first second = second
+
+advances : (p : Peer) (ticks : ℕ) → Keeps p (advance_of p ticks)
+unfolding advance_of
+advances p ticks = keeps p (nat_le (p.reached + ticks) 1048576) _ _
+    (record { scene = λ reply. refl; commands = λ reply. refl }) (record { scene = λ reply. refl; commands = λ reply. refl })
+
+shows : (p : Peer) (tick : ℕ) → Keeps p (show_of p tick)
+unfolding show_of
+shows p tick = keeps p (nat_le tick p.reached) _ _
+    (record { scene = λ reply. refl; commands = λ reply. refl }) (record { scene = λ reply. refl; commands = λ reply. refl })
+
+-- no event changes the scene
+pub same_scene : (p : Peer) (event : Event) → (after p event).scene ≡ p.scene
+unfolding happens
+same_scene p (Issue peer payload) = (issues p payload).scene (λ frame. Issued peer frame)
+same_scene p (Take peer (Ok c)) = (puts p c).scene (λ put. Took peer put)
+same_scene p (Take peer (Err fault)) = refl
+same_scene p (Advance peer ticks) = (advances p ticks).scene (λ reached. Advanced peer reached)
+same_scene p (Show peer tick) = (shows p tick).scene (λ world. Shown peer tick world)
+
+-- the map after an event has the command that it brought
+commands_after : (p : Peer) (event : Event) → (after p event).commands ≡ put_all p.commands (handed_by p event)
+unfolding happens
+commands_after p (Issue peer payload) = (issues p payload).commands (λ frame. Issued peer frame)
+commands_after p (Take peer (Ok c)) = (puts p c).commands (λ put. Took peer put)
+commands_after p (Take peer (Err fault)) = refl
+commands_after p (Advance peer ticks) = (advances p ticks).commands (λ reached. Advanced peer reached)
+commands_after p (Show peer tick) = (shows p tick).commands (λ world. Shown peer tick world)
+
+put_all-append : (m : Commands) (cs ds : List Command) → put_all m (cs ++ ds) ≡ put_all (put_all m cs) ds
+put_all-append m [] ds = refl
+put_all-append m (c ∷ cs) ds = put_all-append (merge m (one c.name c.payload)) cs ds
+
+pub scene_played : (p : Peer) (events : List Event) → (played p events).scene ≡ p.scene
+unfolding played
+scene_played p [] = refl
+scene_played p (event ∷ events) = scene_played (after p event) events ∙ same_scene p event
+
+pub commands_played : (p : Peer) (events : List Event) → (played p events).commands ≡ put_all p.commands (handed p events)
+unfolding played handed
+commands_played p [] = refl
+commands_played p (event ∷ events) =
+    commands_played (after p event) events
+    ∙ ap (λ m. put_all m (handed (after p event) events)) (commands_after p event)
+    ∙ sym (put_all-append p.commands (handed_by p event) (handed (after p event) events))
+
+-- peers alike show alike
+pub same_shown : (p q : Peer) (tick : ℕ) → p.scene ≡ q.scene → p.commands ≡ q.commands → p.reached ≡ q.reached
+    → reply_of p (Show 0 tick) ≡ reply_of q (Show 0 tick)
+same_shown p q tick scene commands reached =
+    ap (λ (x : Peer). reply_of x (Show 0 tick)) (λ i. record { scene = scene i; commands = commands i; reached = reached i })

@@ -1,0 +1,42 @@
+-- The number of the next command, by the greatest number that the map holds.
+use Rattle.std.proofs.Common.{◌≡◌, ℕ, zero, suc, ◌+◌, ◌<◌, ◌≤◌, Bool, true, false, if◌then◌else◌, None, refl, ap, sym, ◌∙◌, ⊎_elim, arith}
+use Rattle.std.specs.Prelude.{IsSome, is_some}
+use Rattle.std.specs.FinMap.{get}
+use Rattle.std.proofs.lemmas.Bool.{cases_lt, true≢false}
+use Rattle.pf_commands.specs.Merge.{Commands, name_at}
+use Rattle.pf_console.specs.Peer.{number_below, next_number}
+
+none_below : (m : Commands) (tick player n : ℕ) → ((number : ℕ) → get m (name_at tick player number) ≡ None)
+    → number_below m tick player n ≡ 0
+unfolding number_below
+none_below m tick player zero none = refl
+none_below m tick player (suc n) none = rw (none n) (none_below m tick player n none)
+
+apart : (b : Bool) → b ≡ true → b ≡ false → ⊥
+apart b on off = true≢false (sym on ∙ off)
+
+one_below : (m : Commands) (tick player n g : ℕ) → g < n → IsSome (get m (name_at tick player g))
+    → ((other : ℕ) → IsSome (get m (name_at tick player other)) → other ≤ g) → number_below m tick player n ≡ g + 1
+unfolding number_below
+one_below m tick player zero g below held most = absurd (omega arith)
+one_below m tick player (suc n) g below held most =
+    elim (is_some (get m (name_at tick player n))) as
+    (λ b. is_some (get m (name_at tick player n)) ≡ b → (if b then suc n else number_below m tick player n) ≡ g + 1) [
+      | true ↦ λ some. let same : suc n ≡ g + 1 = omega (arith, most n some) in same
+      | false ↦ λ none. ⊎_elim
+          (λ less. one_below m tick player n g less held most)
+          (λ more.
+          let same : g ≡ n = omega arith in
+          absurd (apart (is_some (get m (name_at tick player g))) held (ap (λ (k : ℕ). is_some (get m (name_at tick player k))) same ∙ none)))
+          (cases_lt g n)
+    ] refl
+
+-- nothing is held: the first number is 0
+pub first_number : (m : Commands) (tick player : ℕ) → ((number : ℕ) → get m (name_at tick player number) ≡ None)
+    → next_number m tick player ≡ 0
+first_number m tick player none = none_below m tick player 65536 none
+
+-- the number after the greatest
+pub number_after : (m : Commands) (tick player g : ℕ) → g < 65536 → IsSome (get m (name_at tick player g))
+    → ((other : ℕ) → IsSome (get m (name_at tick player other)) → other ≤ g) → next_number m tick player ≡ g + 1
+number_after m tick player g below held most = one_below m tick player 65536 g below held most

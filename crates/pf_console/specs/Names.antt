@@ -1,0 +1,28 @@
+-- The names of faults and answers, as texts have them.
+use Rattle.std.specs.Prelude.{ℕ, List, codes}
+use Rattle.pf_commands.specs.declared.checking.CheckFault.{CheckFault}
+use Rattle.pf_commands.specs.declared.checking.CheckFault.TheVariants.{UnknownBody, StaticBody, NotOwner}
+use Rattle.pf_commands.specs.declared.fault.FrameFault.{FrameFault}
+use Rattle.pf_commands.specs.declared.fault.FrameFault.TheVariants.{Short, Long, BadVersion, BadKind, NotCanonical, OutOfRange}
+use Rattle.pf_commands.specs.declared.map.Put.{Put}
+use Rattle.pf_commands.specs.declared.map.Put.TheVariants.{New, Same, Greater, Lesser}
+
+abbrev pub frame_fault_name : FrameFault → List ℕ
+frame_fault_name Short = codes "Short"
+frame_fault_name Long = codes "Long"
+frame_fault_name BadVersion = codes "BadVersion"
+frame_fault_name BadKind = codes "BadKind"
+frame_fault_name NotCanonical = codes "NotCanonical"
+frame_fault_name OutOfRange = codes "OutOfRange"
+
+abbrev pub check_fault_name : CheckFault → List ℕ
+check_fault_name UnknownBody = codes "UnknownBody"
+check_fault_name StaticBody = codes "StaticBody"
+check_fault_name NotOwner = codes "NotOwner"
+
+-- what a put did
+abbrev pub put_name : Put → List ℕ
+put_name New = codes "new"
+put_name Same = codes "same"
+put_name Greater = codes "greater"
+put_name Lesser = codes "lesser"

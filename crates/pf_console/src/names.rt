@@ -1,0 +1,43 @@
+//! The names of faults and answers, as texts have them.
+
+ghost use Rattle.std.specs.Prelude.{◌≡◌};
+ghost use Rattle.pf_console.specs.Names.{frame_fault_name, check_fault_name, put_name};
+
+use pf_commands::{CheckFault, FrameFault, Put};
+
+/// The name of a fault of a frame.
+pub fn frame_fault_name(fault: FrameFault) -> &'static str
+    ensures { result.now ≡ frame_fault_name fault }
+{
+    match fault {
+        FrameFault::Short => "Short",
+        FrameFault::Long => "Long",
+        FrameFault::BadVersion => "BadVersion",
+        FrameFault::BadKind => "BadKind",
+        FrameFault::NotCanonical => "NotCanonical",
+        FrameFault::OutOfRange => "OutOfRange",
+    }
+}
+
+/// The name of a fault of a command that a scene does not allow.
+pub fn check_fault_name(fault: CheckFault) -> &'static str
+    ensures { result.now ≡ check_fault_name fault }
+{
+    match fault {
+        CheckFault::UnknownBody => "UnknownBody",
+        CheckFault::StaticBody => "StaticBody",
+        CheckFault::NotOwner => "NotOwner",
+    }
+}
+
+/// The name of what a put did.
+pub fn put_name(put: Put) -> &'static str
+    ensures { result.now ≡ put_name put }
+{
+    match put {
+        Put::New => "new",
+        Put::Same => "same",
+        Put::Greater => "greater",
+        Put::Lesser => "lesser",
+    }
+}
