@@ -14,7 +14,7 @@ use Rattle.pf_console.specs.declared.event.Reply.{Reply}
 use Rattle.pf_console.specs.declared.event.Reply.TheVariants.{Issued, Took, Advanced, Shown}
 use Rattle.pf_console.specs.declared.event.Refusal.{Refusal}
 use Rattle.pf_console.specs.declared.peer.Peer.{Peer}
-use Rattle.pf_console.specs.Peer.{allowed, framed, told, put_of, issue_of, advance_of, show_of, next_command, next_number, happens, reply_of, after, played}
+use Rattle.pf_console.specs.Peer.{allowed, framed, told, put_of, issue_of, advance_of, show_of, next_command, next_number, happens, after, played, replies}
 use Rattle.pf_console.specs.Laws.{brought, handed_by, handed}
 
 -- a call that brings a command, refused or not: its scene stays, and its map is the one with the command put in
@@ -108,8 +108,8 @@ commands_played p (event ∷ events) =
     ∙ ap (λ m. put_all m (handed (after p event) events)) (commands_after p event)
     ∙ sym (put_all-append p.commands (handed_by p event) (handed (after p event) events))
 
--- peers alike show alike
-pub same_shown : (p q : Peer) (tick : ℕ) → p.scene ≡ q.scene → p.commands ≡ q.commands → p.reached ≡ q.reached
-    → reply_of p (Show 0 tick) ≡ reply_of q (Show 0 tick)
-same_shown p q tick scene commands reached =
-    ap (λ (x : Peer). reply_of x (Show 0 tick)) (λ i. record { scene = scene i; commands = commands i; reached = reached i })
+-- peers alike answer alike
+pub same_answers : (p q : Peer) (later : List Event) → p.scene ≡ q.scene → p.commands ≡ q.commands → p.reached ≡ q.reached
+    → replies p later ≡ replies q later
+same_answers p q later scene commands reached =
+    ap (λ (x : Peer). replies x later) (λ i. record { scene = scene i; commands = commands i; reached = reached i })

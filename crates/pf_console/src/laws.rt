@@ -10,14 +10,13 @@ ghost use Rattle.pf_commands.specs.declared.payload.Payload.{Payload};
 ghost use Rattle.pf_commands.specs.Name.{CommandName};
 ghost use Rattle.pf_commands.specs.Merge.{Commands, AreCommands, IsCommand, merge, one, payloads_at};
 ghost use Rattle.pf_console.specs.declared.event.Event.{Event};
-ghost use Rattle.pf_console.specs.declared.event.Event.TheVariants.{Show};
 ghost use Rattle.pf_console.specs.declared.event.Reply.TheVariants.{Refused};
 ghost use Rattle.pf_console.specs.declared.event.Refusal.{Refusal};
 ghost use Rattle.pf_console.specs.declared.peer.Peer.{Peer};
 ghost use Rattle.pf_console.specs.declared.phase.Phase.TheVariants.{Playing};
 ghost use Rattle.pf_console.specs.Phase.{text_rules};
 ghost use Rattle.pf_console.specs.Laws.{SayEvents, NoneFor, handed, played_out};
-ghost use Rattle.pf_console.specs.Peer.{reply_of, after, played};
+ghost use Rattle.pf_console.specs.Peer.{reply_of, after, played, replies};
 ghost use Rattle.pf_console.specs.Simulation.{sim};
 
 /// Lines that each say an event are answered by the printed replies of the abstract session, and no fault.
@@ -45,19 +44,20 @@ pub fn commands_change_later_worlds()
         → sim scene (merge commands (one name payload)) tick ≡ sim scene commands tick }
 {}
 
-/// Peers of one scene that hold the same commands and have reached the same tick show the same worlds.
+/// Peers of one scene that hold the same commands and have reached the same tick show the same worlds, and answer all
+/// later events alike.
 pub fn same_commands_same_worlds()
-    ensures { (peer other : Peer) (tick : ℕ) → peer.scene ≡ other.scene → peer.reached ≡ other.reached
+    ensures { (peer other : Peer) (later : List Event) → peer.scene ≡ other.scene → peer.reached ≡ other.reached
         → ((name : CommandName) → get peer.commands name ≡ get other.commands name)
-        → reply_of peer (Show 0 tick) ≡ reply_of other (Show 0 tick) }
+        → replies peer later ≡ replies other later }
 {}
 
-/// Lists of events by which a peer comes to hold the same commands, in any order and with any repeats, and to reach
-/// the same tick, are followed by the same worlds.
+/// Lists of events that bring a peer the same commands, in any order and with any repeats, and take it to the same
+/// tick, are followed by the same worlds, and the same answers to all later events.
 pub fn order_and_repeats_do_not_matter()
-    ensures { (peer : Peer) (events others : List Event) (tick : ℕ) → AreCommands peer.commands
+    ensures { (peer : Peer) (events others later : List Event) → AreCommands peer.commands
         → All IsCommand (handed peer events)
         → ((c : Command) → Contains (handed peer events) c ↔ Contains (handed peer others) c)
         → (played peer events).reached ≡ (played peer others).reached
-        → reply_of (played peer events) (Show 0 tick) ≡ reply_of (played peer others) (Show 0 tick) }
+        → replies (played peer events) later ≡ replies (played peer others) later }
 {}
