@@ -1,7 +1,7 @@
 -- What a buffer of bytes that were read does to what is known, and a writer that takes its bytes piece by piece.
-use Rattle.std.proofs.Common.{◌≡◌, ℕ, suc, ◌+◌, ◌-◌, ◌<◌, ◌≤◌, Option, None, Some, List, [], ◌∷◌, ◌++◌, length, take, drop, get_or, refl, sym, ap, subst, ◌∙◌, append_assoc, append-nil, arith, take-append-drop}
+use Rattle.std.proofs.Common.{◌≡◌, ℕ, ◌+◌, ◌-◌, ◌≤◌, Option, None, Some, List, [], ◌++◌, length, take, drop, min, refl, sym, ap, subst, ◌∙◌, append_assoc, append-nil, arith, take-append-drop}
 use Rattle.std.specs.Io.KnownBytes.{Consumes, Appends, Keeps, prepend_known}
-use Rattle.std.proofs.lemmas.List.{drop_more}
+use Rattle.std.proofs.lemmas.List.{drop-take, drop-drop, length-take}
 use Rattle.pf_text.specs.Lines.{AppendsFront}
 use Rattle.pf_text.specs.Streams.{unread}
 use Rattle.pf_text.proofs.Taking.{appends_none, appends_kept, appends_more}
@@ -14,17 +14,27 @@ unread-nil start end buffer le = let none : end - start ≡ 0 = omega arith in r
 unread-front : (count : ℕ) (buffer : List ℕ) → unread 0 count buffer ≡ take count buffer
 unread-front count buffer = let all : count - 0 ≡ count = omega arith in rw all refl
 
--- the next byte of a buffer
-unread-more : (start end : ℕ) (buffer : List ℕ) → start < end → end ≤ length buffer → unread start end buffer ≡ get_or buffer start 0 ∷ unread (start + 1) end buffer
-unread-more start end buffer lt le =
-    let size : end - start ≡ suc (end - (start + 1)) = omega arith in
-    rw (size, drop_more buffer start 0 (omega arith)) refl
+-- bytes that are taken from a buffer
+unread-skip : (start end count : ℕ) (buffer : List ℕ) → count ≤ length (unread start end buffer)
+    → unread start end buffer ≡ take count (unread start end buffer) ++ unread (start + count) end buffer
+unread-skip start end count buffer le =
+    let least : count ≤ min (end - start) (length (drop start buffer)) =
+    subst (λ n. count ≤ n) (length-take (end - start) (drop start buffer)) le in
+    let within : count ≤ end - start = omega arith in
+    let size : end - start ≡ count + (end - (start + count)) = omega arith in
+    let rest : drop count (unread start end buffer) ≡ unread (start + count) end buffer =
+    ap (λ n. drop count (take n (drop start buffer))) size
+    ∙ drop-take count (end - (start + count)) (drop start buffer)
+    ∙ ap (take (end - (start + count))) (drop-drop count start buffer) in
+    sym (take-append-drop count (unread start end buffer)) ∙ ap (λ bytes. take count (unread start end buffer) ++ bytes) rest
 
--- at a byte that is given
-pub consumes_unread : (a r : Option (List ℕ)) (start end : ℕ) (buffer : List ℕ) → Keeps a (prepend_known (unread start end buffer) r) → start < end → end ≤ length buffer → Consumes a (prepend_known (unread (start + 1) end buffer) r) (get_or buffer start 0 ∷ [])
-consumes_unread None r start end buffer k lt le = tt
-consumes_unread (Some xs) None start end buffer k lt le = absurd k
-consumes_unread (Some xs) (Some ys) start end buffer k lt le = sym k ∙ ap (λ bytes. bytes ++ ys) (unread-more start end buffer lt le)
+-- and what is known then
+pub consumes_unread : (r : Option (List ℕ)) (start end count : ℕ) (buffer : List ℕ) → count ≤ length (unread start end buffer)
+    → Consumes (prepend_known (unread start end buffer) r) (prepend_known (unread (start + count) end buffer) r) (take count (unread start end buffer))
+consumes_unread None start end count buffer le = tt
+consumes_unread (Some ys) start end count buffer le =
+    ap (λ bytes. bytes ++ ys) (unread-skip start end count buffer le)
+    ∙ append_assoc (take count (unread start end buffer)) (unread (start + count) end buffer) ys
 
 -- where bytes were read into a buffer that was empty
 pub keeps_filled : (r s : Option (List ℕ)) (start end count : ℕ) (old new : List ℕ) → end ≤ start → Consumes r s (take count new) → Keeps (prepend_known (unread start end old) r) (prepend_known (unread 0 count new) s)

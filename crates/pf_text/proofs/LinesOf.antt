@@ -1,9 +1,6 @@
 -- The lines of a text, from the lines that were taken from its front.
-use Rattle.std.proofs.Common.{◌≡◌, ◌≢◌, ◌==◌, ℕ, ◌<◌, Option, Some, Bool, true, false, not, ◌&&◌, List, [], ◌∷◌, ◌++◌, length, refl, ap, ◌∙◌, append_assoc, arith}
-use Rattle.std.specs.Option.{option_to_list}
+use Rattle.std.proofs.Common.{◌≡◌, ◌==◌, ℕ, ◌<◌, Bool, true, false, not, ◌&&◌, List, [], ◌∷◌, ◌++◌, length, refl, ap, ◌∙◌, append_assoc, arith}
 use Rattle.std.specs.List.{list_all, flat_map, onto_first}
-use Rattle.std.proofs.lemmas.Bool.Decides.{nat_tests}
-use Rattle.std.proofs.lemmas.List.Folds.{list_all-append}
 use Rattle.pf_text.specs.Lines.{lines_of, ended, is_line, AreLines}
 
 -- two tests that passed
@@ -21,12 +18,6 @@ is_line-cons : (byte : ℕ) (bytes : List ℕ) → is_line (byte ∷ bytes) ≡ 
 is_line-cons byte bytes e =
     let parts = both (not (byte == 10)) (is_line bytes) e in
     (not-true (byte == 10) parts.0, parts.1)
-
--- a line stays one with a byte that is no LF
-pub is_line-next : (line : List ℕ) (next : Option ℕ) (byte : ℕ) → is_line line ≡ true → next ≡ Some byte → byte ≢ 10 → is_line (line ++ option_to_list next) ≡ true
-is_line-next line next byte e is other =
-    let head : (byte == 10) ≡ false = grind (arith, nat_tests) in
-    rw (is, list_all-append (λ b. not (b == 10)) line (byte ∷ []), e, head) refl
 
 -- the lines with a byte before them
 onto_first-cons : (byte : ℕ) (lines : List (List ℕ)) → (more : List ℕ) × (others : List (List ℕ)) × (onto_first byte lines ≡ (byte ∷ more) ∷ others)

@@ -13,9 +13,13 @@ use Rattle.pf_text.specs.declared.lines.TakeError.TheVariants as takes
 use Rattle.pf_text.specs.Fields.{fields_of}
 use Rattle.pf_text.specs.Lines.{lines_of, is_line, AreLines}
 
+-- all bytes are of ASCII
+abbrev pub is_ascii : List ℕ → Bool
+is_ascii bytes = list_all (λ byte. nat_lt byte 128) bytes
+
 -- a line has at most 4,096 bytes, all of ASCII
 abbrev pub is_plain : List ℕ → Bool
-is_plain line = nat_le (length line) 4096 && list_all (λ byte. nat_lt byte 128) line
+is_plain line = nat_le (length line) 4096 && is_ascii line
 
 -- an empty line, or one that begins with `#`
 abbrev pub is_skipped : List ℕ → Bool

@@ -1,7 +1,7 @@
 -- Lines: the bytes between one LF and the next, of which the last may lack its LF.
 use Rattle.std.specs.Prelude.{◌≡◌, ℕ, ◌+◌, ◌<◌, ◌≤◌, Bool, true, not, List, [], ◌∷◌, ◌++◌, length, Option, Some, Result, Ok, Err, ◌==◌, if◌then◌else◌}
-use Rattle.std.specs.List.{list_all, flat_map, onto_first}
-use Rattle.std.specs.Io.KnownBytes.{Appends}
+use Rattle.std.specs.List.{list_all, flat_map, onto_first, position_or_len}
+use Rattle.std.specs.Io.KnownBytes.{Appends, Consumes}
 use Rattle.pf_text.specs.declared.lines.Taken.{Taken}
 use Rattle.pf_text.specs.declared.lines.Taken.TheVariants.{Line, Last, End, TooLong}
 use Rattle.pf_text.specs.declared.lines.TakeError.{TakeError}
@@ -19,6 +19,10 @@ ended line = line ++ 10 ∷ []
 -- no byte is a LF
 abbrev pub is_line : List ℕ → Bool
 is_line line = list_all (λ byte. not (byte == 10)) line
+
+-- how many bytes come before the first LF, or all
+abbrev pub line_length : List ℕ → ℕ
+line_length bytes = position_or_len (λ byte. byte == 10) bytes
 
 -- the bytes are these lines, each with its LF, and then the rest
 pub record AreLines (bytes : List ℕ) (lines : List (List ℕ)) (rest : List ℕ) : Type 0 where
@@ -38,6 +42,13 @@ Takes bytes line left (Ok Last) = (line ≡ bytes) × (left ≡ Some []) × (is_
 Takes bytes line left (Ok End) = (bytes ≡ []) × (left ≡ Some [])
 Takes bytes line left (Ok TooLong) = TakesFront bytes line left × (is_line line ≡ true) × (length line ≡ 4097)
 Takes bytes line left (Err error) = (part : List ℕ) × TakesFront bytes part left × (is_line part ≡ true)
+
+-- a part of a line was taken and stands behind what was taken of it, with its LF where that is the line's end
+pub record TakesPart (before after : Option (List ℕ)) (old new : List ℕ) (is_end : Bool) : Type 0 where
+  pub part : List ℕ
+  pub part_is : is_line part ≡ true
+  pub line_is : new ≡ old ++ part
+  pub taken : Consumes before after (if is_end then ended part else part)
 
 -- a beginning of the bytes was appended to what is known
 pub record AppendsFront (old new : Option (List ℕ)) (bytes : List ℕ) : Type 0 where

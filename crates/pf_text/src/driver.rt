@@ -6,7 +6,7 @@ ghost use Rattle.pf_text.specs.declared.driver.DriveFault.TheVariants.{Memory, W
 ghost use Rattle.pf_text.specs.declared.driver.TakeRefusal.TheVariants as refusals;
 ghost use Rattle.std.specs.Io.KnownBytes.{Appends};
 ghost use Rattle.pf_text.specs.Lines.{AppendsFront, Counts};
-ghost use Rattle.pf_text.specs.Driver.{Rules, Tells, Drives, fault_of, fault_at, step, is_plain, is_skipped};
+ghost use Rattle.pf_text.specs.Driver.{Rules, Tells, Drives, fault_of, fault_at, step, is_ascii, is_plain, is_skipped};
 
 use crate::fault::{LineError, LineFault};
 use crate::fields::fields_of;
@@ -75,11 +75,23 @@ pub enum DriveFault<F> {
     Write,
 }
 
+/// Whether all bytes are of ASCII. It has no early end, so that it takes many bytes at once.
+#[tactic(auto, using(crate::proofs::Ascii::ascii_next))]
+fn is_ascii(line: &[u8]) -> bool
+    ensures { result ≡ is_ascii line.now }
+{
+    let mut greatest = 0;
+    for byte in line {
+        greatest = greatest.max(*byte);
+    }
+    greatest < 128
+}
+
 /// Whether a line has at most `MAX_LINE` bytes, all of ASCII.
 fn is_plain(line: &[u8]) -> bool
     ensures { result ≡ is_plain line.now }
 {
-    line.len() <= MAX_LINE && line.iter().all(|byte| *byte < 128)
+    line.len() <= MAX_LINE && is_ascii(line)
 }
 
 /// Whether a line is counted and no more: it is empty or begins with `#`.

@@ -23,17 +23,23 @@ impl<'a> Bytes<'a> {
 impl Source for Bytes<'_> {
     ghost remaining = { λ source. Some source.rest.now };
 
+    ghost ready = { λ source. source.rest.now };
+
     ghost failures = { λ _. 0 };
 
     #[inline]
-    fn next_byte(&mut self) -> Result<Option<u8>, ReadFailed> {
-        match self.rest {
-            [] => Ok(None),
-            [byte, rest @ ..] => {
-                self.rest = rest;
-                Ok(Some(*byte))
-            }
-        }
+    fn fill(&mut self) -> Result<(), ReadFailed> {
+        Ok(())
+    }
+
+    #[inline]
+    fn ready(&self) -> &[u8] {
+        self.rest
+    }
+
+    #[inline]
+    fn skip(&mut self, count: usize) {
+        self.rest = &self.rest[count..];
     }
 }
 

@@ -55,17 +55,18 @@ impl<R: Read> Input<R> {
             failures: 0,
         }
     }
+}
 
-    /// Has a byte ready, if one is left.
+impl<R: Read> Source for Input<R> {
+    ghost remaining = { λ source. prepend_known (unread source.start source.end source.buffer) (R.remaining source.reader) };
+
+    ghost ready = { λ source. unread source.start source.end source.buffer };
+
+    ghost failures = { λ source. source.failures };
+
     #[tactic(auto, using(crate::proofs::Buffered::keeps_filled, crate::proofs::Buffered::keeps_unfilled, crate::proofs::Taking::keeps_same))]
     #[inline]
-    fn fill(&mut self) -> Result<(), ReadFailed>
-        requires { self.old.failures + 1 < 2 ^ 64 }
-        ensures kept { Keeps (prepend_known (unread self.old.start self.old.end self.old.buffer) (R.remaining self.old.reader))
-            (prepend_known (unread self.new.start self.new.end self.new.buffer) (R.remaining self.new.reader)) }
-        ensures end { OnOk result (self.new.start ≡ self.new.end → IsAtEnd (R.remaining self.new.reader)) }
-        ensures counted { Counts self.old.failures result self.new.failures }
-    {
+    fn fill(&mut self) -> Result<(), ReadFailed> {
         if self.start < self.end {
             return Ok(());
         }
@@ -81,23 +82,16 @@ impl<R: Read> Input<R> {
             }
         }
     }
-}
 
-impl<R: Read> Source for Input<R> {
-    ghost remaining = { λ source. prepend_known (unread source.start source.end source.buffer) (R.remaining source.reader) };
-
-    ghost failures = { λ source. source.failures };
+    #[inline]
+    fn ready(&self) -> &[u8] {
+        &self.buffer[self.start..self.end]
+    }
 
     #[tactic(auto, using(crate::proofs::Buffered::consumes_unread))]
     #[inline]
-    fn next_byte(&mut self) -> Result<Option<u8>, ReadFailed> {
-        self.fill()?;
-        if self.start == self.end {
-            return Ok(None);
-        }
-        let byte = self.buffer[self.start];
-        self.start += 1;
-        Ok(Some(byte))
+    fn skip(&mut self, count: usize) {
+        self.start += count;
     }
 }
 
