@@ -187,3 +187,17 @@ noted_same m es e count least noted steady = record {
   count_is = rw (filter-push m es e false steady) (rw append-nil noted.count_is);
   least_is = rw (filter-push m es e false steady) (rw append-nil noted.least_is);
 }
+
+-- ---- a payload that was written and is taken back
+
+-- a name that was written is held
+pub held_after : (m : Commands) (n : CommandName) (p : Payload) → get (insert m n p) n ≡ Some p
+held_after m n p = get-insert name_cmp_total m n p n ∙ ap (λ t. cond t (Some p) (get m n)) ((eq_by_cmp_equiv name_cmp_total).refl n)
+
+-- writing what was held before gives the map from before
+pub taken_back : (m : Commands) (n : CommandName) (p q : Payload) → get m n ≡ Some q → insert (insert m n p) n q ≡ m
+taken_back m n p q held = same_commands _ _ (λ name. get-insert name_cmp_total (insert m n p) n q name
+    ∙ elim (eq_by_cmp name_cmp name n) as (λ b. eq_by_cmp name_cmp name n ≡ b → cond b (Some q) (get (insert m n p) name) ≡ get m name) [
+      | true ↦ λ tied. sym held ∙ ap (get m) (sym (same_name name n tied))
+      | false ↦ λ other. get-insert name_cmp_total m n p name ∙ ap (λ t. cond t (Some p) (get m name)) other
+    ] refl)

@@ -6,7 +6,7 @@ use Rattle.std.specs.declared.cmp.Ordering.{Ordering}
 use Rattle.std.specs.declared.cmp.Ordering.TheVariants.{Less, Equal, Greater}
 use Rattle.std.specs.Ordering.{nat_cmp, ordering_then}
 use Rattle.std.proofs.lemmas.Bool.Decides.{nat_tests}
-use Rattle.std.specs.Prelude.{Option, Some}
+use Rattle.std.specs.Prelude.{Some}
 use Rattle.pf_num.specs.Fx.{IsRaw}
 use Rattle.pf_commands.specs.News.{answer_to}
 use Rattle.pf_commands.specs.declared.map.Put.{Put}
@@ -103,8 +103,7 @@ answer_to-some : (held payload : Payload) → answer_by (nat_cmp (weight held) (
 answer_to-some held payload = grind (arith, nat_tests)
 
 -- the answer to a payload, by the places of what is held and of it
-pub answered : (held payload : Payload) (a b : ℕ × ℕ × ℕ × ℕ) (found : Option Payload) (o answer : Ordering)
-    → a ≡ places held → b ≡ places payload → IsPayload held → IsPayload payload → found ≡ Some held → o ≡ places_cmp a b → o ≡ answer → answer_by answer ≡ answer_to found payload
-answered held payload a b found o answer a_is b_is held_is payload_is held_there compared same =
-    ap answer_by (sym same ∙ weight_from_places held payload a b o a_is b_is held_is payload_is compared)
-    ∙ answer_to-some held payload ∙ ap (λ f. answer_to f payload) (sym held_there)
+pub answered : (held payload : Payload) (a b : ℕ × ℕ × ℕ × ℕ) (o answer : Ordering)
+    → a ≡ places held → b ≡ places payload → IsPayload held → IsPayload payload → o ≡ places_cmp a b → o ≡ answer → answer_by answer ≡ answer_to (Some held) payload
+answered held payload a b o answer a_is b_is held_is payload_is compared same =
+    ap answer_by (sym same ∙ weight_from_places held payload a b o a_is b_is held_is payload_is compared) ∙ answer_to-some held payload

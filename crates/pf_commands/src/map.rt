@@ -1,12 +1,12 @@
 //! Maps of commands: from names to payloads, in the order of names.
 
 ghost use Rattle.std.specs.Prelude.{◌≡◌};
-ghost use Rattle.pf_commands.specs.News.{lesser};
+ghost use Rattle.pf_commands.specs.News.{answer_to, lesser};
 
 use crate::checking::{CheckFault, check};
 use crate::name::{Name, PLAYERS, TICKS};
 use crate::payload::{Command, Payload};
-use crate::weight::places_of;
+use crate::weight::{places_of, read_ranges};
 use pf_shapes::Scene;
 use std::alloc::{AllocError, Global};
 use std::cmp::Ordering;
@@ -127,39 +127,36 @@ impl CommandMap {
         ensures held { IsSome (map.get self.old command.now.name) → IsOk result }
         ensures range { IsCommand command.now }
     {
-        let put = self.answer(command);
-        if put.is_change() {
-            self.write(command)?;
+        let Some(held) = self.write(command)? else {
+            return Ok(Put::New);
+        };
+        let put = compared(&held, &command.payload);
+        if !put.is_change() {
+            self.write(&command_of(&command.name, &held))?;
         }
         Ok(put)
     }
 
     /// What putting the command would answer.
     fn answer(&self, command: &Command) -> Put
-        ensures value { result ≡ answer_to (map.get self.now command.now.name) command.now.payload }
-        ensures range { IsCommand command.now }
+        ensures { result ≡ answer_to (map.get self.now command.now.name) command.now.payload }
     {
-        let _tick = command.name.tick();
-        let weight = places_of(&command.payload);
         match self.get(command.name) {
             None => Put::New,
-            Some(held) => match places_of(&held).cmp(&weight) {
-                Ordering::Less => Put::Greater,
-                Ordering::Equal => Put::Same,
-                Ordering::Greater => Put::Lesser,
-            },
+            Some(held) => compared(&held, &command.payload),
         }
     }
 
-    /// Holds the command's payload under its name from now on.
-    fn write(&mut self, command: &Command) -> Result<(), AllocError>
-        requires { IsCommand command.now }
+    /// Holds the command's payload under its name from now on, and answers what it held there.
+    fn write(&mut self, command: &Command) -> Result<Option<Payload>, AllocError>
+        ensures value { IfOk result (λ held. held ≡ map.get self.old command.now.name) }
         ensures ok { OnOk result (self.new ≡ map.insert self.old command.now.name command.now.payload) }
         ensures err { OnErr result (self.new ≡ self.old) }
         ensures held { IsSome (map.get self.old command.now.name) → IsOk result }
+        ensures range { IsCommand command.now }
     {
-        self.commands.insert(command.name, command.payload)?;
-        Ok(())
+        read_ranges(command);
+        Ok(self.commands.insert(command.name, command.payload)?)
     }
 
     /// The payloads of the tick, in order of player, then number. Takes logarithmic time, and then time and memory for
@@ -261,6 +258,17 @@ impl CommandMap {
             }
         }
         Ok(())
+    }
+}
+
+/// What putting a payload under a name answers where another is held there.
+fn compared(held: &Payload, payload: &Payload) -> Put
+    ensures { result ≡ answer_to (Some held.now) payload.now }
+{
+    match places_of(held).cmp(&places_of(payload)) {
+        Ordering::Less => Put::Greater,
+        Ordering::Equal => Put::Same,
+        Ordering::Greater => Put::Lesser,
     }
 }
 

@@ -2,9 +2,10 @@
 
 ghost use Rattle.std.specs.Prelude.{◌≡◌};
 ghost use Rattle.std.specs.Int.{w64, cast_unsigned};
+ghost use Rattle.pf_commands.specs.Merge.{IsCommand};
 ghost use Rattle.pf_commands.specs.Payload.{IsPayload, kind_of, body_of, x_of, y_of};
 
-use crate::payload::Payload;
+use crate::payload::{Command, Payload};
 
 /// The places of a payload's weight, the highest first: kind, body, x and y in two's complement. Payloads are compared
 /// by weight as these are.
@@ -19,4 +20,12 @@ pub(crate) fn places_of(payload: &Payload) -> (u8, u16, u64, u64)
         Payload::Turn { x, .. } => (1, body, x.raw().cast_unsigned(), 0),
         Payload::Stop { .. } => (2, body, 0, 0),
     }
+}
+
+/// Has it known that a command's numbers are in the ranges of their types. It does nothing.
+pub(crate) fn read_ranges(command: &Command)
+    ensures { IsCommand command.now }
+{
+    let _tick = command.name.tick();
+    let _places = places_of(&command.payload);
 }

@@ -18,9 +18,14 @@ returns-in_err-insert-clause-held c some =
 pub invariant_of-self-2 : goal.invariant_of-self-2
 invariant_of-self-2 c =
     subst AreCommands (sym (inserted c.self.inside.commands.entries _ c.args.command.now.name c.args.command.now.payload c.in_ok-insert.ensures.updates.0))
-    (AreCommands-insert _ c.args.command.now.name c.args.command.now.payload c.self.invariant c.requires.name c.requires.payload)
+    (AreCommands-insert _ c.args.command.now.name c.args.command.now.payload c.self.invariant c.read_ranges.ensures.name c.read_ranges.ensures.payload)
 
 pub returns-clause-ok : goal.returns-clause-ok
 returns-clause-ok c =
     inserted c.self.inside.commands.entries _ c.args.command.now.name c.args.command.now.payload c.in_ok-insert.ensures.updates.0
     ∙ ap (λ m. map.insert m c.args.command.now.name c.args.command.now.payload) c.self.view_is
+
+pub returns-clause-value : goal.returns-clause-value
+returns-clause-value c =
+    c.in_ok-insert.ensures.old ∙ lookup-get c.args.command.now.name c.self.inside.commands.entries
+    ∙ ap (λ m. map.get m c.args.command.now.name) c.self.view_is
