@@ -14,7 +14,7 @@ use Rattle.pf_console.specs.declared.event.Reply.{Reply}
 use Rattle.pf_console.specs.declared.event.Reply.TheVariants.{Issued, Took, Advanced, Shown}
 use Rattle.pf_console.specs.declared.event.Refusal.{Refusal}
 use Rattle.pf_console.specs.declared.peer.Peer.{Peer}
-use Rattle.pf_console.specs.Peer.{allowed, framed, told, put_of, issue_of, advance_of, show_of, next_command, next_number, happens, after, played, replies}
+use Rattle.pf_console.specs.Peer.{allowed, with_frame, told, putting, issuing, advancing, showing, next_command, next_number, happens, after, played, replies}
 use Rattle.pf_console.specs.Laws.{brought, handed_by, handed}
 
 -- a call that brings a command, refused or not: its scene stays, and its map is the one with the command put in
@@ -26,51 +26,47 @@ record Brings {A : Type 0} (p : Peer) (c : Command) (r : Result (A × Peer) Refu
 refused : {A : Type 0} (p : Peer) (c : Command) (refusal : Refusal) → Brings {A = A} p c (Err refusal)
 refused p c refusal = record { scene = λ reply. refl; commands = λ reply. refl }
 
--- one of two calls
-either : {A : Type 0} (p : Peer) (c : Command) (test : Bool) (r s : Result (A × Peer) Refusal) → Brings p c r → Brings p c s
-    → Brings p c (if test then r else s)
-either p c true r s first second = first
-either p c false r s first second = second
+-- what holds of two calls holds of the one that a test chooses
+either : {A : Type 0} (Holds : Result (A × Peer) Refusal → Type 0) (test : Bool) (r s : Result (A × Peer) Refusal) → Holds r → Holds s
+    → Holds (if test then r else s)
+either Holds true r s first second = first
+either Holds false r s first second = second
 
 put_allowed : (p : Peer) (c : Command) (put : Put) (checked : Result (Unit {0}) CheckFault) →
     Brings p c (allowed checked (put, record p { commands = merge p.commands (one c.name c.payload) }))
 put_allowed p c put (Ok done) = record { scene = λ reply. refl; commands = λ reply. refl }
 put_allowed p c put (Err fault) = record { scene = λ reply. refl; commands = λ reply. refl }
 
-put_framed : (p : Peer) (c : Command) (put : Put) (checked : Result (Unit {0}) CheckFault) →
-    Brings p c (framed c (allowed checked (put, record p { commands = merge p.commands (one c.name c.payload) })))
-put_framed p c put (Ok done) = record { scene = λ reply. refl; commands = λ reply. refl }
-put_framed p c put (Err fault) = record { scene = λ reply. refl; commands = λ reply. refl }
+put_with_frame : (p : Peer) (c : Command) (put : Put) (checked : Result (Unit {0}) CheckFault) →
+    Brings p c (with_frame c (allowed checked (put, record p { commands = merge p.commands (one c.name c.payload) })))
+put_with_frame p c put (Ok done) = record { scene = λ reply. refl; commands = λ reply. refl }
+put_with_frame p c put (Err fault) = record { scene = λ reply. refl; commands = λ reply. refl }
 
-puts : (p : Peer) (c : Command) → Brings p c (put_of p c)
-unfolding put_of
+puts : (p : Peer) (c : Command) → Brings p c (putting p c)
+unfolding putting
 puts p c = put_allowed p c (answer_to (get p.commands c.name) c.payload) (check_of p.scene c.name c.payload)
 
-issues : (p : Peer) (payload : Payload) → Brings p (next_command p payload) (issue_of p payload)
-unfolding issue_of put_of
+issues : (p : Peer) (payload : Payload) → Brings p (next_command p payload) (issuing p payload)
+unfolding issuing putting
 issues p payload =
     let c = next_command p payload in
-    either p c (nat_le 1048576 p.reached) (Err _) _ (refused p c _)
-    (either p c (nat_le 65536 (next_number p.commands p.reached 0)) (Err _) _ (refused p c _)
-    (put_framed p c (answer_to (get p.commands c.name) c.payload) (check_of p.scene c.name c.payload)))
+    either (Brings p c) (nat_le 1048576 p.reached) (Err _) _ (refused p c _)
+    (either (Brings p c) (nat_le 65536 (next_number p.commands p.reached 0)) (Err _) _ (refused p c _)
+    (put_with_frame p c (answer_to (get p.commands c.name) c.payload) (check_of p.scene c.name c.payload)))
 
 -- a call that changes neither scene nor commands
 record Keeps {A : Type 0} (p : Peer) (r : Result (A × Peer) Refusal) : Type 0 where
   scene : (reply : A → Reply) → (told reply p r).1.scene ≡ p.scene
   commands : (reply : A → Reply) → (told reply p r).1.commands ≡ p.commands
 
-keeps : {A : Type 0} (p : Peer) (test : Bool) (r s : Result (A × Peer) Refusal) → Keeps p r → Keeps p s → Keeps p (if test then r else s)
-keeps p true r s first second = first
-keeps p false r s first second = second
-
-advances : (p : Peer) (ticks : ℕ) → Keeps p (advance_of p ticks)
-unfolding advance_of
-advances p ticks = keeps p (nat_le (p.reached + ticks) 1048576) _ _
+advances : (p : Peer) (ticks : ℕ) → Keeps p (advancing p ticks)
+unfolding advancing
+advances p ticks = either (Keeps p) (nat_le (p.reached + ticks) 1048576) _ _
     (record { scene = λ reply. refl; commands = λ reply. refl }) (record { scene = λ reply. refl; commands = λ reply. refl })
 
-shows : (p : Peer) (tick : ℕ) → Keeps p (show_of p tick)
-unfolding show_of
-shows p tick = keeps p (nat_le tick p.reached) _ _
+shows : (p : Peer) (tick : ℕ) → Keeps p (showing p tick)
+unfolding showing
+shows p tick = either (Keeps p) (nat_le tick p.reached) _ _
     (record { scene = λ reply. refl; commands = λ reply. refl }) (record { scene = λ reply. refl; commands = λ reply. refl })
 
 -- no event changes the scene

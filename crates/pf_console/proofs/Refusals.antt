@@ -8,7 +8,7 @@ use Rattle.pf_console.specs.declared.event.Reply.{Reply}
 use Rattle.pf_console.specs.declared.event.Reply.TheVariants.{Issued, Took, Advanced, Shown, Refused}
 use Rattle.pf_console.specs.declared.event.Refusal.{Refusal}
 use Rattle.pf_console.specs.declared.peer.Peer.{Peer}
-use Rattle.pf_console.specs.Peer.{told, take_of, issue_of, advance_of, show_of, happens, reply_of, after}
+use Rattle.pf_console.specs.Peer.{told, taking, issuing, advancing, showing, happens, reply_of, after}
 
 -- a reply that is no refusal
 abbrev IsAnswer : Reply → Type 0
@@ -33,7 +33,7 @@ shown_answers peer tick world refusal is = search rules
 
 pub refused_is_same : (p : Peer) (event : Event) (refusal : Refusal) → reply_of p event ≡ Refused refusal → after p event ≡ p
 unfolding happens
-refused_is_same p (Issue peer payload) refusal = told_refused (λ frame. Issued peer frame) p (issue_of p payload) refusal (issued_answers peer)
-refused_is_same p (Take peer frame) refusal = told_refused (λ put. Took peer put) p (take_of p frame) refusal (took_answers peer)
-refused_is_same p (Advance peer ticks) refusal = told_refused (λ reached. Advanced peer reached) p (advance_of p ticks) refusal (advanced_answers peer)
-refused_is_same p (Show peer tick) refusal = told_refused (λ world. Shown peer tick world) p (show_of p tick) refusal (shown_answers peer tick)
+refused_is_same p (Issue peer payload) refusal = told_refused (λ frame. Issued peer frame) p (issuing p payload) refusal (issued_answers peer)
+refused_is_same p (Take peer frame) refusal = told_refused (λ put. Took peer put) p (taking p frame) refusal (took_answers peer)
+refused_is_same p (Advance peer ticks) refusal = told_refused (λ reached. Advanced peer reached) p (advancing p ticks) refusal (advanced_answers peer)
+refused_is_same p (Show peer tick) refusal = told_refused (λ world. Shown peer tick world) p (showing p tick) refusal (shown_answers peer tick)

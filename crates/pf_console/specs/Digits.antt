@@ -1,7 +1,10 @@
--- Bytes in hexadecimal digits.
+-- Frames in hexadecimal digits.
 use Rattle.std.specs.Prelude.{ℕ, List, Result, Ok, Err}
-use Rattle.hex.specs.Hex.{decode_of}
+use Rattle.hex.specs.Hex.{decode_of as hex_bytes}
 use Rattle.hex.specs.declared.error.FromHexError.{FromHexError}
+use Rattle.pf_commands.specs.declared.fault.FrameFault.{FrameFault}
+use Rattle.pf_commands.specs.declared.payload.Command.{Command}
+use Rattle.pf_commands.specs.Frame.{decode_of}
 use Rattle.pf_text.specs.declared.fault.LineFault.{LineFault}
 use Rattle.pf_text.specs.declared.fault.LineFault.TheVariants.{BadNumber}
 
@@ -11,4 +14,12 @@ spelled (Err error) = Err BadNumber
 
 -- the bytes that digits of either case spell, two digits a byte
 abbrev pub bytes_of : List ℕ → Result (List ℕ) LineFault
-bytes_of digits = spelled (decode_of digits)
+bytes_of digits = spelled (hex_bytes digits)
+
+abbrev pub decoded : Result (List ℕ) LineFault → Result (Result Command FrameFault) LineFault
+decoded (Ok bytes) = Ok (decode_of bytes)
+decoded (Err fault) = Err fault
+
+-- the command that these bytes spell, or why they spell none
+abbrev pub frame_of : List ℕ → Result (Result Command FrameFault) LineFault
+frame_of digits = decoded (bytes_of digits)

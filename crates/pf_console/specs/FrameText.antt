@@ -3,25 +3,24 @@ use Rattle.std.specs.Prelude.{◌≡◌, ℕ, List, ◌++◌, Option, Some, Resu
 use Rattle.pf_text.specs.declared.fault.LineFault.{LineFault}
 use Rattle.pf_commands.specs.declared.fault.FrameFault.{FrameFault}
 use Rattle.pf_commands.specs.declared.payload.Command.{Command}
-use Rattle.pf_commands.specs.Frame.{decode_of}
 use Rattle.pf_console.specs.declared.fault.DigitsFault.{DigitsFault}
 use Rattle.pf_console.specs.declared.fault.DigitsFault.TheVariants.{BadNumber, Refused}
 use Rattle.pf_console.specs.declared.fault.PlayFault.{PlayFault}
 use Rattle.pf_console.specs.declared.fault.PlayFault.TheVariants.{Frame, Memory, Write}
-use Rattle.pf_console.specs.Digits.{bytes_of}
+use Rattle.pf_console.specs.Digits.{frame_of}
 use Rattle.pf_console.specs.Print.{command_line}
 
 abbrev pub judged : Result Command FrameFault → Result Command DigitsFault
 judged (Ok command) = Ok command
 judged (Err fault) = Err (Refused fault)
 
-abbrev pub framed : Result (List ℕ) LineFault → Result Command DigitsFault
-framed (Ok bytes) = judged (decode_of bytes)
+abbrev pub framed : Result (Result Command FrameFault) LineFault → Result Command DigitsFault
+framed (Ok frame) = judged frame
 framed (Err fault) = Err BadNumber
 
 -- the command that digits spell, or why they spell none
 abbrev pub digits_command : List ℕ → Result Command DigitsFault
-digits_command digits = framed (bytes_of digits)
+digits_command digits = framed (frame_of digits)
 
 -- what was read is what the digits spell, unless memory ran out
 abbrev pub Reads : Result Command PlayFault → Result Command DigitsFault → Type 0

@@ -8,13 +8,12 @@ use Rattle.pf_text.specs.declared.fault.LineFault.TheVariants.{BadLine}
 use Rattle.pf_text.specs.Numbers.{whole_of, within}
 use Rattle.pf_console.specs.declared.event.Event.{Event}
 use Rattle.pf_commands.specs.declared.payload.Payload.TheVariants.{Push, Turn, Stop}
-use Rattle.pf_commands.specs.Frame.{decode_of}
 use Rattle.pf_console.specs.declared.event.Event.TheVariants.{Issue, Take, Advance, Show}
 use Rattle.pf_console.specs.declared.grammar.EventWord.{EventWord}
 use Rattle.pf_console.specs.declared.grammar.EventWord.TheVariants as words
 use Rattle.pf_console.specs.declared.grammar.Kind.{Kind}
 use Rattle.pf_console.specs.declared.grammar.Kind.TheVariants as kinds
-use Rattle.pf_console.specs.Digits.{bytes_of}
+use Rattle.pf_console.specs.Digits.{frame_of}
 
 infixl 10 ◌>>=◌
 abbrev pub ◌>>=◌ : {A B : Type 0} → Result A LineFault → (A → Result B LineFault) → Result B LineFault
@@ -100,8 +99,8 @@ issue_of args = Err BadLine
 unfoldable pub take_of : List (List ℕ) → Result Event LineFault
 take_of (peer ∷ digits ∷ []) = do
   peer ← peer_of peer
-  bytes ← bytes_of digits
-  Ok (Take peer (decode_of bytes))
+  frame ← frame_of digits
+  Ok (Take peer frame)
 take_of args = Err BadLine
 
 -- `advance P K`

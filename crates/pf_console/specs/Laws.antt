@@ -14,7 +14,7 @@ use Rattle.pf_console.specs.declared.peer.Peer.{Peer}
 use Rattle.pf_console.specs.declared.phase.Phase.{Phase}
 use Rattle.pf_console.specs.declared.phase.Phase.TheVariants.{Playing}
 use Rattle.pf_console.specs.Grammar.{event_of}
-use Rattle.pf_console.specs.Peer.{after, issue_of, next_command, played, put_of, replies}
+use Rattle.pf_console.specs.Peer.{after, issuing, next_command, played, putting, replies}
 use Rattle.pf_console.specs.Print.{reply_text}
 
 -- a line says an event
@@ -51,8 +51,8 @@ brought (Err refusal) c = []
 
 -- the command that an event brings to a peer, if any
 abbrev pub handed_by : Peer → Event → List Command
-handed_by p (Issue peer payload) = brought (issue_of p payload) (next_command p payload)
-handed_by p (Take peer (Ok c)) = brought (put_of p c) c
+handed_by p (Issue peer payload) = brought (issuing p payload) (next_command p payload)
+handed_by p (Take peer (Ok c)) = brought (putting p c) c
 handed_by p (Take peer (Err fault)) = []
 handed_by p (Advance peer ticks) = []
 handed_by p (Show peer tick) = []

@@ -32,15 +32,15 @@ allowed (Ok done) answer = Ok answer
 allowed (Err fault) answer = Err (Check fault)
 
 -- a command that the scene allows is put into the map
-unfoldable pub put_of : Peer → Command → Result (Put × Peer) Refusal
-put_of p c =
+unfoldable pub putting : Peer → Command → Result (Put × Peer) Refusal
+putting p c =
     allowed (check_of p.scene c.name c.payload)
     (answer_to (get p.commands c.name) c.payload, record p { commands = merge p.commands (one c.name c.payload) })
 
 -- a frame is taken where it spells a command
-abbrev pub take_of : Peer → Result Command FrameFault → Result (Put × Peer) Refusal
-take_of p (Ok c) = put_of p c
-take_of p (Err fault) = Err (Frame fault)
+abbrev pub taking : Peer → Result Command FrameFault → Result (Put × Peer) Refusal
+taking p (Ok c) = putting p c
+taking p (Err fault) = Err (Frame fault)
 
 -- one more than the greatest number below n under which the map holds a command of the tick and player, or 0
 unfoldable pub number_below : Commands → ℕ → ℕ → ℕ → ℕ
@@ -62,25 +62,25 @@ abbrev pub next_command : Peer → Payload → Command
 next_command p payload =
     record { name = record { tick = p.reached; player = 0; number = next_number p.commands p.reached 0 }; payload = payload }
 
-abbrev pub framed : Command → Result (Put × Peer) Refusal → Result (List ℕ × Peer) Refusal
-framed c (Ok put) = Ok (spelling c, put.1)
-framed c (Err refusal) = Err refusal
+abbrev pub with_frame : Command → Result (Put × Peer) Refusal → Result (List ℕ × Peer) Refusal
+with_frame c (Ok put) = Ok (spelling c, put.1)
+with_frame c (Err refusal) = Err refusal
 
 -- a command of its own is named by the reached tick and the next number, and put
-unfoldable pub issue_of : Peer → Payload → Result (List ℕ × Peer) Refusal
-issue_of p payload =
+unfoldable pub issuing : Peer → Payload → Result (List ℕ × Peer) Refusal
+issuing p payload =
     if nat_le 1048576 p.reached then Err TickLimit
     else (if nat_le 65536 (next_number p.commands p.reached 0) then Err NumbersSpent
-    else framed (next_command p payload) (put_of p (next_command p payload)))
+    else with_frame (next_command p payload) (putting p (next_command p payload)))
 
 -- a peer goes on by so many ticks, up to 1,048,576
-unfoldable pub advance_of : Peer → ℕ → Result (ℕ × Peer) Refusal
-advance_of p ticks =
+unfoldable pub advancing : Peer → ℕ → Result (ℕ × Peer) Refusal
+advancing p ticks =
     if nat_le (p.reached + ticks) 1048576 then Ok (p.reached + ticks, record p { reached = p.reached + ticks }) else Err TickLimit
 
 -- it shows each tick that it has reached: the simulation from tick zero of the commands that it holds
-unfoldable pub show_of : Peer → ℕ → Result (List State × Peer) Refusal
-show_of p tick = if nat_le tick p.reached then Ok (sim p.scene p.commands tick, p) else Err (NotReached p.reached)
+unfoldable pub showing : Peer → ℕ → Result (List State × Peer) Refusal
+showing p tick = if nat_le tick p.reached then Ok (sim p.scene p.commands tick, p) else Err (NotReached p.reached)
 
 -- ---- the session
 
@@ -91,10 +91,10 @@ told reply p (Err refusal) = (Refused refusal, p)
 
 -- what an event is answered with, and the peer after it
 unfoldable pub happens : Peer → Event → Reply × Peer
-happens p (Issue peer payload) = told (λ frame. Issued peer frame) p (issue_of p payload)
-happens p (Take peer frame) = told (λ put. Took peer put) p (take_of p frame)
-happens p (Advance peer ticks) = told (λ reached. Advanced peer reached) p (advance_of p ticks)
-happens p (Show peer tick) = told (λ world. Shown peer tick world) p (show_of p tick)
+happens p (Issue peer payload) = told (λ frame. Issued peer frame) p (issuing p payload)
+happens p (Take peer frame) = told (λ put. Took peer put) p (taking p frame)
+happens p (Advance peer ticks) = told (λ reached. Advanced peer reached) p (advancing p ticks)
+happens p (Show peer tick) = told (λ world. Shown peer tick world) p (showing p tick)
 
 abbrev pub reply_of : Peer → Event → Reply
 reply_of p event = (happens p event).0

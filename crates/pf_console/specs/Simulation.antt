@@ -86,10 +86,10 @@ step s world payloads = map (body_step (pull_of s.gravity)) (ordered s.fixtures 
 
 -- so many ticks after a world at a tick, with the commands of these ticks
 unfoldable pub sim_from : Setting → Commands → List State → ℕ → ℕ → List State
-sim_from s commands base tick zero = base
-sim_from s commands base tick (suc ticks) =
-    step s (sim_from s commands base tick ticks) (payloads_at commands (tick + ticks))
+sim_from s commands base since zero = base
+sim_from s commands base since (suc ticks) =
+    step s (sim_from s commands base since ticks) (payloads_at commands (since + ticks))
 
 -- the world of a scene at a tick, by these commands
 abbrev pub sim : Setting → Commands → ℕ → List State
-sim s commands tick = sim_from s commands s.starts 0 tick
+sim s commands ticks = sim_from s commands s.starts 0 ticks

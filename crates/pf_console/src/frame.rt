@@ -3,10 +3,10 @@
 ghost use Rattle.std.specs.Prelude.{◌≡◌, ℕ, ◌+◌, ◌^◌, ◌<◌, List, Some, IsErrOf};
 ghost use Rattle.pf_console.specs.FrameText.{Reads, digits_command, PrintsFrame};
 
-use crate::digits::bytes;
+use crate::digits::frame;
 use crate::fault::{DigitsFault, PlayFault};
 use crate::print::command_text;
-use pf_commands::{Command, decode};
+use pf_commands::Command;
 use pf_text::{LineError, Sink};
 use std::alloc::Global;
 
@@ -14,14 +14,11 @@ use std::alloc::Global;
 fn read(alloc: Global, digits: &[u8]) -> Result<Command, PlayFault>
     ensures { Reads result (digits_command digits.now) }
 {
-    let frame = match bytes(alloc, digits) {
-        Ok(frame) => frame,
-        Err(LineError::Memory) => return Err(PlayFault::Memory),
-        Err(LineError::Fault(_)) => return Err(PlayFault::Frame(DigitsFault::BadNumber)),
-    };
-    match decode(&frame) {
-        Ok(command) => Ok(command),
-        Err(fault) => Err(PlayFault::Frame(DigitsFault::Refused(fault))),
+    match frame(alloc, digits) {
+        Ok(Ok(command)) => Ok(command),
+        Ok(Err(fault)) => Err(PlayFault::Frame(DigitsFault::Refused(fault))),
+        Err(LineError::Memory) => Err(PlayFault::Memory),
+        Err(LineError::Fault(_)) => Err(PlayFault::Frame(DigitsFault::BadNumber)),
     }
 }
 

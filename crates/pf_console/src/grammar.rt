@@ -4,9 +4,9 @@ ghost use Rattle.std.specs.Prelude.{◌≡◌, map};
 ghost use Rattle.pf_text.specs.Fault.{Gives};
 ghost use Rattle.pf_console.specs.Grammar.{peer_of, tick_of, body_of, real_of, word_of, kind_of, push_of, turn_of, stop_of, issue_of, take_of, advance_of, show_of, event_of};
 
-use crate::digits::bytes;
+use crate::digits::frame;
 use crate::event::Event;
-use pf_commands::{Payload, decode};
+use pf_commands::Payload;
 use pf_num::Fx;
 use pf_text::{LineError, LineFault, Spelled, number};
 use std::alloc::Global;
@@ -170,8 +170,7 @@ fn take(alloc: Global, arguments: &[&[u8]]) -> Result<Event, LineError>
         return Err(LineError::Fault(LineFault::BadLine));
     };
     let peer = peer(of)?;
-    let bytes = bytes(alloc, digits)?;
-    let frame = decode(&bytes);
+    let frame = frame(alloc, digits)?;
     Ok(Event::Take { peer, frame })
 }
 

@@ -24,7 +24,7 @@ pub struct Peer {
 impl Peer {
     ghost use Rattle.std.specs.Prelude.{◌≡◌, IfOk, OnOk, OnErr};
     ghost use Rattle.pf_console.specs.declared.event.Reply.TheVariants.{Issued, Took, Advanced, Shown};
-    ghost use Rattle.pf_console.specs.Peer.{fresh, take_of, issue_of, advance_of, show_of, told, happens, next_number, NumberIs};
+    ghost use Rattle.pf_console.specs.Peer.{fresh, taking, issuing, advancing, showing, told, happens, next_number, NumberIs};
 
     /// A peer at tick 0 that holds no commands.
     pub fn new(alloc: Global, scene: Scene) -> Peer
@@ -63,9 +63,9 @@ impl Peer {
         }
     }
 
-    #[tactic(auto, unfolding(crate::specs::Peer::issue_of, crate::specs::Peer::put_of))]
+    #[tactic(auto, unfolding(crate::specs::Peer::issuing, crate::specs::Peer::putting))]
     fn issue(&mut self, peer: u8, payload: Payload) -> Result<Reply, AllocError>
-        ensures reply { IfOk result (λ reply. (reply, self.new) ≡ told (λ frame. Issued peer frame) self.old (issue_of self.old payload)) }
+        ensures reply { IfOk result (λ reply. (reply, self.new) ≡ told (λ frame. Issued peer frame) self.old (issuing self.old payload)) }
         ensures err { OnErr result (self.new ≡ self.old) }
         ensures scene { self.new.scene ≡ self.old.scene }
     {
@@ -89,9 +89,9 @@ impl Peer {
         })
     }
 
-    #[tactic(auto, unfolding(crate::specs::Peer::put_of))]
+    #[tactic(auto, unfolding(crate::specs::Peer::putting))]
     fn take(&mut self, peer: u8, frame: Result<Command, FrameFault>) -> Result<Reply, AllocError>
-        ensures reply { IfOk result (λ reply. (reply, self.new) ≡ told (λ put. Took peer put) self.old (take_of self.old frame)) }
+        ensures reply { IfOk result (λ reply. (reply, self.new) ≡ told (λ put. Took peer put) self.old (taking self.old frame)) }
         ensures err { OnErr result (self.new ≡ self.old) }
         ensures scene { self.new.scene ≡ self.old.scene }
     {
@@ -106,9 +106,9 @@ impl Peer {
         Ok(Reply::Took { peer, put })
     }
 
-    #[tactic(auto, unfolding(crate::specs::Peer::advance_of))]
+    #[tactic(auto, unfolding(crate::specs::Peer::advancing))]
     fn advance(&mut self, peer: u8, ticks: u32) -> Reply
-        ensures reply { (result, self.new) ≡ told (λ reached. Advanced peer reached) self.old (advance_of self.old ticks) }
+        ensures reply { (result, self.new) ≡ told (λ reached. Advanced peer reached) self.old (advancing self.old ticks) }
         ensures scene { self.new.scene ≡ self.old.scene }
     {
         match self.reached.checked_add(ticks) {
@@ -120,9 +120,9 @@ impl Peer {
         }
     }
 
-    #[tactic(auto, unfolding(crate::specs::Peer::show_of))]
+    #[tactic(auto, unfolding(crate::specs::Peer::showing))]
     fn show(&self, alloc: Global, peer: u8, tick: u32) -> Result<Reply, AllocError>
-        ensures { IfOk result (λ reply. (reply, self.now) ≡ told (λ world. Shown peer tick world) self.now (show_of self.now tick)) }
+        ensures { IfOk result (λ reply. (reply, self.now) ≡ told (λ world. Shown peer tick world) self.now (showing self.now tick)) }
     {
         if tick > self.reached {
             return Ok(Reply::Refused(Refusal::NotReached(self.reached)));

@@ -10,6 +10,9 @@ use pf_commands::{Command, Payload};
 use pf_shapes::{BodyState, Fixture};
 use std::alloc::{AllocError, Global};
 
+/// Room for the text of a reply of one line.
+const LINE_ROOM: usize = 64;
+
 /// Adds a word and numbers.
 fn push_words(text: &mut String, word: &str, numbers: &[i64]) -> Result<(), AllocError>
     ensures { OnOk result (string_bytes text.new ≡ string_bytes text.old ++ words_text word.now numbers.now) }
@@ -161,7 +164,7 @@ fn push_block(
 pub fn reply_text(alloc: Global, fixtures: &[Fixture], reply: &Reply) -> Result<String, AllocError>
     ensures { IfOk result (λ text. string_bytes text ≡ reply_text fixtures.now reply.now) }
 {
-    let mut text = String::new(alloc);
+    let mut text = String::with_capacity(alloc, LINE_ROOM)?;
     match reply {
         Reply::Issued { peer, frame } => {
             let digits = hex::encode(alloc, frame.as_slice())?;
