@@ -18,11 +18,11 @@
 //! |------------|-----------------|-------------------------------------------------------------|
 //! | `add`      | x = 0           | y = (i & 0xffff) * 2^30; x = add(x, y); if x == M: x = -M   |
 //! | `mul`      | x = 2^24        | y = 2^24 + (i & 0xffff); x = mul(x, y);                     |
-//! |            |                 | if x > 2^30: x = x - 1072693248   (2^30 - 2^20)             |
+//! |            |                 | if x > 2^30: x = 2^24                                       |
 //! | `div`      | x = 2^30        | y = 2^24 + (i & 0xffff); x = div(x, y);                     |
-//! |            |                 | if x < 2^20: x = x + 1072693248                             |
+//! |            |                 | if x < 2^20: x = x + 1072693248   (2^30 - 2^20)             |
 //! | `mul-wide` | x = 2^50        | y = 2^24 + (i & 0xffff); x = mul(x, y);                     |
-//! |            |                 | if x > 2^54: x = x - 2^53                                   |
+//! |            |                 | if x > 2^54: x = 2^50                                       |
 //! | `div-wide` | x = 2^54        | y = 2^24 + (i & 0xffff); x = div(x, y);                     |
 //! |            |                 | if x < 2^50: x = x + 2^53                                   |
 //!
@@ -238,14 +238,14 @@ fn add_chain(count: u64) -> i64 {
     x
 }
 
-/// Products with numbers beside 1, taken back by `back` where they are above `most`.
+/// Products with numbers beside 1, from `start` again where they are above `most`.
 #[inline(always)]
-fn mul_chain(count: u64, start: i64, most: i64, back: i64) -> i64 {
+fn mul_chain(count: u64, start: i64, most: i64) -> i64 {
     let mut x = start;
     for i in 0..count {
         x = mul(x, beside_one(i));
         if x > most {
-            x -= back;
+            x = start;
         }
     }
     x
@@ -268,9 +268,9 @@ fn chain(operation: &str, count: u64) -> Option<i64> {
     let step = (1 << 30) - (1 << 20);
     match operation {
         "add" => Some(add_chain(count)),
-        "mul" => Some(mul_chain(count, 1 << 24, 1 << 30, step)),
+        "mul" => Some(mul_chain(count, 1 << 24, 1 << 30)),
         "div" => Some(div_chain(count, 1 << 30, 1 << 20, step)),
-        "mul-wide" => Some(mul_chain(count, 1 << 50, 1 << 54, 1 << 53)),
+        "mul-wide" => Some(mul_chain(count, 1 << 50, 1 << 54)),
         "div-wide" => Some(div_chain(count, 1 << 54, 1 << 50, 1 << 53)),
         "root" => Some(root_chain(count)),
         "length" => Some(length_chain(count)),

@@ -19,9 +19,9 @@ beside_one i = pos (2 ^ 24 + i % 65536)
 unfoldable pub add_step : ℤ → ℕ → ℤ
 add_step x i = let y = sum x (pos (i % 65536 * 2 ^ 30)) in if int_lt y greatest then y else neg_ℤ greatest
 
--- a product, taken back where it is above a limit
+-- a product, or the first number again where it is above a limit
 unfoldable pub mul_step : ℤ → ℤ → ℤ → ℕ → ℤ
-mul_step most back x i = let y = product x (beside_one i) in if int_lt most y then difference y back else y
+mul_step most first x i = let y = product x (beside_one i) in if int_lt most y then first else y
 
 -- a quotient, raised where it is below a limit
 unfoldable pub div_step : ℤ → ℤ → ℤ → ℕ → ℤ
@@ -45,9 +45,9 @@ turns (suc i) = turned (turns i) (beside_one i)
 -- the last number of each operation's chain
 abbrev pub last_of : Operation → ℕ → ℤ
 last_of Add n = chain add_step (pos 0) n
-last_of Mul n = chain (mul_step (pos (2 ^ 30)) (pos (2 ^ 30 - 2 ^ 20))) (pos (2 ^ 24)) n
+last_of Mul n = chain (mul_step (pos (2 ^ 30)) (pos (2 ^ 24))) (pos (2 ^ 24)) n
 last_of Div n = chain (div_step (pos (2 ^ 20)) (pos (2 ^ 30 - 2 ^ 20))) (pos (2 ^ 30)) n
-last_of MulWide n = chain (mul_step (pos (2 ^ 54)) (pos (2 ^ 53))) (pos (2 ^ 50)) n
+last_of MulWide n = chain (mul_step (pos (2 ^ 54)) (pos (2 ^ 50))) (pos (2 ^ 50)) n
 last_of DivWide n = chain (div_step (pos (2 ^ 50)) (pos (2 ^ 53))) (pos (2 ^ 54)) n
 last_of Root n = chain root_step (pos (2 ^ 24)) n
 last_of Length n = chain length_step (pos (2 ^ 24)) n

@@ -43,18 +43,14 @@ fn add_step(x: Fx, i: u64) -> Fx
     if sum < Fx::MAX { sum } else { Fx::MAX.neg() }
 }
 
-/// A product, taken back by `back` where it is above `most`.
+/// A product, or `first` again where it is above `most`.
 #[inline]
 #[tactic(auto, unfolding(crate::specs::Chain::mul_step))]
-fn mul_step(x: Fx, i: u64, most: Fx, back: Fx) -> Fx
-    ensures { result ≡ mul_step most back x i }
+fn mul_step(x: Fx, i: u64, most: Fx, first: Fx) -> Fx
+    ensures { result ≡ mul_step most first x i }
 {
     let product = x.mul(beside_one(i));
-    if product > most {
-        product.sub(back)
-    } else {
-        product
-    }
+    if product > most { first } else { product }
 }
 
 /// A quotient, raised by `back` where it is below `least`.
@@ -82,14 +78,14 @@ fn add_chain(count: u64) -> Fx
     x
 }
 
-/// Products with numbers beside 1, none of them far above `most`.
+/// Products with numbers beside 1, none of them above `most`.
 #[inline]
-fn mul_chain(count: u64, first: Fx, most: Fx, back: Fx) -> Fx
-    ensures { result ≡ chain (mul_step most back) first count }
+fn mul_chain(count: u64, first: Fx, most: Fx) -> Fx
+    ensures { result ≡ chain (mul_step most first) first count }
 {
     let mut x = first;
     for i in 0..count {
-        x = mul_step(x, i, most, back);
+        x = mul_step(x, i, most, first);
     }
     x
 }
@@ -174,9 +170,9 @@ pub fn last(operation: Operation, count: u64) -> Fx
     let step = units((1 << 30) - (1 << 20));
     match operation {
         Operation::Add => add_chain(count),
-        Operation::Mul => mul_chain(count, Fx::ONE, units(1 << 30), step),
+        Operation::Mul => mul_chain(count, Fx::ONE, units(1 << 30)),
         Operation::Div => div_chain(count, units(1 << 30), units(1 << 20), step),
-        Operation::MulWide => mul_chain(count, units(1 << 50), units(1 << 54), units(1 << 53)),
+        Operation::MulWide => mul_chain(count, units(1 << 50), units(1 << 54)),
         Operation::DivWide => div_chain(count, units(1 << 54), units(1 << 50), units(1 << 53)),
         Operation::Root => root_chain(count),
         Operation::Length => length_chain(count),

@@ -63,6 +63,7 @@ impl Peer {
         }
     }
 
+    /// Gives a command of its own: the next number of the tick reached is its name.
     #[tactic(auto, unfolding(crate::specs::Peer::issuing, crate::specs::Peer::putting))]
     fn issue(&mut self, peer: u8, payload: Payload) -> Result<Reply, AllocError>
         ensures reply { IfOk result (λ reply. (reply, self.new) ≡ told (λ frame. Issued peer frame) self.old (issuing self.old payload)) }
@@ -89,6 +90,7 @@ impl Peer {
         })
     }
 
+    /// Takes a command of any player, for whatever tick.
     #[tactic(auto, unfolding(crate::specs::Peer::putting))]
     fn take(&mut self, peer: u8, frame: Result<Command, FrameFault>) -> Result<Reply, AllocError>
         ensures reply { IfOk result (λ reply. (reply, self.new) ≡ told (λ put. Took peer put) self.old (taking self.old frame)) }
@@ -106,6 +108,7 @@ impl Peer {
         Ok(Reply::Took { peer, put })
     }
 
+    /// Goes on by so many ticks, up to the last there is.
     #[tactic(auto, unfolding(crate::specs::Peer::advancing))]
     fn advance(&mut self, peer: u8, ticks: u32) -> Reply
         ensures reply { (result, self.new) ≡ told (λ reached. Advanced peer reached) self.old (advancing self.old ticks) }
@@ -120,6 +123,7 @@ impl Peer {
         }
     }
 
+    /// The world at a tick that was reached.
     #[tactic(auto, unfolding(crate::specs::Peer::showing))]
     fn show(&self, alloc: Global, peer: u8, tick: u32) -> Result<Reply, AllocError>
         ensures { IfOk result (λ reply. (reply, self.now) ≡ told (λ world. Shown peer tick world) self.now (showing self.now tick)) }
