@@ -1,8 +1,7 @@
 -- The texts of replies.
 use Rattle.std.specs.Prelude.{ℕ, ◌+◌, ℤ, pos, Bool, true, false, List, [], ◌∷◌, ◌++◌, codes, if◌then◌else◌}
-use Rattle.std.specs.List.{flat_map}
-use Rattle.std.specs.Fmt.{signed_decimal}
 use Rattle.hex.specs.Hex.{encode_lower}
+use Rattle.pf_text.specs.Words.{words_text, line_text}
 use Rattle.pf_shapes.specs.Fixture.{FixtureDef, is_static}
 use Rattle.pf_shapes.specs.Body.{State}
 use Rattle.pf_commands.specs.declared.payload.Command.{Command}
@@ -13,18 +12,6 @@ use Rattle.pf_console.specs.declared.event.Reply.TheVariants.{Issued, Took, Adva
 use Rattle.pf_console.specs.declared.event.Refusal.{Refusal}
 use Rattle.pf_console.specs.declared.event.Refusal.TheVariants.{TickLimit, NumbersSpent, Frame, Check, NotReached}
 use Rattle.pf_console.specs.Names.{frame_fault_name, check_fault_name, put_name}
-
--- a field with the space before it
-abbrev pub spaced : ℤ → List ℕ
-spaced z = 32 ∷ signed_decimal z
-
--- a word and numbers
-abbrev pub words_text : List ℕ → List ℤ → List ℕ
-words_text word numbers = word ++ flat_map spaced numbers
-
--- a word, numbers and the line's end
-unfoldable pub line_text : List ℕ → List ℤ → List ℕ
-line_text word numbers = words_text word numbers ++ 10 ∷ []
 
 -- what a command does, and the line's end
 abbrev pub payload_text : Payload → List ℕ

@@ -2,36 +2,17 @@
 
 ghost use Rattle.std.specs.Prelude.{◌≡◌, ◌++◌, ◌<◌, ◌^◌, OnOk, IfOk};
 ghost use Rattle.std.specs.String.{string_bytes};
-ghost use Rattle.pf_console.specs.Print.{words_text, line_text, payload_text, command_line, body_numbers, moving_text, bodies_text, block_text, answer_text, refused_text, refusal_text, reply_text};
+ghost use Rattle.pf_console.specs.Print.{payload_text, command_line, body_numbers, moving_text, bodies_text, block_text, answer_text, refused_text, refusal_text, reply_text};
 
 use crate::event::{Refusal, Reply};
 use crate::names::{check_fault_name, frame_fault_name, put_name};
 use pf_commands::{Command, Payload};
 use pf_shapes::{BodyState, Fixture};
+use pf_text::{push_line, push_words};
 use std::alloc::{AllocError, Global};
 
 /// Room for the text of a reply of one line.
 const LINE_ROOM: usize = 64;
-
-/// Adds a word and numbers.
-fn push_words(text: &mut String, word: &str, numbers: &[i64]) -> Result<(), AllocError>
-    ensures { OnOk result (string_bytes text.new ≡ string_bytes text.old ++ words_text word.now numbers.now) }
-{
-    text.push_str(word)?;
-    for number in numbers {
-        write!(text, " {number}")?;
-    }
-    Ok(())
-}
-
-/// Adds a line: a word and numbers.
-#[tactic(auto, unfolding(crate::specs::Print::line_text))]
-fn push_line(text: &mut String, word: &str, numbers: &[i64]) -> Result<(), AllocError>
-    ensures { OnOk result (string_bytes text.new ≡ string_bytes text.old ++ line_text word.now numbers.now) }
-{
-    push_words(text, word, numbers)?;
-    text.push('\n')
-}
 
 /// Adds what a command does, and the line's end.
 fn push_payload(text: &mut String, payload: &Payload) -> Result<(), AllocError>

@@ -6,3 +6,4 @@ pub mod Lines
 pub mod Driver
 pub mod Laws
 pub mod Streams
+pub mod Words

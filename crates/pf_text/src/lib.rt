@@ -9,6 +9,7 @@ mod lines;
 mod memory;
 mod numbers;
 mod streams;
+mod words;
 
 pub use driver::{DriveFault, Machine, TakeRefusal, drive};
 pub use fault::{LineError, LineFault};
@@ -18,6 +19,7 @@ pub use lines::{MAX_LINE, ReadFailed, Sink, Source, TakeError, Taken, WriteFaile
 pub use memory::{Bytes, Collected};
 pub use numbers::{Spelled, integer, number, whole};
 pub use streams::{Input, Output};
+pub use words::{push_line, push_words};
 
 #[cfg(test)]
 mod tests;
