@@ -6,3 +6,7 @@ pub mod Reader
 pub mod Fault
 pub mod SceneText
 pub mod SceneRead
+pub mod Reach
+pub mod Bounds
+pub mod Same
+pub mod SameLaws

@@ -9,12 +9,14 @@ use Rattle.pf_text.specs.declared.driver.TakeRefusal.{TakeRefusal}
 use Rattle.pf_text.specs.declared.driver.TakeRefusal.TheVariants as refusals
 use Rattle.pf_text.specs.Numbers.{whole_of, spelled}
 use Rattle.pf_rot.specs.Vector.{Vec2}
-use Rattle.pf_rot.specs.Rotation.{upright}
+use Rattle.pf_rot.specs.Rotation.{Pair, upright, unit}
 use Rattle.pf_shapes.specs.declared.fault.SceneFault.{SceneFault}
 use Rattle.pf_shapes.specs.declared.fault.SceneFault.TheVariants.{BadLine, BadNumber, TooMany, BadMass, BadSize}
-use Rattle.pf_shapes.specs.declared.fixture.Shape.TheVariants.{Circle}
+use Rattle.pf_shapes.specs.declared.fixture.Shape.TheVariants.{Circle, Box}
 use Rattle.pf_shapes.specs.declared.words.SceneWord.{SceneWord}
 use Rattle.pf_shapes.specs.declared.words.SceneWord.TheVariants as words
+use Rattle.pf_shapes.specs.declared.words.BodyWord.{BodyWord}
+use Rattle.pf_shapes.specs.declared.words.BodyWord.TheVariants as bodies
 use Rattle.pf_shapes.specs.Fixture.{FixtureDef}
 use Rattle.pf_shapes.specs.declared.reader.Progress.{Progress}
 use Rattle.pf_shapes.specs.declared.reader.Progress.TheVariants.{More, Ended}
@@ -52,6 +54,10 @@ acceleration_of field = number_of BadNumber (neg_ℤ (pos 17179869184)) (pos 171
 abbrev pub coordinate_of : List ℕ → Result ℤ SceneFault
 coordinate_of field = number_of BadNumber (neg_ℤ (pos 17592186044416)) (pos 17592186044416) field
 
+-- a part of a direction: up to 2^24 either way
+abbrev pub direction_of : List ℕ → Result ℤ SceneFault
+direction_of field = number_of BadNumber (neg_ℤ (pos 16777216)) (pos 16777216) field
+
 -- a radius or a half extent: 2^20 to 2^34
 abbrev pub size_of : List ℕ → Result ℤ SceneFault
 size_of field = number_of BadSize (pos 1048576) (pos 17179869184) field
@@ -76,7 +82,8 @@ owner_of field = if bytes_eq field (codes "-") then Ok None else player_of (numb
 abbrev pub word_of : List ℕ → Option SceneWord
 word_of field =
     if bytes_eq field (codes "gravity") then Some words.Gravity else
-    (if bytes_eq field (codes "circle") then Some words.Circle else (if bytes_eq field (codes "end") then Some words.End else None))
+    (if bytes_eq field (codes "circle") then Some (words.Body bodies.Circle) else
+    (if bytes_eq field (codes "box") then Some (words.Body bodies.Box) else (if bytes_eq field (codes "end") then Some words.End else None)))
 
 -- `gravity GX GY`
 unfoldable pub gravity_of : List ℕ → List ℕ → Result Vec2 SceneFault
@@ -85,25 +92,78 @@ gravity_of x y = do
   y ← acceleration_of y
   Ok (record { x = x; y = y })
 
--- a body at its start, upright
-abbrev pub placed : FixtureDef → Vec2 → FixtureDef × State
-placed fixture place = (fixture, start_of fixture place upright)
+-- a place of a start
+unfoldable pub place_of : List ℕ → List ℕ → Result Vec2 SceneFault
+place_of x y = do
+  x ← coordinate_of x
+  y ← coordinate_of y
+  Ok (record { x = x; y = y })
 
--- what six fields say of a circle and its start
-unfoldable pub circle_body : List ℕ → List ℕ → List ℕ → List ℕ → List ℕ → List ℕ → Result (FixtureDef × State) SceneFault
-circle_body owner mass friction r x y = do
+-- the rotation of length 1 that points as C to S
+unfoldable pub rotation_of : List ℕ → List ℕ → Result Pair SceneFault
+rotation_of c s = do
+  c ← direction_of c
+  s ← direction_of s
+  Ok (unit c s)
+
+-- what four fields say of a circle
+unfoldable pub circle_fixture : List ℕ → List ℕ → List ℕ → List ℕ → Result FixtureDef SceneFault
+circle_fixture owner mass friction r = do
   owner ← owner_of owner
   mass ← mass_of mass
   friction ← friction_of friction
   r ← size_of r
-  x ← coordinate_of x
-  y ← coordinate_of y
-  Ok (placed (record { shape = Circle r; mass = mass; friction = friction; owner = owner }) (record { x = x; y = y }))
+  Ok (record { shape = Circle r; mass = mass; friction = friction; owner = owner })
+
+-- what five fields say of a box
+unfoldable pub box_fixture : List ℕ → List ℕ → List ℕ → List ℕ → List ℕ → Result FixtureDef SceneFault
+box_fixture owner mass friction hx hy = do
+  owner ← owner_of owner
+  mass ← mass_of mass
+  friction ← friction_of friction
+  hx ← size_of hx
+  hy ← size_of hy
+  Ok (record { shape = Box hx hy; mass = mass; friction = friction; owner = owner })
+
+-- a place, and upright there
+unfoldable pub upright_at : List ℕ → List ℕ → Result (Vec2 × Pair) SceneFault
+upright_at x y = do
+  place ← place_of x y
+  Ok (place, upright)
+
+-- a place, and the rotation there
+unfoldable pub turned_at : List ℕ → List ℕ → List ℕ → List ℕ → Result (Vec2 × Pair) SceneFault
+turned_at x y c s = do
+  place ← place_of x y
+  rot ← rotation_of c s
+  Ok (place, rot)
+
+-- what a body is, and the state in which it starts
+unfoldable pub started : Result FixtureDef SceneFault → Result (Vec2 × Pair) SceneFault → Result (FixtureDef × State) SceneFault
+started fixture posture = do
+  fixture ← fixture
+  posture ← posture
+  Ok (fixture, start_of fixture posture.0 posture.1)
 
 -- `circle OWNER MASS FRICTION R X Y`
 unfoldable pub circle_of : List (List ℕ) → Result (FixtureDef × State) SceneFault
-circle_of (owner ∷ mass ∷ friction ∷ r ∷ x ∷ y ∷ []) = circle_body owner mass friction r x y
+circle_of (owner ∷ mass ∷ friction ∷ r ∷ x ∷ y ∷ []) = started (circle_fixture owner mass friction r) (upright_at x y)
 circle_of args = Err BadLine
+
+-- `box OWNER MASS FRICTION HX HY X Y C S`
+unfoldable pub box_of : List (List ℕ) → Result (FixtureDef × State) SceneFault
+box_of (owner ∷ mass ∷ friction ∷ hx ∷ hy ∷ x ∷ y ∷ c ∷ s ∷ []) = started (box_fixture owner mass friction hx hy) (turned_at x y c s)
+box_of args = Err BadLine
+
+-- the fields of a body behind its word
+abbrev pub body_of : BodyWord → List (List ℕ) → Result (FixtureDef × State) SceneFault
+body_of bodies.Circle args = circle_of args
+body_of bodies.Box args = box_of args
+
+-- how many these are
+abbrev pub field_count : BodyWord → ℕ
+field_count bodies.Circle = 6
+field_count bodies.Box = 9
 
 -- ---- lines
 
@@ -118,18 +178,19 @@ gravity_line most None (x ∷ y ∷ []) = do
   Ok (so_far most (empty_setting gravity))
 gravity_line most scene args = Err BadLine
 
-abbrev pub circle_added : ℕ → Setting → Result (FixtureDef × State) SceneFault → Result Progress SceneFault
-circle_added most s (Ok body) = Ok (so_far most (with_body s body.0 body.1))
-circle_added most s (Err fault) = Err fault
+abbrev pub body_added : ℕ → Setting → Result (FixtureDef × State) SceneFault → Result Progress SceneFault
+body_added most s (Ok body) = Ok (so_far most (with_body s body.0 body.1))
+body_added most s (Err fault) = Err fault
 
--- a circle has the next number, where the scene may have one body more
-abbrev pub with_circle : ℕ → Setting → List (List ℕ) → Result Progress SceneFault
-with_circle most s args =
-    if length args == 6 then (if nat_lt (length s.fixtures) most then circle_added most s (circle_of args) else Err TooMany) else Err BadLine
+-- a body has the next number, where the scene may have one body more
+abbrev pub with_line : ℕ → Setting → BodyWord → List (List ℕ) → Result Progress SceneFault
+with_line most s word args =
+    if length args == field_count word then (if nat_lt (length s.fixtures) most then body_added most s (body_of word args) else Err TooMany) else Err BadLine
 
-abbrev pub circle_line : ℕ → Option Setting → List (List ℕ) → Result Progress SceneFault
-circle_line most None args = Err BadLine
-circle_line most (Some s) args = with_circle most s args
+-- bodies come after gravity
+abbrev pub body_line : ℕ → Option Setting → BodyWord → List (List ℕ) → Result Progress SceneFault
+body_line most None word args = Err BadLine
+body_line most (Some s) word args = with_line most s word args
 
 unfoldable pub end_line : Option Setting → List (List ℕ) → Result Progress SceneFault
 end_line (Some s) [] = Ok (Ended s)
@@ -138,7 +199,7 @@ end_line scene args = Err BadLine
 -- a line by its word
 abbrev pub spoken : Reader → Option SceneWord → List (List ℕ) → Result Progress SceneFault
 spoken reader (Some words.Gravity) args = gravity_line reader.most reader.scene args
-spoken reader (Some words.Circle) args = circle_line reader.most reader.scene args
+spoken reader (Some (words.Body word)) args = body_line reader.most reader.scene word args
 spoken reader (Some words.End) args = end_line reader.scene args
 spoken reader None args = Err BadLine
 

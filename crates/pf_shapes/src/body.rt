@@ -9,7 +9,7 @@ use pf_rot::{Rot, V2};
 use std::marker::Model;
 
 /// Where a body is and how it moves.
-#[derive(Clone, Copy, Debug, PartialEq, Eq)]
+#[derive(Clone, Copy, Debug)]
 pub struct BodyState {
     /// The centre, in units of 2^-24 of a length.
     pub place: V2,
@@ -31,6 +31,32 @@ impl Model for BodyState {
     ghost view = { λ b. record { place = b.place; rot = b.rot; vel = b.vel; spin = b.spin; timer = b.timer; awake = b.awake } };
 
     ghost inverse = { λ b. record { place = b.place; rot = b.rot; vel = b.vel; spin = b.spin; timer = b.timer; awake = b.awake } };
+}
+
+impl PartialEq for BodyState {
+    ghost use Rattle.std.specs.Cmp.{partial_equiv_from_equiv};
+    ghost use Rattle.pf_shapes.specs.Same.{same_state};
+    ghost use Rattle.pf_shapes.specs.SameLaws.{states_equivalent};
+
+    ghost eq = { same_state };
+
+    ghost laws = { partial_equiv_from_equiv states_equivalent };
+
+    #[tactic(auto, unfolding(crate::specs::Same::same_state))]
+    fn eq(&self, other: &BodyState) -> bool {
+        self.place == other.place
+            && self.rot == other.rot
+            && self.vel == other.vel
+            && self.spin == other.spin
+            && self.timer == other.timer
+            && self.awake == other.awake
+    }
+}
+
+impl Eq for BodyState {
+    ghost use Rattle.pf_shapes.specs.SameLaws.{states_equivalent};
+
+    ghost laws = { states_equivalent };
 }
 
 impl BodyState {

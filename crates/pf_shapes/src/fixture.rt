@@ -4,10 +4,11 @@ ghost use Rattle.std.specs.Prelude.{◌≡◌, ◌*◌, pos, if◌then◌else◌
 ghost use Rattle.pf_num.specs.Fx.{one, quotient};
 
 use pf_num::Fx;
+use std::alloc::AllocError;
 use std::marker::Model;
 
 /// The outline of a body about its centre, in units of 2^-24 of a length.
-#[derive(Debug, PartialEq, Eq, Drop)]
+#[derive(Debug, Drop)]
 pub enum Shape {
     /// A disc of this radius.
     Circle { r: Fx },
@@ -53,6 +54,51 @@ impl Shape {
     }
 }
 
+impl Clone for Shape {
+    ghost use Rattle.std.specs.Prelude.{◌≡◌, ⊤};
+
+    ghost is_clone = { λ shape copy. copy ≡ shape };
+
+    ghost is_infallible = { λ _. ⊤ };
+
+    fn clone(&self) -> Result<Shape, AllocError> {
+        Ok(match self {
+            Shape::Circle { r } => Shape::Circle { r: *r },
+            Shape::Box { hx, hy } => Shape::Box { hx: *hx, hy: *hy },
+        })
+    }
+}
+
+impl PartialEq for Shape {
+    ghost use Rattle.std.specs.Cmp.{partial_equiv_from_equiv};
+    ghost use Rattle.pf_shapes.specs.Same.{same_shape};
+    ghost use Rattle.pf_shapes.specs.SameLaws.{shapes_equivalent};
+
+    ghost eq = { same_shape };
+
+    ghost laws = { partial_equiv_from_equiv shapes_equivalent };
+
+    fn eq(&self, other: &Shape) -> bool {
+        match (self, other) {
+            (Shape::Circle { r }, Shape::Circle { r: other_r }) => r == other_r,
+            (
+                Shape::Box { hx, hy },
+                Shape::Box {
+                    hx: other_hx,
+                    hy: other_hy,
+                },
+            ) => { hx == other_hx && hy == other_hy }
+            _ => false,
+        }
+    }
+}
+
+impl Eq for Shape {
+    ghost use Rattle.pf_shapes.specs.SameLaws.{shapes_equivalent};
+
+    ghost laws = { shapes_equivalent };
+}
+
 /// What a body is apart from its motion. Its numbers are in range by its type: radius and half extents
 /// from 2^20 to 2^34 units of 2^-24, mass 0 (static) or in that range, friction 0 to 2^26, players 0 to 7.
 #[derive(Debug, Drop)]
@@ -77,9 +123,52 @@ impl Model for Fixture {
     ghost invariant = { IsCached };
 }
 
+impl Clone for Fixture {
+    ghost use Rattle.std.specs.Prelude.{◌≡◌, ⊤};
+
+    ghost is_clone = { λ fixture copy. copy ≡ fixture };
+
+    ghost is_infallible = { λ _. ⊤ };
+
+    fn clone(&self) -> Result<Fixture, AllocError> {
+        Ok(Fixture {
+            shape: self.shape.clone()?,
+            mass: self.mass,
+            friction: self.friction,
+            owner: self.owner,
+            inverse_mass: self.inverse_mass,
+            inverse_inertia: self.inverse_inertia,
+        })
+    }
+}
+
+impl PartialEq for Fixture {
+    ghost use Rattle.std.specs.Cmp.{partial_equiv_from_equiv};
+    ghost use Rattle.pf_shapes.specs.Same.{same_fixture};
+    ghost use Rattle.pf_shapes.specs.SameLaws.{fixtures_equivalent};
+
+    ghost eq = { same_fixture };
+
+    ghost laws = { partial_equiv_from_equiv fixtures_equivalent };
+
+    #[tactic(auto, unfolding(crate::specs::Same::same_fixture))]
+    fn eq(&self, other: &Fixture) -> bool {
+        self.shape == other.shape
+            && self.mass == other.mass
+            && self.friction == other.friction
+            && self.owner == other.owner
+    }
+}
+
+impl Eq for Fixture {
+    ghost use Rattle.pf_shapes.specs.SameLaws.{fixtures_equivalent};
+
+    ghost laws = { fixtures_equivalent };
+}
+
 impl Fixture {
     ghost use Rattle.std.specs.Prelude.{◌≡◌, ℤ, ◌≤ℤ◌};
-    ghost use Rattle.pf_shapes.specs.Fixture.{FixtureDef, IsFixture, is_static, inverse_mass, inverse_inertia};
+    ghost use Rattle.pf_shapes.specs.Fixture.{FixtureDef, HasSize, IsFixture, is_static, inverse_mass, inverse_inertia};
 
     /// A fixture of these parts, with its inverse masses.
     #[tactic(auto, unfolding(crate::specs::Fixture::inverse_mass, crate::specs::Fixture::inverse_inertia))]
@@ -101,7 +190,8 @@ impl Fixture {
 
     /// The shape.
     pub fn shape(&self) -> &Shape
-        ensures { result.now ≡ self.now.shape }
+        ensures value { result.now ≡ self.now.shape }
+        ensures size { HasSize self.now.shape }
     {
         &self.shape
     }

@@ -1,9 +1,12 @@
-//! What a simulation starts from: fixtures with their masses, states of bodies, scenes and their texts.
+//! What a simulation starts from: fixtures with their masses, states of bodies and their bounds, scenes and their
+//! texts.
 #![tactic(auto)]
 
 mod body;
+mod bounds;
 mod fault;
 mod fixture;
+pub mod laws;
 mod read;
 mod reader;
 mod scene;
@@ -11,6 +14,7 @@ mod scene_text;
 mod words;
 
 pub use body::BodyState;
+pub use bounds::Bounds;
 pub use fault::SceneFault;
 pub use fixture::{Fixture, Shape};
 pub use read::ReadError;

@@ -1,20 +1,17 @@
 //! A scene read line by line.
 
 ghost use Rattle.std.specs.Prelude.{◌≡◌, ◌<◌, ◌≤◌, length, map};
-ghost use Rattle.pf_shapes.specs.SceneText.{Reads, so_far, circle_added, with_circle};
+ghost use Rattle.pf_shapes.specs.SceneText.{Reads, so_far, field_count, body_added, with_line};
 
 use crate::body::BodyState;
 use crate::fault::SceneFault;
 use crate::fixture::Fixture;
 use crate::scene::{MAX_BODIES, Scene};
-use crate::scene_text::{read_circle, read_gravity};
-use crate::words::{SceneWord, word};
+use crate::scene_text::{read_body, read_gravity};
+use crate::words::{BodyWord, SceneWord, word};
 use pf_text::TakeRefusal;
 use std::alloc::Global;
 use std::marker::Model;
-
-/// How many fields a circle has after its word.
-const CIRCLE_FIELDS: usize = 6;
 
 /// A scene that is read line by line: `gravity` first and once, then the bodies, then `end`.
 #[derive(Debug, Drop)]
@@ -46,7 +43,7 @@ pub enum Progress {
 impl SceneReader {
     ghost use Rattle.std.specs.Prelude.{◌≡◌, ◌≤◌, ℕ, Option, None, map};
     ghost use Rattle.pf_shapes.specs.Reader.{Reader};
-    ghost use Rattle.pf_shapes.specs.SceneText.{Reads, gravity_line, circle_line, end_line, line_of};
+    ghost use Rattle.pf_shapes.specs.SceneText.{Reads, gravity_line, body_line, end_line, line_of};
 
     /// A reader of a scene of at most so many bodies, before its first line.
     pub fn new(most_bodies: usize) -> SceneReader
@@ -69,7 +66,7 @@ impl SceneReader {
         };
         match word(first) {
             Some(SceneWord::Gravity) => self.take_gravity(alloc, arguments),
-            Some(SceneWord::Circle) => self.take_circle(arguments),
+            Some(SceneWord::Body(word)) => self.take_body(word, arguments),
             Some(SceneWord::End) => self.take_end(arguments),
             None => Err(TakeRefusal::Fault(SceneFault::BadLine)),
         }
@@ -92,12 +89,16 @@ impl SceneReader {
         }
     }
 
-    fn take_circle(self, arguments: &[&[u8]]) -> Result<Progress, TakeRefusal<SceneFault>>
-        ensures { Reads result (circle_line self.most self.scene (map (λ field. field.now) arguments.now)) }
+    fn take_body(
+        self,
+        word: BodyWord,
+        arguments: &[&[u8]],
+    ) -> Result<Progress, TakeRefusal<SceneFault>>
+        ensures { Reads result (body_line self.most self.scene word (map (λ field. field.now) arguments.now)) }
     {
         let most_bodies = self.most_bodies;
         match self.scene {
-            Some(scene) => with_circle(most_bodies, scene, arguments),
+            Some(scene) => with_line(most_bodies, scene, word, arguments),
             None => Err(TakeRefusal::Fault(SceneFault::BadLine)),
         }
     }
@@ -113,33 +114,44 @@ impl SceneReader {
     }
 }
 
-/// The scene with the circle of a line, where it may have one body more.
-fn with_circle(
+/// How many fields a body has behind its word.
+fn field_count(word: BodyWord) -> usize
+    ensures { result ≡ field_count word }
+{
+    match word {
+        BodyWord::Circle => 6,
+        BodyWord::Box => 9,
+    }
+}
+
+/// The scene with the body of a line, where it may have one body more.
+fn with_line(
     most_bodies: usize,
     scene: Scene,
+    word: BodyWord,
     arguments: &[&[u8]],
 ) -> Result<Progress, TakeRefusal<SceneFault>>
     requires { most_bodies ≤ MAX_BODIES }
-    ensures { Reads result (with_circle most_bodies scene (map (λ field. field.now) arguments.now)) }
+    ensures { Reads result (with_line most_bodies scene word (map (λ field. field.now) arguments.now)) }
 {
-    if arguments.len() != CIRCLE_FIELDS {
+    if arguments.len() != field_count(word) {
         return Err(TakeRefusal::Fault(SceneFault::BadLine));
     }
     if scene.len() >= most_bodies {
         return Err(TakeRefusal::Fault(SceneFault::TooMany));
     }
-    circle_added(most_bodies, scene, read_circle(arguments))
+    body_added(most_bodies, scene, read_body(word, arguments))
 }
 
 /// The scene with the body that was read, if one was.
-fn circle_added(
+fn body_added(
     most_bodies: usize,
     scene: Scene,
     body: Result<(Fixture, BodyState), SceneFault>,
 ) -> Result<Progress, TakeRefusal<SceneFault>>
     requires limit { most_bodies ≤ MAX_BODIES }
     requires room { length scene.fixtures < most_bodies }
-    ensures { Reads result (circle_added most_bodies scene body) }
+    ensures { Reads result (body_added most_bodies scene body) }
 {
     let (fixture, start) = body.map_err(TakeRefusal::Fault)?;
     let mut scene = scene;

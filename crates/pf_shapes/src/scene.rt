@@ -28,8 +28,9 @@ impl Model for Scene {
 }
 
 impl Scene {
-    ghost use Rattle.std.specs.Prelude.{◌≡◌, ◌<◌, ◌≤◌, ◌↔◌, [], length, IsTrue, OnOk, OnErr};
+    ghost use Rattle.std.specs.Prelude.{◌≡◌, ◌<◌, ◌≤◌, ◌↔◌, [], length, IsTrue, OnOk, OnErr, IfOk};
     ghost use Rattle.pf_shapes.specs.Scene.{Setting, IsSetting, empty_setting, with_body};
+    ghost use Rattle.pf_shapes.specs.Same.{same_setting};
 
     /// A scene without bodies.
     pub fn new(alloc: Global, gravity: V2) -> Scene
@@ -90,4 +91,50 @@ impl Scene {
         self.starts.push_reserved(start);
         Ok(())
     }
+
+    /// Whether the scenes are equal, part by part.
+    #[tactic(auto, unfolding(crate::specs::Same::same_setting))]
+    fn is_same(&self, other: &Scene) -> bool
+        ensures { result ≡ same_setting self.now other.now }
+    {
+        let same_bodies = self.fixtures.as_slice() == other.fixtures.as_slice()
+            && self.starts.as_slice() == other.starts.as_slice();
+        same_bodies && self.gravity == other.gravity
+    }
+
+    /// A copy. Takes time and memory for all its bodies.
+    pub fn try_clone(&self) -> Result<Scene, AllocError>
+        ensures { IfOk result (λ copy. copy ≡ self.now) }
+    {
+        Ok(Scene {
+            gravity: self.gravity,
+            fixtures: self.fixtures.clone()?,
+            starts: self.starts.clone()?,
+        })
+    }
+}
+
+impl PartialEq for Scene {
+    ghost use Rattle.std.specs.Prelude.{◌≡◌, ◌↔◌, IsTrue};
+    ghost use Rattle.std.specs.Cmp.{partial_equiv_from_equiv};
+    ghost use Rattle.pf_shapes.specs.Same.{same_setting};
+    ghost use Rattle.pf_shapes.specs.SameLaws.{settings_equivalent};
+
+    ghost eq = { same_setting };
+
+    ghost laws = { partial_equiv_from_equiv settings_equivalent };
+
+    /// Whether the scenes are equal: gravity, and all bodies with their starts.
+    fn eq(&self, other: &Scene) -> bool
+        ensures value { result ≡ same_setting self.now other.now }
+        ensures equal { IsTrue result ↔ (self.now ≡ other.now) }
+    {
+        self.is_same(other)
+    }
+}
+
+impl Eq for Scene {
+    ghost use Rattle.pf_shapes.specs.SameLaws.{settings_equivalent};
+
+    ghost laws = { settings_equivalent };
 }

@@ -3,11 +3,12 @@
 ghost use Rattle.std.specs.Prelude.{◌≡◌, ◌≤ℤ◌, pos, neg_ℤ, IfOk, map};
 ghost use Rattle.pf_num.specs.Fx.{IsRaw};
 ghost use Rattle.pf_shapes.specs.Fixture.{IsWithin, IsMass, IsOwner};
-ghost use Rattle.pf_shapes.specs.SceneText.{number_of, acceleration_of, coordinate_of, size_of, friction_of, mass_of, owner_of, gravity_of, circle_body, circle_of};
+ghost use Rattle.pf_shapes.specs.SceneText.{number_of, acceleration_of, coordinate_of, size_of, friction_of, mass_of, owner_of, gravity_of, place_of, direction_of, rotation_of, circle_fixture, box_fixture, upright_at, turned_at, started, circle_of, box_of, body_of};
 
 use crate::body::BodyState;
 use crate::fault::SceneFault;
 use crate::fixture::{Fixture, Shape};
+use crate::words::BodyWord;
 use pf_num::Fx;
 use pf_rot::{Rot, V2};
 use pf_text::{Spelled, number};
@@ -18,6 +19,8 @@ const LEAST: i64 = 1 << 20;
 const MOST: i64 = 1 << 34;
 /// 2^26, the greatest friction.
 const MOST_FRICTION: i64 = 1 << 26;
+/// 2^24, the greatest part of a direction.
+const MOST_DIRECTION: i64 = 1 << 24;
 /// 2^44, the farthest that a body starts from 0.
 const FARTHEST: i64 = 1 << 44;
 
@@ -47,6 +50,18 @@ fn read_coordinate(field: &[u8]) -> Result<Fx, SceneFault>
     ensures { result ≡ coordinate_of field.now }
 {
     number_in(field, -FARTHEST, FARTHEST, SceneFault::BadNumber)
+}
+
+/// A part of a direction.
+fn read_direction(field: &[u8]) -> Result<Fx, SceneFault>
+    ensures { result ≡ direction_of field.now }
+{
+    number_in(
+        field,
+        -MOST_DIRECTION,
+        MOST_DIRECTION,
+        SceneFault::BadNumber,
+    )
 }
 
 /// A radius or a half extent.
@@ -101,38 +116,130 @@ pub fn read_gravity(x: &[u8], y: &[u8]) -> Result<V2, SceneFault>
     })
 }
 
-/// `circle OWNER MASS FRICTION R X Y`: what the body is, and how it starts.
+/// The place of a start.
+#[tactic(auto, unfolding(crate::specs::SceneText::place_of))]
+fn read_place(x: &[u8], y: &[u8]) -> Result<V2, SceneFault>
+    ensures { result ≡ place_of x.now y.now }
+{
+    Ok(V2 {
+        x: read_coordinate(x)?,
+        y: read_coordinate(y)?,
+    })
+}
+
+/// The rotation of a start.
+#[tactic(auto, unfolding(crate::specs::SceneText::rotation_of))]
+fn read_rotation(c: &[u8], s: &[u8]) -> Result<Rot, SceneFault>
+    ensures { result ≡ rotation_of c.now s.now }
+{
+    let c = read_direction(c)?;
+    let s = read_direction(s)?;
+    Ok(Rot::unit(c, s))
+}
+
+/// A place, and upright there.
+#[tactic(auto, unfolding(crate::specs::SceneText::upright_at))]
+fn upright_at(x: &[u8], y: &[u8]) -> Result<(V2, Rot), SceneFault>
+    ensures { result ≡ upright_at x.now y.now }
+{
+    Ok((read_place(x, y)?, Rot::UPRIGHT))
+}
+
+/// A place, and the rotation there.
+#[tactic(auto, unfolding(crate::specs::SceneText::turned_at))]
+fn turned_at(x: &[u8], y: &[u8], c: &[u8], s: &[u8]) -> Result<(V2, Rot), SceneFault>
+    ensures { result ≡ turned_at x.now y.now c.now s.now }
+{
+    let place = read_place(x, y)?;
+    let rot = read_rotation(c, s)?;
+    Ok((place, rot))
+}
+
+/// The fields of a body behind its word: what the body is, and how it starts.
+pub fn read_body(word: BodyWord, arguments: &[&[u8]]) -> Result<(Fixture, BodyState), SceneFault>
+    ensures { result ≡ body_of word (map (λ field. field.now) arguments.now) }
+{
+    match word {
+        BodyWord::Circle => read_circle(arguments),
+        BodyWord::Box => read_box(arguments),
+    }
+}
+
+/// `circle OWNER MASS FRICTION R X Y`.
 #[tactic(auto, unfolding(crate::specs::SceneText::circle_of))]
-pub fn read_circle(arguments: &[&[u8]]) -> Result<(Fixture, BodyState), SceneFault>
+fn read_circle(arguments: &[&[u8]]) -> Result<(Fixture, BodyState), SceneFault>
     ensures { result ≡ circle_of (map (λ field. field.now) arguments.now) }
 {
     match arguments {
-        [owner, mass, friction, r, x, y] => circle_body(owner, mass, friction, r, x, y),
+        [owner, mass, friction, r, x, y] => {
+            started(circle_fixture(owner, mass, friction, r), upright_at(x, y))
+        }
         _ => Err(SceneFault::BadLine),
     }
 }
 
-/// What six fields say of a circle and its start.
-#[tactic(auto, unfolding(crate::specs::SceneText::circle_body))]
-fn circle_body(
+/// `box OWNER MASS FRICTION HX HY X Y C S`.
+#[tactic(auto, unfolding(crate::specs::SceneText::box_of))]
+fn read_box(arguments: &[&[u8]]) -> Result<(Fixture, BodyState), SceneFault>
+    ensures { result ≡ box_of (map (λ field. field.now) arguments.now) }
+{
+    match arguments {
+        [owner, mass, friction, hx, hy, x, y, c, s] => {
+            started(
+                box_fixture(owner, mass, friction, hx, hy),
+                turned_at(x, y, c, s),
+            )
+        }
+        _ => Err(SceneFault::BadLine),
+    }
+}
+
+/// What a body is, and the state in which it starts.
+#[tactic(auto, unfolding(crate::specs::SceneText::started))]
+fn started(
+    fixture: Result<Fixture, SceneFault>,
+    posture: Result<(V2, Rot), SceneFault>,
+) -> Result<(Fixture, BodyState), SceneFault>
+    ensures { result ≡ started fixture posture }
+{
+    let fixture = fixture?;
+    let (place, rot) = posture?;
+    let start = BodyState::start(&fixture, place, rot);
+    Ok((fixture, start))
+}
+
+/// What four fields say of a circle.
+#[tactic(auto, unfolding(crate::specs::SceneText::circle_fixture))]
+fn circle_fixture(
     owner: &[u8],
     mass: &[u8],
     friction: &[u8],
     r: &[u8],
-    x: &[u8],
-    y: &[u8],
-) -> Result<(Fixture, BodyState), SceneFault>
-    ensures { result ≡ circle_body owner.now mass.now friction.now r.now x.now y.now }
+) -> Result<Fixture, SceneFault>
+    ensures { result ≡ circle_fixture owner.now mass.now friction.now r.now }
 {
     let owner = read_owner(owner)?;
     let mass = read_mass(mass)?;
     let friction = read_friction(friction)?;
     let r = read_size(r)?;
-    let place = V2 {
-        x: read_coordinate(x)?,
-        y: read_coordinate(y)?,
-    };
-    let fixture = Fixture::new(Shape::Circle { r }, mass, friction, owner);
-    let start = BodyState::start(&fixture, place, Rot::UPRIGHT);
-    Ok((fixture, start))
+    Ok(Fixture::new(Shape::Circle { r }, mass, friction, owner))
+}
+
+/// What five fields say of a box.
+#[tactic(auto, unfolding(crate::specs::SceneText::box_fixture))]
+fn box_fixture(
+    owner: &[u8],
+    mass: &[u8],
+    friction: &[u8],
+    hx: &[u8],
+    hy: &[u8],
+) -> Result<Fixture, SceneFault>
+    ensures { result ≡ box_fixture owner.now mass.now friction.now hx.now hy.now }
+{
+    let owner = read_owner(owner)?;
+    let mass = read_mass(mass)?;
+    let friction = read_friction(friction)?;
+    let hx = read_size(hx)?;
+    let hy = read_size(hy)?;
+    Ok(Fixture::new(Shape::Box { hx, hy }, mass, friction, owner))
 }

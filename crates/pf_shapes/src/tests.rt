@@ -40,60 +40,7 @@ fn a_scene_is_read(rt: HostRuntime) -> Result<(), Fail> {
 
 #[test]
 fn each_fault_has_its_line_and_name(rt: HostRuntime) -> Result<(), Fail> {
-    let table = [
-        (b"".as_slice(), 1, SceneFault::BadLine),
-        (b"\n".as_slice(), 2, SceneFault::BadLine),
-        (b"end\n".as_slice(), 1, SceneFault::BadLine),
-        (b"gravity 0 0\n".as_slice(), 2, SceneFault::BadLine),
-        (
-            b"gravity 0 0\ngravity 0 0\n".as_slice(),
-            2,
-            SceneFault::BadLine,
-        ),
-        (b"gravity 0 0\nend now\n".as_slice(), 2, SceneFault::BadLine),
-        (
-            b"gravity 0 0\nend\nend\n".as_slice(),
-            3,
-            SceneFault::BadLine,
-        ),
-        (b"gravity 0  0\n".as_slice(), 1, SceneFault::BadLine),
-        (
-            b"gravity 0 0\nbox - 0 0 16777216 16777216 0 0 16777216 0\n".as_slice(),
-            2,
-            SceneFault::BadLine,
-        ),
-        (
-            b"gravity 0 17179869185\n".as_slice(),
-            1,
-            SceneFault::BadNumber,
-        ),
-        (
-            b"gravity 0 0\ncircle 8 1 -1 1 0 0\n".as_slice(),
-            2,
-            SceneFault::BadNumber,
-        ),
-        (
-            b"gravity 0 0\ncircle - 1 -1 1 0 0\n".as_slice(),
-            2,
-            SceneFault::BadMass,
-        ),
-        (
-            b"gravity 0 0\ncircle - 0 -1 1 0 0\n".as_slice(),
-            2,
-            SceneFault::BadNumber,
-        ),
-        (
-            b"gravity 0 0\ncircle - 0 0 1 0 x\n".as_slice(),
-            2,
-            SceneFault::BadSize,
-        ),
-        (
-            b"gravity 0 0\ncircle - 0 0 1048576 0 17592186044417\n".as_slice(),
-            2,
-            SceneFault::BadNumber,
-        ),
-    ];
-    for (text, number, fault) in table {
+    for (text, number, fault) in FAULTS {
         let read = Scene::read(rt.alloc(), text).err();
         if read == Some(ReadError::Memory) {
             return Err(AllocError)?;
@@ -102,6 +49,35 @@ fn each_fault_has_its_line_and_name(rt: HostRuntime) -> Result<(), Fail> {
     }
     Ok(())
 }
+
+// A text, and the number and the name of its line at fault.
+#[rattlefmt::skip]
+const FAULTS: [(&[u8], u64, SceneFault); 24] = [
+    (b"", 1, SceneFault::BadLine),
+    (b"\n", 2, SceneFault::BadLine),
+    (b"end\n", 1, SceneFault::BadLine),
+    (b"gravity 0 0\n", 2, SceneFault::BadLine),
+    (b"gravity 0 0\ngravity 0 0\n", 2, SceneFault::BadLine),
+    (b"gravity 0 0\nend now\n", 2, SceneFault::BadLine),
+    (b"gravity 0 0\nend\nend\n", 3, SceneFault::BadLine),
+    (b"gravity 0  0\n", 1, SceneFault::BadLine),
+    (b"gravity 0 17179869185\n", 1, SceneFault::BadNumber),
+    (b"gravity 0 0\ncircle 8 1 -1 1 0 0\n", 2, SceneFault::BadNumber),
+    (b"gravity 0 0\ncircle - 1 -1 1 0 0\n", 2, SceneFault::BadMass),
+    (b"gravity 0 0\ncircle - 0 -1 1 0 0\n", 2, SceneFault::BadNumber),
+    (b"gravity 0 0\ncircle - 0 0 1 0 x\n", 2, SceneFault::BadSize),
+    (b"gravity 0 0\ncircle - 0 0 1048576 0 17592186044417\n", 2, SceneFault::BadNumber),
+    (b"box - 0 0 1048576 1048576 0 0 0 0\n", 1, SceneFault::BadLine),
+    (b"gravity 0 0\nbox - 0 0 1048576 1048576 0 0\n", 2, SceneFault::BadLine),
+    (b"gravity 0 0\nbox x 0 0 1048576 1048576 0 0 0\n", 2, SceneFault::BadLine),
+    (b"gravity 0 0\nbox - 1048575 x 1 1 x x x x\n", 2, SceneFault::BadMass),
+    (b"gravity 0 0\nbox - 0 0 17179869184 17179869185 x x x x\n", 2, SceneFault::BadSize),
+    (b"gravity 0 0\nbox - 0 0 1048575 x x x x x\n", 2, SceneFault::BadSize),
+    (b"gravity 0 0\nbox - 0 0 1048576 1048576 0 17592186044417 0 0\n", 2, SceneFault::BadNumber),
+    (b"gravity 0 0\nbox - 0 0 1048576 1048576 0 0 16777217 0\n", 2, SceneFault::BadNumber),
+    (b"gravity 0 0\nbox - 0 0 1048576 1048576 0 0 0 -16777217\n", 2, SceneFault::BadNumber),
+    (b"gravity 0 0\nbox - 0 0 1048576 1048576 0 0 16777216 -16777216\n", 3, SceneFault::BadLine),
+];
 
 /// A scene of so many circles.
 fn crowd(alloc: Global, count: usize) -> Result<Vec<u8>, Fail> {
@@ -153,4 +129,94 @@ fn a_box_is_harder_to_spin_than_a_disc(rt: HostRuntime) -> Result<(), Fail> {
     scene.push(fixture, start)?;
     assert_eq!(rt; scene.len(), 1);
     Ok(())
+}
+
+/// A box that leans, and the same with another owner.
+const LEANING: &[u8] = b"gravity 0 0\nbox 4 33554432 67108864 16777216 8388608 5 -7 3 4\nend\n";
+
+const ANOTHERS: &[u8] = b"gravity 0 0\nbox 5 33554432 67108864 16777216 8388608 5 -7 3 4\nend\n";
+
+#[test]
+fn a_box_is_read(rt: HostRuntime) -> Result<(), Fail> {
+    let scene = Scene::read(rt.alloc(), LEANING)?;
+    assert!(rt; scene.len() == 1 && scene.fixtures().len() == 1 && scene.starts().len() == 1);
+    let fixture = &scene.fixtures()[0];
+    let start = scene.starts()[0];
+    let Shape::Box { hx, hy } = fixture.shape() else {
+        return Err(Fail::from("a box"));
+    };
+    assert_eq!(rt; (hx.raw(), hy.raw()), (16_777_216, 8_388_608));
+    assert_eq!(rt; (start.place.x.raw(), start.place.y.raw()), (5, -7));
+    assert_eq!(rt;
+        (start.rot.c.raw(), start.rot.s.raw()),
+        (10_066_330, 13_421_773)
+    );
+    assert_eq!(rt; fixture.inverse_inertia().raw(), 20_132_658);
+    assert_eq!(rt; fixture.owner(), Some(4));
+    Ok(())
+}
+
+#[test]
+fn copies_are_equal(rt: HostRuntime) -> Result<(), Fail> {
+    let scene = Scene::read(rt.alloc(), LEANING)?;
+    assert!(rt; scene.try_clone()? == scene);
+    assert!(rt; Scene::read(rt.alloc(), ANOTHERS)? != scene);
+    assert!(rt; Scene::read(rt.alloc(), SCENE)? != scene);
+    Ok(())
+}
+
+/// The ends of bounds: x and y of the low one, then of the high one.
+fn ends(bounds: &Bounds) -> (i64, i64, i64, i64) {
+    let Bounds { low, high, .. } = *bounds;
+    (low.x.raw(), low.y.raw(), high.x.raw(), high.y.raw())
+}
+
+// Ends by Python's whole numbers.
+#[test]
+fn bounds_are_a_unit_wider(rt: HostRuntime) -> Result<(), Fail> {
+    let circle = Fixture::new(Shape::Circle { r: Fx::ONE }, Fx::ONE, Fx::ZERO, None);
+    let origin = BodyState::start(&circle, V2::ZERO, Rot::UPRIGHT);
+    let one = 16_777_217;
+    assert_eq!(rt; ends(&circle.bounds(&origin)), (-one, -one, one, one));
+    let scene = Scene::read(rt.alloc(), LEANING)?;
+    assert!(rt; scene.fixtures().len() == 1 && scene.starts().len() == 1);
+    let fixture = &scene.fixtures()[0];
+    let start = scene.starts()[0];
+    assert_eq!(rt;
+        ends(&fixture.bounds(&start)),
+        (-16_777_212, -18_454_946, 16_777_222, 18_454_932)
+    );
+    let upturned = BodyState {
+        rot: Rot {
+            c: Fx::ZERO,
+            s: Fx::ONE,
+        },
+        ..start
+    };
+    assert_eq!(rt;
+        ends(&fixture.bounds(&upturned)),
+        (-8_388_604, -16_777_224, 8_388_614, 16_777_210)
+    );
+    Ok(())
+}
+
+#[test]
+fn bounds_that_touch_overlap(rt: HostRuntime) {
+    let circle = Fixture::new(Shape::Circle { r: Fx::ONE }, Fx::ONE, Fx::ZERO, None);
+    let origin = BodyState::start(&circle, V2::ZERO, Rot::UPRIGHT);
+    let bounds = circle.bounds(&origin);
+    for (x, touching) in [
+        (33_554_434, true),
+        (33_554_435, false),
+        (-33_554_434, true),
+        (-33_554_435, false),
+    ] {
+        let place = V2 {
+            x: Fx::from_raw(x).expect(&rt, "in range"),
+            y: Fx::ZERO,
+        };
+        let other = circle.bounds(&BodyState { place, ..origin });
+        assert_eq!(rt; bounds.overlaps(&other), touching, "{x}");
+    }
+    laws::overlapping_is_symmetric();
 }

@@ -7,8 +7,15 @@ ghost use Rattle.pf_shapes.specs.SceneText.{word_of};
 #[derive(Clone, Copy, Debug, PartialEq, Eq)]
 pub enum SceneWord {
     Gravity,
-    Circle,
+    Body(BodyWord),
     End,
+}
+
+/// The shape that a body's line begins with.
+#[derive(Clone, Copy, Debug, PartialEq, Eq)]
+pub enum BodyWord {
+    Circle,
+    Box,
 }
 
 /// The word that a field is, if it is one.
@@ -18,7 +25,9 @@ pub fn word(field: &[u8]) -> Option<SceneWord>
     if field == b"gravity".as_slice() {
         Some(SceneWord::Gravity)
     } else if field == b"circle".as_slice() {
-        Some(SceneWord::Circle)
+        Some(SceneWord::Body(BodyWord::Circle))
+    } else if field == b"box".as_slice() {
+        Some(SceneWord::Body(BodyWord::Box))
     } else if field == b"end".as_slice() {
         Some(SceneWord::End)
     } else {

@@ -1,0 +1,49 @@
+-- Shapes reach at least one unit, so that no low end of bounds is above the high end.
+use Rattle.std.proofs.Common.{◌≡◌, ℕ, ℤ, pos, negsuc, arith, ◌≤ℤ◌, false, ltb}
+use Rattle.std.proofs.lemmas.Bool.Decides.{nat_tests}
+use Rattle.std.proofs.lemmas.Int.{ints, clamps}
+use Rattle.pf_num.specs.Round.{near}
+use Rattle.pf_num.specs.Fx.{saturated, sum, difference, product}
+use Rattle.pf_shapes.specs.Fixture.{IsSize}
+use Rattle.pf_shapes.specs.Reach.{magnitude, reach, widened}
+
+-- a number from 0 on isn't negative
+is_negative-pos : (n : ℕ) → ltb n 0 ≡ false
+is_negative-pos n = grind (arith, nat_tests)
+
+-- the number nearest to a number from 0 on isn't below 0
+near-pos : (p q : ℕ) → pos 0 ≤ℤ near (pos p) (pos q)
+unfolding near
+near-pos p q = rw (is_negative-pos p, is_negative-pos q) (omega (arith, ints))
+
+saturated-pos : (z : ℤ) → pos 0 ≤ℤ z → pos 0 ≤ℤ saturated z
+unfolding saturated
+saturated-pos z h = omega (arith, ints, clamps)
+
+product-pos : (a b : ℤ) → pos 0 ≤ℤ b → pos 0 ≤ℤ product (magnitude a) b
+unfolding product
+product-pos a (pos b) h = saturated-pos _ (near-pos _ _)
+product-pos a (negsuc b) h = absurd (omega (arith, ints))
+
+sum-pos : (a b : ℤ) → pos 0 ≤ℤ a → pos 0 ≤ℤ b → pos 0 ≤ℤ sum a b
+unfolding sum
+sum-pos a b h k = saturated-pos _ (omega (arith, ints))
+
+widened-pos : (z : ℤ) → pos 0 ≤ℤ z → pos 1 ≤ℤ widened z
+unfolding widened sum saturated
+widened-pos z h = omega (arith, ints, clamps)
+
+-- a circle's extent is above 0
+pub circle_reaches : (r w : ℤ) → IsSize r → w ≡ widened r → pos 1 ≤ℤ w
+circle_reaches r w size e = rw e (widened-pos r (omega (arith, ints)))
+
+-- and a box's
+pub box_reaches : (a hx b hy w : ℤ) → IsSize hx → IsSize hy → w ≡ widened (reach a hx b hy) → pos 1 ≤ℤ w
+unfolding reach
+box_reaches a hx b hy w x y e =
+    rw e (widened-pos _ (sum-pos _ _ (product-pos a hx (omega (arith, ints))) (product-pos b hy (omega (arith, ints)))))
+
+-- a place less something is at most the place and it
+pub ends_ordered : (p e : ℤ) → pos 1 ≤ℤ e → difference p e ≤ℤ sum p e
+unfolding sum difference saturated
+ends_ordered p e h = omega (arith, ints, clamps)
