@@ -1,0 +1,5 @@
+pub mod Ranges
+pub mod Finding
+pub mod Exact
+pub mod Ascending
+pub mod Within

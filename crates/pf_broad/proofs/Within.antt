@@ -1,0 +1,50 @@
+-- The pairs are of two bodies that there are, the lesser number first.
+use Rattle.std.proofs.Common.{◌≡◌, ℕ, zero, suc, ◌+◌, Bool, true, false, cond, ◌&&◌, List, [], ◌∷◌, ◌++◌, length, refl, arith, map, nat_lt, ltb-true, ap, sym, subst, ◌∙◌}
+use Rattle.std.proofs.lemmas.List.Elements.{All-from_recursion}
+use Rattle.std.specs.List.{range_with_len, filter, flat_map, All, AllByRecursion}
+use Rattle.pf_shapes.specs.Fixture.{FixtureDef}
+use Rattle.pf_shapes.specs.Body.{State}
+use Rattle.pf_shapes.specs.Bounds.{Span}
+use Rattle.pf_broad.specs.Pairs.{at, meets, is_pair, pair, pairs_of, pairs, spans}
+use Rattle.pf_broad.specs.Laws.{IsPairOf}
+use Rattle.pf_broad.specs.declared.pair.Pair.{Pair}
+
+first-true : (a b : Bool) → (a && b) ≡ true → a ≡ true
+first-true true b h = refl
+first-true false b h = h
+
+-- a body's pairs are of it and a later body
+map-filter_within : (bs : List Span) (i a n m : ℕ) → a + n ≡ m
+    → AllByRecursion (IsPairOf m) (map (pair i) (filter (is_pair bs i) (range_with_len a n)))
+map-filter_within bs i a zero m e = tt
+map-filter_within bs i a (suc n) m e =
+    let more = map-filter_within bs i (a + 1) n m (omega arith) in
+    let rest = filter (is_pair bs i) (range_with_len (a + 1) n) in
+    elim (is_pair bs i a) as (λ b. is_pair bs i a ≡ b → AllByRecursion (IsPairOf m) (map (pair i) (cond b (a ∷ rest) rest))) [
+      | true ↦ λ yes. ((ltb-true i a (first-true (nat_lt i a) (meets (at bs i) (at bs a)) yes), omega arith), more)
+      | false ↦ λ _. more
+    ] refl
+
+append_within : (m : ℕ) (ps qs : List Pair) → AllByRecursion (IsPairOf m) ps → AllByRecursion (IsPairOf m) qs → AllByRecursion (IsPairOf m) (ps ++ qs)
+append_within m [] qs h k = k
+append_within m (p ∷ ps) qs h k = (h.0, append_within m ps qs h.1 k)
+
+flat_map_within : (bs : List Span) (xs : List ℕ) → AllByRecursion (IsPairOf (length bs)) (flat_map (pairs_of bs) xs)
+flat_map_within bs [] = tt
+flat_map_within bs (x ∷ xs) =
+    append_within (length bs) (pairs_of bs x) (flat_map (pairs_of bs) xs) (map-filter_within bs x 0 (length bs) (length bs) (omega arith)) (flat_map_within bs xs)
+
+length-spans : (fixtures : List FixtureDef) (bodies : List State) → length bodies ≡ length fixtures → length (spans fixtures bodies) ≡ length bodies
+length-spans [] [] h = refl
+length-spans (f ∷ fs) (b ∷ bs) h = ap suc (length-spans fs bs (omega arith))
+length-spans [] (b ∷ bs) h = absurd (omega arith)
+length-spans (f ∷ fs) [] h = absurd (omega arith)
+
+within : (fixtures : List FixtureDef) (bodies : List State) → length bodies ≡ length fixtures → All (IsPairOf (length bodies)) (pairs (spans fixtures bodies))
+within fixtures bodies h =
+    rw (← length-spans fixtures bodies h) (All-from_recursion (IsPairOf (length (spans fixtures bodies))) (pairs (spans fixtures bodies))
+    (flat_map_within (spans fixtures bodies) (range_with_len 0 (length (spans fixtures bodies)))))
+
+pub found_within : (fixtures : List FixtureDef) (bodies : List State) (bs : List Span) (ps : List Pair) → length bodies ≡ length fixtures
+    → bs ≡ spans fixtures bodies → ps ≡ pairs bs → All (IsPairOf (length bodies)) ps
+found_within fixtures bodies bs ps h e k = let P : List Pair → Type 0 = λ l. All (IsPairOf (length bodies)) l in subst P (sym (k ∙ ap pairs e)) (within fixtures bodies h)

@@ -1,0 +1,19 @@
+use Rattle.std.proofs.Common.{◌≡◌, length, sym, subst, ◌∙◌}
+use Rattle.std.proofs.lemmas.Result.{IfOk-weaker}
+use Rattle.std.specs.List.{All}
+use Rattle.pf_broad.specs.Pairs.{pairs}
+use Rattle.pf_broad.specs.Laws.{IsAscending, IsPairOf}
+use Rattle.pf_broad.proofs.Ascending.{ascending}
+use Rattle.pf_broad.proofs.Within.{found_within}
+use Rattle.pf_broad.proofs.pair.pairs.Goals as goal
+
+pub returns-clause-ascending : goal.returns-clause-ascending
+returns-clause-ascending c =
+    IfOk-weaker c.all_pairs.result (λ found. found.items ≡ pairs c.deref.result.now) (λ found. IsAscending found.items)
+    (λ found e. subst IsAscending (sym e) (ascending c.deref.result.now)) c.all_pairs.ensures
+
+pub returns-clause-bodies : goal.returns-clause-bodies
+returns-clause-bodies c =
+    IfOk-weaker c.all_pairs.result (λ found. found.items ≡ pairs c.deref.result.now) (λ found. All (IsPairOf (length c.args.bodies.now)) found.items)
+    (λ found e. found_within c.args.scene.now.fixtures c.args.bodies.now c.deref.result.now found.items c.requires
+    (c.deref.ensures.value ∙ c.in_ok-bounds.ensures) e) c.all_pairs.ensures

@@ -1,0 +1,38 @@
+-- Pairs of bodies whose bounds overlap, as Box2D's b2BroadPhase::UpdatePairs hands them on. Bodies are numbered from 0.
+use Rattle.std.specs.Prelude.{ℕ, Bool, true, not, ◌&&◌, List, length, map, filter, nat_lt, slice_index_or}
+use Rattle.std.specs.List.{range_with_len, flat_map, zip}
+use Rattle.pf_rot.specs.Vector.{zero_vector}
+use Rattle.pf_shapes.specs.Fixture.{FixtureDef}
+use Rattle.pf_shapes.specs.Body.{State}
+use Rattle.pf_shapes.specs.Bounds.{Span, bounds_of, overlaps}
+use Rattle.pf_broad.specs.declared.pair.Pair.{Pair}
+
+-- the bounds of each body, by its fixture and its state
+abbrev pub spans : List FixtureDef → List State → List Span
+spans fixtures bodies = map (λ body. bounds_of body.0 body.1) (zip fixtures bodies)
+
+-- what stands for the bounds of a body that there isn't
+abbrev pub no_span : Span
+no_span = record { low = zero_vector; high = zero_vector; fixed = true }
+
+abbrev pub at : List Span → ℕ → Span
+at bs i = slice_index_or bs i no_span
+
+-- not both static, and their bounds overlap
+unfoldable pub meets : Span → Span → Bool
+meets a b = not (a.fixed && b.fixed) && overlaps a b
+
+-- the second body has the greater number, and they meet
+abbrev pub is_pair : List Span → ℕ → ℕ → Bool
+is_pair bs i j = nat_lt i j && meets (at bs i) (at bs j)
+
+abbrev pub pair : ℕ → ℕ → Pair
+pair i j = record { a = i; b = j }
+
+-- the pairs of one body with those of greater numbers, in their order
+abbrev pub pairs_of : List Span → ℕ → List Pair
+pairs_of bs i = map (pair i) (filter (is_pair bs i) (range_with_len 0 (length bs)))
+
+-- the pairs of all bodies, in their order
+abbrev pub pairs : List Span → List Pair
+pairs bs = flat_map (pairs_of bs) (range_with_len 0 (length bs))
