@@ -1,0 +1,4 @@
+pub mod Features
+pub mod Mirrors
+pub mod Touching
+pub mod Pairs

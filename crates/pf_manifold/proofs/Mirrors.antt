@@ -1,0 +1,158 @@
+-- Two circles the other way round: numbers and their negatives round, saturate and divide alike.
+use Rattle.std.proofs.Common.{◌≡◌, ◌≢◌, ℕ, zero, suc, ◌+◌, ◌*◌, ◌<◌, ◌≤◌, ℤ, pos, negsuc, neg_ℤ, ◌-ℤ◌, Bool, true, false, [], ◌∷◌, Option, Some, None, min, refl, ap, ap₂, not, ⊎_elim, arith}
+use Rattle.std.proofs.lemmas.Bool.{cases_lt}
+use Rattle.std.proofs.lemmas.Bool.Decides.{nat_tests}
+use Rattle.std.proofs.lemmas.Int.{ints, clamps}
+use Rattle.std.specs.Bool.{beq}
+use Rattle.std.specs.Int.{is_negative}
+use Rattle.std.specs.Int.RustNames.{unsigned_abs}
+use Rattle.std.specs.Prelude.{int_lt, ◌==◌, if◌then◌else◌}
+use Rattle.pf_num.specs.Root.{whole_root}
+use Rattle.pf_num.specs.Round.{nearest, with_sign, is_opposite}
+use Rattle.pf_num.specs.Fx.{saturated, sum, difference, quotient}
+use Rattle.pf_num.proofs.Roots.{whole_root-meets}
+use Rattle.pf_num.proofs.Signs.{quotient_is, nearest-zero}
+use Rattle.pf_rot.specs.Vector.{Vec2, minus, negated, length_of}
+use Rattle.pf_shapes.specs.declared.fixture.Shape.TheVariants.{Circle, Box}
+use Rattle.pf_manifold.specs.Contact.{Contact}
+use Rattle.pf_manifold.specs.Point.{at_most_one}
+use Rattle.pf_manifold.specs.Placed.{PlacedShape}
+use Rattle.pf_manifold.specs.Circles.{divided, circle_normal, rim_point, circles_apart_by, collide_circles}
+use Rattle.pf_manifold.specs.BoxCircle.{collide_box_circle}
+use Rattle.pf_manifold.specs.Collide.{box_at, mirrored, if_mirrored, collide, collide_shapes}
+use Rattle.pf_manifold.specs.Laws.{IsMirrored}
+
+-- ---- numbers
+
+saturated-neg : (z : ℤ) → saturated (neg_ℤ z) ≡ neg_ℤ (saturated z)
+unfolding saturated
+saturated-neg z = omega (arith, ints, clamps)
+
+difference-swap : (a b : ℤ) → difference a b ≡ neg_ℤ (difference b a)
+unfolding difference
+difference-swap a b =
+    let e : a -ℤ b ≡ neg_ℤ (b -ℤ a) = omega (arith, ints) in rw e (saturated-neg (b -ℤ a))
+
+sum_comm : (a b : ℤ) → sum a b ≡ sum b a
+unfolding sum saturated
+sum_comm a b = omega (arith, ints, clamps)
+
+-- different numbers have a difference
+difference-none : (a b : ℤ) → difference b a ≡ pos 0 → a ≡ b
+unfolding difference saturated
+difference-none a b e = omega (arith, ints, clamps)
+
+magnitude-neg : (z : ℤ) → unsigned_abs (neg_ℤ z) ≡ unsigned_abs z
+magnitude-neg z = omega (arith, ints)
+
+is_negative-pos : (n : ℕ) → is_negative (pos n) ≡ false
+is_negative-pos n = grind (arith, nat_tests)
+
+turned_sign : (t : Bool) (m : ℕ) → with_sign (not (beq true t)) m ≡ neg_ℤ (with_sign (not (beq false t)) m)
+turned_sign true m = omega (arith, ints)
+turned_sign false m = refl
+
+opposite-neg : (n : ℕ) (b : ℤ) (m : ℕ) → with_sign (is_opposite (negsuc n) b) m ≡ neg_ℤ (with_sign (is_opposite (pos (suc n)) b) m)
+opposite-neg n b m = rw (is_negative-pos (suc n)) (turned_sign (is_negative b) m)
+
+signed_none : (t : Bool) → with_sign t 0 ≡ pos 0
+signed_none true = refl
+signed_none false = refl
+
+quotient_of : (a b : ℤ) → 0 < unsigned_abs b
+    → with_sign (is_opposite a b) (min (nearest (unsigned_abs a * 16777216) (unsigned_abs b)) 36028797018963967) ≡ quotient a b
+quotient_of a b some = quotient_is a b _ some refl
+
+quotient-none : (b : ℤ) → 0 < unsigned_abs b → quotient (pos 0) b ≡ pos 0
+quotient-none b some = rw (← quotient_of (pos 0) b some, nearest-zero (unsigned_abs b) some) (signed_none (is_opposite (pos 0) b))
+
+-- the quotient of a number's negative
+quotient-neg : (a b : ℤ) → 0 < unsigned_abs b → quotient (neg_ℤ a) b ≡ neg_ℤ (quotient a b)
+quotient-neg (pos zero) b some = let e : quotient (pos 0) b ≡ pos 0 = quotient-none b some in rw e refl
+quotient-neg (pos (suc n)) b some = rw (← quotient_of (negsuc n) b some, ← quotient_of (pos (suc n)) b some) (opposite-neg n b _)
+quotient-neg (negsuc n) b some = rw (← quotient_of (pos (suc n)) b some, ← quotient_of (negsuc n) b some, opposite-neg n b) (omega (arith, ints))
+
+-- ---- vectors
+
+minus-swap : (a b : Vec2) → minus a b ≡ negated (minus b a)
+unfolding minus negated
+minus-swap a b = rw (difference-swap a.x b.x, difference-swap a.y b.y) refl
+
+length_of-negated : (v : Vec2) → length_of (negated v) ≡ length_of v
+unfolding length_of negated
+length_of-negated v = rw (magnitude-neg v.x, magnitude-neg v.y) refl
+
+some_root : (n : ℕ) → 0 < n → 0 < unsigned_abs (saturated (pos (whole_root n)))
+unfolding saturated
+some_root n some =
+    let above : 0 < whole_root n = ⊎_elim
+    (λ (none : whole_root n < 1). absurd
+    (let zero_root : whole_root n ≡ 0 = omega arith in let h = rw zero_root at (whole_root-meets n).greatest in omega arith))
+    (λ (h : 1 ≤ whole_root n). h) (cases_lt (whole_root n) 1) in
+    omega (arith, ints, clamps)
+
+squares : (x y : ℕ) → (x ≡ 0 → y ≡ 0 → ⊥) → 0 < x * x + y * y
+squares zero zero h = absurd (h refl refl)
+squares zero (suc y) h = omega arith
+squares (suc x) y h = omega arith
+
+some_length : (v : Vec2) → (v.x ≡ pos 0 → v.y ≡ pos 0 → ⊥) → 0 < unsigned_abs (length_of v)
+unfolding length_of
+some_length v h = some_root _ (squares (unsigned_abs v.x) (unsigned_abs v.y) (λ ex ey. h (omega (arith, ints)) (omega (arith, ints))))
+
+same_vector : (a b : Vec2) → a.x ≡ b.x → a.y ≡ b.y → a ≡ b
+same_vector a b ex ey = let vector : ℤ → ℤ → Vec2 = λ x y. record { x = x; y = y } in ap₂ vector ex ey
+
+some_distance : (a b : Vec2) → a ≢ b → 0 < unsigned_abs (length_of (minus b a))
+unfolding minus
+some_distance a b apart =
+    some_length (minus b a) (λ ex ey. apart (same_vector a b (difference-none a.x b.x ex) (difference-none a.y b.y ey)))
+
+-- ---- circles
+
+divided-negated : (v : Vec2) (length : ℤ) → 0 < unsigned_abs length → divided (negated v) length ≡ negated (divided v length)
+unfolding divided negated
+divided-negated v length some = rw (quotient-neg v.x length some, quotient-neg v.y length some) refl
+
+normal-negated : (d : Vec2) (length : ℤ) → 0 < unsigned_abs length → circle_normal (negated d) length ≡ negated (circle_normal d length)
+unfolding circle_normal
+normal-negated d length some =
+    let e : (unsigned_abs length == 0) ≡ false = grind (arith, nat_tests) in
+    rw e (divided-negated d length some)
+
+mirrored_if : (t : Bool) (p q : Contact) → q.normal ≡ negated p.normal → q.separation ≡ p.separation
+    → IsMirrored (at_most_one (if t then None else Some p)) (at_most_one (if t then None else Some q))
+mirrored_if true p q n s = record { normals = refl; separations = refl }
+mirrored_if false p q n s = record { normals = ap (λ x. x ∷ []) n; separations = ap (λ x. x ∷ []) s }
+
+mirrored_apart : (a b : Vec2) (ra rb : ℤ) (d : Vec2) → 0 < unsigned_abs (length_of d)
+    → IsMirrored (at_most_one (circles_apart_by a ra rb d)) (at_most_one (circles_apart_by b rb ra (negated d)))
+unfolding circles_apart_by rim_point
+mirrored_apart a b ra rb d some =
+    rw (length_of-negated d, sum_comm rb ra)
+    (mirrored_if (int_lt (sum ra rb) (length_of d))
+    (rim_point a ra (circle_normal d (length_of d)) (difference (length_of d) (sum ra rb)))
+    (rim_point b rb (circle_normal (negated d) (length_of d)) (difference (length_of d) (sum ra rb)))
+    (normal-negated d (length_of d) some) refl)
+
+mirrored_circles : (a b : Vec2) (ra rb : ℤ) → a ≢ b
+    → IsMirrored (at_most_one (collide_circles a ra b rb)) (at_most_one (collide_circles b rb a ra))
+unfolding collide_circles
+mirrored_circles a b ra rb apart = rw (minus-swap a b) (mirrored_apart a b ra rb (minus b a) (some_distance a b apart))
+
+pub circles_mirror : (a b : PlacedShape) (ra rb : ℤ) → a.shape ≡ Circle ra → b.shape ≡ Circle rb → a.place ≢ b.place
+    → IsMirrored (collide a b) (collide b a)
+unfolding collide collide_shapes
+circles_mirror a b ra rb ea eb apart = rw (ea, eb) (mirrored_circles a.place b.place ra rb apart)
+
+-- ---- a box and a circle
+
+mirrored_point : (p : Option Contact) → IsMirrored (at_most_one p) (at_most_one (if_mirrored p))
+unfolding mirrored
+mirrored_point None = record { normals = refl; separations = refl }
+mirrored_point (Some p) = record { normals = refl; separations = refl }
+
+pub box_and_circle_mirror : (a b : PlacedShape) (hx hy r : ℤ) → a.shape ≡ Box hx hy → b.shape ≡ Circle r
+    → IsMirrored (collide a b) (collide b a)
+unfolding collide collide_shapes box_at
+box_and_circle_mirror a b hx hy r ea eb = rw (ea, eb) (mirrored_point (collide_box_circle (box_at hx hy a) b.place r))

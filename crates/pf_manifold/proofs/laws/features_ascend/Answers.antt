@@ -1,0 +1,47 @@
+use Rattle.std.proofs.Common.{◌≡◌, zero, suc, ◌≤◌, List, [], ◌∷◌, Some, length, refl, sym, ◌∙◌, arith}
+use Rattle.pf_manifold.specs.Contact.{Contact}
+use Rattle.pf_manifold.specs.Collide.{collide}
+use Rattle.pf_manifold.specs.Laws.{HaveAscendingFeatures, HaveDifferentFeatures}
+use Rattle.pf_manifold.proofs.Features.{AreAscending, bodies_ascend}
+use Rattle.pf_manifold.proofs.laws.features_ascend.Goals as goal
+
+few : (points : List Contact) → AreAscending points → length points ≤ 2
+few [] h = omega arith
+few (p ∷ []) h = omega arith
+few (p ∷ (q ∷ [])) h = omega arith
+few (p ∷ (q ∷ (r ∷ rest))) h = absurd h
+
+ascending : (points : List Contact) → AreAscending points → HaveAscendingFeatures points
+ascending [] h k within = absurd (omega arith)
+ascending (p ∷ []) h k within = absurd (omega arith)
+ascending (p ∷ (q ∷ [])) h zero within = h
+ascending (p ∷ (q ∷ [])) h (suc k) within = absurd (omega arith)
+ascending (p ∷ (q ∷ (r ∷ rest))) h k within = absurd h
+
+feature_of : (p q : Contact) → Some p ≡ Some q → p.feature ≡ q.feature
+feature_of p q e = cc
+
+different : (points : List Contact) → AreAscending points → HaveDifferentFeatures points
+different [] h i j p q at_i at_j same = absurd (cc)
+different (x ∷ []) h zero zero p q at_i at_j same = refl
+different (x ∷ []) h zero (suc j) p q at_i at_j same = absurd (cc)
+different (x ∷ []) h (suc i) j p q at_i at_j same = absurd (cc)
+different (x ∷ (y ∷ [])) h zero zero p q at_i at_j same = refl
+different (x ∷ (y ∷ [])) h zero (suc zero) p q at_i at_j same =
+    let e : x.feature ≡ y.feature = feature_of x p at_i ∙ same ∙ sym (feature_of y q at_j) in absurd (omega arith)
+different (x ∷ (y ∷ [])) h zero (suc (suc j)) p q at_i at_j same = absurd (cc)
+different (x ∷ (y ∷ [])) h (suc zero) zero p q at_i at_j same =
+    let e : y.feature ≡ x.feature = feature_of y p at_i ∙ same ∙ sym (feature_of x q at_j) in absurd (omega arith)
+different (x ∷ (y ∷ [])) h (suc zero) (suc zero) p q at_i at_j same = refl
+different (x ∷ (y ∷ [])) h (suc zero) (suc (suc j)) p q at_i at_j same = absurd (cc)
+different (x ∷ (y ∷ [])) h (suc (suc i)) j p q at_i at_j same = absurd (cc)
+different (x ∷ (y ∷ (z ∷ rest))) h i j p q at_i at_j same = absurd h
+
+pub returns-clause-few : goal.returns-clause-few
+returns-clause-few c = λ a b. few (collide a b) (bodies_ascend a b)
+
+pub returns-clause-ascending : goal.returns-clause-ascending
+returns-clause-ascending c = λ a b. ascending (collide a b) (bodies_ascend a b)
+
+pub returns-clause-different : goal.returns-clause-different
+returns-clause-different c = λ a b. different (collide a b) (bodies_ascend a b)

@@ -1,0 +1,79 @@
+-- The incident edge, as Box2D-Lite's ComputeIncidentEdge: the edge of the incident box that faces the reference face most,
+-- as a segment in the reference face's own directions.
+use Rattle.std.specs.Prelude.{ℕ, ℤ, pos, neg_ℤ, int_lt, if◌then◌else◌}
+use Rattle.std.specs.Int.RustNames.{unsigned_abs}
+use Rattle.pf_rot.specs.Vector.{Vec2, plus}
+use Rattle.pf_rot.specs.Rotation.{Pair, rotated}
+use Rattle.pf_manifold.specs.declared.face.Face.{Face}
+use Rattle.pf_manifold.specs.declared.face.Face.TheVariants.{Right, Top, Left, Bottom}
+use Rattle.pf_manifold.specs.declared.incident.Mark.{Mark}
+use Rattle.pf_manifold.specs.declared.incident.Mark.TheVariants.{First, Second, CutLow, CutHigh}
+use Rattle.pf_manifold.specs.Face.{front_part, side_part}
+use Rattle.pf_manifold.specs.Reference.{Reference}
+
+-- ---- the edge
+
+-- the way into the reference face, in the axes of the incident box, which is turned by q
+unfoldable pub inward : Face → Pair → Vec2
+inward Right q = record { x = neg_ℤ q.c; y = q.s }
+inward Top q = record { x = neg_ℤ q.s; y = neg_ℤ q.c }
+inward Left q = record { x = q.c; y = neg_ℤ q.s }
+inward Bottom q = record { x = q.s; y = q.c }
+
+-- the edge that looks most in the direction n: on the right or left only where n is more along x than along y
+unfoldable pub edge_along : Vec2 → Face
+edge_along n =
+    if int_lt (pos (unsigned_abs n.y)) (pos (unsigned_abs n.x)) then (if int_lt (pos 0) n.x then Right else Left)
+    else (if int_lt (pos 0) n.y then Top else Bottom)
+
+unfoldable pub incident_edge : Reference → Face
+incident_edge r = edge_along (inward r.face r.relative)
+
+-- ---- its ends
+
+-- the ends of an edge, counterclockwise, in the axes of its box of these half extents
+abbrev pub first_corner : Face → Vec2 → Vec2
+first_corner Right half = record { x = half.x; y = neg_ℤ half.y }
+first_corner Top half = record { x = half.x; y = half.y }
+first_corner Left half = record { x = neg_ℤ half.x; y = half.y }
+first_corner Bottom half = record { x = neg_ℤ half.x; y = neg_ℤ half.y }
+
+abbrev pub second_corner : Face → Vec2 → Vec2
+second_corner Right half = record { x = half.x; y = half.y }
+second_corner Top half = record { x = neg_ℤ half.x; y = half.y }
+second_corner Left half = record { x = neg_ℤ half.x; y = neg_ℤ half.y }
+second_corner Bottom half = record { x = half.x; y = neg_ℤ half.y }
+
+-- 0 or 1 for an end of the edge, 2 or 3 for where it is cut at the low or the high limit
+abbrev pub mark_number : Mark → ℕ
+mark_number First = 0
+mark_number Second = 1
+mark_number CutLow = 2
+mark_number CutHigh = 3
+
+-- a point of the edge, as Box2D's b2ClipVertex: how far it is in front of the reference box's centre, how far to the
+-- side, and what made it
+pub record ClipVertex : Type 0 where
+  pub front : ℤ
+  pub side : ℤ
+  pub mark : Mark
+
+-- a place in the reference box's axes
+unfoldable pub vertex_of : Face → Mark → Vec2 → ClipVertex
+vertex_of face mark v = record { front = front_part face v; side = side_part face v; mark = mark }
+
+-- a corner of the incident box
+unfoldable pub corner_vertex : Reference → Mark → Vec2 → ClipVertex
+corner_vertex r mark corner = vertex_of r.face mark (plus r.offset (rotated r.relative corner))
+
+-- what is left of the edge
+pub record Segment : Type 0 where
+  pub first : ClipVertex
+  pub second : ClipVertex
+
+-- the whole edge
+unfoldable pub incident_segment : Reference → Face → Segment
+incident_segment r edge = record {
+  first = corner_vertex r First (first_corner edge r.incident);
+  second = corner_vertex r Second (second_corner edge r.incident);
+}

@@ -1,0 +1,14 @@
+pub mod Contact
+pub mod Point
+pub mod Placed
+pub mod Face
+pub mod Circles
+pub mod BoxCircle
+pub mod Separation
+pub mod Reference
+pub mod Incident
+pub mod Clip
+pub mod Boxes
+pub mod Collide
+pub mod Laws
+pub mod Touches

@@ -1,0 +1,58 @@
+-- The reference box and its reference face, as Box2D's b2CollidePolygons: of two boxes the one whose face the best axis
+-- is normal to. The other box is the incident one.
+use Rattle.std.specs.Prelude.{pos, neg_ℤ, int_lt, if◌then◌else◌}
+use Rattle.pf_rot.specs.Vector.{Vec2, negated}
+use Rattle.pf_rot.specs.Rotation.{Pair}
+use Rattle.pf_manifold.specs.declared.face.Face.{Face}
+use Rattle.pf_manifold.specs.declared.face.Face.TheVariants.{Right, Top, Left, Bottom}
+use Rattle.pf_manifold.specs.declared.separation.Axis.{Axis}
+use Rattle.pf_manifold.specs.declared.separation.Axis.TheVariants.{AX, AY, BX, BY}
+use Rattle.pf_manifold.specs.declared.reference.Owner.{Owner}
+use Rattle.pf_manifold.specs.declared.reference.Owner.TheVariants.{BoxA, BoxB}
+use Rattle.pf_manifold.specs.Placed.{OrientedBox}
+use Rattle.pf_manifold.specs.Separation.{Frames}
+
+-- the reference box, and which of the two it is; its reference face; and of the incident box the half extents, the offset
+-- of its centre in the reference box's axes, and its rotation in them
+pub record Reference : Type 0 where
+  pub owner : Owner
+  pub box : OrientedBox
+  pub face : Face
+  pub incident : Vec2
+  pub offset : Vec2
+  pub relative : Pair
+
+-- the face on this axis that looks towards the other box, at this offset
+unfoldable pub face_towards : Axis → Vec2 → Face
+face_towards AX offset = if int_lt (pos 0) offset.x then Right else Left
+face_towards AY offset = if int_lt (pos 0) offset.y then Top else Bottom
+face_towards BX offset = if int_lt (pos 0) offset.x then Right else Left
+face_towards BY offset = if int_lt (pos 0) offset.y then Top else Bottom
+
+unfoldable pub reference_a : OrientedBox → OrientedBox → Frames → Axis → Reference
+reference_a a b f axis = record {
+  owner = BoxA;
+  box = a;
+  face = face_towards axis f.in_a;
+  incident = b.half;
+  offset = f.in_a;
+  relative = f.relative;
+}
+
+-- b sees a the other way, and turned back
+unfoldable pub reference_b : OrientedBox → OrientedBox → Frames → Axis → Reference
+reference_b a b f axis = record {
+  owner = BoxB;
+  box = b;
+  face = face_towards axis (negated f.in_b);
+  incident = a.half;
+  offset = negated f.in_b;
+  relative = record { c = f.relative.c; s = neg_ℤ f.relative.s };
+}
+
+-- a where the axis is one of its own
+unfoldable pub reference_of : OrientedBox → OrientedBox → Frames → Axis → Reference
+reference_of a b f AX = reference_a a b f AX
+reference_of a b f AY = reference_a a b f AY
+reference_of a b f BX = reference_b a b f BX
+reference_of a b f BY = reference_b a b f BY

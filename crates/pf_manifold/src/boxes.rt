@@ -1,0 +1,166 @@
+//! Two boxes, as Box2D-Lite's Collide.cpp.
+
+ghost use Rattle.std.specs.Prelude.{◌≡◌, ◌<◌};
+ghost use Rattle.pf_manifold.specs.Point.{points_of};
+ghost use Rattle.pf_manifold.specs.Boxes.{face_normal, reference_normal, vertex_feature, vertex_point, vertex_contact, ascending, edge_points, reference_points, points_along, collide_boxes, first_face};
+
+use crate::clip::clipped;
+use crate::face::Face;
+use crate::incident::{Mark, Vertex, incident_edge, incident_segment, mark_number};
+use crate::manifold::{Manifold, at_most_one};
+use crate::placed::PlacedBox;
+use crate::point::Point;
+use crate::reference::{Owner, Reference, reference_of};
+use crate::separation::{Frames, Separations, best_axis, frames_of, has_gap, separations_of};
+use pf_num::Fx;
+use pf_rot::{Rot, V2};
+
+/// The outward normal of a face of a box turned by `q`, in the world.
+#[inline]
+#[tactic(auto, unfolding(crate::specs::Boxes::face_normal))]
+fn face_normal(face: Face, q: Rot) -> V2
+    ensures { result ≡ face_normal face q }
+{
+    let (c, s) = (q.c, q.s);
+    match face {
+        Face::Right => V2 { x: c, y: s },
+        Face::Top => V2 { x: s.neg(), y: c },
+        Face::Left => V2 {
+            x: c.neg(),
+            y: s.neg(),
+        },
+        Face::Bottom => V2 { x: s, y: c.neg() },
+    }
+}
+
+/// The outward normal of the reference face, the other way where it is one of `b`.
+#[inline]
+#[tactic(auto, unfolding(crate::specs::Boxes::reference_normal))]
+fn reference_normal(r: &Reference) -> V2
+    ensures { result ≡ reference_normal r.now }
+{
+    let at = r.at;
+    let normal = face_normal(r.face, at.rot);
+    match r.owner {
+        Owner::BoxA => normal,
+        Owner::BoxB => normal.neg(),
+    }
+}
+
+/// The number of the first face of this box: those of `b` come after those of `a`.
+#[inline]
+fn first_face(owner: Owner) -> u8
+    ensures value { result ≡ first_face owner }
+    ensures bound { result < 5 }
+{
+    match owner {
+        Owner::BoxA => 0,
+        Owner::BoxB => 4,
+    }
+}
+
+/// The feature of a vertex: 0 to 127.
+#[inline]
+#[tactic(auto, unfolding(crate::specs::Boxes::vertex_feature))]
+fn vertex_feature(r: &Reference, edge: Face, mark: Mark) -> u8
+    ensures { result ≡ vertex_feature r.now edge mark }
+{
+    let face = first_face(r.owner) + r.face.number();
+    16 * face + 4 * edge.number() + mark_number(mark)
+}
+
+/// The point on the reference face next to a vertex.
+#[inline]
+#[tactic(auto, unfolding(crate::specs::Boxes::vertex_point))]
+fn vertex_point(r: &Reference, edge: Face, v: Vertex, separation: Fx) -> Point
+    ensures { result ≡ vertex_point r.now edge v separation }
+{
+    let at = r.at;
+    let front = r.face.front_extent(at.half);
+    Point {
+        feature: vertex_feature(r, edge, v.mark),
+        position: at.to_world(r.face.from_parts(front, v.side)),
+        normal: reference_normal(r),
+        separation,
+    }
+}
+
+/// The point of a vertex that isn't in front of the reference face.
+#[inline]
+#[tactic(auto, unfolding(crate::specs::Boxes::vertex_contact))]
+fn vertex_contact(r: &Reference, edge: Face, v: Vertex) -> Option<Point>
+    ensures { result ≡ vertex_contact r.now edge v }
+{
+    let at = r.at;
+    let separation = v.front.sub(r.face.front_extent(at.half));
+    if separation > Fx::ZERO {
+        return None;
+    }
+    Some(vertex_point(r, edge, v, separation))
+}
+
+/// The manifold of these points, in ascending order of features.
+#[inline]
+#[tactic(auto, unfolding(crate::specs::Boxes::ascending))]
+fn ascending(first: Option<Point>, second: Option<Point>) -> Manifold
+    ensures { points_of result ≡ ascending first second }
+{
+    match (first, second) {
+        (Some(p), Some(q)) => {
+            if q.feature < p.feature {
+                Manifold::Two(q, p)
+            } else {
+                Manifold::Two(p, q)
+            }
+        }
+        (None, point) | (point, None) => at_most_one(point),
+    }
+}
+
+/// The points of this edge of the incident box.
+#[inline]
+#[tactic(auto, unfolding(crate::specs::Boxes::edge_points))]
+fn edge_points(r: &Reference, edge: Face) -> Manifold
+    ensures { points_of result ≡ edge_points r.now edge }
+{
+    let at = r.at;
+    match clipped(incident_segment(r, edge), r.face.side_part(at.half)) {
+        None => Manifold::Apart,
+        Some(s) => {
+            let first = vertex_contact(r, edge, s.first);
+            ascending(first, vertex_contact(r, edge, s.second))
+        }
+    }
+}
+
+/// The points of the incident edge.
+#[inline]
+#[tactic(auto, unfolding(crate::specs::Boxes::reference_points))]
+fn reference_points(r: &Reference) -> Manifold
+    ensures { points_of result ≡ reference_points r.now }
+{
+    edge_points(r, incident_edge(r))
+}
+
+/// The points of boxes with these separations.
+#[inline]
+#[tactic(auto, unfolding(crate::specs::Boxes::points_along))]
+fn points_along(a: &PlacedBox, b: &PlacedBox, frames: &Frames, s: &Separations) -> Manifold
+    ensures { points_of result ≡ points_along a.now b.now frames.now s.now }
+{
+    if has_gap(s) {
+        return Manifold::Apart;
+    }
+    let axis = best_axis(s, a.half, b.half);
+    reference_points(&reference_of(a, b, frames, axis))
+}
+
+/// The points of two boxes.
+#[tactic(auto, unfolding(crate::specs::Boxes::collide_boxes))]
+pub fn collide_boxes(a: &PlacedBox, b: &PlacedBox) -> Manifold
+    ensures { points_of result ≡ collide_boxes a.now b.now }
+{
+    let frames = frames_of(a, b);
+    let separations = separations_of(a.half, b.half, &frames);
+    points_along(a, b, &frames, &separations)
+}
