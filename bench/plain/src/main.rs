@@ -39,8 +39,10 @@
 //! in the two wide ones x is at least about 2^50, so every product is above 2^62 and every
 //! numerator above 2^64, and each step takes the exact path over 128 bits.
 //!
-//! The tasks on maps of commands, `plain TASK COUNT HELD`, are in `maps`.
+//! The tasks on maps of commands, `plain TASK COUNT HELD`, are in `maps`, those on contact points and pairs of bodies
+//! in `geometry`.
 
+mod geometry;
 mod maps;
 
 use std::process::ExitCode;
@@ -285,7 +287,9 @@ fn main() -> ExitCode {
     let answer = match words.as_slice() {
         [operation, count] => count.parse().ok().and_then(|count| chain(operation, count)).map(i128::from),
         [task, count, held] => match (count.parse(), held.parse()) {
-            (Ok(count), Ok(held)) if held > 0 => maps::sum(task, count, held).map(i128::from),
+            (Ok(count), Ok(held)) if held > 0 => geometry::sum(task, count, held)
+                .map(i128::from)
+                .or_else(|| maps::sum(task, count, held).map(i128::from)),
             _ => None,
         },
         _ => None,

@@ -10,7 +10,7 @@ use pf_rot::{Rot, V2};
 
 /// The number of so many units.
 #[inline]
-fn units(raw: i64) -> Fx
+pub fn units(raw: i64) -> Fx
     requires { IsRaw raw }
     ensures { result ≡ raw }
 {

@@ -5,14 +5,15 @@
 //! number: `add`, `mul`, `div`, `mul-wide`, `div-wide`, `root`, `length` or `turn`. In the wide two each step takes
 //! the exact path over 128 bits. Called as `pf_bench TASK COUNT HELD`, it does something with a map of so many
 //! commands and prints the sum of the answers: `put`, `get`, `greatest`, `at-tick`, `merge-known`, `merge-greater`, `copy`
-//! or `decode`.
+//! or `decode`; or it finds the contact points of two bodies and prints the sum of their numbers, `circles`, `box-circle`
+//! or `boxes`, or the `pairs` of a scene of so many bodies, and prints how many there were.
 #![tactic(auto)]
 
 mod chain;
+mod geometry;
 mod maps;
 mod operation;
 
-use maps::Task;
 use operation::Operation;
 use std::alloc::Global;
 use std::env::Env;
@@ -25,15 +26,19 @@ mod tests;
 const USAGE: &str = "\
 usage: pf_bench add|mul|div|mul-wide|div-wide|root|length|turn COUNT
        pf_bench put|get|greatest|at-tick|merge-known|merge-greater|copy|decode COUNT HELD
+       pf_bench circles|box-circle|boxes|pairs COUNT HELD
 ";
 
-/// What came of a task, where the word names one, done with a map of so many commands.
+/// What came of a task, where the word names one, done with a map of so many commands or with so many bodies.
 fn summed(alloc: Global, task: &str, count: u64, held: &str) -> Option<i128> {
-    let task = Task::parse(task)?;
     let held = held.parse().ok()?;
     if held == 0 {
         return None;
     }
+    if let Some(task) = geometry::Task::parse(task) {
+        return geometry::sum(alloc, task, count, held).map(i128::from);
+    }
+    let task = maps::Task::parse(task)?;
     Some(i128::from(maps::sum(alloc, task, count, held).ok()?))
 }
 

@@ -1,4 +1,5 @@
 use super::chain::last;
+use super::geometry;
 use super::maps::{Task, sum};
 use super::operation::Operation;
 use std::test::Fail;
@@ -44,4 +45,26 @@ const SUMS: [(&str, u64); 8] = [
     ("merge-greater", 80),
     ("copy", 10000),
     ("decode", 81006),
+];
+
+// Answers of the same tasks in plain Rust.
+#[test]
+fn geometry_is_as_in_plain_rust(rt: HostRuntime) {
+    for (word, count, held, want) in GEOMETRY {
+        let task = geometry::Task::parse(word);
+        let found = task.and_then(|task| geometry::sum(rt.alloc(), task, count, held));
+        assert_eq!(rt; found, want, "{word}");
+    }
+    assert_eq!(rt; geometry::Task::parse("pair"), None);
+}
+
+const GEOMETRY: [(&str, u64, u64, Option<i64>); 8] = [
+    ("circles", 10, 1, Some(-172902659)),
+    ("circles", 1000, 1, Some(-8906960781)),
+    ("box-circle", 10, 1, Some(-99821557)),
+    ("box-circle", 1000, 1, Some(-6861847721)),
+    ("boxes", 10, 1, Some(-104039433)),
+    ("boxes", 1000, 1, Some(-8001244553)),
+    ("pairs", 10, 1000, Some(22220)),
+    ("pairs", 10, 1025, None),
 ];

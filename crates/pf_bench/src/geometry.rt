@@ -1,0 +1,182 @@
+//! Contact points of two bodies, and pairs of bodies whose bounds overlap, over and over.
+
+ghost use Rattle.std.specs.Prelude.{◌≤◌, ◌<◌};
+ghost use Rattle.pf_shapes.specs.Fixture.{HasSize};
+
+use crate::chain::units;
+use pf_broad::pairs;
+use pf_manifold::{Manifold, Placed, Point, collide};
+use pf_num::Fx;
+use pf_rot::{Rot, V2};
+use pf_shapes::{BodyState, Fixture, MAX_BODIES, Scene, Shape};
+use std::alloc::{AllocError, Global};
+
+/// What is done over and over.
+#[derive(Clone, Copy, Debug, PartialEq, Eq)]
+pub enum Task {
+    /// The point of two circles is found.
+    Circles,
+    /// The point of a box and a circle is found.
+    BoxCircle,
+    /// The points of two boxes are found.
+    Boxes,
+    /// The pairs of a field of bodies are found.
+    Pairs,
+}
+
+impl Task {
+    /// The task of this word.
+    pub fn parse(word: &str) -> Option<Task> {
+        match word {
+            "circles" => Some(Task::Circles),
+            "box-circle" => Some(Task::BoxCircle),
+            "boxes" => Some(Task::Boxes),
+            "pairs" => Some(Task::Pairs),
+            _ => None,
+        }
+    }
+}
+
+/// A circle of the radius 1.
+fn small_circle() -> Shape
+    ensures { HasSize result }
+{
+    Shape::Circle { r: Fx::ONE }
+}
+
+/// A box of the half extents 1 and 1/2.
+fn small_box() -> Shape
+    ensures { HasSize result }
+{
+    Shape::Box {
+        hx: Fx::ONE,
+        hy: units(1 << 23),
+    }
+}
+
+/// The rotation of index i: upright, a quarter, (0.8, 0.6) or (0.6, -0.8).
+#[inline]
+fn turned(i: u64) -> Rot {
+    let (c, s) = match i % 4 {
+        0 => (Fx::ONE, Fx::ZERO),
+        1 => (Fx::ZERO, Fx::ONE),
+        2 => (units(13_421_773), units(10_066_330)),
+        _ => (units(10_066_330), units(-13_421_773)),
+    };
+    Rot { c, s }
+}
+
+/// A part of the place of index i, from -2 to 2.
+#[inline]
+fn scattered(i: u64, factor: u64) -> Fx
+    requires { factor < 65536 }
+{
+    let part = ((i & 0xffff) * factor) & 0xffff;
+    units((part as i64 - 32_768) * 1024)
+}
+
+/// The sum of all numbers of a point.
+#[inline]
+fn of_point(point: Point) -> i64 {
+    i64::from(point.feature)
+        .wrapping_add(point.position.x.raw())
+        .wrapping_add(point.position.y.raw())
+        .wrapping_add(point.normal.x.raw())
+        .wrapping_add(point.normal.y.raw())
+        .wrapping_add(point.separation.raw())
+}
+
+/// The sum of all numbers of a manifold's points.
+#[inline]
+fn of_manifold(manifold: Manifold) -> i64 {
+    match manifold {
+        Manifold::Apart => 0,
+        Manifold::One(point) => of_point(point),
+        Manifold::Two(first, second) => of_point(first).wrapping_add(of_point(second)),
+    }
+}
+
+/// The sum over the points of `a` at the origin, and of `b` at so many places about it.
+fn points(a: &Shape, b: &Shape, count: u64) -> i64 {
+    let a = Placed {
+        shape: a,
+        place: V2::ZERO,
+        rot: turned(2),
+    };
+    let mut sum: i64 = 0;
+    for i in 0..count {
+        let place = V2 {
+            x: scattered(i, 40_503),
+            y: scattered(i, 7_919),
+        };
+        let b = Placed {
+            shape: b,
+            place,
+            rot: turned(i),
+        };
+        sum = sum.wrapping_add(of_manifold(collide(&a, &b)));
+    }
+    sum
+}
+
+/// A body of this shape, of mass 1 or static.
+fn body_of(shape: Shape, is_static: bool) -> Fixture
+    requires { HasSize shape }
+{
+    let mass = if is_static { Fx::ZERO } else { Fx::ONE };
+    Fixture::new(shape, mass, Fx::ZERO, None)
+}
+
+/// A place on a grid of 1.75 that is 32 wide.
+fn on_grid(i: u64) -> V2
+    requires { i < 1024 }
+{
+    let step = (7 << 24) / 4;
+    V2 {
+        x: units((i % 32) as i64 * step),
+        y: units((i / 32) as i64 * step),
+    }
+}
+
+/// So many bodies, by turns a circle and a box, every eighth of them static.
+fn field(alloc: Global, held: u64) -> Result<Scene, AllocError>
+    requires { held ≤ 1024 }
+{
+    let mut scene = Scene::new(alloc, V2::ZERO);
+    for i in 0..held {
+        let shape = if i % 2 == 0 {
+            small_circle()
+        } else {
+            small_box()
+        };
+        let body = body_of(shape, i % 8 == 0);
+        let start = BodyState::start(&body, on_grid(i), turned(i));
+        scene.push(body, start)?;
+    }
+    Ok(scene)
+}
+
+/// How many pairs a field of so many bodies has, so many times.
+fn pairs_found(alloc: Global, count: u64, held: u64) -> Result<i64, AllocError>
+    requires { held ≤ 1024 }
+{
+    let scene = field(alloc, held)?;
+    let mut sum: i64 = 0;
+    for _ in 0..count {
+        let found = pairs(alloc, &scene, scene.starts())?;
+        sum = sum.wrapping_add(found.len() as i64);
+    }
+    Ok(sum)
+}
+
+/// Does the task so many times, and sums what it answers, in 64 bits. There is no answer for more bodies than a scene
+/// has, or where memory is refused.
+pub fn sum(alloc: Global, task: Task, count: u64, held: u64) -> Option<i64> {
+    match task {
+        Task::Circles => Some(points(&small_circle(), &small_circle(), count)),
+        Task::BoxCircle => Some(points(&small_box(), &small_circle(), count)),
+        Task::Boxes => Some(points(&small_box(), &small_box(), count)),
+        Task::Pairs if held <= MAX_BODIES as u64 => pairs_found(alloc, count, held).ok(),
+        Task::Pairs => None,
+    }
+}

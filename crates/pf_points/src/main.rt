@@ -1,0 +1,137 @@
+//! Answers bodies, two lines a case, by whether their bounds overlap and by their contact points. A line is
+//! `circle R X Y C S` or `box HX HY X Y C S`, raw numbers of which C and S are the body's rotation as it is; the answer is
+//! `apart` or `overlap`, a line `point FEATURE X Y NX NY SEPARATION` for each point, and `end`. Its stored run has 400
+//! cases with answers that an independent program gave.
+#![tactic(auto)]
+
+use anyhow::{Context, Result, bail};
+use pf_manifold::{Manifold, Placed, Point, collide};
+use pf_num::Fx;
+use pf_rot::{Rot, V2};
+use pf_shapes::Shape;
+use pf_text::{fields_of, integer, push_line};
+use std::alloc::Global;
+use std::io::{BufRead, BufReader, BufWriter, Write};
+
+/// A body of a case.
+#[derive(Drop)]
+struct Body {
+    shape: Shape,
+    place: V2,
+    rot: Rot,
+}
+
+/// The number that a field spells.
+fn number(field: &[u8]) -> Result<Fx> {
+    let raw = integer(field, Fx::MAX.neg().raw(), Fx::MAX.raw())?;
+    Fx::from_raw(raw).context("a number is out of range")
+}
+
+/// The vector that two fields spell.
+fn vector(x: &[u8], y: &[u8]) -> Result<V2> {
+    Ok(V2 {
+        x: number(x)?,
+        y: number(y)?,
+    })
+}
+
+/// A body of this shape, whose place and rotation are these fields.
+fn placed(shape: Shape, fields: [&[u8]; 4]) -> Result<Body> {
+    let [x, y, c, s] = fields;
+    let place = vector(x, y)?;
+    let rot = vector(c, s)?;
+    Ok(Body {
+        shape,
+        place,
+        rot: Rot { c: rot.x, s: rot.y },
+    })
+}
+
+/// The body that a line says.
+fn body_of(alloc: Global, line: &[u8]) -> Result<Body> {
+    let fields = fields_of(alloc, line)?;
+    match fields.as_slice() {
+        [word, r, x, y, c, s] if *word == b"circle".as_slice() => {
+            placed(Shape::Circle { r: number(r)? }, [*x, *y, *c, *s])
+        }
+        [word, hx, hy, x, y, c, s] if *word == b"box".as_slice() => {
+            let half = vector(hx, hy)?;
+            let shape = Shape::Box {
+                hx: half.x,
+                hy: half.y,
+            };
+            placed(shape, [*x, *y, *c, *s])
+        }
+        _ => bail!("no such line"),
+    }
+}
+
+/// Adds the line of a point.
+fn push_point(text: &mut String, point: &Point) -> Result<()> {
+    let numbers = [
+        i64::from(point.feature),
+        point.position.x.raw(),
+        point.position.y.raw(),
+        point.normal.x.raw(),
+        point.normal.y.raw(),
+        point.separation.raw(),
+    ];
+    Ok(push_line(text, "point", &numbers)?)
+}
+
+/// Adds the lines of points.
+fn push_points(text: &mut String, points: &Manifold) -> Result<()> {
+    match points {
+        Manifold::Apart => Ok(()),
+        Manifold::One(point) => push_point(text, point),
+        Manifold::Two(first, second) => {
+            push_point(text, first)?;
+            push_point(text, second)
+        }
+    }
+}
+
+/// The answer to two bodies.
+fn answer(alloc: Global, a: &Body, b: &Body) -> Result<String> {
+    let mut text = String::new(alloc);
+    let bounds_a = a.shape.bounds(a.place, a.rot, false);
+    let bounds_b = b.shape.bounds(b.place, b.rot, false);
+    let word = if bounds_a.overlaps(&bounds_b) {
+        "overlap"
+    } else {
+        "apart"
+    };
+    push_line(&mut text, word, &[])?;
+    let a = Placed {
+        shape: &a.shape,
+        place: a.place,
+        rot: a.rot,
+    };
+    let b = Placed {
+        shape: &b.shape,
+        place: b.place,
+        rot: b.rot,
+    };
+    push_points(&mut text, &collide(&a, &b))?;
+    push_line(&mut text, "end", &[])?;
+    Ok(text)
+}
+
+fn main(rt: HostRuntime) -> Result<()> {
+    let alloc = rt.alloc();
+    let mut writer = BufWriter::new(alloc, std::io::writer(&rt))?;
+    let mut first = None;
+    for line in BufReader::new(alloc, rt.reader())?.lines(alloc) {
+        let second = body_of(alloc, line?.as_bytes())?;
+        first = match first {
+            None => Some(second),
+            Some(first) => {
+                let text = answer(alloc, &first, &second)?;
+                write!(writer, "{text}")?;
+                None
+            }
+        };
+    }
+    writer.flush()?;
+    Ok(())
+}
