@@ -93,6 +93,21 @@ fn worked_rows(rt: HostRuntime) -> Result<(), Fail> {
     Ok(())
 }
 
+/// A box that lies at an angle, and is turned by its player.
+const TURNED: &[u8] =
+    b"gravity 0 0\nbox 0 16777216 0 16777216 8388608 0 0 3 4\nend\npeers 1\nissue 0 turn 0 16777216\nadvance 0 2\nshow 0 0\nshow 0 2\n";
+
+const TURNED_ON: &[u8] =
+    b"issue 0 010000000000000001000000000000010000000000000000000000\nadvance 0 2\nshow 0 0\nbody 0 0 0 10066330 13421773 0 0 0 0 1\nend\nshow 0 2\nbody 0 0 0 9032838 14137992 0 0 40265316 0 1\nend\n";
+
+#[test]
+fn a_box_turns(rt: HostRuntime) -> Result<(), Fail> {
+    let (output, _, status) = played(rt.alloc(), TURNED)?;
+    assert_eq!(rt; output.bytes(), TURNED_ON);
+    assert_eq!(rt; status, 0);
+    Ok(())
+}
+
 #[test]
 fn each_fault_has_its_line_and_name(rt: HostRuntime) -> Result<(), Fail> {
     let rows = [
