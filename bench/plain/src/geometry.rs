@@ -298,7 +298,7 @@ fn boxes(a: &Body, ha: Vector, b: &Body, hb: Vector) -> Manifold {
     let (place, rot, half, other) = if is_b { (b.place, b.rot, hb, ha) } else { (a.place, a.rot, ha, hb) };
     let d = if is_b { f.in_b.negated() } else { f.in_a };
     let q = if is_b { Pair { c: f.relative.c, s: -f.relative.s } } else { f.relative };
-    let is_x = axis % 2 == 0;
+    let is_x = axis.is_multiple_of(2);
     let ahead = if is_x { d.x > 0 } else { d.y > 0 };
     let face = u8::from(!is_x) + if ahead { 0 } else { 2 };
     let g = |z: i64| if ahead { z } else { -z };
@@ -395,7 +395,7 @@ fn points(a: Shape, b: Shape, count: u64) -> i64 {
     let a = Body { shape: a, place: Vector { x: 0, y: 0 }, rot: turned(2) };
     let mut sum = 0i64;
     for i in 0..count {
-        let at = |k: u64| (((i & 0xffff) * k & 0xffff) as i64 - 32_768) << 10;
+        let at = |k: u64| ((((i & 0xffff) * k) & 0xffff) as i64 - 32_768) << 10;
         let place = Vector { x: at(40_503), y: at(7_919) };
         let b = Body { shape: b, place, rot: turned(i) };
         sum = sum.wrapping_add(of_manifold(collide(&a, &b)));
@@ -447,10 +447,10 @@ fn pairs(bodies: &[(Body, bool)]) -> Vec<(usize, usize)> {
 
 fn field(held: u64) -> Vec<(Body, bool)> {
     let body = |i: u64| {
-        let shape = if i % 2 == 0 { small_circle() } else { small_box() };
+        let shape = if i.is_multiple_of(2) { small_circle() } else { small_box() };
         let at = |k: u64| k as i64 * (ONE * 7 / 4);
         let place = Vector { x: at(i % 32), y: at(i / 32) };
-        (Body { shape, place, rot: turned(i) }, i % 8 == 0)
+        (Body { shape, place, rot: turned(i) }, i.is_multiple_of(8))
     };
     (0..held).map(body).collect()
 }

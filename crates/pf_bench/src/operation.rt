@@ -1,3 +1,5 @@
+//! Operations that are measured, and their words.
+
 ghost use Rattle.std.specs.Prelude.{◌≡◌, IfSome};
 ghost use Rattle.pf_bench.specs.declared.operation.Operation.{Operation};
 ghost use Rattle.pf_bench.specs.Operation.{word_of};

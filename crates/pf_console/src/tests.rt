@@ -44,48 +44,51 @@ fn played(alloc: Global, text: &[u8]) -> Result<(Collected, Collected, u8), Allo
     }
 }
 
+/// Texts, and what is written for them.
+#[rattlefmt::skip]
+const WORKED: [(&[u8], &[u8]); 10] = [
+    (
+        b"gravity 0 0\nend\npeers 1\nadvance 0 5\nshow 0 5\n",
+        b"advance 0 5\nshow 0 5\nend\n",
+    ),
+    (FALLING, FALLEN),
+    (
+        b"gravity 0 0\ncircle 0 16777216 0 16777216 0 0\nend\npeers 1\nadvance 0 32\nshow 0 31\nshow 0 32\n",
+        b"advance 0 32\nshow 0 31\nbody 0 0 0 16777216 0 0 0 0 31 1\nend\nshow 0 32\nbody 0 0 0 16777216 0 0 0 0 0 0\nend\n",
+    ),
+    (
+        b"gravity 0 0\nend\npeers 1\nadvance 0 5\nshow 0 6\nadvance 0 1048572\nadvance 0 0\nadvance 0 1048571\nshow 0 4294967295",
+        b"advance 0 5\nrefused NotReached 5\nrefused TickLimit\nadvance 0 5\nadvance 0 1048576\nrefused NotReached 1048576\n",
+    ),
+    (
+        b"gravity 0 0\ncircle 0 1048576 0 16777216 0 0\nend\npeers 1\nissue 0 push 0 36028797018963967 0\nadvance 0 64\nshow 0 1\nshow 0 64\n",
+        b"issue 0 0100000000000000000000007fffffffffffff0000000000000000\nadvance 0 64\nshow 0 1\nbody 0 562949953421312 0 16777216 0 36028797018963967 0 0 0 1\nend\nshow 0 64\nbody 0 36028797018963967 0 16777216 0 36028797018963967 0 0 0 1\nend\n",
+    ),
+    (
+        b"gravity 0 0\ncircle 0 16777216 0 16777216 0 0\nend\npeers 1\nissue 0 turn 0 16777216\nadvance 0 1\nshow 0 1\n",
+        b"issue 0 010000000000000001000000000000010000000000000000000000\nadvance 0 1\nshow 0 1\nbody 0 0 0 16769030 524032 0 0 33554432 0 1\nend\n",
+    ),
+    (
+        b"gravity 0 0\ncircle 0 16777216 0 16777216 0 0\nend\npeers 1\ntake 0 010000000001000000000000000000010000000000000000000000\ntake 0 010000000001000000000700000000010000000000000000000000\n",
+        b"refused NotOwner\nrefused UnknownBody\n",
+    ),
+    (
+        b"gravity 0 0\ncircle 0 16777216 0 16777216 0 0\nend\npeers 1\ntake 0 010000000000000000000000000000000000010000000000000000\ntake 0 0100000000000000000000ffffffffffffffff0000000000000000\nadvance 0 1\nshow 0 1\n",
+        b"take 0 new\ntake 0 greater\nadvance 0 1\nshow 0 1\nbody 0 0 0 16777216 0 -1 0 0 1 1\nend\n",
+    ),
+    (
+        b"gravity 0 0\ncircle 0 16777216 0 16777216 0 0\nend\npeers 1\ntake 0 01\ntake 0 010000000000ffff00000000000000000000010000000000000000\nissue 0 stop 0\nadvance 0 1\nissue 0 stop 65535\nissue 0 push 0 1 1\nadvance 0 1048575\nissue 0 stop 0\n",
+        b"refused Short\ntake 0 new\nrefused NumbersSpent\nadvance 0 1\nrefused UnknownBody\nissue 0 010000000100000000000000000000000000010000000000000001\nadvance 0 1048576\nrefused TickLimit\n",
+    ),
+    (
+        b"gravity 0 -1\ncircle - 0 0 1048576 3 4\nend\npeers 1\nadvance 0 9\nissue 0 stop 0\nshow 0 9\n",
+        b"advance 0 9\nrefused StaticBody\nshow 0 9\nend\n",
+    ),
+];
+
 #[test]
 fn worked_rows(rt: HostRuntime) -> Result<(), Fail> {
-    let rows = [
-        (
-            b"gravity 0 0\nend\npeers 1\nadvance 0 5\nshow 0 5\n".as_slice(),
-            b"advance 0 5\nshow 0 5\nend\n".as_slice(),
-        ),
-        (FALLING, FALLEN),
-        (
-            b"gravity 0 0\ncircle 0 16777216 0 16777216 0 0\nend\npeers 1\nadvance 0 32\nshow 0 31\nshow 0 32\n".as_slice(),
-            b"advance 0 32\nshow 0 31\nbody 0 0 0 16777216 0 0 0 0 31 1\nend\nshow 0 32\nbody 0 0 0 16777216 0 0 0 0 0 0\nend\n".as_slice(),
-        ),
-        (
-            b"gravity 0 0\nend\npeers 1\nadvance 0 5\nshow 0 6\nadvance 0 1048572\nadvance 0 0\nadvance 0 1048571\nshow 0 4294967295".as_slice(),
-            b"advance 0 5\nrefused NotReached 5\nrefused TickLimit\nadvance 0 5\nadvance 0 1048576\nrefused NotReached 1048576\n".as_slice(),
-        ),
-        (
-            b"gravity 0 0\ncircle 0 1048576 0 16777216 0 0\nend\npeers 1\nissue 0 push 0 36028797018963967 0\nadvance 0 64\nshow 0 1\nshow 0 64\n".as_slice(),
-            b"issue 0 0100000000000000000000007fffffffffffff0000000000000000\nadvance 0 64\nshow 0 1\nbody 0 562949953421312 0 16777216 0 36028797018963967 0 0 0 1\nend\nshow 0 64\nbody 0 36028797018963967 0 16777216 0 36028797018963967 0 0 0 1\nend\n".as_slice(),
-        ),
-        (
-            b"gravity 0 0\ncircle 0 16777216 0 16777216 0 0\nend\npeers 1\nissue 0 turn 0 16777216\nadvance 0 1\nshow 0 1\n".as_slice(),
-            b"issue 0 010000000000000001000000000000010000000000000000000000\nadvance 0 1\nshow 0 1\nbody 0 0 0 16769030 524032 0 0 33554432 0 1\nend\n".as_slice(),
-        ),
-        (
-            b"gravity 0 0\ncircle 0 16777216 0 16777216 0 0\nend\npeers 1\ntake 0 010000000001000000000000000000010000000000000000000000\ntake 0 010000000001000000000700000000010000000000000000000000\n".as_slice(),
-            b"refused NotOwner\nrefused UnknownBody\n".as_slice(),
-        ),
-        (
-            b"gravity 0 0\ncircle 0 16777216 0 16777216 0 0\nend\npeers 1\ntake 0 010000000000000000000000000000000000010000000000000000\ntake 0 0100000000000000000000ffffffffffffffff0000000000000000\nadvance 0 1\nshow 0 1\n".as_slice(),
-            b"take 0 new\ntake 0 greater\nadvance 0 1\nshow 0 1\nbody 0 0 0 16777216 0 -1 0 0 1 1\nend\n".as_slice(),
-        ),
-        (
-            b"gravity 0 0\ncircle 0 16777216 0 16777216 0 0\nend\npeers 1\ntake 0 01\ntake 0 010000000000ffff00000000000000000000010000000000000000\nissue 0 stop 0\nadvance 0 1\nissue 0 stop 65535\nissue 0 push 0 1 1\nadvance 0 1048575\nissue 0 stop 0\n".as_slice(),
-            b"refused Short\ntake 0 new\nrefused NumbersSpent\nadvance 0 1\nrefused UnknownBody\nissue 0 010000000100000000000000000000000000010000000000000001\nadvance 0 1048576\nrefused TickLimit\n".as_slice(),
-        ),
-        (
-            b"gravity 0 -1\ncircle - 0 0 1048576 3 4\nend\npeers 1\nadvance 0 9\nissue 0 stop 0\nshow 0 9\n".as_slice(),
-            b"advance 0 9\nrefused StaticBody\nshow 0 9\nend\n".as_slice(),
-        ),
-    ];
-    for (text, expected) in rows {
+    for (text, expected) in WORKED {
         let (output, said, status) = played(rt.alloc(), text)?;
         assert_eq!(rt; output.bytes(), expected);
         assert!(rt; said.bytes().is_empty() && status == 0);
@@ -108,68 +111,56 @@ fn a_box_turns(rt: HostRuntime) -> Result<(), Fail> {
     Ok(())
 }
 
+/// Texts, and what is said of the line at fault.
+#[rattlefmt::skip]
+const FAULTS: [(&[u8], &[u8]); 15] = [
+    (
+        b"gravity 0 -167772160\ncircle 0 1 0 16777216 0 0\nend\n",
+        b"pf_play: line 2: BadMass\n",
+    ),
+    (b"gravity 0 0\ncircle 0 0 0 1 0 0\n", b"pf_play: line 2: BadSize\n"),
+    (
+        b"gravity 0 0\ncircle 0 0 0 1048576 0 0\ncircle 0 0 0 1048576 0 0\n",
+        b"pf_play: line 3: TooMany\n",
+    ),
+    (b"", b"pf_play: line 1: BadLine\n"),
+    (b"gravity 0 0\nend\n", b"pf_play: line 3: BadLine\n"),
+    (b"gravity 0 0\nend\npeers 2\n", b"pf_play: line 3: BadNumber\n"),
+    (b"gravity 0 0\nend\npears 1\n", b"pf_play: line 3: BadLine\n"),
+    (b"gravity 0 0\nend\npeers 1\npeers 1\n", b"pf_play: line 4: BadLine\n"),
+    (
+        b"gravity 0 0\nend\npeers 1\nsettle 0\n",
+        b"pf_play: line 4: BadLine\n",
+    ),
+    (
+        b"gravity 0 0\nend\npeers 1\nissue 0 jump 0\n",
+        b"pf_play: line 4: BadLine\n",
+    ),
+    (
+        b"gravity 0 0\nend\npeers 1\nissue 0 stop 65536\n",
+        b"pf_play: line 4: BadNumber\n",
+    ),
+    (
+        b"gravity 0 0\nend\npeers 1\nissue 0 turn 0 36028797018963968\n",
+        b"pf_play: line 4: BadNumber\n",
+    ),
+    (
+        b"gravity 0 0\nend\npeers 1\ntake 0 0\n",
+        b"pf_play: line 4: BadNumber\n",
+    ),
+    (
+        b"gravity 0 0\nend\npeers 1\nadvance 1 0\n",
+        b"pf_play: line 4: BadNumber\n",
+    ),
+    (
+        b"gravity 0 0\nend\npeers 1\nshow 0 4294967296\n",
+        b"pf_play: line 4: BadNumber\n",
+    ),
+];
+
 #[test]
 fn each_fault_has_its_line_and_name(rt: HostRuntime) -> Result<(), Fail> {
-    let rows = [
-        (
-            b"gravity 0 -167772160\ncircle 0 1 0 16777216 0 0\nend\n".as_slice(),
-            b"pf_play: line 2: BadMass\n".as_slice(),
-        ),
-        (
-            b"gravity 0 0\ncircle 0 0 0 1 0 0\n".as_slice(),
-            b"pf_play: line 2: BadSize\n".as_slice(),
-        ),
-        (
-            b"gravity 0 0\ncircle 0 0 0 1048576 0 0\ncircle 0 0 0 1048576 0 0\n".as_slice(),
-            b"pf_play: line 3: TooMany\n".as_slice(),
-        ),
-        (b"".as_slice(), b"pf_play: line 1: BadLine\n".as_slice()),
-        (
-            b"gravity 0 0\nend\n".as_slice(),
-            b"pf_play: line 3: BadLine\n".as_slice(),
-        ),
-        (
-            b"gravity 0 0\nend\npeers 2\n".as_slice(),
-            b"pf_play: line 3: BadNumber\n".as_slice(),
-        ),
-        (
-            b"gravity 0 0\nend\npears 1\n".as_slice(),
-            b"pf_play: line 3: BadLine\n".as_slice(),
-        ),
-        (
-            b"gravity 0 0\nend\npeers 1\npeers 1\n".as_slice(),
-            b"pf_play: line 4: BadLine\n".as_slice(),
-        ),
-        (
-            b"gravity 0 0\nend\npeers 1\nsettle 0\n".as_slice(),
-            b"pf_play: line 4: BadLine\n".as_slice(),
-        ),
-        (
-            b"gravity 0 0\nend\npeers 1\nissue 0 jump 0\n".as_slice(),
-            b"pf_play: line 4: BadLine\n".as_slice(),
-        ),
-        (
-            b"gravity 0 0\nend\npeers 1\nissue 0 stop 65536\n".as_slice(),
-            b"pf_play: line 4: BadNumber\n".as_slice(),
-        ),
-        (
-            b"gravity 0 0\nend\npeers 1\nissue 0 turn 0 36028797018963968\n".as_slice(),
-            b"pf_play: line 4: BadNumber\n".as_slice(),
-        ),
-        (
-            b"gravity 0 0\nend\npeers 1\ntake 0 0\n".as_slice(),
-            b"pf_play: line 4: BadNumber\n".as_slice(),
-        ),
-        (
-            b"gravity 0 0\nend\npeers 1\nadvance 1 0\n".as_slice(),
-            b"pf_play: line 4: BadNumber\n".as_slice(),
-        ),
-        (
-            b"gravity 0 0\nend\npeers 1\nshow 0 4294967296\n".as_slice(),
-            b"pf_play: line 4: BadNumber\n".as_slice(),
-        ),
-    ];
-    for (text, expected) in rows {
+    for (text, expected) in FAULTS {
         let (output, said, status) = played(rt.alloc(), text)?;
         assert!(rt; output.bytes().is_empty() && status == 1);
         assert_eq!(rt; said.bytes(), expected);
@@ -196,46 +187,49 @@ fn framed(alloc: Global, digits: &str) -> Result<(Collected, Collected, u8), All
     }
 }
 
+/// Digits of a frame, and what is written or said of them.
+#[rattlefmt::skip]
+const FRAMES: [(&str, &[u8]); 11] = [
+    (
+        "010000000301000000000200000000010000000000000000000000",
+        b"tick 3 player 1 number 0 push 2 16777216 0\n",
+    ),
+    (
+        "01000FFFFF01FFFF010002ff800000000000010000000000000000",
+        b"tick 1048575 player 1 number 65535 turn 2 -36028797018963967\n",
+    ),
+    (
+        "0100000000000000020000000000000000000000000000000000ff",
+        b"pf_play: frame: NotCanonical\n",
+    ),
+    (
+        "010000000000000002000000000000000000000000000000000000",
+        b"tick 0 player 0 number 0 stop 0\n",
+    ),
+    ("", b"pf_play: frame: Short\n"),
+    (
+        "01000000030100000000020000000001000000000000000000000000",
+        b"pf_play: frame: Long\n",
+    ),
+    (
+        "020000000301000000000200000000010000000000000000000000",
+        b"pf_play: frame: BadVersion\n",
+    ),
+    (
+        "010000000301000007000200000000010000000000000000000000",
+        b"pf_play: frame: BadKind\n",
+    ),
+    (
+        "010000000308000000000200000000010000000000000000000000",
+        b"pf_play: frame: OutOfRange\n",
+    ),
+    ("0", b"pf_play: frame: BadNumber\n"),
+    ("zz", b"pf_play: frame: BadNumber\n"),
+];
+
 #[test]
 fn frames_are_told(rt: HostRuntime) -> Result<(), Fail> {
-    let rows = [
-        (
-            "010000000301000000000200000000010000000000000000000000",
-            b"tick 3 player 1 number 0 push 2 16777216 0\n".as_slice(),
-        ),
-        (
-            "01000FFFFF01FFFF010002ff800000000000010000000000000000",
-            b"tick 1048575 player 1 number 65535 turn 2 -36028797018963967\n".as_slice(),
-        ),
-        (
-            "0100000000000000020000000000000000000000000000000000ff",
-            b"pf_play: frame: NotCanonical\n".as_slice(),
-        ),
-        (
-            "010000000000000002000000000000000000000000000000000000",
-            b"tick 0 player 0 number 0 stop 0\n".as_slice(),
-        ),
-        ("", b"pf_play: frame: Short\n".as_slice()),
-        (
-            "01000000030100000000020000000001000000000000000000000000",
-            b"pf_play: frame: Long\n".as_slice(),
-        ),
-        (
-            "020000000301000000000200000000010000000000000000000000",
-            b"pf_play: frame: BadVersion\n".as_slice(),
-        ),
-        (
-            "010000000301000007000200000000010000000000000000000000",
-            b"pf_play: frame: BadKind\n".as_slice(),
-        ),
-        (
-            "010000000308000000000200000000010000000000000000000000",
-            b"pf_play: frame: OutOfRange\n".as_slice(),
-        ),
-        ("0", b"pf_play: frame: BadNumber\n".as_slice()),
-        ("zz", b"pf_play: frame: BadNumber\n".as_slice()),
-    ];
-    for (digits, expected) in rows {
+    for (digits, expected) in FRAMES {
         let (output, said, status) = framed(rt.alloc(), digits)?;
         if expected.starts_with(b"tick") {
             assert_eq!(rt; output.bytes(), expected);
