@@ -9,6 +9,7 @@ ghost use Rattle.pf_commands.specs.Frame.{Spells, spelling, decode_of, payload_o
 use crate::fault::FrameFault;
 use crate::name::{Name, PLAYERS, TICKS};
 use crate::payload::{Command, Payload};
+use crate::weight::{PUSH, STOP, TURN, places_of};
 use byteorder::{BigEndian, ByteOrder};
 use pf_num::Fx;
 
@@ -24,15 +25,6 @@ pub const FRAME_LEN: usize = 27;
 
 /// The first byte of a frame.
 const VERSION: u8 = 1;
-
-/// The kind of a push.
-const PUSH: u8 = 0;
-
-/// The kind of a turn, which has no y.
-const TURN: u8 = 1;
-
-/// The kind of a stop, which has neither x nor y.
-const STOP: u8 = 2;
 
 /// Frames name bodies below this.
 const BODIES: u16 = 1 << 10;
@@ -78,20 +70,16 @@ impl Fields {
         ensures name { IsName command.now.name }
         ensures payload { IsPayload command.now.payload }
     {
-        let (kind, x, y) = match command.payload {
-            Payload::Push { x, y, .. } => (PUSH, x, y),
-            Payload::Turn { x, .. } => (TURN, x, Fx::ZERO),
-            Payload::Stop { .. } => (STOP, Fx::ZERO, Fx::ZERO),
-        };
+        let (kind, body, x, y) = places_of(&command.payload);
         Fields {
             version: VERSION,
             tick: command.name.tick(),
             player: command.name.player(),
             number: command.name.number(),
             kind,
-            body: command.payload.body(),
-            x: x.raw().cast_unsigned(),
-            y: y.raw().cast_unsigned(),
+            body,
+            x,
+            y,
         }
     }
 

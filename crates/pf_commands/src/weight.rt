@@ -7,6 +7,15 @@ ghost use Rattle.pf_commands.specs.Payload.{IsPayload, kind_of, body_of, x_of, y
 
 use crate::payload::{Command, Payload};
 
+/// The kind of a push.
+pub(crate) const PUSH: u8 = 0;
+
+/// The kind of a turn, which has no y.
+pub(crate) const TURN: u8 = 1;
+
+/// The kind of a stop, which has neither x nor y.
+pub(crate) const STOP: u8 = 2;
+
 /// The places of a payload's weight, the highest first: kind, body, x and y in two's complement. Payloads are compared
 /// by weight as these are.
 pub(crate) fn places_of(payload: &Payload) -> (u8, u16, u64, u64)
@@ -16,9 +25,14 @@ pub(crate) fn places_of(payload: &Payload) -> (u8, u16, u64, u64)
 {
     let body = payload.body();
     match *payload {
-        Payload::Push { x, y, .. } => (0, body, x.raw().cast_unsigned(), y.raw().cast_unsigned()),
-        Payload::Turn { x, .. } => (1, body, x.raw().cast_unsigned(), 0),
-        Payload::Stop { .. } => (2, body, 0, 0),
+        Payload::Push { x, y, .. } => (
+            PUSH,
+            body,
+            x.raw().cast_unsigned(),
+            y.raw().cast_unsigned(),
+        ),
+        Payload::Turn { x, .. } => (TURN, body, x.raw().cast_unsigned(), 0),
+        Payload::Stop { .. } => (STOP, body, 0, 0),
     }
 }
 
