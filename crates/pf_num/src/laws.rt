@@ -1,9 +1,12 @@
-//! What the definitions of rounding and roots mean, as laws. Their functions do nothing: their clauses are what
-//! they are for.
+//! What the definitions of rounding and roots mean, and what the named numbers are, as laws: their clauses are what
+//! their functions are for.
 
 ghost use Rattle.std.specs.Prelude.{◌≡◌, ◌≢◌, ℕ, ℤ, pos};
+ghost use Rattle.pf_num.specs.Fx.{greatest, one, tick};
 ghost use Rattle.pf_num.specs.Root.{IsRoot, whole_root};
 ghost use Rattle.pf_num.specs.Round.{IsNear, near};
+
+use crate::fx::Fx;
 
 /// The rounded quotient is a nearest whole number, the even one of two, and it is the only one.
 pub fn rounds_to_nearest_even()
@@ -16,3 +19,10 @@ pub fn roots_are_greatest()
     ensures meets { (n : ℕ) → IsRoot n (whole_root n) }
     ensures unique { (n r : ℕ) → IsRoot n r → whole_root n ≡ r }
 {}
+
+/// The named numbers: 0, 1, the greatest number and the length of a tick.
+pub fn named_numbers() -> (Fx, Fx, Fx, Fx)
+    ensures { result ≡ (pos 0, one, greatest, tick) }
+{
+    (Fx::ZERO, Fx::ONE, Fx::MAX, Fx::TICK)
+}

@@ -1,6 +1,6 @@
 //! Whole square roots: a guess by Newton's method that is checked, and a slow sure search behind it.
 
-ghost use Rattle.std.specs.Prelude.{◌≡◌, ◌≤◌, ◌<◌, ◌*◌, ◌^◌, IsTrue};
+ghost use Rattle.std.specs.Prelude.{◌≡◌, ◌≤◌, ◌<◌, ◌*◌, ◌^◌, ◌↔◌, IsTrue};
 ghost use Rattle.pf_num.specs.Root.{IsRoot, whole_root};
 
 /// The greatest number whose square is at most `n`.
@@ -37,7 +37,7 @@ pub fn raw_root(raw: u64) -> u64
 /// Whether a number is the whole root.
 #[inline]
 fn is_root(root: u64, n: u128) -> bool
-    ensures { IsTrue result → IsRoot n root }
+    ensures { IsTrue result ↔ IsRoot n root }
 {
     let root = root as u128;
     let square = root * root;

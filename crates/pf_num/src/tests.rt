@@ -48,6 +48,8 @@ fn picks_and_signs(rt: HostRuntime) -> Result<(), Fail> {
     assert_eq!(rt; Fx::MAX.raw(), M);
     assert_eq!(rt; Fx::TICK.raw() * 64, Fx::ONE.raw());
     laws::rounds_to_nearest_even();
+    let (zero, one, greatest, tick) = laws::named_numbers();
+    assert!(rt; zero == Fx::ZERO && one == Fx::ONE && greatest == Fx::MAX && tick == Fx::TICK);
     Ok(())
 }
 
