@@ -1,11 +1,15 @@
-//! What lengths, units and turns mean, as laws. Their functions do nothing: their clauses are what they are for.
+//! What lengths, units and turns mean, and what the named values are, as laws: their clauses are what their functions
+//! are for.
 
 ghost use Rattle.std.specs.Prelude.{◌≡◌, ℕ, ◌+◌, ◌*◌, ℤ, pos};
 ghost use Rattle.std.specs.Int.RustNames.{unsigned_abs};
 ghost use Rattle.pf_num.specs.Root.{IsRoot};
 ghost use Rattle.pf_num.specs.Fx.{saturated, product, tick};
-ghost use Rattle.pf_rot.specs.Vector.{Vec2, length_of};
+ghost use Rattle.pf_rot.specs.Vector.{Vec2, zero_vector, length_of};
 ghost use Rattle.pf_rot.specs.Rotation.{Pair, upright, unit, turned};
+
+use crate::rotation::Rot;
+use crate::vector::V2;
 
 /// The length is the greatest number whose square is at most the exact sum of squares, held in range.
 pub fn lengths_are_greatest()
@@ -18,3 +22,10 @@ pub fn nothing_turns_nothing()
     ensures direction { unit (pos 0) (pos 0) ≡ upright }
     ensures angle { (q : Pair) (spin : ℤ) → product tick spin ≡ pos 0 → turned q spin ≡ q }
 {}
+
+/// The vector of length 0 and the rotation that leaves everything as it is.
+pub fn named_values() -> (V2, Rot)
+    ensures { result ≡ (zero_vector, upright) }
+{
+    (V2::ZERO, Rot::UPRIGHT)
+}

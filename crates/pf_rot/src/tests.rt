@@ -66,6 +66,7 @@ fn lengths_and_turns(rt: HostRuntime) {
     }
     laws::lengths_are_greatest();
     laws::nothing_turns_nothing();
+    assert_eq!(rt; laws::named_values(), (V2::ZERO, Rot::UPRIGHT));
 }
 
 // x, y and the length.
