@@ -17,7 +17,7 @@ use Rattle.pf_text.specs.declared.driver.DriveFault.TheVariants as faults
 use Rattle.pf_text.specs.Lines.{AppendsFront, AreLines, Takes, TakesFront, ended, is_line, lines_of}
 use Rattle.pf_text.proofs.Taking.{appends_known}
 use Rattle.pf_text.proofs.LinesOf.{lines_of-AreLines, lines_of-ended, lines_of-last, lines_of-front}
-use Rattle.pf_text.specs.Driver.{Rules, Output, Drives, Tells, fault_of, fault_at, step, answers, and_then, output_of}
+use Rattle.pf_text.specs.Driver.{Rules, Output, Drives, CountsReads, CountsWrites, Tells, fault_of, fault_at, step, answers, and_then, output_of}
 
 -- an output behind what was written
 abbrev pub joined : {S F : Type 0} → List ℕ → Output S F → Output S F
@@ -178,3 +178,9 @@ module _ {S F : Type 0} {rules : Rules S F} {start : S} {input before : List ℕ
 pub fault_at-others : {F : Type 0} (number : ℕ) (refusal : TakeRefusal F) → (fault_at number refusal ≢ faults.Read) × (fault_at number refusal ≢ faults.Write)
 fault_at-others number refusals.Memory = (λ e. cc, λ e. cc)
 fault_at-others number (refusals.Fault fault) = (λ e. cc, λ e. cc)
+
+-- a refusal of a line counts nothing
+pub Counts-refused : {F : Type 0} (number before after : ℕ) (refusal : TakeRefusal F) → after ≡ before
+    → CountsReads {T = ℕ} {F = F} before (Err (fault_at number refusal)) after × CountsWrites {T = ℕ} {F = F} before (Err (fault_at number refusal)) after
+Counts-refused number before after refusals.Memory counted = (counted, counted)
+Counts-refused number before after (refusals.Fault fault) counted = (counted, counted)

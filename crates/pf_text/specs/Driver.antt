@@ -79,6 +79,16 @@ Drives rules start input left before after (Err faults.Read) =
 Drives rules start input left before after (Err faults.Write) =
     (part : List ℕ) × (rest : List ℕ) × (part ++ rest ≡ (output_of rules start input).text) × (after ≡ Some (before ++ part))
 
+-- a run that ends because its reader failed counts one failure of it, and any other run none
+abbrev pub CountsReads : {T F : Type 0} → ℕ → Result T (DriveFault F) → ℕ → Type 0
+CountsReads before (Err faults.Read) after = after ≡ before + 1
+CountsReads before result after = after ≡ before
+
+-- the same of its writer
+abbrev pub CountsWrites : {T F : Type 0} → ℕ → Result T (DriveFault F) → ℕ → Type 0
+CountsWrites before (Err faults.Write) after = after ≡ before + 1
+CountsWrites before result after = after ≡ before
+
 -- what a line that was not taken makes of the run
 abbrev pub fault_of : {F : Type 0} → TakeError → DriveFault F
 fault_of takes.Memory = faults.Memory

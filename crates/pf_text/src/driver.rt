@@ -6,7 +6,7 @@ ghost use Rattle.pf_text.specs.declared.driver.DriveFault.TheVariants.{Memory, W
 ghost use Rattle.pf_text.specs.declared.driver.TakeRefusal.TheVariants as refusals;
 ghost use Rattle.std.specs.Io.KnownBytes.{Appends};
 ghost use Rattle.pf_text.specs.Lines.{AppendsFront, Counts};
-ghost use Rattle.pf_text.specs.Driver.{Rules, Tells, Drives, fault_of, fault_at, step, is_ascii, is_plain, is_skipped};
+ghost use Rattle.pf_text.specs.Driver.{Rules, Tells, Drives, CountsReads, CountsWrites, fault_of, fault_at, step, is_ascii, is_plain, is_skipped};
 
 use crate::fault::{LineError, LineFault};
 use crate::fields::fields_of;
@@ -195,6 +195,8 @@ pub fn drive<L, M: Machine<L>, R: Source, W: Sink>(
         → Drives M.rules start input (R.remaining reader.new) before (W.contents writer.new) result }
     ensures read { IsErrOf result DriveFault.Read → R.failures reader.old < R.failures reader.new }
     ensures written { IsErrOf result DriveFault.Write → W.failures writer.old < W.failures writer.new }
+    ensures reads_counted { CountsReads (R.failures reader.old) result (R.failures reader.new) }
+    ensures writes_counted { CountsWrites (W.failures writer.old) result (W.failures writer.new) }
 {
     let mut line = Vec::with_capacity(alloc, MAX_LINE + 1)?;
     let mut machine = start;

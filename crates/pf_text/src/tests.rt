@@ -294,6 +294,39 @@ fn a_writer_may_fail_at_each_call(rt: HostRuntime) -> Result<(), Fail> {
     Ok(())
 }
 
+/// A writer that takes no byte.
+#[derive(Drop)]
+struct Full;
+
+impl Write for Full {
+    fn write(&mut self, _bytes: &[u8]) -> std::io::Result<usize> {
+        Ok(0)
+    }
+
+    fn flush(&mut self) -> std::io::Result<()> {
+        Ok(())
+    }
+}
+
+#[test]
+fn a_writer_that_takes_nothing_has_failed(rt: HostRuntime) -> Result<(), Fail> {
+    let mut sink = Output::new(Full);
+    let result = drive(rt.alloc(), &mut 0, &mut Bytes::new(TEXT), &mut sink, Parrot);
+    if result == Err(DriveFault::Memory) {
+        return Err(AllocError)?;
+    }
+    assert!(rt; result == Err(DriveFault::Write));
+    Ok(())
+}
+
+#[test]
+fn faults_are_shown_by_their_names(rt: HostRuntime) -> Result<(), Fail> {
+    let fault = LineError::Fault(LineFault::BadNumber);
+    let text = format!(in rt.alloc(); "{} {fault}", LineFault::BadLine)?;
+    assert_eq!(rt; text.as_str(), "BadLine BadNumber");
+    Ok(())
+}
+
 #[test]
 fn laws_are_called(_rt: HostRuntime) {
     answers_stand::<u32, Parrot>();
