@@ -160,9 +160,10 @@ impl CommandMap {
     }
 
     /// The payloads of the tick, in order of player, then number. Takes logarithmic time, and then time and memory for
-    /// these payloads alone.
+    /// these payloads alone, so none for a tick that no name has.
     pub fn at_tick(&self, alloc: Global, tick: u32) -> Result<Vec<Payload>, AllocError>
-        ensures { IfOk result (λ payloads. payloads.items ≡ payloads_at self.now tick) }
+        ensures items { IfOk result (λ payloads. payloads.items ≡ payloads_at self.now tick) }
+        ensures beyond { 2 ^ 20 ≤ tick → IsOk result }
     {
         let commands = &self.commands;
         if tick >= TICKS {

@@ -29,3 +29,16 @@ fn a_player_moves_its_own_bodies(rt: HostRuntime) -> Result<(), Fail> {
     }
     Ok(())
 }
+
+#[test]
+fn refusals_print_their_names(rt: HostRuntime) -> Result<(), Fail> {
+    let names = [
+        (CheckFault::UnknownBody, "UnknownBody"),
+        (CheckFault::StaticBody, "StaticBody"),
+        (CheckFault::NotOwner, "NotOwner"),
+    ];
+    for (fault, name) in names {
+        assert!(rt; fault.to_string(rt.alloc())?.as_str() == name);
+    }
+    Ok(())
+}

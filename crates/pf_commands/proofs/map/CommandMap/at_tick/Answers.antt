@@ -8,12 +8,12 @@ use Rattle.pf_commands.specs.Merge.{payloads_at}
 use Rattle.pf_commands.proofs.Spans.{payloads_at-out_of_range, entries_between-tick}
 use Rattle.pf_commands.proofs.map.CommandMap.at_tick.Goals as goal
 
-pub returns-then-tick-ge-TICKS : goal.returns-then-tick-ge-TICKS
-returns-then-tick-ge-TICKS c =
+pub returns-then-tick-ge-TICKS-clause-items : goal.returns-then-tick-ge-TICKS-clause-items
+returns-then-tick-ge-TICKS-clause-items c =
     c.new.ensures.items ∙ sym (payloads_at-out_of_range _ c.args.tick c.self.invariant c.if-tick-ge-TICKS.true) ∙ ap (λ m. payloads_at m c.args.tick) c.self.view_is
 
-pub returns : goal.returns
-returns c =
+pub returns-clause-items : goal.returns-clause-items
+returns-clause-items c =
     let es = c.self.inside.commands.entries in
     let part : c.range.result ≡ filter (λ e. e.0.tick == c.args.tick) (finmap.entries (finmap.from_entries es)) =
     c.range.ensures.between (search rules)
