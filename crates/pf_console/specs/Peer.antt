@@ -1,6 +1,6 @@
 -- The abstract peer: a scene, the commands that it holds and the tick that it has reached; what each call on it answers
 -- and leaves; and the abstract session of one peer, an event after the other.
-use Rattle.std.specs.Prelude.{◌≡◌, ℕ, zero, suc, ◌+◌, List, [], ◌∷◌, Option, Some, None, Result, Ok, Err, is_some, nat_le, if◌then◌else◌}
+use Rattle.std.specs.Prelude.{◌≡◌, ℕ, zero, suc, ◌+◌, List, [], ◌∷◌, Option, Some, None, Result, Ok, Err, IsErr, is_some, nat_le, if◌then◌else◌}
 use Rattle.std.specs.FinMap.{get, empty}
 use Rattle.pf_shapes.specs.Body.{State}
 use Rattle.pf_shapes.specs.Scene.{Setting}
@@ -95,6 +95,13 @@ happens p (Issue peer payload) = told (λ frame. Issued peer frame) p (issuing p
 happens p (Take peer frame) = told (λ put. Took peer put) p (taking p frame)
 happens p (Advance peer ticks) = told (λ reached. Advanced peer reached) p (advancing p ticks)
 happens p (Show peer tick) = told (λ world. Shown peer tick world) p (showing p tick)
+
+-- the event is refused
+abbrev pub IsRefused : Peer → Event → Type 0
+IsRefused p (Issue peer payload) = IsErr (issuing p payload)
+IsRefused p (Take peer frame) = IsErr (taking p frame)
+IsRefused p (Advance peer ticks) = IsErr (advancing p ticks)
+IsRefused p (Show peer tick) = IsErr (showing p tick)
 
 abbrev pub reply_of : Peer → Event → Reply
 reply_of p event = (happens p event).0

@@ -1,5 +1,6 @@
 //! Frames in hexadecimal digits.
 
+ghost use Rattle.std.specs.Prelude.{◌≡◌, ℕ, List, length, Ok, IsOk};
 ghost use Rattle.pf_text.specs.Fault.{Gives};
 ghost use Rattle.pf_console.specs.Digits.{bytes_of, frame_of};
 
@@ -19,9 +20,10 @@ fn bytes(alloc: Global, digits: &[u8]) -> Result<Vec<u8>, LineError>
     }
 }
 
-/// The command that the bytes of these digits spell, or why they spell none. Digits of a frame's length take no memory.
+/// The command that the bytes of these digits spell, or why they spell none. The 54 digits of a frame take no memory.
 pub fn frame(alloc: Global, digits: &[u8]) -> Result<Result<Command, FrameFault>, LineError>
-    ensures { Gives (λ frame. frame) result (frame_of digits.now) }
+    ensures value { Gives (λ frame. frame) result (frame_of digits.now) }
+    ensures short { (bytes : List ℕ) → length digits.now ≡ 54 → bytes_of digits.now ≡ Ok bytes → IsOk result }
 {
     let mut frame = [0; FRAME_LEN];
     if hex::decode_to_slice(digits, &mut frame).is_ok() {

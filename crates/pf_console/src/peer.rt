@@ -22,9 +22,9 @@ pub struct Peer {
 }
 
 impl Peer {
-    ghost use Rattle.std.specs.Prelude.{◌≡◌, IfOk, OnOk, OnErr};
+    ghost use Rattle.std.specs.Prelude.{◌≡◌, IfOk, OnOk, OnErr, IsOk, IsErr};
     ghost use Rattle.pf_console.specs.declared.event.Reply.TheVariants.{Issued, Took, Advanced, Shown};
-    ghost use Rattle.pf_console.specs.Peer.{fresh, taking, issuing, advancing, showing, told, happens, next_number, NumberIs};
+    ghost use Rattle.pf_console.specs.Peer.{fresh, taking, issuing, advancing, showing, told, happens, IsRefused, next_number, NumberIs};
 
     /// A peer at tick 0 that holds no commands.
     pub fn new(alloc: Global, scene: Scene) -> Peer
@@ -37,10 +37,11 @@ impl Peer {
         }
     }
 
-    /// Answers an event. An `Err` leaves the peer as it was.
+    /// Answers an event. An `Err` leaves the peer as it was. A refusal takes no memory.
     #[tactic(auto, unfolding(crate::specs::Peer::happens))]
     pub fn answer(&mut self, alloc: Global, event: Event) -> Result<Reply, AllocError>
         ensures reply { IfOk result (λ reply. (reply, self.new) ≡ happens self.old event) }
+        ensures refused { IsRefused self.old event → IsOk result }
         ensures err { OnErr result (self.new ≡ self.old) }
         ensures scene { self.new.scene ≡ self.old.scene }
     {
@@ -67,6 +68,7 @@ impl Peer {
     #[tactic(auto, unfolding(crate::specs::Peer::issuing, crate::specs::Peer::putting))]
     fn issue(&mut self, peer: u8, payload: Payload) -> Result<Reply, AllocError>
         ensures reply { IfOk result (λ reply. (reply, self.new) ≡ told (λ frame. Issued peer frame) self.old (issuing self.old payload)) }
+        ensures refused { IsErr (issuing self.old payload) → IsOk result }
         ensures err { OnErr result (self.new ≡ self.old) }
         ensures scene { self.new.scene ≡ self.old.scene }
     {
@@ -94,6 +96,7 @@ impl Peer {
     #[tactic(auto, unfolding(crate::specs::Peer::putting))]
     fn take(&mut self, peer: u8, frame: Result<Command, FrameFault>) -> Result<Reply, AllocError>
         ensures reply { IfOk result (λ reply. (reply, self.new) ≡ told (λ put. Took peer put) self.old (taking self.old frame)) }
+        ensures refused { IsErr (taking self.old frame) → IsOk result }
         ensures err { OnErr result (self.new ≡ self.old) }
         ensures scene { self.new.scene ≡ self.old.scene }
     {
@@ -126,7 +129,8 @@ impl Peer {
     /// The world at a tick that was reached.
     #[tactic(auto, unfolding(crate::specs::Peer::showing))]
     fn show(&self, alloc: Global, peer: u8, tick: u32) -> Result<Reply, AllocError>
-        ensures { IfOk result (λ reply. (reply, self.now) ≡ told (λ world. Shown peer tick world) self.now (showing self.now tick)) }
+        ensures reply { IfOk result (λ reply. (reply, self.now) ≡ told (λ world. Shown peer tick world) self.now (showing self.now tick)) }
+        ensures refused { IsErr (showing self.now tick) → IsOk result }
     {
         if tick > self.reached {
             return Ok(Reply::Refused(Refusal::NotReached(self.reached)));

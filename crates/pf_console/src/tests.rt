@@ -1,8 +1,9 @@
-use crate::fault::PlayFault;
+use crate::fault::{DigitsFault, PlayFault};
 use crate::frame::frame_text;
 use crate::laws;
 use crate::reporting::report;
 use crate::run::run_text;
+use pf_commands::FrameFault;
 use pf_shapes::SceneFault;
 use pf_text::{Bytes, Collected, Input, Output};
 use std::alloc::{AllocError, Global};
@@ -264,6 +265,25 @@ fn other_faults_have_their_texts(rt: HostRuntime) -> Result<(), Fail> {
         let (said, told) = reported(rt.alloc(), &fault)?;
         assert_eq!(rt; told, status);
         assert_eq!(rt; said.bytes(), expected);
+    }
+    Ok(())
+}
+
+#[test]
+fn faults_print_their_texts(rt: HostRuntime) -> Result<(), Fail> {
+    let rows = [
+        (PlayFault::Line(7, SceneFault::BadMass), "line 7: BadMass"),
+        (PlayFault::Frame(DigitsFault::BadNumber), "frame: BadNumber"),
+        (
+            PlayFault::Frame(DigitsFault::Refused(FrameFault::Short)),
+            "frame: Short",
+        ),
+        (PlayFault::Memory, "out of memory"),
+        (PlayFault::Read, "read failed"),
+        (PlayFault::Write, "write failed"),
+    ];
+    for (fault, text) in rows {
+        assert!(rt; fault.to_string(rt.alloc())?.as_str() == text);
     }
     Ok(())
 }
