@@ -79,6 +79,22 @@ const FAULTS: [(&[u8], u64, SceneFault); 24] = [
     (b"gravity 0 0\nbox - 0 0 1048576 1048576 0 0 16777216 -16777216\n", 3, SceneFault::BadLine),
 ];
 
+#[test]
+fn faults_are_shown_by_their_names(rt: HostRuntime) -> Result<(), Fail> {
+    let shown = [
+        (SceneFault::BadLine, "line 7: BadLine"),
+        (SceneFault::BadNumber, "line 7: BadNumber"),
+        (SceneFault::TooMany, "line 7: TooMany"),
+        (SceneFault::BadMass, "line 7: BadMass"),
+        (SceneFault::BadSize, "line 7: BadSize"),
+    ];
+    for (fault, name) in shown {
+        let text = format!(in rt.alloc(); "{}", ReadError::Line(7, fault))?;
+        assert_eq!(rt; text.as_str(), name);
+    }
+    Ok(())
+}
+
 /// A scene of so many circles.
 fn crowd(alloc: Global, count: usize) -> Result<Vec<u8>, Fail> {
     let mut text = Vec::from_slice(alloc, b"gravity 0 0\n")?;
