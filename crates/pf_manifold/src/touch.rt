@@ -1,6 +1,6 @@
 //! The contact points of a list of pairs, one pair after the other, as Box2D 2.x's `b2ContactManager::Collide`.
 
-ghost use Rattle.std.specs.Prelude.{◌≡◌, ◌<◌, ◌++◌, All, length, map, IfOk, OnOk};
+ghost use Rattle.std.specs.Prelude.{◌≡◌, ◌<◌, ◌++◌, [], All, length, map, IfOk, OnOk, IsOk};
 ghost use Rattle.std.specs.Prelude.{slice_get, Some};
 ghost use Rattle.pf_shapes.specs.Scene.{IsSetting};
 ghost use Rattle.pf_broad.specs.Laws.{IsPairOf};
@@ -51,7 +51,8 @@ fn placed<'a>(scene: &'a Scene, bodies: &[BodyState], number: usize) -> Placed<'
 
 /// Adds the points of a pair.
 fn push_points(touches: &mut Vec<Touch>, pair: &Pair, points: &Manifold) -> Result<(), AllocError>
-    ensures { OnOk result (touches.new.items ≡ touches.old.items ++ map (touching pair.now) (points_of points.now)) }
+    ensures added { OnOk result (touches.new.items ≡ touches.old.items ++ map (touching pair.now) (points_of points.now)) }
+    ensures quiet { points_of points.now ≡ [] → IsOk result }
 {
     let touch = |point: Point| Touch {
         a: pair.a,

@@ -8,7 +8,7 @@ use Rattle.pf_manifold.proofs.touch.collide_list.Goals as goal
 pub loop-pair-preserved : goal.loop-pair-preserved
 loop-pair-preserved c =
     let missing : Pair = record { a = 0; b = 0 } in
-    c.in_ok-push_points.ensures
+    c.in_ok-push_points.ensures.added
     ∙ ap (λ front. front ++ map (touching (get_or c.args.pairs.now c.loop-pair.pair-index missing)) (points_of c.collide.result)) c.loop-pair.invariant
     ∙ sym (touches_more c.args.scene.now.fixtures c.args.bodies.now c.args.pairs.now c.loop-pair.pair-index missing c.placed-a.result c.placed-b.result
     (points_of c.collide.result) c.loop-pair-test.true c.placed-a.ensures c.placed-b.ensures c.collide.ensures)
