@@ -170,13 +170,13 @@ fn pairs_found(alloc: Global, count: u64, held: u64) -> Result<i64, AllocError>
 }
 
 /// Does the task so many times, and sums what it answers, in 64 bits. There is no answer for more bodies than a scene
-/// has, or where memory is refused.
-pub fn sum(alloc: Global, task: Task, count: u64, held: u64) -> Option<i64> {
-    match task {
+/// has.
+pub fn sum(alloc: Global, task: Task, count: u64, held: u64) -> Result<Option<i64>, AllocError> {
+    Ok(match task {
         Task::Circles => Some(points(&small_circle(), &small_circle(), count)),
         Task::BoxCircle => Some(points(&small_box(), &small_circle(), count)),
         Task::Boxes => Some(points(&small_box(), &small_box(), count)),
-        Task::Pairs if held <= MAX_BODIES as u64 => pairs_found(alloc, count, held).ok(),
+        Task::Pairs if held <= MAX_BODIES as u64 => Some(pairs_found(alloc, count, held)?),
         Task::Pairs => None,
-    }
+    })
 }

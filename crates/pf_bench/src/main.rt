@@ -36,7 +36,7 @@ fn summed(alloc: Global, task: &str, count: u64, held: &str) -> Option<i128> {
         return None;
     }
     if let Some(task) = geometry::Task::parse(task) {
-        return geometry::sum(alloc, task, count, held).map(i128::from);
+        return Some(i128::from(geometry::sum(alloc, task, count, held).ok()??));
     }
     let task = maps::Task::parse(task)?;
     Some(i128::from(maps::sum(alloc, task, count, held).ok()?))
