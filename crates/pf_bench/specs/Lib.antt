@@ -1,2 +1,3 @@
 pub mod Operation
 pub mod Chain
+pub mod Tasks

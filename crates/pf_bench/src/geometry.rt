@@ -25,8 +25,15 @@ pub enum Task {
 }
 
 impl Task {
+    ghost use Rattle.std.specs.Prelude.{◌≡◌, IfSome};
+    ghost use Rattle.pf_bench.specs.declared.geometry.Task.{Task};
+    ghost use Rattle.pf_bench.specs.Tasks.{geometry_word};
+
     /// The task of this word.
-    pub fn parse(word: &str) -> Option<Task> {
+    pub fn parse(word: &str) -> Option<Task>
+        ensures known { (task : Task) → word.now ≡ geometry_word task → result ≡ Some task }
+        ensures value { IfSome result (λ task. word.now ≡ geometry_word task) }
+    {
         match word {
             "circles" => Some(Task::Circles),
             "box-circle" => Some(Task::BoxCircle),

@@ -28,8 +28,15 @@ pub enum Task {
 }
 
 impl Task {
+    ghost use Rattle.std.specs.Prelude.{◌≡◌, IfSome};
+    ghost use Rattle.pf_bench.specs.declared.maps.Task.{Task};
+    ghost use Rattle.pf_bench.specs.Tasks.{map_word};
+
     /// The task of this word.
-    pub fn parse(word: &str) -> Option<Task> {
+    pub fn parse(word: &str) -> Option<Task>
+        ensures known { (task : Task) → word.now ≡ map_word task → result ≡ Some task }
+        ensures value { IfSome result (λ task. word.now ≡ map_word task) }
+    {
         match word {
             "put" => Some(Task::Put),
             "get" => Some(Task::Get),

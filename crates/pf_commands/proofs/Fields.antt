@@ -13,6 +13,7 @@ use Rattle.pf_commands.specs.declared.payload.Payload.{Payload}
 use Rattle.pf_commands.specs.declared.payload.Payload.TheVariants.{Push, Turn, Stop}
 use Rattle.pf_commands.specs.Payload.{kind_of, x_of, y_of, weight}
 use Rattle.pf_commands.specs.Frame.{IsBytes, IsFrameable, fields_of, fields_in, number_of}
+use Rattle.pf_commands.proofs.WeightOrder.{raw_fits}
 
 -- fields at their places in one number
 unfoldable pub worth : Fields → ℕ
@@ -52,10 +53,6 @@ kind_below (Push body x y) = omega arith
 kind_below (Turn body x) = omega arith
 kind_below (Stop body) = omega arith
 
-bits_below : (z : ℤ) → IsRaw z → cast_unsigned w64 z < 2 ^ 64
-bits_below (pos n) raw = omega arith
-bits_below (negsuc n) raw = omega arith
-
 -- a fixed-point number comes back from its bits
 pub raw_again : (z : ℤ) → IsRaw z → cast_signed w64 (cast_unsigned w64 z) ≡ z
 raw_again z raw = to_z-of_z w64 z (fits_signed_from_abs w64 z (omega arith))
@@ -69,8 +66,8 @@ fields_in-fit c framed = record {
   number = framed.name.number;
   kind = kind_below c.payload;
   body = framed.payload.body;
-  x = bits_below (x_of c.payload) framed.payload.x;
-  y = bits_below (y_of c.payload) framed.payload.y;
+  x = raw_fits (x_of c.payload) framed.payload.x;
+  y = raw_fits (y_of c.payload) framed.payload.y;
 }
 
 -- 27 digits are eight fields

@@ -12,6 +12,7 @@ use Rattle.pf_num.specs.Round.{nearest, with_sign, is_opposite}
 use Rattle.pf_num.specs.Fx.{saturated, sum, difference, quotient}
 use Rattle.pf_num.proofs.Roots.{whole_root-meets}
 use Rattle.pf_num.proofs.Signs.{quotient_is, nearest-zero}
+use Rattle.pf_num.proofs.Signs.{is_negative-pos}
 use Rattle.pf_rot.specs.Vector.{Vec2, minus, negated, length_of}
 use Rattle.pf_shapes.specs.declared.fixture.Shape.TheVariants.{Circle, Box}
 use Rattle.pf_manifold.specs.Contact.{Contact}
@@ -44,9 +45,6 @@ difference-none a b e = omega (arith, ints, clamps)
 
 magnitude-neg : (z : ℤ) → unsigned_abs (neg_ℤ z) ≡ unsigned_abs z
 magnitude-neg z = omega (arith, ints)
-
-is_negative-pos : (n : ℕ) → is_negative (pos n) ≡ false
-is_negative-pos n = grind (arith, nat_tests)
 
 turned_sign : (t : Bool) (m : ℕ) → with_sign (not (beq true t)) m ≡ neg_ℤ (with_sign (not (beq false t)) m)
 turned_sign true m = omega (arith, ints)

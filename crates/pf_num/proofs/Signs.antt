@@ -9,7 +9,7 @@ use Rattle.pf_num.specs.Round.{nearest, near, with_sign, is_opposite}
 use Rattle.pf_num.specs.Fx.{saturated, product, quotient}
 
 -- a number from 0 on isn't negative
-is_negative-pos : (n : ℕ) → ltb n 0 ≡ false
+pub is_negative-pos : (n : ℕ) → ltb n 0 ≡ false
 is_negative-pos n = grind (arith, nat_tests)
 
 -- 0 by anything is nearest to 0

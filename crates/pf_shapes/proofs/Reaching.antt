@@ -1,15 +1,11 @@
 -- Shapes reach at least one unit, so that no low end of bounds is above the high end.
-use Rattle.std.proofs.Common.{◌≡◌, ℕ, ℤ, pos, negsuc, arith, ◌≤ℤ◌, false, ltb}
-use Rattle.std.proofs.lemmas.Bool.Decides.{nat_tests}
+use Rattle.std.proofs.Common.{◌≡◌, ℕ, ℤ, pos, negsuc, arith, ◌≤ℤ◌}
 use Rattle.std.proofs.lemmas.Int.{ints, clamps}
 use Rattle.pf_num.specs.Round.{near}
+use Rattle.pf_num.proofs.Signs.{is_negative-pos}
 use Rattle.pf_num.specs.Fx.{saturated, sum, difference, product}
 use Rattle.pf_shapes.specs.Fixture.{IsSize}
 use Rattle.pf_shapes.specs.Reach.{magnitude, reach, widened}
-
--- a number from 0 on isn't negative
-is_negative-pos : (n : ℕ) → ltb n 0 ≡ false
-is_negative-pos n = grind (arith, nat_tests)
 
 -- the number nearest to a number from 0 on isn't below 0
 near-pos : (p q : ℕ) → pos 0 ≤ℤ near (pos p) (pos q)
