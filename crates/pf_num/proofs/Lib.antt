@@ -3,3 +3,4 @@ pub mod Signs
 pub mod Shift
 pub mod Nearest
 pub mod Roots
+pub mod Monotone

@@ -11,11 +11,11 @@ use Rattle.pf_num.specs.Round.{IsNear, nearest, near, carry}
 use Rattle.pf_num.proofs.Signs.{near-pos_pos, near-negsuc_pos, near-pos_negsuc, near-negsuc_negsuc}
 
 -- n is nearest to p / q, over numbers from 0 on
-record IsNearest (p q n : ℕ) : Type 0 where
-  low : 2 * p ≤ 2 * (n * q) + q
-  high : 2 * (n * q) ≤ 2 * p + q
-  even_low : 2 * p ≡ 2 * (n * q) + q → n % 2 ≡ 0
-  even_high : 2 * (n * q) ≡ 2 * p + q → n % 2 ≡ 0
+pub record IsNearest (p q n : ℕ) : Type 0 where
+  pub low : 2 * p ≤ 2 * (n * q) + q
+  pub high : 2 * (n * q) ≤ 2 * p + q
+  pub even_low : 2 * p ≡ 2 * (n * q) + q → n % 2 ≡ 0
+  pub even_high : 2 * (n * q) ≡ 2 * p + q → n % 2 ≡ 0
 
 -- with a quotient d and a remainder r: below a half, above it, and at it
 parts_below : (x d r q : ℕ) → x ≡ d * q → 2 * r < q → IsNearest (x + r) q d
@@ -46,7 +46,7 @@ nearest_parts d r q some =
     (cases_lt q (2 * r)))
     (cases_lt (2 * r) q)
 
-nearest-meets : (p q : ℕ) → 0 < q → IsNearest p q (nearest p q)
+pub nearest-meets : (p q : ℕ) → 0 < q → IsNearest p q (nearest p q)
 unfolding nearest
 nearest-meets p q some =
     let P : ℕ → Type 0 = λ n. IsNearest n q (p / q + carry (p / q) (p % q) q) in

@@ -1,0 +1,94 @@
+-- Rounding keeps the order of numbers and turns with their sign, and so does what holds them in range. So a product
+-- with a number from -h to h is at most the product with h.
+use Rattle.std.proofs.Common.{◌≡◌, ℕ, zero, suc, ◌+◌, ◌*◌, ◌<◌, ◌≤◌, ℤ, pos, negsuc, ◌*ℤ◌, neg_ℤ, ◌≤ℤ◌, ◌^◌, refl, sym, ap, ◌∙◌, ⊎_elim, arith}
+use Rattle.std.proofs.lemmas.Bool.{cases_lt}
+use Rattle.std.proofs.lemmas.Int.{ints, clamps, unsigned_abs-mul}
+use Rattle.std.proofs.Math.Nat.{mul-le-mul_left, mul-le-mul_right}
+use Rattle.std.specs.Int.RustNames.{unsigned_abs}
+use Rattle.pf_num.specs.Round.{nearest, near}
+use Rattle.pf_num.specs.Fx.{saturated, product}
+use Rattle.pf_num.proofs.Nearest.{IsNearest, nearest-meets}
+use Rattle.pf_num.proofs.Signs.{near-pos_pos, near-negsuc_pos, nearest-zero, product_in_range}
+
+-- a quotient that rounds below that of a smaller number would be more than a half off
+not_below : (p r q n m : ℕ) → IsNearest p q n → IsNearest r q m → p < r → n ≤ m
+not_below p r q n m hn hm less =
+    ⊎_elim
+    (λ (below : m < n). let far : (m + 1) * q ≤ n * q = mul-le-mul_right q (omega arith) in absurd (omega (arith, hn.high, hm.low, far)))
+    (λ (h : n ≤ m). h)
+    (cases_lt m n)
+
+pub nearest-monotone : (p r q : ℕ) → 0 < q → p ≤ r → nearest p q ≤ nearest r q
+nearest-monotone p r q some h =
+    ⊎_elim
+    (λ (less : p < r). not_below p r q (nearest p q) (nearest r q) (nearest-meets p q some) (nearest-meets r q some) less)
+    (λ (g : r ≤ p). let same : p ≡ r = omega arith in let e = ap (λ (n : ℕ). nearest n q) same in omega arith)
+    (cases_lt p r)
+
+ends_ordered : (a b : ℕ) → neg_ℤ (pos a) ≤ℤ pos b
+ends_ordered a b = omega (arith, ints)
+
+turned_order : (a b : ℕ) → b ≤ a → neg_ℤ (pos a) ≤ℤ neg_ℤ (pos b)
+turned_order a b h = omega (arith, ints)
+
+pos_order : (a b : ℕ) → a ≤ b → pos a ≤ℤ pos b
+pos_order a b h = omega (arith, ints)
+
+pub near-monotone : (p r : ℤ) (q : ℕ) → 0 < q → p ≤ℤ r → near p (pos q) ≤ℤ near r (pos q)
+near-monotone (pos p) (pos r) q some h =
+    rw (near-pos_pos p q, near-pos_pos r q) (pos_order _ _ (nearest-monotone p r q some (omega (arith, ints))))
+near-monotone (negsuc p) (pos r) q some h = rw (near-negsuc_pos p q, near-pos_pos r q) (ends_ordered _ _)
+near-monotone (negsuc p) (negsuc r) q some h =
+    rw (near-negsuc_pos p q, near-negsuc_pos r q) (turned_order _ _ (nearest-monotone (suc r) (suc p) q some (omega (arith, ints))))
+near-monotone (pos p) (negsuc r) q some h = absurd (omega (arith, ints))
+
+neg-neg : (a : ℤ) → a ≡ neg_ℤ (neg_ℤ a)
+neg-neg a = omega (arith, ints)
+
+pub near-odd : (p : ℤ) (q : ℕ) → 0 < q → near (neg_ℤ p) (pos q) ≡ neg_ℤ (near p (pos q))
+near-odd (pos zero) q some = rw (near-pos_pos zero q, nearest-zero q some) refl
+near-odd (pos (suc p)) q some = rw (near-negsuc_pos p q, near-pos_pos (suc p) q) refl
+near-odd (negsuc p) q some = rw (near-pos_pos (suc p) q, near-negsuc_pos p q) (neg-neg (pos (nearest (suc p) q)))
+
+pub saturated-monotone : (a b : ℤ) → a ≤ℤ b → saturated a ≤ℤ saturated b
+unfolding saturated
+saturated-monotone a b h = omega (arith, ints, clamps)
+
+pub saturated-odd : (a : ℤ) → saturated (neg_ℤ a) ≡ neg_ℤ (saturated a)
+unfolding saturated
+saturated-odd a = omega (arith, ints, clamps)
+
+from_abs : (z : ℤ) (n : ℕ) → unsigned_abs z ≤ n → (neg_ℤ (pos n) ≤ℤ z) × (z ≤ℤ pos n)
+from_abs z n h = (omega (arith, ints), omega (arith, ints))
+
+-- an exact product with a number from -h to h
+pub times_within : (c p h : ℤ) → neg_ℤ h ≤ℤ p → p ≤ℤ h → (neg_ℤ (pos (unsigned_abs c) *ℤ h) ≤ℤ (c *ℤ p)) × ((c *ℤ p) ≤ℤ (pos (unsigned_abs c) *ℤ h))
+times_within c p (pos h) low high =
+    from_abs (c *ℤ p) (unsigned_abs c * h)
+    (rw (unsigned_abs-mul c p) (mul-le-mul_left (unsigned_abs c) (let in_range : unsigned_abs p ≤ h = omega (arith, ints) in in_range)))
+times_within c p (negsuc h) low high = absurd (omega (arith, ints))
+
+-- the rounded one, held in range
+pub product_within : (c p h : ℤ) → neg_ℤ h ≤ℤ p → p ≤ℤ h →
+    (neg_ℤ (product (pos (unsigned_abs c)) h) ≤ℤ product c p) × (product c p ≤ℤ product (pos (unsigned_abs c)) h)
+unfolding product
+product_within c p h low high =
+    let exact = times_within c p h low high in
+    let k = pos (unsigned_abs c) *ℤ h in
+    let turned : neg_ℤ (saturated (near k (pos 16777216))) ≡ saturated (near (neg_ℤ k) (pos 16777216)) =
+    rw (near-odd k 16777216 (omega arith)) (sym (saturated-odd (near k (pos 16777216)))) in (
+      rw turned (saturated-monotone _ _ (near-monotone (neg_ℤ k) (c *ℤ p) 16777216 (omega arith) exact.0)),
+      saturated-monotone _ _ (near-monotone (c *ℤ p) k 16777216 (omega arith) exact.1),
+    )
+
+-- a product of numbers from 0 on, the first at most 1 and the second at most 1024: it isn't held in range, and is at
+-- most a half of a unit too small
+pub product_near : (a b : ℕ) → a ≤ 16777216 → b ≤ 17179869184 →
+    (n : ℕ) × (product (pos a) (pos b) ≡ pos n) × (2 * (a * b) ≤ 2 * (n * 16777216) + 16777216) × (n ≤ b)
+product_near a b ha hb =
+    let meets = nearest-meets (a * b) 16777216 (omega arith) in
+    let most : a * b ≤ 16777216 * b = mul-le-mul_right b ha in
+    let short : nearest (a * b) 16777216 ≤ b = omega (arith, meets.high) in
+    let rounded : near (pos (a * b)) (pos 16777216) ≡ pos (nearest (a * b) 16777216) = near-pos_pos (a * b) 16777216 in
+    let fits : unsigned_abs (near (pos a *ℤ pos b) (pos 16777216)) ≤ 2 ^ 38 = rw rounded (omega arith) in
+    (nearest (a * b) 16777216, sym (product_in_range (pos a) (pos b) fits) ∙ rounded, meets.low, short)
