@@ -1,2 +1,3 @@
 pub mod Vector
 pub mod Rotation
+pub mod Laws

@@ -1,1 +1,5 @@
 pub mod Reaching
+pub mod Sharing
+pub mod Staying
+pub mod Exact
+pub mod Circles

@@ -8,5 +8,6 @@ pub mod SceneText
 pub mod SceneRead
 pub mod Reach
 pub mod Bounds
+pub mod Laws
 pub mod Same
 pub mod SameLaws

@@ -1,10 +1,41 @@
-//! What overlapping means, as laws. Their functions do nothing: their clauses are what they are for.
+//! What overlapping means, and that shapes stay in their bounds, as laws. Their functions do nothing: their clauses are
+//! what they are for.
 
-ghost use Rattle.std.specs.Prelude.{◌≡◌};
-ghost use Rattle.pf_shapes.specs.Bounds.{Span, overlaps};
+ghost use Rattle.std.specs.Prelude.{◌≡◌, ℤ, pos, ◌≤ℤ◌, Bool, true};
+ghost use Rattle.pf_num.specs.Fx.{IsRaw};
+ghost use Rattle.pf_rot.specs.Vector.{Vec2, plus};
+ghost use Rattle.pf_rot.specs.Rotation.{Pair, rotated};
+ghost use Rattle.pf_rot.specs.Laws.{IsAtMostOne};
+ghost use Rattle.pf_shapes.specs.Fixture.{FixtureDef, IsSize};
+ghost use Rattle.pf_shapes.specs.Body.{State};
+ghost use Rattle.pf_shapes.specs.Bounds.{Span, IsUpright, overlaps, span_of, bounds_of};
+ghost use Rattle.pf_shapes.specs.Laws.{IsInBox, IsInCircle, IsInSpan, IsInner, exact_place, finer_span};
+
+use crate::fixture::Shape;
 
 /// Bounds overlap others where these overlap them.
 #[tactic(auto, unfolding(crate::specs::Bounds::overlaps))]
 pub fn overlapping_is_symmetric()
     ensures { (a b : Span) → overlaps a b ≡ overlaps b a }
+{}
+
+/// Bounds that have a place in common overlap, and bounds that overlap have one where no end is on the wrong side.
+pub fn spans_that_share_a_place_overlap()
+    ensures shared { (a b : Span) (p : Vec2) → IsInSpan a p → IsInSpan b p → overlaps a b ≡ true }
+    ensures found { (a b : Span) → IsUpright a → IsUpright b → overlaps a b ≡ true → (p : Vec2) × IsInSpan a p × IsInSpan b p }
+{}
+
+/// A place in a box is in the bounds of the box's body: as the program computes where the place is, and in exact numbers,
+/// wherever nothing is held at the ends of the range. The exact places and ends are in units of 2^-48.
+pub fn boxes_stay_in_their_bounds()
+    ensures computed { (hx hy : ℤ) (place : Vec2) (rot : Pair) (fixed : Bool) (p : Vec2) → IsInBox (record { x = hx; y = hy }) p
+        → IsInSpan (span_of (Shape.Box hx hy) place rot fixed) (plus place (rotated rot p)) }
+    ensures exact { (hx hy : ℤ) (place : Vec2) (rot : Pair) (fixed : Bool) (p : Vec2) → IsSize hx → IsSize hy → IsAtMostOne rot → IsInner place
+        → IsInBox (record { x = hx; y = hy }) p → IsInSpan (finer_span (span_of (Shape.Box hx hy) place rot fixed)) (exact_place place rot p) }
+{}
+
+/// A place in a circle is in the bounds of the circle's body, in exact numbers.
+pub fn circles_stay_in_their_bounds()
+    ensures { (r : ℤ) (place : Vec2) (rot : Pair) (fixed : Bool) (p : Vec2) → pos 0 ≤ℤ r → IsRaw r → IsRaw p.x → IsRaw p.y
+        → IsInCircle r place p → IsInSpan (span_of (Shape.Circle r) place rot fixed) p }
 {}

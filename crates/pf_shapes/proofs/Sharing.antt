@@ -1,0 +1,41 @@
+-- Spans that have a place in common overlap, and upright spans that overlap have one: the greater of the low ends.
+use Rattle.std.proofs.Common.{◌≡◌, ℤ, Bool, true, false, ◌&&◌, refl, sym, arith, ◌≤ℤ◌, true≢false}
+use Rattle.std.proofs.lemmas.Int.{ints, clamps}
+use Rattle.std.specs.Int.{int_max}
+use Rattle.pf_rot.specs.Vector.{Vec2}
+use Rattle.pf_shapes.specs.Bounds.{Span, IsUpright, touches, overlaps}
+use Rattle.pf_shapes.specs.Laws.{IsInSpan}
+
+-- on one axis
+axis_touches : (low high other_low other_high p : ℤ) → low ≤ℤ p → p ≤ℤ high → other_low ≤ℤ p → p ≤ℤ other_high →
+    touches low high other_low other_high ≡ true
+axis_touches low high other_low other_high p a b c d = grind (arith, ints)
+
+axis_shares : (low high other_low other_high : ℤ) → low ≤ℤ high → other_low ≤ℤ other_high → touches low high other_low other_high ≡ true →
+    (low ≤ℤ int_max low other_low) × (int_max low other_low ≤ℤ high) × (other_low ≤ℤ int_max low other_low) × (int_max low other_low ≤ℤ other_high)
+axis_shares low high other_low other_high a b t =
+    let fact : (low ≤ℤ other_high) × (other_low ≤ℤ high) = grind (arith, ints) in
+    (omega (arith, ints, clamps), omega (arith, ints, clamps), omega (arith, ints, clamps), omega (arith, ints, clamps))
+
+both : (x y : Bool) → x && y ≡ true → (x ≡ true) × (y ≡ true)
+both true true e = (refl, refl)
+both true false e = (refl, e)
+both false y e = (e, absurd (true≢false (sym e)))
+
+pub shared : (a b : Span) (p : Vec2) → IsInSpan a p → IsInSpan b p → overlaps a b ≡ true
+unfolding overlaps
+shared a b p ha hb =
+    let x = axis_touches a.low.x a.high.x b.low.x b.high.x p.x ha.left ha.right hb.left hb.right in
+    let y = axis_touches a.low.y a.high.y b.low.y b.high.y p.y ha.below ha.above hb.below hb.above in
+    rw (x, y) refl
+
+pub found : (a b : Span) → IsUpright a → IsUpright b → overlaps a b ≡ true → (p : Vec2) × IsInSpan a p × IsInSpan b p
+unfolding overlaps
+found a b ha hb t =
+    let axes = both (touches a.low.x a.high.x b.low.x b.high.x) (touches a.low.y a.high.y b.low.y b.high.y) t in
+    let x = axis_shares a.low.x a.high.x b.low.x b.high.x ha.x hb.x axes.0 in
+    let y = axis_shares a.low.y a.high.y b.low.y b.high.y ha.y hb.y axes.1 in (
+      record { x = int_max a.low.x b.low.x; y = int_max a.low.y b.low.y },
+      record { left = x.0; right = x.1; below = y.0; above = y.1 },
+      record { left = x.2; right = x.3; below = y.2; above = y.3 },
+    )

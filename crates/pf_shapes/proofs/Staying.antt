@@ -1,0 +1,55 @@
+-- A place in a turned box is in the bounds of the box: along each axis it is at most as far from the centre as the box
+-- reaches.
+use Rattle.std.proofs.Common.{ℤ, pos, ◌≤ℤ◌, neg_ℤ, Bool, arith}
+use Rattle.std.proofs.lemmas.Int.{ints, clamps}
+use Rattle.pf_num.specs.Fx.{saturated, sum, difference, product}
+use Rattle.pf_num.proofs.Monotone.{product_within}
+use Rattle.pf_rot.specs.Vector.{Vec2, plus, minus}
+use Rattle.pf_rot.specs.Rotation.{Pair, rotated}
+use Rattle.pf_shapes.specs.declared.fixture.Shape.TheVariants.{Box}
+use Rattle.pf_shapes.specs.Reach.{widened, reach}
+use Rattle.pf_shapes.specs.Bounds.{extent, span_of}
+use Rattle.pf_shapes.specs.Laws.{IsInBox, IsInSpan}
+
+-- a number from -e to e
+abbrev IsUpTo : ℤ → ℤ → Type 0
+IsUpTo e t = (neg_ℤ e ≤ℤ t) × (t ≤ℤ e)
+
+sum_within : (u v m n : ℤ) → IsUpTo m u → IsUpTo n v → IsUpTo (sum m n) (sum u v)
+unfolding sum saturated
+sum_within u v m n hu hv = (omega (arith, ints, clamps), omega (arith, ints, clamps))
+
+difference_within : (u v m n : ℤ) → IsUpTo m u → IsUpTo n v → IsUpTo (sum m n) (difference u v)
+unfolding sum difference saturated
+difference_within u v m n hu hv = (omega (arith, ints, clamps), omega (arith, ints, clamps))
+
+-- what is as far from the centre as the turned box reaches, on either axis
+first_within : (c s hx hy x y : ℤ) → IsUpTo hx x → IsUpTo hy y → IsUpTo (reach c hx s hy) (difference (product c x) (product s y))
+unfolding reach
+first_within c s hx hy x y in_x in_y = difference_within _ _ _ _ (product_within c x hx in_x.0 in_x.1) (product_within s y hy in_y.0 in_y.1)
+
+second_within : (c s hx hy x y : ℤ) → IsUpTo hx x → IsUpTo hy y → IsUpTo (reach s hx c hy) (sum (product s x) (product c y))
+unfolding reach
+second_within c s hx hy x y in_x in_y = sum_within _ _ _ _ (product_within s x hx in_x.0 in_x.1) (product_within c y hy in_y.0 in_y.1)
+
+sum_held : (m n : ℤ) → sum m n ≤ℤ pos 36028797018963967
+unfolding sum saturated
+sum_held m n = omega (arith, ints, clamps)
+
+reach_held : (a hx b hy : ℤ) → reach a hx b hy ≤ℤ pos 36028797018963967
+unfolding reach
+reach_held a hx b hy = sum_held _ _
+
+-- between the ends, on one axis
+ends_within : (place t e : ℤ) → e ≤ℤ pos 36028797018963967 → IsUpTo e t →
+    (difference place (widened e) ≤ℤ sum place t) × (sum place t ≤ℤ sum place (widened e))
+unfolding widened sum difference saturated
+ends_within place t e held h = (omega (arith, ints, clamps), omega (arith, ints, clamps))
+
+pub box_stays : (hx hy : ℤ) (place : Vec2) (rot : Pair) (fixed : Bool) (p : Vec2) → IsInBox (record { x = hx; y = hy }) p →
+    IsInSpan (span_of (Box hx hy) place rot fixed) (plus place (rotated rot p))
+unfolding span_of extent plus minus rotated
+box_stays hx hy place rot fixed p h =
+    let x = ends_within place.x _ _ (reach_held rot.c hx rot.s hy) (first_within rot.c rot.s hx hy p.x p.y (h.left, h.right) (h.below, h.above)) in
+    let y = ends_within place.y _ _ (reach_held rot.s hx rot.c hy) (second_within rot.c rot.s hx hy p.x p.y (h.left, h.right) (h.below, h.above)) in
+    record { left = x.0; right = x.1; below = y.0; above = y.1 }
