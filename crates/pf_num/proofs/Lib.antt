@@ -4,3 +4,4 @@ pub mod Shift
 pub mod Nearest
 pub mod Roots
 pub mod Monotone
+pub mod AtMostOne

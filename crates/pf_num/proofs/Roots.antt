@@ -45,5 +45,14 @@ root_below n k h =
     (let squares : k * k ≤ whole_root n * whole_root n = mul-le-mul g g in omega (arith, (whole_root-meets n).within)))
     (cases_lt (whole_root n) k)
 
+-- the root of a number from a square on is at least its root
+pub root_from : (n k : ℕ) → k * k ≤ n → k ≤ whole_root n
+root_from n k h =
+    ⊎_elim
+    (λ (l : whole_root n < k). absurd
+    (let squares : (whole_root n + 1) * (whole_root n + 1) ≤ k * k = mul-le-mul (omega arith) (omega arith) in omega (arith, (whole_root-meets n).greatest)))
+    (λ (g : k ≤ whole_root n). g)
+    (cases_lt (whole_root n) k)
+
 pub raw_root_below : (raw : ℕ) → raw < 2 ^ 55 → whole_root (raw * 16777216) < 2 ^ 40
 raw_root_below raw h = root_below (raw * 16777216) (2 ^ 40) (omega arith)

@@ -4,9 +4,10 @@
 ghost use Rattle.std.specs.Prelude.{◌≡◌, ℕ, ◌+◌, ◌*◌, ℤ, pos};
 ghost use Rattle.std.specs.Int.RustNames.{unsigned_abs};
 ghost use Rattle.pf_num.specs.Root.{IsRoot};
-ghost use Rattle.pf_num.specs.Fx.{saturated, product, tick};
+ghost use Rattle.pf_num.specs.Fx.{IsRaw, saturated, product, tick};
 ghost use Rattle.pf_rot.specs.Vector.{Vec2, zero_vector, length_of};
 ghost use Rattle.pf_rot.specs.Rotation.{Pair, upright, unit, turned};
+ghost use Rattle.pf_rot.specs.Laws.{IsAtMostOne};
 
 use crate::rotation::Rot;
 use crate::vector::V2;
@@ -21,6 +22,12 @@ pub fn lengths_are_greatest()
 pub fn nothing_turns_nothing()
     ensures direction { unit (pos 0) (pos 0) ≡ upright }
     ensures angle { (q : Pair) (spin : ℤ) → product tick spin ≡ pos 0 → turned q spin ≡ q }
+{}
+
+/// No part of a direction that is scaled to length 1 is above 1 in magnitude, and turning keeps it so.
+pub fn directions_are_at_most_one()
+    ensures direction { (c s : ℤ) → IsRaw c → IsRaw s → IsAtMostOne (unit c s) }
+    ensures turn { (q : Pair) (spin : ℤ) → IsAtMostOne q → IsAtMostOne (turned q spin) }
 {}
 
 /// The vector of length 0 and the rotation that leaves everything as it is.
