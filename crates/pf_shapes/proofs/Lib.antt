@@ -3,3 +3,4 @@ pub mod Sharing
 pub mod Staying
 pub mod Exact
 pub mod Circles
+pub mod Covering

@@ -1,9 +1,12 @@
 -- Words of the laws of bounds: which places a shape covers, and which a span contains.
-use Rattle.std.specs.Prelude.{◌+◌, ◌*◌, ◌≤◌, ℤ, neg_ℤ, ◌+ℤ◌, ◌-ℤ◌, ◌*ℤ◌, ◌≤ℤ◌}
+use Rattle.std.specs.Prelude.{◌≡◌, ◌+◌, ◌*◌, ◌≤◌, ℤ, pos, neg_ℤ, ◌+ℤ◌, ◌-ℤ◌, ◌*ℤ◌, ◌≤ℤ◌}
 use Rattle.std.specs.Int.RustNames.{unsigned_abs}
-use Rattle.pf_num.specs.Fx.{one}
-use Rattle.pf_rot.specs.Vector.{Vec2}
-use Rattle.pf_rot.specs.Rotation.{Pair}
+use Rattle.pf_num.specs.Fx.{one, IsRaw}
+use Rattle.pf_rot.specs.Vector.{Vec2, plus}
+use Rattle.pf_rot.specs.Rotation.{Pair, rotated}
+use Rattle.pf_shapes.specs.declared.fixture.Shape.{Shape}
+use Rattle.pf_shapes.specs.declared.fixture.Shape.TheVariants.{Circle, Box}
+use Rattle.pf_shapes.specs.Body.{State}
 use Rattle.pf_shapes.specs.Bounds.{Span}
 
 -- a place in a box's own axes, seen from its centre, is in the box with these half extents
@@ -23,6 +26,12 @@ pub record IsInSpan (s : Span) (p : Vec2) : Type 0 where
   pub right : p.x ≤ℤ s.high.x
   pub below : s.low.y ≤ℤ p.y
   pub above : p.y ≤ℤ s.high.y
+
+-- a body of this shape covers a place: of a circle by its exact distance, and of a box as the program computes where a
+-- place in the body's own axes is
+abbrev pub Covers : Shape → State → Vec2 → Type 0
+Covers (Circle r) body p = (pos 0 ≤ℤ r) × IsRaw r × IsRaw p.x × IsRaw p.y × IsInCircle r body.place p
+Covers (Box hx hy) body p = (own : Vec2) × IsInBox (record { x = hx; y = hy }) own × (p ≡ plus body.place (rotated body.rot own))
 
 -- a place in the inner half of the range: no shape of an allowed size reaches the ends of the range from it
 pub record IsInner (place : Vec2) : Type 0 where

@@ -9,7 +9,7 @@ ghost use Rattle.pf_rot.specs.Laws.{IsAtMostOne};
 ghost use Rattle.pf_shapes.specs.Fixture.{FixtureDef, IsSize};
 ghost use Rattle.pf_shapes.specs.Body.{State};
 ghost use Rattle.pf_shapes.specs.Bounds.{Span, IsUpright, overlaps, span_of, bounds_of};
-ghost use Rattle.pf_shapes.specs.Laws.{IsInBox, IsInCircle, IsInSpan, IsInner, exact_place, finer_span};
+ghost use Rattle.pf_shapes.specs.Laws.{Covers, IsInBox, IsInCircle, IsInSpan, IsInner, exact_place, finer_span};
 
 use crate::fixture::Shape;
 
@@ -38,4 +38,10 @@ pub fn boxes_stay_in_their_bounds()
 pub fn circles_stay_in_their_bounds()
     ensures { (r : ℤ) (place : Vec2) (rot : Pair) (fixed : Bool) (p : Vec2) → pos 0 ≤ℤ r → IsRaw r → IsRaw p.x → IsRaw p.y
         → IsInCircle r place p → IsInSpan (span_of (Shape.Circle r) place rot fixed) p }
+{}
+
+/// Two bodies that cover one place have bounds that overlap: bodies whose bounds do not overlap share no place.
+pub fn bodies_that_share_a_place_overlap()
+    ensures { (f g : FixtureDef) (a b : State) (p : Vec2) → Covers f.shape a p → Covers g.shape b p
+        → overlaps (bounds_of f a) (bounds_of g b) ≡ true }
 {}
