@@ -3,5 +3,6 @@ pub mod Signs
 pub mod Shift
 pub mod Nearest
 pub mod Roots
+pub mod Range
 pub mod Monotone
 pub mod AtMostOne

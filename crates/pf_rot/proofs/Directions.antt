@@ -6,10 +6,11 @@ use Rattle.std.proofs.lemmas.Int.{ints, clamps}
 use Rattle.std.specs.Int.RustNames.{unsigned_abs}
 use Rattle.pf_num.specs.Root.{whole_root}
 use Rattle.pf_num.specs.Fx.{IsRaw, saturated, sum, difference, product, tick}
+use Rattle.pf_num.proofs.Range.{sum-raw, difference-raw}
 use Rattle.pf_num.proofs.Roots.{root_from}
 use Rattle.pf_num.proofs.AtMostOne.{quotient_at_most_one}
 use Rattle.pf_rot.specs.Vector.{length_of}
-use Rattle.pf_rot.specs.Rotation.{Pair, upright, scaled_to_unit, unit, turned_by, turned}
+use Rattle.pf_rot.specs.Rotation.{Pair, scaled_to_unit, unit, turned_by, turned}
 use Rattle.pf_rot.specs.Laws.{IsAtMostOne}
 
 held_root : (c r : ℕ) → c ≤ 36028797018963967 → c ≤ r → c ≤ unsigned_abs (saturated (pos r))
@@ -21,8 +22,7 @@ length_reaches : (c s : ℤ) → IsRaw c → IsRaw s →
 unfolding length_of
 length_reaches c s raw_c raw_s =
     let a = unsigned_abs c in
-    let b = unsigned_abs s in
-    (
+    let b = unsigned_abs s in (
       held_root a (whole_root (a * a + b * b)) raw_c (root_from (a * a + b * b) a (omega arith)),
       held_root b (whole_root (a * a + b * b)) raw_s (root_from (a * a + b * b) b (omega arith)),
     )
@@ -44,24 +44,12 @@ unit_at_most_one c s raw_c raw_s =
     let reaches = length_reaches c s raw_c raw_s in
     scaled_at_most_one (length_of (record { x = c; y = s })) c s reaches.0 reaches.1
 
-saturated_raw : (z : ℤ) → IsRaw (saturated z)
-unfolding saturated
-saturated_raw z = omega (arith, ints, clamps)
-
-sum_raw : (a b : ℤ) → IsRaw (sum a b)
-unfolding sum
-sum_raw a b = saturated_raw _
-
-difference_raw : (a b : ℤ) → IsRaw (difference a b)
-unfolding difference
-difference_raw a b = saturated_raw _
-
 turned_by_at_most_one : (q : Pair) (a : ℤ) → IsAtMostOne q → IsAtMostOne (turned_by q a)
 turned_by_at_most_one q a h =
     ⊎_elim
     (λ (some : 0 < unsigned_abs a).
     let e : eqb (unsigned_abs a) 0 ≡ false = grind (arith, nat_tests) in
-    rw e (unit_at_most_one (difference q.c (product a q.s)) (sum q.s (product a q.c)) (difference_raw _ _) (sum_raw _ _)))
+    rw e (unit_at_most_one (difference q.c (product a q.s)) (sum q.s (product a q.c)) (difference-raw _ _) (sum-raw _ _)))
     (λ (none : unsigned_abs a ≤ 0).
     let e : unsigned_abs a ≡ 0 = omega arith in
     rw e h)

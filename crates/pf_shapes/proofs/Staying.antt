@@ -3,11 +3,12 @@
 use Rattle.std.proofs.Common.{ℤ, pos, ◌≤ℤ◌, neg_ℤ, Bool, arith}
 use Rattle.std.proofs.lemmas.Int.{ints, clamps}
 use Rattle.pf_num.specs.Fx.{saturated, sum, difference, product}
+use Rattle.pf_num.proofs.Range.{sum-raw}
 use Rattle.pf_num.proofs.Monotone.{product_within}
 use Rattle.pf_rot.specs.Vector.{Vec2, plus, minus}
 use Rattle.pf_rot.specs.Rotation.{Pair, rotated}
 use Rattle.pf_shapes.specs.declared.fixture.Shape.TheVariants.{Box}
-use Rattle.pf_shapes.specs.Reach.{widened, reach}
+use Rattle.pf_shapes.specs.Reach.{magnitude, widened, reach}
 use Rattle.pf_shapes.specs.Bounds.{extent, span_of}
 use Rattle.pf_shapes.specs.Laws.{IsInBox, IsInSpan}
 
@@ -32,13 +33,9 @@ second_within : (c s hx hy x y : ℤ) → IsUpTo hx x → IsUpTo hy y → IsUpTo
 unfolding reach
 second_within c s hx hy x y in_x in_y = sum_within _ _ _ _ (product_within s x hx in_x.0 in_x.1) (product_within c y hy in_y.0 in_y.1)
 
-sum_held : (m n : ℤ) → sum m n ≤ℤ pos 36028797018963967
-unfolding sum saturated
-sum_held m n = omega (arith, ints, clamps)
-
 reach_held : (a hx b hy : ℤ) → reach a hx b hy ≤ℤ pos 36028797018963967
 unfolding reach
-reach_held a hx b hy = sum_held _ _
+reach_held a hx b hy = omega (arith, ints, sum-raw (product (magnitude a) hx) (product (magnitude b) hy))
 
 -- between the ends, on one axis
 ends_within : (place t e : ℤ) → e ≤ℤ pos 36028797018963967 → IsUpTo e t →

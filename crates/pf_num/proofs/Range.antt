@@ -1,0 +1,16 @@
+-- Sums and differences are held in range.
+use Rattle.std.proofs.Common.{ℤ, arith}
+use Rattle.std.proofs.lemmas.Int.{ints, clamps}
+use Rattle.pf_num.specs.Fx.{IsRaw, saturated, sum, difference}
+
+pub saturated-raw : (z : ℤ) → IsRaw (saturated z)
+unfolding saturated
+saturated-raw z = omega (arith, ints, clamps)
+
+pub sum-raw : (a b : ℤ) → IsRaw (sum a b)
+unfolding sum
+sum-raw a b = saturated-raw _
+
+pub difference-raw : (a b : ℤ) → IsRaw (difference a b)
+unfolding difference
+difference-raw a b = saturated-raw _
