@@ -71,7 +71,7 @@ fn push_points(touches: &mut Vec<Touch>, pair: &Pair, points: &Manifold) -> Resu
 }
 
 /// The points where these pairs of bodies touch, in the order of the pairs, and those of one pair in ascending order of
-/// their features.
+/// their features. Where no pair touches it takes no memory, and cannot fail.
 pub fn collide_list(
     alloc: Global,
     scene: &Scene,
@@ -80,7 +80,8 @@ pub fn collide_list(
 ) -> Result<Vec<Touch>, AllocError>
     requires bodies { length bodies.now ≡ length scene.now.fixtures }
     requires pairs { All (IsPairOf (length bodies.now)) pairs.now }
-    ensures { IfOk result (λ found. found.items ≡ touches scene.now.fixtures bodies.now pairs.now) }
+    ensures found { IfOk result (λ found. found.items ≡ touches scene.now.fixtures bodies.now pairs.now) }
+    ensures quiet { touches scene.now.fixtures bodies.now pairs.now ≡ [] → IsOk result }
 {
     let mut touches = Vec::new(alloc);
     for pair in pairs {
