@@ -3,3 +3,9 @@ pub mod Mirrors
 pub mod Touching
 pub mod Pairs
 pub mod Apart
+pub mod Closest
+pub mod Comparisons
+pub mod Clipping
+pub mod Meeting
+pub mod Gaps
+pub mod Upright

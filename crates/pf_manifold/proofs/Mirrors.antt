@@ -25,11 +25,11 @@ use Rattle.pf_manifold.specs.Laws.{IsMirrored}
 
 -- ---- numbers
 
-saturated-neg : (z : ℤ) → saturated (neg_ℤ z) ≡ neg_ℤ (saturated z)
+pub saturated-neg : (z : ℤ) → saturated (neg_ℤ z) ≡ neg_ℤ (saturated z)
 unfolding saturated
 saturated-neg z = omega (arith, ints, clamps)
 
-difference-swap : (a b : ℤ) → difference a b ≡ neg_ℤ (difference b a)
+pub difference-swap : (a b : ℤ) → difference a b ≡ neg_ℤ (difference b a)
 unfolding difference
 difference-swap a b =
     let e : a -ℤ b ≡ neg_ℤ (b -ℤ a) = omega (arith, ints) in rw e (saturated-neg (b -ℤ a))
@@ -43,14 +43,14 @@ difference-none : (a b : ℤ) → difference b a ≡ pos 0 → a ≡ b
 unfolding difference saturated
 difference-none a b e = omega (arith, ints, clamps)
 
-magnitude-neg : (z : ℤ) → unsigned_abs (neg_ℤ z) ≡ unsigned_abs z
+pub magnitude-neg : (z : ℤ) → unsigned_abs (neg_ℤ z) ≡ unsigned_abs z
 magnitude-neg z = omega (arith, ints)
 
 turned_sign : (t : Bool) (m : ℕ) → with_sign (not (beq true t)) m ≡ neg_ℤ (with_sign (not (beq false t)) m)
 turned_sign true m = omega (arith, ints)
 turned_sign false m = refl
 
-opposite-neg : (n : ℕ) (b : ℤ) (m : ℕ) → with_sign (is_opposite (negsuc n) b) m ≡ neg_ℤ (with_sign (is_opposite (pos (suc n)) b) m)
+pub opposite-neg : (n : ℕ) (b : ℤ) (m : ℕ) → with_sign (is_opposite (negsuc n) b) m ≡ neg_ℤ (with_sign (is_opposite (pos (suc n)) b) m)
 opposite-neg n b m = rw (is_negative-pos (suc n)) (turned_sign (is_negative b) m)
 
 signed_none : (t : Bool) → with_sign t 0 ≡ pos 0
@@ -72,7 +72,7 @@ quotient-neg (negsuc n) b some = rw (← quotient_of (pos (suc n)) b some, ← q
 
 -- ---- vectors
 
-minus-swap : (a b : Vec2) → minus a b ≡ negated (minus b a)
+pub minus-swap : (a b : Vec2) → minus a b ≡ negated (minus b a)
 unfolding minus negated
 minus-swap a b = rw (difference-swap a.x b.x, difference-swap a.y b.y) refl
 
@@ -98,7 +98,7 @@ some_length : (v : Vec2) → (v.x ≡ pos 0 → v.y ≡ pos 0 → ⊥) → 0 < u
 unfolding length_of
 some_length v h = some_root _ (squares (unsigned_abs v.x) (unsigned_abs v.y) (λ ex ey. h (omega (arith, ints)) (omega (arith, ints))))
 
-same_vector : (a b : Vec2) → a.x ≡ b.x → a.y ≡ b.y → a ≡ b
+pub same_vector : (a b : Vec2) → a.x ≡ b.x → a.y ≡ b.y → a ≡ b
 same_vector a b ex ey = let vector : ℤ → ℤ → Vec2 = λ x y. record { x = x; y = y } in ap₂ vector ex ey
 
 some_distance : (a b : Vec2) → a ≢ b → 0 < unsigned_abs (length_of (minus b a))

@@ -24,13 +24,14 @@ use Rattle.pf_manifold.specs.Separation.{frames_of, separations_of, best_axis, h
 use Rattle.pf_manifold.specs.Boxes.{vertex_point, vertex_contact, if_behind, ascending, segment_points, edge_points, reference_points, points_along, collide_boxes}
 use Rattle.pf_manifold.specs.Collide.{box_at, mirrored, if_mirrored, collide, collide_shapes}
 use Rattle.pf_manifold.specs.Laws.{IsTouching}
+use Rattle.pf_manifold.specs.PlaceLaws.{IsInBox}
 
 abbrev IfTouching : Option Contact → Type 0
 IfTouching None = Unit {0}
 IfTouching (Some p) = IsTouching p
 
 -- a number that another isn't below is at least as great
-not_above : (x y : ℤ) → int_lt x y ≡ false → y ≤ℤ x
+pub not_above : (x y : ℤ) → int_lt x y ≡ false → y ≤ℤ x
 not_above x y e = grind (arith, ints, nat_tests)
 
 difference-low : (x y : ℤ) → x ≤ℤ y → difference x y ≤ℤ pos 0
@@ -69,21 +70,15 @@ within_high : (h z : ℤ) → pos 0 ≤ℤ h → z ≡ clamped h z → z ≤ℤ 
 unfolding clamped
 within_high h z some e = omega (arith, ints, clamps)
 
-record IsInside (half d : Vec2) : Type 0 where
-  left : neg_ℤ half.x ≤ℤ d.x
-  right : d.x ≤ℤ half.x
-  bottom : neg_ℤ half.y ≤ℤ d.y
-  top : d.y ≤ℤ half.y
-
 -- from inside each face is at a distance from 0 on
-inside_distance : (half d : Vec2) (face : Face) → IsInside half d → pos 0 ≤ℤ face_distance half d face
+inside_distance : (half d : Vec2) (face : Face) → IsInBox half d → pos 0 ≤ℤ face_distance half d face
 unfolding face_distance
 inside_distance half d Right h = difference-high half.x d.x h.right
 inside_distance half d Top h = difference-high half.y d.y h.top
 inside_distance half d Left h = sum-high half.x d.x h.left
 inside_distance half d Bottom h = sum-high half.y d.y h.bottom
 
-inside_touches : (half d : Vec2) (r : ℤ) (face : Face) → pos 0 ≤ℤ r → IsInside half d → IsTouching (inside_point half r d face)
+inside_touches : (half d : Vec2) (r : ℤ) (face : Face) → pos 0 ≤ℤ r → IsInBox half d → IsTouching (inside_point half r d face)
 unfolding inside_point
 inside_touches half d r face some h =
     let far = inside_distance half d face h in
@@ -99,7 +94,7 @@ both_true true false e = absurd (cc)
 both_true false t e = absurd (cc)
 
 is_inside : (half d : Vec2) → pos 0 ≤ℤ half.x → pos 0 ≤ℤ half.y
-    → (int_eq d.x (clamped half.x d.x) && int_eq d.y (clamped half.y d.y)) ≡ true → IsInside half d
+    → (int_eq d.x (clamped half.x d.x) && int_eq d.y (clamped half.y d.y)) ≡ true → IsInBox half d
 is_inside half d sx sy test =
     let both = both_true (int_eq d.x (clamped half.x d.x)) (int_eq d.y (clamped half.y d.y)) test in
     let ex : d.x ≡ clamped half.x d.x = (Decides-int_eq d.x (clamped half.x d.x)).0 both.0 in

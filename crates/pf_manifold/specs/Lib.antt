@@ -12,3 +12,4 @@ pub mod Boxes
 pub mod Collide
 pub mod Laws
 pub mod Touches
+pub mod PlaceLaws

@@ -102,6 +102,11 @@ fn two_boxes(rt: HostRuntime) {
     laws::features_ascend();
     laws::circles_mirror();
     laws::points_touch();
+    laws::closest_points_are_closest();
+    laws::clipped_edges_lie_within();
+    laws::circles_touch_where_they_reach();
+    laws::gaps_are_mirrored();
+    laws::upright_boxes_meet_where_they_overlap();
 }
 
 // Radius and place of either circle, with any pair, and their point.

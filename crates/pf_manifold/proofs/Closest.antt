@@ -1,0 +1,135 @@
+-- The point of a box that is closest to a place, and the face that is closest to it.
+use Rattle.std.proofs.Common.{◌≡◌, ℕ, ◌≤◌, ℤ, pos, neg_ℤ, ◌-ℤ◌, ◌≤ℤ◌, Bool, true, false, refl, arith}
+use Rattle.std.proofs.lemmas.Int.{ints, clamps}
+use Rattle.std.proofs.Math.Nat.{mul-le-mul}
+use Rattle.std.specs.Int.RustNames.{unsigned_abs}
+use Rattle.std.specs.Int.Signed.{≤ℤ_refl}
+use Rattle.std.specs.Prelude.{int_lt, if◌then◌else◌}
+use Rattle.pf_rot.specs.Vector.{Vec2}
+use Rattle.pf_manifold.specs.declared.face.Face.{Face}
+use Rattle.pf_manifold.specs.declared.face.Face.TheVariants.{Right, Top, Left, Bottom}
+use Rattle.pf_manifold.specs.Face.{face_number}
+use Rattle.pf_manifold.specs.BoxCircle.{clamped, closest_point, face_distance, closer_face, closest_face}
+use Rattle.pf_manifold.specs.PlaceLaws.{IsInBox, squared, IsClosest}
+use Rattle.pf_manifold.proofs.Mirrors.{same_vector}
+use Rattle.pf_manifold.proofs.Comparisons.{is_below}
+use Rattle.pf_manifold.proofs.Touching.{not_above}
+
+-- ---- the closest point
+
+clamped-low : (h z : ℤ) → pos 0 ≤ℤ h → neg_ℤ h ≤ℤ clamped h z
+unfolding clamped
+clamped-low h z some = omega (arith, ints, clamps)
+
+clamped-high : (h z : ℤ) → pos 0 ≤ℤ h → clamped h z ≤ℤ h
+unfolding clamped
+clamped-high h z some = omega (arith, ints, clamps)
+
+clamped-within : (h z : ℤ) → neg_ℤ h ≤ℤ z → z ≤ℤ h → clamped h z ≡ z
+unfolding clamped
+clamped-within h z low high = omega (arith, ints, clamps)
+
+-- no number from -h to h is closer
+clamped-closest : (h z w : ℤ) → neg_ℤ h ≤ℤ w → w ≤ℤ h → unsigned_abs (z -ℤ clamped h z) ≤ unsigned_abs (z -ℤ w)
+unfolding clamped
+clamped-closest h z w low high = omega (arith, ints, clamps)
+
+pub squared_le : (m n : ℕ) → m ≤ n → squared m ≤ squared n
+squared_le m n h = mul-le-mul h h
+
+pub point_is_closest : (half d : Vec2) → pos 0 ≤ℤ half.x → pos 0 ≤ℤ half.y → IsClosest half d (closest_point half d)
+unfolding closest_point
+point_is_closest half d sx sy = record {
+  inside = record {
+    left = clamped-low half.x d.x sx;
+    right = clamped-high half.x d.x sx;
+    bottom = clamped-low half.y d.y sy;
+    top = clamped-high half.y d.y sy;
+  };
+  closest = λ q inside.
+      let along_x = squared_le _ _ (clamped-closest half.x d.x q.x inside.left inside.right) in
+      let along_y = squared_le _ _ (clamped-closest half.y d.y q.y inside.bottom inside.top) in
+      omega (arith, along_x, along_y);
+}
+
+pub itself_is_closest : (half d : Vec2) → IsInBox half d → closest_point half d ≡ d
+unfolding closest_point
+itself_is_closest half d inside =
+    same_vector _ _ (clamped-within half.x d.x inside.left inside.right) (clamped-within half.y d.y inside.bottom inside.top)
+
+-- ---- the closest face
+
+-- of two faces the closer one is as close as either, and it is the second only where that is closer than the first
+record IsCloser (half d : Vec2) (best face closer : Face) : Type 0 where
+  as_first : face_distance half d closer ≤ℤ face_distance half d best
+  as_second : face_distance half d closer ≤ℤ face_distance half d face
+  tie : face_distance half d best ≤ℤ face_distance half d closer → closer ≡ best
+  one_of : (n : ℕ) → face_number best ≤ n → face_number face ≤ n → face_number closer ≤ n
+
+closer_is : (half d : Vec2) (best face : Face) → IsCloser half d best face (closer_face half d best face)
+unfolding closer_face
+closer_is half d best face = by (int_lt (face_distance half d face) (face_distance half d best)) refl
+  where
+    by : (t : Bool) → int_lt (face_distance half d face) (face_distance half d best) ≡ t → IsCloser half d best face (if t then face else best)
+    by true e =
+        let less = is_below (face_distance half d face) (face_distance half d best) e in
+        record {
+          as_first = omega (arith, ints, less);
+          as_second = ≤ℤ_refl _;
+          tie = λ h. absurd (omega (arith, ints, less));
+          one_of = λ n first second. second;
+        }
+    by false e = record {
+      as_first = ≤ℤ_refl _;
+      as_second = not_above _ _ e;
+      tie = λ h. refl;
+      one_of = λ n first second. first;
+    }
+
+-- the closest of the first two faces, and of the first three
+abbrev of_two : Vec2 → Vec2 → Face
+of_two half d = closer_face half d Right Top
+
+abbrev of_three : Vec2 → Vec2 → Face
+of_three half d = closer_face half d (of_two half d) Left
+
+-- what the three choices say of the face that they end at
+record AreChoices (half d : Vec2) : Type 0 where
+  first : IsCloser half d Right Top (of_two half d)
+  second : IsCloser half d (of_two half d) Left (of_three half d)
+  third : IsCloser half d (of_three half d) Bottom (closest_face half d)
+
+choices : (half d : Vec2) → AreChoices half d
+unfolding closest_face
+choices half d = record {
+  first = closer_is half d Right Top;
+  second = closer_is half d (of_two half d) Left;
+  third = closer_is half d (of_three half d) Bottom;
+}
+
+pub face_is_closest : (half d : Vec2) (face : Face) → face_distance half d (closest_face half d) ≤ℤ face_distance half d face
+face_is_closest half d Right = let c = choices half d in omega (arith, ints, c.first.as_first, c.second.as_first, c.third.as_first)
+face_is_closest half d Top = let c = choices half d in omega (arith, ints, c.first.as_second, c.second.as_first, c.third.as_first)
+face_is_closest half d Left = let c = choices half d in omega (arith, ints, c.second.as_second, c.third.as_first)
+face_is_closest half d Bottom = let c = choices half d in c.third.as_second
+
+pub face_is_earliest : (half d : Vec2) (face : Face) → face_distance half d face ≡ face_distance half d (closest_face half d)
+    → face_number (closest_face half d) ≤ face_number face
+face_is_earliest half d Right e =
+    let c = choices half d in
+    let e₁ = c.first.tie (omega (arith, ints, e, c.second.as_first, c.third.as_first)) in
+    let e₂ = c.second.tie (omega (arith, ints, e, c.first.as_first, c.third.as_first)) in
+    let e₃ = c.third.tie (omega (arith, ints, e, c.first.as_first, c.second.as_first)) in
+    rw (e₃, e₂, e₁) (omega arith)
+face_is_earliest half d Top e =
+    let c = choices half d in
+    let e₂ = c.second.tie (omega (arith, ints, e, c.first.as_second, c.third.as_first)) in
+    let e₃ = c.third.tie (omega (arith, ints, e, c.first.as_second, c.second.as_first)) in
+    rw (e₃, e₂) (c.first.one_of 1 (omega arith) (omega arith))
+face_is_earliest half d Left e =
+    let c = choices half d in
+    let e₃ = c.third.tie (omega (arith, ints, e, c.second.as_second)) in
+    rw e₃ (c.second.one_of 2 (c.first.one_of 2 (omega arith) (omega arith)) (omega arith))
+face_is_earliest half d Bottom e =
+    let c = choices half d in
+    c.third.one_of 3 (c.second.one_of 3 (c.first.one_of 3 (omega arith) (omega arith)) (omega arith)) (omega arith)

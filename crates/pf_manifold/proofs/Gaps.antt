@@ -1,0 +1,127 @@
+-- Two boxes the other way round: what either sees of the other changes its sign, and their separations change places.
+use Rattle.std.proofs.Common.{◌≡◌, zero, suc, ◌*◌, ℤ, pos, negsuc, neg_ℤ, Bool, true, ◌||◌, [], min, refl, sym, ap, ◌∙◌, arith}
+use Rattle.std.proofs.lemmas.Int.{ints, clamps}
+use Rattle.std.proofs.Math.Bool.{or_assoc, or_comm}
+use Rattle.std.proofs.Math.IntN.{*ℤ_comm, zero-*ℤ}
+use Rattle.std.specs.Int.RustNames.{unsigned_abs}
+use Rattle.std.specs.Prelude.{int_lt}
+use Rattle.pf_num.specs.Round.{nearest, near, with_sign, is_opposite}
+use Rattle.pf_num.specs.Fx.{saturated, sum, difference, product}
+use Rattle.pf_num.proofs.Signs.{product_is}
+use Rattle.pf_rot.specs.Vector.{Vec2, minus, negated}
+use Rattle.pf_rot.specs.Rotation.{Pair, unrotated}
+use Rattle.pf_manifold.specs.Placed.{OrientedBox}
+use Rattle.pf_manifold.specs.Separation.{Frames, relative_rotation, frames_apart_by, frames_of, magnitudes, reach, face_separations, Separations, separations_of, has_gap}
+use Rattle.pf_manifold.specs.Boxes.{points_along, collide_boxes}
+use Rattle.pf_manifold.specs.PlaceLaws.{have_gap}
+use Rattle.pf_manifold.proofs.Mirrors.{difference-swap, magnitude-neg, opposite-neg, minus-swap}
+
+-- ---- numbers
+
+pub product_comm : (a b : ℤ) → product a b ≡ product b a
+unfolding product
+product_comm a b = rw (*ℤ_comm a b) refl
+
+pub product-zero : (b : ℤ) → product (pos 0) b ≡ pos 0
+unfolding product near nearest saturated
+product-zero b = rw (zero-*ℤ b) refl
+
+product_of : (a b : ℤ) → with_sign (is_opposite a b) (min (nearest (unsigned_abs a * unsigned_abs b) 16777216) 36028797018963967) ≡ product a b
+product_of a b = product_is a b _ refl
+
+product-neg_left : (a b : ℤ) → product (neg_ℤ a) b ≡ neg_ℤ (product a b)
+product-neg_left (pos zero) b = rw (product-zero b) refl
+product-neg_left (pos (suc n)) b = rw (← product_of (negsuc n) b, ← product_of (pos (suc n)) b) (opposite-neg n b _)
+product-neg_left (negsuc n) b = rw (← product_of (pos (suc n)) b, ← product_of (negsuc n) b, opposite-neg n b) (omega (arith, ints))
+
+product-neg : (a b : ℤ) → product a (neg_ℤ b) ≡ neg_ℤ (product a b)
+product-neg a b = product_comm a (neg_ℤ b) ∙ product-neg_left b a ∙ ap neg_ℤ (product_comm b a)
+
+sum-neg : (a b : ℤ) → sum (neg_ℤ a) (neg_ℤ b) ≡ neg_ℤ (sum a b)
+unfolding sum saturated
+sum-neg a b = omega (arith, ints, clamps)
+
+difference-neg : (a b : ℤ) → difference (neg_ℤ a) (neg_ℤ b) ≡ neg_ℤ (difference a b)
+unfolding difference saturated
+difference-neg a b = omega (arith, ints, clamps)
+
+-- ---- frames
+
+-- a rotation the other way
+abbrev turned_back : Pair → Pair
+turned_back q = record { c = q.c; s = neg_ℤ q.s }
+
+unrotated-negated : (q : Pair) (v : Vec2) → unrotated q (negated v) ≡ negated (unrotated q v)
+unfolding unrotated negated
+unrotated-negated q v =
+    rw (
+      product-neg q.c v.x,
+      product-neg q.s v.y,
+      product-neg q.c v.y,
+      product-neg q.s v.x,
+      sum-neg (product q.c v.x) (product q.s v.y),
+      difference-neg (product q.c v.y) (product q.s v.x),
+    ) refl
+
+relative-swap : (a b : Pair) → relative_rotation b a ≡ turned_back (relative_rotation a b)
+unfolding relative_rotation
+relative-swap a b =
+    rw (
+      product_comm b.c a.c,
+      product_comm b.s a.s,
+      product_comm b.c a.s,
+      product_comm b.s a.c,
+      difference-swap (product a.s b.c) (product a.c b.s),
+    ) refl
+
+-- the boxes the other way round see each other from the opposite offsets
+abbrev seen_back : Frames → Frames
+seen_back f = record { in_a = negated f.in_b; in_b = negated f.in_a; relative = turned_back f.relative }
+
+frames-swap : (a b : OrientedBox) → frames_of b a ≡ seen_back (frames_of a b)
+unfolding frames_of frames_apart_by
+frames-swap a b =
+    rw (
+      minus-swap a.place b.place,
+      unrotated-negated b.rot (minus b.place a.place),
+      unrotated-negated a.rot (minus b.place a.place),
+      relative-swap a.rot b.rot,
+    ) refl
+
+-- ---- separations
+
+magnitudes-negated : (v : Vec2) → magnitudes (negated v) ≡ magnitudes v
+unfolding magnitudes negated
+magnitudes-negated v = rw (magnitude-neg v.x, magnitude-neg v.y) refl
+
+reach-turned_back : (q : Pair) (half : Vec2) → reach (turned_back q) half ≡ reach q half
+unfolding reach
+reach-turned_back q half = rw (magnitude-neg q.s) refl
+
+separations-back : (half offset : Vec2) (q : Pair) (other : Vec2)
+    → face_separations half (negated offset) (turned_back q) other ≡ face_separations half offset q other
+unfolding face_separations
+separations-back half offset q other = rw (magnitudes-negated offset, reach-turned_back q other) refl
+
+abbrev exchanged : Separations → Separations
+exchanged s = record { a = s.b; b = s.a }
+
+separations-swap : (a b : Vec2) (f : Frames) → separations_of b a (seen_back f) ≡ exchanged (separations_of a b f)
+unfolding separations_of
+separations-swap a b f = rw (separations-back b f.in_b f.relative a, separations-back a f.in_a f.relative b) refl
+
+or_exchanged : (p q r s : Bool) → (p || q || r || s) ≡ (r || s || p || q)
+or_exchanged p q r s = or_assoc (p || q) r s ∙ or_comm (p || q) (r || s) ∙ sym (or_assoc (r || s) p q)
+
+gap-exchanged : (s : Separations) → has_gap (exchanged s) ≡ has_gap s
+unfolding has_gap
+gap-exchanged s = or_exchanged (int_lt (pos 0) s.b.x) (int_lt (pos 0) s.b.y) (int_lt (pos 0) s.a.x) (int_lt (pos 0) s.a.y)
+
+pub gap-swap : (a b : OrientedBox) → have_gap b a ≡ have_gap a b
+gap-swap a b = rw (frames-swap a b, separations-swap a.half b.half (frames_of a b)) (gap-exchanged _)
+
+-- ---- points
+
+pub apart_at_gap : (a b : OrientedBox) → have_gap a b ≡ true → collide_boxes a b ≡ []
+unfolding collide_boxes points_along
+apart_at_gap a b e = rw e refl

@@ -1,0 +1,161 @@
+-- Upright boxes: the other box is seen as it lies, so that there is a gap along an axis exactly where the centres are
+-- farther apart along it than the half extents reach.
+use Rattle.std.proofs.Common.{◌≡◌, ◌+◌, ◌≤◌, ◌↔◌, ℤ, pos, ◌-ℤ◌, ◌*ℤ◌, ◌≤ℤ◌, Bool, false, ◌||◌, refl, arith}
+use Rattle.std.proofs.lemmas.Bool.{or_parts}
+use Rattle.std.proofs.lemmas.Int.{ints, clamps}
+use Rattle.std.proofs.Math.IntN.{*ℤ_comm}
+use Rattle.std.specs.Int.RustNames.{unsigned_abs}
+use Rattle.std.specs.Prelude.{int_lt}
+use Rattle.pf_num.specs.Round.{IsNear, nearest, near}
+use Rattle.pf_num.specs.Fx.{one, saturated, sum, difference, product, IsRaw}
+use Rattle.pf_num.proofs.Nearest.{meets, unique}
+use Rattle.pf_rot.specs.Vector.{Vec2, minus}
+use Rattle.pf_rot.specs.Rotation.{upright, unrotated}
+use Rattle.pf_shapes.specs.declared.fixture.Shape.TheVariants.{Box}
+use Rattle.pf_shapes.specs.Fixture.{IsSize, HasSize}
+use Rattle.pf_manifold.specs.Placed.{OrientedBox}
+use Rattle.pf_manifold.specs.Separation.{Frames, relative_rotation, frames_apart_by, frames_of, magnitudes, reach, face_separations, separations_of, has_gap}
+use Rattle.pf_manifold.specs.PlaceLaws.{have_gap, DoOverlap}
+use Rattle.pf_manifold.proofs.Gaps.{product-zero}
+use Rattle.pf_manifold.proofs.Comparisons.{tests_above}
+use Rattle.pf_manifold.proofs.Touching.{not_above}
+
+-- ---- numbers
+
+itself_is_near : (z : ℤ) → IsNear (z *ℤ one) one z
+itself_is_near z = record {
+  within = let e : unsigned_abs (z *ℤ one -ℤ z *ℤ one) ≡ 0 = none (z *ℤ one) in omega (arith, e);
+  even = λ t. let e : unsigned_abs (z *ℤ one -ℤ z *ℤ one) ≡ 0 = none (z *ℤ one) in absurd (omega (arith, e, t));
+}
+  where
+    none : (x : ℤ) → unsigned_abs (x -ℤ x) ≡ 0
+    none x = omega (arith, ints)
+
+near_itself : (z : ℤ) → near (z *ℤ one) one ≡ z
+near_itself z = unique (z *ℤ one) one (near (z *ℤ one) one) z (omega arith) (meets (z *ℤ one) one (omega arith)) (itself_is_near z)
+
+saturated-raw : (z : ℤ) → IsRaw z → saturated z ≡ z
+unfolding saturated
+saturated-raw z h = omega (arith, ints, clamps)
+
+product-one : (z : ℤ) → IsRaw z → product one z ≡ z
+unfolding product
+product-one z h = rw (*ℤ_comm one z, near_itself z) (saturated-raw z h)
+
+-- a raw number plus or less 0
+sum-zero : (z : ℤ) → IsRaw z → sum z (pos 0) ≡ z
+unfolding sum saturated
+sum-zero z h = omega (arith, ints, clamps)
+
+zero-sum : (z : ℤ) → IsRaw z → sum (pos 0) z ≡ z
+unfolding sum saturated
+zero-sum z h = omega (arith, ints, clamps)
+
+difference-zero : (z : ℤ) → IsRaw z → difference z (pos 0) ≡ z
+unfolding difference saturated
+difference-zero z h = omega (arith, ints, clamps)
+
+difference_is_raw : (x y : ℤ) → IsRaw (difference x y)
+unfolding difference saturated
+difference_is_raw x y = omega (arith, ints, clamps)
+
+-- ---- frames
+
+unrotated-upright : (v : Vec2) → IsRaw v.x → IsRaw v.y → unrotated upright v ≡ v
+unfolding unrotated
+unrotated-upright v hx hy =
+    rw (product-one v.x hx, product-one v.y hy, product-zero v.x, product-zero v.y, sum-zero v.x hx, difference-zero v.y hy) refl
+
+relative-upright : relative_rotation upright upright ≡ upright
+unfolding relative_rotation sum difference product near nearest saturated
+relative-upright = refl
+
+-- the other box is seen as it lies
+abbrev as_it_lies : Vec2 → Frames
+as_it_lies offset = record { in_a = offset; in_b = offset; relative = upright }
+
+frames-upright : (a b : OrientedBox) → a.rot ≡ upright → b.rot ≡ upright → frames_of a b ≡ as_it_lies (minus b.place a.place)
+unfolding frames_of frames_apart_by minus
+frames-upright a b ea eb =
+    let e = unrotated-upright (minus b.place a.place) (difference_is_raw b.place.x a.place.x) (difference_is_raw b.place.y a.place.y) in
+    rw (ea, eb, e, relative-upright) refl
+
+reach-upright : (half : Vec2) → IsRaw half.x → IsRaw half.y → reach upright half ≡ half
+unfolding reach
+reach-upright half hx hy =
+    rw (product-one half.x hx, product-one half.y hy, product-zero half.x, product-zero half.y, sum-zero half.x hx, zero-sum half.y hy) refl
+
+-- ---- separations
+
+-- how far a box that is off by d is from the face of a box, of half extents k and h along this axis
+abbrev apart_along : ℤ → ℤ → ℤ → ℤ
+apart_along h k d = difference (difference (pos (unsigned_abs d)) h) k
+
+separations-upright : (half offset other : Vec2) → IsRaw other.x → IsRaw other.y
+    → face_separations half offset upright other
+    ≡ record { x = apart_along half.x other.x offset.x; y = apart_along half.y other.y offset.y }
+unfolding face_separations magnitudes minus
+separations-upright half offset other hx hy = rw (reach-upright other hx hy) refl
+
+near_enough : (h k x y : ℤ) → IsSize h → IsSize k
+    → apart_along h k (difference y x) ≤ℤ pos 0 → unsigned_abs (y -ℤ x) ≤ unsigned_abs h + unsigned_abs k
+unfolding difference saturated
+near_enough h k x y hh hk low = omega (arith, ints, clamps)
+
+no_gap : (h k x y : ℤ) → IsSize h → IsSize k
+    → unsigned_abs (y -ℤ x) ≤ unsigned_abs h + unsigned_abs k → apart_along h k (difference y x) ≤ℤ pos 0
+unfolding difference saturated
+no_gap h k x y hh hk low = omega (arith, ints, clamps)
+
+-- ---- two boxes
+
+first_two : (p q r s : Bool) → (p || q || r || s) ≡ false → (p ≡ false) × (q ≡ false)
+first_two p q r s e = or_parts p q (or_parts (p || q) r (or_parts (p || q || r) s e).0).0
+
+none_of : (p q r s : Bool) → p ≡ false → q ≡ false → r ≡ false → s ≡ false → (p || q || r || s) ≡ false
+none_of p q r s ep eq er es = rw (ep, eq, er, es) refl
+
+size_is_raw : (h : ℤ) → IsSize h → IsRaw h
+size_is_raw h size = omega (arith, ints)
+
+-- the four tests for a gap
+abbrev tests_of : OrientedBox → OrientedBox → Vec2 → Bool
+tests_of a b d =
+    int_lt (pos 0) (apart_along a.half.x b.half.x d.x) || int_lt (pos 0) (apart_along a.half.y b.half.y d.y)
+    || int_lt (pos 0) (apart_along b.half.x a.half.x d.x) || int_lt (pos 0) (apart_along b.half.y a.half.y d.y)
+
+gap-upright : (a b : OrientedBox) → a.rot ≡ upright → b.rot ≡ upright → HasSize (Box a.half.x a.half.y) → HasSize (Box b.half.x b.half.y)
+    → have_gap a b ≡ tests_of a b (minus b.place a.place)
+unfolding has_gap separations_of
+gap-upright a b ea eb ha hb =
+    rw (
+      frames-upright a b ea eb,
+      separations-upright a.half (minus b.place a.place) b.half (size_is_raw b.half.x hb.0) (size_is_raw b.half.y hb.1),
+      separations-upright b.half (minus b.place a.place) a.half (size_is_raw a.half.x ha.0) (size_is_raw a.half.y ha.1),
+    ) refl
+
+gap_tests : (a b : OrientedBox) → HasSize (Box a.half.x a.half.y) → HasSize (Box b.half.x b.half.y)
+    → (tests_of a b (minus b.place a.place) ≡ false) ↔ DoOverlap a b
+unfolding minus
+gap_tests a b ha hb =
+    let dx = difference b.place.x a.place.x in
+    let dy = difference b.place.y a.place.y in (
+      λ e.
+          let tests = first_two (int_lt (pos 0) (apart_along a.half.x b.half.x dx)) (int_lt (pos 0) (apart_along a.half.y b.half.y dy)) _ _ e in
+          record {
+            x = near_enough a.half.x b.half.x a.place.x b.place.x ha.0 hb.0 (not_above (pos 0) (apart_along a.half.x b.half.x dx) tests.0);
+            y = near_enough a.half.y b.half.y a.place.y b.place.y ha.1 hb.1 (not_above (pos 0) (apart_along a.half.y b.half.y dy) tests.1);
+          },
+      λ h.
+          let x_back : unsigned_abs (b.place.x -ℤ a.place.x) ≤ unsigned_abs b.half.x + unsigned_abs a.half.x = omega (arith, h.x) in
+          let y_back : unsigned_abs (b.place.y -ℤ a.place.y) ≤ unsigned_abs b.half.y + unsigned_abs a.half.y = omega (arith, h.y) in
+          none_of _ _ _ _
+          (tests_above (pos 0) (apart_along a.half.x b.half.x dx) (no_gap a.half.x b.half.x a.place.x b.place.x ha.0 hb.0 h.x))
+          (tests_above (pos 0) (apart_along a.half.y b.half.y dy) (no_gap a.half.y b.half.y a.place.y b.place.y ha.1 hb.1 h.y))
+          (tests_above (pos 0) (apart_along b.half.x a.half.x dx) (no_gap b.half.x a.half.x a.place.x b.place.x hb.0 ha.0 x_back))
+          (tests_above (pos 0) (apart_along b.half.y a.half.y dy) (no_gap b.half.y a.half.y a.place.y b.place.y hb.1 ha.1 y_back)),
+    )
+
+pub upright_boxes_meet : (a b : OrientedBox) → a.rot ≡ upright → b.rot ≡ upright → HasSize (Box a.half.x a.half.y)
+    → HasSize (Box b.half.x b.half.y) → (have_gap a b ≡ false) ↔ DoOverlap a b
+upright_boxes_meet a b ea eb ha hb = rw (gap-upright a b ea eb ha hb) (gap_tests a b ha hb)
