@@ -1,10 +1,12 @@
 -- Checks of commands, one after the other.
 use Rattle.std.proofs.Common.{◌≡◌, List, [], ◌∷◌, ◌++◌, Result, Ok, Err, refl, ap, ◌∙◌}
+use Rattle.std.specs.Prelude.{All}
+use Rattle.std.proofs.lemmas.List.Elements.{All-nil, All-cons, All-head, All-tail}
 use Rattle.pf_shapes.specs.Scene.{Setting}
 use Rattle.pf_commands.specs.declared.checking.CheckFault.{CheckFault}
 use Rattle.pf_commands.specs.declared.payload.Payload.{Payload}
 use Rattle.pf_commands.specs.Name.{CommandName}
-use Rattle.pf_commands.specs.Check.{check_of, and_then, check_all_of}
+use Rattle.pf_commands.specs.Check.{check_of, and_then, check_all_of, IsAllowed, IsFirstFault}
 
 -- checks of a list that begins with another
 check_all-append : (s : Setting) (es others : List (CommandName × Payload)) →
@@ -31,3 +33,42 @@ pub check_all_stops : (s : Setting) (all es rest : List (CommandName × Payload)
     all ≡ es ++ e ∷ rest → check_all_of s es ≡ Ok tt → check_of s e.0 e.1 ≡ Err fault → check_all_of s all ≡ Err fault
 check_all_stops s all es rest e fault whole h here =
     ap (check_all_of s) whole ∙ check_all_behind s es (e ∷ rest) h ∙ ap (λ r. and_then r (check_all_of s rest)) here
+
+-- ---- what the answer means
+
+pub each_allowed : (s : Setting) (es : List (CommandName × Payload)) → check_all_of s es ≡ Ok tt → All (IsAllowed s) es
+each_allowed s [] h = All-nil (IsAllowed s)
+each_allowed s (e ∷ es) h = by (check_of s e.0 e.1) refl h (each_allowed s es)
+  where
+    by : (r : Result (Unit {0}) CheckFault) → check_of s e.0 e.1 ≡ r → and_then r (check_all_of s es) ≡ Ok tt
+        → (check_all_of s es ≡ Ok tt → All (IsAllowed s) es) → All (IsAllowed s) (e ∷ es)
+    by (Ok done) here h rest = All-cons (IsAllowed s) e es here (rest h)
+    by (Err fault) here h rest = absurd cc
+
+pub all_allowed : (s : Setting) (es : List (CommandName × Payload)) → All (IsAllowed s) es → check_all_of s es ≡ Ok tt
+all_allowed s [] h = refl
+all_allowed s (e ∷ es) h =
+    ap (λ r. and_then r (check_all_of s es)) (All-head (IsAllowed s) e es h) ∙ all_allowed s es (All-tail (IsAllowed s) e es h)
+
+pub first_fault : (s : Setting) (es : List (CommandName × Payload)) (fault : CheckFault) → check_all_of s es ≡ Err fault → IsFirstFault s es fault
+first_fault s [] fault h = absurd cc
+first_fault s (e ∷ es) fault h = by (check_of s e.0 e.1) refl h (first_fault s es fault)
+  where
+    by : (r : Result (Unit {0}) CheckFault) → check_of s e.0 e.1 ≡ r → and_then r (check_all_of s es) ≡ Err fault
+        → (check_all_of s es ≡ Err fault → IsFirstFault s es fault) → IsFirstFault s (e ∷ es) fault
+    by (Ok done) here h rest =
+        let found = rest h in
+        record {
+          before = e ∷ found.before;
+          first = found.first;
+          after = found.after;
+          commands_are = ap (λ others. e ∷ others) found.commands_are;
+          allowed = All-cons (IsAllowed s) e found.before here found.allowed;
+          refused = found.refused;
+        }
+    by (Err other) here h rest =
+        record { before = []; first = e; after = es; commands_are = refl; allowed = All-nil (IsAllowed s); refused = here ∙ h }
+
+pub fault_first : (s : Setting) (es : List (CommandName × Payload)) (fault : CheckFault) → IsFirstFault s es fault → check_all_of s es ≡ Err fault
+fault_first s es fault h =
+    check_all_stops s es h.before h.after h.first fault h.commands_are (all_allowed s h.before h.allowed) h.refused

@@ -14,5 +14,6 @@ pub mod Changes
 pub mod Stored
 pub mod Spans
 pub mod Ticks
+pub mod News
 -- Checks.
 pub mod Checks

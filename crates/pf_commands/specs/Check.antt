@@ -1,5 +1,5 @@
 -- Which commands a scene allows: a player moves the bodies that it owns.
-use Rattle.std.specs.Prelude.{ℕ, Bool, false, Option, Some, None, List, [], ◌∷◌, Result, Ok, Err, ◌==◌, slice_get, if◌then◌else◌}
+use Rattle.std.specs.Prelude.{◌≡◌, ℕ, Bool, false, ◌++◌, All, Option, Some, None, List, [], ◌∷◌, Result, Ok, Err, ◌==◌, slice_get, if◌then◌else◌}
 use Rattle.pf_shapes.specs.Fixture.{FixtureDef, is_static}
 use Rattle.pf_shapes.specs.Scene.{Setting}
 use Rattle.pf_commands.specs.declared.checking.CheckFault.{CheckFault}
@@ -32,3 +32,16 @@ and_then (Err fault) others = Err fault
 abbrev pub check_all_of : Setting → List (CommandName × Payload) → Result (Unit {0}) CheckFault
 check_all_of s [] = Ok tt
 check_all_of s (e ∷ es) = and_then (check_of s e.0 e.1) (check_all_of s es)
+
+-- the scene allows the command of this entry
+abbrev pub IsAllowed : Setting → CommandName × Payload → Type 0
+IsAllowed s e = check_of s e.0 e.1 ≡ Ok tt
+
+-- the first of the commands that the scene does not allow has this fault
+pub record IsFirstFault (s : Setting) (es : List (CommandName × Payload)) (fault : CheckFault) : Type 0 where
+  pub before : List (CommandName × Payload)
+  pub first : CommandName × Payload
+  pub after : List (CommandName × Payload)
+  pub commands_are : es ≡ before ++ first ∷ after
+  pub allowed : All (IsAllowed s) before
+  pub refused : check_of s first.0 first.1 ≡ Err fault

@@ -1,5 +1,5 @@
 -- What putting a command into a map and merging maps answer.
-use Rattle.std.specs.Prelude.{◌≡◌, ℕ, length, Bool, true, false, nat_lt, ◌==◌, if◌then◌else◌, Option, Some, None, List, [], ◌∷◌, filter, map, min}
+use Rattle.std.specs.Prelude.{◌≡◌, ℕ, ◌≤◌, length, All, Contains, Bool, true, false, nat_lt, ◌==◌, if◌then◌else◌, Option, Some, None, List, [], ◌∷◌, filter, map, min}
 use Rattle.std.specs.FinMap.{get, entries}
 use Rattle.pf_commands.specs.Name.{CommandName}
 use Rattle.pf_commands.specs.Payload.{weight}
@@ -37,6 +37,11 @@ lesser n (Some m) = min n m
 abbrev pub least_of : List ℕ → Option ℕ
 least_of [] = None
 least_of (n ∷ ns) = Some (lesser n (least_of ns))
+
+-- n is one of some numbers, and at most each of them
+pub record IsLeast (ns : List ℕ) (n : ℕ) : Type 0 where
+  pub held : Contains ns n
+  pub least : All (λ m. n ≤ m) ns
 
 -- the least tick of some commands, if there are any
 abbrev pub least_tick : List (CommandName × Payload) → Option ℕ

@@ -1,11 +1,14 @@
-//! Laws of command maps. Their functions do nothing: their clauses are what they are for.
+//! Laws of command maps and of checks. Their functions do nothing: their clauses are what they are for.
 
-ghost use Rattle.std.specs.Prelude.{◌≡◌, ◌<◌, IfSome, ◌↔◌, ◌≢◌, ℕ, List, All, Contains, false};
+ghost use Rattle.std.specs.Prelude.{◌≡◌, ◌<◌, IfSome, ◌↔◌, ◌≢◌, ℕ, List, All, Contains, map, Some, Ok, Err, false};
 ghost use Rattle.std.specs.FinMap.{empty, get};
+ghost use Rattle.pf_shapes.specs.Scene.{Setting};
+ghost use Rattle.pf_commands.specs.Check.{check_all_of, IsAllowed, IsFirstFault};
 ghost use Rattle.pf_commands.specs.Name.{CommandName};
 ghost use Rattle.pf_commands.specs.Payload.{weight, IsPayload};
 ghost use Rattle.pf_commands.specs.Merge.{Commands, AreCommands, IsCommand, heavier_of, merge, one, put_all, payloads_at};
-ghost use Rattle.pf_commands.specs.News.{is_news, news, least_tick};
+ghost use Rattle.pf_commands.specs.News.{is_news, news, least_tick, IsLeast};
+ghost use Rattle.pf_commands.specs.declared.checking.CheckFault.{CheckFault};
 ghost use Rattle.pf_commands.specs.declared.payload.Payload.{Payload};
 ghost use Rattle.pf_commands.specs.declared.payload.Command.{Command};
 
@@ -62,6 +65,12 @@ pub fn merge_keeps_earlier_ticks()
         → payloads_at (merge m other) tick ≡ payloads_at m tick }
 {}
 
+/// The least tick of commands is the tick of one of them, and at most that of each.
+pub fn least_ticks_are_least()
+    ensures { (commands : List (CommandName × Payload)) (tick : ℕ)
+        → (least_tick commands ≡ Some tick) ↔ IsLeast (map (λ e. e.0.tick) commands) tick }
+{}
+
 /// Under each name a merge holds the payload of greater weight of what the two maps hold.
 pub fn get_of_merge()
     ensures { (left right : Commands) (name : CommandName) → get (merge left right) name ≡ heavier_of (get left name) (get right name) }
@@ -80,4 +89,12 @@ pub fn merge_stays_in_range()
 /// Payloads of one weight are one payload.
 pub fn same_weight_same_payload()
     ensures { (p q : Payload) → IsPayload p → IsPayload q → weight p ≡ weight q → p ≡ q }
+{}
+
+/// Commands are allowed just where each one is, and else their fault is that of the first one that is not.
+pub fn first_fault_is_answered()
+    ensures allowed { (scene : Setting) (commands : List (CommandName × Payload))
+        → (check_all_of scene commands ≡ Ok tt) ↔ All (IsAllowed scene) commands }
+    ensures fault { (scene : Setting) (commands : List (CommandName × Payload)) (fault : CheckFault)
+        → (check_all_of scene commands ≡ Err fault) ↔ IsFirstFault scene commands fault }
 {}

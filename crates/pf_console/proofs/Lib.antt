@@ -6,3 +6,6 @@ pub mod Calls
 pub mod Refusals
 pub mod Numbers
 pub mod Events
+pub mod Saying
+pub mod EventLines
+pub mod Issued

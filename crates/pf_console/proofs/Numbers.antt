@@ -40,3 +40,41 @@ first_number m tick player none = none_below m tick player 65536 none
 pub number_after : (m : Commands) (tick player g : ℕ) → g < 65536 → IsSome (get m (name_at tick player g))
     → ((other : ℕ) → IsSome (get m (name_at tick player other)) → other ≤ g) → next_number m tick player ≡ g + 1
 number_after m tick player g below held most = one_below m tick player 65536 g below held most
+
+-- ---- what the next number is
+
+above_below : (m : Commands) (tick player n number : ℕ) → number < n → IsSome (get m (name_at tick player number))
+    → number < number_below m tick player n
+unfolding number_below
+above_below m tick player zero number below held = absurd (omega arith)
+above_below m tick player (suc n) number below held =
+    elim (is_some (get m (name_at tick player n))) as
+    (λ b. is_some (get m (name_at tick player n)) ≡ b → number < (if b then suc n else number_below m tick player n)) [
+      | true ↦ λ some. below
+      | false ↦ λ none. ⊎_elim
+          (λ less. above_below m tick player n number less held)
+          (λ more.
+          let same : number ≡ n = omega arith in
+          absurd (apart (is_some (get m (name_at tick player number))) held (ap (λ (k : ℕ). is_some (get m (name_at tick player k))) same ∙ none)))
+          (cases_lt number n)
+    ] refl
+
+held_below : (m : Commands) (tick player n number : ℕ) → number_below m tick player n ≡ number + 1
+    → IsSome (get m (name_at tick player number))
+unfolding number_below
+held_below m tick player zero number is = absurd (omega (arith, is))
+held_below m tick player (suc n) number is = by (is_some (get m (name_at tick player n))) refl is (held_below m tick player n number)
+  where
+    by : (b : Bool) → is_some (get m (name_at tick player n)) ≡ b → (if b then suc n else number_below m tick player n) ≡ number + 1
+        → (number_below m tick player n ≡ number + 1 → IsSome (get m (name_at tick player number)))
+        → IsSome (get m (name_at tick player number))
+    by true some is rest = let same : n ≡ number = omega (arith, is) in rw same at some
+    by false none is rest = rest is
+
+pub next_number-above : (m : Commands) (tick player number : ℕ) → number < 65536 → IsSome (get m (name_at tick player number))
+    → number < next_number m tick player
+next_number-above m tick player number below held = above_below m tick player 65536 number below held
+
+pub next_number-held : (m : Commands) (tick player number : ℕ) → next_number m tick player ≡ number + 1
+    → IsSome (get m (name_at tick player number))
+next_number-held m tick player number is = held_below m tick player 65536 number is

@@ -8,4 +8,6 @@ pub mod Text
 pub mod Digits
 pub mod FrameText
 pub mod Report
+pub mod Request
+pub mod Saying
 pub mod Laws

@@ -1,5 +1,5 @@
 -- What the program says of a fault on standard error, and the status it ends with.
-use Rattle.std.specs.Prelude.{◌≡◌, ℕ, ◌+◌, List, ◌++◌, ◌⊎◌, Option, codes, decimal, string_bytes}
+use Rattle.std.specs.Prelude.{◌≡◌, ℕ, ◌+◌, List, [], ◌++◌, ◌⊎◌, Option, Result, Ok, Err, codes, decimal, string_bytes}
 use Rattle.std.specs.Io.KnownBytes.{Appends}
 use Rattle.pf_text.specs.Lines.{AppendsFront}
 use Rattle.pf_shapes.specs.declared.fault.SceneFault.{SceneFault}
@@ -44,6 +44,15 @@ status_of (Frame fault) = 1
 status_of Memory = 3
 status_of Read = 3
 status_of Write = 3
+
+-- the same of how the program came out: 0 and no text where there is no fault
+abbrev pub ending_text : Result (Unit {0}) PlayFault → List ℕ
+ending_text (Ok done) = []
+ending_text (Err fault) = fault_text fault
+
+abbrev pub ending_status : Result (Unit {0}) PlayFault → ℕ
+ending_status (Ok done) = 0
+ending_status (Err fault) = status_of fault
 
 -- all of a text was written; or else the writer failed, and a beginning of it was
 abbrev pub Reports : ℕ → ℕ → Option (List ℕ) → Option (List ℕ) → List ℕ → Type 0

@@ -1,5 +1,5 @@
 -- What the program does with a text: what it writes, and the line at fault, if any.
-use Rattle.std.specs.Prelude.{◌≡◌, ℕ, true, List, [], ◌++◌, Option, Some, None, Result, Ok, Err}
+use Rattle.std.specs.Prelude.{◌≡◌, ℕ, ◌+◌, true, List, [], ◌++◌, Option, Some, None, Result, Ok, Err}
 use Rattle.pf_text.specs.Lines.{lines_of, is_line, AreLines}
 use Rattle.pf_text.specs.Driver.{answers, output_of}
 use Rattle.pf_shapes.specs.declared.fault.SceneFault.{SceneFault}
@@ -51,3 +51,13 @@ Runs input left before after (Err Write) =
     (part : List ℕ) × (rest : List ℕ) × (part ++ rest ≡ (text_of input).written) × (after ≡ Some (before ++ part))
 Runs input left before after (Err (Words text)) = ⊥
 Runs input left before after (Err (Frame fault)) = ⊥
+
+-- a run that ends because its reader failed counts one failure of it, and any other run none
+abbrev pub CountsReads : ℕ → Result (Unit {0}) PlayFault → ℕ → Type 0
+CountsReads before (Err Read) after = after ≡ before + 1
+CountsReads before result after = after ≡ before
+
+-- the same of its writer
+abbrev pub CountsWrites : ℕ → Result (Unit {0}) PlayFault → ℕ → Type 0
+CountsWrites before (Err Write) after = after ≡ before + 1
+CountsWrites before result after = after ≡ before

@@ -1,6 +1,7 @@
 //! The fields of one frame, as a line.
 
-ghost use Rattle.std.specs.Prelude.{◌≡◌, ℕ, ◌+◌, ◌^◌, ◌<◌, List, Some, IsErrOf};
+ghost use Rattle.std.specs.Prelude.{◌≡◌, ℕ, ◌+◌, ◌^◌, ◌<◌, List, Some};
+ghost use Rattle.pf_console.specs.Text.{CountsReads, CountsWrites};
 ghost use Rattle.pf_console.specs.FrameText.{Reads, digits_command, PrintsFrame};
 
 use crate::digits::frame;
@@ -27,7 +28,8 @@ pub fn frame_text<W: Sink>(alloc: Global, digits: &str, writer: &mut W) -> Resul
     requires { W.failures writer.old + 1 < 2 ^ 64 }
     ensures text { (before : List ℕ) → W.contents writer.old ≡ Some before
         → PrintsFrame digits.now before (W.contents writer.new) result }
-    ensures written { IsErrOf result PlayFault.Write → W.failures writer.old < W.failures writer.new }
+    ensures reads_nothing { (failures : ℕ) → CountsReads failures result failures }
+    ensures writes_counted { CountsWrites (W.failures writer.old) result (W.failures writer.new) }
 {
     let command = read(alloc, digits.as_bytes())?;
     let text = command_text(alloc, &command)?;

@@ -1,28 +1,46 @@
 //! Laws of texts and simulations. Their functions do nothing: their clauses are what they are for.
 
-ghost use Rattle.std.specs.Prelude.{◌≡◌, ◌↔◌, ℕ, ◌+◌, ◌≤◌, ◌<◌, false, List, length, Some, slice_get, All, Contains};
+ghost use Rattle.std.specs.Prelude.{◌≡◌, ◌↔◌, ℕ, ◌+◌, ◌≤◌, ◌<◌, false, List, length, Some, Ok, IsOk, IsSome, map, slice_get, All, Contains};
 ghost use Rattle.std.specs.FinMap.{get};
+ghost use Rattle.hex.specs.Hex.{encode_lower};
 ghost use Rattle.pf_text.specs.Driver.{answers};
 ghost use Rattle.pf_shapes.specs.Body.{State};
-ghost use Rattle.pf_shapes.specs.Scene.{Setting};
+ghost use Rattle.pf_shapes.specs.Scene.{IsSetting, Setting};
 ghost use Rattle.pf_commands.specs.declared.payload.Command.{Command};
 ghost use Rattle.pf_commands.specs.declared.payload.Payload.{Payload};
+ghost use Rattle.pf_commands.specs.Frame.{IsFrameable, decode_of, spelling};
+ghost use Rattle.pf_commands.specs.Payload.{IsPayload};
 ghost use Rattle.pf_commands.specs.Name.{CommandName};
-ghost use Rattle.pf_commands.specs.Merge.{Commands, AreCommands, IsCommand, merge, one, payloads_at};
+ghost use Rattle.pf_commands.specs.Merge.{Commands, AreCommands, IsCommand, merge, name_at, one, payloads_at};
 ghost use Rattle.pf_console.specs.declared.event.Event.{Event};
 ghost use Rattle.pf_console.specs.declared.event.Reply.TheVariants.{Refused};
 ghost use Rattle.pf_console.specs.declared.event.Refusal.{Refusal};
 ghost use Rattle.pf_console.specs.declared.peer.Peer.{Peer};
 ghost use Rattle.pf_console.specs.declared.phase.Phase.TheVariants.{Playing};
 ghost use Rattle.pf_console.specs.Phase.{text_rules};
-ghost use Rattle.pf_console.specs.Laws.{SayEvents, NoneFor, handed, played_out};
-ghost use Rattle.pf_console.specs.Peer.{reply_of, after, played, replies};
+ghost use Rattle.pf_console.specs.Laws.{Says, SayEvents, NoneFor, handed, played_out};
+ghost use Rattle.pf_console.specs.Digits.{frame_of};
+ghost use Rattle.pf_console.specs.Saying.{event_line, CanBeSaid};
+ghost use Rattle.pf_console.specs.Peer.{issuing, next_command, next_number, taking, reply_of, after, played, replies};
 ghost use Rattle.pf_console.specs.Simulation.{sim};
 
-/// Lines that each say an event are answered by the printed replies of the abstract session, and no fault.
+/// Lines that each say an event are answered by the printed replies of the abstract session, and no fault; so are the
+/// lines of events.
 pub fn events_are_answered()
-    ensures { (number : ℕ) (peer : Peer) (lines : List (List ℕ)) (events : List Event) → SayEvents lines events
+    ensures said { (number : ℕ) (peer : Peer) (lines : List (List ℕ)) (events : List Event) → SayEvents lines events
         → answers text_rules number (Playing peer) lines ≡ played_out (number + length lines) peer events }
+    ensures written { (number : ℕ) (peer : Peer) (events : List Event) → All CanBeSaid events
+        → answers text_rules number (Playing peer) (map event_line events) ≡ played_out (number + length events) peer events }
+{}
+
+/// The line of an event says the event.
+pub fn event_lines_say_events()
+    ensures { (event : Event) → CanBeSaid event → Says (event_line event) event }
+{}
+
+/// The digits of a command's frame, as `issue` prints them, are read as the command.
+pub fn printed_frames_are_read()
+    ensures { (c : Command) → IsFrameable c → frame_of (encode_lower (spelling c)) ≡ Ok (Ok c) }
 {}
 
 /// A body that sleeps stays as it is at every later tick, up to a command for it.
@@ -60,4 +78,22 @@ pub fn order_and_repeats_do_not_matter()
         → ((c : Command) → Contains (handed peer events) c ↔ Contains (handed peer others) c)
         → (played peer events).reached ≡ (played peer others).reached
         → replies (played peer events) later ≡ replies (played peer others) later }
+{}
+
+/// What a peer issues, each peer of its scene takes: the frame that is answered spells the command, and taking the command
+/// is not refused.
+pub fn issued_commands_can_be_taken()
+    ensures spelled { (peer after : Peer) (payload : Payload) (frame : List ℕ) → IsSetting peer.scene → IsPayload payload
+        → issuing peer payload ≡ Ok (frame, after) → decode_of frame ≡ Ok (next_command peer payload) }
+    ensures taken { (peer other after : Peer) (payload : Payload) (frame : List ℕ) → peer.scene ≡ other.scene
+        → issuing peer payload ≡ Ok (frame, after) → IsOk (taking other (Ok (next_command peer payload))) }
+{}
+
+/// The number of a peer's next command is above each number that is held at its tick for its player, and where it is not
+/// 0 the number before it is held: so it is 0, or one more than the greatest.
+pub fn numbers_follow_the_greatest()
+    ensures above { (m : Commands) (tick player number : ℕ) → number < 65536 → IsSome (get m (name_at tick player number))
+        → number < next_number m tick player }
+    ensures held { (m : Commands) (tick player number : ℕ) → next_number m tick player ≡ number + 1
+        → IsSome (get m (name_at tick player number)) }
 {}

@@ -1,7 +1,7 @@
-//! What the program says of a fault, and the status it ends with.
+//! What the program says of a fault, and the status that it ends with.
 
 ghost use Rattle.std.specs.Prelude.{◌≡◌, ◌+◌, ◌^◌, ◌<◌};
-ghost use Rattle.pf_console.specs.Report.{fault_name, digits_fault_name, refused_line, refused_frame, fault_text, status_of, Reports};
+ghost use Rattle.pf_console.specs.Report.{fault_name, digits_fault_name, refused_line, refused_frame, fault_text, status_of, ending_text, ending_status, Reports};
 
 use crate::fault::{DigitsFault, PlayFault};
 use crate::names::frame_fault_name;
@@ -62,9 +62,23 @@ fn refused_line(number: u64, fault: SceneFault) -> ArrayString<LINE_ROOM>
     line
 }
 
-/// Writes what is to be said of a fault, and answers the status that the program ends with. A writer that
+/// Answers the status that the program ends with, and writes what is to be said where that is a fault's. A writer that
 /// fails changes no status.
-pub fn report<W: Sink>(fault: &PlayFault, writer: &mut W) -> u8
+#[tactic(auto, using(pf_text::proofs::Taking::appends_none))]
+pub fn finish<W: Sink>(outcome: Result<(), PlayFault>, writer: &mut W) -> u8
+    requires { W.failures writer.old + 1 < 2 ^ 64 }
+    ensures status { result ≡ ending_status outcome }
+    ensures text { Reports (W.failures writer.old) (W.failures writer.new)
+        (W.contents writer.old) (W.contents writer.new) (ending_text outcome) }
+{
+    match outcome {
+        Ok(()) => 0,
+        Err(fault) => report(&fault, writer),
+    }
+}
+
+/// Writes what is to be said of a fault, and answers its status.
+fn report<W: Sink>(fault: &PlayFault, writer: &mut W) -> u8
     requires { W.failures writer.old + 1 < 2 ^ 64 }
     ensures status { result ≡ status_of fault.now }
     ensures text { Reports (W.failures writer.old) (W.failures writer.new)

@@ -1,7 +1,7 @@
 //! A text of a scene and events, answered line by line.
 
-ghost use Rattle.std.specs.Prelude.{◌≡◌, ℕ, ◌+◌, ◌^◌, ◌<◌, List, Some, IsErrOf};
-ghost use Rattle.pf_console.specs.Text.{Runs};
+ghost use Rattle.std.specs.Prelude.{◌≡◌, ℕ, ◌+◌, ◌^◌, ◌<◌, List, Some};
+ghost use Rattle.pf_console.specs.Text.{Runs, CountsReads, CountsWrites};
 
 use crate::fault::PlayFault;
 use crate::phase::Phase;
@@ -22,8 +22,9 @@ pub fn run_text<R: Source, W: Sink>(
 
     ensures text { (input before : List ℕ) → R.remaining reader.old ≡ Some input → W.contents writer.old ≡ Some before
         → Runs input (R.remaining reader.new) before (W.contents writer.new) result }
-    ensures read { IsErrOf result PlayFault.Read → R.failures reader.old < R.failures reader.new }
-    ensures written { IsErrOf result PlayFault.Write → W.failures writer.old < W.failures writer.new }
+    // A fault of the reader or the writer is answered just where it failed in this call.
+    ensures reads_counted { CountsReads (R.failures reader.old) result (R.failures reader.new) }
+    ensures writes_counted { CountsWrites (W.failures writer.old) result (W.failures writer.new) }
 {
     match drive(alloc, &mut (), reader, writer, Phase::opening()) {
         Ok((_, Phase::Playing(_))) => Ok(()),

@@ -1,7 +1,7 @@
 use crate::fault::{DigitsFault, PlayFault};
-use crate::frame::frame_text;
 use crate::laws;
-use crate::reporting::report;
+use crate::reporting::finish;
+use crate::request::{Request, perform};
 use crate::run::run_text;
 use pf_commands::FrameFault;
 use pf_shapes::SceneFault;
@@ -22,27 +22,32 @@ const FIRST_REPLY: usize = 12;
 
 const SECOND_REPLY: usize = 69;
 
-/// What the program says of a fault, and its status. What is kept in memory fails for want of it alone.
-fn reported(alloc: Global, fault: &PlayFault) -> Result<(Collected, u8), AllocError> {
-    let mut said = Collected::new(alloc);
-    let status = report(fault, &mut said);
-    if said.bytes().is_empty() {
+/// What the program writes, what it says of a fault, and its status. What is kept in memory fails for want of it alone.
+type Ended = (Collected, Collected, u8);
+
+/// How the program ends with this outcome, after what it wrote.
+fn ended(
+    alloc: Global,
+    output: Collected,
+    outcome: Result<(), PlayFault>,
+) -> Result<Ended, AllocError> {
+    if matches!(outcome, Err(PlayFault::Memory | PlayFault::Write)) {
         return Err(AllocError);
     }
-    Ok((said, status))
+    let is_fault = outcome.is_err();
+    let mut said = Collected::new(alloc);
+    let status = finish(outcome, &mut said);
+    if is_fault && said.bytes().is_empty() {
+        return Err(AllocError);
+    }
+    Ok((output, said, status))
 }
 
-/// What the program writes for a text in memory, what it says of a fault, and its status.
-fn played(alloc: Global, text: &[u8]) -> Result<(Collected, Collected, u8), AllocError> {
+/// How the program answers a text in memory.
+fn played(alloc: Global, text: &[u8]) -> Result<Ended, AllocError> {
     let mut output = Collected::new(alloc);
-    match run_text(alloc, &mut Bytes::new(text), &mut output) {
-        Ok(()) => Ok((output, Collected::new(alloc), 0)),
-        Err(PlayFault::Memory | PlayFault::Write) => Err(AllocError),
-        Err(fault) => {
-            let (said, status) = reported(alloc, &fault)?;
-            Ok((output, said, status))
-        }
-    }
+    let outcome = perform(alloc, Request::Run, &mut Bytes::new(text), &mut output);
+    ended(alloc, output, outcome)
 }
 
 /// Texts, and what is written for them.
@@ -175,17 +180,12 @@ fn each_fault_has_its_line_and_name(rt: HostRuntime) -> Result<(), Fail> {
     Ok(())
 }
 
-/// What the program writes for a frame's digits, what it says of a fault, and its status.
-fn framed(alloc: Global, digits: &str) -> Result<(Collected, Collected, u8), AllocError> {
+/// How the program answers a frame's digits. It reads nothing.
+fn framed(alloc: Global, digits: &str) -> Result<Ended, AllocError> {
     let mut output = Collected::new(alloc);
-    match frame_text(alloc, digits, &mut output) {
-        Ok(()) => Ok((output, Collected::new(alloc), 0)),
-        Err(PlayFault::Memory | PlayFault::Write) => Err(AllocError),
-        Err(fault) => {
-            let (said, status) = reported(alloc, &fault)?;
-            Ok((output, said, status))
-        }
-    }
+    let request = Request::Frame(digits);
+    let outcome = perform(alloc, request, &mut Bytes::new(FALLING), &mut output);
+    ended(alloc, output, outcome)
 }
 
 /// Digits of a frame, and what is written or said of them.
@@ -262,10 +262,28 @@ fn other_faults_have_their_texts(rt: HostRuntime) -> Result<(), Fail> {
         (PlayFault::Write, 3, b"pf_play: write failed\n".as_slice()),
     ];
     for (fault, status, expected) in rows {
-        let (said, told) = reported(rt.alloc(), &fault)?;
-        assert_eq!(rt; told, status);
+        let mut said = Collected::new(rt.alloc());
+        assert_eq!(rt; finish(Err(fault), &mut said), status);
+        if said.bytes().is_empty() {
+            return Err(AllocError)?;
+        }
         assert_eq!(rt; said.bytes(), expected);
     }
+    Ok(())
+}
+
+#[test]
+fn a_text_to_say_is_written(rt: HostRuntime) -> Result<(), Fail> {
+    let text = String::from_str(rt.alloc(), "help\n")?;
+    let mut output = Collected::new(rt.alloc());
+    let request = Request::Say(text);
+    let outcome = perform(rt.alloc(), request, &mut Bytes::new(FALLING), &mut output);
+    if outcome.is_err() {
+        return Err(AllocError)?;
+    }
+    assert_eq!(rt; output.bytes(), b"help\n".as_slice());
+    assert_eq!(rt; finish(outcome, &mut output), 0);
+    assert_eq!(rt; output.bytes(), b"help\n".as_slice());
     Ok(())
 }
 
@@ -387,10 +405,14 @@ fn a_writer_may_fail_at_each_call(rt: HostRuntime) -> Result<(), Fail> {
             assert!(rt; matches!(result, Err(PlayFault::Write)), "call {fails_at}");
             assert!(rt; FALLEN.starts_with(writer.taken.as_slice()));
             let mut closed = Output::new(&mut writer);
-            assert_eq!(rt; report(&PlayFault::Write, &mut closed), 3);
+            assert_eq!(rt; finish(Err(PlayFault::Write), &mut closed), 3);
         }
     }
+    laws::event_lines_say_events();
+    laws::printed_frames_are_read();
     laws::events_are_answered();
+    laws::issued_commands_can_be_taken();
+    laws::numbers_follow_the_greatest();
     laws::sleepers_stay();
     laws::refused_events_change_nothing();
     laws::commands_change_later_worlds();

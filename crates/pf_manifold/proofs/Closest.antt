@@ -10,7 +10,8 @@ use Rattle.pf_manifold.specs.declared.face.Face.{Face}
 use Rattle.pf_manifold.specs.declared.face.Face.TheVariants.{Right, Top, Left, Bottom}
 use Rattle.pf_manifold.specs.Face.{face_number}
 use Rattle.pf_manifold.specs.BoxCircle.{clamped, closest_point, face_distance, closer_face, closest_face}
-use Rattle.pf_manifold.specs.PlaceLaws.{IsInBox, squared, IsClosest}
+use Rattle.pf_shapes.specs.Laws.{IsInBox}
+use Rattle.pf_manifold.specs.PlaceLaws.{squared, IsClosest}
 use Rattle.pf_manifold.proofs.Mirrors.{same_vector}
 use Rattle.pf_manifold.proofs.Comparisons.{is_below}
 use Rattle.pf_manifold.proofs.Touching.{not_above}
@@ -43,19 +44,19 @@ point_is_closest half d sx sy = record {
   inside = record {
     left = clamped-low half.x d.x sx;
     right = clamped-high half.x d.x sx;
-    bottom = clamped-low half.y d.y sy;
-    top = clamped-high half.y d.y sy;
+    below = clamped-low half.y d.y sy;
+    above = clamped-high half.y d.y sy;
   };
   closest = λ q inside.
       let along_x = squared_le _ _ (clamped-closest half.x d.x q.x inside.left inside.right) in
-      let along_y = squared_le _ _ (clamped-closest half.y d.y q.y inside.bottom inside.top) in
+      let along_y = squared_le _ _ (clamped-closest half.y d.y q.y inside.below inside.above) in
       omega (arith, along_x, along_y);
 }
 
 pub itself_is_closest : (half d : Vec2) → IsInBox half d → closest_point half d ≡ d
 unfolding closest_point
 itself_is_closest half d inside =
-    same_vector _ _ (clamped-within half.x d.x inside.left inside.right) (clamped-within half.y d.y inside.bottom inside.top)
+    same_vector _ _ (clamped-within half.x d.x inside.left inside.right) (clamped-within half.y d.y inside.below inside.above)
 
 -- ---- the closest face
 

@@ -24,7 +24,7 @@ use Rattle.pf_manifold.specs.Separation.{frames_of, separations_of, best_axis, h
 use Rattle.pf_manifold.specs.Boxes.{vertex_point, vertex_contact, if_behind, ascending, segment_points, edge_points, reference_points, points_along, collide_boxes}
 use Rattle.pf_manifold.specs.Collide.{box_at, mirrored, if_mirrored, collide, collide_shapes}
 use Rattle.pf_manifold.specs.Laws.{IsTouching}
-use Rattle.pf_manifold.specs.PlaceLaws.{IsInBox}
+use Rattle.pf_shapes.specs.Laws.{IsInBox}
 
 abbrev IfTouching : Option Contact → Type 0
 IfTouching None = Unit {0}
@@ -74,9 +74,9 @@ within_high h z some e = omega (arith, ints, clamps)
 inside_distance : (half d : Vec2) (face : Face) → IsInBox half d → pos 0 ≤ℤ face_distance half d face
 unfolding face_distance
 inside_distance half d Right h = difference-high half.x d.x h.right
-inside_distance half d Top h = difference-high half.y d.y h.top
+inside_distance half d Top h = difference-high half.y d.y h.above
 inside_distance half d Left h = sum-high half.x d.x h.left
-inside_distance half d Bottom h = sum-high half.y d.y h.bottom
+inside_distance half d Bottom h = sum-high half.y d.y h.below
 
 inside_touches : (half d : Vec2) (r : ℤ) (face : Face) → pos 0 ≤ℤ r → IsInBox half d → IsTouching (inside_point half r d face)
 unfolding inside_point
@@ -102,8 +102,8 @@ is_inside half d sx sy test =
     record {
       left = within_low half.x d.x sx ex;
       right = within_high half.x d.x sx ex;
-      bottom = within_low half.y d.y sy ey;
-      top = within_high half.y d.y sy ey;
+      below = within_low half.y d.y sy ey;
+      above = within_high half.y d.y sy ey;
     }
 
 contact_touches : (half d : Vec2) (r : ℤ) → pos 0 ≤ℤ half.x → pos 0 ≤ℤ half.y → pos 0 ≤ℤ r

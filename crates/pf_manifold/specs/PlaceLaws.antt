@@ -3,18 +3,12 @@ use Rattle.std.specs.Prelude.{ℕ, ◌+◌, ◌*◌, ◌≤◌, ℤ, ◌-ℤ◌,
 use Rattle.std.specs.Int.RustNames.{unsigned_abs}
 use Rattle.pf_rot.specs.Vector.{Vec2}
 use Rattle.pf_shapes.specs.Fixture.{IsWithin}
+use Rattle.pf_shapes.specs.Laws.{IsInBox}
 use Rattle.pf_manifold.specs.Incident.{ClipVertex, Segment}
 use Rattle.pf_manifold.specs.Placed.{OrientedBox}
 use Rattle.pf_manifold.specs.Separation.{frames_of, separations_of, has_gap}
 
 -- ---- closest points
-
--- a place in the box's own axes is in the box
-pub record IsInBox (half p : Vec2) : Type 0 where
-  pub left : neg_ℤ half.x ≤ℤ p.x
-  pub right : p.x ≤ℤ half.x
-  pub bottom : neg_ℤ half.y ≤ℤ p.y
-  pub top : p.y ≤ℤ half.y
 
 -- the square of a number
 abbrev pub squared : ℕ → ℕ

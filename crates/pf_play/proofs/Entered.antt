@@ -5,8 +5,8 @@ use Rattle.clap.specs.Words.{Kinds, Row, Text, first_of, subcommand_name_of, sub
 use Rattle.clap.specs.declared.parser.matches.ArgMatches.{ArgMatches}
 use Rattle.clap.specs.declared.parser.matches.ArgMatches.TheViews.{out-ArgMatches}
 use Rattle.pf_play.specs.Options.{Answers, AsksFor, digits_in}
-use Rattle.pf_play.specs.declared.options.Request.{Request}
-use Rattle.pf_play.specs.declared.options.Request.TheVariants.{Run, Frame, Say}
+use Rattle.pf_console.specs.declared.request.Request.{Request}
+use Rattle.pf_console.specs.declared.request.Request.TheVariants.{Run, Frame, Say}
 
 digits_of : (entered : Option (Text × List Row)) (rows : List Row) (value : Option Text) → option_map (λ p. p.0) entered ≡ Some (codes "frame")
     → option_map (λ p. p.1) entered ≡ Some rows → first_of (codes "HEX") rows ≡ value → digits_in entered ≡ Some (unwrap_or value [])

@@ -7,8 +7,8 @@ use Rattle.clap.specs.declared.error.kind.ErrorKind.TheVariants as kind
 use Rattle.pf_console.specs.declared.fault.PlayFault.{PlayFault}
 use Rattle.pf_console.specs.declared.fault.PlayFault.TheVariants as faults
 use Rattle.pf_play.specs.Options.{Answers, RunsUnlessMemory, command_line, digits_in}
-use Rattle.pf_play.specs.declared.options.Request.{Request}
-use Rattle.pf_play.specs.declared.options.Request.TheVariants.{Run, Frame, Say}
+use Rattle.pf_console.specs.declared.request.Request.{Request}
+use Rattle.pf_console.specs.declared.request.Request.TheVariants.{Run, Frame, Say}
 
 module _ (fault : ErrorKind) (others : Kinds) (entered : Option (Text × List Row)) where
   pub answers_among : (r : Result Request PlayFault) → Answers (fault ∷ []) None r

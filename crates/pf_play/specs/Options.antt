@@ -6,8 +6,8 @@ use Rattle.clap.specs.Words.{App, IsAmong, Kinds, Row, Text, first_of, new_app, 
 use Rattle.clap.specs.Simple.{new_shape}
 use Rattle.clap.specs.declared.error.kind.ErrorKind.{ErrorKind}
 use Rattle.clap.specs.declared.error.kind.ErrorKind.TheVariants as kind
-use Rattle.pf_play.specs.declared.options.Request.{Request}
-use Rattle.pf_play.specs.declared.options.Request.TheVariants.{Run, Frame, Say}
+use Rattle.pf_console.specs.declared.request.Request.{Request}
+use Rattle.pf_console.specs.declared.request.Request.TheVariants.{Run, Frame, Say}
 use Rattle.pf_console.specs.declared.fault.PlayFault.{PlayFault}
 use Rattle.pf_console.specs.declared.fault.PlayFault.TheVariants.{Words, Memory}
 

@@ -3,28 +3,20 @@
 
 mod options;
 
-use options::{Request, options, words_of};
-use pf_console::{PlayFault, frame_text, report, run_text};
-use pf_text::{Input, Output, Sink};
+use options::{options, words_of};
+use pf_console::{PlayFault, finish, perform};
+use pf_text::{Input, Output};
 use std::process::ExitCode;
 
 /// Does what the words of the call ask for.
 fn play(rt: &HostRuntime) -> Result<(), PlayFault> {
     let words = words_of(rt)?;
+    let request = options(rt.alloc(), words.as_slice())?;
+    let mut reader = Input::new(rt.stdin());
     let mut writer = Output::new(rt.stdout());
-    match options(rt.alloc(), words.as_slice())? {
-        Request::Run => run_text(rt.alloc(), &mut Input::new(rt.stdin()), &mut writer),
-        Request::Frame(digits) => frame_text(rt.alloc(), digits, &mut writer),
-        Request::Say(text) => match writer.write_all(text.as_bytes()) {
-            Ok(()) => Ok(()),
-            Err(_) => Err(PlayFault::Write),
-        },
-    }
+    perform(rt.alloc(), request, &mut reader, &mut writer)
 }
 
 fn main(rt: HostRuntime) -> ExitCode {
-    match play(&rt) {
-        Ok(()) => ExitCode::SUCCESS,
-        Err(fault) => ExitCode::from(report(&fault, &mut Output::new(rt.stderr()))),
-    }
+    ExitCode::from(finish(play(&rt), &mut Output::new(rt.stderr())))
 }

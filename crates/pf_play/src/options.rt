@@ -7,22 +7,11 @@ ghost use Rattle.pf_play.specs.Options.{Answers, AsksFor, RunsUnlessMemory, comm
 
 use clap::error::ErrorKind;
 use clap::{Arg, ArgMatches, Command, Error};
-use pf_console::PlayFault;
+use pf_console::{PlayFault, Request};
 use std::alloc::{AllocError, Global};
 use std::convert::AsStr;
 use std::rt::Env;
 use std::{env, io};
-
-/// What a command line asks for.
-#[derive(Debug, Drop)]
-pub enum Request<'a> {
-    /// Answer a text on standard input line by line.
-    Run,
-    /// Print the fields of the frame that these digits spell.
-    Frame(&'a str),
-    /// Write this text, help or the version, to standard output.
-    Say(String),
-}
 
 const ABOUT: &str = "An exact 2D physics core for rollback games";
 

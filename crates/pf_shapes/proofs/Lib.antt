@@ -4,3 +4,4 @@ pub mod Staying
 pub mod Exact
 pub mod Circles
 pub mod Covering
+pub mod Saying

@@ -11,3 +11,4 @@ pub mod Bounds
 pub mod Laws
 pub mod Same
 pub mod SameLaws
+pub mod Saying

@@ -1,17 +1,30 @@
-//! What overlapping means, and that shapes stay in their bounds, as laws. Their functions do nothing: their clauses are
-//! what they are for.
+//! How a scene's lines are read, that shapes stay in their bounds, and what overlapping means, as laws. Their functions do
+//! nothing: their clauses are what they are for.
 
-ghost use Rattle.std.specs.Prelude.{◌≡◌, ℤ, pos, ◌≤ℤ◌, Bool, true};
+ghost use Rattle.std.specs.Prelude.{◌≡◌, ℕ, ◌<◌, ℤ, pos, ◌≤ℤ◌, Bool, true, Ok, Some, None, length};
 ghost use Rattle.pf_num.specs.Fx.{IsRaw};
 ghost use Rattle.pf_rot.specs.Vector.{Vec2, plus};
 ghost use Rattle.pf_rot.specs.Rotation.{Pair, rotated};
 ghost use Rattle.pf_rot.specs.Laws.{IsAtMostOne};
-ghost use Rattle.pf_shapes.specs.Fixture.{FixtureDef, IsSize};
-ghost use Rattle.pf_shapes.specs.Body.{State};
+ghost use Rattle.pf_shapes.specs.Fixture.{FixtureDef, IsFixture, IsSize};
+ghost use Rattle.pf_shapes.specs.Body.{State, start_of};
 ghost use Rattle.pf_shapes.specs.Bounds.{Span, IsUpright, overlaps, span_of, bounds_of};
 ghost use Rattle.pf_shapes.specs.Laws.{Covers, IsInBox, IsInCircle, IsInSpan, IsInner, exact_place, finer_span};
+ghost use Rattle.pf_shapes.specs.Saying.{body_fields, gravity_fields, start_rotation, IsDirection, IsGravity, IsStart};
+ghost use Rattle.pf_shapes.specs.Scene.{Setting, empty_setting, with_body};
+ghost use Rattle.pf_shapes.specs.SceneText.{line_of, so_far};
 
 use crate::fixture::Shape;
+
+/// The lines of gravity and of bodies, with their numbers in range, are read as they are meant.
+pub fn scene_lines_are_read()
+    ensures gravity { (most : ℕ) (g : Vec2) → IsGravity g
+        → line_of (record { most = most; scene = None }) (gravity_fields g) ≡ Ok (so_far most (empty_setting g)) }
+    ensures body { (most : ℕ) (s : Setting) (f : FixtureDef) (place : Vec2) (to : Pair) → length s.fixtures < most
+        → IsFixture f → IsStart place → IsDirection to
+        → line_of (record { most = most; scene = Some s }) (body_fields f place to)
+            ≡ Ok (so_far most (with_body s f (start_of f place (start_rotation f.shape to)))) }
+{}
 
 /// Bounds overlap others where these overlap them.
 #[tactic(auto, unfolding(crate::specs::Bounds::overlaps))]

@@ -9,3 +9,5 @@ pub mod Progress
 pub mod Buffered
 pub mod Answering
 pub mod Ascii
+pub mod Spelling
+pub mod Joined

@@ -2,14 +2,15 @@
 use Rattle.std.proofs.Common.{◌≡◌, ◌==◌, ℕ, ◌<◌, Bool, true, false, not, ◌&&◌, List, [], ◌∷◌, ◌++◌, length, refl, ap, ◌∙◌, append_assoc, arith}
 use Rattle.std.specs.List.{list_all, flat_map, onto_first}
 use Rattle.pf_text.specs.Lines.{lines_of, ended, is_line, AreLines}
+use Rattle.pf_text.specs.Laws.{unended}
 
 -- two tests that passed
-both : (a b : Bool) → (a && b) ≡ true → (a ≡ true) × (b ≡ true)
+pub both : (a b : Bool) → (a && b) ≡ true → (a ≡ true) × (b ≡ true)
 both true b e = (refl, e)
 both false b e = absurd cc
 
 -- a test that failed
-not-true : (b : Bool) → not b ≡ true → b ≡ false
+pub not-true : (b : Bool) → not b ≡ true → b ≡ false
 not-true true e = absurd cc
 not-true false e = refl
 
@@ -50,6 +51,12 @@ lines_of-last (byte ∷ []) e lt = rw ((is_line-cons byte [] e).0) refl
 lines_of-last (byte ∷ next ∷ line) e lt =
     let parts = is_line-cons byte (next ∷ line) e in
     rw (parts.0, lines_of-last (next ∷ line) parts.1 (omega arith)) refl
+
+-- the rest behind the last LF is a line where it isn't empty
+pub lines_of-rest : (rest : List ℕ) → is_line rest ≡ true → lines_of rest ≡ unended rest
+unfolding lines_of
+lines_of-rest [] e = refl
+lines_of-rest (byte ∷ bytes) e = lines_of-last (byte ∷ bytes) e (omega arith)
 
 -- bytes without a LF begin the first line
 pub lines_of-front : (front rest : List ℕ) → is_line front ≡ true → 0 < length front → (more : List ℕ) × (others : List (List ℕ)) × (lines_of (front ++ rest) ≡ (front ++ more) ∷ others)

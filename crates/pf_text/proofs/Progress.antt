@@ -1,5 +1,5 @@
 -- How far a text was answered, and what each exit of the driver makes of that.
-use Rattle.std.proofs.Common.{◌≡◌, ◌≢◌, ℕ, ◌+◌, ◌<◌, List, [], ◌∷◌, ◌++◌, length, Option, Some, Ok, Err, true, refl, sym, ap, ◌∙◌, append_assoc, append-nil, arith}
+use Rattle.std.proofs.Common.{◌≡◌, ℕ, ◌+◌, ◌<◌, List, [], ◌∷◌, ◌++◌, length, Option, Some, Ok, Err, true, refl, sym, ap, ◌∙◌, append_assoc, append-nil, arith}
 use Rattle.std.specs.Io.KnownBytes.{Appends}
 use Rattle.std.specs.List.{flat_map}
 use Rattle.std.proofs.lemmas.Bool.{lt-leb}
@@ -173,11 +173,6 @@ module _ {S F : Type 0} {rules : Rules S F} {start : S} {input before : List ℕ
         ∙ ap (λ answer. joined p.written (and_then number answer (λ next. answers rules (number + 1) next lines))) said
         ∙ ap (λ bytes. record { text = bytes; ending = (answers rules (number + 1) next lines).ending }) (sym (append_assoc p.written text (answers rules (number + 1) next lines).text));
   }
-
--- a refusal of a line is no failure of a reader or a writer
-pub fault_at-others : {F : Type 0} (number : ℕ) (refusal : TakeRefusal F) → (fault_at number refusal ≢ faults.Read) × (fault_at number refusal ≢ faults.Write)
-fault_at-others number refusals.Memory = (λ e. cc, λ e. cc)
-fault_at-others number (refusals.Fault fault) = (λ e. cc, λ e. cc)
 
 -- a refusal of a line counts nothing
 pub Counts-refused : {F : Type 0} (number before after : ℕ) (refusal : TakeRefusal F) → after ≡ before

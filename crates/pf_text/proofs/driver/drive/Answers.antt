@@ -1,6 +1,6 @@
-use Rattle.std.proofs.Common.{sym, ◌∙◌, rules}
+use Rattle.std.proofs.Common.{◌∙◌, rules}
 use Rattle.std.proofs.lemmas.Result.{err_from_is_err_and}
-use Rattle.pf_text.proofs.Progress.{Progress-none, Progress-next, Drives-memory, Drives-untaken, Drives-end, Drives-last, Drives-refused, Drives-write, fault_at-others, Counts-refused}
+use Rattle.pf_text.proofs.Progress.{Progress-none, Progress-next, Drives-memory, Drives-untaken, Drives-end, Drives-last, Drives-refused, Drives-write, Counts-refused}
 use Rattle.pf_text.proofs.driver.drive.Goals as goal
 
 pub returns-in_err-line-clause-driven : goal.returns-in_err-line-clause-driven
@@ -32,8 +32,6 @@ returns-in-Err g c = record {
       let p = c.loop-number.invariant.so_far input before left after in
       let said = rw c.deref.ensures.value at c.in-Err.ensures in
       rw c.fault_at.ensures (Drives-refused p c.in_ok-taken.taken c.take_line.new.line.items (g.R.Source.remaining c.take_line.new.source) c.in-Err.refusal (c.in_ok-taken.ensures.taken p.rest p.left_is) c.in_default.not-End said);
-  read = λ e. absurd ((fault_at-others c.loop-number.number c.in-Err.refusal).0 (sym c.fault_at.ensures ∙ cc));
-  written = λ e. absurd ((fault_at-others c.loop-number.number c.in-Err.refusal).1 (sym c.fault_at.ensures ∙ cc));
   reads_counted = rw c.fault_at.ensures (Counts-refused c.loop-number.number _ _ c.in-Err.refusal (c.in_ok-taken.ensures.counted ∙ c.loop-number.invariant.no_read_failed)).0;
   writes_counted = rw c.fault_at.ensures (Counts-refused c.loop-number.number _ _ c.in-Err.refusal c.loop-number.invariant.no_write_failed).1;
 }

@@ -1,0 +1,197 @@
+-- The line of an event is plain, is not skipped, and has the event's fields.
+use Rattle.std.proofs.Common.{◌≡◌, ◌==◌, ℕ, zero, suc, ◌*◌, ◌<◌, ◌≤◌, ◌^◌, ℤ, pos, negsuc, Bool, true, false, not, ◌&&◌, List, [], ◌∷◌, ◌++◌, length, length-append, Ok, Err, refl, arith, nat_lt, nat_le, ◌/◌, ◌%◌}
+use Rattle.std.specs.Char.{is_ascii_digit}
+use Rattle.std.specs.Fmt.{decimal, signed_decimal}
+use Rattle.std.specs.List.{list_all, join_with_byte, slice_index}
+use Rattle.std.specs.Prelude.{codes, map, All}
+use Rattle.std.proofs.lemmas.List.Elements.{All-head, All-tail}
+use Rattle.std.proofs.lemmas.Bool.Decides.{nat_tests}
+use Rattle.std.proofs.lemmas.Fmt.{length-decimal-le, decimal_nonempty}
+use Rattle.hex.specs.Hex.{encode_lower, encode_with, lower_digits}
+use Rattle.hex.proofs.HexLemmas.{length-encode_with}
+use Rattle.pf_text.specs.Driver.{is_ascii, is_plain, is_skipped}
+use Rattle.pf_text.specs.Laws.{lacks_space, is_field}
+use Rattle.pf_text.proofs.Joined.{joined_fields}
+use Rattle.pf_text.proofs.Spelling.{decimal_digits}
+use Rattle.pf_num.specs.Fx.{IsRaw}
+use Rattle.pf_commands.specs.declared.payload.Payload.{Payload}
+use Rattle.pf_commands.specs.declared.payload.Payload.TheVariants.{Push, Turn, Stop}
+use Rattle.pf_commands.specs.Payload.{IsPayload}
+use Rattle.pf_commands.specs.Frame.{spelling}
+use Rattle.pf_commands.proofs.Spelling.{spelling_spells}
+use Rattle.pf_console.specs.declared.event.Event.{Event}
+use Rattle.pf_console.specs.declared.event.Event.TheVariants.{Issue, Take, Advance, Show}
+use Rattle.pf_console.specs.Laws.{Says, SayEvents}
+use Rattle.pf_console.specs.Saying.{payload_fields, event_fields, event_line, CanBeSaid}
+use Rattle.pf_console.proofs.Saying.{read_event}
+
+-- ---- words: ASCII bytes without a space, at most 54 of them
+
+abbrev is_word_byte : ℕ → Bool
+is_word_byte byte = nat_lt byte 128 && not (byte == 32)
+
+record IsWord (word : List ℕ) : Type 0 where
+  bytes : list_all is_word_byte word ≡ true
+  some : 0 < length word
+  short : length word ≤ 54
+
+both : (s t : Bool) → (s && t) ≡ true → (s ≡ true) × (t ≡ true)
+both true true e = (refl, refl)
+both true false e = absurd cc
+both false t e = absurd cc
+
+word_lacks_space : (word : List ℕ) → list_all is_word_byte word ≡ true → lacks_space word ≡ true
+word_lacks_space [] e = refl
+word_lacks_space (byte ∷ bytes) e =
+    let tests = both (is_word_byte byte) (list_all is_word_byte bytes) e in
+    rw ((both (nat_lt byte 128) (not (byte == 32)) tests.0).1, word_lacks_space bytes tests.1) refl
+
+word_is_ascii : (word : List ℕ) → list_all is_word_byte word ≡ true → is_ascii word ≡ true
+word_is_ascii [] e = refl
+word_is_ascii (byte ∷ bytes) e =
+    let tests = both (is_word_byte byte) (list_all is_word_byte bytes) e in
+    rw ((both (nat_lt byte 128) (not (byte == 32)) tests.0).0, word_is_ascii bytes tests.1) refl
+
+-- digits
+digit_is_word_byte : (digit : ℕ) → is_ascii_digit digit ≡ true → is_word_byte digit ≡ true
+digit_is_word_byte digit e = grind (arith, nat_tests)
+
+digits_are_word : (ds : List ℕ) → list_all is_ascii_digit ds ≡ true → list_all is_word_byte ds ≡ true
+digits_are_word [] e = refl
+digits_are_word (digit ∷ ds) e =
+    let tests = both (is_ascii_digit digit) (list_all is_ascii_digit ds) e in
+    rw (digit_is_word_byte digit tests.0, digits_are_word ds tests.1) refl
+
+decimal_word : (n : ℕ) → n < 2 ^ 64 → IsWord (decimal n)
+decimal_word n small = record {
+  bytes = digits_are_word (decimal n) (decimal_digits n small);
+  some = decimal_nonempty n small;
+  short = omega (arith, length-decimal-le 20 n (omega arith) (omega arith) small);
+}
+
+signed_word : (z : ℤ) → IsRaw z → IsWord (signed_decimal z)
+signed_word (pos n) raw = decimal_word n (omega arith)
+signed_word (negsuc n) raw =
+    let word = decimal_word (suc n) (omega arith) in
+    record { bytes = word.bytes; some = omega arith; short = omega (arith, length-decimal-le 20 (suc n) (omega arith) (omega arith) (omega arith)) }
+
+-- digits of a table without spaces, where a place past its end counts as 0
+place_is_word_byte : (table : List ℕ) → list_all is_word_byte table ≡ true → (k : ℕ) → is_word_byte (slice_index table k) ≡ true
+place_is_word_byte [] e k = refl
+place_is_word_byte (byte ∷ bytes) e zero = (both (is_word_byte byte) (list_all is_word_byte bytes) e).0
+place_is_word_byte (byte ∷ bytes) e (suc k) = place_is_word_byte bytes ((both (is_word_byte byte) (list_all is_word_byte bytes) e).1) k
+
+encoded_bytes : (table bytes : List ℕ) → list_all is_word_byte table ≡ true → list_all is_word_byte (encode_with table bytes) ≡ true
+unfolding encode_with
+encoded_bytes table [] e = refl
+encoded_bytes table (byte ∷ bytes) e =
+    rw (place_is_word_byte table e (byte / 16), place_is_word_byte table e (byte % 16), encoded_bytes table bytes e) refl
+
+frame_word : (bytes : List ℕ) → length bytes ≡ 27 → IsWord (encode_lower bytes)
+frame_word bytes long = record {
+  bytes = encoded_bytes lower_digits bytes refl;
+  some = omega (arith, long, length-encode_with lower_digits bytes);
+  short = omega (arith, long, length-encode_with lower_digits bytes);
+}
+
+-- ---- words joined by spaces
+
+abbrev AreWords : List (List ℕ) → Type 0
+AreWords [] = Unit {0}
+AreWords (word ∷ words) = IsWord word × AreWords words
+
+some_bytes : (word : List ℕ) → 0 < length word → not (length word == 0) ≡ true
+some_bytes word some = grind (arith, nat_tests)
+
+words_are_fields : (words : List (List ℕ)) → AreWords words → list_all is_field words ≡ true
+words_are_fields [] h = refl
+words_are_fields (word ∷ words) h =
+    rw (some_bytes word h.0.some, word_lacks_space word h.0.bytes, words_are_fields words h.1) refl
+
+ascii_append : (front back : List ℕ) → is_ascii front ≡ true → is_ascii back ≡ true → is_ascii (front ++ back) ≡ true
+ascii_append [] back e f = f
+ascii_append (byte ∷ bytes) back e f =
+    let tests = both (nat_lt byte 128) (is_ascii bytes) e in rw (tests.0, ascii_append bytes back tests.1 f) refl
+
+joined_ascii : (words : List (List ℕ)) → AreWords words → is_ascii (join_with_byte 32 words) ≡ true
+joined_ascii [] h = refl
+joined_ascii (word ∷ []) h = word_is_ascii word h.0.bytes
+joined_ascii (word ∷ next ∷ words) h =
+    ascii_append word (32 ∷ join_with_byte 32 (next ∷ words)) (word_is_ascii word h.0.bytes) (joined_ascii (next ∷ words) h.1)
+
+joined_length : (words : List (List ℕ)) → AreWords words → length (join_with_byte 32 words) ≤ 55 * length words
+joined_length [] h = omega arith
+joined_length (word ∷ []) h = omega (arith, h.0.short)
+joined_length (word ∷ next ∷ words) h =
+    omega (arith, h.0.short, length-append word (32 ∷ join_with_byte 32 (next ∷ words)), joined_length (next ∷ words) h.1)
+
+joined_plain : (words : List (List ℕ)) → AreWords words → length words ≤ 74 → is_plain (join_with_byte 32 words) ≡ true
+joined_plain words h few =
+    let short : nat_le (length (join_with_byte 32 words)) 4096 ≡ true = (let long = joined_length words h in grind (arith, nat_tests)) in
+    rw (short, joined_ascii words h) refl
+
+-- ---- events
+
+peer_word : (peer : ℕ) → peer ≡ 0 → IsWord (decimal peer)
+peer_word peer e = decimal_word peer (omega arith)
+
+word : (text : List ℕ) → list_all is_word_byte text ≡ true → 0 < length text → length text ≤ 54 → IsWord text
+word text bytes some short = record { bytes = bytes; some = some; short = short }
+
+payload_words : (payload : Payload) → IsPayload payload → AreWords (payload_fields payload)
+payload_words (Push body x y) h =
+    (word (codes "push") refl (omega arith) (omega arith), (decimal_word body (omega (arith, h.body)), (signed_word x h.x, (signed_word y h.y, tt))))
+payload_words (Turn body x) h =
+    (word (codes "turn") refl (omega arith) (omega arith), (decimal_word body (omega (arith, h.body)), (signed_word x h.x, tt)))
+payload_words (Stop body) h =
+    (word (codes "stop") refl (omega arith) (omega arith), (decimal_word body (omega (arith, h.body)), tt))
+
+event_words : (event : Event) → CanBeSaid event → AreWords (event_fields event)
+event_words (Issue peer payload) h =
+    (word (codes "issue") refl (omega arith) (omega arith), (peer_word peer h.0, payload_words payload h.1))
+event_words (Take peer (Ok c)) h =
+    (word (codes "take") refl (omega arith) (omega arith), (peer_word peer h.0, (frame_word (spelling c) (spelling_spells c h.1).long, tt)))
+event_words (Take peer (Err fault)) h = elim h [ ]
+event_words (Advance peer ticks) h =
+    (word (codes "advance") refl (omega arith) (omega arith), (peer_word peer h.0, (decimal_word ticks (omega (arith, h.1)), tt)))
+event_words (Show peer tick) h =
+    (word (codes "show") refl (omega arith) (omega arith), (peer_word peer h.0, (decimal_word tick (omega (arith, h.1)), tt)))
+
+payload_count : (payload : Payload) → length (payload_fields payload) ≤ 4
+payload_count (Push body x y) = omega arith
+payload_count (Turn body x) = omega arith
+payload_count (Stop body) = omega arith
+
+event_count : (event : Event) → CanBeSaid event → (0 < length (event_fields event)) × (length (event_fields event) ≤ 6)
+event_count (Issue peer payload) h = (omega arith, omega (arith, payload_count payload))
+event_count (Take peer (Ok c)) h = (omega arith, omega arith)
+event_count (Take peer (Err fault)) h = elim h [ ]
+event_count (Advance peer ticks) h = (omega arith, omega arith)
+event_count (Show peer tick) h = (omega arith, omega arith)
+
+event_asks : (event : Event) → CanBeSaid event → is_skipped (event_line event) ≡ false
+event_asks (Issue peer (Push body x y)) h = refl
+event_asks (Issue peer (Turn body x)) h = refl
+event_asks (Issue peer (Stop body)) h = refl
+event_asks (Take peer (Ok c)) h = refl
+event_asks (Take peer (Err fault)) h = elim h [ ]
+event_asks (Advance peer ticks) h = refl
+event_asks (Show peer tick) h = refl
+
+pub says_event : (event : Event) → CanBeSaid event → Says (event_line event) event
+says_event event h =
+    let words = event_words event h in
+    let count = event_count event h in
+    record {
+      plain = joined_plain (event_fields event) words (omega (arith, count.1));
+      asks = event_asks event h;
+      fields = event_fields event;
+      parted = joined_fields (event_line event) (event_fields event) (count.0, words_are_fields (event_fields event) words, refl);
+      event_is = read_event event h;
+    }
+
+-- the lines of events say the events
+pub say_events : (events : List Event) → All CanBeSaid events → SayEvents (map event_line events) events
+say_events [] h = tt
+say_events (event ∷ events) h =
+    (says_event event (All-head CanBeSaid event events h), say_events events (All-tail CanBeSaid event events h))

@@ -1,0 +1,68 @@
+-- The fields that say an event are read as that event.
+use Rattle.std.proofs.Common.{◌≡◌, ℕ, ◌<◌, ◌^◌, ℤ, pos, neg_ℤ, ◌≤ℤ◌, true, ◌&&◌, ◌∷◌, Some, Ok, Err, refl, ap, ◌∙◌, arith}
+use Rattle.std.specs.Prelude.{int_le}
+use Rattle.std.specs.Fmt.{decimal, signed_decimal}
+use Rattle.std.specs.Int.RustNames.{unsigned_abs}
+use Rattle.std.proofs.lemmas.Bool.Decides.{nat_tests}
+use Rattle.std.proofs.lemmas.Int.{ints}
+use Rattle.hex.specs.Hex.{encode_lower}
+use Rattle.hex.proofs.HexLemmas.{decode_of-encode_lower}
+use Rattle.pf_num.specs.Fx.{greatest, IsRaw}
+use Rattle.pf_text.specs.Numbers.{whole_of, within}
+use Rattle.pf_text.proofs.Spelling.{whole-signed_decimal}
+use Rattle.pf_commands.specs.declared.payload.Command.{Command}
+use Rattle.pf_commands.specs.declared.payload.Payload.{Payload}
+use Rattle.pf_commands.specs.declared.payload.Payload.TheVariants.{Push, Turn, Stop}
+use Rattle.pf_commands.specs.Payload.{IsPayload}
+use Rattle.pf_commands.specs.Frame.{IsFrameable, spelling}
+use Rattle.pf_commands.proofs.Spelling.{spelling_spells}
+use Rattle.pf_commands.proofs.Frames.{spelled_decodes}
+use Rattle.pf_console.specs.declared.event.Event.{Event}
+use Rattle.pf_console.specs.declared.event.Event.TheVariants.{Issue, Take, Advance, Show}
+use Rattle.pf_console.specs.Digits.{decoded, spelled, frame_of}
+use Rattle.pf_console.specs.Grammar.{peer_of, tick_of, body_of, real_of, event_of, issue_of, push_of, turn_of, stop_of, take_of, advance_of, show_of}
+use Rattle.pf_console.specs.Saying.{payload_fields, event_fields, CanBeSaid}
+
+-- ---- numbers
+
+within_range : (low high z : ℤ) → low ≤ℤ z → z ≤ℤ high → within low high (Some z) ≡ Ok z
+within_range low high z h k =
+    let e : (int_le low z && int_le z high) ≡ true = grind (arith, ints, nat_tests) in rw e refl
+
+read_number : (low high z : ℤ) → unsigned_abs z < 2 ^ 64 → low ≤ℤ z → z ≤ℤ high → within low high (whole_of (signed_decimal z)) ≡ Ok z
+read_number low high z small h k = ap (within low high) (whole-signed_decimal z small) ∙ within_range low high z h k
+
+read_peer : (peer : ℕ) → peer ≡ 0 → peer_of (decimal peer) ≡ Ok peer
+read_peer peer e = rw (read_number (pos 0) (pos 0) (pos peer) (omega arith) (omega (arith, ints)) (omega (arith, ints))) refl
+
+read_tick : (tick : ℕ) → tick < 2 ^ 32 → tick_of (decimal tick) ≡ Ok tick
+read_tick tick small = rw (read_number (pos 0) (pos 4294967295) (pos tick) (omega arith) (omega (arith, ints)) (omega (arith, ints))) refl
+
+read_body : (body : ℕ) → body < 2 ^ 16 → body_of (decimal body) ≡ Ok body
+read_body body small = rw (read_number (pos 0) (pos 65535) (pos body) (omega arith) (omega (arith, ints)) (omega (arith, ints))) refl
+
+read_real : (z : ℤ) → IsRaw z → real_of (signed_decimal z) ≡ Ok z
+read_real z raw = read_number (neg_ℤ greatest) greatest z (omega arith) (omega (arith, ints)) (omega (arith, ints))
+
+-- ---- frames
+
+pub read_frame : (c : Command) → IsFrameable c → frame_of (encode_lower (spelling c)) ≡ Ok (Ok c)
+read_frame c h =
+    let spells = spelling_spells c h in
+    ap (λ bytes. decoded (spelled bytes)) (decode_of-encode_lower (spelling c) spells.are_bytes) ∙ ap Ok (spelled_decodes (spelling c) c spells)
+
+-- ---- events
+
+read_issue : (peer : ℕ) (payload : Payload) → peer ≡ 0 → IsPayload payload → issue_of (decimal peer ∷ payload_fields payload) ≡ Ok (Issue peer payload)
+unfolding issue_of push_of turn_of stop_of
+read_issue peer (Push body x y) e h = rw (read_peer peer e, read_body body h.body, read_real x h.x, read_real y h.y) refl
+read_issue peer (Turn body x) e h = rw (read_peer peer e, read_body body h.body, read_real x h.x) refl
+read_issue peer (Stop body) e h = rw (read_peer peer e, read_body body h.body) refl
+
+pub read_event : (event : Event) → CanBeSaid event → event_of (event_fields event) ≡ Ok event
+unfolding event_of take_of advance_of show_of
+read_event (Issue peer payload) h = read_issue peer payload h.0 h.1
+read_event (Take peer (Ok c)) h = rw (read_peer peer h.0, read_frame c h.1) refl
+read_event (Take peer (Err fault)) h = elim h [ ]
+read_event (Advance peer ticks) h = rw (read_peer peer h.0, read_tick ticks h.1) refl
+read_event (Show peer tick) h = rw (read_peer peer h.0, read_tick tick h.1) refl

@@ -1,0 +1,56 @@
+//! What a call of the program asks for, and doing it.
+
+ghost use Rattle.std.specs.Prelude.{◌≡◌, ℕ, ◌+◌, ◌^◌, ◌<◌, List, Some};
+ghost use Rattle.pf_console.specs.Request.{Performs, Writes};
+ghost use Rattle.pf_console.specs.Text.{CountsReads, CountsWrites};
+
+use crate::fault::PlayFault;
+use crate::frame::frame_text;
+use crate::run::run_text;
+use pf_text::{Sink, Source};
+use std::alloc::Global;
+
+/// What a command line asks for.
+#[derive(Debug, Drop)]
+pub enum Request<'a> {
+    /// Answer a text line by line.
+    Run,
+    /// Print the fields of the frame that these digits spell.
+    Frame(&'a str),
+    /// Write this text, help or the version.
+    Say(String),
+}
+
+/// Writes a text.
+fn say<W: Sink>(text: &str, writer: &mut W) -> Result<(), PlayFault>
+    requires { W.failures writer.old + 1 < 2 ^ 64 }
+    ensures text { (before : List ℕ) → W.contents writer.old ≡ Some before → Writes text.now before (W.contents writer.new) result }
+    ensures reads_nothing { (failures : ℕ) → CountsReads failures result failures }
+    ensures writes_counted { CountsWrites (W.failures writer.old) result (W.failures writer.new) }
+{
+    match writer.write_all(text.as_bytes()) {
+        Ok(()) => Ok(()),
+        Err(_) => Err(PlayFault::Write),
+    }
+}
+
+/// Does what a request asks for. A run reads the reader; the other requests leave it as it was.
+pub fn perform<R: Source, W: Sink>(
+    alloc: Global,
+    request: Request,
+    reader: &mut R,
+    writer: &mut W,
+) -> Result<(), PlayFault>
+    requires reads { R.failures reader.old + 1 < 2 ^ 64 }
+    requires writes { W.failures writer.old + 1 < 2 ^ 64 }
+    ensures done { (input before : List ℕ) → R.remaining reader.old ≡ Some input → W.contents writer.old ≡ Some before
+        → Performs request.entry input (R.remaining reader.new) before (W.contents writer.new) result }
+    ensures reads_counted { CountsReads (R.failures reader.old) result (R.failures reader.new) }
+    ensures writes_counted { CountsWrites (W.failures writer.old) result (W.failures writer.new) }
+{
+    match request {
+        Request::Run => run_text(alloc, reader, writer),
+        Request::Frame(digits) => frame_text(alloc, digits, writer),
+        Request::Say(text) => say(&text, writer),
+    }
+}
