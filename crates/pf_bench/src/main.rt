@@ -15,7 +15,7 @@ mod maps;
 mod operation;
 
 use operation::Operation;
-use std::alloc::Global;
+use std::alloc::{AllocError, Global};
 use std::env::Env;
 use std::process::ExitCode;
 use std::{env, io};
@@ -29,36 +29,59 @@ usage: pf_bench add|mul|div|mul-wide|div-wide|root|length|turn COUNT
        pf_bench circles|box-circle|boxes|pairs COUNT HELD
 ";
 
-/// What came of a task, where the word names one, done with a map of so many commands or with so many bodies.
-fn summed(alloc: Global, task: &str, count: u64, held: &str) -> Option<i128> {
-    let held = held.parse().ok()?;
-    if held == 0 {
-        return None;
-    }
-    if let Some(task) = geometry::Task::parse(task) {
-        return Some(i128::from(geometry::sum(alloc, task, count, held).ok()??));
-    }
-    let task = maps::Task::parse(task)?;
-    Some(i128::from(maps::sum(alloc, task, count, held).ok()?))
+/// What the words of a command line ask for: a task, how often, and with how many commands or bodies where it needs some.
+#[derive(Drop)]
+struct Request {
+    task: String,
+    count: u64,
+    held: Option<String>,
 }
 
-/// The number that the words of the command line ask for, if they ask for one.
-fn answer(rt: &(impl Env + Alloc<A = Global>)) -> Option<i128> {
+/// What the words of this call ask for, if they are two or three and the second is a number.
+fn asked(rt: &(impl Env + Alloc<A = Global>)) -> Option<Request> {
     let mut words = env::args(rt).ok()?.skip(1);
-    let what = words.next()?;
+    let task = words.next()?;
     let count = words.next()?.parse().ok()?;
     let held = words.next();
-    if words.next().is_some() {
-        return None;
+    match words.next() {
+        None => Some(Request { task, count, held }),
+        Some(_) => None,
     }
-    match held {
-        None => Some(i128::from(chain::last(Operation::parse(what.as_str())?, count).raw())),
-        Some(held) => summed(rt.alloc(), what.as_str(), count, held.as_str()),
+}
+
+/// What came of a task, where the word names one, done with a map of so many commands or with so many bodies.
+fn summed(alloc: Global, task: &str, count: u64, held: &str) -> Result<Option<i128>, AllocError> {
+    let held = match held.parse() {
+        Ok(held) if held > 0 => held,
+        _ => return Ok(None),
+    };
+    if let Some(task) = geometry::Task::parse(task) {
+        return Ok(geometry::sum(alloc, task, count, held)?.map(i128::from));
+    }
+    match maps::Task::parse(task) {
+        Some(task) => Ok(Some(i128::from(maps::sum(alloc, task, count, held)?))),
+        None => Ok(None),
+    }
+}
+
+/// The number that a request asks for, if it names a task.
+fn answer(alloc: Global, request: &Request) -> Result<Option<i128>, AllocError> {
+    let task = request.task.as_str();
+    match &request.held {
+        None => Ok(Operation::parse(task).map(|operation| i128::from(chain::last(
+            operation,
+            request.count,
+        ).raw()))),
+        Some(held) => summed(alloc, task, request.count, held.as_str()),
     }
 }
 
 fn main(rt: HostRuntime) -> io::Result<ExitCode> {
-    let Some(number) = answer(&rt) else {
+    let number = match asked(&rt) {
+        Some(request) => answer(rt.alloc(), &request)?,
+        None => None,
+    };
+    let Some(number) = number else {
         eprint!(rt; "{USAGE}")?;
         return Ok(ExitCode::from(2));
     };

@@ -1,5 +1,6 @@
 -- The pairs are of two bodies that there are, the lesser number first.
-use Rattle.std.proofs.Common.{◌≡◌, ℕ, zero, suc, ◌+◌, Bool, true, false, cond, ◌&&◌, List, [], ◌∷◌, ◌++◌, length, refl, arith, map, nat_lt, ltb-true, ap, sym, subst, ◌∙◌}
+use Rattle.std.proofs.Common.{◌≡◌, ℕ, zero, suc, ◌+◌, true, false, cond, List, [], ◌∷◌, ◌++◌, length, refl, arith, map, nat_lt, ltb-true, ap, sym, subst, ◌∙◌}
+use Rattle.std.proofs.lemmas.Bool.{and_parts}
 use Rattle.std.proofs.lemmas.List.Elements.{All-from_recursion}
 use Rattle.std.specs.List.{range_with_len, filter, flat_map, All, AllByRecursion}
 use Rattle.pf_shapes.specs.Fixture.{FixtureDef}
@@ -9,10 +10,6 @@ use Rattle.pf_broad.specs.Pairs.{at, meets, is_pair, pair, pairs_of, pairs, span
 use Rattle.pf_broad.specs.Laws.{IsPairOf}
 use Rattle.pf_broad.specs.declared.pair.Pair.{Pair}
 
-first-true : (a b : Bool) → (a && b) ≡ true → a ≡ true
-first-true true b h = refl
-first-true false b h = h
-
 -- a body's pairs are of it and a later body
 map-filter_within : (bs : List Span) (i a n m : ℕ) → a + n ≡ m
     → AllByRecursion (IsPairOf m) (map (pair i) (filter (is_pair bs i) (range_with_len a n)))
@@ -21,7 +18,7 @@ map-filter_within bs i a (suc n) m e =
     let more = map-filter_within bs i (a + 1) n m (omega arith) in
     let rest = filter (is_pair bs i) (range_with_len (a + 1) n) in
     elim (is_pair bs i a) as (λ b. is_pair bs i a ≡ b → AllByRecursion (IsPairOf m) (map (pair i) (cond b (a ∷ rest) rest))) [
-      | true ↦ λ yes. ((ltb-true i a (first-true (nat_lt i a) (meets (at bs i) (at bs a)) yes), omega arith), more)
+      | true ↦ λ yes. ((ltb-true i a ((and_parts (nat_lt i a) (meets (at bs i) (at bs a)) yes).0), omega arith), more)
       | false ↦ λ _. more
     ] refl
 

@@ -7,19 +7,17 @@ use Rattle.pf_commands.specs.Payload.{IsPayload}
 use Rattle.pf_commands.specs.Merge.{name_cmp, Commands, AreCommands, merge, one}
 use Rattle.pf_commands.specs.declared.payload.Payload.{Payload}
 use Rattle.pf_commands.proofs.Names.{name_cmp_total}
+use Rattle.std.proofs.lemmas.Option.{same_Some}
 use Rattle.pf_commands.proofs.Weights.{heavier_of_comm, heavier_of_either}
 use Rattle.pf_commands.proofs.Merging.{same_commands, same_name, get-merge}
 
 pub AreCommands-empty : AreCommands empty
 AreCommands-empty name payload held = let none = sym (get-empty name_cmp name) ∙ held in cc
 
-same_payload : (p q : Payload) → Some p ≡ Some q → p ≡ q
-same_payload p q e = cc
-
 pub AreCommands-insert : (m : Commands) (n : CommandName) (p : Payload) → AreCommands m → IsName n → IsPayload p → AreCommands (insert m n p)
 AreCommands-insert m n p are isn isp name payload held =
     elim (eq_by_cmp name_cmp name n) as (λ b. eq_by_cmp name_cmp name n ≡ b → cond b (Some p) (get m name) ≡ Some payload → IsName name × IsPayload payload) [
-      | true ↦ λ tied is. (subst IsName (sym (same_name name n tied)) isn, subst IsPayload (same_payload p payload is) isp)
+      | true ↦ λ tied is. (subst IsName (sym (same_name name n tied)) isn, subst IsPayload (same_Some p payload is) isp)
       | false ↦ λ _ is. are name payload is
     ] refl (sym (get-insert name_cmp_total m n p name) ∙ held)
 

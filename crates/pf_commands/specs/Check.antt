@@ -1,4 +1,4 @@
--- Which commands a scene allows: a player moves the bodies that it owns.
+-- Which commands a scene allows: a player moves the bodies that it owns and that are not static.
 use Rattle.std.specs.Prelude.{◌≡◌, ℕ, Bool, false, ◌++◌, All, Option, Some, None, List, [], ◌∷◌, Result, Ok, Err, ◌==◌, slice_get, if◌then◌else◌}
 use Rattle.pf_shapes.specs.Fixture.{FixtureDef, is_static}
 use Rattle.pf_shapes.specs.Scene.{Setting}

@@ -91,7 +91,7 @@ pub fn same_weight_same_payload()
     ensures { (p q : Payload) → IsPayload p → IsPayload q → weight p ≡ weight q → p ≡ q }
 {}
 
-/// Commands are allowed just where each one is, and else their fault is that of the first one that is not.
+/// Commands are allowed exactly where each one is, and else their fault is that of the first one that is not.
 pub fn first_fault_is_answered()
     ensures allowed { (scene : Setting) (commands : List (CommandName × Payload))
         → (check_all_of scene commands ≡ Ok tt) ↔ All (IsAllowed scene) commands }

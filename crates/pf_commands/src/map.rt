@@ -32,7 +32,7 @@ impl Put {
     ghost use Rattle.pf_commands.specs.News.{is_change};
 
     /// Whether the map has changed.
-    pub fn is_change(self) -> bool
+    fn is_change(self) -> bool
         ensures { result ≡ is_change self }
     {
         matches!(self, Put::New | Put::Greater)
@@ -209,6 +209,7 @@ impl CommandMap {
         ensures count { IfOk result (λ merged. merged.count ≡ length (news self.old other.now)) }
         ensures least { IfOk result (λ merged. merged.least ≡ least_tick (news self.old other.now)) }
         ensures err { OnErr result (self.new ≡ self.old) }
+        ensures same { news self.old other.now ≡ [] → self.new ≡ self.old }
         ensures quiet { news self.old other.now ≡ [] → IsOk result }
     {
         let merged = self.news(other);

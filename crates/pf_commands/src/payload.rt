@@ -3,12 +3,12 @@
 use crate::name::Name;
 use pf_num::Fx;
 
-/// What a command does to a body, in one spelling by its type.
+/// What a command does to a body, in one spelling by its type. Bodies are numbered from 0; impulses are in units of 2^-24.
 #[derive(Clone, Copy, Debug, PartialEq, Eq)]
 pub enum Payload {
-    /// Gives the body an impulse.
+    /// Gives the body an impulse: mass times lengths a second.
     Push { body: u16, x: Fx, y: Fx },
-    /// Gives the body an angular impulse.
+    /// Gives the body an angular impulse: inertia times radians a second.
     Turn { body: u16, x: Fx },
     /// Stops the body, and its spin.
     Stop { body: u16 },

@@ -5,6 +5,7 @@ use Rattle.std.specs.Fmt.{decimal, signed_decimal}
 use Rattle.std.specs.List.{list_all, join_with_byte, slice_index}
 use Rattle.std.specs.Prelude.{codes, map, All}
 use Rattle.std.proofs.lemmas.List.Elements.{All-head, All-tail}
+use Rattle.std.proofs.lemmas.Bool.{and_parts}
 use Rattle.std.proofs.lemmas.Bool.Decides.{nat_tests}
 use Rattle.std.proofs.lemmas.Fmt.{length-decimal-le, decimal_nonempty}
 use Rattle.hex.specs.Hex.{encode_lower, encode_with, lower_digits}
@@ -35,22 +36,17 @@ record IsWord (word : List ℕ) : Type 0 where
   some : 0 < length word
   short : length word ≤ 54
 
-both : (s t : Bool) → (s && t) ≡ true → (s ≡ true) × (t ≡ true)
-both true true e = (refl, refl)
-both true false e = absurd cc
-both false t e = absurd cc
-
 word_lacks_space : (word : List ℕ) → list_all is_word_byte word ≡ true → lacks_space word ≡ true
 word_lacks_space [] e = refl
 word_lacks_space (byte ∷ bytes) e =
-    let tests = both (is_word_byte byte) (list_all is_word_byte bytes) e in
-    rw ((both (nat_lt byte 128) (not (byte == 32)) tests.0).1, word_lacks_space bytes tests.1) refl
+    let tests = and_parts (is_word_byte byte) (list_all is_word_byte bytes) e in
+    rw ((and_parts (nat_lt byte 128) (not (byte == 32)) tests.0).1, word_lacks_space bytes tests.1) refl
 
 word_is_ascii : (word : List ℕ) → list_all is_word_byte word ≡ true → is_ascii word ≡ true
 word_is_ascii [] e = refl
 word_is_ascii (byte ∷ bytes) e =
-    let tests = both (is_word_byte byte) (list_all is_word_byte bytes) e in
-    rw ((both (nat_lt byte 128) (not (byte == 32)) tests.0).0, word_is_ascii bytes tests.1) refl
+    let tests = and_parts (is_word_byte byte) (list_all is_word_byte bytes) e in
+    rw ((and_parts (nat_lt byte 128) (not (byte == 32)) tests.0).0, word_is_ascii bytes tests.1) refl
 
 -- digits
 digit_is_word_byte : (digit : ℕ) → is_ascii_digit digit ≡ true → is_word_byte digit ≡ true
@@ -59,7 +55,7 @@ digit_is_word_byte digit e = grind (arith, nat_tests)
 digits_are_word : (ds : List ℕ) → list_all is_ascii_digit ds ≡ true → list_all is_word_byte ds ≡ true
 digits_are_word [] e = refl
 digits_are_word (digit ∷ ds) e =
-    let tests = both (is_ascii_digit digit) (list_all is_ascii_digit ds) e in
+    let tests = and_parts (is_ascii_digit digit) (list_all is_ascii_digit ds) e in
     rw (digit_is_word_byte digit tests.0, digits_are_word ds tests.1) refl
 
 decimal_word : (n : ℕ) → n < 2 ^ 64 → IsWord (decimal n)
@@ -78,8 +74,8 @@ signed_word (negsuc n) raw =
 -- digits of a table without spaces, where a place past its end counts as 0
 place_is_word_byte : (table : List ℕ) → list_all is_word_byte table ≡ true → (k : ℕ) → is_word_byte (slice_index table k) ≡ true
 place_is_word_byte [] e k = refl
-place_is_word_byte (byte ∷ bytes) e zero = (both (is_word_byte byte) (list_all is_word_byte bytes) e).0
-place_is_word_byte (byte ∷ bytes) e (suc k) = place_is_word_byte bytes ((both (is_word_byte byte) (list_all is_word_byte bytes) e).1) k
+place_is_word_byte (byte ∷ bytes) e zero = (and_parts (is_word_byte byte) (list_all is_word_byte bytes) e).0
+place_is_word_byte (byte ∷ bytes) e (suc k) = place_is_word_byte bytes ((and_parts (is_word_byte byte) (list_all is_word_byte bytes) e).1) k
 
 encoded_bytes : (table bytes : List ℕ) → list_all is_word_byte table ≡ true → list_all is_word_byte (encode_with table bytes) ≡ true
 unfolding encode_with
@@ -111,7 +107,7 @@ words_are_fields (word ∷ words) h =
 ascii_append : (front back : List ℕ) → is_ascii front ≡ true → is_ascii back ≡ true → is_ascii (front ++ back) ≡ true
 ascii_append [] back e f = f
 ascii_append (byte ∷ bytes) back e f =
-    let tests = both (nat_lt byte 128) (is_ascii bytes) e in rw (tests.0, ascii_append bytes back tests.1 f) refl
+    let tests = and_parts (nat_lt byte 128) (is_ascii bytes) e in rw (tests.0, ascii_append bytes back tests.1 f) refl
 
 joined_ascii : (words : List (List ℕ)) → AreWords words → is_ascii (join_with_byte 32 words) ≡ true
 joined_ascii [] h = refl

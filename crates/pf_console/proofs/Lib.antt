@@ -9,3 +9,6 @@ pub mod Events
 pub mod Saying
 pub mod EventLines
 pub mod Issued
+pub mod Rotations
+pub mod Shown
+pub mod Counting

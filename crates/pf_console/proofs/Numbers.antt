@@ -1,8 +1,8 @@
 -- The number of the next command, by the greatest number that the map holds.
-use Rattle.std.proofs.Common.{◌≡◌, ℕ, zero, suc, ◌+◌, ◌<◌, ◌≤◌, Bool, true, false, if◌then◌else◌, None, refl, ap, sym, ◌∙◌, ⊎_elim, arith}
+use Rattle.std.proofs.Common.{◌≡◌, ℕ, zero, suc, ◌+◌, ◌<◌, ◌≤◌, Bool, true, false, if◌then◌else◌, None, refl, ap, ◌∙◌, ⊎_elim, arith}
 use Rattle.std.specs.Prelude.{IsSome, is_some}
 use Rattle.std.specs.FinMap.{get}
-use Rattle.std.proofs.lemmas.Bool.{cases_lt, true≢false}
+use Rattle.std.proofs.lemmas.Bool.{both_ways, cases_lt}
 use Rattle.pf_commands.specs.Merge.{Commands, name_at}
 use Rattle.pf_console.specs.Peer.{number_below, next_number}
 
@@ -11,9 +11,6 @@ none_below : (m : Commands) (tick player n : ℕ) → ((number : ℕ) → get m 
 unfolding number_below
 none_below m tick player zero none = refl
 none_below m tick player (suc n) none = rw (none n) (none_below m tick player n none)
-
-apart : (b : Bool) → b ≡ true → b ≡ false → ⊥
-apart b on off = true≢false (sym on ∙ off)
 
 one_below : (m : Commands) (tick player n g : ℕ) → g < n → IsSome (get m (name_at tick player g))
     → ((other : ℕ) → IsSome (get m (name_at tick player other)) → other ≤ g) → number_below m tick player n ≡ g + 1
@@ -27,7 +24,7 @@ one_below m tick player (suc n) g below held most =
           (λ less. one_below m tick player n g less held most)
           (λ more.
           let same : g ≡ n = omega arith in
-          absurd (apart (is_some (get m (name_at tick player g))) held (ap (λ (k : ℕ). is_some (get m (name_at tick player k))) same ∙ none)))
+          absurd (both_ways (is_some (get m (name_at tick player g))) (ap (λ (k : ℕ). is_some (get m (name_at tick player k))) same ∙ none) held))
           (cases_lt g n)
     ] refl
 
@@ -55,7 +52,7 @@ above_below m tick player (suc n) number below held =
           (λ less. above_below m tick player n number less held)
           (λ more.
           let same : number ≡ n = omega arith in
-          absurd (apart (is_some (get m (name_at tick player number))) held (ap (λ (k : ℕ). is_some (get m (name_at tick player k))) same ∙ none)))
+          absurd (both_ways (is_some (get m (name_at tick player number))) (ap (λ (k : ℕ). is_some (get m (name_at tick player k))) same ∙ none) held))
           (cases_lt number n)
     ] refl
 

@@ -5,6 +5,7 @@ use Rattle.std.specs.Str.{bytes_eq}
 use Rattle.pf_num.specs.Fx.{greatest}
 use Rattle.pf_text.specs.declared.fault.LineFault.{LineFault}
 use Rattle.pf_text.specs.declared.fault.LineFault.TheVariants.{BadLine}
+use Rattle.pf_text.specs.Fault.{◌>>=◌}
 use Rattle.pf_text.specs.Numbers.{whole_of, within}
 use Rattle.pf_console.specs.declared.event.Event.{Event}
 use Rattle.pf_commands.specs.declared.payload.Payload.TheVariants.{Push, Turn, Stop}
@@ -14,11 +15,6 @@ use Rattle.pf_console.specs.declared.grammar.EventWord.TheVariants as words
 use Rattle.pf_console.specs.declared.grammar.Kind.{Kind}
 use Rattle.pf_console.specs.declared.grammar.Kind.TheVariants as kinds
 use Rattle.pf_console.specs.Digits.{frame_of}
-
-infixl 10 ◌>>=◌
-abbrev pub ◌>>=◌ : {A B : Type 0} → Result A LineFault → (A → Result B LineFault) → Result B LineFault
-(Ok x) >>= f = f x
-(Err fault) >>= f = Err fault
 
 abbrev pub counted : Result ℤ LineFault → Result ℕ LineFault
 counted (Ok z) = Ok (unsigned_abs z)

@@ -52,7 +52,7 @@ number_below commands tick player (suc n) =
 abbrev pub next_number : Commands → ℕ → ℕ → ℕ
 next_number commands tick player = number_below commands tick player 65536
 
--- a number that was answered is the next one, and no answer says that all are taken
+-- a number that was answered is the next one, and no answer says that the greatest there can be is held
 abbrev pub NumberIs : Option ℕ → ℕ → Type 0
 NumberIs (Some number) next = number ≡ next
 NumberIs None next = next ≡ 65536

@@ -51,7 +51,7 @@ asleep b = record (stopped b) { timer = 0; awake = false }
 unfoldable pub rested : State → State
 rested b = if b.timer == 32 then asleep b else b
 
--- Activity: a body alone is simulated just where it is awake
+-- Activity: a body alone is simulated exactly where it is awake
 unfoldable pub body_step : Vec2 → State → State
 body_step pull b = if b.awake then rested (timed (moved (fallen pull b))) else b
 

@@ -61,3 +61,8 @@ CountsReads before result after = after ≡ before
 abbrev pub CountsWrites : ℕ → Result (Unit {0}) PlayFault → ℕ → Type 0
 CountsWrites before (Err Write) after = after ≡ before + 1
 CountsWrites before result after = after ≡ before
+
+-- a call that reads nothing has no fault of a reader
+abbrev pub ReadsNothing : Result (Unit {0}) PlayFault → Type 0
+ReadsNothing (Err Read) = ⊥
+ReadsNothing result = Unit {0}

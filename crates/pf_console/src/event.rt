@@ -48,7 +48,7 @@ pub enum Reply {
 pub enum Refusal {
     /// The peer would pass the last tick, 1,048,576.
     TickLimit,
-    /// All 65,536 numbers of the tick and player are taken, or one above them all is.
+    /// The peer holds a command of its own at this tick with the number 65,535, so none is left above the greatest.
     NumbersSpent,
     /// The frame spells no command.
     Frame(FrameFault),

@@ -1,7 +1,7 @@
 //! The fields of one frame, as a line.
 
 ghost use Rattle.std.specs.Prelude.{◌≡◌, ℕ, ◌+◌, ◌^◌, ◌<◌, List, Some};
-ghost use Rattle.pf_console.specs.Text.{CountsReads, CountsWrites};
+ghost use Rattle.pf_console.specs.Text.{CountsWrites, ReadsNothing};
 ghost use Rattle.pf_console.specs.FrameText.{Reads, digits_command, PrintsFrame};
 
 use crate::digits::frame;
@@ -28,7 +28,7 @@ pub fn frame_text<W: Sink>(alloc: Global, digits: &str, writer: &mut W) -> Resul
     requires { W.failures writer.old + 1 < 2 ^ 64 }
     ensures text { (before : List ℕ) → W.contents writer.old ≡ Some before
         → PrintsFrame digits.now before (W.contents writer.new) result }
-    ensures reads_nothing { (failures : ℕ) → CountsReads failures result failures }
+    ensures reads_nothing { ReadsNothing result }
     ensures writes_counted { CountsWrites (W.failures writer.old) result (W.failures writer.new) }
 {
     let command = read(alloc, digits.as_bytes())?;

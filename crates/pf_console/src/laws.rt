@@ -4,6 +4,7 @@ ghost use Rattle.std.specs.Prelude.{◌≡◌, ◌↔◌, ℕ, ◌+◌, ◌≤�
 ghost use Rattle.std.specs.FinMap.{get};
 ghost use Rattle.hex.specs.Hex.{encode_lower};
 ghost use Rattle.pf_text.specs.Driver.{answers};
+ghost use Rattle.pf_rot.specs.Laws.{IsAtMostOne};
 ghost use Rattle.pf_shapes.specs.Body.{State};
 ghost use Rattle.pf_shapes.specs.Scene.{IsSetting, Setting};
 ghost use Rattle.pf_commands.specs.declared.payload.Command.{Command};
@@ -11,9 +12,10 @@ ghost use Rattle.pf_commands.specs.declared.payload.Payload.{Payload};
 ghost use Rattle.pf_commands.specs.Frame.{IsFrameable, decode_of, spelling};
 ghost use Rattle.pf_commands.specs.Payload.{IsPayload};
 ghost use Rattle.pf_commands.specs.Name.{CommandName};
-ghost use Rattle.pf_commands.specs.Merge.{Commands, AreCommands, IsCommand, merge, name_at, one, payloads_at};
+ghost use Rattle.pf_commands.specs.Merge.{Commands, AreCommands, IsCommand, merge, name_at, one, payloads_at, put_all};
 ghost use Rattle.pf_console.specs.declared.event.Event.{Event};
-ghost use Rattle.pf_console.specs.declared.event.Reply.TheVariants.{Refused};
+ghost use Rattle.pf_console.specs.declared.event.Event.TheVariants.{Show};
+ghost use Rattle.pf_console.specs.declared.event.Reply.TheVariants.{Refused, Shown};
 ghost use Rattle.pf_console.specs.declared.event.Refusal.{Refusal};
 ghost use Rattle.pf_console.specs.declared.peer.Peer.{Peer};
 ghost use Rattle.pf_console.specs.declared.phase.Phase.TheVariants.{Playing};
@@ -23,6 +25,14 @@ ghost use Rattle.pf_console.specs.Digits.{frame_of};
 ghost use Rattle.pf_console.specs.Saying.{event_line, CanBeSaid};
 ghost use Rattle.pf_console.specs.Peer.{issuing, next_command, next_number, taking, reply_of, after, played, replies};
 ghost use Rattle.pf_console.specs.Simulation.{sim};
+
+/// After any list of events, a world that is shown, at a tick that was reached, is the simulation from tick zero of the
+/// commands that the peer held before and of those that the events brought, put together in whatever order they came.
+pub fn shown_worlds_are_simulated()
+    ensures { (peer : Peer) (events : List Event) (name tick : ℕ) → tick ≤ (played peer events).reached
+        → reply_of (played peer events) (Show name tick)
+        ≡ Shown name tick (sim peer.scene (put_all peer.commands (handed peer events)) tick) }
+{}
 
 /// Lines that each say an event are answered by the printed replies of the abstract session, and no fault; so are the
 /// lines of events.
@@ -49,6 +59,13 @@ pub fn sleepers_stay()
         → slice_get (sim scene commands tick) i ≡ Some body → body.awake ≡ false
         → ((t : ℕ) → tick ≤ t → t < tick + later → NoneFor i (payloads_at commands t))
         → slice_get (sim scene commands (tick + later)) i ≡ Some body }
+{}
+
+/// No rotation of a world has a part above 1, where none of the scene's starts has one: so the bounds of a body hold its
+/// shape in exact numbers too, at every tick.
+pub fn rotations_stay_at_most_one()
+    ensures { (scene : Setting) (commands : Commands) (tick : ℕ) → All (λ b. IsAtMostOne b.rot) scene.starts
+        → All (λ b. IsAtMostOne b.rot) (sim scene commands tick) }
 {}
 
 /// A refused event changes nothing, and so no later answer.

@@ -6,7 +6,7 @@ mod event;
 mod fault;
 mod frame;
 mod grammar;
-mod laws;
+pub mod laws;
 mod names;
 mod peer;
 mod phase;
@@ -18,13 +18,7 @@ mod simulation;
 
 pub use fault::{DigitsFault, PlayFault};
 pub use frame::frame_text;
-pub use laws::{
-    commands_change_later_worlds, event_lines_say_events, events_are_answered,
-    issued_commands_can_be_taken, numbers_follow_the_greatest, order_and_repeats_do_not_matter,
-    printed_frames_are_read, refused_events_change_nothing, same_commands_same_worlds,
-    sleepers_stay,
-};
-pub use reporting::finish;
+pub use reporting::{finish, report};
 pub use request::{Request, perform};
 pub use run::run_text;
 

@@ -8,7 +8,7 @@ use pf_shapes::Scene;
 use std::alloc::{AllocError, Global};
 
 /// The last tick that a peer may reach.
-pub const MAX_TICK: u32 = 1_048_576;
+const MAX_TICK: u32 = 1_048_576;
 
 /// The player whose commands the peer issues.
 const PLAYER: u8 = 0;

@@ -62,8 +62,7 @@ fn refused_line(number: u64, fault: SceneFault) -> ArrayString<LINE_ROOM>
     line
 }
 
-/// Answers the status that the program ends with, and writes what is to be said where that is a fault's. A writer that
-/// fails changes no status.
+/// Answers the status that the program ends with, 0 where there is no fault; of a fault it writes what is to be said.
 #[tactic(auto, using(pf_text::proofs::Taking::appends_none))]
 pub fn finish<W: Sink>(outcome: Result<(), PlayFault>, writer: &mut W) -> u8
     requires { W.failures writer.old + 1 < 2 ^ 64 }
@@ -77,8 +76,8 @@ pub fn finish<W: Sink>(outcome: Result<(), PlayFault>, writer: &mut W) -> u8
     }
 }
 
-/// Writes what is to be said of a fault, and answers its status.
-fn report<W: Sink>(fault: &PlayFault, writer: &mut W) -> u8
+/// Writes what is to be said of a fault, and answers its status. A writer that fails changes no status.
+pub fn report<W: Sink>(fault: &PlayFault, writer: &mut W) -> u8
     requires { W.failures writer.old + 1 < 2 ^ 64 }
     ensures status { result ≡ status_of fault.now }
     ensures text { Reports (W.failures writer.old) (W.failures writer.new)

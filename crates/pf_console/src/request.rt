@@ -2,7 +2,7 @@
 
 ghost use Rattle.std.specs.Prelude.{◌≡◌, ℕ, ◌+◌, ◌^◌, ◌<◌, List, Some};
 ghost use Rattle.pf_console.specs.Request.{Performs, Writes};
-ghost use Rattle.pf_console.specs.Text.{CountsReads, CountsWrites};
+ghost use Rattle.pf_console.specs.Text.{CountsReads, CountsWrites, ReadsNothing};
 
 use crate::fault::PlayFault;
 use crate::frame::frame_text;
@@ -25,7 +25,7 @@ pub enum Request<'a> {
 fn say<W: Sink>(text: &str, writer: &mut W) -> Result<(), PlayFault>
     requires { W.failures writer.old + 1 < 2 ^ 64 }
     ensures text { (before : List ℕ) → W.contents writer.old ≡ Some before → Writes text.now before (W.contents writer.new) result }
-    ensures reads_nothing { (failures : ℕ) → CountsReads failures result failures }
+    ensures reads_nothing { ReadsNothing result }
     ensures writes_counted { CountsWrites (W.failures writer.old) result (W.failures writer.new) }
 {
     match writer.write_all(text.as_bytes()) {
@@ -35,6 +35,7 @@ fn say<W: Sink>(text: &str, writer: &mut W) -> Result<(), PlayFault>
 }
 
 /// Does what a request asks for. A run reads the reader; the other requests leave it as it was.
+#[tactic(auto, using(crate::proofs::Counting::counts_nothing))]
 pub fn perform<R: Source, W: Sink>(
     alloc: Global,
     request: Request,

@@ -22,7 +22,7 @@ pub fn run_text<R: Source, W: Sink>(
 
     ensures text { (input before : List ℕ) → R.remaining reader.old ≡ Some input → W.contents writer.old ≡ Some before
         → Runs input (R.remaining reader.new) before (W.contents writer.new) result }
-    // A fault of the reader or the writer is answered just where it failed in this call.
+    // A fault of the reader or the writer is answered exactly where it failed in this call.
     ensures reads_counted { CountsReads (R.failures reader.old) result (R.failures reader.new) }
     ensures writes_counted { CountsWrites (W.failures writer.old) result (W.failures writer.new) }
 {

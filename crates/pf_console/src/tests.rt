@@ -1,6 +1,6 @@
 use crate::fault::{DigitsFault, PlayFault};
 use crate::laws;
-use crate::reporting::finish;
+use crate::reporting::{finish, report};
 use crate::request::{Request, perform};
 use crate::run::run_text;
 use pf_commands::FrameFault;
@@ -263,7 +263,7 @@ fn other_faults_have_their_texts(rt: HostRuntime) -> Result<(), Fail> {
     ];
     for (fault, status, expected) in rows {
         let mut said = Collected::new(rt.alloc());
-        assert_eq!(rt; finish(Err(fault), &mut said), status);
+        assert_eq!(rt; report(&fault, &mut said), status);
         if said.bytes().is_empty() {
             return Err(AllocError)?;
         }
@@ -408,6 +408,8 @@ fn a_writer_may_fail_at_each_call(rt: HostRuntime) -> Result<(), Fail> {
             assert_eq!(rt; finish(Err(PlayFault::Write), &mut closed), 3);
         }
     }
+    laws::shown_worlds_are_simulated();
+    laws::rotations_stay_at_most_one();
     laws::event_lines_say_events();
     laws::printed_frames_are_read();
     laws::events_are_answered();

@@ -10,8 +10,8 @@ use Rattle.pf_manifold.specs.declared.face.Face.{Face}
 use Rattle.pf_manifold.specs.declared.face.Face.TheVariants.{Right, Top, Left, Bottom}
 use Rattle.pf_manifold.specs.Face.{face_number}
 use Rattle.pf_manifold.specs.BoxCircle.{clamped, closest_point, face_distance, closer_face, closest_face}
-use Rattle.pf_shapes.specs.Laws.{IsInBox}
-use Rattle.pf_manifold.specs.PlaceLaws.{squared, IsClosest}
+use Rattle.pf_shapes.specs.Laws.{IsInBox, squared}
+use Rattle.pf_manifold.specs.PlaceLaws.{IsClosest}
 use Rattle.pf_manifold.proofs.Mirrors.{same_vector}
 use Rattle.pf_manifold.proofs.Comparisons.{is_below}
 use Rattle.pf_manifold.proofs.Touching.{not_above}

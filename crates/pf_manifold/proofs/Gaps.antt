@@ -10,8 +10,9 @@ use Rattle.pf_num.specs.Fx.{saturated, sum, difference, product}
 use Rattle.pf_num.proofs.Signs.{product_is}
 use Rattle.pf_rot.specs.Vector.{Vec2, minus, negated}
 use Rattle.pf_rot.specs.Rotation.{Pair, unrotated}
+use Rattle.pf_shapes.specs.Reach.{reach}
 use Rattle.pf_manifold.specs.Placed.{OrientedBox}
-use Rattle.pf_manifold.specs.Separation.{Frames, relative_rotation, frames_apart_by, frames_of, magnitudes, reach, face_separations, Separations, separations_of, has_gap}
+use Rattle.pf_manifold.specs.Separation.{Frames, relative_rotation, frames_apart_by, frames_of, magnitudes, reaches, face_separations, Separations, separations_of, has_gap}
 use Rattle.pf_manifold.specs.Boxes.{points_along, collide_boxes}
 use Rattle.pf_manifold.specs.PlaceLaws.{have_gap}
 use Rattle.pf_manifold.proofs.Mirrors.{difference-swap, magnitude-neg, opposite-neg, minus-swap}
@@ -94,14 +95,14 @@ magnitudes-negated : (v : Vec2) → magnitudes (negated v) ≡ magnitudes v
 unfolding magnitudes negated
 magnitudes-negated v = rw (magnitude-neg v.x, magnitude-neg v.y) refl
 
-reach-turned_back : (q : Pair) (half : Vec2) → reach (turned_back q) half ≡ reach q half
-unfolding reach
-reach-turned_back q half = rw (magnitude-neg q.s) refl
+reaches-turned_back : (q : Pair) (half : Vec2) → reaches (turned_back q) half ≡ reaches q half
+unfolding reaches reach
+reaches-turned_back q half = rw (magnitude-neg q.s) refl
 
 separations-back : (half offset : Vec2) (q : Pair) (other : Vec2)
     → face_separations half (negated offset) (turned_back q) other ≡ face_separations half offset q other
 unfolding face_separations
-separations-back half offset q other = rw (magnitudes-negated offset, reach-turned_back q other) refl
+separations-back half offset q other = rw (magnitudes-negated offset, reaches-turned_back q other) refl
 
 abbrev exchanged : Separations → Separations
 exchanged s = record { a = s.b; b = s.a }

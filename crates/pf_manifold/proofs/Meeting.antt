@@ -12,7 +12,7 @@ use Rattle.pf_rot.specs.Vector.{Vec2, minus, length_of}
 use Rattle.pf_shapes.specs.Fixture.{IsSize}
 use Rattle.pf_manifold.specs.Contact.{Contact}
 use Rattle.pf_manifold.specs.Circles.{circles_apart_by, collide_circles}
-use Rattle.pf_manifold.specs.PlaceLaws.{squared, distance_squared}
+use Rattle.pf_shapes.specs.Laws.{squared, distance_squared}
 use Rattle.pf_manifold.proofs.Closest.{squared_le}
 use Rattle.pf_manifold.proofs.Comparisons.{tests_above}
 use Rattle.pf_manifold.proofs.Touching.{not_above}

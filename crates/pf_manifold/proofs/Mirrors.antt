@@ -10,6 +10,7 @@ use Rattle.std.specs.Prelude.{int_lt, ◌==◌, if◌then◌else◌}
 use Rattle.pf_num.specs.Root.{whole_root}
 use Rattle.pf_num.specs.Round.{nearest, with_sign, is_opposite}
 use Rattle.pf_num.specs.Fx.{saturated, sum, difference, quotient}
+use Rattle.pf_num.proofs.Monotone.{saturated-odd}
 use Rattle.pf_num.proofs.Roots.{whole_root-meets}
 use Rattle.pf_num.proofs.Signs.{quotient_is, nearest-zero}
 use Rattle.pf_num.proofs.Signs.{is_negative-pos}
@@ -25,14 +26,10 @@ use Rattle.pf_manifold.specs.Laws.{IsMirrored}
 
 -- ---- numbers
 
-pub saturated-neg : (z : ℤ) → saturated (neg_ℤ z) ≡ neg_ℤ (saturated z)
-unfolding saturated
-saturated-neg z = omega (arith, ints, clamps)
-
 pub difference-swap : (a b : ℤ) → difference a b ≡ neg_ℤ (difference b a)
 unfolding difference
 difference-swap a b =
-    let e : a -ℤ b ≡ neg_ℤ (b -ℤ a) = omega (arith, ints) in rw e (saturated-neg (b -ℤ a))
+    let e : a -ℤ b ≡ neg_ℤ (b -ℤ a) = omega (arith, ints) in rw e (saturated-odd (b -ℤ a))
 
 sum_comm : (a b : ℤ) → sum a b ≡ sum b a
 unfolding sum saturated

@@ -1,5 +1,6 @@
 -- No point of two bodies has a separation above 0.
 use Rattle.std.proofs.Common.{◌≡◌, ℤ, pos, neg_ℤ, ◌≤ℤ◌, Bool, true, false, ◌&&◌, [], ◌∷◌, Option, Some, None, refl, arith}
+use Rattle.std.proofs.lemmas.Bool.{and_parts}
 use Rattle.std.proofs.lemmas.Bool.Decides.{nat_tests, Decides-int_eq}
 use Rattle.std.proofs.lemmas.Int.{ints, clamps}
 use Rattle.std.proofs.lemmas.List.Elements.{All-nil, All-cons}
@@ -88,15 +89,10 @@ outside_touches : (half d closest e : Vec2) (r : ℤ) → IfTouching (outside_co
 unfolding outside_contact outside_point
 outside_touches half d closest e r = kept_where_near r (length_of e) (outside_point half r d closest e) refl
 
-both_true : (s t : Bool) → (s && t) ≡ true → (s ≡ true) × (t ≡ true)
-both_true true true e = (refl, refl)
-both_true true false e = absurd (cc)
-both_true false t e = absurd (cc)
-
 is_inside : (half d : Vec2) → pos 0 ≤ℤ half.x → pos 0 ≤ℤ half.y
     → (int_eq d.x (clamped half.x d.x) && int_eq d.y (clamped half.y d.y)) ≡ true → IsInBox half d
 is_inside half d sx sy test =
-    let both = both_true (int_eq d.x (clamped half.x d.x)) (int_eq d.y (clamped half.y d.y)) test in
+    let both = and_parts (int_eq d.x (clamped half.x d.x)) (int_eq d.y (clamped half.y d.y)) test in
     let ex : d.x ≡ clamped half.x d.x = (Decides-int_eq d.x (clamped half.x d.x)).0 both.0 in
     let ey : d.y ≡ clamped half.y d.y = (Decides-int_eq d.y (clamped half.y d.y)).0 both.1 in
     record {

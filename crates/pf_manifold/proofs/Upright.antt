@@ -9,12 +9,14 @@ use Rattle.std.specs.Prelude.{int_lt}
 use Rattle.pf_num.specs.Round.{IsNear, nearest, near}
 use Rattle.pf_num.specs.Fx.{one, saturated, sum, difference, product, IsRaw}
 use Rattle.pf_num.proofs.Nearest.{meets, unique}
+use Rattle.pf_num.proofs.Range.{difference-raw}
 use Rattle.pf_rot.specs.Vector.{Vec2, minus}
 use Rattle.pf_rot.specs.Rotation.{upright, unrotated}
 use Rattle.pf_shapes.specs.declared.fixture.Shape.TheVariants.{Box}
 use Rattle.pf_shapes.specs.Fixture.{IsSize, HasSize}
+use Rattle.pf_shapes.specs.Reach.{reach}
 use Rattle.pf_manifold.specs.Placed.{OrientedBox}
-use Rattle.pf_manifold.specs.Separation.{Frames, relative_rotation, frames_apart_by, frames_of, magnitudes, reach, face_separations, separations_of, has_gap}
+use Rattle.pf_manifold.specs.Separation.{Frames, relative_rotation, frames_apart_by, frames_of, magnitudes, reaches, face_separations, separations_of, has_gap}
 use Rattle.pf_manifold.specs.PlaceLaws.{have_gap, DoOverlap}
 use Rattle.pf_manifold.proofs.Gaps.{product-zero}
 use Rattle.pf_manifold.proofs.Comparisons.{tests_above}
@@ -34,13 +36,13 @@ itself_is_near z = record {
 near_itself : (z : ℤ) → near (z *ℤ one) one ≡ z
 near_itself z = unique (z *ℤ one) one (near (z *ℤ one) one) z (omega arith) (meets (z *ℤ one) one (omega arith)) (itself_is_near z)
 
-saturated-raw : (z : ℤ) → IsRaw z → saturated z ≡ z
+saturated-itself : (z : ℤ) → IsRaw z → saturated z ≡ z
 unfolding saturated
-saturated-raw z h = omega (arith, ints, clamps)
+saturated-itself z h = omega (arith, ints, clamps)
 
 product-one : (z : ℤ) → IsRaw z → product one z ≡ z
 unfolding product
-product-one z h = rw (*ℤ_comm one z, near_itself z) (saturated-raw z h)
+product-one z h = rw (*ℤ_comm one z, near_itself z) (saturated-itself z h)
 
 -- a raw number plus or less 0
 sum-zero : (z : ℤ) → IsRaw z → sum z (pos 0) ≡ z
@@ -54,10 +56,6 @@ zero-sum z h = omega (arith, ints, clamps)
 difference-zero : (z : ℤ) → IsRaw z → difference z (pos 0) ≡ z
 unfolding difference saturated
 difference-zero z h = omega (arith, ints, clamps)
-
-difference_is_raw : (x y : ℤ) → IsRaw (difference x y)
-unfolding difference saturated
-difference_is_raw x y = omega (arith, ints, clamps)
 
 -- ---- frames
 
@@ -77,12 +75,12 @@ as_it_lies offset = record { in_a = offset; in_b = offset; relative = upright }
 frames-upright : (a b : OrientedBox) → a.rot ≡ upright → b.rot ≡ upright → frames_of a b ≡ as_it_lies (minus b.place a.place)
 unfolding frames_of frames_apart_by minus
 frames-upright a b ea eb =
-    let e = unrotated-upright (minus b.place a.place) (difference_is_raw b.place.x a.place.x) (difference_is_raw b.place.y a.place.y) in
+    let e = unrotated-upright (minus b.place a.place) (difference-raw b.place.x a.place.x) (difference-raw b.place.y a.place.y) in
     rw (ea, eb, e, relative-upright) refl
 
-reach-upright : (half : Vec2) → IsRaw half.x → IsRaw half.y → reach upright half ≡ half
-unfolding reach
-reach-upright half hx hy =
+reaches-upright : (half : Vec2) → IsRaw half.x → IsRaw half.y → reaches upright half ≡ half
+unfolding reaches reach
+reaches-upright half hx hy =
     rw (product-one half.x hx, product-one half.y hy, product-zero half.x, product-zero half.y, sum-zero half.x hx, zero-sum half.y hy) refl
 
 -- ---- separations
@@ -95,7 +93,7 @@ separations-upright : (half offset other : Vec2) → IsRaw other.x → IsRaw oth
     → face_separations half offset upright other
     ≡ record { x = apart_along half.x other.x offset.x; y = apart_along half.y other.y offset.y }
 unfolding face_separations magnitudes minus
-separations-upright half offset other hx hy = rw (reach-upright other hx hy) refl
+separations-upright half offset other hx hy = rw (reaches-upright other hx hy) refl
 
 near_enough : (h k x y : ℤ) → IsSize h → IsSize k
     → apart_along h k (difference y x) ≤ℤ pos 0 → unsigned_abs (y -ℤ x) ≤ unsigned_abs h + unsigned_abs k

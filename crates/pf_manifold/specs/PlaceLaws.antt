@@ -1,22 +1,14 @@
 -- What laws of places, edges and boxes speak of, in exact whole numbers of raw units.
-use Rattle.std.specs.Prelude.{ℕ, ◌+◌, ◌*◌, ◌≤◌, ℤ, ◌-ℤ◌, neg_ℤ, ◌≤ℤ◌, ◌<ℤ◌, Bool}
+use Rattle.std.specs.Prelude.{◌+◌, ◌≤◌, ℤ, ◌-ℤ◌, neg_ℤ, ◌<ℤ◌, Bool}
 use Rattle.std.specs.Int.RustNames.{unsigned_abs}
 use Rattle.pf_rot.specs.Vector.{Vec2}
 use Rattle.pf_shapes.specs.Fixture.{IsWithin}
-use Rattle.pf_shapes.specs.Laws.{IsInBox}
+use Rattle.pf_shapes.specs.Laws.{IsInBox, distance_squared}
 use Rattle.pf_manifold.specs.Incident.{ClipVertex, Segment}
 use Rattle.pf_manifold.specs.Placed.{OrientedBox}
 use Rattle.pf_manifold.specs.Separation.{frames_of, separations_of, has_gap}
 
 -- ---- closest points
-
--- the square of a number
-abbrev pub squared : ℕ → ℕ
-squared n = n * n
-
--- the square of the exact distance of two places
-abbrev pub distance_squared : Vec2 → Vec2 → ℕ
-distance_squared p q = squared (unsigned_abs (p.x -ℤ q.x)) + squared (unsigned_abs (p.y -ℤ q.y))
 
 -- p is in the box, and no place in the box is closer to d
 pub record IsClosest (half d p : Vec2) : Type 0 where

@@ -1,10 +1,10 @@
 -- Separating axes of two boxes, as Box2D-Lite's Collide.cpp: how far apart the boxes are along the normals of their
 -- faces, and the best of these axes. What lies above 0 is a gap.
 use Rattle.std.specs.Prelude.{ℤ, pos, Bool, ◌||◌, int_lt, if◌then◌else◌}
-use Rattle.std.specs.Int.RustNames.{unsigned_abs}
 use Rattle.pf_num.specs.Fx.{sum, difference, product}
 use Rattle.pf_rot.specs.Vector.{Vec2, minus}
 use Rattle.pf_rot.specs.Rotation.{Pair, unrotated}
+use Rattle.pf_shapes.specs.Reach.{magnitude, reach}
 use Rattle.pf_manifold.specs.declared.separation.Axis.{Axis}
 use Rattle.pf_manifold.specs.declared.separation.Axis.TheVariants.{AX, AY, BX, BY}
 use Rattle.pf_manifold.specs.Placed.{OrientedBox}
@@ -36,18 +36,15 @@ frames_of a b = frames_apart_by a.rot b.rot (minus b.place a.place)
 
 -- each part without its sign
 unfoldable pub magnitudes : Vec2 → Vec2
-magnitudes v = record { x = pos (unsigned_abs v.x); y = pos (unsigned_abs v.y) }
+magnitudes v = record { x = magnitude v.x; y = magnitude v.y }
 
 -- how far a box of these half extents, turned by q, reaches from its centre along the axes
-unfoldable pub reach : Pair → Vec2 → Vec2
-reach q half = record {
-  x = sum (product (pos (unsigned_abs q.c)) half.x) (product (pos (unsigned_abs q.s)) half.y);
-  y = sum (product (pos (unsigned_abs q.s)) half.x) (product (pos (unsigned_abs q.c)) half.y);
-}
+unfoldable pub reaches : Pair → Vec2 → Vec2
+reaches q half = record { x = reach q.c half.x q.s half.y; y = reach q.s half.x q.c half.y }
 
 -- how far the other box, turned by q and off by this offset, is from the faces of a box on its two axes
 unfoldable pub face_separations : Vec2 → Vec2 → Pair → Vec2 → Vec2
-face_separations half offset q other = minus (minus (magnitudes offset) half) (reach q other)
+face_separations half offset q other = minus (minus (magnitudes offset) half) (reaches q other)
 
 -- the separations along the axes of either box
 pub record Separations : Type 0 where

@@ -74,7 +74,7 @@ fn clipped_high(s: Segment, limit: Fx) -> Option<Segment>
     )
 }
 
-/// The part of the segment in front of a face that is this far to either side.
+/// The part of the segment within the width of a face that is this far to either side.
 #[inline]
 #[tactic(auto, unfolding(crate::specs::Clip::clipped))]
 pub fn clipped(s: Segment, side: Fx) -> Option<Segment>

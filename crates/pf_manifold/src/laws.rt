@@ -6,7 +6,7 @@ ghost use Rattle.pf_rot.specs.Vector.{Vec2};
 ghost use Rattle.pf_rot.specs.Rotation.{upright};
 ghost use Rattle.pf_shapes.specs.declared.fixture.Shape.TheVariants.{Circle, Box};
 ghost use Rattle.pf_shapes.specs.Fixture.{IsSize, HasSize};
-ghost use Rattle.pf_shapes.specs.Laws.{IsInBox};
+ghost use Rattle.pf_shapes.specs.Laws.{IsInBox, distance_squared, squared};
 ghost use Rattle.pf_manifold.specs.declared.face.Face.{Face};
 ghost use Rattle.pf_manifold.specs.Placed.{PlacedShape, OrientedBox};
 ghost use Rattle.pf_manifold.specs.Face.{face_number};
@@ -17,7 +17,7 @@ ghost use Rattle.pf_manifold.specs.Clip.{clipped};
 ghost use Rattle.pf_manifold.specs.Boxes.{collide_boxes};
 ghost use Rattle.pf_manifold.specs.Collide.{collide};
 ghost use Rattle.pf_manifold.specs.Laws.{HaveAscendingFeatures, HaveDifferentFeatures, IsMirrored, IsTouching};
-ghost use Rattle.pf_manifold.specs.PlaceLaws.{IsClosest, HasEndsWithin, HasEndsBelow, HasEndsAbove, squared, distance_squared, have_gap, DoOverlap};
+ghost use Rattle.pf_manifold.specs.PlaceLaws.{IsClosest, HasEndsWithin, HasEndsBelow, HasEndsAbove, have_gap, DoOverlap};
 
 /// Two bodies have at most two points, in ascending order of features, which are different.
 pub fn features_ascend()

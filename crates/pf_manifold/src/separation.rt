@@ -1,11 +1,12 @@
 //! Separating axes of two boxes, as Box2D-Lite's Collide.cpp.
 
 ghost use Rattle.std.specs.Prelude.{◌≡◌};
-ghost use Rattle.pf_manifold.specs.Separation.{Frames as FramesOf, Separations as SeparationsOf, Candidate as AxisAndSeparation, relative_rotation, frames_apart_by, frames_of, magnitudes, reach, face_separations, separations_of, has_gap, threshold, better, best_axis};
+ghost use Rattle.pf_manifold.specs.Separation.{Frames as FramesOf, Separations as SeparationsOf, Candidate as AxisAndSeparation, relative_rotation, frames_apart_by, frames_of, magnitudes, reaches, face_separations, separations_of, has_gap, threshold, better, best_axis};
 
 use crate::placed::PlacedBox;
 use pf_num::Fx;
 use pf_rot::{Rot, V2};
+use pf_shapes::reach;
 use std::marker::Model;
 
 /// The axes that may separate two boxes: the normals of the faces of `a` and of `b`.
@@ -115,14 +116,13 @@ fn magnitudes(v: V2) -> V2
 
 /// How far a box of these half extents, turned by `q`, reaches from its centre along the axes.
 #[inline]
-#[tactic(auto, unfolding(crate::specs::Separation::reach))]
-fn reach(q: Rot, half: V2) -> V2
-    ensures { result ≡ reach q half }
+#[tactic(auto, unfolding(crate::specs::Separation::reaches))]
+fn reaches(q: Rot, half: V2) -> V2
+    ensures { result ≡ reaches q half }
 {
-    let (c, s) = (q.c.abs(), q.s.abs());
     V2 {
-        x: c.mul(half.x).add(s.mul(half.y)),
-        y: s.mul(half.x).add(c.mul(half.y)),
+        x: reach(q.c, half.x, q.s, half.y),
+        y: reach(q.s, half.x, q.c, half.y),
     }
 }
 
@@ -132,7 +132,7 @@ fn reach(q: Rot, half: V2) -> V2
 fn face_separations(half: V2, offset: V2, q: Rot, other: V2) -> V2
     ensures { result ≡ face_separations half offset q other }
 {
-    magnitudes(offset).sub(half).sub(reach(q, other))
+    magnitudes(offset).sub(half).sub(reaches(q, other))
 }
 
 /// The separations of boxes of half extents `a` and `b`.

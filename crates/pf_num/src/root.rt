@@ -1,4 +1,4 @@
-//! Whole square roots: a guess by Newton's method that is checked, and a slow sure search behind it.
+//! Whole square roots: a guess by Newton's method that is checked, and std's slower root behind it.
 
 ghost use Rattle.std.specs.Prelude.{◌≡◌, ◌≤◌, ◌<◌, ◌*◌, ◌^◌, ◌↔◌, IsTrue};
 ghost use Rattle.pf_num.specs.Root.{IsRoot, whole_root};

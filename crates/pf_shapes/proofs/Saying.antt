@@ -1,28 +1,27 @@
 -- The fields that say a body, or gravity, are read as they are meant.
-use Rattle.std.proofs.Common.{◌≡◌, ℕ, ◌<◌, ◌^◌, ℤ, pos, neg_ℤ, ◌≤ℤ◌, Bool, true, false, ◌&&◌, ◌==◌, ◌⊎◌, ⊎_elim, List, [], ◌∷◌, length, Option, Some, None, Result, Ok, Err, refl, ap, sym, ◌∙◌, arith, if◌then◌else◌, nat_lt}
-use Rattle.std.specs.Prelude.{int_le, codes, decimal, IfSome}
+use Rattle.std.proofs.Common.{◌≡◌, ℕ, ◌<◌, ◌^◌, ℤ, pos, neg_ℤ, ◌≤ℤ◌, Bool, true, false, ◌&&◌, ⊎_elim, List, [], ◌∷◌, length, Option, Some, None, Ok, refl, ap, sym, ◌∙◌, arith, nat_lt}
+use Rattle.std.specs.Prelude.{int_le, codes, decimal}
 use Rattle.std.specs.Fmt.{signed_decimal}
 use Rattle.std.specs.Int.RustNames.{unsigned_abs}
 use Rattle.std.specs.Str.{bytes_eq}
 use Rattle.std.proofs.lemmas.Bool.Decides.{nat_tests}
 use Rattle.std.proofs.lemmas.Fmt.{decimal_digit}
 use Rattle.std.proofs.lemmas.Int.{ints}
+use Rattle.std.proofs.lemmas.Option.{same_Some, none-some}
 use Rattle.std.proofs.lemmas.Slice.Eq.{bytes_eq-Decides}
-use Rattle.pf_text.specs.declared.numbers.Spelled.TheVariants.{Within, Outside}
+use Rattle.pf_text.specs.declared.numbers.Spelled.TheVariants.{Within}
 use Rattle.pf_text.specs.Numbers.{natural_of, whole_of, spelled}
 use Rattle.pf_text.proofs.Spelling.{whole-signed_decimal}
 use Rattle.pf_rot.specs.Vector.{Vec2}
 use Rattle.pf_rot.specs.Rotation.{Pair, upright, unit}
 use Rattle.pf_shapes.specs.declared.fault.SceneFault.{SceneFault}
-use Rattle.pf_shapes.specs.declared.fault.SceneFault.TheVariants.{BadNumber, BadMass, BadSize, TooMany, BadLine}
+use Rattle.pf_shapes.specs.declared.fault.SceneFault.TheVariants.{BadNumber, BadMass, BadSize}
 use Rattle.pf_shapes.specs.declared.fixture.Shape.{Shape}
 use Rattle.pf_shapes.specs.declared.fixture.Shape.TheVariants.{Circle, Box}
-use Rattle.pf_shapes.specs.declared.words.BodyWord.{BodyWord}
-use Rattle.pf_shapes.specs.declared.words.BodyWord.TheVariants as bodies
 use Rattle.pf_shapes.specs.Body.{start_of}
-use Rattle.pf_shapes.specs.Fixture.{FixtureDef, IsFixture, HasSize, IsSize, IsMass, IsOwner, IsWithin}
+use Rattle.pf_shapes.specs.Fixture.{FixtureDef, IsFixture, IsSize, IsMass, IsOwner, IsWithin}
 use Rattle.pf_shapes.specs.Scene.{Setting, empty_setting, with_body}
-use Rattle.pf_shapes.specs.SceneText.{named, number_of, acceleration_of, coordinate_of, direction_of, size_of, friction_of, mass_of, owner_of, player_of, gravity_of, place_of, rotation_of, circle_fixture, box_fixture, upright_at, turned_at, started, circle_of, box_of, so_far, gravity_line, body_added, line_of}
+use Rattle.pf_shapes.specs.SceneText.{named, number_of, acceleration_of, coordinate_of, direction_of, size_of, friction_of, mass_of, owner_of, gravity_of, place_of, rotation_of, circle_fixture, box_fixture, upright_at, turned_at, started, circle_of, box_of, so_far, gravity_line, line_of}
 use Rattle.pf_shapes.specs.Saying.{owner_field, shape_word, shape_fields, body_fields, start_rotation, gravity_fields, IsGravity, IsStart, IsDirection}
 
 -- ---- numbers
@@ -70,12 +69,6 @@ minus_is_none : whole_of (codes "-") ≡ None
 unfolding whole_of natural_of
 minus_is_none = refl
 
-same_number : (x y : ℤ) → Some x ≡ Some y → x ≡ y
-same_number x y e = cc
-
-no_number : (x : ℤ) → None ≡ Some x → ⊥
-no_number x e = cc
-
 not_zero : (z : ℤ) → pos 1048576 ≤ℤ z → pos 0 ≡ z → ⊥
 not_zero z h e = omega (arith, ints, h, e)
 
@@ -84,10 +77,10 @@ read_mass z h =
     ⊎_elim
     (λ (none : z ≡ pos 0). rw (none, zero_text) refl)
     (λ (some : IsWithin (pos 1048576) (pos 17179869184) z).
-      let small : unsigned_abs z < 2 ^ 64 = (let l = some.0 in let k = some.1 in omega (arith, ints)) in
-      let word : bytes_eq (signed_decimal z) (codes "0") ≡ false =
-      differs z (codes "0") small (λ e. not_zero z some.0 (same_number (pos 0) z (sym zero_is ∙ e))) in
-      rw word (read_number BadMass _ _ z small some))
+    let small : unsigned_abs z < 2 ^ 64 = (let l = some.0 in let k = some.1 in omega (arith, ints)) in
+    let word : bytes_eq (signed_decimal z) (codes "0") ≡ false =
+    differs z (codes "0") small (λ e. not_zero z some.0 (same_Some (pos 0) z (sym zero_is ∙ e))) in
+    rw word (read_number BadMass _ _ z small some))
     h
 
 read_owner : (owner : Option ℕ) → IsOwner owner → owner_of (owner_field owner) ≡ Ok owner
@@ -95,7 +88,7 @@ read_owner None h = refl
 read_owner (Some player) h =
     let small : unsigned_abs (pos player) < 2 ^ 64 = omega (arith, h) in
     let word : bytes_eq (signed_decimal (pos player)) (codes "-") ≡ false =
-    differs (pos player) (codes "-") small (λ e. no_number (pos player) (sym minus_is_none ∙ e)) in
+    differs (pos player) (codes "-") small (λ e. none-some (pos player) (sym minus_is_none ∙ e)) in
     let within : IsWithin (pos 0) (pos 7) (pos player) = (omega (arith, ints), omega (arith, ints, h)) in
     rw (word, read_number BadNumber (pos 0) (pos 7) (pos player) small within) refl
 
@@ -112,14 +105,24 @@ read_circle f r place e h at =
 
 read_box : (f : FixtureDef) (hx hy : ℤ) (place : Vec2) (to : Pair) → f.shape ≡ Box hx hy → IsFixture f → IsStart place → IsDirection to
     → box_of (owner_field f.owner ∷ signed_decimal f.mass ∷ signed_decimal f.friction ∷ signed_decimal hx ∷ signed_decimal hy ∷ signed_decimal place.x
-      ∷ signed_decimal place.y ∷ signed_decimal to.c ∷ signed_decimal to.s ∷ [])
+    ∷ signed_decimal place.y ∷ signed_decimal to.c ∷ signed_decimal to.s ∷ [])
     ≡ Ok (f, start_of f place (unit to.c to.s))
 unfolding box_of started box_fixture turned_at place_of rotation_of
 read_box f hx hy place to e h at facing =
     let size : IsSize hx × IsSize hy = rw e at h.size in
     let same : record { shape = Box hx hy; mass = f.mass; friction = f.friction; owner = f.owner } ≡ f = rw (sym e) refl in
-    rw (read_owner f.owner h.owner, read_mass f.mass h.mass, read_friction f.friction h.friction, read_size hx size.0, read_size hy size.1,
-      read_coordinate place.x at.x, read_coordinate place.y at.y, read_direction to.c facing.c, read_direction to.s facing.s, same) refl
+    rw (
+      read_owner f.owner h.owner,
+      read_mass f.mass h.mass,
+      read_friction f.friction h.friction,
+      read_size hx size.0,
+      read_size hy size.1,
+      read_coordinate place.x at.x,
+      read_coordinate place.y at.y,
+      read_direction to.c facing.c,
+      read_direction to.s facing.s,
+      same,
+    ) refl
 
 -- ---- lines
 
@@ -139,7 +142,7 @@ read_body most s f place to room h at facing = by f.shape refl
 
     by : (shape : Shape) → f.shape ≡ shape
         → line_of (record { most = most; scene = Some s })
-          (shape_word shape ∷ owner_field f.owner ∷ signed_decimal f.mass ∷ signed_decimal f.friction ∷ shape_fields shape place to)
-          ≡ Ok (so_far most (with_body s f (start_of f place (start_rotation shape to))))
+        (shape_word shape ∷ owner_field f.owner ∷ signed_decimal f.mass ∷ signed_decimal f.friction ∷ shape_fields shape place to)
+        ≡ Ok (so_far most (with_body s f (start_of f place (start_rotation shape to))))
     by (Circle r) e = rw (few, read_circle f r place e h at) refl
     by (Box hx hy) e = rw (few, read_box f hx hy place to e h at facing) refl

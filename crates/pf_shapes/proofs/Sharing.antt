@@ -1,5 +1,6 @@
 -- Spans that have a place in common overlap, and upright spans that overlap have one: the greater of the low ends.
-use Rattle.std.proofs.Common.{◌≡◌, ℤ, Bool, true, false, ◌&&◌, refl, sym, arith, ◌≤ℤ◌, true≢false}
+use Rattle.std.proofs.Common.{◌≡◌, ℤ, true, refl, arith, ◌≤ℤ◌}
+use Rattle.std.proofs.lemmas.Bool.{and_parts}
 use Rattle.std.proofs.lemmas.Int.{ints, clamps}
 use Rattle.std.specs.Int.{int_max}
 use Rattle.pf_rot.specs.Vector.{Vec2}
@@ -17,11 +18,6 @@ axis_shares low high other_low other_high a b t =
     let fact : (low ≤ℤ other_high) × (other_low ≤ℤ high) = grind (arith, ints) in
     (omega (arith, ints, clamps), omega (arith, ints, clamps), omega (arith, ints, clamps), omega (arith, ints, clamps))
 
-both : (x y : Bool) → x && y ≡ true → (x ≡ true) × (y ≡ true)
-both true true e = (refl, refl)
-both true false e = (refl, e)
-both false y e = (e, absurd (true≢false (sym e)))
-
 pub shared : (a b : Span) (p : Vec2) → IsInSpan a p → IsInSpan b p → overlaps a b ≡ true
 unfolding overlaps
 shared a b p ha hb =
@@ -32,7 +28,7 @@ shared a b p ha hb =
 pub found : (a b : Span) → IsUpright a → IsUpright b → overlaps a b ≡ true → (p : Vec2) × IsInSpan a p × IsInSpan b p
 unfolding overlaps
 found a b ha hb t =
-    let axes = both (touches a.low.x a.high.x b.low.x b.high.x) (touches a.low.y a.high.y b.low.y b.high.y) t in
+    let axes = and_parts (touches a.low.x a.high.x b.low.x b.high.x) (touches a.low.y a.high.y b.low.y b.high.y) t in
     let x = axis_shares a.low.x a.high.x b.low.x b.high.x ha.x hb.x axes.0 in
     let y = axis_shares a.low.y a.high.y b.low.y b.high.y ha.y hb.y axes.1 in (
       record { x = int_max a.low.x b.low.x; y = int_max a.low.y b.low.y },

@@ -1,5 +1,5 @@
 -- Words of the laws of bounds: which places a shape covers, and which a span contains.
-use Rattle.std.specs.Prelude.{◌≡◌, ◌+◌, ◌*◌, ◌≤◌, ℤ, pos, neg_ℤ, ◌+ℤ◌, ◌-ℤ◌, ◌*ℤ◌, ◌≤ℤ◌}
+use Rattle.std.specs.Prelude.{◌≡◌, ℕ, ◌+◌, ◌*◌, ◌≤◌, ℤ, pos, neg_ℤ, ◌+ℤ◌, ◌-ℤ◌, ◌*ℤ◌, ◌≤ℤ◌}
 use Rattle.std.specs.Int.RustNames.{unsigned_abs}
 use Rattle.pf_num.specs.Fx.{one, IsRaw}
 use Rattle.pf_rot.specs.Vector.{Vec2, plus}
@@ -16,9 +16,17 @@ pub record IsInBox (half p : Vec2) : Type 0 where
   pub below : neg_ℤ half.y ≤ℤ p.y
   pub above : p.y ≤ℤ half.y
 
+-- the square of a number
+abbrev pub squared : ℕ → ℕ
+squared n = n * n
+
+-- the square of the exact distance of two places
+abbrev pub distance_squared : Vec2 → Vec2 → ℕ
+distance_squared p q = squared (unsigned_abs (p.x -ℤ q.x)) + squared (unsigned_abs (p.y -ℤ q.y))
+
 -- a place is no farther from the centre than r, by the exact squares
 pub record IsInCircle (r : ℤ) (centre p : Vec2) : Type 0 where
-  pub near : unsigned_abs (p.x -ℤ centre.x) * unsigned_abs (p.x -ℤ centre.x) + unsigned_abs (p.y -ℤ centre.y) * unsigned_abs (p.y -ℤ centre.y) ≤ unsigned_abs r * unsigned_abs r
+  pub near : distance_squared p centre ≤ squared (unsigned_abs r)
 
 -- a place is between the ends on both axes
 pub record IsInSpan (s : Span) (p : Vec2) : Type 0 where

@@ -7,6 +7,7 @@ use Rattle.pf_text.specs.declared.numbers.Spelled.{Spelled}
 use Rattle.pf_text.specs.declared.numbers.Spelled.TheVariants.{Within, Outside, Misspelt}
 use Rattle.pf_text.specs.declared.driver.TakeRefusal.{TakeRefusal}
 use Rattle.pf_text.specs.declared.driver.TakeRefusal.TheVariants as refusals
+use Rattle.pf_text.specs.Fault.{◌>>=◌}
 use Rattle.pf_text.specs.Numbers.{whole_of, spelled}
 use Rattle.pf_rot.specs.Vector.{Vec2}
 use Rattle.pf_rot.specs.Rotation.{Pair, upright, unit}
@@ -23,11 +24,6 @@ use Rattle.pf_shapes.specs.declared.reader.Progress.TheVariants.{More, Ended}
 use Rattle.pf_shapes.specs.Body.{State, start_of}
 use Rattle.pf_shapes.specs.Reader.{Reader}
 use Rattle.pf_shapes.specs.Scene.{Setting, empty_setting, with_body}
-
-infixl 10 ◌>>=◌
-abbrev pub ◌>>=◌ : {A B : Type 0} → Result A SceneFault → (A → Result B SceneFault) → Result B SceneFault
-(Ok x) >>= f = f x
-(Err fault) >>= f = Err fault
 
 -- what a function gave is what the definition reads, unless memory ran out
 abbrev pub Reads : {X F : Type 0} → Result X (TakeRefusal F) → Result X F → Type 0

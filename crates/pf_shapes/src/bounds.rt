@@ -30,9 +30,11 @@ impl Model for Bounds {
     ghost inverse = { λ b. record { low = b.low; high = b.high; fixed = b.fixed } };
 }
 
-/// How far a box reaches along an axis, where its sides make these cosines with that axis.
+/// How far a box of these half extents reaches from its centre along an axis, where its sides make these cosines with that
+/// axis. All are in units of 2^-24.
+#[inline]
 #[tactic(auto, unfolding(crate::specs::Reach::reach))]
-fn reach(cosine_x: Fx, hx: Fx, cosine_y: Fx, hy: Fx) -> Fx
+pub fn reach(cosine_x: Fx, hx: Fx, cosine_y: Fx, hy: Fx) -> Fx
     ensures { result ≡ reach cosine_x hx cosine_y hy }
 {
     cosine_x.abs().mul(hx).add(cosine_y.abs().mul(hy))

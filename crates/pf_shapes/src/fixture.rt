@@ -203,21 +203,21 @@ impl Fixture {
         self.mass == Fx::ZERO
     }
 
-    /// 1 / mass, and 0 where the body is static.
+    /// 1 / mass in units of 2^-24, and 0 where the body is static.
     pub fn inverse_mass(&self) -> Fx
         ensures { result ≡ inverse_mass self.now }
     {
         self.inverse_mass
     }
 
-    /// 1 / inertia, and 0 where the body is static.
+    /// 1 / inertia in units of 2^-24, and 0 where the body is static.
     pub fn inverse_inertia(&self) -> Fx
         ensures { result ≡ inverse_inertia self.now }
     {
         self.inverse_inertia
     }
 
-    /// The coefficient of friction.
+    /// The coefficient of friction, in units of 2^-24.
     pub fn friction(&self) -> Fx
         ensures { result ≡ self.now.friction }
     {

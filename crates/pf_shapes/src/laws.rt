@@ -16,14 +16,14 @@ ghost use Rattle.pf_shapes.specs.SceneText.{line_of, so_far};
 
 use crate::fixture::Shape;
 
-/// The lines of gravity and of bodies, with their numbers in range, are read as they are meant.
+/// The fields that say gravity, or a body that the scene has room for, are read as that, where their numbers are in range.
 pub fn scene_lines_are_read()
     ensures gravity { (most : ℕ) (g : Vec2) → IsGravity g
         → line_of (record { most = most; scene = None }) (gravity_fields g) ≡ Ok (so_far most (empty_setting g)) }
     ensures body { (most : ℕ) (s : Setting) (f : FixtureDef) (place : Vec2) (to : Pair) → length s.fixtures < most
         → IsFixture f → IsStart place → IsDirection to
         → line_of (record { most = most; scene = Some s }) (body_fields f place to)
-            ≡ Ok (so_far most (with_body s f (start_of f place (start_rotation f.shape to)))) }
+        ≡ Ok (so_far most (with_body s f (start_of f place (start_rotation f.shape to)))) }
 {}
 
 /// Bounds overlap others where these overlap them.

@@ -14,7 +14,7 @@ mod scene_text;
 mod words;
 
 pub use body::BodyState;
-pub use bounds::Bounds;
+pub use bounds::{Bounds, reach};
 pub use fault::SceneFault;
 pub use fixture::{Fixture, Shape};
 pub use read::ReadError;

@@ -4,7 +4,7 @@ use Rattle.std.specs.Io.KnownBytes.{Consumes, Appends, Keeps, prepend_known}
 use Rattle.std.proofs.lemmas.List.{drop-take, drop-drop, length-take}
 use Rattle.pf_text.specs.Lines.{AppendsFront}
 use Rattle.pf_text.specs.Streams.{unread}
-use Rattle.pf_text.proofs.Taking.{appends_none, appends_kept, appends_more}
+use Rattle.pf_text.proofs.Taking.{appends_kept, appends_more}
 
 -- an empty buffer
 unread-nil : (start end : ℕ) (buffer : List ℕ) → end ≤ start → unread start end buffer ≡ []
@@ -49,10 +49,6 @@ keeps_unfilled (Some xs) None start end old new le k = absurd k
 keeps_unfilled (Some xs) (Some ys) start end old new le k = rw (unread-nil start end old le, unread-nil start end new le) k
 
 -- ---- a writer that takes its bytes piece by piece
-
--- before the first piece
-pub appends_front_start : (a : Option (List ℕ)) (bytes : List ℕ) → (start : AppendsFront a a bytes) × (start.rest ≡ bytes)
-appends_front_start a bytes = (record { front = []; rest = bytes; bytes_are = refl; appended = appends_none a }, refl)
 
 -- where the writer failed after some pieces
 pub appends_front_kept : (a b c : Option (List ℕ)) (bytes : List ℕ) → AppendsFront a b bytes → Keeps b c → AppendsFront a c bytes

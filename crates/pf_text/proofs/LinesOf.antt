@@ -1,23 +1,14 @@
 -- The lines of a text, from the lines that were taken from its front.
-use Rattle.std.proofs.Common.{◌≡◌, ◌==◌, ℕ, ◌<◌, Bool, true, false, not, ◌&&◌, List, [], ◌∷◌, ◌++◌, length, refl, ap, ◌∙◌, append_assoc, arith}
+use Rattle.std.proofs.Common.{◌≡◌, ◌==◌, ℕ, ◌<◌, true, false, not, List, [], ◌∷◌, ◌++◌, length, refl, ap, ◌∙◌, append_assoc, arith}
 use Rattle.std.specs.List.{list_all, flat_map, onto_first}
+use Rattle.std.proofs.lemmas.Bool.{and_parts, not-true}
 use Rattle.pf_text.specs.Lines.{lines_of, ended, is_line, AreLines}
 use Rattle.pf_text.specs.Laws.{unended}
-
--- two tests that passed
-pub both : (a b : Bool) → (a && b) ≡ true → (a ≡ true) × (b ≡ true)
-both true b e = (refl, e)
-both false b e = absurd cc
-
--- a test that failed
-pub not-true : (b : Bool) → not b ≡ true → b ≡ false
-not-true true e = absurd cc
-not-true false e = refl
 
 -- the head of a line is no LF, and the others are a line
 is_line-cons : (byte : ℕ) (bytes : List ℕ) → is_line (byte ∷ bytes) ≡ true → ((byte == 10) ≡ false) × (is_line bytes ≡ true)
 is_line-cons byte bytes e =
-    let parts = both (not (byte == 10)) (is_line bytes) e in
+    let parts = and_parts (not (byte == 10)) (is_line bytes) e in
     (not-true (byte == 10) parts.0, parts.1)
 
 -- the lines with a byte before them
@@ -40,7 +31,7 @@ lines_of-AreLines bytes lines rest are = ap lines_of are.bytes_are ∙ go lines 
     go : (lines : List (List ℕ)) → list_all is_line lines ≡ true → lines_of (flat_map ended lines ++ rest) ≡ lines ++ lines_of rest
     go [] e = refl
     go (line ∷ lines) e =
-        let parts = both (is_line line) (list_all is_line lines) e in
+        let parts = and_parts (is_line line) (list_all is_line lines) e in
         ap lines_of (append_assoc (ended line) (flat_map ended lines) rest) ∙ lines_of-ended line (flat_map ended lines ++ rest) parts.0 ∙ ap (λ others. line ∷ others) (go lines parts.1)
 
 -- bytes without a LF are one line

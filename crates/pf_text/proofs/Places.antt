@@ -1,6 +1,7 @@
 -- The first place of a byte.
 use Rattle.std.proofs.Common.{◌≡◌, ◌==◌, ℕ, ◌+◌, ◌-◌, ◌<◌, Bool, true, false, not, Option, Some, None, unwrap_or, List, [], ◌∷◌, length, take, drop, refl, sym, ap, subst, ◌∙◌, arith}
 use Rattle.std.specs.List.{position_or_len, slice_split}
+use Rattle.std.proofs.lemmas.Bool.{not_from_true}
 use Rattle.std.proofs.lemmas.List.{take_rest}
 use Rattle.std.proofs.lemmas.List.Splits.{slice_split_first}
 use Rattle.std.proofs.lemmas.List.Sums.{prefix_len_is}
@@ -11,16 +12,13 @@ failed : (b : Bool) → (b ≡ true → ⊥) → not b ≡ true
 failed true never = absurd (never refl)
 failed false never = refl
 
-passed : (b : Bool) → b ≡ true → not b ≡ false
-passed b is = ap not is
-
 -- what memchr found, or the length
 pub first_or_length : (byte : ℕ) (bytes : List ℕ) (found : Option ℕ) → IsFirstByte (is_byte byte) bytes found
     → unwrap_or found (length bytes) ≡ position_or_len (λ b. b == byte) bytes
 first_or_length byte bytes None none =
     sym (prefix_len_is (λ b. not (b == byte)) bytes (length bytes) 0 (omega arith) (λ k lt. failed _ (none k (omega arith) lt)) (λ lt. absurd (omega arith)))
 first_or_length byte bytes (Some place) found =
-    sym (prefix_len_is (λ b. not (b == byte)) bytes place 0 (omega (arith, found.0.high)) (λ k lt. failed _ (found.0.before k (omega arith) lt)) (λ lt. passed _ found.1))
+    sym (prefix_len_is (λ b. not (b == byte)) bytes place 0 (omega (arith, found.0.high)) (λ k lt. failed _ (found.0.before k (omega arith) lt)) (λ lt. not_from_true _ found.1))
 
 -- the parts round a byte, where its first place was found
 pub split_first : (byte : ℕ) (bytes : List ℕ) (place : ℕ) → IsFirstByte (is_byte byte) bytes (Some place)

@@ -11,8 +11,8 @@ appends_known None b before text is p = absurd cc
 appends_known (Some xs) None before text is p = absurd p
 appends_known (Some xs) (Some ys) before text is p = let same : xs ≡ before = cc in ap (λ bytes. Some bytes) (p ∙ ap (λ bytes. bytes ++ text) same)
 
--- a writer that fails at once leaves a beginning, which is empty
-pub appends_front_none : (a : Option (List ℕ)) (bytes : List ℕ) → AppendsFront a a bytes
+-- a writer that took nothing yet, or fails at once, has a beginning, which is empty
+abbrev pub appends_front_none : (a : Option (List ℕ)) (bytes : List ℕ) → AppendsFront a a bytes
 appends_front_none a bytes = record { front = []; rest = bytes; bytes_are = refl; appended = Appends-nil a }
 
 -- ---- a call after others that kept what is known

@@ -1,8 +1,14 @@
--- What a function gives that may run out of memory, beside a definition that cannot.
+-- Steps that may have a fault, and what a function gives that may run out of memory, beside a definition that cannot.
 use Rattle.std.specs.Prelude.{◌≡◌, Result, Ok, Err}
 use Rattle.pf_text.specs.declared.fault.LineFault.{LineFault}
 use Rattle.pf_text.specs.declared.fault.LineError.{LineError}
 use Rattle.pf_text.specs.declared.fault.LineError.TheVariants.{Memory, Fault}
+
+-- the next step, where the one before it gave a value
+infixl 10 ◌>>=◌
+abbrev pub ◌>>=◌ : {A B F : Type 0} → Result A F → (A → Result B F) → Result B F
+(Ok x) >>= f = f x
+(Err fault) >>= f = Err fault
 
 -- the definition gives this fault; nothing is said where memory ran out
 abbrev pub Fails : {Y : Type 0} → LineError → Result Y LineFault → Type 0

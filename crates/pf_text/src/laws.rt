@@ -37,7 +37,7 @@ pub fn fields_are_the_parts_between_spaces()
         ↔ ((0 < length fields) × (list_all is_field fields ≡ true) × (line ≡ join_with_byte 32 fields)) }
 {}
 
-/// A field spells a number just where it is the number's decimal text: what is printed is read as itself, and nothing
+/// A field spells a number exactly where it is the number's decimal text: what is printed is read as itself, and nothing
 /// else is read as that number.
 pub fn numbers_have_one_spelling()
     ensures { (field : List ℕ) (z : ℤ) → unsigned_abs z < 2 ^ 64 → (whole_of field ≡ Some z) ↔ (field ≡ signed_decimal z) }

@@ -4,7 +4,7 @@
 mod driver;
 mod fault;
 mod fields;
-mod laws;
+pub mod laws;
 mod lines;
 mod memory;
 mod numbers;
@@ -14,10 +14,6 @@ mod words;
 pub use driver::{DriveFault, Machine, TakeRefusal, drive};
 pub use fault::{LineError, LineFault};
 pub use fields::fields_of;
-pub use laws::{
-    answers_stand, fields_are_the_parts_between_spaces, lines_are_the_parts_between_feeds,
-    numbers_have_one_spelling, skipped_line,
-};
 pub use lines::{MAX_LINE, ReadFailed, Sink, Source, TakeError, Taken, WriteFailed, take_line};
 pub use memory::{Bytes, Collected};
 pub use numbers::{Spelled, integer, number, whole};

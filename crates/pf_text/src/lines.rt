@@ -12,12 +12,12 @@ use thiserror::Error;
 /// How many bytes a line may have, its LF apart.
 pub const MAX_LINE: usize = 4096;
 
-/// A source gave no byte: its end of the world failed.
+/// A source gave no byte: what it reads from failed.
 #[derive(Clone, Copy, Debug, PartialEq, Eq, Error)]
 #[error("read failed")]
 pub struct ReadFailed;
 
-/// A sink took not all bytes: its end of the world failed.
+/// A sink did not take all bytes: what it writes to failed.
 #[derive(Clone, Copy, Debug, PartialEq, Eq, Error)]
 #[error("write failed")]
 pub struct WriteFailed;

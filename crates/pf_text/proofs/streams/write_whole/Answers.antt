@@ -1,10 +1,11 @@
-use Rattle.std.proofs.Common.{sym, ◌∙◌}
+use Rattle.std.proofs.Common.{refl, sym, ◌∙◌}
 use Rattle.std.proofs.lemmas.List.{take_rest}
-use Rattle.pf_text.proofs.Buffered.{appends_front_start, appends_front_more}
+use Rattle.pf_text.proofs.Buffered.{appends_front_more}
+use Rattle.pf_text.proofs.Taking.{appends_front_none}
 use Rattle.pf_text.proofs.streams.write_whole.Goals as goal
 
 pub loop-rest-init : goal.loop-rest-init
-loop-rest-init g c = appends_front_start (g.W.Write.contents c.args.writer.now) c.args.bytes.now
+loop-rest-init g c = (appends_front_none (g.W.Write.contents c.args.writer.now) c.args.bytes.now, refl)
 
 pub loop-rest-preserved : goal.loop-rest-preserved
 loop-rest-preserved g c =
