@@ -5,3 +5,4 @@ pub mod Exact
 pub mod Circles
 pub mod Covering
 pub mod Saying
+pub mod Starts

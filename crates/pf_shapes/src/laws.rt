@@ -1,7 +1,7 @@
 //! How a scene's lines are read, that shapes stay in their bounds, and what overlapping means, as laws. Their functions do
 //! nothing: their clauses are what they are for.
 
-ghost use Rattle.std.specs.Prelude.{◌≡◌, ℕ, ◌<◌, ℤ, pos, ◌≤ℤ◌, Bool, true, Ok, Some, None, length};
+ghost use Rattle.std.specs.Prelude.{◌≡◌, ℕ, ◌<◌, ℤ, pos, ◌≤ℤ◌, Bool, true, List, Ok, Some, None, length, All};
 ghost use Rattle.pf_num.specs.Fx.{IsRaw};
 ghost use Rattle.pf_rot.specs.Vector.{Vec2, plus};
 ghost use Rattle.pf_rot.specs.Rotation.{Pair, rotated};
@@ -12,6 +12,7 @@ ghost use Rattle.pf_shapes.specs.Bounds.{Span, IsUpright, overlaps, span_of, bou
 ghost use Rattle.pf_shapes.specs.Laws.{Covers, IsInBox, IsInCircle, IsInSpan, IsInner, exact_place, finer_span};
 ghost use Rattle.pf_shapes.specs.Saying.{body_fields, gravity_fields, start_rotation, IsDirection, IsGravity, IsStart};
 ghost use Rattle.pf_shapes.specs.Scene.{Setting, empty_setting, with_body};
+ghost use Rattle.pf_shapes.specs.SceneRead.{scene_of};
 ghost use Rattle.pf_shapes.specs.SceneText.{line_of, so_far};
 
 use crate::fixture::Shape;
@@ -24,6 +25,11 @@ pub fn scene_lines_are_read()
         → IsFixture f → IsStart place → IsDirection to
         → line_of (record { most = most; scene = Some s }) (body_fields f place to)
         ≡ Ok (so_far most (with_body s f (start_of f place (start_rotation f.shape to)))) }
+{}
+
+/// No rotation in which a read scene starts a body has a part above 1.
+pub fn starts_are_at_most_one()
+    ensures { (input : List ℕ) (s : Setting) → scene_of input ≡ Ok s → All (λ b. IsAtMostOne b.rot) s.starts }
 {}
 
 /// Bounds overlap others where these overlap them.
