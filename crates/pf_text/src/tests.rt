@@ -329,6 +329,6 @@ fn faults_are_shown_by_their_names(rt: HostRuntime) -> Result<(), Fail> {
 
 #[test]
 fn laws_are_called(_rt: HostRuntime) {
-    answers_stand::<u32, Parrot>();
-    skipped_line::<u32, Parrot>();
+    laws::answers_stand::<u32, Parrot>();
+    laws::skipped_line::<u32, Parrot>();
 }
