@@ -1,9 +1,10 @@
 -- What a peer issues is spelled by the frame that it answers, and taken by every peer of its scene.
-use Rattle.std.proofs.Common.{◌≡◌, ℕ, ◌<◌, Bool, true, false, List, [], Option, Some, None, Result, Ok, Err, refl, ap, sym, ◌∙◌, arith, nat_le, if◌then◌else◌}
+use Rattle.std.proofs.Common.{◌≡◌, ℕ, ◌<◌, Bool, true, false, List, Option, Some, None, Result, Ok, Err, refl, ap, sym, ◌∙◌, arith, nat_le, if◌then◌else◌}
 use Rattle.std.specs.Prelude.{IsOk, slice_get}
 use Rattle.std.specs.FinMap.{get}
 use Rattle.std.proofs.lemmas.Bool.Decides.{nat_tests}
 use Rattle.std.proofs.lemmas.Option.{slice_get_within}
+use Rattle.pf_text.proofs.Steps.{same_Ok}
 use Rattle.pf_shapes.specs.Fixture.{FixtureDef}
 use Rattle.pf_shapes.specs.Scene.{Setting, IsSetting}
 use Rattle.pf_commands.specs.declared.checking.CheckFault.{CheckFault}
@@ -16,7 +17,6 @@ use Rattle.pf_commands.specs.News.{answer_to}
 use Rattle.pf_commands.specs.Payload.{IsPayload, body_of}
 use Rattle.pf_commands.proofs.Frames.{spelled_decodes}
 use Rattle.pf_commands.proofs.Spelling.{spelling_spells}
-use Rattle.pf_console.specs.declared.event.Refusal.{Refusal}
 use Rattle.pf_console.specs.declared.event.Refusal.TheVariants.{TickLimit, NumbersSpent}
 use Rattle.pf_console.specs.declared.peer.Peer.{Peer}
 use Rattle.pf_console.specs.Peer.{allowed as answered, next_number, next_command, with_frame, putting, taking, issuing}
@@ -27,10 +27,6 @@ record IsIssued (p : Peer) (payload : Payload) (frame : List ℕ) : Type 0 where
   number : next_number p.commands p.reached 0 < 65536
   checked : check_of p.scene (next_command p payload).name payload ≡ Ok tt
   spelled : spelling (next_command p payload) ≡ frame
-
-abbrev frame_in : Result (List ℕ × Peer) Refusal → List ℕ
-frame_in (Ok answer) = answer.0
-frame_in (Err refusal) = []
 
 is_issued : (p after : Peer) (payload : Payload) (frame : List ℕ) → issuing p payload ≡ Ok (frame, after) → IsIssued p payload frame
 unfolding issuing putting
@@ -47,7 +43,7 @@ is_issued p after payload frame e =
     by false s true u r checked e = absurd cc
     by false s false u (Err fault) checked e = absurd cc
     by false s false u (Ok done) checked e =
-        record { tick = grind (arith, nat_tests); number = grind (arith, nat_tests); checked = checked; spelled = ap frame_in e }
+        record { tick = grind (arith, nat_tests); number = grind (arith, nat_tests); checked = checked; spelled = ap (λ answer. answer.0) (same_Ok _ (frame, after) e) }
 
 -- a body that a scene allows is one of its bodies
 allowed_body : (s : Setting) (player i : ℕ) → allowed player (slice_get s.fixtures i) ≡ Ok tt → IsSetting s → i < 1024

@@ -5,6 +5,7 @@ use Rattle.pf_text.specs.declared.fault.LineFault.TheVariants.{BadLine}
 use Rattle.pf_text.specs.Driver.{Rules, Output, said, step, answers, and_then, is_plain, is_skipped}
 use Rattle.pf_text.specs.Fields.{fields_of}
 use Rattle.pf_text.specs.Laws.{behind, followed, one_later}
+use Rattle.pf_text.proofs.Steps.{done_alike}
 
 module _ {S F : Type 0} (rules : Rules S F) where
   -- a line, and then what follows all the lines
@@ -44,14 +45,6 @@ module _ {S F : Type 0} (rules : Rules S F) where
 
   -- ---- what holds of a state
 
-  abbrev end_of : Result (ℕ × S) (ℕ × F) → S → S
-  end_of (Ok ended) state = ended.1
-  end_of (Err fault) state = state
-
-  abbrev next_of : Result (List ℕ × S) F → S → S
-  next_of (Ok answer) state = answer.1
-  next_of (Err fault) state = state
-
   module _ (P : S → Type 0) (keeps : (state : S) (fields : List (List ℕ)) (answer : List ℕ × S) → P state → rules.says state fields ≡ Ok answer → P answer.1) where
     said-keeps : (state : S) (fields : Result (List (List ℕ)) LineFault) (answer : List ℕ × S) → P state → said rules state fields ≡ Ok answer → P answer.1
     said-keeps state (Ok fields) answer holds e = keeps state fields answer holds e
@@ -63,13 +56,13 @@ module _ {S F : Type 0} (rules : Rules S F) where
       where
         by : (plain skipped : Bool)
             → (if plain then (if skipped then Ok ([], state) else said rules state (fields_of line)) else Err (rules.refused BadLine)) ≡ Ok answer → P answer.1
-        by true true e = subst P (ap (λ r. next_of r state) e) holds
+        by true true e = done_alike (λ (answer : List ℕ × S). P answer.1) ([], state) answer e holds
         by true false e = said-keeps state (fields_of line) answer holds e
         by false skipped e = absurd cc
 
     pub ending-keeps : (number : ℕ) (state : S) (lines : List (List ℕ)) (ended : ℕ × S) → P state → (answers rules number state lines).ending ≡ Ok ended → P ended.1
     unfolding answers
-    ending-keeps number state [] ended holds e = subst P (ap (λ r. end_of r state) e) holds
+    ending-keeps number state [] ended holds e = done_alike (λ (ended : ℕ × S). P ended.1) (number, state) ended e holds
     ending-keeps number state (line ∷ lines) ended holds e =
         by (step rules state line) refl e (λ next held. ending-keeps (number + 1) next lines ended held)
       where

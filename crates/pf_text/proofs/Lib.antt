@@ -11,3 +11,4 @@ pub mod Answering
 pub mod Ascii
 pub mod Spelling
 pub mod Joined
+pub mod Steps
