@@ -1,3 +1,5 @@
+//! What plain Rust answers to the same chains, maps and geometry.
+
 use super::chain::last;
 use super::geometry;
 use super::maps::{Task, sum};

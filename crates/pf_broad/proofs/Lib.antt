@@ -1,3 +1,4 @@
+-- The lemmas of this crate.
 pub mod Ranges
 pub mod Finding
 pub mod Exact

@@ -1,3 +1,5 @@
+//! Pairs of scenes, by hand.
+
 use super::*;
 use pf_num::Fx;
 use pf_shapes::Scene;

@@ -1,3 +1,4 @@
+-- The lemmas of this crate.
 -- Frames.
 pub mod Digits
 pub mod Fields

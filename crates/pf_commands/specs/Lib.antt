@@ -1,3 +1,4 @@
+-- What the contracts of this crate cite.
 pub mod Name
 pub mod Payload
 pub mod Frame

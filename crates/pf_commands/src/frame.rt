@@ -13,10 +13,6 @@ use crate::weight::{PUSH, STOP, TURN, places_of};
 use byteorder::{BigEndian, ByteOrder};
 use pf_num::Fx;
 
-mod laws;
-
-pub use laws::one_spelling;
-
 #[cfg(test)]
 mod tests;
 

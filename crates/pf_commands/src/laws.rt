@@ -1,8 +1,9 @@
-//! Laws of command maps and of checks. Their functions do nothing: their clauses are what they are for.
+//! Laws of spellings, of command maps and of checks. Their functions do nothing: their clauses are what they are for.
 
-ghost use Rattle.std.specs.Prelude.{◌≡◌, ◌<◌, IfSome, ◌↔◌, ◌≢◌, ℕ, List, All, Contains, map, Some, Ok, Err, false};
+ghost use Rattle.std.specs.Prelude.{◌≡◌, ◌<◌, IfSome, ◌↔◌, ◌≢◌, ℕ, List, [], ◌++◌, All, Contains, map, Some, Ok, Err, false};
 ghost use Rattle.std.specs.FinMap.{empty, get};
 ghost use Rattle.pf_shapes.specs.Scene.{Setting};
+ghost use Rattle.pf_commands.specs.Frame.{IsFrameable, Spells, spelling};
 ghost use Rattle.pf_commands.specs.Check.{check_all_of, IsAllowed, IsFirstFault};
 ghost use Rattle.pf_commands.specs.Name.{CommandName};
 ghost use Rattle.pf_commands.specs.Payload.{weight, IsPayload};
@@ -11,6 +12,15 @@ ghost use Rattle.pf_commands.specs.News.{is_news, news, least_tick, IsLeast};
 ghost use Rattle.pf_commands.specs.declared.checking.CheckFault.{CheckFault};
 ghost use Rattle.pf_commands.specs.declared.payload.Payload.{Payload};
 ghost use Rattle.pf_commands.specs.declared.payload.Command.{Command};
+
+/// Each command in its ranges, with a body below 1,024, has one spelling; each spelling has one command; and no
+/// spelling begins another.
+pub fn commands_have_one_spelling()
+    ensures each { (c : Command) → IsFrameable c → Spells (spelling c) c }
+    ensures same_bytes { (a b : List ℕ) (c : Command) → Spells a c → Spells b c → a ≡ b }
+    ensures same_command { (a : List ℕ) (c d : Command) → Spells a c → Spells a d → c ≡ d }
+    ensures no_beginning { (a rest : List ℕ) (c d : Command) → Spells a c → Spells (a ++ rest) d → rest ≡ [] }
+{}
 
 /// Merging is associative.
 pub fn merge_is_associative()

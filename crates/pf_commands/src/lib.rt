@@ -12,7 +12,7 @@ mod weight;
 
 pub use checking::{CheckFault, check};
 pub use fault::FrameFault;
-pub use frame::{FRAME_LEN, decode, encode, one_spelling};
+pub use frame::{FRAME_LEN, decode, encode};
 pub use map::{CommandMap, Merged, Put};
 pub use name::Name;
 pub use payload::{Command, Payload};

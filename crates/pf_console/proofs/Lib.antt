@@ -1,3 +1,4 @@
+-- The lemmas of this crate.
 pub mod Ticks
 pub mod Orders
 pub mod Bodies

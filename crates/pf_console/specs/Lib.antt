@@ -1,3 +1,4 @@
+-- What the contracts of this crate cite.
 pub mod Simulation
 pub mod Names
 pub mod Peer

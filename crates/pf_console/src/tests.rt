@@ -1,3 +1,5 @@
+//! Worked rows, the texts of faults, and readers and writers that fail.
+
 use crate::fault::{DigitsFault, PlayFault};
 use crate::laws;
 use crate::reporting::{finish, report};

@@ -1,3 +1,4 @@
+-- The lemmas of this crate.
 pub mod Features
 pub mod Mirrors
 pub mod Touching

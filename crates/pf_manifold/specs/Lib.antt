@@ -1,3 +1,4 @@
+-- What the contracts of this crate cite.
 pub mod Contact
 pub mod Point
 pub mod Placed

@@ -1,3 +1,5 @@
+//! Worked contact points.
+
 use super::*;
 use pf_broad::pairs;
 use pf_num::Fx;

@@ -1,3 +1,4 @@
+-- The lemmas of this crate.
 pub mod Odd
 pub mod Signs
 pub mod Shift

@@ -1,3 +1,4 @@
+-- What the contracts of this crate cite.
 pub mod Round
 pub mod Root
 pub mod Fx

@@ -1,2 +1,3 @@
+-- The lemmas of this crate.
 mod Entered
 mod Faults

@@ -1,3 +1,4 @@
+-- What the contracts of this crate cite.
 pub mod Vector
 pub mod Rotation
 pub mod Laws

@@ -1,3 +1,5 @@
+//! Worked vectors, lengths and turns.
+
 use super::*;
 use pf_num::Fx;
 use std::process::Abort;
@@ -66,6 +68,7 @@ fn lengths_and_turns(rt: HostRuntime) {
     }
     laws::lengths_are_greatest();
     laws::nothing_turns_nothing();
+    laws::directions_are_at_most_one();
     assert_eq!(rt; laws::named_values(), (V2::ZERO, Rot::UPRIGHT));
 }
 

@@ -1,3 +1,4 @@
+-- The lemmas of this crate.
 pub mod Reaching
 pub mod Sharing
 pub mod Staying

@@ -1,3 +1,4 @@
+-- What the contracts of this crate cite.
 pub mod Fixture
 pub mod Cached
 pub mod Body

@@ -1,3 +1,5 @@
+//! Worked scenes, their faults, and bounds.
+
 use super::*;
 use pf_num::Fx;
 use pf_rot::{Rot, V2};
@@ -234,5 +236,15 @@ fn bounds_that_touch_overlap(rt: HostRuntime) {
         let other = circle.bounds(&BodyState { place, ..origin });
         assert_eq!(rt; bounds.overlaps(&other), touching, "{x}");
     }
+}
+
+#[test]
+fn laws_are_called(_rt: HostRuntime) {
+    laws::scene_lines_are_read();
+    laws::starts_are_at_most_one();
     laws::overlapping_is_symmetric();
+    laws::spans_that_share_a_place_overlap();
+    laws::boxes_stay_in_their_bounds();
+    laws::circles_stay_in_their_bounds();
+    laws::bodies_that_share_a_place_overlap();
 }

@@ -1,3 +1,5 @@
+//! Lines, fields and numbers by hand, and readers and writers that fail.
+
 ghost use Rattle.std.specs.Prelude.{length, codes, [], Ok, Err, ◌==◌, if◌then◌else◌};
 ghost use Rattle.pf_text.specs.declared.fault.LineFault.TheVariants.{BadNumber};
 
@@ -331,4 +333,7 @@ fn faults_are_shown_by_their_names(rt: HostRuntime) -> Result<(), Fail> {
 fn laws_are_called(_rt: HostRuntime) {
     laws::answers_stand::<u32, Parrot>();
     laws::skipped_line::<u32, Parrot>();
+    laws::lines_are_the_parts_between_feeds();
+    laws::fields_are_the_parts_between_spaces();
+    laws::numbers_have_one_spelling();
 }

@@ -1,3 +1,5 @@
+//! Which commands a scene allows, and the names of refusals.
+
 use super::*;
 use crate::name::Name;
 use crate::payload::Payload;

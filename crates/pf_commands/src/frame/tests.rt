@@ -1,3 +1,5 @@
+//! Frames of every kind and each of their refusals, at both sides of each range.
+
 ghost use Rattle.std.specs.Prelude.{◌<◌, ◌^◌};
 ghost use Rattle.pf_commands.specs.Payload.{body_of};
 
@@ -62,7 +64,6 @@ fn frames_spell_commands(rt: HostRuntime) {
             payload: Payload::Stop { body: 0 },
         },
     );
-    one_spelling();
 }
 
 #[test]

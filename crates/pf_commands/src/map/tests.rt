@@ -1,3 +1,5 @@
+//! Maps of a few commands, by hand.
+
 ghost use Rattle.std.specs.Prelude.{◌<◌, ◌^◌};
 
 use super::*;
@@ -111,4 +113,24 @@ fn the_first_command_that_is_not_allowed_is_named(rt: HostRuntime) -> Result<(),
     map.put(&command(4, 1, 0, Payload::Stop { body: 1 }))?;
     assert!(rt; map.check_all(&scene) == Err(CheckFault::StaticBody));
     Ok(())
+}
+
+#[test]
+fn laws_are_called(_rt: HostRuntime) {
+    crate::laws::commands_have_one_spelling();
+    crate::laws::merge_is_associative();
+    crate::laws::merge_is_commutative();
+    crate::laws::merge_is_idempotent();
+    crate::laws::merge_with_empty();
+    crate::laws::puts_in_any_order();
+    crate::laws::puts_are_a_merge();
+    crate::laws::no_news_changes_nothing();
+    crate::laws::put_keeps_other_ticks();
+    crate::laws::merge_keeps_earlier_ticks();
+    crate::laws::least_ticks_are_least();
+    crate::laws::get_of_merge();
+    crate::laws::same_gets_same_map();
+    crate::laws::merge_stays_in_range();
+    crate::laws::same_weight_same_payload();
+    crate::laws::first_fault_is_answered();
 }

@@ -1,3 +1,5 @@
+//! What is said to the words behind the program's name.
+
 use super::*;
 use std::test::Fail;
 

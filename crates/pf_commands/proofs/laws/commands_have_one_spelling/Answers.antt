@@ -1,5 +1,5 @@
 use Rattle.pf_commands.proofs.Spelling.{spelling_spells, same_spelling, same_command, no_beginning}
-use Rattle.pf_commands.proofs.frame.laws.one_spelling.Goals as goal
+use Rattle.pf_commands.proofs.laws.commands_have_one_spelling.Goals as goal
 
 pub returns-clause-each : goal.returns-clause-each
 returns-clause-each c = spelling_spells
