@@ -19,7 +19,6 @@ pub fn run_text<R: Source, W: Sink>(
 ) -> Result<(), PlayFault>
     requires reads { R.failures reader.old + 1 < 2 ^ 64 }
     requires writes { W.failures writer.old + 1 < 2 ^ 64 }
-
     ensures text { (input before : List ℕ) → R.remaining reader.old ≡ Some input → W.contents writer.old ≡ Some before
         → Runs input (R.remaining reader.new) before (W.contents writer.new) result }
     // A fault of the reader or the writer is answered exactly where it failed in this call.
