@@ -1,7 +1,7 @@
 -- What the program does with a text: what it writes, and the line at fault, if any.
-use Rattle.std.specs.Prelude.{◌≡◌, ℕ, ◌+◌, true, List, [], ◌++◌, Option, Some, None, Result, Ok, Err}
-use Rattle.pf_text.specs.Lines.{lines_of, is_line, AreLines}
-use Rattle.pf_text.specs.Driver.{answers, output_of}
+use Rattle.std.specs.Prelude.{◌≡◌, ◌⊎◌, ℕ, ◌+◌, true, List, [], ◌++◌, length, Option, Some, None, Result, Ok, Err, IsOk}
+use Rattle.pf_text.specs.Lines.{is_line, AreLines}
+use Rattle.pf_text.specs.Driver.{TakesTo, TakesInto, answers, output_of}
 use Rattle.pf_shapes.specs.declared.fault.SceneFault.{SceneFault}
 use Rattle.pf_shapes.specs.declared.fault.SceneFault.TheVariants.{BadLine}
 use Rattle.pf_console.specs.declared.fault.PlayFault.{PlayFault}
@@ -33,22 +33,28 @@ text_of input = record {
 abbrev pub answered : List (List ℕ) → List ℕ
 answered lines = (answers text_rules 1 opening lines).text
 
+-- the line of this number was taken, and no more; or all of the text, which has no line at fault but ended too early
+abbrev pub StopsAt : List ℕ → ℕ → Option (List ℕ) → Type 0
+StopsAt input number left =
+    ((lines : List (List ℕ)) × (number ≡ length lines + 1) × TakesTo input lines left)
+    ⊎ ((left ≡ Some []) × IsOk (output_of text_rules opening input).ending)
+
 -- What a run did: with the bytes of the input, what is left of them, the bytes that were there before and those that
 -- are there after. Where memory or the reader failed, the lines before are answered; where the writer failed, a
--- beginning of the text was written.
+-- beginning of the next answer stands behind those of the lines before.
 abbrev pub Runs : List ℕ → Option (List ℕ) → List ℕ → Option (List ℕ) → Result (Unit {0}) PlayFault → Type 0
 Runs input left before after (Ok done) =
     (left ≡ Some []) × (after ≡ Some (before ++ (text_of input).written)) × ((text_of input).fault ≡ None)
 Runs input left before after (Err (Line number fault)) =
-    (after ≡ Some (before ++ (text_of input).written)) × ((text_of input).fault ≡ Some (number, fault))
+    StopsAt input number left × (after ≡ Some (before ++ (text_of input).written)) × ((text_of input).fault ≡ Some (number, fault))
 Runs input left before after (Err Memory) =
-    (lines : List (List ℕ)) × (others : List (List ℕ)) × (lines_of input ≡ lines ++ others)
-    × (after ≡ Some (before ++ answered lines))
+    (lines : List (List ℕ)) × TakesInto input lines left × (after ≡ Some (before ++ answered lines))
 Runs input left before after (Err Read) =
     (lines : List (List ℕ)) × (part : List ℕ) × (rest : List ℕ) × AreLines input lines (part ++ rest)
     × (is_line part ≡ true) × (left ≡ Some rest) × (after ≡ Some (before ++ answered lines))
 Runs input left before after (Err Write) =
-    (part : List ℕ) × (rest : List ℕ) × (part ++ rest ≡ (text_of input).written) × (after ≡ Some (before ++ part))
+    (lines : List (List ℕ)) × (part : List ℕ) × (rest : List ℕ) × TakesTo input lines left
+    × (answered lines ++ part ++ rest ≡ (text_of input).written) × (after ≡ Some (before ++ answered lines ++ part))
 Runs input left before after (Err (Words text)) = ⊥
 Runs input left before after (Err (Frame fault)) = ⊥
 

@@ -1,5 +1,5 @@
 -- How far a text was answered, and what each exit of the driver makes of that.
-use Rattle.std.proofs.Common.{◌≡◌, ℕ, ◌+◌, ◌<◌, List, [], ◌∷◌, ◌++◌, length, Option, Some, Ok, Err, true, refl, sym, ap, ◌∙◌, append_assoc, append-nil, arith}
+use Rattle.std.proofs.Common.{◌≡◌, ℕ, ◌+◌, ◌<◌, List, [], ◌∷◌, ◌++◌, length, Option, Some, Ok, Err, true, inl, inr, refl, sym, ap, ◌∙◌, append_assoc, append-nil, arith}
 use Rattle.std.specs.Io.KnownBytes.{Appends}
 use Rattle.std.specs.List.{flat_map}
 use Rattle.std.proofs.lemmas.Bool.{lt-leb}
@@ -17,7 +17,7 @@ use Rattle.pf_text.specs.declared.driver.DriveFault.TheVariants as faults
 use Rattle.pf_text.specs.Lines.{AppendsFront, AreLines, Takes, TakesFront, ended, is_line, lines_of}
 use Rattle.pf_text.proofs.Taking.{appends_known}
 use Rattle.pf_text.proofs.LinesOf.{lines_of-AreLines, lines_of-ended, lines_of-last, lines_of-front}
-use Rattle.pf_text.specs.Driver.{Rules, Output, Drives, CountsReads, CountsWrites, Tells, fault_of, fault_at, step, answers, and_then, output_of}
+use Rattle.pf_text.specs.Driver.{Rules, Output, TakesTo, IsPart, Drives, CountsReads, CountsWrites, Tells, fault_of, fault_at, step, answers, and_then, output_of}
 
 -- an output behind what was written
 abbrev pub joined : {S F : Type 0} → List ℕ → Output S F → Output S F
@@ -70,19 +70,36 @@ module _ {S F : Type 0} {rules : Rules S F} {start : S} {input before : List ℕ
   answered : after ≡ Some (before ++ (answers rules 1 start p.taken).text)
   answered = p.after_is ∙ ap (λ text. Some (before ++ text)) (sym written_is)
 
-  -- where memory ran out
-  pub Drives-memory : (left' : Option (List ℕ)) → Drives rules start input left' before after (Err faults.Memory)
-  Drives-memory left' = (p.taken, lines_of p.rest, lines_are_all, answered)
+  -- the lines are the same where a part of what was left is taken
+  lines_before : (part rest : List ℕ) → p.rest ≡ part ++ rest → AreLines input p.taken (part ++ rest)
+  lines_before part rest e =
+      record { bytes_are = p.lines_are.bytes_are ∙ ap (λ bytes. flat_map ended p.taken ++ bytes) e; lines_are = p.lines_are.lines_are }
+
+  -- where memory ran out, and a part of the next line was taken
+  Drives-part : (part : List ℕ) (left' : Option (List ℕ)) → TakesFront p.rest part left' → IsPart part → Drives rules start input left' before after (Err faults.Memory)
+  Drives-part part left' t is =
+      (p.taken, record { part = part; rest = t.rest; lines_are = lines_before part t.rest t.bytes_are; part_is = is; left_is = t.left_is }, answered)
+
+  -- where memory ran out, and nothing more was taken
+  pub Drives-memory : Drives rules start input left before after (Err faults.Memory)
+  Drives-memory = Drives-part [] left (record { rest = p.rest; left_is = p.left_is; bytes_are = refl }) ([], refl, inl refl)
+
+  -- where memory ran out for a line that was taken
+  Drives-taken : (taken : Taken) (line : List ℕ) (left' : Option (List ℕ)) → Takes p.rest line left' (Ok taken) → (taken ≡ End → ⊥) → Drives rules start input left' before after (Err faults.Memory)
+  Drives-taken Line line left' t ne = Drives-part (ended line) left' t.0 (line, t.1, inr refl)
+  Drives-taken Last line left' t ne =
+      Drives-part line left' (record { rest = []; left_is = t.1; bytes_are = sym t.0 ∙ sym (append-nil line) }) (line, t.2, inl refl)
+  Drives-taken End line left' t ne = absurd (ne refl)
+  Drives-taken TooLong line left' t ne = Drives-part line left' t.0 (line, t.1, inl refl)
 
   -- where the reader failed
   pub Drives-read : (part : List ℕ) (left' : Option (List ℕ)) → TakesFront p.rest part left' → is_line part ≡ true → Drives rules start input left' before after (Err faults.Read)
   Drives-read part left' t is =
-      let bytes-are = p.lines_are.bytes_are ∙ ap (λ rest. flat_map ended p.taken ++ rest) t.bytes_are in
-      (p.taken, part, t.rest, record { bytes_are = bytes-are; lines_are = p.lines_are.lines_are }, is, t.left_is, answered)
+      (p.taken, part, t.rest, lines_before part t.rest t.bytes_are, is, t.left_is, answered)
 
   -- where no line was taken
   pub Drives-untaken : (error : TakeError) (line : List ℕ) (left' : Option (List ℕ)) → Takes p.rest line left' (Err error) → Drives rules start input left' before after (Err (fault_of error))
-  Drives-untaken takes.Memory line left' t = Drives-memory left'
+  Drives-untaken takes.Memory line left' t = Drives-part t.0 left' t.1 (t.0, t.2, inl refl)
   Drives-untaken takes.Read line left' t = Drives-read t.0 left' t.1 t.2
 
   -- at the end
@@ -110,16 +127,21 @@ module _ {S F : Type 0} {rules : Rules S F} {start : S} {input before : List ℕ
       let first = output_is ∙ ap (λ lines. joined p.written (answers rules number state lines)) (ap lines_of t.0.bytes_are ∙ found.2) in
       (found.1, first ∙ ap (λ answer. joined p.written (and_then number answer (λ next. answers rules (number + 1) next found.1))) same)
 
+  -- the line that was taken, and what is left
+  takes_to : (taken : Taken) (line : List ℕ) (left' : Option (List ℕ)) → Takes p.rest line left' (Ok taken) → (taken ≡ End → ⊥) → TakesTo input p.taken left'
+  takes_to taken line left' t ne = record { bytes = p.rest; line = line; taken = taken; lines_are = p.lines_are; line_is = t; is_there = ne }
+
   -- where a line was refused
   pub Drives-fault : (taken : Taken) (line : List ℕ) (left' : Option (List ℕ)) (fault : F) → Takes p.rest line left' (Ok taken) → (taken ≡ End → ⊥) → step rules state line ≡ Err fault → Drives rules start input left' before after (Err (faults.Line number fault))
   Drives-fault taken line left' fault t ne said =
       let found = output_at taken line left' t ne in
       let output = rw said at found.1 in
-      (p.after_is ∙ ap (λ bytes. Some (before ++ bytes)) (sym (ap (λ (o : Output S F). o.text) output ∙ append-nil p.written)), ap (λ (o : Output S F). o.ending) output)
+      (p.taken, p.number_is, takes_to taken line left' t ne,
+      p.after_is ∙ ap (λ bytes. Some (before ++ bytes)) (sym (ap (λ (o : Output S F). o.text) output ∙ append-nil p.written)), ap (λ (o : Output S F). o.ending) output)
 
   -- where a line was not answered
   pub Drives-refused : (taken : Taken) (line : List ℕ) (left' : Option (List ℕ)) (refusal : TakeRefusal F) → Takes p.rest line left' (Ok taken) → (taken ≡ End → ⊥) → Tells (Err refusal) (step rules state line) → Drives rules start input left' before after (Err (fault_at number refusal))
-  Drives-refused taken line left' refusals.Memory t ne said = Drives-memory left'
+  Drives-refused taken line left' refusals.Memory t ne said = Drives-taken taken line left' t ne
   Drives-refused taken line left' (refusals.Fault fault) t ne said = Drives-fault taken line left' fault t ne said
 
   -- what is there after a text was written behind what was
@@ -135,7 +157,9 @@ module _ {S F : Type 0} {rules : Rules S F} {start : S} {input before : List ℕ
       let others = (answers rules (number + 1) next found.0).text in
       let whole : (p.written ++ parts.front) ++ (parts.rest ++ others) ≡ p.written ++ (text ++ others) =
       append_assoc p.written parts.front (parts.rest ++ others) ∙ ap (λ bytes. p.written ++ bytes) (sym (append_assoc parts.front parts.rest others) ∙ ap (λ bytes. bytes ++ others) parts.bytes_are) in
-      (p.written ++ parts.front, parts.rest ++ others, whole ∙ sym (ap (λ (o : Output S F). o.text) output), after_text after' parts.front parts.appended)
+      (p.taken, parts.front, parts.rest ++ others, takes_to taken line left' t ne,
+      ap (λ bytes. (bytes ++ parts.front) ++ (parts.rest ++ others)) written_is ∙ whole ∙ sym (ap (λ (o : Output S F). o.text) output),
+      after_text after' parts.front parts.appended ∙ ap (λ bytes. Some bytes) (sym (append_assoc before p.written parts.front)) ∙ ap (λ bytes. Some ((before ++ bytes) ++ parts.front)) (sym written_is))
 
   -- at a last line without a LF
   pub Drives-last : (line : List ℕ) (left' after' : Option (List ℕ)) (text : List ℕ) (next : S) → Takes p.rest line left' (Ok Last) → step rules state line ≡ Ok (text, next) → Appends after after' text

@@ -1,5 +1,5 @@
 -- What a machine that is handed a text's lines one by one writes, and how it ends.
-use Rattle.std.specs.Prelude.{◌≡◌, ℕ, ◌+◌, Bool, true, ◌&&◌, List, [], ◌∷◌, ◌++◌, length, Option, Some, Result, Ok, Err, ◌==◌, nat_lt, nat_le, if◌then◌else◌, String, string_bytes}
+use Rattle.std.specs.Prelude.{◌≡◌, ◌≢◌, ◌⊎◌, ℕ, ◌+◌, Bool, true, ◌&&◌, List, [], ◌∷◌, ◌++◌, length, Option, Some, Result, Ok, Err, ◌==◌, nat_lt, nat_le, if◌then◌else◌, String, string_bytes}
 use Rattle.std.specs.List.{list_all}
 use Rattle.std.specs.Global.{Global}
 use Rattle.pf_text.specs.declared.fault.LineFault.{LineFault}
@@ -8,10 +8,12 @@ use Rattle.pf_text.specs.declared.driver.TakeRefusal.{TakeRefusal}
 use Rattle.pf_text.specs.declared.driver.TakeRefusal.TheVariants as refusals
 use Rattle.pf_text.specs.declared.driver.DriveFault.{DriveFault}
 use Rattle.pf_text.specs.declared.driver.DriveFault.TheVariants as faults
+use Rattle.pf_text.specs.declared.lines.Taken.{Taken}
+use Rattle.pf_text.specs.declared.lines.Taken.TheVariants.{End}
 use Rattle.pf_text.specs.declared.lines.TakeError.{TakeError}
 use Rattle.pf_text.specs.declared.lines.TakeError.TheVariants as takes
 use Rattle.pf_text.specs.Fields.{fields_of}
-use Rattle.pf_text.specs.Lines.{lines_of, is_line, AreLines}
+use Rattle.pf_text.specs.Lines.{lines_of, ended, is_line, AreLines, Takes}
 
 -- all bytes are of ASCII
 abbrev pub is_ascii : List ℕ → Bool
@@ -65,19 +67,43 @@ answers rules number state (line ∷ lines) = and_then number (step rules state 
 abbrev pub output_of : {S F : Type 0} → Rules S F → S → List ℕ → Output S F
 output_of rules start input = answers rules 1 start (lines_of input)
 
+-- these lines were taken from the input, then one more, and this is left
+pub record TakesTo (input : List ℕ) (lines : List (List ℕ)) (left : Option (List ℕ)) : Type 0 where
+  pub bytes : List ℕ
+  pub line : List ℕ
+  pub taken : Taken
+  pub lines_are : AreLines input lines bytes
+  pub line_is : Takes bytes line left (Ok taken)
+  pub is_there : taken ≢ End
+
+-- a part of a line, with its LF or without it
+abbrev pub IsPart : List ℕ → Type 0
+IsPart part = (line : List ℕ) × (is_line line ≡ true) × ((part ≡ line) ⊎ (part ≡ ended line))
+
+-- these lines were taken from the input, then a part of one more, and this is left
+pub record TakesInto (input : List ℕ) (lines : List (List ℕ)) (left : Option (List ℕ)) : Type 0 where
+  pub part : List ℕ
+  pub rest : List ℕ
+  pub lines_are : AreLines input lines (part ++ rest)
+  pub part_is : IsPart part
+  pub left_is : left ≡ Some rest
+
 -- What was driven: the bytes of the input, the bytes that were there before, those that are there after, and what of
--- the input is left, if that is known. Where memory or a reader failed, the lines before are answered.
+-- the input is left, if that is known. The line at fault was taken, and no more. Where memory or a reader failed, the
+-- lines before are answered; where a writer failed, a beginning of the next answer stands behind those of the lines before.
 abbrev pub Drives : {S F : Type 0} → Rules S F → S → List ℕ → Option (List ℕ) → List ℕ → Option (List ℕ) → Result (ℕ × S) (DriveFault F) → Type 0
 Drives rules start input left before after (Ok ended) =
     (left ≡ Some []) × (after ≡ Some (before ++ (output_of rules start input).text)) × ((output_of rules start input).ending ≡ Ok ended)
 Drives rules start input left before after (Err (faults.Line number fault)) =
-    (after ≡ Some (before ++ (output_of rules start input).text)) × ((output_of rules start input).ending ≡ Err (number, fault))
+    (lines : List (List ℕ)) × (number ≡ length lines + 1) × TakesTo input lines left
+    × (after ≡ Some (before ++ (output_of rules start input).text)) × ((output_of rules start input).ending ≡ Err (number, fault))
 Drives rules start input left before after (Err faults.Memory) =
-    (lines : List (List ℕ)) × (others : List (List ℕ)) × (lines_of input ≡ lines ++ others) × (after ≡ Some (before ++ (answers rules 1 start lines).text))
+    (lines : List (List ℕ)) × TakesInto input lines left × (after ≡ Some (before ++ (answers rules 1 start lines).text))
 Drives rules start input left before after (Err faults.Read) =
     (lines : List (List ℕ)) × (part : List ℕ) × (rest : List ℕ) × AreLines input lines (part ++ rest) × (is_line part ≡ true) × (left ≡ Some rest) × (after ≡ Some (before ++ (answers rules 1 start lines).text))
 Drives rules start input left before after (Err faults.Write) =
-    (part : List ℕ) × (rest : List ℕ) × (part ++ rest ≡ (output_of rules start input).text) × (after ≡ Some (before ++ part))
+    (lines : List (List ℕ)) × (part : List ℕ) × (rest : List ℕ) × TakesTo input lines left
+    × ((answers rules 1 start lines).text ++ part ++ rest ≡ (output_of rules start input).text) × (after ≡ Some (before ++ (answers rules 1 start lines).text ++ part))
 
 -- a run that ends because its reader failed counts one failure of it, and any other run none
 abbrev pub CountsReads : {T F : Type 0} → ℕ → Result T (DriveFault F) → ℕ → Type 0

@@ -6,7 +6,7 @@ use Rattle.pf_text.proofs.driver.drive.Goals as goal
 pub returns-in_err-line-clause-driven : goal.returns-in_err-line-clause-driven
 returns-in_err-line-clause-driven g c input before left after =
     let error = err_from_is_err_and c.from_residual.result c.from_residual.ensures.1 in
-    rw (error.1, error.2) (Drives-memory (Progress-none g.M.Machine.rules c.args.start input before (g.R.Source.remaining c.args.reader.now) (g.W.Sink.contents c.args.writer.now) left after) (g.R.Source.remaining c.args.reader.now))
+    rw (error.1, error.2) (Drives-memory (Progress-none g.M.Machine.rules c.args.start input before (g.R.Source.remaining c.args.reader.now) (g.W.Sink.contents c.args.writer.now) left after))
 
 pub loop-number-init : goal.loop-number-init
 loop-number-init g c = record {
@@ -60,4 +60,4 @@ loop-number-preserved g c = record {
 }
 
 pub returns-clause-driven : goal.returns-clause-driven
-returns-clause-driven g c input before left after = Drives-memory (c.loop-number.invariant.so_far input before left after) (g.R.Source.remaining c.loop-number.reader)
+returns-clause-driven g c input before left after = Drives-memory (c.loop-number.invariant.so_far input before left after)
