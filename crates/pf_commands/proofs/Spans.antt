@@ -97,7 +97,7 @@ unfolding AreNamed
 named_entries m are name payload is = (are name payload (get-entries m name ∙ is)).0
 
 -- the entries between the first and the last name of a tick are those of that tick
-pub entries_between-tick : (es : List (CommandName × Payload)) (first last : CommandName) (tick : ℕ) → first ≡ name_at tick 0 0 → last ≡ name_at tick 7 65535
+entries_between-tick : (es : List (CommandName × Payload)) (first last : CommandName) (tick : ℕ) → first ≡ name_at tick 0 0 → last ≡ name_at tick 7 65535
     → IsStrictlySortedBy name_cmp (keys_of es) → AreCommands (from_entries es)
     → entries_between name_cmp (Included first) (Included last) es ≡ filter (λ e. e.0.tick == tick) (entries (from_entries {R = name_cmp} es))
 entries_between-tick es first last tick first_is last_is sorted are =
@@ -107,6 +107,13 @@ entries_between-tick es first last tick first_is last_is sorted are =
     ∙ ap (λ l. entries_between name_cmp from (Included l) es) last_is
     ∙ ap (entries_between name_cmp from to) (sym (entries-from_entries es sorted))
     ∙ filter-agreeing (range_contains name_cmp from to) (λ n. n.tick == tick) (in_tick tick) (entries (from_entries es)) (named_entries (from_entries es) are)
+
+-- so what is found between them are the commands of the tick
+pub payloads_between : (es found : List (CommandName × Payload)) {m : Commands} (first last : CommandName) (tick : ℕ) → first ≡ name_at tick 0 0 → last ≡ name_at tick 7 65535
+    → IsStrictlySortedBy name_cmp (keys_of es) → AreCommands (from_entries es) → from_entries es ≡ m
+    → found ≡ entries_between name_cmp (Included first) (Included last) es → map (λ e. e.1) found ≡ payloads_at m tick
+payloads_between es found first last tick first_is last_is sorted are map_is between =
+    ap (map (λ e. e.1)) (between ∙ entries_between-tick es first last tick first_is last_is sorted are) ∙ ap (λ m. payloads_at m tick) map_is
 
 -- there are none at a tick out of range
 pub payloads_at-out_of_range : (m : Commands) (tick : ℕ) → AreCommands m → 2 ^ 20 ≤ tick → payloads_at m tick ≡ []

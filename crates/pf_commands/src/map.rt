@@ -160,10 +160,10 @@ impl CommandMap {
     }
 
     /// The payloads of the tick, in order of player, then number. Takes logarithmic time, and then time and memory for
-    /// these payloads alone, so none for a tick that no name has.
+    /// these payloads alone, so none for a tick that has none.
     pub fn at_tick(&self, alloc: Global, tick: u32) -> Result<Vec<Payload>, AllocError>
         ensures items { IfOk result (λ payloads. payloads.items ≡ payloads_at self.now tick) }
-        ensures beyond { 2 ^ 20 ≤ tick → IsOk result }
+        ensures quiet { payloads_at self.now tick ≡ [] → IsOk result }
     {
         let commands = &self.commands;
         if tick >= TICKS {
@@ -171,10 +171,11 @@ impl CommandMap {
         }
         let first = Name::new(tick, 0, 0);
         let last = Name::new(tick, PLAYERS - 1, u16::MAX);
-        commands
-            .range(first..=last)
-            .map(|(_, payload)| *payload)
-            .collect(alloc)
+        let mut payloads = Vec::new(alloc);
+        for (_, payload) in commands.range(first..=last) {
+            payloads.push(*payload)?;
+        }
+        Ok(payloads)
     }
 
     /// The greatest number that the map holds at the tick for the player. Takes logarithmic time.
