@@ -1,14 +1,16 @@
 //! Contact points of two bodies, and pairs of bodies whose bounds overlap, over and over.
 
 ghost use Rattle.std.specs.Prelude.{◌≤◌, ◌<◌};
+ghost use Rattle.pf_rot.specs.Laws.{IsAtMostOne};
 ghost use Rattle.pf_shapes.specs.Fixture.{HasSize};
+ghost use Rattle.pf_shapes.specs.Scene.{IsPlace};
 
 use crate::chain::units;
 use pf_broad::pairs;
 use pf_manifold::{Manifold, Placed, Point, collide};
 use pf_num::Fx;
 use pf_rot::{Rot, V2};
-use pf_shapes::{BodyState, Fixture, MAX_BODIES, Scene, Shape};
+use pf_shapes::{Fixture, MAX_BODIES, Scene, Shape};
 use std::alloc::{AllocError, Global};
 
 /// What is done over and over.
@@ -63,7 +65,9 @@ fn small_box() -> Shape
 
 /// The rotation of index i: upright, a quarter, (0.8, 0.6) or (0.6, -0.8).
 #[inline]
-fn turned(i: u64) -> Rot {
+fn turned(i: u64) -> Rot
+    ensures { IsAtMostOne result }
+{
     let (c, s) = match i % 4 {
         0 => (Fx::ONE, Fx::ZERO),
         1 => (Fx::ZERO, Fx::ONE),
@@ -137,6 +141,7 @@ fn body_of(shape: Shape, is_static: bool) -> Fixture
 /// A place on a grid of 1.75 that is 32 wide.
 fn on_grid(i: u64) -> V2
     requires { i < 1024 }
+    ensures { IsPlace result }
 {
     let step = (7 << 24) / 4;
     V2 {
@@ -157,8 +162,7 @@ fn field(alloc: Global, held: u64) -> Result<Scene, AllocError>
             small_box()
         };
         let body = body_of(shape, i % 8 == 0);
-        let start = BodyState::start(&body, on_grid(i), turned(i));
-        scene.push(body, start)?;
+        scene.push(body, on_grid(i), turned(i))?;
     }
     Ok(scene)
 }

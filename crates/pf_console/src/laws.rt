@@ -61,10 +61,9 @@ pub fn sleepers_stay()
         → slice_get (sim scene commands (tick + later)) i ≡ Some body }
 {}
 
-/// No rotation of a world has a part above 1, where none of the scene's starts has one: what the bounds of a box ask for to
-/// hold it in exact numbers.
+/// No rotation of a world has a part above 1: what the bounds of a box ask for to hold it in exact numbers.
 pub fn rotations_stay_at_most_one()
-    ensures { (scene : Setting) (commands : Commands) (tick : ℕ) → All (λ b. IsAtMostOne b.rot) scene.starts
+    ensures { (scene : Setting) (commands : Commands) (tick : ℕ) → IsSetting scene
         → All (λ b. IsAtMostOne b.rot) (sim scene commands tick) }
 {}
 

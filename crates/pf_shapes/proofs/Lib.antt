@@ -6,4 +6,4 @@ pub mod Exact
 pub mod Circles
 pub mod Covering
 pub mod Saying
-pub mod Starts
+pub mod Limits

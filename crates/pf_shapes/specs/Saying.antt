@@ -37,15 +37,7 @@ start_rotation (Box hx hy) to = unit to.c to.s
 abbrev pub gravity_fields : Vec2 → List (List ℕ)
 gravity_fields g = codes "gravity" ∷ signed_decimal g.x ∷ signed_decimal g.y ∷ []
 
--- the ranges of a line's numbers: up to 2^34, 2^44 and 2^24 either way
-pub record IsGravity (g : Vec2) : Type 0 where
-  pub x : IsWithin (neg_ℤ (pos 17179869184)) (pos 17179869184) g.x
-  pub y : IsWithin (neg_ℤ (pos 17179869184)) (pos 17179869184) g.y
-
-pub record IsStart (place : Vec2) : Type 0 where
-  pub x : IsWithin (neg_ℤ (pos 17592186044416)) (pos 17592186044416) place.x
-  pub y : IsWithin (neg_ℤ (pos 17592186044416)) (pos 17592186044416) place.y
-
+-- the parts of a direction are up to 2^24 either way
 pub record IsDirection (to : Pair) : Type 0 where
   pub c : IsWithin (neg_ℤ (pos 16777216)) (pos 16777216) to.c
   pub s : IsWithin (neg_ℤ (pos 16777216)) (pos 16777216) to.s

@@ -1,6 +1,6 @@
 -- The lines of a scene: what each spells. The first fault from the left is the line's: first the word and the count
 -- of fields, then a body too many, then the fields one after the other.
-use Rattle.std.specs.Prelude.{◌≡◌, ℕ, ℤ, pos, neg_ℤ, List, [], ◌∷◌, length, Option, Some, None, Result, Ok, Err, ◌==◌, nat_lt, codes, if◌then◌else◌}
+use Rattle.std.specs.Prelude.{◌≡◌, ℕ, ℤ, pos, neg_ℤ, List, [], ◌∷◌, length, Option, Some, None, Result, Ok, Err, IsOk, ◌==◌, nat_lt, codes, if◌then◌else◌}
 use Rattle.std.specs.Int.RustNames.{unsigned_abs}
 use Rattle.std.specs.Str.{bytes_eq}
 use Rattle.pf_text.specs.declared.numbers.Spelled.{Spelled}
@@ -21,14 +21,13 @@ use Rattle.pf_shapes.specs.declared.words.BodyWord.TheVariants as bodies
 use Rattle.pf_shapes.specs.Fixture.{FixtureDef}
 use Rattle.pf_shapes.specs.declared.reader.Progress.{Progress}
 use Rattle.pf_shapes.specs.declared.reader.Progress.TheVariants.{More, Ended}
-use Rattle.pf_shapes.specs.Body.{State, start_of}
 use Rattle.pf_shapes.specs.Reader.{Reader}
 use Rattle.pf_shapes.specs.Scene.{Setting, empty_setting, with_body}
 
--- what a function gave is what the definition reads, unless memory ran out
+-- what a function gave is what the definition reads; memory may run out for what is no fault alone
 abbrev pub Reads : {X F : Type 0} → Result X (TakeRefusal F) → Result X F → Type 0
 Reads (Ok x) read = read ≡ Ok x
-Reads (Err refusals.Memory) read = Unit {0}
+Reads (Err refusals.Memory) read = IsOk read
 Reads (Err (refusals.Fault fault)) read = read ≡ Err fault
 
 -- ---- fields
@@ -134,25 +133,25 @@ turned_at x y c s = do
   rot ← rotation_of c s
   Ok (place, rot)
 
--- what a body is, and the state in which it starts
-unfoldable pub started : Result FixtureDef SceneFault → Result (Vec2 × Pair) SceneFault → Result (FixtureDef × State) SceneFault
-started fixture posture = do
+-- what a body is, and where it starts
+unfoldable pub placed : Result FixtureDef SceneFault → Result (Vec2 × Pair) SceneFault → Result (FixtureDef × (Vec2 × Pair)) SceneFault
+placed fixture posture = do
   fixture ← fixture
   posture ← posture
-  Ok (fixture, start_of fixture posture.0 posture.1)
+  Ok (fixture, posture)
 
 -- `circle OWNER MASS FRICTION R X Y`
-unfoldable pub circle_of : List (List ℕ) → Result (FixtureDef × State) SceneFault
-circle_of (owner ∷ mass ∷ friction ∷ r ∷ x ∷ y ∷ []) = started (circle_fixture owner mass friction r) (upright_at x y)
+unfoldable pub circle_of : List (List ℕ) → Result (FixtureDef × (Vec2 × Pair)) SceneFault
+circle_of (owner ∷ mass ∷ friction ∷ r ∷ x ∷ y ∷ []) = placed (circle_fixture owner mass friction r) (upright_at x y)
 circle_of args = Err BadLine
 
 -- `box OWNER MASS FRICTION HX HY X Y C S`
-unfoldable pub box_of : List (List ℕ) → Result (FixtureDef × State) SceneFault
-box_of (owner ∷ mass ∷ friction ∷ hx ∷ hy ∷ x ∷ y ∷ c ∷ s ∷ []) = started (box_fixture owner mass friction hx hy) (turned_at x y c s)
+unfoldable pub box_of : List (List ℕ) → Result (FixtureDef × (Vec2 × Pair)) SceneFault
+box_of (owner ∷ mass ∷ friction ∷ hx ∷ hy ∷ x ∷ y ∷ c ∷ s ∷ []) = placed (box_fixture owner mass friction hx hy) (turned_at x y c s)
 box_of args = Err BadLine
 
 -- the fields of a body behind its word
-abbrev pub body_of : BodyWord → List (List ℕ) → Result (FixtureDef × State) SceneFault
+abbrev pub body_of : BodyWord → List (List ℕ) → Result (FixtureDef × (Vec2 × Pair)) SceneFault
 body_of bodies.Circle args = circle_of args
 body_of bodies.Box args = box_of args
 
@@ -174,8 +173,8 @@ gravity_line most None (x ∷ y ∷ []) = do
   Ok (so_far most (empty_setting gravity))
 gravity_line most scene args = Err BadLine
 
-abbrev pub body_added : ℕ → Setting → Result (FixtureDef × State) SceneFault → Result Progress SceneFault
-body_added most s (Ok body) = Ok (so_far most (with_body s body.0 body.1))
+abbrev pub body_added : ℕ → Setting → Result (FixtureDef × (Vec2 × Pair)) SceneFault → Result Progress SceneFault
+body_added most s (Ok body) = Ok (so_far most (with_body s body.0 body.1.0 body.1.1))
 body_added most s (Err fault) = Err fault
 
 -- a body has the next number, where the scene may have one body more

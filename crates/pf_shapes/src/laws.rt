@@ -10,9 +10,8 @@ ghost use Rattle.pf_shapes.specs.Fixture.{FixtureDef, IsFixture, IsSize};
 ghost use Rattle.pf_shapes.specs.Body.{State, start_of};
 ghost use Rattle.pf_shapes.specs.Bounds.{Span, IsUpright, overlaps, span_of, bounds_of};
 ghost use Rattle.pf_shapes.specs.Laws.{Covers, IsInBox, IsInCircle, IsInSpan, IsInner, exact_place, finer_span};
-ghost use Rattle.pf_shapes.specs.Saying.{body_fields, gravity_fields, start_rotation, IsDirection, IsGravity, IsStart};
-ghost use Rattle.pf_shapes.specs.Scene.{Setting, empty_setting, with_body};
-ghost use Rattle.pf_shapes.specs.SceneRead.{scene_of};
+ghost use Rattle.pf_shapes.specs.Saying.{body_fields, gravity_fields, start_rotation, IsDirection};
+ghost use Rattle.pf_shapes.specs.Scene.{Setting, IsGravity, IsPlace, empty_setting, with_body};
 ghost use Rattle.pf_shapes.specs.SceneText.{line_of, so_far};
 
 use crate::fixture::Shape;
@@ -22,14 +21,9 @@ pub fn scene_lines_are_read()
     ensures gravity { (most : ℕ) (g : Vec2) → IsGravity g
         → line_of (record { most = most; scene = None }) (gravity_fields g) ≡ Ok (so_far most (empty_setting g)) }
     ensures body { (most : ℕ) (s : Setting) (f : FixtureDef) (place : Vec2) (to : Pair) → length s.fixtures < most
-        → IsFixture f → IsStart place → IsDirection to
+        → IsFixture f → IsPlace place → IsDirection to
         → line_of (record { most = most; scene = Some s }) (body_fields f place to)
-        ≡ Ok (so_far most (with_body s f (start_of f place (start_rotation f.shape to)))) }
-{}
-
-/// No rotation in which a read scene starts a body has a part above 1.
-pub fn starts_are_at_most_one()
-    ensures { (input : List ℕ) (s : Setting) → scene_of input ≡ Ok s → All (λ b. IsAtMostOne b.rot) s.starts }
+        ≡ Ok (so_far most (with_body s f place (start_rotation f.shape to))) }
 {}
 
 /// Bounds overlap others where these overlap them.

@@ -1,14 +1,15 @@
 //! A scene read line by line.
 
-ghost use Rattle.std.specs.Prelude.{◌≡◌, ◌<◌, ◌≤◌, length, map};
+ghost use Rattle.std.specs.Prelude.{◌≡◌, ◌<◌, ◌≤◌, length, map, IfOk};
+ghost use Rattle.pf_shapes.specs.Scene.{IsPosture};
 ghost use Rattle.pf_shapes.specs.SceneText.{Reads, so_far, field_count, body_added, with_line};
 
-use crate::body::BodyState;
 use crate::fault::SceneFault;
 use crate::fixture::Fixture;
 use crate::scene::{MAX_BODIES, Scene};
 use crate::scene_text::{read_body, read_gravity};
 use crate::words::{BodyWord, SceneWord, word};
+use pf_rot::{Rot, V2};
 use pf_text::TakeRefusal;
 use std::alloc::Global;
 use std::marker::Model;
@@ -147,15 +148,16 @@ fn with_line(
 fn body_added(
     most_bodies: usize,
     scene: Scene,
-    body: Result<(Fixture, BodyState), SceneFault>,
+    body: Result<(Fixture, (V2, Rot)), SceneFault>,
 ) -> Result<Progress, TakeRefusal<SceneFault>>
     requires limit { most_bodies ≤ MAX_BODIES }
     requires room { length scene.fixtures < most_bodies }
+    requires posture { IfOk body (λ body. IsPosture body.1) }
     ensures { Reads result (body_added most_bodies scene body) }
 {
-    let (fixture, start) = body.map_err(TakeRefusal::Fault)?;
+    let (fixture, (place, rot)) = body.map_err(TakeRefusal::Fault)?;
     let mut scene = scene;
-    scene.push(fixture, start)?;
+    scene.push(fixture, place, rot)?;
     Ok(so_far(most_bodies, scene))
 }
 

@@ -2,7 +2,7 @@
 
 use crate::body::BodyState;
 use crate::fixture::Fixture;
-use pf_rot::V2;
+use pf_rot::{Rot, V2};
 use std::alloc::{AllocError, Global};
 use std::marker::Model;
 
@@ -29,11 +29,12 @@ impl Model for Scene {
 
 impl Scene {
     ghost use Rattle.std.specs.Prelude.{◌≡◌, ◌<◌, ◌≤◌, ◌↔◌, [], length, IsTrue, OnOk, OnErr, IfOk};
-    ghost use Rattle.pf_shapes.specs.Scene.{Setting, IsSetting, empty_setting, with_body};
+    ghost use Rattle.pf_shapes.specs.Scene.{IsSetting, IsGravity, IsPosture, empty_setting, with_body};
     ghost use Rattle.pf_shapes.specs.Same.{same_setting};
 
-    /// A scene without bodies.
+    /// A scene without bodies. Gravity has parts up to 2^34.
     pub fn new(alloc: Global, gravity: V2) -> Scene
+        requires { IsGravity gravity }
         ensures { result ≡ empty_setting gravity }
     {
         Scene {
@@ -80,12 +81,16 @@ impl Scene {
         self.starts.as_slice()
     }
 
-    /// Adds a body with the next number. An `Err` leaves the scene as it was.
-    pub fn push(&mut self, fixture: Fixture, start: BodyState) -> Result<(), AllocError>
-        requires { length self.old.fixtures < MAX_BODIES }
-        ensures ok { OnOk result (self.new ≡ with_body self.old fixture start) }
+    /// Adds a body with the next number, which starts at rest. The parts of its place are up to 2^44, and those of its
+    /// rotation up to 1. An `Err` leaves the scene as it was.
+    #[tactic(auto, using(crate::proofs::Limits::starts_push))]
+    pub fn push(&mut self, fixture: Fixture, place: V2, rot: Rot) -> Result<(), AllocError>
+        requires room { length self.old.fixtures < MAX_BODIES }
+        requires posture { IsPosture (place, rot) }
+        ensures ok { OnOk result (self.new ≡ with_body self.old fixture place rot) }
         ensures err { OnErr result (self.new ≡ self.old) }
     {
+        let start = BodyState::start(&fixture, place, rot);
         self.starts.reserve(1)?;
         self.fixtures.push(fixture)?;
         self.starts.push_reserved(start);

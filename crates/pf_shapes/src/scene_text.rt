@@ -2,10 +2,11 @@
 
 ghost use Rattle.std.specs.Prelude.{◌≡◌, ◌≤ℤ◌, pos, neg_ℤ, IfOk, map};
 ghost use Rattle.pf_num.specs.Fx.{IsRaw};
+ghost use Rattle.pf_rot.specs.Laws.{IsAtMostOne};
 ghost use Rattle.pf_shapes.specs.Fixture.{IsWithin, IsMass, IsOwner};
-ghost use Rattle.pf_shapes.specs.SceneText.{number_of, acceleration_of, coordinate_of, size_of, friction_of, mass_of, owner_of, gravity_of, place_of, direction_of, rotation_of, circle_fixture, box_fixture, upright_at, turned_at, started, circle_of, box_of, body_of};
+ghost use Rattle.pf_shapes.specs.Scene.{IsGravity, IsPlace, IsPosture};
+ghost use Rattle.pf_shapes.specs.SceneText.{number_of, acceleration_of, coordinate_of, size_of, friction_of, mass_of, owner_of, gravity_of, place_of, direction_of, rotation_of, circle_fixture, box_fixture, upright_at, turned_at, placed, circle_of, box_of, body_of};
 
-use crate::body::BodyState;
 use crate::fault::SceneFault;
 use crate::fixture::{Fixture, Shape};
 use crate::words::BodyWord;
@@ -40,14 +41,16 @@ fn number_in(field: &[u8], low: i64, high: i64, outside: SceneFault) -> Result<F
 
 /// A part of gravity.
 fn read_acceleration(field: &[u8]) -> Result<Fx, SceneFault>
-    ensures { result ≡ acceleration_of field.now }
+    ensures value { result ≡ acceleration_of field.now }
+    ensures range { IfOk result (IsWithin (neg_ℤ (pos 17179869184)) (pos 17179869184)) }
 {
     number_in(field, -MOST, MOST, SceneFault::BadNumber)
 }
 
 /// A part of a place.
 fn read_coordinate(field: &[u8]) -> Result<Fx, SceneFault>
-    ensures { result ≡ coordinate_of field.now }
+    ensures value { result ≡ coordinate_of field.now }
+    ensures range { IfOk result (IsWithin (neg_ℤ (pos 17592186044416)) (pos 17592186044416)) }
 {
     number_in(field, -FARTHEST, FARTHEST, SceneFault::BadNumber)
 }
@@ -108,7 +111,8 @@ fn read_owner(field: &[u8]) -> Result<Option<u8>, SceneFault>
 /// `gravity GX GY`.
 #[tactic(auto, unfolding(crate::specs::SceneText::gravity_of))]
 pub fn read_gravity(x: &[u8], y: &[u8]) -> Result<V2, SceneFault>
-    ensures { result ≡ gravity_of x.now y.now }
+    ensures value { result ≡ gravity_of x.now y.now }
+    ensures range { IfOk result IsGravity }
 {
     Ok(V2 {
         x: read_acceleration(x)?,
@@ -119,7 +123,8 @@ pub fn read_gravity(x: &[u8], y: &[u8]) -> Result<V2, SceneFault>
 /// The place of a start.
 #[tactic(auto, unfolding(crate::specs::SceneText::place_of))]
 fn read_place(x: &[u8], y: &[u8]) -> Result<V2, SceneFault>
-    ensures { result ≡ place_of x.now y.now }
+    ensures value { result ≡ place_of x.now y.now }
+    ensures range { IfOk result IsPlace }
 {
     Ok(V2 {
         x: read_coordinate(x)?,
@@ -128,9 +133,10 @@ fn read_place(x: &[u8], y: &[u8]) -> Result<V2, SceneFault>
 }
 
 /// The rotation of a start.
-#[tactic(auto, unfolding(crate::specs::SceneText::rotation_of))]
+#[tactic(auto, using(pf_rot::proofs::Directions::unit_at_most_one), unfolding(crate::specs::SceneText::rotation_of))]
 fn read_rotation(c: &[u8], s: &[u8]) -> Result<Rot, SceneFault>
-    ensures { result ≡ rotation_of c.now s.now }
+    ensures value { result ≡ rotation_of c.now s.now }
+    ensures range { IfOk result IsAtMostOne }
 {
     let c = read_direction(c)?;
     let s = read_direction(s)?;
@@ -140,7 +146,8 @@ fn read_rotation(c: &[u8], s: &[u8]) -> Result<Rot, SceneFault>
 /// A place, and upright there.
 #[tactic(auto, unfolding(crate::specs::SceneText::upright_at))]
 fn upright_at(x: &[u8], y: &[u8]) -> Result<(V2, Rot), SceneFault>
-    ensures { result ≡ upright_at x.now y.now }
+    ensures value { result ≡ upright_at x.now y.now }
+    ensures range { IfOk result IsPosture }
 {
     Ok((read_place(x, y)?, Rot::UPRIGHT))
 }
@@ -148,16 +155,18 @@ fn upright_at(x: &[u8], y: &[u8]) -> Result<(V2, Rot), SceneFault>
 /// A place, and the rotation there.
 #[tactic(auto, unfolding(crate::specs::SceneText::turned_at))]
 fn turned_at(x: &[u8], y: &[u8], c: &[u8], s: &[u8]) -> Result<(V2, Rot), SceneFault>
-    ensures { result ≡ turned_at x.now y.now c.now s.now }
+    ensures value { result ≡ turned_at x.now y.now c.now s.now }
+    ensures range { IfOk result IsPosture }
 {
     let place = read_place(x, y)?;
     let rot = read_rotation(c, s)?;
     Ok((place, rot))
 }
 
-/// The fields of a body behind its word: what the body is, and how it starts.
-pub fn read_body(word: BodyWord, arguments: &[&[u8]]) -> Result<(Fixture, BodyState), SceneFault>
-    ensures { result ≡ body_of word (map (λ field. field.now) arguments.now) }
+/// The fields of a body behind its word: what the body is, and where it starts.
+pub fn read_body(word: BodyWord, arguments: &[&[u8]]) -> Result<(Fixture, (V2, Rot)), SceneFault>
+    ensures value { result ≡ body_of word (map (λ field. field.now) arguments.now) }
+    ensures range { IfOk result (λ body. IsPosture body.1) }
 {
     match word {
         BodyWord::Circle => read_circle(arguments),
@@ -167,12 +176,13 @@ pub fn read_body(word: BodyWord, arguments: &[&[u8]]) -> Result<(Fixture, BodySt
 
 /// `circle OWNER MASS FRICTION R X Y`.
 #[tactic(auto, unfolding(crate::specs::SceneText::circle_of))]
-fn read_circle(arguments: &[&[u8]]) -> Result<(Fixture, BodyState), SceneFault>
-    ensures { result ≡ circle_of (map (λ field. field.now) arguments.now) }
+fn read_circle(arguments: &[&[u8]]) -> Result<(Fixture, (V2, Rot)), SceneFault>
+    ensures value { result ≡ circle_of (map (λ field. field.now) arguments.now) }
+    ensures range { IfOk result (λ body. IsPosture body.1) }
 {
     match arguments {
         [owner, mass, friction, r, x, y] => {
-            started(circle_fixture(owner, mass, friction, r), upright_at(x, y))
+            placed(circle_fixture(owner, mass, friction, r), upright_at(x, y))
         }
         _ => Err(SceneFault::BadLine),
     }
@@ -180,12 +190,13 @@ fn read_circle(arguments: &[&[u8]]) -> Result<(Fixture, BodyState), SceneFault>
 
 /// `box OWNER MASS FRICTION HX HY X Y C S`.
 #[tactic(auto, unfolding(crate::specs::SceneText::box_of))]
-fn read_box(arguments: &[&[u8]]) -> Result<(Fixture, BodyState), SceneFault>
-    ensures { result ≡ box_of (map (λ field. field.now) arguments.now) }
+fn read_box(arguments: &[&[u8]]) -> Result<(Fixture, (V2, Rot)), SceneFault>
+    ensures value { result ≡ box_of (map (λ field. field.now) arguments.now) }
+    ensures range { IfOk result (λ body. IsPosture body.1) }
 {
     match arguments {
         [owner, mass, friction, hx, hy, x, y, c, s] => {
-            started(
+            placed(
                 box_fixture(owner, mass, friction, hx, hy),
                 turned_at(x, y, c, s),
             )
@@ -194,18 +205,19 @@ fn read_box(arguments: &[&[u8]]) -> Result<(Fixture, BodyState), SceneFault>
     }
 }
 
-/// What a body is, and the state in which it starts.
-#[tactic(auto, unfolding(crate::specs::SceneText::started))]
-fn started(
+/// What a body is, and where it starts.
+#[tactic(auto, unfolding(crate::specs::SceneText::placed))]
+fn placed(
     fixture: Result<Fixture, SceneFault>,
     posture: Result<(V2, Rot), SceneFault>,
-) -> Result<(Fixture, BodyState), SceneFault>
-    ensures { result ≡ started fixture posture }
+) -> Result<(Fixture, (V2, Rot)), SceneFault>
+    requires { IfOk posture IsPosture }
+    ensures value { result ≡ placed fixture posture }
+    ensures range { IfOk result (λ body. IsPosture body.1) }
 {
     let fixture = fixture?;
-    let (place, rot) = posture?;
-    let start = BodyState::start(&fixture, place, rot);
-    Ok((fixture, start))
+    let posture = posture?;
+    Ok((fixture, posture))
 }
 
 /// What four fields say of a circle.

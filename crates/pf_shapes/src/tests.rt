@@ -143,8 +143,7 @@ fn a_box_is_harder_to_spin_than_a_disc(rt: HostRuntime) -> Result<(), Fail> {
     let fixture = Fixture::new(shape, Fx::ONE, Fx::ZERO, Some(7));
     assert_eq!(rt; fixture.inverse_inertia().raw(), 25_165_823);
     let mut scene = Scene::new(rt.alloc(), V2::ZERO);
-    let start = BodyState::start(&fixture, V2::ZERO, Rot::UPRIGHT);
-    scene.push(fixture, start)?;
+    scene.push(fixture, V2::ZERO, Rot::UPRIGHT)?;
     assert_eq!(rt; scene.len(), 1);
     Ok(())
 }
@@ -241,7 +240,6 @@ fn bounds_that_touch_overlap(rt: HostRuntime) {
 #[test]
 fn laws_are_called(_rt: HostRuntime) {
     laws::scene_lines_are_read();
-    laws::starts_are_at_most_one();
     laws::overlapping_is_symmetric();
     laws::spans_that_share_a_place_overlap();
     laws::boxes_stay_in_their_bounds();

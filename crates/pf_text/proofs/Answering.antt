@@ -1,11 +1,7 @@
 -- The laws of the answers to lines.
-use Rattle.std.proofs.Common.{◌≡◌, ℕ, ◌+◌, Bool, true, false, List, [], ◌∷◌, ◌++◌, Result, Ok, Err, refl, sym, ap, ◌∙◌, append_assoc, if◌then◌else◌}
-use Rattle.pf_text.specs.declared.fault.LineFault.{LineFault}
-use Rattle.pf_text.specs.declared.fault.LineFault.TheVariants.{BadLine}
-use Rattle.pf_text.specs.Driver.{Rules, Output, said, step, answers, and_then, is_plain, is_skipped}
-use Rattle.pf_text.specs.Fields.{fields_of}
+use Rattle.std.proofs.Common.{◌≡◌, ℕ, ◌+◌, true, List, [], ◌∷◌, ◌++◌, Result, Ok, Err, refl, sym, ap, ◌∙◌, append_assoc}
+use Rattle.pf_text.specs.Driver.{Rules, Output, step, answers, and_then, is_plain, is_skipped}
 use Rattle.pf_text.specs.Laws.{behind, followed, one_later}
-use Rattle.pf_text.proofs.Steps.{done_alike}
 
 module _ {S F : Type 0} (rules : Rules S F) where
   -- a line, and then what follows all the lines
@@ -42,32 +38,3 @@ module _ {S F : Type 0} (rules : Rules S F) where
   pub answers-skipped : (number : ℕ) (state : S) (line : List ℕ) (lines : List (List ℕ)) → is_plain line ≡ true → is_skipped line ≡ true → answers rules number state (line ∷ lines) ≡ one_later (answers rules number state lines)
   unfolding answers step
   answers-skipped number state line lines plain skipped = rw (plain, skipped) (answers-later number state lines)
-
-  -- ---- what holds of a state
-
-  module _ (P : S → Type 0) (keeps : (state : S) (fields : List (List ℕ)) (answer : List ℕ × S) → P state → rules.says state fields ≡ Ok answer → P answer.1) where
-    said-keeps : (state : S) (fields : Result (List (List ℕ)) LineFault) (answer : List ℕ × S) → P state → said rules state fields ≡ Ok answer → P answer.1
-    said-keeps state (Ok fields) answer holds e = keeps state fields answer holds e
-    said-keeps state (Err fault) answer holds e = absurd cc
-
-    step-keeps : (state : S) (line : List ℕ) (answer : List ℕ × S) → P state → step rules state line ≡ Ok answer → P answer.1
-    unfolding step
-    step-keeps state line answer holds e = by (is_plain line) (is_skipped line) e
-      where
-        by : (plain skipped : Bool)
-            → (if plain then (if skipped then Ok ([], state) else said rules state (fields_of line)) else Err (rules.refused BadLine)) ≡ Ok answer → P answer.1
-        by true true e = done_alike (λ (answer : List ℕ × S). P answer.1) ([], state) answer e holds
-        by true false e = said-keeps state (fields_of line) answer holds e
-        by false skipped e = absurd cc
-
-    pub ending-keeps : (number : ℕ) (state : S) (lines : List (List ℕ)) (ended : ℕ × S) → P state → (answers rules number state lines).ending ≡ Ok ended → P ended.1
-    unfolding answers
-    ending-keeps number state [] ended holds e = done_alike (λ (ended : ℕ × S). P ended.1) (number, state) ended e holds
-    ending-keeps number state (line ∷ lines) ended holds e =
-        by (step rules state line) refl e (λ next held. ending-keeps (number + 1) next lines ended held)
-      where
-        by : (answer : Result (List ℕ × S) F) → step rules state line ≡ answer
-            → (and_then number answer (λ next. answers rules (number + 1) next lines)).ending ≡ Ok ended
-            → ((next : S) → P next → (answers rules (number + 1) next lines).ending ≡ Ok ended → P ended.1) → P ended.1
-        by (Ok answer) is e rest = rest answer.1 (step-keeps state line answer holds is) e
-        by (Err fault) is e rest = absurd cc
