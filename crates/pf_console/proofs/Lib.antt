@@ -13,3 +13,4 @@ pub mod Issued
 pub mod Rotations
 pub mod Shown
 pub mod Counting
+pub mod FrameDigits

@@ -23,3 +23,8 @@ decoded (Err fault) = Err fault
 -- the command that these bytes spell, or why they spell none
 abbrev pub frame_of : List ℕ → Result (Result Command FrameFault) LineFault
 frame_of digits = decoded (bytes_of digits)
+
+-- bytes that spell no command
+abbrev pub refused : Result FrameFault LineFault → Result (Result Command FrameFault) LineFault
+refused (Ok fault) = Ok (Err fault)
+refused (Err fault) = Err fault

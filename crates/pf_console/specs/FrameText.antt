@@ -1,5 +1,5 @@
 -- What the program does with the digits of one frame.
-use Rattle.std.specs.Prelude.{◌≡◌, ℕ, List, ◌++◌, Option, Some, Result, Ok, Err}
+use Rattle.std.specs.Prelude.{◌≡◌, ℕ, List, ◌++◌, Option, Some, Result, Ok, Err, IsOk}
 use Rattle.pf_text.specs.declared.fault.LineFault.{LineFault}
 use Rattle.pf_commands.specs.declared.fault.FrameFault.{FrameFault}
 use Rattle.pf_commands.specs.declared.payload.Command.{Command}
@@ -22,21 +22,14 @@ framed (Err fault) = Err BadNumber
 abbrev pub digits_command : List ℕ → Result Command DigitsFault
 digits_command digits = framed (frame_of digits)
 
--- what was read is what the digits spell, unless memory ran out
-abbrev pub Reads : Result Command PlayFault → Result Command DigitsFault → Type 0
-Reads (Ok command) spelled = spelled ≡ Ok command
-Reads (Err (Frame fault)) spelled = spelled ≡ Err fault
-Reads (Err Memory) spelled = Unit {0}
-Reads (Err other) spelled = ⊥
-
 -- What came of the digits, with the bytes that were there before and those that are there after: the line of their
--- command, or its fault and nothing written. Where memory failed nothing was written, where the writer failed a
--- beginning of the line.
+-- command, or its fault and nothing written. Where memory failed, which it does for no fault, nothing was written; where
+-- the writer failed, a beginning of the line.
 abbrev pub PrintsFrame : List ℕ → List ℕ → Option (List ℕ) → Result (Unit {0}) PlayFault → Type 0
 PrintsFrame digits before after (Ok done) =
     (command : Command) × (digits_command digits ≡ Ok command) × (after ≡ Some (before ++ command_line command))
 PrintsFrame digits before after (Err (Frame fault)) = (digits_command digits ≡ Err fault) × (after ≡ Some before)
-PrintsFrame digits before after (Err Memory) = after ≡ Some before
+PrintsFrame digits before after (Err Memory) = IsOk (digits_command digits) × (after ≡ Some before)
 PrintsFrame digits before after (Err Write) =
     (command : Command) × (part : List ℕ) × (rest : List ℕ) × (digits_command digits ≡ Ok command)
     × (part ++ rest ≡ command_line command) × (after ≡ Some (before ++ part))

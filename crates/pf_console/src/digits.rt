@@ -1,34 +1,53 @@
 //! Frames in hexadecimal digits.
 
-ghost use Rattle.std.specs.Prelude.{◌≡◌, ℕ, List, length, Ok, IsOk};
-ghost use Rattle.pf_text.specs.Fault.{Gives};
-ghost use Rattle.pf_console.specs.Digits.{bytes_of, frame_of};
+ghost use Rattle.std.specs.Prelude.{◌≡◌, ◌≢◌, length};
+ghost use Rattle.std.specs.Char.{is_ascii_hexdigit};
+ghost use Rattle.std.specs.List.{list_all};
+ghost use Rattle.pf_console.specs.Digits.{frame_of, refused};
 
-use hex::FromHexError;
 use pf_commands::{Command, FRAME_LEN, FrameFault, decode};
-use pf_text::{LineError, LineFault};
-use std::alloc::Global;
+use pf_text::LineFault;
 
-/// The bytes that digits of either case spell, two digits a byte.
-fn bytes(alloc: Global, digits: &[u8]) -> Result<Vec<u8>, LineError>
-    ensures { Gives (λ bytes. bytes.items) result (bytes_of digits.now) }
+/// How many digits the frame of a command has.
+const FRAME_DIGITS: usize = 2 * FRAME_LEN;
+
+/// The command that digits of either case spell, two a byte, or why they spell none. They are at fault where they are no
+/// bytes. However many they are, this takes no memory.
+pub fn frame(digits: &[u8]) -> Result<Result<Command, FrameFault>, LineFault>
+    ensures { result ≡ frame_of digits.now }
 {
-    match hex::decode(alloc, digits) {
-        Ok(bytes) => Ok(bytes),
-        Err(FromHexError::OutOfMemory) => Err(LineError::Memory),
-        Err(_) => Err(LineError::Fault(LineFault::BadNumber)),
+    if digits.len() != FRAME_DIGITS {
+        return Ok(Err(fault_of_length(digits)?));
+    }
+    let mut frame = [0; FRAME_LEN];
+    match hex::decode_to_slice(digits, &mut frame) {
+        Ok(()) => Ok(decode(&frame)),
+        Err(_) => Err(LineFault::BadNumber),
     }
 }
 
-/// The command that the bytes of these digits spell, or why they spell none. The 54 digits of a frame take no memory.
-pub fn frame(alloc: Global, digits: &[u8]) -> Result<Result<Command, FrameFault>, LineError>
-    ensures value { Gives (λ frame. frame) result (frame_of digits.now) }
-    ensures short { (bytes : List ℕ) → length digits.now ≡ 54 → bytes_of digits.now ≡ Ok bytes → IsOk result }
+/// Whether all bytes are hexadecimal digits, of either case.
+fn are_digits(bytes: &[u8]) -> bool
+    ensures { result ≡ list_all is_ascii_hexdigit bytes.now }
 {
-    let mut frame = [0; FRAME_LEN];
-    if hex::decode_to_slice(digits, &mut frame).is_ok() {
-        return Ok(decode(&frame));
+    bytes.iter().all(|byte| byte.is_ascii_hexdigit())
+}
+
+/// Why digits spell no command that are too few or too many.
+#[tactic(auto, using(crate::proofs::FrameDigits::odd_digits, crate::proofs::FrameDigits::no_digits, crate::proofs::FrameDigits::short_digits, crate::proofs::FrameDigits::long_digits))]
+fn fault_of_length(digits: &[u8]) -> Result<FrameFault, LineFault>
+    requires { length digits.now ≢ FRAME_DIGITS }
+    ensures { frame_of digits.now ≡ refused result }
+{
+    if digits.len() % 2 != 0 {
+        return Err(LineFault::BadNumber);
     }
-    let bytes = bytes(alloc, digits)?;
-    Ok(decode(&bytes))
+    if !are_digits(digits) {
+        return Err(LineFault::BadNumber);
+    }
+    Ok(if digits.len() < FRAME_DIGITS {
+        FrameFault::Short
+    } else {
+        FrameFault::Long
+    })
 }

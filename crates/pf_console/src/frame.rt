@@ -2,24 +2,23 @@
 
 ghost use Rattle.std.specs.Prelude.{◌≡◌, ℕ, ◌+◌, ◌^◌, ◌<◌, List, Some};
 ghost use Rattle.pf_console.specs.Text.{CountsWrites, ReadsNothing};
-ghost use Rattle.pf_console.specs.FrameText.{Reads, digits_command, PrintsFrame};
+ghost use Rattle.pf_console.specs.FrameText.{digits_command, PrintsFrame};
 
 use crate::digits::frame;
 use crate::fault::{DigitsFault, PlayFault};
 use crate::print::command_text;
 use pf_commands::Command;
-use pf_text::{LineError, Sink};
+use pf_text::Sink;
 use std::alloc::Global;
 
 /// The command that digits spell.
-fn read(alloc: Global, digits: &[u8]) -> Result<Command, PlayFault>
-    ensures { Reads result (digits_command digits.now) }
+fn read(digits: &[u8]) -> Result<Command, DigitsFault>
+    ensures { result ≡ digits_command digits.now }
 {
-    match frame(alloc, digits) {
+    match frame(digits) {
         Ok(Ok(command)) => Ok(command),
-        Ok(Err(fault)) => Err(PlayFault::Frame(DigitsFault::Refused(fault))),
-        Err(LineError::Memory) => Err(PlayFault::Memory),
-        Err(LineError::Fault(_)) => Err(PlayFault::Frame(DigitsFault::BadNumber)),
+        Ok(Err(fault)) => Err(DigitsFault::Refused(fault)),
+        Err(_) => Err(DigitsFault::BadNumber),
     }
 }
 
@@ -31,7 +30,7 @@ pub fn frame_text<W: Sink>(alloc: Global, digits: &str, writer: &mut W) -> Resul
     ensures reads_nothing { ReadsNothing result }
     ensures writes_counted { CountsWrites (W.failures writer.old) result (W.failures writer.new) }
 {
-    let command = read(alloc, digits.as_bytes())?;
+    let command = read(digits.as_bytes()).map_err(PlayFault::Frame)?;
     let text = command_text(alloc, &command)?;
     match writer.write_all(text.as_bytes()) {
         Ok(()) => Ok(()),

@@ -1,15 +1,13 @@
 //! The lines of events.
 
 ghost use Rattle.std.specs.Prelude.{◌≡◌, map};
-ghost use Rattle.pf_text.specs.Fault.{Gives};
 ghost use Rattle.pf_console.specs.Grammar.{peer_of, tick_of, body_of, real_of, word_of, kind_of, push_of, turn_of, stop_of, issue_of, take_of, advance_of, show_of, event_of};
 
 use crate::digits::frame;
 use crate::event::Event;
 use pf_commands::Payload;
 use pf_num::Fx;
-use pf_text::{LineError, LineFault, Spelled, number};
-use std::alloc::Global;
+use pf_text::{LineFault, Spelled, number};
 
 /// The first field of an event's line.
 #[derive(Clone, Copy, Debug, PartialEq, Eq)]
@@ -163,14 +161,14 @@ fn issue(arguments: &[&[u8]]) -> Result<Event, LineFault>
 
 /// `take P HEX`.
 #[tactic(auto, unfolding(crate::specs::Grammar::take_of))]
-fn take(alloc: Global, arguments: &[&[u8]]) -> Result<Event, LineError>
-    ensures { Gives (λ event. event) result (take_of (map (λ field. field.now) arguments.now)) }
+fn take(arguments: &[&[u8]]) -> Result<Event, LineFault>
+    ensures { result ≡ take_of (map (λ field. field.now) arguments.now) }
 {
     let [of, digits] = arguments else {
-        return Err(LineError::Fault(LineFault::BadLine));
+        return Err(LineFault::BadLine);
     };
     let peer = peer(of)?;
-    let frame = frame(alloc, digits)?;
+    let frame = frame(digits)?;
     Ok(Event::Take { peer, frame })
 }
 
@@ -204,17 +202,17 @@ fn show(arguments: &[&[u8]]) -> Result<Event, LineFault>
 
 /// The event that a line's fields say.
 #[tactic(auto, unfolding(crate::specs::Grammar::event_of))]
-pub fn event(alloc: Global, fields: &[&[u8]]) -> Result<Event, LineError>
-    ensures { Gives (λ event. event) result (event_of (map (λ field. field.now) fields.now)) }
+pub fn event(fields: &[&[u8]]) -> Result<Event, LineFault>
+    ensures { result ≡ event_of (map (λ field. field.now) fields.now) }
 {
     let [first, arguments @ ..] = fields else {
-        return Err(LineError::Fault(LineFault::BadLine));
+        return Err(LineFault::BadLine);
     };
     match word(first) {
-        Some(EventWord::Issue) => Ok(issue(arguments)?),
-        Some(EventWord::Take) => take(alloc, arguments),
-        Some(EventWord::Advance) => Ok(advance(arguments)?),
-        Some(EventWord::Show) => Ok(show(arguments)?),
-        None => Err(LineError::Fault(LineFault::BadLine)),
+        Some(EventWord::Issue) => issue(arguments),
+        Some(EventWord::Take) => take(arguments),
+        Some(EventWord::Advance) => advance(arguments),
+        Some(EventWord::Show) => show(arguments),
+        None => Err(LineFault::BadLine),
     }
 }

@@ -10,7 +10,7 @@ use crate::grammar::event;
 use crate::peer::Peer;
 use crate::print::reply_text;
 use pf_shapes::{Progress, Scene, SceneFault, SceneReader};
-use pf_text::{LineError, LineFault, Machine, TakeRefusal, integer};
+use pf_text::{LineFault, Machine, TakeRefusal, integer};
 use std::alloc::Global;
 
 /// How many bodies a scene may have.
@@ -86,10 +86,9 @@ fn happened(
 ) -> Result<(String, Phase), TakeRefusal<SceneFault>>
     ensures { Tells result (happened peer (event_of (map (λ field. field.now) fields.now))) }
 {
-    match event(alloc, fields) {
+    match event(fields) {
         Ok(event) => answered(alloc, peer, event),
-        Err(LineError::Memory) => Err(TakeRefusal::Memory),
-        Err(LineError::Fault(fault)) => Err(TakeRefusal::Fault(SceneFault::from(fault))),
+        Err(fault) => Err(TakeRefusal::Fault(SceneFault::from(fault))),
     }
 }
 
