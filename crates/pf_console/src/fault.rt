@@ -1,10 +1,11 @@
 //! Why the program ended with another status than 0.
 
 ghost use Rattle.std.specs.Prelude.{◌≡◌};
-ghost use Rattle.pf_console.specs.declared.fault.PlayFault.TheVariants.{Memory};
+ghost use Rattle.pf_console.specs.declared.fault.PlayFault.TheVariants.{Memory, Write};
 
 use pf_commands::FrameFault;
 use pf_shapes::SceneFault;
+use pf_text::WriteFailed;
 use std::alloc::{AllocError, AllocFailed};
 use thiserror::Error;
 
@@ -55,5 +56,13 @@ impl<T: Drop> From<AllocFailed<T>> for PlayFault {
 
     fn from(_error: AllocFailed<T>) -> PlayFault {
         PlayFault::Memory
+    }
+}
+
+impl From<WriteFailed> for PlayFault {
+    ghost from_gives = { λ _ fault. fault ≡ Write };
+
+    fn from(_failed: WriteFailed) -> PlayFault {
+        PlayFault::Write
     }
 }

@@ -32,8 +32,5 @@ pub fn frame_text<W: Sink>(alloc: Global, digits: &str, writer: &mut W) -> Resul
 {
     let command = read(digits.as_bytes()).map_err(PlayFault::Frame)?;
     let text = command_text(alloc, &command)?;
-    match writer.write_all(text.as_bytes()) {
-        Ok(()) => Ok(()),
-        Err(_) => Err(PlayFault::Write),
-    }
+    Ok(writer.write_all(text.as_bytes())?)
 }

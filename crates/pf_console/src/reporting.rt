@@ -11,7 +11,7 @@ use pf_shapes::SceneFault;
 use pf_text::Sink;
 
 /// More bytes than the line of a refused line can have.
-const LINE_ROOM: usize = 64;
+const FAULT_ROOM: usize = 64;
 
 /// The name of a fault.
 fn fault_name(fault: SceneFault) -> &'static str
@@ -38,7 +38,7 @@ fn digits_fault_name(fault: DigitsFault) -> &'static str
 
 /// The line of a frame that is refused.
 #[tactic(auto, unfolding(crate::specs::Report::refused_frame))]
-fn refused_frame(fault: DigitsFault) -> ArrayString<LINE_ROOM>
+fn refused_frame(fault: DigitsFault) -> ArrayString<FAULT_ROOM>
     ensures { result.bytes ≡ refused_frame fault }
 {
     let mut line = ArrayString::new();
@@ -50,7 +50,7 @@ fn refused_frame(fault: DigitsFault) -> ArrayString<LINE_ROOM>
 
 /// The line of a line that is refused, in room of its own: memory may be what is wanting.
 #[tactic(auto, unfolding(crate::specs::Report::refused_line))]
-fn refused_line(number: u64, fault: SceneFault) -> ArrayString<LINE_ROOM>
+fn refused_line(number: u64, fault: SceneFault) -> ArrayString<FAULT_ROOM>
     ensures { result.bytes ≡ refused_line number fault }
 {
     let mut line = ArrayString::new();

@@ -28,10 +28,7 @@ fn say<W: Sink>(text: &str, writer: &mut W) -> Result<(), PlayFault>
     ensures reads_nothing { ReadsNothing result }
     ensures writes_counted { CountsWrites (W.failures writer.old) result (W.failures writer.new) }
 {
-    match writer.write_all(text.as_bytes()) {
-        Ok(()) => Ok(()),
-        Err(_) => Err(PlayFault::Write),
-    }
+    Ok(writer.write_all(text.as_bytes())?)
 }
 
 /// Does what a request asks for. A run reads the reader; the other requests leave it as it was.

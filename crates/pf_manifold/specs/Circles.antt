@@ -1,4 +1,5 @@
--- The contact point of two circles, as Box2D 2.x's b2CollideCircles.
+-- The contact point of two circles, which Box2D 2.x has in b2CollideCircles. Here it lies on the first circle's rim, and
+-- circles in one place push up.
 use Rattle.std.specs.Prelude.{ℤ, pos, ◌==◌, Option, Some, None, int_lt, if◌then◌else◌}
 use Rattle.std.specs.Int.RustNames.{unsigned_abs}
 use Rattle.pf_num.specs.Fx.{one, sum, difference, quotient}

@@ -2,8 +2,8 @@
 use Rattle.std.specs.Prelude.{ℕ, ℤ}
 use Rattle.pf_rot.specs.Vector.{Vec2}
 
--- what makes the point, as a number; where it is; the unit normal from the first body to the second; and how far the
--- bodies are apart along it, below 0 where they overlap
+-- what makes the point, as a number; where it is; the normal from the first body to the second, of length 1 but for
+-- rounding; and how far the bodies are apart along it, below 0 where they overlap
 pub record Contact : Type 0 where
   pub feature : ℕ
   pub position : Vec2

@@ -13,7 +13,8 @@ pub struct Point {
     pub feature: u8,
     /// Where it is.
     pub position: V2,
-    /// The unit vector from the first body to the second along which they push.
+    /// From the first body to the second, along which they push: its length is 1, but for rounding, and for centres a
+    /// few raw units apart up to 1.42.
     pub normal: V2,
     /// How far the bodies are apart along the normal, below 0 where they overlap.
     pub separation: Fx,

@@ -1,5 +1,5 @@
 -- Fixed-point numbers: a number is its raw whole number, in units of 2^-24, from -greatest to greatest.
--- Each operation is the exact value, rounded to the nearest even and then held in that range.
+-- Each operation is the exact value, rounded to the nearest even (a root down) and then held in that range.
 use Rattle.std.specs.Prelude.{◌≤◌, ◌*◌, ℤ, pos, ◌+ℤ◌, ◌-ℤ◌, ◌*ℤ◌, neg_ℤ, ◌==◌, if◌then◌else◌}
 use Rattle.std.specs.Int.{int_min, int_max, int_signum, is_negative}
 use Rattle.std.specs.Int.RustNames.{unsigned_abs}

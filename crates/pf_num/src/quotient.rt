@@ -127,7 +127,7 @@ fn long_product(a: i64, b: i64) -> i64
     }
 }
 
-/// The same where the exact product is too great for 64 bits.
+/// The same over 128 bits, where the exact product is beyond 2^62.
 #[cold]
 #[inline(never)]
 fn wide_product(a: i64, b: i64) -> i64

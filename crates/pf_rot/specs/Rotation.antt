@@ -21,7 +21,7 @@ rotated q v = record { x = difference (product q.c v.x) (product q.s v.y); y = s
 unfoldable pub unrotated : Pair → Vec2 → Vec2
 unrotated q v = record { x = sum (product q.c v.x) (product q.s v.y); y = difference (product q.c v.y) (product q.s v.x) }
 
--- the pair of this direction with length 1, and upright where it has no length
+-- the pair of this direction, divided by its length, and upright where it has none
 abbrev pub scaled_to_unit : ℤ → ℤ → ℤ → Pair
 scaled_to_unit length c s = if unsigned_abs length == 0 then upright else record { c = quotient c length; s = quotient s length }
 

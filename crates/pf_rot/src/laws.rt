@@ -18,13 +18,13 @@ pub fn lengths_are_greatest()
         → length_of v ≡ saturated (pos r) }
 {}
 
-/// No direction is upright, and an angle that rounds to 0 turns nothing, bit for bit.
+/// The direction (0, 0) gives the upright rotation, and an angle that rounds to 0 turns nothing, bit for bit.
 pub fn nothing_turns_nothing()
     ensures direction { unit (pos 0) (pos 0) ≡ upright }
     ensures angle { (q : Pair) (spin : ℤ) → product tick spin ≡ pos 0 → turned q spin ≡ q }
 {}
 
-/// No part of a direction that is scaled to length 1 is above 1 in magnitude, and turning keeps it so.
+/// No part of a direction that is divided by its length is above 1 in magnitude, and turning keeps it so.
 pub fn directions_are_at_most_one()
     ensures direction { (c s : ℤ) → IsRaw c → IsRaw s → IsAtMostOne (unit c s) }
     ensures turn { (q : Pair) (spin : ℤ) → IsAtMostOne q → IsAtMostOne (turned q spin) }

@@ -7,8 +7,8 @@ use crate::vector::V2;
 use pf_num::Fx;
 use std::marker::Model;
 
-/// A rotation: the cosine `c` and the sine `s` of its angle, in units of 2^-24. Nothing keeps the pair
-/// on the unit circle but the calls that make one.
+/// A rotation: the cosine `c` and the sine `s` of its angle, in units of 2^-24. The calls that make one
+/// keep the pair near the unit circle, but for directions that are a few raw units long.
 #[derive(Clone, Copy, Debug, PartialEq, Eq)]
 pub struct Rot {
     pub c: Fx,

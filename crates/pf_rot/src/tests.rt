@@ -88,7 +88,7 @@ const LENGTHS: [(i64, i64, i64); 11] = [
     (5497558138880, 13194139533312, 14293651161088),
 ];
 
-// c, s and the pair of length 1.
+// c, s and the rotation that points so. Short directions give no pair of length 1.
 #[rattlefmt::skip]
 const UNITS: [(i64, i64, i64, i64); 7] = [
     (0, 0, 16777216, 0),

@@ -94,7 +94,7 @@ place_of x y = do
   y ← coordinate_of y
   Ok (record { x = x; y = y })
 
--- the rotation of length 1 that points as C to S
+-- the rotation that points as C to S
 unfoldable pub rotation_of : List ℕ → List ℕ → Result Pair SceneFault
 rotation_of c s = do
   c ← direction_of c

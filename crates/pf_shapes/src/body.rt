@@ -19,7 +19,7 @@ pub struct BodyState {
     pub vel: V2,
     /// The angular velocity, in radians a second.
     pub spin: Fx,
-    /// For how many ticks the body has been still, up to 32.
+    /// For how many ticks the body has been still. At 32 it goes to sleep, and the count is 0 again.
     pub timer: u8,
     /// Whether the body is simulated: a static or sleeping body is not.
     pub awake: bool,

@@ -38,8 +38,9 @@ pub fn spans_that_share_a_place_overlap()
     ensures found { (a b : Span) → IsUpright a → IsUpright b → overlaps a b ≡ true → (p : Vec2) × IsInSpan a p × IsInSpan b p }
 {}
 
-/// A place in a box is in the bounds of the box's body: as the program computes where the place is, and in exact numbers,
-/// wherever nothing is held at the ends of the range. The exact places and ends are in units of 2^-48.
+/// A place in a box is in the bounds of the box's body: as the program computes where the place is, and in exact numbers
+/// too, for sizes of the allowed range, rotations with no part above 1 and places up to 2^54. The exact places and ends are
+/// in units of 2^-48.
 pub fn boxes_stay_in_their_bounds()
     ensures computed { (hx hy : ℤ) (place : Vec2) (rot : Pair) (fixed : Bool) (p : Vec2) → IsInBox (record { x = hx; y = hy }) p
         → IsInSpan (span_of (Shape.Box hx hy) place rot fixed) (plus place (rotated rot p)) }
@@ -53,7 +54,8 @@ pub fn circles_stay_in_their_bounds()
         → IsInCircle r place p → IsInSpan (span_of (Shape.Circle r) place rot fixed) p }
 {}
 
-/// Two bodies that cover one place have bounds that overlap: bodies whose bounds do not overlap share no place.
+/// Two bodies that cover one place, in raw units and a box's as the program computes it, have bounds that overlap: bodies
+/// whose bounds do not overlap share none.
 pub fn bodies_that_share_a_place_overlap()
     ensures { (f g : FixtureDef) (a b : State) (p : Vec2) → Covers f.shape a p → Covers g.shape b p
         → overlaps (bounds_of f a) (bounds_of g b) ≡ true }

@@ -43,7 +43,7 @@ impl Source for Bytes<'_> {
     }
 }
 
-/// A sink that keeps in memory what is written. It fails where no memory is left, and then keeps what it had.
+/// A sink that keeps in memory what is written. It fails where no memory is left.
 #[derive(Debug, Drop)]
 pub struct Collected {
     bytes: Vec<u8>,

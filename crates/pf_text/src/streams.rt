@@ -11,7 +11,7 @@ use std::io::{ErrorKind, Read, Write};
 /// How many bytes are read at once.
 const BUFFER: usize = 8192;
 
-/// Reads what there is, and again after an interrupt; it reads no byte at the end alone.
+/// Reads what there is, and again after an interrupt. It answers 0 bytes at the end, and nowhere else.
 #[tactic(auto, using(crate::proofs::Taking::keeps_same, crate::proofs::Taking::keeps_more, crate::proofs::Taking::consumes_after))]
 #[inline(never)]
 fn read_some<R: Read>(reader: &mut R, buffer: &mut [u8]) -> Result<usize, ReadFailed>
