@@ -35,6 +35,18 @@ fn fields_are_parted_by_one_space(rt: HostRuntime) -> Result<(), Fail> {
 }
 
 #[test]
+fn a_line_may_have_2000_fields(rt: HostRuntime) -> Result<(), Fail> {
+    let mut line = Vec::from_slice(rt.alloc(), b"x")?;
+    for _ in 1..2000 {
+        line.extend_from_slice(b" x")?;
+    }
+    let fields = fields_of(rt.alloc(), &line)?;
+    assert_eq!(rt; fields.len(), 2000);
+    assert!(rt; fields.iter().all(|field| *field == b"x".as_slice()));
+    Ok(())
+}
+
+#[test]
 fn numbers_have_one_spelling(rt: HostRuntime) {
     let table = [
         (b"0".as_slice(), Spelled::Within(0)),
@@ -162,6 +174,27 @@ fn a_text_is_answered(rt: HostRuntime) -> Result<(), Fail> {
 }
 
 #[test]
+fn a_text_may_have_70000_lines(rt: HostRuntime) -> Result<(), Fail> {
+    let mut text = Vec::new(rt.alloc());
+    for _ in 0..70_000 {
+        text.extend_from_slice(b"#\n")?;
+    }
+    assert!(rt; driven(rt.alloc(), &text)?.0 == Ok((70_001, Parrot)));
+    Ok(())
+}
+
+#[test]
+fn a_sink_in_memory_keeps_5000_bytes(rt: HostRuntime) -> Result<(), Fail> {
+    let bytes = vec![in rt.alloc(); b'x'; 5000]?;
+    let mut sink = Collected::new(rt.alloc());
+    if sink.write_all(&bytes).is_err() {
+        return Err(AllocError)?;
+    }
+    assert!(rt; sink.bytes() == bytes.as_slice());
+    Ok(())
+}
+
+#[test]
 fn replies_before_a_fault_stand(rt: HostRuntime) -> Result<(), Fail> {
     let mut long = vec![in rt.alloc(); b'#'; MAX_LINE]?;
     assert!(rt; driven(rt.alloc(), &long)?.0 == Ok((2, Parrot)));
@@ -180,7 +213,16 @@ fn replies_before_a_fault_stand(rt: HostRuntime) -> Result<(), Fail> {
     Ok(())
 }
 
-/// A reader that gives a byte at a time, is interrupted before each, and fails at one call.
+/// How the call of this number fails.
+fn failure(call: usize) -> Error {
+    Error::from(if call % 2 == 1 {
+        ErrorKind::Other
+    } else {
+        ErrorKind::BrokenPipe
+    })
+}
+
+/// A reader that gives a byte at a time, is interrupted twice before each, and fails at one call.
 #[derive(Drop)]
 struct Trickle<'a> {
     bytes: &'a [u8],
@@ -192,9 +234,9 @@ impl Read for Trickle<'_> {
     fn read(&mut self, buffer: &mut [u8]) -> std::io::Result<usize> {
         self.calls = self.calls.wrapping_add(1);
         if self.calls == self.fails_at {
-            return Err(Error::from(ErrorKind::BrokenPipe));
+            return Err(failure(self.calls));
         }
-        if self.calls % 2 == 1 {
+        if self.calls % 3 != 0 {
             return Err(Error::from(ErrorKind::Interrupted));
         }
         if self.bytes.is_empty() || buffer.is_empty() {
@@ -208,7 +250,7 @@ impl Read for Trickle<'_> {
 
 #[test]
 fn a_reader_may_fail_at_each_call(rt: HostRuntime) -> Result<(), Fail> {
-    let calls = 2 * (TEXT.len() + 1);
+    let calls = 3 * (TEXT.len() + 1);
     for fails_at in 1..calls + 2 {
         let reader = Trickle {
             bytes: TEXT,
@@ -237,7 +279,8 @@ fn a_reader_may_fail_at_each_call(rt: HostRuntime) -> Result<(), Fail> {
     Ok(())
 }
 
-/// A writer that takes two bytes at a time, is interrupted before each write, and fails at one call.
+/// A writer that takes two bytes at a time, is interrupted before each write, twice where it can
+/// be, and fails at one call.
 #[derive(Drop)]
 struct Brittle {
     taken: Vec<u8>,
@@ -249,7 +292,7 @@ impl Brittle {
     fn call(&mut self) -> std::io::Result<()> {
         self.calls = self.calls.wrapping_add(1);
         if self.calls == self.fails_at {
-            return Err(Error::from(ErrorKind::BrokenPipe));
+            return Err(failure(self.calls));
         }
         Ok(())
     }
@@ -258,7 +301,7 @@ impl Brittle {
 impl Write for Brittle {
     fn write(&mut self, bytes: &[u8]) -> std::io::Result<usize> {
         self.call()?;
-        if self.calls % 2 == 1 {
+        if self.calls % 3 != 0 {
             return Err(Error::from(ErrorKind::Interrupted));
         }
         let count = bytes.len().min(2);
@@ -273,7 +316,7 @@ impl Write for Brittle {
 
 #[test]
 fn a_writer_may_fail_at_each_call(rt: HostRuntime) -> Result<(), Fail> {
-    let calls = 13;
+    let calls = 19;
     for fails_at in 1..calls + 2 {
         let mut writer = Brittle {
             taken: Vec::new(rt.alloc()),
@@ -326,6 +369,10 @@ fn faults_are_shown_by_their_names(rt: HostRuntime) -> Result<(), Fail> {
     let fault = LineError::Fault(LineFault::BadNumber);
     let text = format!(in rt.alloc(); "{} {fault}", LineFault::BadLine)?;
     assert_eq!(rt; text.as_str(), "BadLine BadNumber");
+    let text = format!(in rt.alloc(); "{}, {}", LineError::Memory, TakeError::Memory)?;
+    assert_eq!(rt; text.as_str(), "out of memory, out of memory");
+    let text = format!(in rt.alloc(); "{ReadFailed}, {}, {WriteFailed}", TakeError::Read)?;
+    assert_eq!(rt; text.as_str(), "read failed, read failed, write failed");
     Ok(())
 }
 
