@@ -135,9 +135,13 @@ module _ {S F : Type 0} {rules : Rules S F} {start : S} {input before : List ℕ
   pub Drives-fault : (taken : Taken) (line : List ℕ) (left' : Option (List ℕ)) (fault : F) → Takes p.rest line left' (Ok taken) → (taken ≡ End → ⊥) → step rules state line ≡ Err fault → Drives rules start input left' before after (Err (faults.Line number fault))
   Drives-fault taken line left' fault t ne said =
       let found = output_at taken line left' t ne in
-      let output = rw said at found.1 in
-      (p.taken, p.number_is, takes_to taken line left' t ne,
-      p.after_is ∙ ap (λ bytes. Some (before ++ bytes)) (sym (ap (λ (o : Output S F). o.text) output ∙ append-nil p.written)), ap (λ (o : Output S F). o.ending) output)
+      let output = rw said at found.1 in (
+        p.taken,
+        p.number_is,
+        takes_to taken line left' t ne,
+        p.after_is ∙ ap (λ bytes. Some (before ++ bytes)) (sym (ap (λ (o : Output S F). o.text) output ∙ append-nil p.written)),
+        ap (λ (o : Output S F). o.ending) output,
+      )
 
   -- where a line was not answered
   pub Drives-refused : (taken : Taken) (line : List ℕ) (left' : Option (List ℕ)) (refusal : TakeRefusal F) → Takes p.rest line left' (Ok taken) → (taken ≡ End → ⊥) → Tells (Err refusal) (step rules state line) → Drives rules start input left' before after (Err (fault_at number refusal))
@@ -156,10 +160,14 @@ module _ {S F : Type 0} {rules : Rules S F} {start : S} {input before : List ℕ
       let output = rw said at found.1 in
       let others = (answers rules (number + 1) next found.0).text in
       let whole : (p.written ++ parts.front) ++ (parts.rest ++ others) ≡ p.written ++ (text ++ others) =
-      append_assoc p.written parts.front (parts.rest ++ others) ∙ ap (λ bytes. p.written ++ bytes) (sym (append_assoc parts.front parts.rest others) ∙ ap (λ bytes. bytes ++ others) parts.bytes_are) in
-      (p.taken, parts.front, parts.rest ++ others, takes_to taken line left' t ne,
-      ap (λ bytes. (bytes ++ parts.front) ++ (parts.rest ++ others)) written_is ∙ whole ∙ sym (ap (λ (o : Output S F). o.text) output),
-      after_text after' parts.front parts.appended ∙ ap (λ bytes. Some bytes) (sym (append_assoc before p.written parts.front)) ∙ ap (λ bytes. Some ((before ++ bytes) ++ parts.front)) (sym written_is))
+      append_assoc p.written parts.front (parts.rest ++ others) ∙ ap (λ bytes. p.written ++ bytes) (sym (append_assoc parts.front parts.rest others) ∙ ap (λ bytes. bytes ++ others) parts.bytes_are) in (
+        p.taken,
+        parts.front,
+        parts.rest ++ others,
+        takes_to taken line left' t ne,
+        ap (λ bytes. (bytes ++ parts.front) ++ (parts.rest ++ others)) written_is ∙ whole ∙ sym (ap (λ (o : Output S F). o.text) output),
+        after_text after' parts.front parts.appended ∙ ap (λ bytes. Some bytes) (sym (append_assoc before p.written parts.front)) ∙ ap (λ bytes. Some ((before ++ bytes) ++ parts.front)) (sym written_is),
+      )
 
   -- at a last line without a LF
   pub Drives-last : (line : List ℕ) (left' after' : Option (List ℕ)) (text : List ℕ) (next : S) → Takes p.rest line left' (Ok Last) → step rules state line ≡ Ok (text, next) → Appends after after' text
