@@ -1,4 +1,4 @@
-//! Maps of a few commands, by hand.
+//! Maps of a few commands by hand, and of thousands.
 
 ghost use Rattle.std.specs.Prelude.{◌<◌, ◌^◌};
 
@@ -99,6 +99,37 @@ fn a_map_is_merged_once(rt: HostRuntime) -> Result<(), Fail> {
     assert!(rt; again.count == 0 && again.least.is_none());
     assert_eq!(rt; map.len(), before.len());
     assert!(rt; map.iter().eq(before.iter()));
+    Ok(())
+}
+
+/// 3,000 commands of this number: one of player 0 at each of the last 2,999 ticks, and one of player 1 at the last.
+fn many(alloc: Global, number: u16) -> Result<CommandMap, Fail> {
+    let mut map = CommandMap::new(alloc);
+    for tick in 1_045_577..1_048_576 {
+        map.put(&command(tick, 0, number, push(i64::from(tick))))?;
+    }
+    map.put(&command(1_048_575, 1, number, Payload::Stop { body: 1 }))?;
+    Ok(map)
+}
+
+#[test]
+fn maps_may_have_thousands_of_commands(rt: HostRuntime) -> Result<(), Fail> {
+    let mut map = many(rt.alloc(), 0)?;
+    assert_eq!(rt; map.len(), 3000);
+    let payloads = map.at_tick(rt.alloc(), 1_048_575)?;
+    let expected = [push(1_048_575), Payload::Stop { body: 1 }];
+    assert_eq!(rt; payloads.as_slice(), expected.as_slice());
+
+    let copy = map.try_clone()?;
+    assert_eq!(rt; copy.len(), 3000);
+    for (name, payload) in map.iter() {
+        assert!(rt; copy.get(*name) == Some(*payload));
+    }
+
+    let others = many(rt.alloc(), 1)?;
+    let merged = map.merge(&others)?;
+    assert!(rt; merged.count == 3000 && merged.least == Some(1_045_577));
+    assert_eq!(rt; map.len(), 6000);
     Ok(())
 }
 
