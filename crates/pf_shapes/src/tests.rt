@@ -54,14 +54,18 @@ fn each_fault_has_its_line_and_name(rt: HostRuntime) -> Result<(), Fail> {
 
 // A text, and the number and the name of its line at fault.
 #[rattlefmt::skip]
-const FAULTS: [(&[u8], u64, SceneFault); 24] = [
+const FAULTS: [(&[u8], u64, SceneFault); 31] = [
     (b"", 1, SceneFault::BadLine),
     (b"\n", 2, SceneFault::BadLine),
     (b"end\n", 1, SceneFault::BadLine),
+    (b"floor 0 0\n", 1, SceneFault::BadLine),
+    (b"gravity 0 0\nfloor 0 0\nend\n", 2, SceneFault::BadLine),
+    (b"gravity 0\n", 1, SceneFault::BadLine),
     (b"gravity 0 0\n", 2, SceneFault::BadLine),
     (b"gravity 0 0\ngravity 0 0\n", 2, SceneFault::BadLine),
     (b"gravity 0 0\nend now\n", 2, SceneFault::BadLine),
     (b"gravity 0 0\nend\nend\n", 3, SceneFault::BadLine),
+    (b"gravity 0 0\nend\nend now\n", 3, SceneFault::BadLine),
     (b"gravity 0  0\n", 1, SceneFault::BadLine),
     (b"gravity 0 17179869185\n", 1, SceneFault::BadNumber),
     (b"gravity 0 0\ncircle 8 1 -1 1 0 0\n", 2, SceneFault::BadNumber),
@@ -69,6 +73,9 @@ const FAULTS: [(&[u8], u64, SceneFault); 24] = [
     (b"gravity 0 0\ncircle - 0 -1 1 0 0\n", 2, SceneFault::BadNumber),
     (b"gravity 0 0\ncircle - 0 0 1 0 x\n", 2, SceneFault::BadSize),
     (b"gravity 0 0\ncircle - 0 0 1048576 0 17592186044417\n", 2, SceneFault::BadNumber),
+    (b"gravity 0 0\ncircle - 0 0 1048576 0\n", 2, SceneFault::BadLine),
+    (b"gravity 0 0\ncircle - 0 0 1048576 0 0 0\n", 2, SceneFault::BadLine),
+    (b"gravity 0 0\ncircle - 0 0 1048576 0 0\ncircle - 1 0 1048576 0 0\n", 3, SceneFault::BadMass),
     (b"box - 0 0 1048576 1048576 0 0 0 0\n", 1, SceneFault::BadLine),
     (b"gravity 0 0\nbox - 0 0 1048576 1048576 0 0\n", 2, SceneFault::BadLine),
     (b"gravity 0 0\nbox x 0 0 1048576 1048576 0 0 0\n", 2, SceneFault::BadLine),
@@ -94,28 +101,40 @@ fn faults_are_shown_by_their_names(rt: HostRuntime) -> Result<(), Fail> {
         let text = format!(in rt.alloc(); "{}", ReadError::Line(7, fault))?;
         assert_eq!(rt; text.as_str(), name);
     }
+    let text = format!(in rt.alloc(); "{}", ReadError::Memory)?;
+    assert_eq!(rt; text.as_str(), "out of memory");
     Ok(())
 }
 
-/// A scene of so many circles.
-fn crowd(alloc: Global, count: usize) -> Result<Vec<u8>, Fail> {
+/// A scene of so many circles, and a last line.
+fn crowd(alloc: Global, count: usize, last: &[u8]) -> Result<Vec<u8>, Fail> {
     let mut text = Vec::from_slice(alloc, b"gravity 0 0\n")?;
     for _ in 0..count {
         text.extend_from_slice(b"circle - 0 0 1048576 0 0\n")?;
     }
-    text.extend_from_slice(b"end\n")?;
+    text.extend_from_slice(last)?;
     Ok(text)
 }
 
 #[test]
 fn a_scene_has_at_most_1024_bodies(rt: HostRuntime) -> Result<(), Fail> {
-    let whole = Scene::read(rt.alloc(), &crowd(rt.alloc(), MAX_BODIES)?)?;
-    assert_eq!(rt; whole.len(), MAX_BODIES);
-    let read = Scene::read(rt.alloc(), &crowd(rt.alloc(), MAX_BODIES + 1)?).err();
-    if read == Some(ReadError::Memory) {
-        return Err(AllocError)?;
+    for count in [3, MAX_BODIES] {
+        let whole = Scene::read(rt.alloc(), &crowd(rt.alloc(), count, b"end\n")?)?;
+        assert_eq!(rt; whole.len(), count);
+        assert!(rt; whole.try_clone()? == whole);
     }
-    assert!(rt; read == Some(ReadError::Line(1026, SceneFault::TooMany)));
+    for body in [
+        b"circle - 0 0 1048576 0 0\n".as_slice(),
+        b"box - 0 0 1048576 1048576 0 0 16777216 0\n".as_slice(),
+    ] {
+        let read = Scene::read(rt.alloc(), &crowd(rt.alloc(), MAX_BODIES, body)?).err();
+        if read == Some(ReadError::Memory) {
+            return Err(AllocError)?;
+        }
+        assert!(rt; read == Some(ReadError::Line(1026, SceneFault::TooMany)));
+    }
+    let none = SceneReader::new(0).take(rt.alloc(), &[]).err();
+    assert!(rt; none == Some(pf_text::TakeRefusal::Fault(SceneFault::BadLine)));
     let fields = [b"gravity".as_slice(), b"0".as_slice(), b"0".as_slice()];
     let Progress::More(reader) = SceneReader::new(0).take(rt.alloc(), &fields)? else {
         return Err(Fail::from("more is to come"));
@@ -177,8 +196,10 @@ fn a_box_is_read(rt: HostRuntime) -> Result<(), Fail> {
 fn copies_are_equal(rt: HostRuntime) -> Result<(), Fail> {
     let scene = Scene::read(rt.alloc(), LEANING)?;
     assert!(rt; scene.try_clone()? == scene);
+    let two = Scene::read(rt.alloc(), SCENE)?;
+    assert!(rt; two.try_clone()? == two);
     assert!(rt; Scene::read(rt.alloc(), ANOTHERS)? != scene);
-    assert!(rt; Scene::read(rt.alloc(), SCENE)? != scene);
+    assert!(rt; two != scene);
     Ok(())
 }
 
