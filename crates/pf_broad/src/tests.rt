@@ -21,6 +21,17 @@ circle - 0 0 16777216 0 0
 end
 ";
 
+/// Six circles of radius 1 in a row, each as far from the next as their bounds reach.
+const ROW: &[u8] = b"gravity 0 0
+circle - 16777216 0 16777216 0 0
+circle - 16777216 0 16777216 33554434 0
+circle - 16777216 0 16777216 67108868 0
+circle - 16777216 0 16777216 100663302 0
+circle - 16777216 0 16777216 134217736 0
+circle - 16777216 0 16777216 167772170 0
+end
+";
+
 fn pair(a: usize, b: usize) -> Pair {
     Pair { a, b }
 }
@@ -39,6 +50,16 @@ fn bounds_that_touch_are_pairs(rt: HostRuntime) -> Result<(), Fail> {
     let apart = pairs(rt.alloc(), &scene, &bodies)?;
     let with_floor = [pair(0, 1), pair(0, 2)];
     assert_eq!(rt; apart.as_slice(), with_floor.as_slice());
+    Ok(())
+}
+
+#[test]
+fn bodies_in_a_row_are_pairs_with_the_next(rt: HostRuntime) -> Result<(), Fail> {
+    let scene = Scene::read(rt.alloc(), ROW)?;
+    assert!(rt; scene.fixtures().len() == scene.starts().len());
+    let found = pairs(rt.alloc(), &scene, scene.starts())?;
+    let all = [pair(0, 1), pair(1, 2), pair(2, 3), pair(3, 4), pair(4, 5)];
+    assert_eq!(rt; found.as_slice(), all.as_slice());
     Ok(())
 }
 
