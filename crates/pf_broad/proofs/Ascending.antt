@@ -6,6 +6,7 @@ use Rattle.pf_shapes.specs.Bounds.{Span}
 use Rattle.pf_broad.specs.Pairs.{is_pair, pair, pairs_of, pairs}
 use Rattle.pf_broad.specs.Laws.{is_before, IsAscending}
 use Rattle.pf_broad.specs.declared.pair.Pair.{Pair}
+use Rattle.pf_broad.proofs.Each.{append_each}
 
 -- ascending numbers, from low on
 abbrev IsUp : ℕ → List ℕ → Type 0
@@ -37,17 +38,9 @@ AreFrom-less : (low low' : ℕ) (ps : List Pair) → low' ≤ low → AreFrom lo
 AreFrom-less low low' [] h from = tt
 AreFrom-less low low' (p ∷ ps) h from = (omega (arith, from.0), AreFrom-less low low' ps h from.1)
 
-AreFrom-append : (low : ℕ) (ps qs : List Pair) → AreFrom low ps → AreFrom low qs → AreFrom low (ps ++ qs)
-AreFrom-append low [] qs h k = k
-AreFrom-append low (p ∷ ps) qs h k = (h.0, AreFrom-append low ps qs h.1 k)
-
 -- a pair stands before all of these
 abbrev IsBeforeAll : Pair → List Pair → Type 0
 IsBeforeAll p qs = AllByRecursion (λ q. is_before p q ≡ true) qs
-
-IsBeforeAll-append : (p : Pair) (qs rs : List Pair) → IsBeforeAll p qs → IsBeforeAll p rs → IsBeforeAll p (qs ++ rs)
-IsBeforeAll-append p [] rs h k = k
-IsBeforeAll-append p (q ∷ qs) rs h k = (h.0, IsBeforeAll-append p qs rs h.1 k)
 
 before-second : (i j x : ℕ) → j < x → is_before (pair i j) (pair i x) ≡ true
 before-second i j x h = grind (arith, nat_tests)
@@ -77,7 +70,7 @@ ascending-map i low (x ∷ xs) up = (IsBeforeAll-map i x (x + 1) xs (omega arith
 ascending-append : (i low : ℕ) (xs : List ℕ) (qs : List Pair) → IsUp low xs → AreFrom (i + 1) qs → IsAscending qs → IsAscending (map (pair i) xs ++ qs)
 ascending-append i low [] qs up from asc = asc
 ascending-append i low (x ∷ xs) qs up from asc = (
-  IsBeforeAll-append (pair i x) (map (pair i) xs) qs (IsBeforeAll-map i x (x + 1) xs (omega arith) up.1)
+  append_each (λ q. is_before (pair i x) q ≡ true) (map (pair i) xs) qs (IsBeforeAll-map i x (x + 1) xs (omega arith) up.1)
       (IsBeforeAll-later (pair i x) (i + 1) qs (omega arith) from),
   ascending-append i (x + 1) xs qs up.1 from asc,
 )
@@ -85,7 +78,7 @@ ascending-append i low (x ∷ xs) qs up from asc = (
 AreFrom-flat_map : (bs : List Span) (a n : ℕ) → AreFrom a (flat_map (pairs_of bs) (range_with_len a n))
 AreFrom-flat_map bs a zero = tt
 AreFrom-flat_map bs a (suc n) =
-    AreFrom-append a (pairs_of bs a) (flat_map (pairs_of bs) (range_with_len (a + 1) n))
+    append_each (λ p. a ≤ p.a) (pairs_of bs a) (flat_map (pairs_of bs) (range_with_len (a + 1) n))
     (AreFrom-map a (filter (is_pair bs a) (range_with_len 0 (length bs))))
     (AreFrom-less (a + 1) a (flat_map (pairs_of bs) (range_with_len (a + 1) n)) (omega arith) (AreFrom-flat_map bs (a + 1) n))
 

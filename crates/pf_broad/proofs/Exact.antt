@@ -1,7 +1,8 @@
 -- The pairs are those that meet, and no others.
-use Rattle.std.proofs.Common.{◌≡◌, ℕ, Bool, true, false, cond, ◌&&◌, ◌||◌, List, [], ◌∷◌, length, refl, ap, ◌∙◌, arith, map, nat_lt, nat_eq, eqb-true}
+use Rattle.std.proofs.Common.{◌≡◌, ℕ, Bool, true, false, cond, ◌&&◌, ◌||◌, List, [], ◌∷◌, length, refl, sym, ap, ◌∙◌, arith, map, nat_lt, nat_eq, eqb-true}
 use Rattle.std.proofs.lemmas.Bool.Decides.{nat_tests}
 use Rattle.std.proofs.lemmas.List.Folds.{list_any-append}
+use Rattle.std.proofs.Math.Bool.{and-or_distrib_left, and_comm}
 use Rattle.std.specs.List.{range_with_len, filter, flat_map}
 use Rattle.pf_shapes.specs.Bounds.{Span}
 use Rattle.pf_broad.specs.Pairs.{at, meets, is_pair, pair, pairs_of}
@@ -35,21 +36,11 @@ has-filter p (x ∷ xs) j =
     ∙ ap (λ h. cond (p x) (nat_eq x j || h) h) (has-filter p xs j)
     ∙ kept_or_not (nat_eq x j) (p x) (p j) (has xs j) (at_equal p x j)
 
-either_of_both : (e f h : Bool) → ((e && f) || (e && h)) ≡ (e && (f || h))
-either_of_both true f h = refl
-either_of_both false f h = refl
-
 -- pairs of body k have i as their first body where it is k
 has_pair-map : (k i j : ℕ) (xs : List ℕ) → has_pair (map (pair k) xs) i j ≡ (nat_eq k i && has xs j)
 has_pair-map k i j [] = elim (nat_eq k i) as (λ b. false ≡ (b && false)) [ true ↦ refl | false ↦ refl ]
 has_pair-map k i j (x ∷ xs) =
-    ap (λ h. (nat_eq k i && nat_eq x j) || h) (has_pair-map k i j xs) ∙ either_of_both (nat_eq k i) (nat_eq x j) (has xs j)
-
-turned : (e q h : Bool) → ((e && q) || (q && h)) ≡ (q && (e || h))
-turned true true h = refl
-turned true false h = refl
-turned false true h = refl
-turned false false h = refl
+    ap (λ h. (nat_eq k i && nat_eq x j) || h) (has_pair-map k i j xs) ∙ sym (and-or_distrib_left (nat_eq k i) (nat_eq x j) (has xs j))
 
 -- one of the lists has it
 has_pair-flat_map : (f : ℕ → List Pair) (g : ℕ → Bool) (i j : ℕ) → ((x : ℕ) → has_pair (f x) i j ≡ (nat_eq x i && g x))
@@ -59,7 +50,8 @@ has_pair-flat_map f g i j each (x ∷ xs) =
     list_any-append (λ (p : Pair). nat_eq p.a i && nat_eq p.b j) (f x) (flat_map f xs)
     ∙ ap (λ b. b || has_pair (flat_map f xs) i j) (each x ∙ at_equal g x i)
     ∙ ap (λ b. (nat_eq x i && g i) || b) (has_pair-flat_map f g i j each xs)
-    ∙ turned (nat_eq x i) (g i) (has xs i)
+    ∙ ap (λ b. b || (g i && has xs i)) (and_comm (nat_eq x i) (g i))
+    ∙ sym (and-or_distrib_left (g i) (nat_eq x i) (has xs i))
 
 -- the first body is before the second, which is one of n, so the first is one of them
 in_range : (m : Bool) (i j n : ℕ) → (((nat_lt i j && m) && nat_lt j n) && nat_lt i n) ≡ (nat_lt i j && (nat_lt j n && m))

@@ -1,5 +1,5 @@
 -- The pairs are of two bodies that there are, the lesser number first.
-use Rattle.std.proofs.Common.{◌≡◌, ℕ, zero, suc, ◌+◌, true, false, cond, List, [], ◌∷◌, ◌++◌, length, refl, arith, map, nat_lt, ltb-true, ap, sym, subst, ◌∙◌}
+use Rattle.std.proofs.Common.{◌≡◌, ℕ, zero, suc, ◌+◌, true, false, cond, List, [], ◌∷◌, length, refl, arith, map, nat_lt, ltb-true, ap, sym, subst, ◌∙◌}
 use Rattle.std.proofs.lemmas.Bool.{and_parts}
 use Rattle.std.proofs.lemmas.List.Elements.{All-from_recursion}
 use Rattle.std.specs.List.{range_with_len, filter, flat_map, All, AllByRecursion}
@@ -9,6 +9,7 @@ use Rattle.pf_shapes.specs.Bounds.{Span}
 use Rattle.pf_broad.specs.Pairs.{at, meets, is_pair, pair, pairs_of, pairs, spans}
 use Rattle.pf_broad.specs.Laws.{IsPairOf}
 use Rattle.pf_broad.specs.declared.pair.Pair.{Pair}
+use Rattle.pf_broad.proofs.Each.{append_each}
 
 -- a body's pairs are of it and a later body
 map-filter_within : (bs : List Span) (i a n m : ℕ) → a + n ≡ m
@@ -22,14 +23,10 @@ map-filter_within bs i a (suc n) m e =
       | false ↦ λ _. more
     ] refl
 
-append_within : (m : ℕ) (ps qs : List Pair) → AllByRecursion (IsPairOf m) ps → AllByRecursion (IsPairOf m) qs → AllByRecursion (IsPairOf m) (ps ++ qs)
-append_within m [] qs h k = k
-append_within m (p ∷ ps) qs h k = (h.0, append_within m ps qs h.1 k)
-
 flat_map_within : (bs : List Span) (xs : List ℕ) → AllByRecursion (IsPairOf (length bs)) (flat_map (pairs_of bs) xs)
 flat_map_within bs [] = tt
 flat_map_within bs (x ∷ xs) =
-    append_within (length bs) (pairs_of bs x) (flat_map (pairs_of bs) xs) (map-filter_within bs x 0 (length bs) (length bs) (omega arith)) (flat_map_within bs xs)
+    append_each (IsPairOf (length bs)) (pairs_of bs x) (flat_map (pairs_of bs) xs) (map-filter_within bs x 0 (length bs) (length bs) (omega arith)) (flat_map_within bs xs)
 
 length-spans : (fixtures : List FixtureDef) (bodies : List State) → length bodies ≡ length fixtures → length (spans fixtures bodies) ≡ length bodies
 length-spans [] [] h = refl
