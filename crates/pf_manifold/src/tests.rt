@@ -1,7 +1,7 @@
 //! Worked contact points.
 
 use super::*;
-use pf_broad::pairs;
+use pf_broad::{Pair, pairs};
 use pf_num::Fx;
 use pf_rot::{Rot, V2};
 use pf_shapes::{Scene, Shape};
@@ -217,5 +217,37 @@ fn points_are_listed_by_pairs(rt: HostRuntime) -> Result<(), Fail> {
     // Over the box's top: the centre is within its width, and above its height.
     assert_eq!(rt; touch.point.feature, 133);
     assert!(rt; touch.point.separation == Fx::ZERO && touch.point.normal.y == Fx::ONE);
+    Ok(())
+}
+
+/// Boxes and circles of the rows above, at their places there.
+const MANY: &[u8] = b"gravity 0 0
+box - 16777216 0 16777216 16777216 0 0 16777216 0
+circle - 16777216 0 16777216 33554432 33554432
+box - 16777216 0 16777216 16777216 25165824 33554432 16777216 0
+circle - 16777216 0 16777216 -33554432 0
+box - 16777216 0 16777216 16777216 25165824 33554433 16777216 0
+circle - 16777216 0 16777216 0 0
+circle - 16777216 0 16777216 33554432 0
+end
+";
+
+#[test]
+fn each_pair_has_its_points(rt: HostRuntime) -> Result<(), Fail> {
+    let scene = Scene::read(rt.alloc(), MANY)?;
+    assert!(rt; scene.starts().len() == 7 && scene.fixtures().len() == 7);
+    let pairs = [(0, 1), (0, 2), (0, 3), (0, 4), (0, 5), (5, 6)].map(|(a, b)| Pair { a, b });
+    let touches = collide_list(rt.alloc(), &scene, scene.starts(), &pairs)?;
+    let wanted = [
+        (0, 2, [28, 8388608, 16777216, 0, 16777216, 0]),
+        (0, 2, [31, 16777216, 16777216, 0, 16777216, 0]),
+        (0, 3, [129, -16777216, 0, -16777216, 0, 0]),
+        (0, 5, [140, 16777216, 0, 16777216, 0, -33554432]),
+        (5, 6, [0, 16777216, 0, 16777216, 0, 0]),
+    ];
+    assert_eq!(rt; touches.len(), wanted.len());
+    for (touch, point) in touches.iter().zip(wanted) {
+        assert_eq!(&rt; (touch.a, touch.b, numbers(touch.point)), point);
+    }
     Ok(())
 }
