@@ -1,11 +1,13 @@
 //! Worked rows, the texts of faults, and readers and writers that fail.
 
 use crate::fault::{DigitsFault, PlayFault};
+use crate::frame::frame_text;
 use crate::laws;
+use crate::names::{check_fault_name, frame_fault_name};
 use crate::reporting::{finish, report};
 use crate::request::{Request, perform};
 use crate::run::run_text;
-use pf_commands::FrameFault;
+use pf_commands::{CheckFault, FrameFault};
 use pf_shapes::SceneFault;
 use pf_text::{Bytes, Collected, Input, Output};
 use std::alloc::{AllocError, Global};
@@ -54,12 +56,16 @@ fn played(alloc: Global, text: &[u8]) -> Result<Ended, AllocError> {
 
 /// Texts, and what is written for them.
 #[rattlefmt::skip]
-const WORKED: [(&[u8], &[u8]); 10] = [
+const WORKED: [(&[u8], &[u8]); 11] = [
     (
         b"gravity 0 0\nend\npeers 1\nadvance 0 5\nshow 0 5\n",
         b"advance 0 5\nshow 0 5\nend\n",
     ),
     (FALLING, FALLEN),
+    (
+        b"gravity 0 -167772160\ncircle 0 16777216 0 16777216 0 0\nend\npeers 1\nadvance 0 5000\nshow 0 5000\n",
+        b"advance 0 5000\nshow 0 5000\nbody 0 0 -512102400000 16777216 0 0 -13107200000 0 0 1\nend\n",
+    ),
     (
         b"gravity 0 0\ncircle 0 16777216 0 16777216 0 0\nend\npeers 1\nadvance 0 32\nshow 0 31\nshow 0 32\n",
         b"advance 0 32\nshow 0 31\nbody 0 0 0 16777216 0 0 0 0 31 1\nend\nshow 0 32\nbody 0 0 0 16777216 0 0 0 0 0 0\nend\n",
@@ -246,6 +252,26 @@ fn frames_are_told(rt: HostRuntime) -> Result<(), Fail> {
 }
 
 #[test]
+fn a_frame_of_2000_bytes_is_long(rt: HostRuntime) -> Result<(), Fail> {
+    let mut digits = String::new(rt.alloc());
+    for _ in 0..2000 {
+        digits.push_str("00")?;
+    }
+    let text = format!(in rt.alloc(); "gravity 0 0\nend\npeers 1\ntake 0 {digits}\n")?;
+    let (output, said, status) = played(rt.alloc(), text.as_bytes())?;
+    assert_eq!(rt; output.bytes(), b"refused Long\n".as_slice());
+    assert!(rt; said.bytes().is_empty() && status == 0);
+    let mut output = Collected::new(rt.alloc());
+    let refused = frame_text(rt.alloc(), &digits, &mut output);
+    if matches!(refused, Err(PlayFault::Memory)) {
+        return Err(AllocError)?;
+    }
+    let long = DigitsFault::Refused(FrameFault::Long);
+    assert!(rt; matches!(refused, Err(PlayFault::Frame(fault)) if fault == long));
+    Ok(())
+}
+
+#[test]
 fn other_faults_have_their_texts(rt: HostRuntime) -> Result<(), Fail> {
     let words = String::from_str(rt.alloc(), "error: such words\n")?;
     let rows = [
@@ -291,7 +317,9 @@ fn a_text_to_say_is_written(rt: HostRuntime) -> Result<(), Fail> {
 
 #[test]
 fn faults_print_their_texts(rt: HostRuntime) -> Result<(), Fail> {
+    let words = String::from_str(rt.alloc(), "error: such words\n")?;
     let rows = [
+        (PlayFault::Words(words), "error: such words\n"),
         (PlayFault::Line(7, SceneFault::BadMass), "line 7: BadMass"),
         (PlayFault::Frame(DigitsFault::BadNumber), "frame: BadNumber"),
         (
@@ -304,6 +332,47 @@ fn faults_print_their_texts(rt: HostRuntime) -> Result<(), Fail> {
     ];
     for (fault, text) in rows {
         assert!(rt; fault.to_string(rt.alloc())?.as_str() == text);
+    }
+    Ok(())
+}
+
+/// The faults of lines and frames: each has a text as an error, and a name that the program says.
+#[rattlefmt::skip]
+const NAMED: [PlayFault; 12] = [
+    PlayFault::Line(7, SceneFault::BadLine),
+    PlayFault::Line(7, SceneFault::BadNumber),
+    PlayFault::Line(7, SceneFault::TooMany),
+    PlayFault::Line(7, SceneFault::BadMass),
+    PlayFault::Line(7, SceneFault::BadSize),
+    PlayFault::Frame(DigitsFault::BadNumber),
+    PlayFault::Frame(DigitsFault::Refused(FrameFault::Short)),
+    PlayFault::Frame(DigitsFault::Refused(FrameFault::Long)),
+    PlayFault::Frame(DigitsFault::Refused(FrameFault::BadVersion)),
+    PlayFault::Frame(DigitsFault::Refused(FrameFault::BadKind)),
+    PlayFault::Frame(DigitsFault::Refused(FrameFault::NotCanonical)),
+    PlayFault::Frame(DigitsFault::Refused(FrameFault::OutOfRange)),
+];
+
+#[test]
+fn what_is_said_of_a_fault_has_its_name_as_an_error(rt: HostRuntime) -> Result<(), Fail> {
+    for fault in NAMED {
+        let mut said = Collected::new(rt.alloc());
+        report(&fault, &mut said);
+        if said.bytes().is_empty() {
+            return Err(AllocError)?;
+        }
+        let text = format!(in rt.alloc(); "pf_play: {fault}\n")?;
+        assert_eq!(rt; said.bytes(), text.as_bytes());
+        if let PlayFault::Frame(DigitsFault::Refused(fault)) = fault {
+            assert!(rt; fault.to_string(rt.alloc())?.as_str() == frame_fault_name(fault));
+        }
+    }
+    for fault in [
+        CheckFault::UnknownBody,
+        CheckFault::StaticBody,
+        CheckFault::NotOwner,
+    ] {
+        assert!(rt; fault.to_string(rt.alloc())?.as_str() == check_fault_name(fault));
     }
     Ok(())
 }
@@ -410,6 +479,11 @@ fn a_writer_may_fail_at_each_call(rt: HostRuntime) -> Result<(), Fail> {
             assert_eq!(rt; finish(Err(PlayFault::Write), &mut closed), 3);
         }
     }
+    Ok(())
+}
+
+#[test]
+fn laws_are_called(_rt: HostRuntime) {
     laws::shown_worlds_are_simulated();
     laws::rotations_stay_at_most_one();
     laws::event_lines_say_events();
@@ -422,5 +496,4 @@ fn a_writer_may_fail_at_each_call(rt: HostRuntime) -> Result<(), Fail> {
     laws::commands_change_later_worlds();
     laws::same_commands_same_worlds();
     laws::order_and_repeats_do_not_matter();
-    Ok(())
 }
