@@ -6,8 +6,7 @@ use Rattle.pf_manifold.specs.declared.incident.Mark.TheVariants.{CutLow, CutHigh
 use Rattle.pf_manifold.specs.Incident.{ClipVertex, Segment}
 use Rattle.pf_manifold.specs.Clip.{crossing, kept, clipped_low, clipped_high, then_clipped_high, clipped}
 use Rattle.pf_manifold.specs.PlaceLaws.{LiesWithin, HasEndsWithin, HasEndsBelow, HasEndsAbove}
-use Rattle.pf_manifold.proofs.Comparisons.{is_below, tests_below, tests_above}
-use Rattle.pf_manifold.proofs.Touching.{not_above}
+use Rattle.pf_manifold.proofs.Comparisons.{is_below, not_above, tests_above, tests_below}
 
 -- ---- one cut
 

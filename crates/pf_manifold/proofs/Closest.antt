@@ -12,9 +12,8 @@ use Rattle.pf_manifold.specs.Face.{face_number}
 use Rattle.pf_manifold.specs.BoxCircle.{clamped, closest_point, face_distance, closer_face, closest_face}
 use Rattle.pf_shapes.specs.Laws.{IsInBox, squared}
 use Rattle.pf_manifold.specs.PlaceLaws.{IsClosest}
-use Rattle.pf_manifold.proofs.Mirrors.{same_vector}
-use Rattle.pf_manifold.proofs.Comparisons.{is_below}
-use Rattle.pf_manifold.proofs.Touching.{not_above}
+use Rattle.pf_manifold.proofs.Mirrors.{vector_by_parts}
+use Rattle.pf_manifold.proofs.Comparisons.{is_below, not_above}
 
 -- ---- the closest point
 
@@ -56,7 +55,7 @@ point_is_closest half d sx sy = record {
 pub itself_is_closest : (half d : Vec2) → IsInBox half d → closest_point half d ≡ d
 unfolding closest_point
 itself_is_closest half d inside =
-    same_vector _ _ (clamped-within half.x d.x inside.left inside.right) (clamped-within half.y d.y inside.below inside.above)
+    vector_by_parts _ _ (clamped-within half.x d.x inside.left inside.right) (clamped-within half.y d.y inside.below inside.above)
 
 -- ---- the closest face
 

@@ -12,3 +12,7 @@ tests_below x y h = grind (arith, ints, nat_tests)
 
 pub tests_above : (x y : ℤ) → y ≤ℤ x → int_lt x y ≡ false
 tests_above x y h = grind (arith, ints, nat_tests)
+
+-- a number that another isn't below is at least as great
+pub not_above : (x y : ℤ) → int_lt x y ≡ false → y ≤ℤ x
+not_above x y e = grind (arith, ints, nat_tests)

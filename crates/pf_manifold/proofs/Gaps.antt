@@ -7,7 +7,8 @@ use Rattle.std.specs.Int.RustNames.{unsigned_abs}
 use Rattle.std.specs.Prelude.{int_lt}
 use Rattle.pf_num.specs.Round.{nearest, near, with_sign, is_opposite}
 use Rattle.pf_num.specs.Fx.{saturated, sum, difference, product}
-use Rattle.pf_num.proofs.Signs.{product_is}
+use Rattle.pf_num.proofs.Operations.{product_comm, product-neg, sum-neg, difference-neg, difference-swap}
+use Rattle.pf_num.proofs.Signs.{magnitude-neg}
 use Rattle.pf_rot.specs.Vector.{Vec2, minus, negated}
 use Rattle.pf_rot.specs.Rotation.{Pair, unrotated}
 use Rattle.pf_shapes.specs.Reach.{reach}
@@ -15,36 +16,7 @@ use Rattle.pf_manifold.specs.Placed.{OrientedBox}
 use Rattle.pf_manifold.specs.Separation.{Frames, relative_rotation, frames_apart_by, frames_of, magnitudes, reaches, face_separations, Separations, separations_of, has_gap}
 use Rattle.pf_manifold.specs.Boxes.{points_along, collide_boxes}
 use Rattle.pf_manifold.specs.PlaceLaws.{have_gap}
-use Rattle.pf_manifold.proofs.Mirrors.{difference-swap, magnitude-neg, opposite-neg, minus-swap}
-
--- ---- numbers
-
-pub product_comm : (a b : ℤ) → product a b ≡ product b a
-unfolding product
-product_comm a b = rw (*ℤ_comm a b) refl
-
-pub product-zero : (b : ℤ) → product (pos 0) b ≡ pos 0
-unfolding product near nearest saturated
-product-zero b = rw (zero-*ℤ b) refl
-
-product_of : (a b : ℤ) → with_sign (is_opposite a b) (min (nearest (unsigned_abs a * unsigned_abs b) 16777216) 36028797018963967) ≡ product a b
-product_of a b = product_is a b _ refl
-
-product-neg_left : (a b : ℤ) → product (neg_ℤ a) b ≡ neg_ℤ (product a b)
-product-neg_left (pos zero) b = rw (product-zero b) refl
-product-neg_left (pos (suc n)) b = rw (← product_of (negsuc n) b, ← product_of (pos (suc n)) b) (opposite-neg n b _)
-product-neg_left (negsuc n) b = rw (← product_of (pos (suc n)) b, ← product_of (negsuc n) b, opposite-neg n b) (omega (arith, ints))
-
-product-neg : (a b : ℤ) → product a (neg_ℤ b) ≡ neg_ℤ (product a b)
-product-neg a b = product_comm a (neg_ℤ b) ∙ product-neg_left b a ∙ ap neg_ℤ (product_comm b a)
-
-sum-neg : (a b : ℤ) → sum (neg_ℤ a) (neg_ℤ b) ≡ neg_ℤ (sum a b)
-unfolding sum saturated
-sum-neg a b = omega (arith, ints, clamps)
-
-difference-neg : (a b : ℤ) → difference (neg_ℤ a) (neg_ℤ b) ≡ neg_ℤ (difference a b)
-unfolding difference saturated
-difference-neg a b = omega (arith, ints, clamps)
+use Rattle.pf_manifold.proofs.Mirrors.{minus-swap}
 
 -- ---- frames
 

@@ -14,8 +14,7 @@ use Rattle.pf_manifold.specs.Contact.{Contact}
 use Rattle.pf_manifold.specs.Circles.{circles_apart_by, collide_circles}
 use Rattle.pf_shapes.specs.Laws.{squared, distance_squared}
 use Rattle.pf_manifold.proofs.Closest.{squared_le}
-use Rattle.pf_manifold.proofs.Comparisons.{tests_above}
-use Rattle.pf_manifold.proofs.Touching.{not_above}
+use Rattle.pf_manifold.proofs.Comparisons.{not_above, tests_above}
 
 -- ---- squares of numbers that are held at the greatest number g
 
@@ -84,10 +83,10 @@ some_where_not false p = (λ e. refl, λ e. refl)
 then_also : {A B C : Type 0} → A ↔ B → B ↔ C → A ↔ C
 then_also f g = (λ a. g.0 (f.0 a), λ c. f.1 (g.1 c))
 
-length_reaches : (a b : Vec2) (k : ℕ) → k + 1 ≤ 36028797018963967
+distance_reaches : (a b : Vec2) (k : ℕ) → k + 1 ≤ 36028797018963967
     → (int_lt (pos k) (length_of (minus b a)) ≡ false) ↔ (distance_squared a b < squared (k + 1))
 unfolding length_of minus
-length_reaches a b k h =
+distance_reaches a b k h =
     rw (magnitude-difference b.x a.x, magnitude-difference b.y a.y)
     (then_also (root_reaches k _ (omega arith))
     (held_squares (unsigned_abs (a.x -ℤ b.x)) (unsigned_abs (a.y -ℤ b.y)) (k + 1) 36028797018963967 h))
@@ -98,4 +97,4 @@ unfolding collide_circles circles_apart_by
 circles_meet a b ra rb ha hb =
     rw (sum_of_sizes ra rb ha hb)
     (then_also (some_where_not _ _)
-    (length_reaches a b (unsigned_abs ra + unsigned_abs rb) (small_sum ra rb ha hb)))
+    (distance_reaches a b (unsigned_abs ra + unsigned_abs rb) (small_sum ra rb ha hb)))

@@ -10,10 +10,9 @@ use Rattle.std.specs.Prelude.{int_lt, ◌==◌, if◌then◌else◌}
 use Rattle.pf_num.specs.Root.{whole_root}
 use Rattle.pf_num.specs.Round.{nearest, with_sign, is_opposite}
 use Rattle.pf_num.specs.Fx.{saturated, sum, difference, quotient}
-use Rattle.pf_num.proofs.Monotone.{saturated-odd}
 use Rattle.pf_num.proofs.Roots.{whole_root-meets}
-use Rattle.pf_num.proofs.Signs.{quotient_is, nearest-zero}
-use Rattle.pf_num.proofs.Signs.{is_negative-pos}
+use Rattle.pf_num.proofs.Operations.{difference-swap, sum_comm, difference-none, quotient-neg}
+use Rattle.pf_num.proofs.Signs.{magnitude-neg}
 use Rattle.pf_rot.specs.Vector.{Vec2, minus, negated, length_of}
 use Rattle.pf_shapes.specs.declared.fixture.Shape.TheVariants.{Circle, Box}
 use Rattle.pf_manifold.specs.Contact.{Contact}
@@ -23,49 +22,6 @@ use Rattle.pf_manifold.specs.Circles.{divided, circle_normal, rim_point, circles
 use Rattle.pf_manifold.specs.BoxCircle.{collide_box_circle}
 use Rattle.pf_manifold.specs.Collide.{box_at, mirrored, if_mirrored, collide, collide_shapes}
 use Rattle.pf_manifold.specs.Laws.{IsMirrored}
-
--- ---- numbers
-
-pub difference-swap : (a b : ℤ) → difference a b ≡ neg_ℤ (difference b a)
-unfolding difference
-difference-swap a b =
-    let e : a -ℤ b ≡ neg_ℤ (b -ℤ a) = omega (arith, ints) in rw e (saturated-odd (b -ℤ a))
-
-sum_comm : (a b : ℤ) → sum a b ≡ sum b a
-unfolding sum saturated
-sum_comm a b = omega (arith, ints, clamps)
-
--- different numbers have a difference
-difference-none : (a b : ℤ) → difference b a ≡ pos 0 → a ≡ b
-unfolding difference saturated
-difference-none a b e = omega (arith, ints, clamps)
-
-pub magnitude-neg : (z : ℤ) → unsigned_abs (neg_ℤ z) ≡ unsigned_abs z
-magnitude-neg z = omega (arith, ints)
-
-turned_sign : (t : Bool) (m : ℕ) → with_sign (not (beq true t)) m ≡ neg_ℤ (with_sign (not (beq false t)) m)
-turned_sign true m = omega (arith, ints)
-turned_sign false m = refl
-
-pub opposite-neg : (n : ℕ) (b : ℤ) (m : ℕ) → with_sign (is_opposite (negsuc n) b) m ≡ neg_ℤ (with_sign (is_opposite (pos (suc n)) b) m)
-opposite-neg n b m = rw (is_negative-pos (suc n)) (turned_sign (is_negative b) m)
-
-signed_none : (t : Bool) → with_sign t 0 ≡ pos 0
-signed_none true = refl
-signed_none false = refl
-
-quotient_of : (a b : ℤ) → 0 < unsigned_abs b
-    → with_sign (is_opposite a b) (min (nearest (unsigned_abs a * 16777216) (unsigned_abs b)) 36028797018963967) ≡ quotient a b
-quotient_of a b some = quotient_is a b _ some refl
-
-quotient-none : (b : ℤ) → 0 < unsigned_abs b → quotient (pos 0) b ≡ pos 0
-quotient-none b some = rw (← quotient_of (pos 0) b some, nearest-zero (unsigned_abs b) some) (signed_none (is_opposite (pos 0) b))
-
--- the quotient of a number's negative
-quotient-neg : (a b : ℤ) → 0 < unsigned_abs b → quotient (neg_ℤ a) b ≡ neg_ℤ (quotient a b)
-quotient-neg (pos zero) b some = let e : quotient (pos 0) b ≡ pos 0 = quotient-none b some in rw e refl
-quotient-neg (pos (suc n)) b some = rw (← quotient_of (negsuc n) b some, ← quotient_of (pos (suc n)) b some) (opposite-neg n b _)
-quotient-neg (negsuc n) b some = rw (← quotient_of (pos (suc n)) b some, ← quotient_of (negsuc n) b some, opposite-neg n b) (omega (arith, ints))
 
 -- ---- vectors
 
@@ -95,13 +51,13 @@ some_length : (v : Vec2) → (v.x ≡ pos 0 → v.y ≡ pos 0 → ⊥) → 0 < u
 unfolding length_of
 some_length v h = some_root _ (squares (unsigned_abs v.x) (unsigned_abs v.y) (λ ex ey. h (omega (arith, ints)) (omega (arith, ints))))
 
-pub same_vector : (a b : Vec2) → a.x ≡ b.x → a.y ≡ b.y → a ≡ b
-same_vector a b ex ey = let vector : ℤ → ℤ → Vec2 = λ x y. record { x = x; y = y } in ap₂ vector ex ey
+pub vector_by_parts : (a b : Vec2) → a.x ≡ b.x → a.y ≡ b.y → a ≡ b
+vector_by_parts a b ex ey = let vector : ℤ → ℤ → Vec2 = λ x y. record { x = x; y = y } in ap₂ vector ex ey
 
 some_distance : (a b : Vec2) → a ≢ b → 0 < unsigned_abs (length_of (minus b a))
 unfolding minus
 some_distance a b apart =
-    some_length (minus b a) (λ ex ey. apart (same_vector a b (difference-none a.x b.x ex) (difference-none a.y b.y ey)))
+    some_length (minus b a) (λ ex ey. apart (vector_by_parts a b (difference-none a.x b.x ex) (difference-none a.y b.y ey)))
 
 -- ---- circles
 

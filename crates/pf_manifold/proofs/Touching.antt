@@ -26,14 +26,11 @@ use Rattle.pf_manifold.specs.Boxes.{vertex_point, vertex_contact, if_behind, asc
 use Rattle.pf_manifold.specs.Collide.{box_at, mirrored, if_mirrored, collide, collide_shapes}
 use Rattle.pf_manifold.specs.Laws.{IsTouching}
 use Rattle.pf_shapes.specs.Laws.{IsInBox}
+use Rattle.pf_manifold.proofs.Comparisons.{not_above}
 
 abbrev IfTouching : Option Contact → Type 0
 IfTouching None = Unit {0}
 IfTouching (Some p) = IsTouching p
-
--- a number that another isn't below is at least as great
-pub not_above : (x y : ℤ) → int_lt x y ≡ false → y ≤ℤ x
-not_above x y e = grind (arith, ints, nat_tests)
 
 difference-low : (x y : ℤ) → x ≤ℤ y → difference x y ≤ℤ pos 0
 unfolding difference saturated

@@ -8,7 +8,7 @@ use Rattle.std.specs.Int.RustNames.{unsigned_abs}
 use Rattle.std.specs.Prelude.{int_lt}
 use Rattle.pf_num.specs.Round.{IsNear, nearest, near}
 use Rattle.pf_num.specs.Fx.{one, saturated, sum, difference, product, IsRaw}
-use Rattle.pf_num.proofs.Nearest.{meets, unique}
+use Rattle.pf_num.proofs.Operations.{product-one, product-zero, sum-zero, zero-sum, difference-zero}
 use Rattle.pf_num.proofs.Range.{difference-raw}
 use Rattle.pf_rot.specs.Vector.{Vec2, minus}
 use Rattle.pf_rot.specs.Rotation.{upright, unrotated}
@@ -18,44 +18,7 @@ use Rattle.pf_shapes.specs.Reach.{reach}
 use Rattle.pf_manifold.specs.Placed.{OrientedBox}
 use Rattle.pf_manifold.specs.Separation.{Frames, relative_rotation, frames_apart_by, frames_of, magnitudes, reaches, face_separations, separations_of, has_gap}
 use Rattle.pf_manifold.specs.PlaceLaws.{have_gap, DoOverlap}
-use Rattle.pf_manifold.proofs.Gaps.{product-zero}
-use Rattle.pf_manifold.proofs.Comparisons.{tests_above}
-use Rattle.pf_manifold.proofs.Touching.{not_above}
-
--- ---- numbers
-
-itself_is_near : (z : ℤ) → IsNear (z *ℤ one) one z
-itself_is_near z = record {
-  within = let e : unsigned_abs (z *ℤ one -ℤ z *ℤ one) ≡ 0 = none (z *ℤ one) in omega (arith, e);
-  even = λ t. let e : unsigned_abs (z *ℤ one -ℤ z *ℤ one) ≡ 0 = none (z *ℤ one) in absurd (omega (arith, e, t));
-}
-  where
-    none : (x : ℤ) → unsigned_abs (x -ℤ x) ≡ 0
-    none x = omega (arith, ints)
-
-near_itself : (z : ℤ) → near (z *ℤ one) one ≡ z
-near_itself z = unique (z *ℤ one) one (near (z *ℤ one) one) z (omega arith) (meets (z *ℤ one) one (omega arith)) (itself_is_near z)
-
-saturated-itself : (z : ℤ) → IsRaw z → saturated z ≡ z
-unfolding saturated
-saturated-itself z h = omega (arith, ints, clamps)
-
-product-one : (z : ℤ) → IsRaw z → product one z ≡ z
-unfolding product
-product-one z h = rw (*ℤ_comm one z, near_itself z) (saturated-itself z h)
-
--- a raw number plus or less 0
-sum-zero : (z : ℤ) → IsRaw z → sum z (pos 0) ≡ z
-unfolding sum saturated
-sum-zero z h = omega (arith, ints, clamps)
-
-zero-sum : (z : ℤ) → IsRaw z → sum (pos 0) z ≡ z
-unfolding sum saturated
-zero-sum z h = omega (arith, ints, clamps)
-
-difference-zero : (z : ℤ) → IsRaw z → difference z (pos 0) ≡ z
-unfolding difference saturated
-difference-zero z h = omega (arith, ints, clamps)
+use Rattle.pf_manifold.proofs.Comparisons.{not_above, tests_above}
 
 -- ---- frames
 

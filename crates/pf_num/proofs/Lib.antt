@@ -6,4 +6,5 @@ pub mod Nearest
 pub mod Roots
 pub mod Range
 pub mod Monotone
+pub mod Operations
 pub mod AtMostOne

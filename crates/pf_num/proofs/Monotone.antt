@@ -11,8 +11,8 @@ use Rattle.pf_num.proofs.Nearest.{IsNearest, nearest-meets}
 use Rattle.pf_num.proofs.Signs.{near-pos_pos, near-negsuc_pos, nearest-zero, product_in_range}
 
 -- a quotient that rounds below that of a smaller number would be more than a half off
-not_below : (p r q n m : ℕ) → IsNearest p q n → IsNearest r q m → p < r → n ≤ m
-not_below p r q n m hn hm less =
+nearest_ordered : (p r q n m : ℕ) → IsNearest p q n → IsNearest r q m → p < r → n ≤ m
+nearest_ordered p r q n m hn hm less =
     ⊎_elim
     (λ (below : m < n). let far : (m + 1) * q ≤ n * q = mul-le-mul_right q (omega arith) in absurd (omega (arith, hn.high, hm.low, far)))
     (λ (h : n ≤ m). h)
@@ -21,12 +21,12 @@ not_below p r q n m hn hm less =
 pub nearest-monotone : (p r q : ℕ) → 0 < q → p ≤ r → nearest p q ≤ nearest r q
 nearest-monotone p r q some h =
     ⊎_elim
-    (λ (less : p < r). not_below p r q (nearest p q) (nearest r q) (nearest-meets p q some) (nearest-meets r q some) less)
+    (λ (less : p < r). nearest_ordered p r q (nearest p q) (nearest r q) (nearest-meets p q some) (nearest-meets r q some) less)
     (λ (g : r ≤ p). let same : p ≡ r = omega arith in let e = ap (λ (n : ℕ). nearest n q) same in omega arith)
     (cases_lt p r)
 
-ends_ordered : (a b : ℕ) → neg_ℤ (pos a) ≤ℤ pos b
-ends_ordered a b = omega (arith, ints)
+signs_ordered : (a b : ℕ) → neg_ℤ (pos a) ≤ℤ pos b
+signs_ordered a b = omega (arith, ints)
 
 turned_order : (a b : ℕ) → b ≤ a → neg_ℤ (pos a) ≤ℤ neg_ℤ (pos b)
 turned_order a b h = omega (arith, ints)
@@ -37,7 +37,7 @@ pos_order a b h = omega (arith, ints)
 pub near-monotone : (p r : ℤ) (q : ℕ) → 0 < q → p ≤ℤ r → near p (pos q) ≤ℤ near r (pos q)
 near-monotone (pos p) (pos r) q some h =
     rw (near-pos_pos p q, near-pos_pos r q) (pos_order _ _ (nearest-monotone p r q some (omega (arith, ints))))
-near-monotone (negsuc p) (pos r) q some h = rw (near-negsuc_pos p q, near-pos_pos r q) (ends_ordered _ _)
+near-monotone (negsuc p) (pos r) q some h = rw (near-negsuc_pos p q, near-pos_pos r q) (signs_ordered _ _)
 near-monotone (negsuc p) (negsuc r) q some h =
     rw (near-negsuc_pos p q, near-negsuc_pos r q) (turned_order _ _ (nearest-monotone (suc r) (suc p) q some (omega (arith, ints))))
 near-monotone (pos p) (negsuc r) q some h = absurd (omega (arith, ints))

@@ -8,7 +8,7 @@ use Rattle.std.proofs.Math.Nat.{mul-le-mul_right}
 use Rattle.std.proofs.Math.IntN.{ℤ_ind, suc_ℤ, pred_ℤ, suc_ℤ-*ℤ, pred_ℤ-*ℤ, zero-*ℤ}
 use Rattle.std.specs.Int.RustNames.{unsigned_abs}
 use Rattle.pf_num.specs.Round.{IsNear, nearest, near, carry}
-use Rattle.pf_num.proofs.Signs.{near-pos_pos, near-negsuc_pos, near-pos_negsuc, near-negsuc_negsuc}
+use Rattle.pf_num.proofs.Signs.{magnitude-neg, near-pos_pos, near-negsuc_pos, near-pos_negsuc, near-negsuc_negsuc}
 
 -- n is nearest to p / q, over numbers from 0 on
 pub record IsNearest (p q n : ℕ) : Type 0 where
@@ -78,10 +78,6 @@ above p x q n low high even_low even_high = (
 same_below : (p x : ℕ) → unsigned_abs (neg_ℤ (pos p) -ℤ neg_ℤ (pos x)) ≡ unsigned_abs (pos p -ℤ pos x)
 same_below p x = grind (arith, ints)
 
-abs_neg : (n : ℕ) → unsigned_abs (neg_ℤ (pos n)) ≡ n
-abs_neg zero = refl
-abs_neg (suc n) = refl
-
 -- the two facts of IsNear from those over numbers from 0 on
 lifted : (p q n : ℕ) → IsNearest p q n → (2 * unsigned_abs (pos p -ℤ pos (n * q)) ≤ q) × (2 * unsigned_abs (pos p -ℤ pos (n * q)) ≡ q → n % 2 ≡ 0)
 lifted p q n h = above p (n * q) q n h.low h.high h.even_low h.even_high
@@ -95,14 +91,14 @@ meets (negsuc p) (pos q) some =
     rw (near-negsuc_pos p q)
     (record {
       within = rw (neg_times (nearest (suc p) q) q, same_below (suc p) (nearest (suc p) q * q)) l.0;
-      even = rw (neg_times (nearest (suc p) q) q, same_below (suc p) (nearest (suc p) q * q), abs_neg (nearest (suc p) q)) l.1;
+      even = rw (neg_times (nearest (suc p) q) q, same_below (suc p) (nearest (suc p) q * q), magnitude-neg (pos (nearest (suc p) q))) l.1;
     })
 meets (pos p) (negsuc q) some =
     let l = lifted p (suc q) (nearest p (suc q)) (nearest-meets p (suc q) some) in
     rw (near-pos_negsuc p q)
     (record {
       within = rw (neg_times_neg (nearest p (suc q)) q) l.0;
-      even = rw (neg_times_neg (nearest p (suc q)) q, abs_neg (nearest p (suc q))) l.1;
+      even = rw (neg_times_neg (nearest p (suc q)) q, magnitude-neg (pos (nearest p (suc q)))) l.1;
     })
 meets (negsuc p) (negsuc q) some =
     let l = lifted (suc p) (suc q) (nearest (suc p) (suc q)) (nearest-meets (suc p) (suc q) some) in

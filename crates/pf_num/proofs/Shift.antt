@@ -23,8 +23,8 @@ shifted-to_zero : (n k : ℕ) → k ≡ 8388607 + suc (n / 16777216) % 2 → n <
 unfolding nearest
 shifted-to_zero n k e h = grind (arith, nat_tests)
 
-from_zero : (n k : ℕ) → n < k → nearest (suc n) 16777216 ≡ 0 → k ≤ 8388608 → shr_z (negsuc n +ℤ pos k) 16777216 ≡ neg_ℤ (pos (nearest (suc n) 16777216))
-from_zero n k below e small =
+reaching_zero : (n k : ℕ) → n < k → nearest (suc n) 16777216 ≡ 0 → k ≤ 8388608 → shr_z (negsuc n +ℤ pos k) 16777216 ≡ neg_ℤ (pos (nearest (suc n) 16777216))
+reaching_zero n k below e small =
     let sum : negsuc n +ℤ pos k ≡ pos (k - suc n) = omega (arith, ints) in
     let none : (k - suc n) / 16777216 ≡ 0 = omega arith in
     rw (sum, e) (ap pos none)
@@ -40,7 +40,7 @@ shifted-negsuc : (n k : ℕ) → k ≡ 8388607 + suc (n / 16777216) % 2 →
 shifted-negsuc n k e =
     let total : negsuc n +ℤ pos 8388607 +ℤ pos (suc (n / 16777216) % 2) ≡ negsuc n +ℤ pos k = omega (arith, ints) in
     rw total
-    (⊎_elim (λ below. from_zero n k below (shifted-to_zero n k e below) (omega arith))
+    (⊎_elim (λ below. reaching_zero n k below (shifted-to_zero n k e below) (omega arith))
     (λ reach. from_below n k reach (shifted-down n k e reach)) (cases_lt n k))
 
 -- the whole of it, for every number

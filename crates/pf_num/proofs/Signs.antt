@@ -12,6 +12,9 @@ use Rattle.pf_num.specs.Fx.{saturated, product, quotient}
 pub is_negative-pos : (n : ℕ) → ltb n 0 ≡ false
 is_negative-pos n = grind (arith, nat_tests)
 
+pub magnitude-neg : (z : ℤ) → unsigned_abs (neg_ℤ z) ≡ unsigned_abs z
+magnitude-neg z = omega (arith, ints)
+
 -- 0 by anything is nearest to 0
 pub nearest-zero : (q : ℕ) → 0 < q → nearest 0 q ≡ 0
 unfolding nearest
