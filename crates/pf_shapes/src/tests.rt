@@ -117,12 +117,17 @@ fn crowd(alloc: Global, count: usize, last: &[u8]) -> Result<Vec<u8>, Fail> {
 }
 
 #[test]
-fn a_scene_has_at_most_1024_bodies(rt: HostRuntime) -> Result<(), Fail> {
+fn scenes_of_many_bodies_are_read_and_copied(rt: HostRuntime) -> Result<(), Fail> {
     for count in [3, MAX_BODIES] {
         let whole = Scene::read(rt.alloc(), &crowd(rt.alloc(), count, b"end\n")?)?;
         assert_eq!(rt; whole.len(), count);
         assert!(rt; whole.try_clone()? == whole);
     }
+    Ok(())
+}
+
+#[test]
+fn a_scene_has_at_most_1024_bodies(rt: HostRuntime) -> Result<(), Fail> {
     for body in [
         b"circle - 0 0 1048576 0 0\n".as_slice(),
         b"box - 0 0 1048576 1048576 0 0 16777216 0\n".as_slice(),
