@@ -1,7 +1,7 @@
 //! Plane vectors, with the products of Box2D-Lite's MathUtils.
 
 ghost use Rattle.std.specs.Prelude.{◌≡◌};
-ghost use Rattle.pf_rot.specs.Vector.{Vec2, zero_vector, plus, minus, negated, scaled, length_of, dot, cross, cross_sv as swept};
+ghost use Rattle.pf_rot.specs.Vector.{Vec2, plus, minus, negated, scaled, length_of, dot, cross, cross_sv as swept};
 
 use pf_num::{Fx, whole_root};
 use std::marker::Model;

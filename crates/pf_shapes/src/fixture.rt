@@ -112,7 +112,7 @@ pub struct Fixture {
 }
 
 impl Model for Fixture {
-    ghost use Rattle.pf_shapes.specs.Fixture.{FixtureDef, IsFixture};
+    ghost use Rattle.pf_shapes.specs.Fixture.{FixtureDef};
 
     ghost Value = { FixtureDef };
 
@@ -167,8 +167,8 @@ impl Eq for Fixture {
 }
 
 impl Fixture {
-    ghost use Rattle.std.specs.Prelude.{◌≡◌, ℤ, ◌≤ℤ◌};
-    ghost use Rattle.pf_shapes.specs.Fixture.{FixtureDef, HasSize, IsFixture, is_static, inverse_mass, inverse_inertia};
+    ghost use Rattle.std.specs.Prelude.{◌≡◌};
+    ghost use Rattle.pf_shapes.specs.Fixture.{HasSize, IsFixture, is_static, inverse_mass, inverse_inertia};
 
     /// A fixture of these parts, with its inverse masses.
     #[tactic(auto, unfolding(crate::specs::Fixture::inverse_mass, crate::specs::Fixture::inverse_inertia))]

@@ -42,8 +42,7 @@ pub enum Progress {
 }
 
 impl SceneReader {
-    ghost use Rattle.std.specs.Prelude.{◌≡◌, ◌≤◌, ℕ, Option, None, map};
-    ghost use Rattle.pf_shapes.specs.Reader.{Reader};
+    ghost use Rattle.std.specs.Prelude.{◌≡◌, ◌≤◌, None, map};
     ghost use Rattle.pf_shapes.specs.SceneText.{Reads, gravity_line, body_line, end_line, line_of};
 
     /// A reader of a scene of at most so many bodies, before its first line.

@@ -28,7 +28,7 @@ impl Model for Scene {
 }
 
 impl Scene {
-    ghost use Rattle.std.specs.Prelude.{◌≡◌, ◌<◌, ◌≤◌, ◌↔◌, [], length, IsTrue, OnOk, OnErr, IfOk};
+    ghost use Rattle.std.specs.Prelude.{◌≡◌, ◌<◌, ◌↔◌, [], length, IsTrue, OnOk, OnErr, IfOk};
     ghost use Rattle.pf_shapes.specs.Scene.{IsSetting, IsGravity, IsPosture, empty_setting, with_body};
     ghost use Rattle.pf_shapes.specs.Same.{same_setting};
 
