@@ -1,7 +1,7 @@
 //! A box and a circle, as Box2D 2.x's `b2CollidePolygonAndCircle`.
 
-ghost use Rattle.std.specs.Prelude.{◌≡◌, ◌<◌, ◌≤◌};
-ghost use Rattle.pf_manifold.specs.BoxCircle.{clamped, closest_point, region_of, region_number, region_feature, outside_point, outside_contact, face_distance, closer_face, closest_face, inside_point, contact_at, in_world, collide_box_circle};
+ghost use Rattle.std.specs.Prelude.{◌≡◌, ◌<◌};
+ghost use Rattle.pf_manifold.specs.BoxCircle.{clamped, closest_point, region_of, region_number, region_feature, outside_contact, face_distance, closer_face, closest_face, inside_point, contact_at, in_world, collide_box_circle};
 
 use crate::circles::divided;
 use crate::face::Face;

@@ -1,8 +1,6 @@
 //! The contact points of a list of pairs, one pair after the other, as Box2D 2.x's `b2ContactManager::Collide`.
 
-ghost use Rattle.std.specs.Prelude.{◌≡◌, ◌<◌, ◌++◌, [], All, length, map, IfOk, OnOk, IsOk};
-ghost use Rattle.std.specs.Prelude.{slice_get, Some};
-ghost use Rattle.pf_shapes.specs.Scene.{IsSetting};
+ghost use Rattle.std.specs.Prelude.{◌≡◌, ◌<◌, ◌++◌, [], All, length, map, Some, IfOk, OnOk, IsOk};
 ghost use Rattle.pf_broad.specs.Laws.{IsPairOf};
 ghost use Rattle.pf_manifold.specs.Point.{points_of};
 ghost use Rattle.pf_manifold.specs.Touches.{Touching, body_at, touching, touches};
