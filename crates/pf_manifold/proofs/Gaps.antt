@@ -1,12 +1,8 @@
 -- Two boxes the other way round: what either sees of the other changes its sign, and their separations change places.
-use Rattle.std.proofs.Common.{◌≡◌, zero, suc, ◌*◌, ℤ, pos, negsuc, neg_ℤ, Bool, true, ◌||◌, [], min, refl, sym, ap, ◌∙◌, arith}
-use Rattle.std.proofs.lemmas.Int.{ints, clamps}
+use Rattle.std.proofs.Common.{◌≡◌, pos, neg_ℤ, Bool, true, ◌||◌, [], refl, sym, ◌∙◌}
 use Rattle.std.proofs.Math.Bool.{or_assoc, or_comm}
-use Rattle.std.proofs.Math.IntN.{*ℤ_comm, zero-*ℤ}
-use Rattle.std.specs.Int.RustNames.{unsigned_abs}
 use Rattle.std.specs.Prelude.{int_lt}
-use Rattle.pf_num.specs.Round.{nearest, near, with_sign, is_opposite}
-use Rattle.pf_num.specs.Fx.{saturated, sum, difference, product}
+use Rattle.pf_num.specs.Fx.{product}
 use Rattle.pf_num.proofs.Operations.{product_comm, product-neg, sum-neg, difference-neg, difference-swap}
 use Rattle.pf_num.proofs.Signs.{magnitude-neg}
 use Rattle.pf_rot.specs.Vector.{Vec2, minus, negated}

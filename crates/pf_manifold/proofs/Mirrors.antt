@@ -1,15 +1,12 @@
--- Two circles the other way round: numbers and their negatives round, saturate and divide alike.
-use Rattle.std.proofs.Common.{◌≡◌, ◌≢◌, ℕ, zero, suc, ◌+◌, ◌*◌, ◌<◌, ◌≤◌, ℤ, pos, negsuc, neg_ℤ, ◌-ℤ◌, Bool, true, false, [], ◌∷◌, Option, Some, None, min, refl, ap, ap₂, not, ⊎_elim, arith}
+-- Two circles the other way round: the vector between them turns round, and so does their normal.
+use Rattle.std.proofs.Common.{◌≡◌, ◌≢◌, ℕ, zero, suc, ◌+◌, ◌*◌, ◌<◌, ◌≤◌, ℤ, pos, Bool, true, false, [], ◌∷◌, Option, Some, None, refl, ap, ap₂, ⊎_elim, arith}
 use Rattle.std.proofs.lemmas.Bool.{cases_lt}
 use Rattle.std.proofs.lemmas.Bool.Decides.{nat_tests}
 use Rattle.std.proofs.lemmas.Int.{ints, clamps}
-use Rattle.std.specs.Bool.{beq}
-use Rattle.std.specs.Int.{is_negative}
 use Rattle.std.specs.Int.RustNames.{unsigned_abs}
 use Rattle.std.specs.Prelude.{int_lt, ◌==◌, if◌then◌else◌}
 use Rattle.pf_num.specs.Root.{whole_root}
-use Rattle.pf_num.specs.Round.{nearest, with_sign, is_opposite}
-use Rattle.pf_num.specs.Fx.{saturated, sum, difference, quotient}
+use Rattle.pf_num.specs.Fx.{saturated, sum, difference}
 use Rattle.pf_num.proofs.Roots.{whole_root-meets}
 use Rattle.pf_num.proofs.Operations.{difference-swap, sum_comm, difference-none, quotient-neg}
 use Rattle.pf_num.proofs.Signs.{magnitude-neg}

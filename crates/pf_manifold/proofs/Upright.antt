@@ -1,13 +1,12 @@
 -- Upright boxes: the other box is seen as it lies, so that there is a gap along an axis exactly where the centres are
 -- farther apart along it than the half extents reach.
-use Rattle.std.proofs.Common.{◌≡◌, ◌+◌, ◌≤◌, ◌↔◌, ℤ, pos, ◌-ℤ◌, ◌*ℤ◌, ◌≤ℤ◌, Bool, false, ◌||◌, refl, arith}
+use Rattle.std.proofs.Common.{◌≡◌, ◌+◌, ◌≤◌, ◌↔◌, ℤ, pos, ◌-ℤ◌, ◌≤ℤ◌, Bool, false, ◌||◌, refl, arith}
 use Rattle.std.proofs.lemmas.Bool.{or_parts}
 use Rattle.std.proofs.lemmas.Int.{ints, clamps}
-use Rattle.std.proofs.Math.IntN.{*ℤ_comm}
 use Rattle.std.specs.Int.RustNames.{unsigned_abs}
 use Rattle.std.specs.Prelude.{int_lt}
-use Rattle.pf_num.specs.Round.{IsNear, nearest, near}
-use Rattle.pf_num.specs.Fx.{one, saturated, sum, difference, product, IsRaw}
+use Rattle.pf_num.specs.Round.{nearest, near}
+use Rattle.pf_num.specs.Fx.{saturated, sum, difference, product, IsRaw}
 use Rattle.pf_num.proofs.Operations.{product-one, product-zero, sum-zero, zero-sum, difference-zero}
 use Rattle.pf_num.proofs.Range.{difference-raw}
 use Rattle.pf_rot.specs.Vector.{Vec2, minus}
