@@ -61,3 +61,10 @@ Answers faults entered (Err other) = ⊥
 
 abbrev pub RunsUnlessMemory : Result Request PlayFault → Type 0
 RunsUnlessMemory r = (r ≡ Ok Run) ⊎ (r ≡ Err Memory)
+
+-- where words could not be had, the fault is theirs, or memory is wanting
+abbrev pub BlamesWordsOrMemory : {X : Type 0} → Result X PlayFault → Type 0
+BlamesWordsOrMemory (Ok words) = Unit {0}
+BlamesWordsOrMemory (Err (Words text)) = Unit {0}
+BlamesWordsOrMemory (Err Memory) = Unit {0}
+BlamesWordsOrMemory (Err other) = ⊥

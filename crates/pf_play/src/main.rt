@@ -2,21 +2,19 @@
 #![tactic(auto)]
 
 mod options;
+mod program;
 
-use options::{options, words_of};
-use pf_console::{PlayFault, finish, perform};
+use options::words_of;
 use pf_text::{Input, Output};
+use program::program;
 use std::process::ExitCode;
 
-/// Does what the words of the call ask for.
-fn play(rt: &HostRuntime) -> Result<(), PlayFault> {
-    let words = words_of(rt)?;
-    let request = options(rt.alloc(), words.as_slice())?;
-    let mut reader = Input::new(rt.stdin());
-    let mut writer = Output::new(rt.stdout());
-    perform(rt.alloc(), request, &mut reader, &mut writer)
-}
-
 fn main(rt: HostRuntime) -> ExitCode {
-    ExitCode::from(finish(play(&rt), &mut Output::new(rt.stderr())))
+    program(
+        rt.alloc(),
+        words_of(&rt),
+        &mut Input::new(rt.stdin()),
+        &mut Output::new(rt.stdout()),
+        &mut Output::new(rt.stderr()),
+    )
 }

@@ -3,7 +3,7 @@ ghost use Rattle.std.specs.Prelude.{◌≡◌, ℕ, List, [], ◌∷◌, None, f
 ghost use Rattle.clap.specs.Words.{app_of, fault_of, kind_of, shape_of, subcommand_of, subcommand_rows_of};
 ghost use Rattle.clap.specs.Simple.{new_shape};
 ghost use Rattle.clap.specs.declared.builder.command.Command.TheViews.{out-Command as fields_of};
-ghost use Rattle.pf_play.specs.Options.{Answers, AsksFor, RunsUnlessMemory, command_line, frame_words};
+ghost use Rattle.pf_play.specs.Options.{Answers, AsksFor, BlamesWordsOrMemory, RunsUnlessMemory, command_line, frame_words};
 
 use clap::error::ErrorKind;
 use clap::{Arg, ArgMatches, Command, Error};
@@ -54,8 +54,8 @@ and run it by
 
   pf_play run < scene.txt
 
-Each answer begins with the words of its event. The line `body` shows number,
-place, pair of rotation, velocity, spin, ticks at rest, and 1 if awake:
+An answer begins with the word of its event, or with `refused`. The line `body`
+shows number, place, pair of rotation, velocity, spin, ticks at rest, and 1 if awake:
 
   advance 0 2
   show 0 2
@@ -127,7 +127,9 @@ fn asked<'a>(matches: &ArgMatches<'a>) -> Request<'a>
 }
 
 /// The words of this call, the program's name first.
-pub fn words_of<R: Env + Alloc<A = Global>>(rt: &R) -> Result<Vec<String>, PlayFault> {
+pub fn words_of<R: Env + Alloc<A = Global>>(rt: &R) -> Result<Vec<String>, PlayFault>
+    ensures { BlamesWordsOrMemory result }
+{
     match env::args(rt) {
         Ok(words) => Ok(words.collect(rt.alloc())?),
         Err(error) if error.kind() == io::ErrorKind::OutOfMemory => Err(PlayFault::Memory),

@@ -1,6 +1,7 @@
-//! What is said to the words behind the program's name.
+//! What is said to the words behind the program's name, and words as the system has them.
 
 use super::*;
+use std::env::FillError;
 use std::test::Fail;
 
 const USAGE: &str = "\nUsage: pf_play <COMMAND>\n\nFor more information, try '--help'.\n";
@@ -53,21 +54,6 @@ fn says_the_version(rt: HostRuntime) -> Result<(), Fail> {
 }
 
 #[test]
-fn says_help(rt: HostRuntime) -> Result<(), Fail> {
-    let (status, text) = said(rt.alloc(), &["pf_play", "--help"])?;
-    assert_eq!(rt; status, 0);
-    assert!(rt; text.as_str().starts_with(ABOUT));
-    assert!(rt; text.as_str().contains("\nUsage: pf_play <COMMAND>\n"));
-    assert!(rt; text.as_str().contains(RUN_HELP));
-    let (status, text) = said(rt.alloc(), &["pf_play", "run", "--help"])?;
-    assert_eq!(rt; status, 0);
-    assert!(rt; text.as_str().starts_with(RUN_ABOUT));
-    assert!(rt; text.as_str().contains("\nUsage: pf_play run\n"));
-    assert!(rt; text.as_str().contains(RUN_HELP));
-    Ok(())
-}
-
-#[test]
 fn refuses_wrong_words(rt: HostRuntime) -> Result<(), Fail> {
     let alloc = rt.alloc();
     for (words, fault, usage) in [
@@ -116,6 +102,60 @@ fn refuses_wrong_words(rt: HostRuntime) -> Result<(), Fail> {
         let expected = format!(in alloc; "{fault}{usage}")?;
         assert_eq!(rt; text.as_str(), expected.as_str());
         assert_eq!(rt; status, 2);
+    }
+    Ok(())
+}
+
+/// A call with these words. It has no variables.
+#[derive(Clone, Copy)]
+struct Call<'a> {
+    words: &'a [&'a [u8]],
+}
+
+impl Env for Call<'_> {
+    fn arg(&self, i: usize, buf: &mut [u8]) -> Result<usize, FillError> {
+        match self.words.get(i) {
+            Some(word) if word.len() <= buf.len() => {
+                buf[..word.len()].copy_from_slice(word);
+                Ok(word.len())
+            }
+            Some(_) => Err(FillError::TooLong),
+            None => Err(FillError::NotPresent),
+        }
+    }
+
+    fn var(&self, _name: &str, _buf: &mut [u8]) -> Result<usize, FillError> {
+        Err(FillError::NotPresent)
+    }
+
+    fn var_at(&self, _i: usize, _buf: &mut [u8]) -> Result<usize, FillError> {
+        Err(FillError::NotPresent)
+    }
+}
+
+#[test]
+fn words_come_whole_and_in_order(rt: HostRuntime) -> Result<(), Fail> {
+    let words = [b"pf_play".as_slice(), b"frame", &[b'0'; 300]];
+    let found = words_of(&(Call { words: &words }, rt.alloc()))?;
+    assert_eq!(rt; found.len(), 3);
+    for (word, expected) in found.iter().zip(words.iter()) {
+        assert_eq!(rt; word.as_bytes(), *expected);
+    }
+    Ok(())
+}
+
+#[test]
+fn words_that_are_no_text_are_at_fault(rt: HostRuntime) -> Result<(), Fail> {
+    let words = [b"pf_play".as_slice(), b"run", b"\xff"];
+    match words_of(&(Call { words: &words }, rt.alloc())) {
+        Err(PlayFault::Words(text)) => assert_eq!(rt;
+            text.as_str(),
+            "error: invalid UTF-8 was detected in one or more arguments\n\nUsage: pf_play <COMMAND>\n\nFor more information, try '--help'.\n"
+        ),
+        other => {
+            assert!(rt; matches!(other, Err(PlayFault::Memory)));
+            return Err(AllocError)?;
+        }
     }
     Ok(())
 }

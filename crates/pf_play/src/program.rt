@@ -1,0 +1,60 @@
+//! The program, from the words of its call to its status.
+
+ghost use Rattle.std.specs.Prelude.{◌≡◌, ◌+◌, ◌^◌, ◌<◌};
+ghost use Rattle.std.specs.Process.{exit_status};
+ghost use Rattle.pf_console.specs.Report.{Reports};
+ghost use Rattle.pf_console.specs.Text.{CountsReads, CountsWrites};
+ghost use Rattle.pf_play.specs.Options.{BlamesWordsOrMemory};
+ghost use Rattle.pf_play.specs.Program.{Ends, Plays};
+
+use crate::options::options;
+use pf_console::{PlayFault, finish, perform};
+use pf_text::{Sink, Source};
+use std::alloc::Global;
+use std::convert::AsStr;
+use std::process::ExitCode;
+
+/// Does what the words of a call ask for.
+fn play<S: AsStr + Drop, R: Source, W: Sink>(
+    alloc: Global,
+    words: Result<Vec<S>, PlayFault>,
+    reader: &mut R,
+    writer: &mut W,
+) -> Result<(), PlayFault>
+    requires words { BlamesWordsOrMemory words }
+    requires reads { R.failures reader.old + 1 < 2 ^ 64 }
+    requires writes { W.failures writer.old + 1 < 2 ^ 64 }
+    ensures came { Plays S.text words (R.remaining reader.old) (R.remaining reader.new)
+        (W.contents writer.old) (W.contents writer.new) result }
+    ensures reads_counted { CountsReads (R.failures reader.old) result (R.failures reader.new) }
+    ensures writes_counted { CountsWrites (W.failures writer.old) result (W.failures writer.new) }
+{
+    let words = words?;
+    let request = options(alloc, words.as_slice())?;
+    perform(alloc, request, reader, writer)
+}
+
+/// Does what the words of a call ask for, says of a fault what is to be said, and answers the status to end with.
+pub fn program<S: AsStr + Drop, R: Source, W: Sink, E: Sink>(
+    alloc: Global,
+    words: Result<Vec<S>, PlayFault>,
+    reader: &mut R,
+    writer: &mut W,
+    errors: &mut E,
+) -> ExitCode
+    requires words { BlamesWordsOrMemory words }
+    requires reads { R.failures reader.old + 1 < 2 ^ 64 }
+    requires writes { W.failures writer.old + 1 < 2 ^ 64 }
+    requires says { E.failures errors.old + 1 < 2 ^ 64 }
+    ensures { Ends
+        (Plays S.text words (R.remaining reader.old) (R.remaining reader.new) (W.contents writer.old) (W.contents writer.new))
+        (λ outcome. CountsReads (R.failures reader.old) outcome (R.failures reader.new)
+        × CountsWrites (W.failures writer.old) outcome (W.failures writer.new))
+        (Reports (E.failures errors.old) (E.failures errors.new) (E.contents errors.old) (E.contents errors.new))
+        (exit_status result) }
+{
+    ExitCode::from(finish(play(alloc, words, reader, writer), errors))
+}
+
+#[cfg(test)]
+mod tests;

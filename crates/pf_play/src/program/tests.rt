@@ -1,0 +1,307 @@
+//! Calls from their words to their status, with what is written and what is said.
+
+ghost use Rattle.pf_play.specs.Options.{BlamesWordsOrMemory};
+
+use super::*;
+use pf_text::{Bytes, Collected, Input, Output};
+use std::alloc::AllocError;
+use std::io::{Error, ErrorKind, Read, Write};
+use std::test::Fail;
+
+const FALLING: &str =
+    "gravity 0 -167772160\ncircle 0 16777216 0 16777216 0 0\nend\npeers 1\nadvance 0 2\nshow 0 2\n";
+
+const FALLEN: &str = "advance 0 2\nshow 0 2\nbody 0 0 -122880 16777216 0 0 -5242880 0 0 1\nend\n";
+
+/// The status, what is written, and what is said of a fault.
+type Ended = (ExitCode, Collected, Collected);
+
+/// How a call ends on a text in memory. What is kept in memory fails for want of it alone.
+fn answered(
+    alloc: Global,
+    words: Result<Vec<&str>, PlayFault>,
+    text: &str,
+) -> Result<Ended, AllocError>
+    requires { BlamesWordsOrMemory words }
+{
+    let mut reader = Bytes::new(text.as_bytes());
+    let mut output = Collected::new(alloc);
+    let mut errors = Collected::new(alloc);
+    let status = program(alloc, words, &mut reader, &mut output, &mut errors);
+    if status != ExitCode::SUCCESS && errors.bytes().is_empty() {
+        return Err(AllocError);
+    }
+    Ok((status, output, errors))
+}
+
+/// The same of a call that has its words and memory.
+fn ended(alloc: Global, words: &[&str], text: &str) -> Result<Ended, AllocError> {
+    let words = Vec::from_slice(alloc, words)?;
+    let (status, output, errors) = answered(alloc, Ok(words), text)?;
+    if status == ExitCode::from(3) {
+        return Err(AllocError);
+    }
+    Ok((status, output, errors))
+}
+
+#[test]
+fn a_text_is_answered(rt: HostRuntime) -> Result<(), Fail> {
+    let (status, output, errors) = ended(rt.alloc(), &["pf_play", "run"], FALLING)?;
+    assert_eq!(rt; status, ExitCode::from(0));
+    assert_eq!(rt; output.bytes(), FALLEN.as_bytes());
+    assert!(rt; errors.bytes().is_empty());
+    Ok(())
+}
+
+#[test]
+fn a_refused_line_is_told(rt: HostRuntime) -> Result<(), Fail> {
+    let text = format!(in rt.alloc(); "{FALLING}advance 0 05\nshow 0 1\n")?;
+    let (status, output, errors) = ended(rt.alloc(), &["pf_play", "run"], text.as_str())?;
+    assert_eq!(rt; status, ExitCode::from(1));
+    assert_eq!(rt; output.bytes(), FALLEN.as_bytes());
+    assert_eq!(rt; errors.bytes(), b"pf_play: line 7: BadNumber\n".as_slice());
+    Ok(())
+}
+
+#[test]
+fn wrong_words_are_told(rt: HostRuntime) -> Result<(), Fail> {
+    let (status, output, errors) = ended(rt.alloc(), &["pf_play", "fall"], FALLING)?;
+    let said =
+        "error: unrecognized subcommand 'fall'\n\nUsage: pf_play <COMMAND>\n\nFor more information, try '--help'.\n";
+    assert_eq!(rt; status, ExitCode::from(2));
+    assert_eq!(rt; errors.bytes(), said.as_bytes());
+    assert!(rt; output.bytes().is_empty());
+    Ok(())
+}
+
+/// Digits of frames, and what is written of them: the lines that the help of `frame` shows.
+const FRAMES: [(&str, &str); 3] = [
+    (
+        "010000000000000000000000000000010000000000000000000000",
+        "tick 0 player 0 number 0 push 0 16777216 0\n",
+    ),
+    (
+        "010000000000000101000000000000010000000000000000000000",
+        "tick 0 player 0 number 1 turn 0 16777216\n",
+    ),
+    (
+        "010000000000000202000000000000000000000000000000000000",
+        "tick 0 player 0 number 2 stop 0\n",
+    ),
+];
+
+#[test]
+fn frames_are_told(rt: HostRuntime) -> Result<(), Fail> {
+    for (digits, line) in FRAMES {
+        let (status, output, errors) = ended(rt.alloc(), &["pf_play", "frame", digits], FALLING)?;
+        assert_eq!(rt; status, ExitCode::from(0));
+        assert_eq!(rt; output.bytes(), line.as_bytes());
+        assert!(rt; errors.bytes().is_empty());
+        assert!(rt; FRAME_HELP.contains(line.trim_end()));
+    }
+    let (status, output, errors) = ended(rt.alloc(), &["pf_play", "frame", "01"], FALLING)?;
+    assert_eq!(rt; status, ExitCode::from(1));
+    assert_eq!(rt; errors.bytes(), b"pf_play: frame: Short\n".as_slice());
+    assert!(rt; output.bytes().is_empty());
+    Ok(())
+}
+
+/// What is told of runs, below the options.
+const RUN_TOLD: &str = "\
+Standard input holds a scene, a line `peers 1`, and then events, a line each:
+
+  issue 0 push B X Y   gives body B an impulse now, and answers the command's frame
+  issue 0 turn B X     gives body B an angular impulse
+  issue 0 stop B       stops body B
+  take 0 HEX           takes a command's frame, also of a tick that is past
+  advance 0 K          goes K ticks of 1/64 s further, and answers the tick reached
+  show 0 T             shows the world at tick T, at or below the tick reached
+
+Numbers are whole, in units of 1/16777216. Save this text as scene.txt, a circle
+of mass 1 and radius 1 that falls with gravity 10:
+
+  gravity 0 -167772160
+  circle 0 16777216 0 16777216 0 0
+  end
+  peers 1
+  advance 0 2
+  show 0 2
+
+and run it by
+
+  pf_play run < scene.txt
+
+An answer begins with the word of its event, or with `refused`. The line `body`
+shows number, place, pair of rotation, velocity, spin, ticks at rest, and 1 if awake:
+
+  advance 0 2
+  show 0 2
+  body 0 0 -122880 16777216 0 0 -5242880 0 0 1
+  end
+";
+
+const HELP: &str = "\
+An exact 2D physics core for rollback games
+
+Usage: pf_play <COMMAND>
+
+Commands:
+  run    Answers a text on standard input, line by line
+  frame  Prints the fields of one command's frame
+
+Options:
+  -h, --help     Print help
+  -V, --version  Print version
+
+";
+
+const RUN_HELP: &str = "\
+Answers a text on standard input, line by line
+
+Usage: pf_play run
+
+Options:
+  -h, --help  Print help
+
+";
+
+const FRAME_HELP: &str = "\
+Prints the fields of one command's frame
+
+Usage: pf_play frame <HEX>
+
+Arguments:
+  <HEX>  \n
+Options:
+  -h, --help  Print help
+
+HEX is the 27 bytes of a frame as 54 hexadecimal digits, as the line `issue` of a run answers
+them. It prints tick, player and number of the command that they spell, and what it does:
+
+  tick 0 player 0 number 0 push 0 16777216 0
+  tick 0 player 0 number 1 turn 0 16777216
+  tick 0 player 0 number 2 stop 0
+";
+
+#[test]
+fn texts_that_are_asked_for_are_written(rt: HostRuntime) -> Result<(), Fail> {
+    for (words, head, told) in [
+        (["pf_play", "--version"].as_slice(), "pf_play 0.1.0\n", ""),
+        (["pf_play", "--help"].as_slice(), HELP, RUN_TOLD),
+        (["pf_play", "run", "--help"].as_slice(), RUN_HELP, RUN_TOLD),
+        (["pf_play", "frame", "--help"].as_slice(), FRAME_HELP, ""),
+    ] {
+        let (status, output, errors) = ended(rt.alloc(), words, FALLING)?;
+        let expected = format!(in rt.alloc(); "{head}{told}")?;
+        assert_eq!(rt; status, ExitCode::from(0));
+        assert_eq!(rt; output.bytes(), expected.as_str().as_bytes());
+        assert!(rt; errors.bytes().is_empty());
+    }
+    Ok(())
+}
+
+/// The lines of the help that are set in by two spaces, between these two texts.
+fn set_in(alloc: Global, after: &str, before: &str) -> Result<String, AllocError> {
+    let (_, rest) = RUN_TOLD.split_once(after).unwrap_or(("", ""));
+    let (shown, _) = rest.split_once(before).unwrap_or((rest, ""));
+    let mut text = String::new(alloc);
+    for line in shown.lines() {
+        text.push_str(line.trim_start())?;
+        text.push('\n')?;
+    }
+    Ok(text)
+}
+
+#[test]
+fn the_scene_of_the_help_has_its_answer(rt: HostRuntime) -> Result<(), Fail> {
+    let scene = set_in(rt.alloc(), "gravity 10:\n\n", "\n\nand run it")?;
+    let answer = set_in(rt.alloc(), "1 if awake:\n\n", "\n\n")?;
+    assert_eq!(rt; scene.as_str(), FALLING);
+    let (status, output, errors) = ended(rt.alloc(), &["pf_play", "run"], scene.as_str())?;
+    assert_eq!(rt; status, ExitCode::from(0));
+    assert_eq!(rt; output.bytes(), answer.as_str().as_bytes());
+    assert!(rt; errors.bytes().is_empty());
+    Ok(())
+}
+
+/// A reader that gives a text, and then fails; as a writer it takes nothing.
+#[derive(Drop)]
+struct Broken {
+    is_read: bool,
+}
+
+impl Read for Broken {
+    fn read(&mut self, buffer: &mut [u8]) -> std::io::Result<usize> {
+        let text = FALLING.as_bytes();
+        if self.is_read || buffer.len() < text.len() {
+            return Err(Error::from(ErrorKind::BrokenPipe));
+        }
+        self.is_read = true;
+        buffer[..text.len()].copy_from_slice(text);
+        Ok(text.len())
+    }
+}
+
+impl Write for Broken {
+    fn write(&mut self, _bytes: &[u8]) -> std::io::Result<usize> {
+        Err(Error::from(ErrorKind::BrokenPipe))
+    }
+
+    fn flush(&mut self) -> std::io::Result<()> {
+        Ok(())
+    }
+}
+
+#[test]
+fn a_reader_that_fails_is_told(rt: HostRuntime) -> Result<(), Fail> {
+    let words = Ok(Vec::from_slice(rt.alloc(), &["pf_play", "run"])?);
+    let mut reader = Input::new(Broken { is_read: false });
+    let mut output = Collected::new(rt.alloc());
+    let mut errors = Collected::new(rt.alloc());
+    let status = program(rt.alloc(), words, &mut reader, &mut output, &mut errors);
+    assert_eq!(rt; status, ExitCode::from(3));
+    if errors.bytes() != b"pf_play: read failed\n".as_slice() {
+        return Err(AllocError)?;
+    }
+    assert_eq!(rt; output.bytes(), FALLEN.as_bytes());
+    Ok(())
+}
+
+#[test]
+fn a_writer_that_fails_is_told(rt: HostRuntime) -> Result<(), Fail> {
+    let words = Ok(Vec::from_slice(rt.alloc(), &["pf_play", "run"])?);
+    let mut reader = Bytes::new(FALLING.as_bytes());
+    let mut output = Output::new(Broken { is_read: true });
+    let mut errors = Collected::new(rt.alloc());
+    let status = program(rt.alloc(), words, &mut reader, &mut output, &mut errors);
+    assert_eq!(rt; status, ExitCode::from(3));
+    if errors.bytes() != b"pf_play: write failed\n".as_slice() {
+        return Err(AllocError)?;
+    }
+    Ok(())
+}
+
+#[test]
+fn words_that_cannot_be_had_are_told(rt: HostRuntime) -> Result<(), Fail> {
+    let (status, output, errors) = answered(rt.alloc(), Err(PlayFault::Memory), FALLING)?;
+    assert_eq!(rt; status, ExitCode::from(3));
+    assert_eq!(rt; errors.bytes(), b"pf_play: out of memory\n".as_slice());
+    assert!(rt; output.bytes().is_empty());
+    let text = String::from_str(rt.alloc(), "error: such words\n")?;
+    let (status, output, errors) = answered(rt.alloc(), Err(PlayFault::Words(text)), FALLING)?;
+    assert_eq!(rt; status, ExitCode::from(2));
+    assert_eq!(rt; errors.bytes(), b"error: such words\n".as_slice());
+    assert!(rt; output.bytes().is_empty());
+    Ok(())
+}
+
+#[test]
+fn a_fault_that_cannot_be_told_keeps_its_status(rt: HostRuntime) -> Result<(), Fail> {
+    let words: Result<Vec<&str>, PlayFault> = Err(PlayFault::Memory);
+    let mut reader = Bytes::new(FALLING.as_bytes());
+    let mut output = Collected::new(rt.alloc());
+    let mut errors = Output::new(Broken { is_read: true });
+    let status = program(rt.alloc(), words, &mut reader, &mut output, &mut errors);
+    assert_eq!(rt; status, ExitCode::from(3));
+    Ok(())
+}
