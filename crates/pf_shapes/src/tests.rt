@@ -52,6 +52,12 @@ fn each_fault_has_its_line_and_name(rt: HostRuntime) -> Result<(), Fail> {
     Ok(())
 }
 
+#[test]
+fn no_fields_are_a_bad_line(rt: HostRuntime) {
+    let refused = SceneReader::new(0).take(rt.alloc(), &[]).err();
+    assert!(rt; refused == Some(pf_text::TakeRefusal::Fault(SceneFault::BadLine)));
+}
+
 // A text, and the number and the name of its line at fault.
 #[rattlefmt::skip]
 const FAULTS: [(&[u8], u64, SceneFault); 31] = [
@@ -138,8 +144,6 @@ fn a_scene_has_at_most_1024_bodies(rt: HostRuntime) -> Result<(), Fail> {
         }
         assert!(rt; read == Some(ReadError::Line(1026, SceneFault::TooMany)));
     }
-    let none = SceneReader::new(0).take(rt.alloc(), &[]).err();
-    assert!(rt; none == Some(pf_text::TakeRefusal::Fault(SceneFault::BadLine)));
     let fields = [b"gravity".as_slice(), b"0".as_slice(), b"0".as_slice()];
     let Progress::More(reader) = SceneReader::new(0).take(rt.alloc(), &fields)? else {
         return Err(Fail::from("more is to come"));
