@@ -22,7 +22,7 @@ pub struct Peer {
 }
 
 impl Peer {
-    ghost use Rattle.std.specs.Prelude.{◌≡◌, IfOk, OnOk, OnErr, IsOk, IsErr};
+    ghost use Rattle.std.specs.Prelude.{◌≡◌, IfOk, OnErr, IsOk, IsErr};
     ghost use Rattle.pf_console.specs.declared.event.Reply.TheVariants.{Issued, Took, Advanced, Shown};
     ghost use Rattle.pf_console.specs.Peer.{fresh, taking, issuing, advancing, showing, told, happens, IsRefused, next_number, NumberIs};
 

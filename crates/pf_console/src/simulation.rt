@@ -1,7 +1,6 @@
 //! The simulation of a scene whose bodies touch nothing: commands, and one body's tick, phase by phase.
 
 ghost use Rattle.std.specs.Prelude.{◌≡◌, map, IfOk, OnOk};
-ghost use Rattle.pf_shapes.specs.Scene.{Setting};
 ghost use Rattle.pf_console.specs.Simulation.{fallen, moved, is_slow, is_still, timed, rested, body_step, stopped, commanded, applied, ordered, step, sim_from, sim};
 
 use pf_commands::{CommandMap, Payload};

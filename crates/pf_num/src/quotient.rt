@@ -1,6 +1,6 @@
 //! Rounded quotients: a short path in 64 bits for what scenes have, and one exact path for the rest.
 
-ghost use Rattle.std.specs.Prelude.{◌≡◌, ◌≢◌, ◌≤◌, ◌<◌, IsTrue, ◌^◌, ◌*◌, ◌%◌, pos, neg_ℤ, min, if◌then◌else◌};
+ghost use Rattle.std.specs.Prelude.{◌≡◌, ◌≢◌, ◌≤◌, ◌<◌, IsTrue, ◌^◌, ◌*◌, ◌%◌, pos, min};
 ghost use Rattle.std.specs.Int.RustNames.{unsigned_abs};
 ghost use Rattle.pf_num.specs.Round.{carry, nearest, with_sign, near};
 ghost use Rattle.pf_num.specs.Fx.{IsRaw, product, quotient};

@@ -1,6 +1,6 @@
 //! Whole square roots: a guess by Newton's method that is checked, and std's slower root behind it.
 
-ghost use Rattle.std.specs.Prelude.{◌≡◌, ◌≤◌, ◌<◌, ◌*◌, ◌^◌, ◌↔◌, IsTrue};
+ghost use Rattle.std.specs.Prelude.{◌≡◌, ◌<◌, ◌*◌, ◌^◌, ◌↔◌, IsTrue};
 ghost use Rattle.pf_num.specs.Root.{IsRoot, whole_root};
 
 /// The greatest number whose square is at most `n`.

@@ -1,7 +1,5 @@
 //! A scene read from a text that holds nothing else.
 
-ghost use Rattle.std.specs.Prelude.{◌≡◌};
-
 use crate::fault::SceneFault;
 use crate::reader::{Progress, SceneReader};
 use crate::scene::{MAX_BODIES, Scene};

@@ -1,6 +1,6 @@
 //! The lines of a scene.
 
-ghost use Rattle.std.specs.Prelude.{◌≡◌, ◌≤ℤ◌, pos, neg_ℤ, IfOk, map};
+ghost use Rattle.std.specs.Prelude.{◌≡◌, pos, neg_ℤ, IfOk, map};
 ghost use Rattle.pf_num.specs.Fx.{IsRaw};
 ghost use Rattle.pf_rot.specs.Laws.{IsAtMostOne};
 ghost use Rattle.pf_shapes.specs.Fixture.{IsWithin, IsMass, IsOwner};

@@ -1,7 +1,6 @@
 //! A text answered line by line.
 
 ghost use Rattle.std.specs.Prelude.{◌≡◌, ℕ, ◌+◌, ◌^◌, ◌<◌, List, Some, map, OnOk, OnErr};
-ghost use Rattle.pf_text.specs.declared.fault.LineFault.{LineFault};
 ghost use Rattle.pf_text.specs.declared.driver.DriveFault.TheVariants.{Memory, Write};
 ghost use Rattle.pf_text.specs.declared.driver.TakeRefusal.TheVariants as refusals;
 ghost use Rattle.std.specs.Io.KnownBytes.{Appends};

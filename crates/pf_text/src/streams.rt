@@ -1,8 +1,8 @@
 //! Any reader as a source, any writer as a sink: standard input and output among them.
 
-ghost use Rattle.std.specs.Prelude.{◌≡◌, ◌+◌, ◌^◌, ◌<◌, ◌≤◌, length, take, IfOk, OnOk, OnErr};
-ghost use Rattle.std.specs.Io.KnownBytes.{Appends, Keeps, IsAtEnd, ReadConsumes, prepend_known};
-ghost use Rattle.pf_text.specs.Lines.{AppendsFront, Counts};
+ghost use Rattle.std.specs.Prelude.{◌≡◌, ◌+◌, ◌<◌, ◌≤◌, length, take, IfOk, OnOk, OnErr};
+ghost use Rattle.std.specs.Io.KnownBytes.{Appends, Keeps, ReadConsumes, prepend_known};
+ghost use Rattle.pf_text.specs.Lines.{AppendsFront};
 ghost use Rattle.pf_text.specs.Streams.{unread};
 
 use crate::lines::{ReadFailed, Sink, Source, WriteFailed};
