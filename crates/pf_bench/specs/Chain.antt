@@ -2,7 +2,7 @@
 use Rattle.std.specs.Prelude.{ℕ, zero, suc, ◌+◌, ◌-◌, ◌*◌, ◌%◌, ◌^◌, ℤ, pos, neg_ℤ, int_lt, if◌then◌else◌}
 use Rattle.pf_num.specs.Fx.{greatest, sum, difference, product, quotient, root}
 use Rattle.pf_rot.specs.Vector.{length_of}
-use Rattle.pf_rot.specs.Rotation.{Pair, upright, turned}
+use Rattle.pf_rot.specs.Rotation.{Rot, upright, turn}
 use Rattle.pf_bench.specs.declared.operation.Operation.{Operation}
 use Rattle.pf_bench.specs.declared.operation.Operation.TheVariants.{Add, Mul, Div, MulWide, DivWide, Root, Length, Turn}
 
@@ -38,9 +38,9 @@ length_step x i =
     if int_lt (pos (2 ^ 30)) y then difference y (pos (2 ^ 30 - 2 ^ 20)) else y
 
 -- a rotation after so many turns, each by a little more than 1 a second
-unfoldable pub turns : ℕ → Pair
+unfoldable pub turns : ℕ → Rot
 turns zero = upright
-turns (suc i) = turned (turns i) (beside_one i)
+turns (suc i) = turn (turns i) (beside_one i)
 
 -- the last number of each operation's chain
 abbrev pub last_of : Operation → ℕ → ℤ

@@ -3,7 +3,7 @@
 ghost use Rattle.std.specs.Prelude.{◌≤◌, ◌<◌};
 ghost use Rattle.pf_rot.specs.Laws.{IsAtMostOne};
 ghost use Rattle.pf_shapes.specs.Fixture.{HasSize};
-ghost use Rattle.pf_shapes.specs.Scene.{IsPlace};
+ghost use Rattle.pf_shapes.specs.Scene.{IsPosition};
 
 use crate::chain::units;
 use pf_broad::pairs;
@@ -65,7 +65,7 @@ fn small_box() -> Shape
 
 /// The rotation of index i: upright, a quarter, (0.8, 0.6) or (0.6, -0.8).
 #[inline]
-fn turned(i: u64) -> Rot
+fn turn(i: u64) -> Rot
     ensures { IsAtMostOne result }
 {
     let (c, s) = match i % 4 {
@@ -77,7 +77,7 @@ fn turned(i: u64) -> Rot
     Rot { c, s }
 }
 
-/// A part of the place of index i, from -2 to 2.
+/// A part of the position of index i, from -2 to 2.
 #[inline]
 fn scattered(i: u64, factor: u64) -> Fx
     requires { factor < 65536 }
@@ -107,23 +107,23 @@ fn of_manifold(manifold: Manifold) -> i64 {
     }
 }
 
-/// The sum over the points of `a` at the origin, and of `b` at so many places about it.
+/// The sum over the points of `a` at the origin, and of `b` at so many positions about it.
 fn points(a: &Shape, b: &Shape, count: u64) -> i64 {
     let a = Placed {
         shape: a,
-        place: V2::ZERO,
-        rot: turned(2),
+        position: V2::ZERO,
+        rotation: turn(2),
     };
     let mut sum: i64 = 0;
     for i in 0..count {
-        let place = V2 {
+        let position = V2 {
             x: scattered(i, 40_503),
             y: scattered(i, 7_919),
         };
         let b = Placed {
             shape: b,
-            place,
-            rot: turned(i),
+            position,
+            rotation: turn(i),
         };
         sum = sum.wrapping_add(of_manifold(collide(&a, &b)));
     }
@@ -138,10 +138,10 @@ fn body_of(shape: Shape, is_static: bool) -> Fixture
     Fixture::new(shape, mass, Fx::ZERO, None)
 }
 
-/// A place on a grid of 1.75 that is 32 wide.
+/// A position on a grid of 1.75 that is 32 wide.
 fn on_grid(i: u64) -> V2
     requires { i < 1024 }
-    ensures { IsPlace result }
+    ensures { IsPosition result }
 {
     let step = (7 << 24) / 4;
     V2 {
@@ -162,7 +162,7 @@ fn field(alloc: Global, held: u64) -> Result<Scene, AllocError>
             small_box()
         };
         let body = body_of(shape, i % 8 == 0);
-        scene.push(body, on_grid(i), turned(i))?;
+        scene.push(body, on_grid(i), turn(i))?;
     }
     Ok(scene)
 }

@@ -2,7 +2,7 @@
 use Rattle.std.proofs.Common.{◌≡◌, ℕ, zero, suc, ◌+◌, ◌<◌, ◌≤◌, Bool, true, false, cond, List, [], ◌∷◌, ◌++◌, length, refl, arith, map, nat_lt}
 use Rattle.std.proofs.lemmas.Bool.Decides.{nat_tests}
 use Rattle.std.specs.List.{range_with_len, filter, flat_map, AllByRecursion}
-use Rattle.pf_shapes.specs.Bounds.{Span}
+use Rattle.pf_shapes.specs.Bounds.{Bounds}
 use Rattle.pf_broad.specs.Pairs.{is_pair, pair, pairs_of, pairs}
 use Rattle.pf_broad.specs.Laws.{is_before, IsAscending}
 use Rattle.pf_broad.specs.declared.pair.Pair.{Pair}
@@ -75,18 +75,18 @@ ascending-append i low (x ∷ xs) qs up from asc = (
   ascending-append i (x + 1) xs qs up.1 from asc,
 )
 
-AreFrom-flat_map : (bs : List Span) (a n : ℕ) → AreFrom a (flat_map (pairs_of bs) (range_with_len a n))
+AreFrom-flat_map : (bs : List Bounds) (a n : ℕ) → AreFrom a (flat_map (pairs_of bs) (range_with_len a n))
 AreFrom-flat_map bs a zero = tt
 AreFrom-flat_map bs a (suc n) =
     append_each (λ p. a ≤ p.a) (pairs_of bs a) (flat_map (pairs_of bs) (range_with_len (a + 1) n))
     (AreFrom-map a (filter (is_pair bs a) (range_with_len 0 (length bs))))
     (AreFrom-less (a + 1) a (flat_map (pairs_of bs) (range_with_len (a + 1) n)) (omega arith) (AreFrom-flat_map bs (a + 1) n))
 
-ascending-flat_map : (bs : List Span) (a n : ℕ) → IsAscending (flat_map (pairs_of bs) (range_with_len a n))
+ascending-flat_map : (bs : List Bounds) (a n : ℕ) → IsAscending (flat_map (pairs_of bs) (range_with_len a n))
 ascending-flat_map bs a zero = tt
 ascending-flat_map bs a (suc n) =
     ascending-append a 0 (filter (is_pair bs a) (range_with_len 0 (length bs))) (flat_map (pairs_of bs) (range_with_len (a + 1) n))
     (IsUp-filter (is_pair bs a) 0 (length bs)) (AreFrom-flat_map bs (a + 1) n) (ascending-flat_map bs (a + 1) n)
 
-pub ascending : (bs : List Span) → IsAscending (pairs bs)
+pub ascending : (bs : List Bounds) → IsAscending (pairs bs)
 ascending bs = ascending-flat_map bs 0 (length bs)

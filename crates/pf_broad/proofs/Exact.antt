@@ -4,7 +4,7 @@ use Rattle.std.proofs.lemmas.Bool.Decides.{nat_tests}
 use Rattle.std.proofs.lemmas.List.Folds.{list_any-append}
 use Rattle.std.proofs.Math.Bool.{and-or_distrib_left, and_comm}
 use Rattle.std.specs.List.{range_with_len, filter, flat_map}
-use Rattle.pf_shapes.specs.Bounds.{Span}
+use Rattle.pf_shapes.specs.Bounds.{Bounds}
 use Rattle.pf_broad.specs.Pairs.{at, meets, is_pair, pair, pairs_of}
 use Rattle.pf_broad.specs.Laws.{has_pair, IsExact}
 use Rattle.pf_broad.specs.declared.pair.Pair.{Pair}
@@ -59,13 +59,13 @@ in_range true i j n = grind (arith, nat_tests)
 in_range false i j n = grind (arith, nat_tests)
 
 -- whether (x, j) is a pair is whether x and j meet and j is a body
-has_pair-pairs_of : (bs : List Span) (x i j : ℕ) → has_pair (pairs_of bs x) i j ≡ (nat_eq x i && (is_pair bs x j && nat_lt j (length bs)))
+has_pair-pairs_of : (bs : List Bounds) (x i j : ℕ) → has_pair (pairs_of bs x) i j ≡ (nat_eq x i && (is_pair bs x j && nat_lt j (length bs)))
 has_pair-pairs_of bs x i j =
     has_pair-map x i j (filter (is_pair bs x) (range_with_len 0 (length bs)))
     ∙ ap (λ b. nat_eq x i && b) (has-filter (is_pair bs x) (range_with_len 0 (length bs)) j
     ∙ ap (λ b. is_pair bs x j && b) (has-below (length bs) j))
 
-pub exact : (bs : List Span) → IsExact bs
+pub exact : (bs : List Bounds) → IsExact bs
 exact bs i j =
     has_pair-flat_map (pairs_of bs) (λ x. is_pair bs x j && nat_lt j (length bs)) i j (λ x. has_pair-pairs_of bs x i j) (range_with_len 0 (length bs))
     ∙ ap (λ b. (is_pair bs i j && nat_lt j (length bs)) && b) (has-below (length bs) i)

@@ -3,34 +3,34 @@ use Rattle.std.proofs.Common.{◌≡◌, ℕ, ◌+◌, ◌≤◌, true, false, c
 use Rattle.std.proofs.lemmas.Bool.Decides.{nat_tests}
 use Rattle.std.proofs.lemmas.List.{map-append}
 use Rattle.std.specs.List.{range_with_len, filter, flat_map}
-use Rattle.pf_shapes.specs.Bounds.{Span}
+use Rattle.pf_shapes.specs.Bounds.{Bounds}
 use Rattle.pf_broad.specs.Pairs.{at, meets, is_pair, pair, pairs_of}
 use Rattle.pf_broad.specs.declared.pair.Pair.{Pair}
 use Rattle.pf_broad.proofs.Ranges.{filter-range_suc, filter-range_none, flat_map-range_suc}
 
-is_pair-late : (bs : List Span) (i k : ℕ) → k ≤ i → is_pair bs i k ≡ false
+is_pair-late : (bs : List Bounds) (i k : ℕ) → k ≤ i → is_pair bs i k ≡ false
 is_pair-late bs i k h = let late : nat_lt i k ≡ false = grind (arith, nat_tests) in rw late refl
 
 -- the pairs of body i with those below j
-abbrev pub below : List Span → ℕ → ℕ → List Pair
+abbrev pub below : List Bounds → ℕ → ℕ → List Pair
 below bs i j = map (pair i) (filter (is_pair bs i) (range_with_len 0 j))
 
 -- no body up to the one after i is later than i
-below-start : (bs : List Span) (i j : ℕ) → j ≤ i + 1 → below bs i j ≡ []
+below-start : (bs : List Bounds) (i j : ℕ) → j ≤ i + 1 → below bs i j ≡ []
 below-start bs i j h = ap (map (pair i)) (filter-range_none (is_pair bs i) 0 j (λ k l. is_pair-late bs i k (omega arith)))
 
-pub at-start : (bs : List Span) (i j : ℕ) (old : List Pair) → j ≤ i + 1 → old ≡ old ++ below bs i j
+pub at-start : (bs : List Bounds) (i j : ℕ) (old : List Pair) → j ≤ i + 1 → old ≡ old ++ below bs i j
 at-start bs i j old h = rw (below-start bs i j h) (sym (append-nil old))
 
-below-more : (bs : List Span) (i j : ℕ) → below bs i (j + 1) ≡ below bs i j ++ map (pair i) (cond (is_pair bs i j) (j ∷ []) [])
+below-more : (bs : List Bounds) (i j : ℕ) → below bs i (j + 1) ≡ below bs i j ++ map (pair i) (cond (is_pair bs i j) (j ∷ []) [])
 below-more bs i j =
     rw add-one (ap (map (pair i)) (filter-range_suc (is_pair bs i) 0 j j (omega arith)) ∙ map-append (pair i) (filter (is_pair bs i) (range_with_len 0 j)) (cond (is_pair bs i j) (j ∷ []) []))
 
 -- body j meets body i, and is one more
-below-met : (bs : List Span) (i j : ℕ) → i + 1 ≤ j → meets (at bs i) (at bs j) ≡ true → below bs i (j + 1) ≡ below bs i j ++ pair i j ∷ []
+below-met : (bs : List Bounds) (i j : ℕ) → i + 1 ≤ j → meets (at bs i) (at bs j) ≡ true → below bs i (j + 1) ≡ below bs i j ++ pair i j ∷ []
 below-met bs i j later met = let early : nat_lt i j ≡ true = grind (arith, nat_tests) in below-more bs i j ∙ rw (early, met) refl
 
-below-not_met : (bs : List Span) (i j : ℕ) → meets (at bs i) (at bs j) ≡ false → below bs i (j + 1) ≡ below bs i j
+below-not_met : (bs : List Bounds) (i j : ℕ) → meets (at bs i) (at bs j) ≡ false → below bs i (j + 1) ≡ below bs i j
 below-not_met bs i j not_met =
     below-more bs i j ∙ elim (nat_lt i j) as (λ b. below bs i j ++ map (pair i) (cond (b && meets (at bs i) (at bs j)) (j ∷ []) []) ≡ below bs i j) [
       | true ↦ rw not_met (append-nil (below bs i j))
@@ -38,15 +38,15 @@ below-not_met bs i j not_met =
     ]
 
 -- so a list that ends with the pairs so far ends with those up to body j
-pub then-met : (bs : List Span) (i j : ℕ) (old now : List Pair) → now ≡ old ++ below bs i j → i + 1 ≤ j → meets (at bs i) (at bs j) ≡ true
+pub then-met : (bs : List Bounds) (i j : ℕ) (old now : List Pair) → now ≡ old ++ below bs i j → i + 1 ≤ j → meets (at bs i) (at bs j) ≡ true
     → now ++ pair i j ∷ [] ≡ old ++ below bs i (j + 1)
 then-met bs i j old now ends later met =
     ap (λ l. l ++ pair i j ∷ []) ends ∙ append_assoc old (below bs i j) (pair i j ∷ []) ∙ ap (λ l. old ++ l) (sym (below-met bs i j later met))
 
-pub then-not_met : (bs : List Span) (i j : ℕ) (old now : List Pair) → now ≡ old ++ below bs i j → meets (at bs i) (at bs j) ≡ false
+pub then-not_met : (bs : List Bounds) (i j : ℕ) (old now : List Pair) → now ≡ old ++ below bs i j → meets (at bs i) (at bs j) ≡ false
     → now ≡ old ++ below bs i (j + 1)
 then-not_met bs i j old now ends not_met = ends ∙ ap (λ l. old ++ l) (sym (below-not_met bs i j not_met))
 
 -- the pairs of one body more
-pub pairs-more : (bs : List Span) (i : ℕ) → flat_map (pairs_of bs) (range_with_len 0 (i + 1)) ≡ flat_map (pairs_of bs) (range_with_len 0 i) ++ pairs_of bs i
+pub pairs-more : (bs : List Bounds) (i : ℕ) → flat_map (pairs_of bs) (range_with_len 0 (i + 1)) ≡ flat_map (pairs_of bs) (range_with_len 0 i) ++ pairs_of bs i
 pairs-more bs i = rw add-one (flat_map-range_suc (pairs_of bs) 0 i i (omega arith))

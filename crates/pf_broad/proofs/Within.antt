@@ -3,16 +3,16 @@ use Rattle.std.proofs.Common.{◌≡◌, ℕ, zero, suc, ◌+◌, true, false, c
 use Rattle.std.proofs.lemmas.Bool.{and_parts}
 use Rattle.std.proofs.lemmas.List.Elements.{All-from_recursion}
 use Rattle.std.specs.List.{range_with_len, filter, flat_map, All, AllByRecursion}
-use Rattle.pf_shapes.specs.Fixture.{FixtureDef}
-use Rattle.pf_shapes.specs.Body.{State}
-use Rattle.pf_shapes.specs.Bounds.{Span}
-use Rattle.pf_broad.specs.Pairs.{at, meets, is_pair, pair, pairs_of, pairs, spans}
+use Rattle.pf_shapes.specs.Fixture.{Fixture}
+use Rattle.pf_shapes.specs.Body.{BodyState}
+use Rattle.pf_shapes.specs.Bounds.{Bounds}
+use Rattle.pf_broad.specs.Pairs.{at, meets, is_pair, pair, pairs_of, pairs, all_bounds}
 use Rattle.pf_broad.specs.Laws.{IsPairOf}
 use Rattle.pf_broad.specs.declared.pair.Pair.{Pair}
 use Rattle.pf_broad.proofs.Each.{append_each}
 
 -- a body's pairs are of it and a later body
-map-filter_within : (bs : List Span) (i a n m : ℕ) → a + n ≡ m
+map-filter_within : (bs : List Bounds) (i a n m : ℕ) → a + n ≡ m
     → AllByRecursion (IsPairOf m) (map (pair i) (filter (is_pair bs i) (range_with_len a n)))
 map-filter_within bs i a zero m e = tt
 map-filter_within bs i a (suc n) m e =
@@ -23,22 +23,22 @@ map-filter_within bs i a (suc n) m e =
       | false ↦ λ _. more
     ] refl
 
-flat_map_within : (bs : List Span) (xs : List ℕ) → AllByRecursion (IsPairOf (length bs)) (flat_map (pairs_of bs) xs)
+flat_map_within : (bs : List Bounds) (xs : List ℕ) → AllByRecursion (IsPairOf (length bs)) (flat_map (pairs_of bs) xs)
 flat_map_within bs [] = tt
 flat_map_within bs (x ∷ xs) =
     append_each (IsPairOf (length bs)) (pairs_of bs x) (flat_map (pairs_of bs) xs) (map-filter_within bs x 0 (length bs) (length bs) (omega arith)) (flat_map_within bs xs)
 
-length-spans : (fixtures : List FixtureDef) (bodies : List State) → length bodies ≡ length fixtures → length (spans fixtures bodies) ≡ length bodies
+length-spans : (fixtures : List Fixture) (bodies : List BodyState) → length bodies ≡ length fixtures → length (all_bounds fixtures bodies) ≡ length bodies
 length-spans [] [] h = refl
 length-spans (f ∷ fs) (b ∷ bs) h = ap suc (length-spans fs bs (omega arith))
 length-spans [] (b ∷ bs) h = absurd (omega arith)
 length-spans (f ∷ fs) [] h = absurd (omega arith)
 
-within : (fixtures : List FixtureDef) (bodies : List State) → length bodies ≡ length fixtures → All (IsPairOf (length bodies)) (pairs (spans fixtures bodies))
+within : (fixtures : List Fixture) (bodies : List BodyState) → length bodies ≡ length fixtures → All (IsPairOf (length bodies)) (pairs (all_bounds fixtures bodies))
 within fixtures bodies h =
-    rw (← length-spans fixtures bodies h) (All-from_recursion (IsPairOf (length (spans fixtures bodies))) (pairs (spans fixtures bodies))
-    (flat_map_within (spans fixtures bodies) (range_with_len 0 (length (spans fixtures bodies)))))
+    rw (← length-spans fixtures bodies h) (All-from_recursion (IsPairOf (length (all_bounds fixtures bodies))) (pairs (all_bounds fixtures bodies))
+    (flat_map_within (all_bounds fixtures bodies) (range_with_len 0 (length (all_bounds fixtures bodies)))))
 
-pub found_within : (fixtures : List FixtureDef) (bodies : List State) (bs : List Span) (ps : List Pair) → length bodies ≡ length fixtures
-    → bs ≡ spans fixtures bodies → ps ≡ pairs bs → All (IsPairOf (length bodies)) ps
+pub found_within : (fixtures : List Fixture) (bodies : List BodyState) (bs : List Bounds) (ps : List Pair) → length bodies ≡ length fixtures
+    → bs ≡ all_bounds fixtures bodies → ps ≡ pairs bs → All (IsPairOf (length bodies)) ps
 found_within fixtures bodies bs ps h e k = let P : List Pair → Type 0 = λ l. All (IsPairOf (length bodies)) l in subst P (sym (k ∙ ap pairs e)) (within fixtures bodies h)

@@ -1,7 +1,7 @@
 -- What finding pairs promises of any bounds.
 use Rattle.std.specs.Prelude.{◌≡◌, ℕ, ◌<◌, Bool, true, ◌&&◌, ◌||◌, ◌==◌, List, [], ◌∷◌, length, nat_lt}
 use Rattle.std.specs.List.{list_any, AllByRecursion}
-use Rattle.pf_shapes.specs.Bounds.{Span}
+use Rattle.pf_shapes.specs.Bounds.{Bounds}
 use Rattle.pf_broad.specs.Pairs.{at, meets, pairs}
 use Rattle.pf_broad.specs.declared.pair.Pair.{Pair}
 
@@ -10,7 +10,7 @@ abbrev pub has_pair : List Pair → ℕ → ℕ → Bool
 has_pair ps i j = list_any (λ p. (p.a == i) && (p.b == j)) ps
 
 -- the pairs are all those of two bodies, the first before the second, that meet, and no others
-abbrev pub IsExact : List Span → Type 0
+abbrev pub IsExact : List Bounds → Type 0
 IsExact bs = (i j : ℕ) → has_pair (pairs bs) i j ≡ (nat_lt i j && (nat_lt j (length bs) && meets (at bs i) (at bs j)))
 
 -- by the first body, and of two pairs with the same first body by the second

@@ -2,37 +2,37 @@
 use Rattle.std.specs.Prelude.{ℕ, Bool, true, not, ◌&&◌, List, length, map, filter, nat_lt, slice_index_or}
 use Rattle.std.specs.List.{range_with_len, flat_map, zip}
 use Rattle.pf_rot.specs.Vector.{zero_vector}
-use Rattle.pf_shapes.specs.Fixture.{FixtureDef}
-use Rattle.pf_shapes.specs.Body.{State}
-use Rattle.pf_shapes.specs.Bounds.{Span, bounds_of, overlaps}
+use Rattle.pf_shapes.specs.Fixture.{Fixture}
+use Rattle.pf_shapes.specs.Body.{BodyState}
+use Rattle.pf_shapes.specs.Bounds.{Bounds, fixture_bounds, overlaps}
 use Rattle.pf_broad.specs.declared.pair.Pair.{Pair}
 
 -- the bounds of each body, by its fixture and its state
-abbrev pub spans : List FixtureDef → List State → List Span
-spans fixtures bodies = map (λ body. bounds_of body.0 body.1) (zip fixtures bodies)
+abbrev pub all_bounds : List Fixture → List BodyState → List Bounds
+all_bounds fixtures bodies = map (λ body. fixture_bounds body.0 body.1) (zip fixtures bodies)
 
 -- what stands for the bounds of a body that there isn't
-abbrev pub no_span : Span
-no_span = record { low = zero_vector; high = zero_vector; fixed = true }
+abbrev pub no_bounds : Bounds
+no_bounds = record { low = zero_vector; high = zero_vector; is_static = true }
 
-abbrev pub at : List Span → ℕ → Span
-at bs i = slice_index_or bs i no_span
+abbrev pub at : List Bounds → ℕ → Bounds
+at bs i = slice_index_or bs i no_bounds
 
 -- not both static, and their bounds overlap
-unfoldable pub meets : Span → Span → Bool
-meets a b = not (a.fixed && b.fixed) && overlaps a b
+unfoldable pub meets : Bounds → Bounds → Bool
+meets a b = not (a.is_static && b.is_static) && overlaps a b
 
 -- the second body has the greater number, and they meet
-abbrev pub is_pair : List Span → ℕ → ℕ → Bool
+abbrev pub is_pair : List Bounds → ℕ → ℕ → Bool
 is_pair bs i j = nat_lt i j && meets (at bs i) (at bs j)
 
 abbrev pub pair : ℕ → ℕ → Pair
 pair i j = record { a = i; b = j }
 
 -- the pairs of one body with those of greater numbers, in their order
-abbrev pub pairs_of : List Span → ℕ → List Pair
+abbrev pub pairs_of : List Bounds → ℕ → List Pair
 pairs_of bs i = map (pair i) (filter (is_pair bs i) (range_with_len 0 (length bs)))
 
 -- the pairs of all bodies, in their order
-abbrev pub pairs : List Span → List Pair
+abbrev pub pairs : List Bounds → List Pair
 pairs bs = flat_map (pairs_of bs) (range_with_len 0 (length bs))

@@ -1,7 +1,7 @@
 //! Pairs of bodies whose bounds overlap, as Box2D's `b2BroadPhase::UpdatePairs` finds them.
 
 ghost use Rattle.std.specs.Prelude.{◌≡◌, ◌<◌, ◌++◌, length, All, IfOk, OnOk};
-ghost use Rattle.pf_broad.specs.Pairs.{spans, meets, pairs, pairs_of};
+ghost use Rattle.pf_broad.specs.Pairs.{all_bounds, meets, pairs, pairs_of};
 ghost use Rattle.pf_broad.specs.Laws.{IsAscending, IsPairOf};
 
 use pf_shapes::{BodyState, Bounds, Scene};
@@ -20,7 +20,7 @@ pub struct Pair {
 /// each once.
 pub fn pairs(alloc: Global, scene: &Scene, bodies: &[BodyState]) -> Result<Vec<Pair>, AllocError>
     requires { length bodies.now ≡ length scene.now.fixtures }
-    ensures pairs { IfOk result (λ found. found.items ≡ pairs (spans scene.now.fixtures bodies.now)) }
+    ensures pairs { IfOk result (λ found. found.items ≡ pairs (all_bounds scene.now.fixtures bodies.now)) }
     ensures ascending { IfOk result (λ found. IsAscending found.items) }
     ensures bodies { IfOk result (λ found. All (IsPairOf (length bodies.now)) found.items) }
 {
@@ -30,7 +30,7 @@ pub fn pairs(alloc: Global, scene: &Scene, bodies: &[BodyState]) -> Result<Vec<P
 
 /// The bounds of each body.
 fn all_bounds(alloc: Global, scene: &Scene, bodies: &[BodyState]) -> Result<Vec<Bounds>, AllocError>
-    ensures { IfOk result (λ all. all.items ≡ spans scene.now.fixtures bodies.now) }
+    ensures { IfOk result (λ all. all.items ≡ all_bounds scene.now.fixtures bodies.now) }
 {
     scene
         .fixtures()
@@ -70,5 +70,5 @@ fn add_pairs_of(found: &mut Vec<Pair>, bounds: &[Bounds], i: usize) -> Result<()
 fn meets(a: &Bounds, b: &Bounds) -> bool
     ensures { result ≡ meets a.now b.now }
 {
-    !(a.fixed && b.fixed) && a.overlaps(b)
+    !(a.is_static && b.is_static) && a.overlaps(b)
 }

@@ -13,7 +13,7 @@ circle - 16777216 0 16777216 33554434 16777216
 end
 ";
 
-/// Three circles at one place, the first and the last of them static.
+/// Three circles at one position, the first and the last of them static.
 const STACKED: &[u8] = b"gravity 0 0
 circle - 0 0 16777216 0 0
 circle - 16777216 0 16777216 0 0
@@ -45,7 +45,7 @@ fn bounds_that_touch_are_pairs(rt: HostRuntime) -> Result<(), Fail> {
     let all = [pair(0, 1), pair(0, 2), pair(1, 2)];
     assert_eq!(rt; touching.as_slice(), all.as_slice());
     let circle = &mut bodies[2];
-    circle.place.x = Fx::from_raw(33_554_435).expect(&rt, "in range");
+    circle.position.x = Fx::from_raw(33_554_435).expect(&rt, "in range");
     assert!(rt; bodies.len() == 3);
     let apart = pairs(rt.alloc(), &scene, &bodies)?;
     let with_floor = [pair(0, 1), pair(0, 2)];

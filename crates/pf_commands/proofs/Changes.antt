@@ -3,8 +3,8 @@ use Rattle.std.proofs.Common.{◌≡◌, ℕ, ◌<◌, ◌+◌, ◌≤◌, ◌++
 use Rattle.std.specs.Ordering.{eq_by_cmp}
 use Rattle.std.proofs.lemmas.Bool.Decides.{nat_tests}
 use Rattle.std.specs.FinMap.{get, get-insert, get-empty, get-entries, empty, insert, entries, find, from_entries, get-from_entries}
-use Rattle.pf_commands.specs.Name.{CommandName}
-use Rattle.pf_commands.specs.Merge.{name_cmp, Commands, heavier, heavier_of, merge, one}
+use Rattle.pf_commands.specs.Name.{Name}
+use Rattle.pf_commands.specs.Merge.{name_cmp, CommandMap, heavier, heavier_of, merge, one}
 use Rattle.pf_commands.specs.News.{answer_to, is_change, is_news, news, lesser, least_of, least_tick, NotesNews}
 use Rattle.pf_commands.specs.declared.payload.Payload.{Payload}
 use Rattle.std.specs.Prelude.{IfSome}
@@ -37,11 +37,11 @@ changed : (held : Option Payload) (p : Payload) → is_change (answer_to held p)
 changed None p fresh = refl
 changed (Some q) p fresh = ap (λ (x : Payload). Some x) (changed_one q p fresh)
 
-get-one : (n : CommandName) (p : Payload) (name : CommandName) → get (one n p) name ≡ cond (eq_by_cmp name_cmp name n) (Some p) None
+get-one : (n : Name) (p : Payload) (name : Name) → get (one n p) name ≡ cond (eq_by_cmp name_cmp name n) (Some p) None
 get-one n p name = get-insert name_cmp_total empty n p name ∙ ap (cond (eq_by_cmp name_cmp name n) (Some p)) (get-empty name_cmp name)
 
 -- what a map holds under a name once a command is merged into it
-pub get-merge_one : (m : Commands) (n : CommandName) (p : Payload) (name : CommandName)
+pub get-merge_one : (m : CommandMap) (n : Name) (p : Payload) (name : Name)
     → get (merge m (one n p)) name ≡ cond (eq_by_cmp name_cmp name n) (heavier_of (get m n) (Some p)) (get m name)
 get-merge_one m n p name = get-merge m (one n p) name ∙ ap (heavier_of (get m name)) (get-one n p name)
     ∙ elim (eq_by_cmp name_cmp name n) as (λ b. eq_by_cmp name_cmp name n ≡ b
@@ -51,7 +51,7 @@ get-merge_one m n p name = get-merge m (one n p) name ∙ ap (heavier_of (get m 
     ] refl
 
 -- a command that is no news changes nothing
-pub merge_one-kept : (m : Commands) (n : CommandName) (p : Payload) → is_news m (n, p) ≡ false → merge m (one n p) ≡ m
+pub merge_one-kept : (m : CommandMap) (n : Name) (p : Payload) → is_news m (n, p) ≡ false → merge m (one n p) ≡ m
 merge_one-kept m n p steady = same_commands _ _ (λ name. get-merge_one m n p name
     ∙ elim (eq_by_cmp name_cmp name n) as (λ b. eq_by_cmp name_cmp name n ≡ b → cond b (heavier_of (get m n) (Some p)) (get m name) ≡ get m name) [
       | true ↦ λ tied. kept (get m n) p steady ∙ ap (get m) (sym (same_name name n tied))
@@ -59,13 +59,13 @@ merge_one-kept m n p steady = same_commands _ _ (λ name. get-merge_one m n p na
     ] refl)
 
 -- a command that is news is written under its name
-pub merge_one-changed : (m : Commands) (n : CommandName) (p : Payload) → is_news m (n, p) ≡ true → merge m (one n p) ≡ insert m n p
+pub merge_one-changed : (m : CommandMap) (n : Name) (p : Payload) → is_news m (n, p) ≡ true → merge m (one n p) ≡ insert m n p
 merge_one-changed m n p fresh = same_commands _ _ (λ name. get-merge_one m n p name
     ∙ ap (λ o. cond (eq_by_cmp name_cmp name n) o (get m name)) (changed (get m n) p fresh)
     ∙ sym (get-insert name_cmp_total m n p name))
 
 -- where no entry is news, the heavier is what is held
-kept_all : (m : Commands) (name : CommandName) (es : List (CommandName × Payload)) → length (filter (is_news m) es) ≡ 0
+kept_all : (m : CommandMap) (name : Name) (es : List (Name × Payload)) → length (filter (is_news m) es) ≡ 0
     → heavier_of (get m name) (find name_cmp name es) ≡ get m name
 kept_all m name [] quiet = heavier_of-none (get m name)
 kept_all m name (e ∷ es) quiet =
@@ -85,7 +85,7 @@ before_lesser tick n None before = (before, tt)
 before_lesser tick n (Some m) before = (omega arith, omega arith)
 
 -- under a name before the least tick of the news, the heavier is what is held
-pub kept_before : (m : Commands) (name : CommandName) (es : List (CommandName × Payload)) → IfSome (least_tick (filter (is_news m) es)) (λ least. name.tick < least)
+pub kept_before : (m : CommandMap) (name : Name) (es : List (Name × Payload)) → IfSome (least_tick (filter (is_news m) es)) (λ least. name.tick < least)
     → heavier_of (get m name) (find name_cmp name es) ≡ get m name
 kept_before m name [] before = heavier_of-none (get m name)
 kept_before m name (e ∷ es) before =
@@ -105,27 +105,27 @@ kept_before m name (e ∷ es) before =
     ] refl before
 
 -- a map of no news changes nothing
-pub merge-no_news : (m k : Commands) → length (news m k) ≡ 0 → merge m k ≡ m
+pub merge-no_news : (m k : CommandMap) → length (news m k) ≡ 0 → merge m k ≡ m
 merge-no_news m k quiet = same_commands _ _ (λ name.
     get-merge m k name ∙ ap (heavier_of (get m name)) (get-entries k name) ∙ kept_all m name (entries k) quiet)
 
 -- the entries put into a map in turn
-abbrev pub put_entries : Commands → List (CommandName × Payload) → Commands
+abbrev pub put_entries : CommandMap → List (Name × Payload) → CommandMap
 put_entries m [] = m
 put_entries m (e ∷ es) = put_entries (merge m (one e.0 e.1)) es
 
-pub put_entries-push : (m : Commands) (es : List (CommandName × Payload)) (e : CommandName × Payload)
+pub put_entries-push : (m : CommandMap) (es : List (Name × Payload)) (e : Name × Payload)
     → put_entries m (es ++ e ∷ []) ≡ merge (put_entries m es) (one e.0 e.1)
 put_entries-push m [] e = refl
 put_entries-push m (d ∷ es) e = put_entries-push (merge m (one d.0 d.1)) es e
 
 -- no later entry has the name of the first
-find_later : (name : CommandName) (e : CommandName × Payload) (es : List (CommandName × Payload)) → IsDistinct (eq_by_cmp name_cmp) (keys_of (e ∷ es))
+find_later : (name : Name) (e : Name × Payload) (es : List (Name × Payload)) → IsDistinct (eq_by_cmp name_cmp) (keys_of (e ∷ es))
     → eq_by_cmp name_cmp name e.0 ≡ true → find name_cmp name es ≡ None
 find_later name e es distinct tied =
     sym (lookup-find name es) ∙ lookup-none (is_at (name_cmp name)) es (none_past_head (eq_by_cmp_equiv name_cmp_total) name e es distinct tied)
 
-get-put_entries : (m : Commands) (es : List (CommandName × Payload)) (name : CommandName) → IsDistinct (eq_by_cmp name_cmp) (keys_of es)
+get-put_entries : (m : CommandMap) (es : List (Name × Payload)) (name : Name) → IsDistinct (eq_by_cmp name_cmp) (keys_of es)
     → get (put_entries m es) name ≡ heavier_of (get m name) (find name_cmp name es)
 get-put_entries m [] name distinct = sym (heavier_of-none (get m name))
 get-put_entries m (e ∷ es) name distinct =
@@ -138,7 +138,7 @@ get-put_entries m (e ∷ es) name distinct =
     ] refl
 
 -- entries in order, put into a map in turn, are the map of them merged in
-pub put_entries-all : (m : Commands) (es : List (CommandName × Payload)) → IsStrictlySortedBy name_cmp (keys_of es) → put_entries m es ≡ merge m (from_entries es)
+pub put_entries-all : (m : CommandMap) (es : List (Name × Payload)) → IsStrictlySortedBy name_cmp (keys_of es) → put_entries m es ≡ merge m (from_entries es)
 put_entries-all m es sorted = same_commands _ _ (λ name.
     get-put_entries m es name (IsDistinct-from_sorted name_cmp (keys_of es) sorted)
     ∙ ap (heavier_of (get m name)) (sym (get-from_entries name_cmp_total es name))
@@ -152,16 +152,16 @@ least_of-push : (ns : List ℕ) (n : ℕ) → least_of (ns ++ n ∷ []) ≡ Some
 least_of-push [] n = refl
 least_of-push (m ∷ ns) n = ap (λ o. Some (lesser m o)) (least_of-push ns n) ∙ ap (λ (k : ℕ). Some k) (lesser_turned m n (least_of ns))
 
-length-filter_le : (m : Commands) (es : List (CommandName × Payload)) → length (filter (is_news m) es) ≤ length es
+length-filter_le : (m : CommandMap) (es : List (Name × Payload)) → length (filter (is_news m) es) ≤ length es
 length-filter_le m [] = omega arith
 length-filter_le m (e ∷ es) =
     let fewer = length-filter_le m es in
     elim (is_news m e) as (λ b. length (cond b (e ∷ filter (is_news m) es) (filter (is_news m) es)) ≤ length (e ∷ es)) [ true ↦ omega arith | false ↦ omega arith ]
 
-pub noted_few : (m : Commands) (es : List (CommandName × Payload)) (count : ℕ) (least : Option ℕ) → NotesNews m es count least → count ≤ length es
+pub noted_few : (m : CommandMap) (es : List (Name × Payload)) (count : ℕ) (least : Option ℕ) → NotesNews m es count least → count ≤ length es
 noted_few m es count least noted = rw noted.count_is (length-filter_le m es)
 
-filter-push : (m : Commands) (es : List (CommandName × Payload)) (e : CommandName × Payload) (b : Bool) → is_news m e ≡ b
+filter-push : (m : CommandMap) (es : List (Name × Payload)) (e : Name × Payload) (b : Bool) → is_news m e ≡ b
     → filter (is_news m) (es ++ e ∷ []) ≡ filter (is_news m) es ++ cond b (e ∷ []) []
 filter-push m [] e b is = ap (λ t. cond t (e ∷ []) []) is
 filter-push m (d ∷ es) e b is =
@@ -171,17 +171,17 @@ filter-push m (d ∷ es) e b is =
       | false ↦ filter-push m es e b is
     ]
 
-least_tick-push : (es : List (CommandName × Payload)) (e : CommandName × Payload) → least_tick (es ++ e ∷ []) ≡ Some (lesser e.0.tick (least_tick es))
+least_tick-push : (es : List (Name × Payload)) (e : Name × Payload) → least_tick (es ++ e ∷ []) ≡ Some (lesser e.0.tick (least_tick es))
 least_tick-push es e = ap least_of (map-append (λ d. d.0.tick) es (e ∷ [])) ∙ least_of-push (map (λ d. d.0.tick) es) e.0.tick
 
-pub noted_more : (m : Commands) (es : List (CommandName × Payload)) (e : CommandName × Payload) (count : ℕ) (least : Option ℕ) → NotesNews m es count least → is_news m e ≡ true
+pub noted_more : (m : CommandMap) (es : List (Name × Payload)) (e : Name × Payload) (count : ℕ) (least : Option ℕ) → NotesNews m es count least → is_news m e ≡ true
     → NotesNews m (es ++ e ∷ []) (count + 1) (Some (lesser e.0.tick least))
 noted_more m es e count least noted fresh = record {
   count_is = rw (filter-push m es e true fresh) (simp length-append (omega (arith, noted.count_is)));
   least_is = rw (filter-push m es e true fresh) (ap (λ o. Some (lesser e.0.tick o)) noted.least_is ∙ sym (least_tick-push (filter (is_news m) es) e));
 }
 
-pub noted_same : (m : Commands) (es : List (CommandName × Payload)) (e : CommandName × Payload) (count : ℕ) (least : Option ℕ) → NotesNews m es count least → is_news m e ≡ false
+pub noted_same : (m : CommandMap) (es : List (Name × Payload)) (e : Name × Payload) (count : ℕ) (least : Option ℕ) → NotesNews m es count least → is_news m e ≡ false
     → NotesNews m (es ++ e ∷ []) count least
 noted_same m es e count least noted steady = record {
   count_is = rw (filter-push m es e false steady) (rw append-nil noted.count_is);
@@ -191,11 +191,11 @@ noted_same m es e count least noted steady = record {
 -- ---- a payload that was written and is taken back
 
 -- a name that was written is held
-pub held_after : (m : Commands) (n : CommandName) (p : Payload) → get (insert m n p) n ≡ Some p
+pub held_after : (m : CommandMap) (n : Name) (p : Payload) → get (insert m n p) n ≡ Some p
 held_after m n p = get-insert name_cmp_total m n p n ∙ ap (λ t. cond t (Some p) (get m n)) ((eq_by_cmp_equiv name_cmp_total).refl n)
 
 -- writing what was held before gives the map from before
-pub taken_back : (m : Commands) (n : CommandName) (p q : Payload) → get m n ≡ Some q → insert (insert m n p) n q ≡ m
+pub taken_back : (m : CommandMap) (n : Name) (p q : Payload) → get m n ≡ Some q → insert (insert m n p) n q ≡ m
 taken_back m n p q held = same_commands _ _ (λ name. get-insert name_cmp_total (insert m n p) n q name
     ∙ elim (eq_by_cmp name_cmp name n) as (λ b. eq_by_cmp name_cmp name n ≡ b → cond b (Some q) (get (insert m n p) name) ≡ get m name) [
       | true ↦ λ tied. sym held ∙ ap (get m) (sym (same_name name n tied))

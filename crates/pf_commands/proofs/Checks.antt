@@ -2,14 +2,14 @@
 use Rattle.std.proofs.Common.{◌≡◌, List, [], ◌∷◌, ◌++◌, Result, Ok, Err, refl, ap, ◌∙◌}
 use Rattle.std.specs.Prelude.{All}
 use Rattle.std.proofs.lemmas.List.Elements.{All-nil, All-cons, All-head, All-tail}
-use Rattle.pf_shapes.specs.Scene.{Setting}
+use Rattle.pf_shapes.specs.Scene.{Scene}
 use Rattle.pf_commands.specs.declared.checking.CheckFault.{CheckFault}
 use Rattle.pf_commands.specs.declared.payload.Payload.{Payload}
-use Rattle.pf_commands.specs.Name.{CommandName}
+use Rattle.pf_commands.specs.Name.{Name}
 use Rattle.pf_commands.specs.Check.{check_of, and_then, check_all_of, IsAllowed, IsFirstFault}
 
 -- checks of a list that begins with another
-check_all-append : (s : Setting) (es others : List (CommandName × Payload)) →
+check_all-append : (s : Scene) (es others : List (Name × Payload)) →
     check_all_of s (es ++ others) ≡ and_then (check_all_of s es) (check_all_of s others)
 check_all-append s [] others = refl
 check_all-append s (e ∷ es) others = ap (and_then (check_of s e.0 e.1)) (check_all-append s es others) ∙ regroup (check_of s e.0 e.1) (check_all_of s es) (check_all_of s others)
@@ -19,24 +19,24 @@ check_all-append s (e ∷ es) others = ap (and_then (check_of s e.0 e.1)) (check
     regroup (Err fault) b c = refl
 
 -- behind commands that are all allowed
-pub check_all_behind : (s : Setting) (es others : List (CommandName × Payload)) → check_all_of s es ≡ Ok tt →
+pub check_all_behind : (s : Scene) (es others : List (Name × Payload)) → check_all_of s es ≡ Ok tt →
     check_all_of s (es ++ others) ≡ check_all_of s others
 check_all_behind s es others h = check_all-append s es others ∙ ap (λ r. and_then r (check_all_of s others)) h
 
 -- one command more that is allowed
-pub check_all_more : (s : Setting) (es : List (CommandName × Payload)) (e : CommandName × Payload) → check_all_of s es ≡ Ok tt →
+pub check_all_more : (s : Scene) (es : List (Name × Payload)) (e : Name × Payload) → check_all_of s es ≡ Ok tt →
     check_of s e.0 e.1 ≡ Ok tt → check_all_of s (es ++ e ∷ []) ≡ Ok tt
 check_all_more s es e h here = check_all_behind s es (e ∷ []) h ∙ ap (λ r. and_then r (Ok tt)) here
 
 -- the first command that is not allowed
-pub check_all_stops : (s : Setting) (all es rest : List (CommandName × Payload)) (e : CommandName × Payload) (fault : CheckFault) →
+pub check_all_stops : (s : Scene) (all es rest : List (Name × Payload)) (e : Name × Payload) (fault : CheckFault) →
     all ≡ es ++ e ∷ rest → check_all_of s es ≡ Ok tt → check_of s e.0 e.1 ≡ Err fault → check_all_of s all ≡ Err fault
 check_all_stops s all es rest e fault whole h here =
     ap (check_all_of s) whole ∙ check_all_behind s es (e ∷ rest) h ∙ ap (λ r. and_then r (check_all_of s rest)) here
 
 -- ---- what the answer means
 
-pub each_allowed : (s : Setting) (es : List (CommandName × Payload)) → check_all_of s es ≡ Ok tt → All (IsAllowed s) es
+pub each_allowed : (s : Scene) (es : List (Name × Payload)) → check_all_of s es ≡ Ok tt → All (IsAllowed s) es
 each_allowed s [] h = All-nil (IsAllowed s)
 each_allowed s (e ∷ es) h = by (check_of s e.0 e.1) refl h (each_allowed s es)
   where
@@ -45,12 +45,12 @@ each_allowed s (e ∷ es) h = by (check_of s e.0 e.1) refl h (each_allowed s es)
     by (Ok done) here h rest = All-cons (IsAllowed s) e es here (rest h)
     by (Err fault) here h rest = absurd cc
 
-pub all_allowed : (s : Setting) (es : List (CommandName × Payload)) → All (IsAllowed s) es → check_all_of s es ≡ Ok tt
+pub all_allowed : (s : Scene) (es : List (Name × Payload)) → All (IsAllowed s) es → check_all_of s es ≡ Ok tt
 all_allowed s [] h = refl
 all_allowed s (e ∷ es) h =
     ap (λ r. and_then r (check_all_of s es)) (All-head (IsAllowed s) e es h) ∙ all_allowed s es (All-tail (IsAllowed s) e es h)
 
-pub first_fault : (s : Setting) (es : List (CommandName × Payload)) (fault : CheckFault) → check_all_of s es ≡ Err fault → IsFirstFault s es fault
+pub first_fault : (s : Scene) (es : List (Name × Payload)) (fault : CheckFault) → check_all_of s es ≡ Err fault → IsFirstFault s es fault
 first_fault s [] fault h = absurd cc
 first_fault s (e ∷ es) fault h = by (check_of s e.0 e.1) refl h (first_fault s es fault)
   where
@@ -69,6 +69,6 @@ first_fault s (e ∷ es) fault h = by (check_of s e.0 e.1) refl h (first_fault s
     by (Err other) here h rest =
         record { before = []; first = e; after = es; commands_are = refl; allowed = All-nil (IsAllowed s); refused = here ∙ h }
 
-pub fault_first : (s : Setting) (es : List (CommandName × Payload)) (fault : CheckFault) → IsFirstFault s es fault → check_all_of s es ≡ Err fault
+pub fault_first : (s : Scene) (es : List (Name × Payload)) (fault : CheckFault) → IsFirstFault s es fault → check_all_of s es ≡ Err fault
 fault_first s es fault h =
     check_all_stops s es h.before h.after h.first fault h.commands_are (all_allowed s h.before h.allowed) h.refused

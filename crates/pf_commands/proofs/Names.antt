@@ -5,7 +5,7 @@ use Rattle.std.specs.Cmp.{IsTotalOrder}
 use Rattle.std.specs.FinMap.{IsAntisymmetric}
 use Rattle.std.proofs.lemmas.Cmp.{nat_cmp_total, on_total, then_total}
 use Rattle.std.proofs.lemmas.Map.Lookups.{exact_pairs, exact_unsigned}
-use Rattle.pf_commands.specs.Name.{CommandName}
+use Rattle.pf_commands.specs.Name.{Name}
 use Rattle.pf_commands.specs.Merge.{name_cmp}
 
 pub name_cmp_total : IsTotalOrder name_cmp
@@ -14,7 +14,7 @@ name_cmp_total =
     (then_total (on_total (λ n. n.player) nat_cmp_total) (on_total (λ n. n.number) nat_cmp_total))
 
 -- the name of a tick, a player and a number
-name_of : ℕ × (ℕ × ℕ) → CommandName
+name_of : ℕ × (ℕ × ℕ) → Name
 name_of parts = record { tick = parts.0; player = parts.1.0; number = parts.1.1 }
 
 pub name_cmp-IsAntisymmetric : IsAntisymmetric name_cmp

@@ -8,8 +8,8 @@ use Rattle.std.specs.BTreeMap.Range.{range_contains, entries_between}
 use Rattle.std.specs.declared.ops.Bound.TheVariants.{Included}
 use Rattle.std.proofs.lemmas.Bool.Decides.{nat_tests}
 use Rattle.std.specs.FinMap.{get, get-entries, entries, find, from_entries}
-use Rattle.pf_commands.specs.Name.{CommandName, IsName}
-use Rattle.pf_commands.specs.Merge.{name_cmp, name_at, Commands, AreCommands, payloads_at}
+use Rattle.pf_commands.specs.Name.{Name, IsName}
+use Rattle.pf_commands.specs.Merge.{name_cmp, name_at, CommandMap, IsCommandMap, payloads_at}
 use Rattle.pf_commands.specs.declared.payload.Payload.{Payload}
 use Rattle.std.specs.Map.{lookup, keys_of}
 use Rattle.std.specs.List.Sorted.{IsStrictlySortedBy}
@@ -33,7 +33,7 @@ level a b o o' up down =
     (not_above a b o up)
 
 -- a name from the first to the last of a tick and player is of that tick and player
-pub between : (tick player : ℕ) (name : CommandName) → is_gt (name_cmp (name_at tick player 0) name) ≡ false
+pub between : (tick player : ℕ) (name : Name) → is_gt (name_cmp (name_at tick player 0) name) ≡ false
     → is_gt (name_cmp name (name_at tick player 65535)) ≡ false → name ≡ name_at tick player name.number
 between tick player name up down =
     let ticks = level tick name.tick _ _ up down in
@@ -56,23 +56,23 @@ not_before tick player n m is =
     grind (arith, nat_tests)
 
 -- the names from the first to the last of a tick are those of that tick
-in_tick : (tick : ℕ) (name : CommandName) → IsName name
+in_tick : (tick : ℕ) (name : Name) → IsName name
     → (is_le (name_cmp (name_at tick 0 0) name) && not (is_lt (name_cmp (name_at tick 7 65535) name))) ≡ (name.tick == tick)
 in_tick tick name isn = let p = isn.player in let n = isn.number in grind (arith, nat_tests)
 
 -- nothing is held under a name out of range
-pub get-out_of_range : (m : Commands) → AreCommands m → (name : CommandName) → (IsName name → ⊥) → get m name ≡ None
+pub get-out_of_range : (m : CommandMap) → IsCommandMap m → (name : Name) → (IsName name → ⊥) → get m name ≡ None
 get-out_of_range m are name out = elim (get m name) as (λ o. get m name ≡ o → o ≡ None) [ None ↦ λ _. refl | Some p ↦ λ is. absurd (out (are name p is).0) ] refl
 
 -- the names of entries, each found under its name, are in range
-AreNamed : List (CommandName × Payload) → Type 0
-AreNamed es = (name : CommandName) (payload : Payload) → find name_cmp name es ≡ Some payload → IsName name
+AreNamed : List (Name × Payload) → Type 0
+AreNamed es = (name : Name) (payload : Payload) → find name_cmp name es ≡ Some payload → IsName name
 
-named_head : (e : CommandName × Payload) (es : List (CommandName × Payload)) → AreNamed (e ∷ es) → IsName e.0
+named_head : (e : Name × Payload) (es : List (Name × Payload)) → AreNamed (e ∷ es) → IsName e.0
 unfolding AreNamed
 named_head e es are = are e.0 e.1 (ap (λ o. cond (is_eq o) (Some e.1) (find name_cmp e.0 es)) (tied_itself name_cmp_total e.0))
 
-named_tail : (e : CommandName × Payload) (es : List (CommandName × Payload)) → AreNamed (e ∷ es) → AreNamed es
+named_tail : (e : Name × Payload) (es : List (Name × Payload)) → AreNamed (e ∷ es) → AreNamed es
 unfolding AreNamed
 named_tail e es are name payload is =
     elim (eq_by_cmp name_cmp name e.0) as (λ b. eq_by_cmp name_cmp name e.0 ≡ b → IsName name) [
@@ -81,24 +81,24 @@ named_tail e es are name payload is =
     ] refl
 
 -- two tests of names that agree at names in range keep the same of such entries
-filter-agreeing : (p q : CommandName → Bool) → ((name : CommandName) → IsName name → p name ≡ q name) → (es : List (CommandName × Payload)) → AreNamed es
+filter-agreeing : (p q : Name → Bool) → ((name : Name) → IsName name → p name ≡ q name) → (es : List (Name × Payload)) → AreNamed es
     → filter (λ e. p e.0) es ≡ filter (λ e. q e.0) es
 filter-agreeing p q agree [] are = refl
 filter-agreeing p q agree (e ∷ es) are =
     let rest = filter-agreeing p q agree es (named_tail e es are) in
     λ i. cond (agree e.0 (named_head e es are) i) (e ∷ rest i) (rest i)
 
-filter-none : (es : List (CommandName × Payload)) → filter (λ _. false) es ≡ []
+filter-none : (es : List (Name × Payload)) → filter (λ _. false) es ≡ []
 filter-none [] = refl
 filter-none (e ∷ es) = filter-none es
 
-named_entries : (m : Commands) → AreCommands m → AreNamed (entries m)
+named_entries : (m : CommandMap) → IsCommandMap m → AreNamed (entries m)
 unfolding AreNamed
 named_entries m are name payload is = (are name payload (get-entries m name ∙ is)).0
 
 -- the entries between the first and the last name of a tick are those of that tick
-entries_between-tick : (es : List (CommandName × Payload)) (first last : CommandName) (tick : ℕ) → first ≡ name_at tick 0 0 → last ≡ name_at tick 7 65535
-    → IsStrictlySortedBy name_cmp (keys_of es) → AreCommands (from_entries es)
+entries_between-tick : (es : List (Name × Payload)) (first last : Name) (tick : ℕ) → first ≡ name_at tick 0 0 → last ≡ name_at tick 7 65535
+    → IsStrictlySortedBy name_cmp (keys_of es) → IsCommandMap (from_entries es)
     → entries_between name_cmp (Included first) (Included last) es ≡ filter (λ e. e.0.tick == tick) (entries (from_entries {R = name_cmp} es))
 entries_between-tick es first last tick first_is last_is sorted are =
     let from = Included (name_at tick 0 0) in
@@ -109,44 +109,44 @@ entries_between-tick es first last tick first_is last_is sorted are =
     ∙ filter-agreeing (range_contains name_cmp from to) (λ n. n.tick == tick) (in_tick tick) (entries (from_entries es)) (named_entries (from_entries es) are)
 
 -- so what is found between them are the commands of the tick
-pub payloads_between : (es found : List (CommandName × Payload)) {m : Commands} (first last : CommandName) (tick : ℕ) → first ≡ name_at tick 0 0 → last ≡ name_at tick 7 65535
-    → IsStrictlySortedBy name_cmp (keys_of es) → AreCommands (from_entries es) → from_entries es ≡ m
+pub payloads_between : (es found : List (Name × Payload)) {m : CommandMap} (first last : Name) (tick : ℕ) → first ≡ name_at tick 0 0 → last ≡ name_at tick 7 65535
+    → IsStrictlySortedBy name_cmp (keys_of es) → IsCommandMap (from_entries es) → from_entries es ≡ m
     → found ≡ entries_between name_cmp (Included first) (Included last) es → map (λ e. e.1) found ≡ payloads_at m tick
 payloads_between es found first last tick first_is last_is sorted are map_is between =
     ap (map (λ e. e.1)) (between ∙ entries_between-tick es first last tick first_is last_is sorted are) ∙ ap (λ m. payloads_at m tick) map_is
 
 -- there are none at a tick out of range
-pub payloads_at-out_of_range : (m : Commands) (tick : ℕ) → AreCommands m → 2 ^ 20 ≤ tick → payloads_at m tick ≡ []
+pub payloads_at-out_of_range : (m : CommandMap) (tick : ℕ) → IsCommandMap m → 2 ^ 20 ≤ tick → payloads_at m tick ≡ []
 payloads_at-out_of_range m tick are far =
-    let other : (n : CommandName) → IsName n → (n.tick == tick) ≡ false = λ n isn. let near = isn.tick in grind (arith, nat_tests) in
+    let other : (n : Name) → IsName n → (n.tick == tick) ≡ false = λ n isn. let near = isn.tick in grind (arith, nat_tests) in
     ap (map (λ e. e.1)) (filter-agreeing (λ n. n.tick == tick) (λ _. false) other (entries m) (named_entries m are) ∙ filter-none (entries m))
 
 -- a name under which something is held has a number in range
-number_few : (held : Option Payload) (name : CommandName) → ((payload : Payload) → held ≡ Some payload → IsName name × IsPayload payload) → IsSome held → name.number ≤ 65535
+number_few : (held : Option Payload) (name : Name) → ((payload : Payload) → held ≡ Some payload → IsName name × IsPayload payload) → IsSome held → name.number ≤ 65535
 number_few None name are some = cc
 number_few (Some payload) name are some = let few = (are payload refl).0.number in omega arith
 
 -- entries es, seen as the map m, and the first and the last name of a tick and player
-pub record IsSpan (es : List (CommandName × Payload)) (m : Commands) (first last : CommandName) (tick player : ℕ) : Type 0 where
+pub record IsSpan (es : List (Name × Payload)) (m : CommandMap) (first last : Name) (tick player : ℕ) : Type 0 where
   pub first_is : first ≡ name_at tick player 0
   pub last_is : last ≡ name_at tick player 65535
   pub map_is : from_entries es ≡ m
-  pub named : AreCommands (from_entries es)
+  pub named : IsCommandMap (from_entries es)
 
-pub span : (es : List (CommandName × Payload)) {m : Commands} {first last : CommandName} {tick player : ℕ} → first ≡ name_at tick player 0 → last ≡ name_at tick player 65535
-    → from_entries es ≡ m → AreCommands (from_entries es) → IsSpan es m first last tick player
+pub span : (es : List (Name × Payload)) {m : CommandMap} {first last : Name} {tick player : ℕ} → first ≡ name_at tick player 0 → last ≡ name_at tick player 65535
+    → from_entries es ≡ m → IsCommandMap (from_entries es) → IsSpan es m first last tick player
 span es first_is last_is map_is named = record { first_is = first_is; last_is = last_is; map_is = map_is; named = named }
 
 -- the name is neither before the first nor after the last
-abbrev pub IsWithin : CommandName → CommandName → CommandName → Type 0
+abbrev pub IsWithin : Name → Name → Name → Type 0
 IsWithin first last name = (is_gt (name_cmp first name) ≡ false) × (is_gt (name_cmp name last) ≡ false)
 
-module _ {es : List (CommandName × Payload)} {m : Commands} {first last : CommandName} {tick player : ℕ} (s : IsSpan es m first last tick player) where
-  lookup-span : (name : CommandName) → lookup (is_at (name_cmp name)) es ≡ get m name
+module _ {es : List (Name × Payload)} {m : CommandMap} {first last : Name} {tick player : ℕ} (s : IsSpan es m first last tick player) where
+  lookup-span : (name : Name) → lookup (is_at (name_cmp name)) es ≡ get m name
   lookup-span name = lookup-get name es ∙ ap (λ k. get k name) s.map_is
 
   -- a name between the two is of the tick and player
-  span_name : (name : CommandName) → IsWithin first last name → name ≡ name_at tick player name.number
+  span_name : (name : Name) → IsWithin first last name → name ≡ name_at tick player name.number
   span_name name is = between tick player name
       (ap (λ f. is_gt (name_cmp f name)) (sym s.first_is) ∙ is.0) (ap (λ l. is_gt (name_cmp name l)) (sym s.last_is) ∙ is.1)
 
@@ -157,15 +157,15 @@ module _ {es : List (CommandName × Payload)} {m : Commands} {first last : Comma
     ap (λ l. is_gt (name_cmp (name_at tick player number) l)) s.last_is ∙ within tick player number 65535 le,
   )
 
-  pub held_in_span : (name : CommandName) (payload : Payload) (number : ℕ) → IsWithin first last name → lookup (is_at (name_cmp name)) es ≡ Some payload → number ≡ name.number
+  pub held_in_span : (name : Name) (payload : Payload) (number : ℕ) → IsWithin first last name → lookup (is_at (name_cmp name)) es ≡ Some payload → number ≡ name.number
       → IsSome (get m (name_at tick player number))
   held_in_span name payload number is found same =
       let e : get m (name_at tick player number) ≡ Some payload =
       ap (λ n. get m (name_at tick player n)) same ∙ ap (get m) (sym (span_name name is)) ∙ sym (lookup-span name) ∙ found in
       rw e refl
 
-  pub most_in_span : (name : CommandName) (greatest : ℕ) → IsWithin first last name → greatest ≡ name.number
-      → ((q : CommandName) → IsWithin first last q → IsSome (lookup (is_at (name_cmp q)) es) → is_lt (name_cmp name q) ≡ false)
+  pub most_in_span : (name : Name) (greatest : ℕ) → IsWithin first last name → greatest ≡ name.number
+      → ((q : Name) → IsWithin first last q → IsSome (lookup (is_at (name_cmp q)) es) → is_lt (name_cmp name q) ≡ false)
       → (other : ℕ) → IsSome (get m (name_at tick player other)) → other ≤ greatest
   most_in_span name greatest is same last_one other some =
       let q = name_at tick player other in
@@ -173,7 +173,7 @@ module _ {es : List (CommandName × Payload)} {m : Commands} {first last : Comma
       let least : is_lt (name_cmp name q) ≡ false = last_one q (span_within other few) (rw (lookup-span q) some) in
       rw same (not_before tick player name.number other (ap (λ n. is_lt (name_cmp n q)) (sym (span_name name is)) ∙ least))
 
-  pub none_in_span : ((q : CommandName) → IsWithin first last q → lookup (is_at (name_cmp q)) es ≡ None) → (number : ℕ) → get m (name_at tick player number) ≡ None
+  pub none_in_span : ((q : Name) → IsWithin first last q → lookup (is_at (name_cmp q)) es ≡ None) → (number : ℕ) → get m (name_at tick player number) ≡ None
   none_in_span none number =
       let q = name_at tick player number in
       ⊎_elim

@@ -5,8 +5,8 @@ use Rattle.std.specs.Ordering.{eq_by_cmp}
 use Rattle.std.specs.FinMap.{get, get-entries, entries, entries_sorted, find}
 use Rattle.std.specs.FinMap.Entries.{is_sorted-where_key, find-where_key, same_entries}
 use Rattle.std.proofs.lemmas.Bool.Decides.{nat_tests}
-use Rattle.pf_commands.specs.Name.{CommandName}
-use Rattle.pf_commands.specs.Merge.{name_cmp, Commands, merge, one, payloads_at, heavier_of}
+use Rattle.pf_commands.specs.Name.{Name}
+use Rattle.pf_commands.specs.Merge.{name_cmp, CommandMap, merge, one, payloads_at, heavier_of}
 use Rattle.pf_commands.specs.News.{news, least_tick}
 use Rattle.pf_commands.specs.declared.payload.Payload.{Payload}
 use Rattle.pf_commands.proofs.Names.{name_cmp_total, name_cmp-IsAntisymmetric}
@@ -14,10 +14,10 @@ use Rattle.pf_commands.proofs.Merging.{same_name, get-merge}
 use Rattle.pf_commands.proofs.Changes.{get-merge_one, kept_before}
 
 -- maps that hold the same under the names that pass a test have the same entries under these
-same_part : (p : CommandName → Bool) (m k : Commands) → ((name : CommandName) → p name ≡ true → get m name ≡ get k name)
+same_part : (p : Name → Bool) (m k : CommandMap) → ((name : Name) → p name ≡ true → get m name ≡ get k name)
     → filter (λ e. p e.0) (entries m) ≡ filter (λ e. p e.0) (entries k)
 same_part p m k same =
-    let alike : (q x : CommandName) → name_cmp q x ≡ _ → p x ≡ p q = λ q x tied. ap p (sym (name_cmp-IsAntisymmetric q x tied)) in
+    let alike : (q x : Name) → name_cmp q x ≡ _ → p x ≡ p q = λ q x tied. ap p (sym (name_cmp-IsAntisymmetric q x tied)) in
     same_entries name_cmp name_cmp_total name_cmp-IsAntisymmetric _ _
     (is_sorted-where_key name_cmp p (entries m) (entries_sorted m)) (is_sorted-where_key name_cmp p (entries k) (entries_sorted k))
     (λ name.
@@ -29,20 +29,20 @@ same_part p m k same =
     ∙ sym (find-where_key name_cmp p name (λ x. alike name x) (entries k)))
 
 -- another tick's names are not the command's
-apart : (n name : CommandName) (tick : ℕ) → n.tick ≢ tick → (name.tick == tick) ≡ true → eq_by_cmp name_cmp name n ≡ false
+apart : (n name : Name) (tick : ℕ) → n.tick ≢ tick → (name.tick == tick) ≡ true → eq_by_cmp name_cmp name n ≡ false
 apart n name tick other at =
     elim (eq_by_cmp name_cmp name n) as (λ b. eq_by_cmp name_cmp name n ≡ b → b ≡ false) [
       | true ↦ λ tied. let same = ap (λ x. x.tick) (same_name name n tied) in grind (arith, nat_tests)
       | false ↦ λ _. refl
     ] refl
 
-pub payloads_at-other : (m : Commands) (n : CommandName) (p : Payload) (tick : ℕ) → n.tick ≢ tick → payloads_at (merge m (one n p)) tick ≡ payloads_at m tick
+pub payloads_at-other : (m : CommandMap) (n : Name) (p : Payload) (tick : ℕ) → n.tick ≢ tick → payloads_at (merge m (one n p)) tick ≡ payloads_at m tick
 payloads_at-other m n p tick other =
     ap (map (λ e. e.1)) (same_part (λ name. name.tick == tick) (merge m (one n p)) m (λ name at.
     get-merge_one m n p name ∙ ap (λ b. cond b (heavier_of (get m n) (Some p)) (get m name)) (apart n name tick other at)))
 
 -- a merge changes the payloads of no tick before the least of its news
-pub payloads_at-before : (m k : Commands) (tick : ℕ) → IfSome (least_tick (news m k)) (λ least. tick < least) → payloads_at (merge m k) tick ≡ payloads_at m tick
+pub payloads_at-before : (m k : CommandMap) (tick : ℕ) → IfSome (least_tick (news m k)) (λ least. tick < least) → payloads_at (merge m k) tick ≡ payloads_at m tick
 payloads_at-before m k tick before =
     ap (map (λ e. e.1)) (same_part (λ name. name.tick == tick) (merge m k) m (λ name at.
     let same : tick ≡ name.tick = grind (arith, nat_tests) in

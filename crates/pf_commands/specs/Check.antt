@@ -1,11 +1,11 @@
 -- Which commands a scene allows: a player moves the bodies that it owns and that are not static.
 use Rattle.std.specs.Prelude.{◌≡◌, ℕ, Bool, false, ◌++◌, All, Option, Some, None, List, [], ◌∷◌, Result, Ok, Err, ◌==◌, slice_get, if◌then◌else◌}
-use Rattle.pf_shapes.specs.Fixture.{FixtureDef, is_static}
-use Rattle.pf_shapes.specs.Scene.{Setting}
+use Rattle.pf_shapes.specs.Fixture.{Fixture, is_static}
+use Rattle.pf_shapes.specs.Scene.{Scene}
 use Rattle.pf_commands.specs.declared.checking.CheckFault.{CheckFault}
 use Rattle.pf_commands.specs.declared.checking.CheckFault.TheVariants.{UnknownBody, StaticBody, NotOwner}
 use Rattle.pf_commands.specs.declared.payload.Payload.{Payload}
-use Rattle.pf_commands.specs.Name.{CommandName}
+use Rattle.pf_commands.specs.Name.{Name}
 use Rattle.pf_commands.specs.Payload.{body_of}
 
 -- a body of nobody has no owner
@@ -14,13 +14,13 @@ owns player None = false
 owns player (Some owner) = owner == player
 
 -- what keeps a player from moving a body, if there is one with this number
-abbrev pub allowed : ℕ → Option FixtureDef → Result (Unit {0}) CheckFault
+abbrev pub allowed : ℕ → Option Fixture → Result (Unit {0}) CheckFault
 allowed player None = Err UnknownBody
 allowed player (Some f) =
     if is_static f then Err StaticBody else (if owns player f.owner then Ok tt else Err NotOwner)
 
 -- whether the scene allows the command
-abbrev pub check_of : Setting → CommandName → Payload → Result (Unit {0}) CheckFault
+abbrev pub check_of : Scene → Name → Payload → Result (Unit {0}) CheckFault
 check_of s name payload = allowed name.player (slice_get s.fixtures (body_of payload))
 
 -- one check, and then the others
@@ -29,19 +29,19 @@ and_then (Ok done) others = others
 and_then (Err fault) others = Err fault
 
 -- whether the scene allows each command, in order: the first fault
-abbrev pub check_all_of : Setting → List (CommandName × Payload) → Result (Unit {0}) CheckFault
+abbrev pub check_all_of : Scene → List (Name × Payload) → Result (Unit {0}) CheckFault
 check_all_of s [] = Ok tt
 check_all_of s (e ∷ es) = and_then (check_of s e.0 e.1) (check_all_of s es)
 
 -- the scene allows the command of this entry
-abbrev pub IsAllowed : Setting → CommandName × Payload → Type 0
+abbrev pub IsAllowed : Scene → Name × Payload → Type 0
 IsAllowed s e = check_of s e.0 e.1 ≡ Ok tt
 
 -- the first of the commands that the scene does not allow has this fault
-pub record IsFirstFault (s : Setting) (es : List (CommandName × Payload)) (fault : CheckFault) : Type 0 where
-  pub before : List (CommandName × Payload)
-  pub first : CommandName × Payload
-  pub after : List (CommandName × Payload)
+pub record IsFirstFault (s : Scene) (es : List (Name × Payload)) (fault : CheckFault) : Type 0 where
+  pub before : List (Name × Payload)
+  pub first : Name × Payload
+  pub after : List (Name × Payload)
   pub commands_are : es ≡ before ++ first ∷ after
   pub allowed : All (IsAllowed s) before
   pub refused : check_of s first.0 first.1 ≡ Err fault

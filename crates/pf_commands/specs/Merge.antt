@@ -4,26 +4,26 @@ use Rattle.std.specs.declared.cmp.Ordering.{Ordering}
 use Rattle.std.specs.Ordering.{nat_cmp, ordering_then}
 use Rattle.std.specs.Coded.{Coded, code_by, coded×, coded_ℕ}
 use Rattle.std.specs.FinMap.{FinMap, empty, insert, get, entries, from_entries}
-use Rattle.pf_commands.specs.Name.{CommandName, IsName}
+use Rattle.pf_commands.specs.Name.{Name, IsName}
 use Rattle.pf_commands.specs.Payload.{weight, IsPayload}
 use Rattle.pf_commands.specs.declared.payload.Payload.{Payload}
 use Rattle.pf_commands.specs.declared.payload.Command.{Command}
 
 -- the order of names: by tick, then player, then number
-abbrev pub name_cmp : CommandName → CommandName → Ordering
+abbrev pub name_cmp : Name → Name → Ordering
 name_cmp a b = ordering_then (nat_cmp a.tick b.tick) (ordering_then (nat_cmp a.player b.player) (nat_cmp a.number b.number))
 
 -- a command map: a finite map from names to payloads
-abbrev pub Commands : Type 0
-Commands = FinMap name_cmp Payload
+abbrev pub CommandMap : Type 0
+CommandMap = FinMap name_cmp Payload
 
 -- a name is stored as the triple of its numbers
-abbrev pub name_code : Coded CommandName
+abbrev pub name_code : Coded Name
 name_code =
     code_by (ℕ × (ℕ × ℕ)) (coded× coded_ℕ (coded× coded_ℕ coded_ℕ)) (λ n. (n.tick, (n.player, n.number))) (λ t. record { tick = t.0; player = t.1.0; number = t.1.1 }) (λ _. refl)
 
 -- the name of a command by its numbers
-abbrev pub name_at : ℕ → ℕ → ℕ → CommandName
+abbrev pub name_at : ℕ → ℕ → ℕ → Name
 name_at tick player number = record { tick = tick; player = player; number = number }
 
 -- a command's name and payload are in the ranges of their types
@@ -32,11 +32,11 @@ pub record IsCommand (c : Command) : Type 0 where
   pub payload : IsPayload c.payload
 
 -- each command of a map is in those ranges
-abbrev pub AreCommands : Commands → Type 0
-AreCommands m = (name : CommandName) (payload : Payload) → get m name ≡ Some payload → IsName name × IsPayload payload
+abbrev pub IsCommandMap : CommandMap → Type 0
+IsCommandMap m = (name : Name) (payload : Payload) → get m name ≡ Some payload → IsName name × IsPayload payload
 
 -- the map of one command alone
-abbrev pub one : CommandName → Payload → Commands
+abbrev pub one : Name → Payload → CommandMap
 one name payload = insert empty name payload
 
 -- of two payloads the one of greater weight
@@ -50,14 +50,14 @@ heavier_of (Some p) None = Some p
 heavier_of (Some p) (Some q) = Some (heavier p q)
 
 -- the names of either map, each with its payload of greater weight
-unfoldable pub merge : Commands → Commands → Commands
+unfoldable pub merge : CommandMap → CommandMap → CommandMap
 merge m k = from_entries (map (λ e. (e.0, unwrap_or (heavier_of (get m e.0) (get k e.0)) e.1)) (entries m ++ entries k))
 
 -- a map with the commands of a list put in: each is merged in as the map of it alone
-abbrev pub put_all : Commands → List Command → Commands
+abbrev pub put_all : CommandMap → List Command → CommandMap
 put_all m [] = m
 put_all m (c ∷ commands) = put_all (merge m (one c.name c.payload)) commands
 
 -- the payloads of a tick, in order of player, then number
-abbrev pub payloads_at : Commands → ℕ → List Payload
+abbrev pub payloads_at : CommandMap → ℕ → List Payload
 payloads_at m tick = map (λ e. e.1) (filter (λ e. e.0.tick == tick) (entries m))

@@ -1,9 +1,9 @@
 -- What putting a command into a map and merging maps answer.
 use Rattle.std.specs.Prelude.{◌≡◌, ℕ, ◌≤◌, length, All, Contains, Bool, true, false, nat_lt, ◌==◌, if◌then◌else◌, Option, Some, None, List, [], ◌∷◌, filter, map, min}
 use Rattle.std.specs.FinMap.{get, entries}
-use Rattle.pf_commands.specs.Name.{CommandName}
+use Rattle.pf_commands.specs.Name.{Name}
 use Rattle.pf_commands.specs.Payload.{weight}
-use Rattle.pf_commands.specs.Merge.{Commands}
+use Rattle.pf_commands.specs.Merge.{CommandMap}
 use Rattle.pf_commands.specs.declared.payload.Payload.{Payload}
 use Rattle.pf_commands.specs.declared.map.Put.{Put}
 use Rattle.pf_commands.specs.declared.map.Put.TheVariants.{New, Same, Greater, Lesser}
@@ -21,11 +21,11 @@ is_change Greater = true
 is_change Lesser = false
 
 -- the command is new to the map, or greater than what it holds under that name
-abbrev pub is_news : Commands → CommandName × Payload → Bool
+abbrev pub is_news : CommandMap → Name × Payload → Bool
 is_news m e = is_change (answer_to (get m e.0) e.1)
 
 -- the commands of the second map that are new or greater to the first
-abbrev pub news : Commands → Commands → List (CommandName × Payload)
+abbrev pub news : CommandMap → CommandMap → List (Name × Payload)
 news m k = filter (is_news m) (entries k)
 
 -- the lesser of a number and another that may be missing
@@ -44,10 +44,10 @@ pub record IsLeast (ns : List ℕ) (n : ℕ) : Type 0 where
   pub least : All (λ m. n ≤ m) ns
 
 -- the least tick of some commands, if there are any
-abbrev pub least_tick : List (CommandName × Payload) → Option ℕ
+abbrev pub least_tick : List (Name × Payload) → Option ℕ
 least_tick es = least_of (map (λ e. e.0.tick) es)
 
 -- how many of some commands are news to a map, and the least tick of these
-pub record NotesNews (m : Commands) (es : List (CommandName × Payload)) (count : ℕ) (least : Option ℕ) : Type 0 where
+pub record NotesNews (m : CommandMap) (es : List (Name × Payload)) (count : ℕ) (least : Option ℕ) : Type 0 where
   pub count_is : count ≡ length (filter (is_news m) es)
   pub least_is : least ≡ least_tick (filter (is_news m) es)

@@ -2,12 +2,12 @@
 
 ghost use Rattle.std.specs.Prelude.{◌≡◌, ◌<◌, IfSome, ◌↔◌, ◌≢◌, ℕ, List, [], ◌++◌, All, Contains, map, Some, Ok, Err, false};
 ghost use Rattle.std.specs.FinMap.{empty, get};
-ghost use Rattle.pf_shapes.specs.Scene.{Setting};
+ghost use Rattle.pf_shapes.specs.Scene.{Scene};
 ghost use Rattle.pf_commands.specs.Frame.{IsFrameable, Spells, spelling};
 ghost use Rattle.pf_commands.specs.Check.{check_all_of, IsAllowed, IsFirstFault};
-ghost use Rattle.pf_commands.specs.Name.{CommandName};
+ghost use Rattle.pf_commands.specs.Name.{Name};
 ghost use Rattle.pf_commands.specs.Payload.{weight, IsPayload};
-ghost use Rattle.pf_commands.specs.Merge.{Commands, AreCommands, IsCommand, heavier_of, merge, one, put_all, payloads_at};
+ghost use Rattle.pf_commands.specs.Merge.{CommandMap, IsCommandMap, IsCommand, heavier_of, merge, one, put_all, payloads_at};
 ghost use Rattle.pf_commands.specs.News.{is_news, news, least_tick, IsLeast};
 ghost use Rattle.pf_commands.specs.declared.checking.CheckFault.{CheckFault};
 ghost use Rattle.pf_commands.specs.declared.payload.Payload.{Payload};
@@ -24,29 +24,29 @@ pub fn commands_have_one_spelling()
 
 /// Merging is associative.
 pub fn merge_is_associative()
-    ensures { (first second third : Commands) → merge (merge first second) third ≡ merge first (merge second third) }
+    ensures { (first second third : CommandMap) → merge (merge first second) third ≡ merge first (merge second third) }
 {}
 
 /// Merging is commutative, for maps in range: `CommandMap::len` says of each map that it is.
 pub fn merge_is_commutative()
-    ensures { (left right : Commands) → AreCommands left → AreCommands right → merge left right ≡ merge right left }
+    ensures { (left right : CommandMap) → IsCommandMap left → IsCommandMap right → merge left right ≡ merge right left }
 {}
 
 /// Merging is idempotent.
 pub fn merge_is_idempotent()
-    ensures same { (m : Commands) → merge m m ≡ m }
-    ensures again { (m other : Commands) → merge (merge m other) other ≡ merge m other }
+    ensures same { (m : CommandMap) → merge m m ≡ m }
+    ensures again { (m other : CommandMap) → merge (merge m other) other ≡ merge m other }
 {}
 
 /// Merging with the map of no commands changes nothing.
 pub fn merge_with_empty()
-    ensures right { (m : Commands) → merge m empty ≡ m }
-    ensures left { (m : Commands) → merge empty m ≡ m }
+    ensures right { (m : CommandMap) → merge m empty ≡ m }
+    ensures left { (m : CommandMap) → merge empty m ≡ m }
 {}
 
 /// Lists of the same commands, put into a map in any order and with any repeats, make one map.
 pub fn puts_in_any_order()
-    ensures { (m : Commands) (commands others : List Command) → AreCommands m
+    ensures { (m : CommandMap) (commands others : List Command) → IsCommandMap m
         → All IsCommand commands
         → ((c : Command) → Contains commands c ↔ Contains others c)
         → put_all m commands ≡ put_all m others }
@@ -54,46 +54,46 @@ pub fn puts_in_any_order()
 
 /// Putting a list into a map is merging the map of the list.
 pub fn puts_are_a_merge()
-    ensures { (m : Commands) (commands : List Command) → put_all m commands ≡ merge m (put_all empty commands) }
+    ensures { (m : CommandMap) (commands : List Command) → put_all m commands ≡ merge m (put_all empty commands) }
 {}
 
 /// A command that is neither new nor greater changes nothing.
 pub fn no_news_changes_nothing()
-    ensures { (m : Commands) (name : CommandName) (payload : Payload) → is_news m (name, payload) ≡ false
+    ensures { (m : CommandMap) (name : Name) (payload : Payload) → is_news m (name, payload) ≡ false
         → merge m (one name payload) ≡ m }
 {}
 
 /// A command for one tick changes the payloads of no other.
 pub fn put_keeps_other_ticks()
-    ensures { (m : Commands) (name : CommandName) (payload : Payload) (tick : ℕ) → name.tick ≢ tick
+    ensures { (m : CommandMap) (name : Name) (payload : Payload) (tick : ℕ) → name.tick ≢ tick
         → payloads_at (merge m (one name payload)) tick ≡ payloads_at m tick }
 {}
 
 /// A merge changes the payloads of no tick before the least of its news, which `CommandMap::merge` answers.
 pub fn merge_keeps_earlier_ticks()
-    ensures { (m other : Commands) (tick : ℕ) → IfSome (least_tick (news m other)) (λ least. tick < least)
+    ensures { (m other : CommandMap) (tick : ℕ) → IfSome (least_tick (news m other)) (λ least. tick < least)
         → payloads_at (merge m other) tick ≡ payloads_at m tick }
 {}
 
 /// The least tick of commands is the tick of one of them, and at most that of each.
 pub fn least_ticks_are_least()
-    ensures { (commands : List (CommandName × Payload)) (tick : ℕ)
+    ensures { (commands : List (Name × Payload)) (tick : ℕ)
         → (least_tick commands ≡ Some tick) ↔ IsLeast (map (λ e. e.0.tick) commands) tick }
 {}
 
 /// Under each name a merge holds the payload of greater weight of what the two maps hold.
 pub fn get_of_merge()
-    ensures { (left right : Commands) (name : CommandName) → get (merge left right) name ≡ heavier_of (get left name) (get right name) }
+    ensures { (left right : CommandMap) (name : Name) → get (merge left right) name ≡ heavier_of (get left name) (get right name) }
 {}
 
 /// Maps that hold the same under each name are one map.
 pub fn same_gets_same_map()
-    ensures { (left right : Commands) → ((name : CommandName) → get left name ≡ get right name) → left ≡ right }
+    ensures { (left right : CommandMap) → ((name : Name) → get left name ≡ get right name) → left ≡ right }
 {}
 
 /// Maps in range are merged into a map in range.
 pub fn merge_stays_in_range()
-    ensures { (left right : Commands) → AreCommands left → AreCommands right → AreCommands (merge left right) }
+    ensures { (left right : CommandMap) → IsCommandMap left → IsCommandMap right → IsCommandMap (merge left right) }
 {}
 
 /// Payloads of one weight are one payload.
@@ -103,8 +103,8 @@ pub fn same_weight_same_payload()
 
 /// Commands are allowed exactly where each one is, and else their fault is that of the first one that is not.
 pub fn first_fault_is_answered()
-    ensures allowed { (scene : Setting) (commands : List (CommandName × Payload))
+    ensures allowed { (scene : Scene) (commands : List (Name × Payload))
         → (check_all_of scene commands ≡ Ok tt) ↔ All (IsAllowed scene) commands }
-    ensures fault { (scene : Setting) (commands : List (CommandName × Payload)) (fault : CheckFault)
+    ensures fault { (scene : Scene) (commands : List (Name × Payload)) (fault : CheckFault)
         → (check_all_of scene commands ≡ Err fault) ↔ IsFirstFault scene commands fault }
 {}

@@ -59,23 +59,23 @@ pub struct CommandMap {
 
 impl Model for CommandMap {
     ghost use Rattle.std.specs.FinMap as map;
-    ghost use Rattle.pf_commands.specs.Merge.{Commands, AreCommands, name_code};
+    ghost use Rattle.pf_commands.specs.Merge.{CommandMap, IsCommandMap, name_code};
     ghost use Rattle.pf_commands.specs.contracts.payload.Payload.{the_row};
 
-    ghost Value = { Commands };
+    ghost Value = { CommandMap };
 
     ghost coded = { map.code name_code the_row.coded };
 
     ghost view = { λ m. map.from_entries m.commands.entries };
 
-    ghost invariant = { λ m. AreCommands (map.from_entries m.commands.entries) };
+    ghost invariant = { λ m. IsCommandMap (map.from_entries m.commands.entries) };
 }
 
 impl CommandMap {
     ghost use Rattle.pf_commands.specs.Check.{check_all_of};
     ghost use Rattle.std.specs.Prelude.{◌≡◌, ◌≤◌, ◌<◌, ◌^◌, ◌↔◌, ℕ, None, [], length, IfOk, IfSome, IfNone, IsOk, IsSome, IsTrue, OnOk, OnErr};
     ghost use Rattle.std.specs.FinMap as map;
-    ghost use Rattle.pf_commands.specs.Merge.{AreCommands, IsCommand, merge, one, payloads_at, name_at};
+    ghost use Rattle.pf_commands.specs.Merge.{IsCommandMap, IsCommand, merge, one, payloads_at, name_at};
     ghost use Rattle.pf_commands.specs.News.{answer_to, news, least_tick, NotesNews};
 
     /// The map of no commands. Takes no memory.
@@ -91,7 +91,7 @@ impl CommandMap {
     pub fn len(&self) -> usize
         ensures value { result ≡ map.len self.now }
         ensures small { result < 2 ^ 63 }
-        ensures range { AreCommands self.now }
+        ensures range { IsCommandMap self.now }
     {
         self.commands.len()
     }
@@ -106,7 +106,7 @@ impl CommandMap {
     /// The commands in order of their names.
     pub fn iter(&self) -> Iter<'_, Name, Payload>
         ensures entries { result ≡ map.entries self.now }
-        ensures range { AreCommands self.now }
+        ensures range { IsCommandMap self.now }
     {
         self.commands.iter()
     }

@@ -19,9 +19,9 @@ pub struct Name {
 }
 
 impl Model for Name {
-    ghost use Rattle.pf_commands.specs.Name.{CommandName, IsName};
+    ghost use Rattle.pf_commands.specs.Name.{Name, IsName};
 
-    ghost Value = { CommandName };
+    ghost Value = { Name };
 
     ghost view = { λ n. record { tick = n.tick; player = n.player; number = n.number } };
 
@@ -32,7 +32,7 @@ impl Model for Name {
 
 impl Name {
     ghost use Rattle.std.specs.Prelude.{◌≡◌, ◌^◌, ◌<◌};
-    ghost use Rattle.pf_commands.specs.Name.{CommandName, IsName};
+    ghost use Rattle.pf_commands.specs.Name.{Name, IsName};
 
     /// The name of a command for a tick below 2^20, given by one of eight players.
     #[inline]

@@ -6,7 +6,7 @@ use Rattle.pf_commands.specs.declared.map.Put.{Put}
 use Rattle.pf_commands.specs.declared.payload.Command.{Command}
 use Rattle.pf_commands.specs.declared.payload.Payload.{Payload}
 use Rattle.pf_commands.specs.Check.{check_of}
-use Rattle.pf_commands.specs.Merge.{Commands, merge, one, put_all}
+use Rattle.pf_commands.specs.Merge.{CommandMap, merge, one, put_all}
 use Rattle.pf_commands.specs.News.{answer_to}
 use Rattle.pf_console.specs.declared.event.Event.{Event}
 use Rattle.pf_console.specs.declared.event.Event.TheVariants.{Issue, Take, Advance, Show}
@@ -87,7 +87,7 @@ commands_after p (Take peer (Err fault)) = refl
 commands_after p (Advance peer ticks) = (advances p ticks).commands (λ reached. Advanced peer reached)
 commands_after p (Show peer tick) = (shows p tick).commands (λ world. Shown peer tick world)
 
-put_all-append : (m : Commands) (cs ds : List Command) → put_all m (cs ++ ds) ≡ put_all (put_all m cs) ds
+put_all-append : (m : CommandMap) (cs ds : List Command) → put_all m (cs ++ ds) ≡ put_all (put_all m cs) ds
 put_all-append m [] ds = refl
 put_all-append m (c ∷ cs) ds = put_all-append (merge m (one c.name c.payload)) cs ds
 

@@ -5,8 +5,8 @@ use Rattle.std.specs.FinMap.{get}
 use Rattle.std.proofs.lemmas.Bool.Decides.{nat_tests}
 use Rattle.std.proofs.lemmas.Option.{slice_get_within}
 use Rattle.pf_text.proofs.Steps.{same_Ok}
-use Rattle.pf_shapes.specs.Fixture.{FixtureDef}
-use Rattle.pf_shapes.specs.Scene.{Setting, IsSetting}
+use Rattle.pf_shapes.specs.Fixture.{Fixture}
+use Rattle.pf_shapes.specs.Scene.{Scene, IsScene}
 use Rattle.pf_commands.specs.declared.checking.CheckFault.{CheckFault}
 use Rattle.pf_commands.specs.declared.payload.Command.{Command}
 use Rattle.pf_commands.specs.declared.payload.Payload.{Payload}
@@ -46,14 +46,14 @@ is_issued p after payload frame e =
         record { tick = grind (arith, nat_tests); number = grind (arith, nat_tests); checked = checked; spelled = ap (λ answer. answer.0) (same_Ok _ (frame, after) e) }
 
 -- a body that a scene allows is one of its bodies
-allowed_body : (s : Setting) (player i : ℕ) → allowed player (slice_get s.fixtures i) ≡ Ok tt → IsSetting s → i < 1024
+allowed_body : (s : Scene) (player i : ℕ) → allowed player (slice_get s.fixtures i) ≡ Ok tt → IsScene s → i < 1024
 allowed_body s player i e h = by (slice_get s.fixtures i) refl e
   where
-    by : (fixture : Option FixtureDef) → slice_get s.fixtures i ≡ fixture → allowed player fixture ≡ Ok tt → i < 1024
+    by : (fixture : Option Fixture) → slice_get s.fixtures i ≡ fixture → allowed player fixture ≡ Ok tt → i < 1024
     by None is e = absurd cc
     by (Some f) is e = omega (arith, slice_get_within s.fixtures i f is, h.few)
 
-pub issued_decodes : (p after : Peer) (payload : Payload) (frame : List ℕ) → IsSetting p.scene → IsPayload payload
+pub issued_decodes : (p after : Peer) (payload : Payload) (frame : List ℕ) → IsScene p.scene → IsPayload payload
     → issuing p payload ≡ Ok (frame, after) → decode_of frame ≡ Ok (next_command p payload)
 issued_decodes p after payload frame scene fits e =
     let issued = is_issued p after payload frame e in

@@ -3,16 +3,16 @@ use Rattle.std.proofs.Common.{◌≡◌, ℕ, zero, suc, ◌+◌, ◌<◌, ◌�
 use Rattle.std.specs.Prelude.{IsSome, is_some}
 use Rattle.std.specs.FinMap.{get}
 use Rattle.std.proofs.lemmas.Bool.{both_ways, cases_lt}
-use Rattle.pf_commands.specs.Merge.{Commands, name_at}
+use Rattle.pf_commands.specs.Merge.{CommandMap, name_at}
 use Rattle.pf_console.specs.Peer.{number_below, next_number}
 
-none_below : (m : Commands) (tick player n : ℕ) → ((number : ℕ) → get m (name_at tick player number) ≡ None)
+none_below : (m : CommandMap) (tick player n : ℕ) → ((number : ℕ) → get m (name_at tick player number) ≡ None)
     → number_below m tick player n ≡ 0
 unfolding number_below
 none_below m tick player zero none = refl
 none_below m tick player (suc n) none = rw (none n) (none_below m tick player n none)
 
-one_below : (m : Commands) (tick player n g : ℕ) → g < n → IsSome (get m (name_at tick player g))
+one_below : (m : CommandMap) (tick player n g : ℕ) → g < n → IsSome (get m (name_at tick player g))
     → ((other : ℕ) → IsSome (get m (name_at tick player other)) → other ≤ g) → number_below m tick player n ≡ g + 1
 unfolding number_below
 one_below m tick player zero g below held most = absurd (omega arith)
@@ -29,18 +29,18 @@ one_below m tick player (suc n) g below held most =
     ] refl
 
 -- nothing is held: the first number is 0
-pub first_number : (m : Commands) (tick player : ℕ) → ((number : ℕ) → get m (name_at tick player number) ≡ None)
+pub first_number : (m : CommandMap) (tick player : ℕ) → ((number : ℕ) → get m (name_at tick player number) ≡ None)
     → next_number m tick player ≡ 0
 first_number m tick player none = none_below m tick player 65536 none
 
 -- the number after the greatest
-pub number_after : (m : Commands) (tick player g : ℕ) → g < 65536 → IsSome (get m (name_at tick player g))
+pub number_after : (m : CommandMap) (tick player g : ℕ) → g < 65536 → IsSome (get m (name_at tick player g))
     → ((other : ℕ) → IsSome (get m (name_at tick player other)) → other ≤ g) → next_number m tick player ≡ g + 1
 number_after m tick player g below held most = one_below m tick player 65536 g below held most
 
 -- ---- what the next number is
 
-above_below : (m : Commands) (tick player n number : ℕ) → number < n → IsSome (get m (name_at tick player number))
+above_below : (m : CommandMap) (tick player n number : ℕ) → number < n → IsSome (get m (name_at tick player number))
     → number < number_below m tick player n
 unfolding number_below
 above_below m tick player zero number below held = absurd (omega arith)
@@ -56,7 +56,7 @@ above_below m tick player (suc n) number below held =
           (cases_lt number n)
     ] refl
 
-held_below : (m : Commands) (tick player n number : ℕ) → number_below m tick player n ≡ number + 1
+held_below : (m : CommandMap) (tick player n number : ℕ) → number_below m tick player n ≡ number + 1
     → IsSome (get m (name_at tick player number))
 unfolding number_below
 held_below m tick player zero number is = absurd (omega (arith, is))
@@ -68,10 +68,10 @@ held_below m tick player (suc n) number is = by (is_some (get m (name_at tick pl
     by true some is rest = let same : n ≡ number = omega (arith, is) in rw same at some
     by false none is rest = rest is
 
-pub next_number-above : (m : Commands) (tick player number : ℕ) → number < 65536 → IsSome (get m (name_at tick player number))
+pub next_number-above : (m : CommandMap) (tick player number : ℕ) → number < 65536 → IsSome (get m (name_at tick player number))
     → number < next_number m tick player
 next_number-above m tick player number below held = above_below m tick player 65536 number below held
 
-pub next_number-held : (m : Commands) (tick player number : ℕ) → next_number m tick player ≡ number + 1
+pub next_number-held : (m : CommandMap) (tick player number : ℕ) → next_number m tick player ≡ number + 1
     → IsSome (get m (name_at tick player number))
 next_number-held m tick player number is = held_below m tick player 65536 number is

@@ -1,6 +1,6 @@
 -- A refused event changes nothing.
 use Rattle.std.proofs.Common.{rules, ◌≡◌, ℕ, List, Result, Ok, Err, refl}
-use Rattle.pf_shapes.specs.Body.{State}
+use Rattle.pf_shapes.specs.Body.{BodyState}
 use Rattle.pf_commands.specs.declared.map.Put.{Put}
 use Rattle.pf_console.specs.declared.event.Event.{Event}
 use Rattle.pf_console.specs.declared.event.Event.TheVariants.{Issue, Take, Advance, Show}
@@ -28,7 +28,7 @@ took_answers peer put refusal is = search rules
 advanced_answers : (peer reached : ℕ) → IsAnswer (Advanced peer reached)
 advanced_answers peer reached refusal is = search rules
 
-shown_answers : (peer tick : ℕ) (world : List State) → IsAnswer (Shown peer tick world)
+shown_answers : (peer tick : ℕ) (world : List BodyState) → IsAnswer (Shown peer tick world)
 shown_answers peer tick world refusal is = search rules
 
 pub refused_is_same : (p : Peer) (event : Event) (refusal : Refusal) → reply_of p event ≡ Refused refusal → after p event ≡ p

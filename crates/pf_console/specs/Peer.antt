@@ -2,8 +2,8 @@
 -- and leaves; and the abstract session of one peer, an event after the other.
 use Rattle.std.specs.Prelude.{◌≡◌, ℕ, zero, suc, ◌+◌, List, [], ◌∷◌, Option, Some, None, Result, Ok, Err, IsErr, is_some, nat_le, if◌then◌else◌}
 use Rattle.std.specs.FinMap.{get, empty}
-use Rattle.pf_shapes.specs.Body.{State}
-use Rattle.pf_shapes.specs.Scene.{Setting}
+use Rattle.pf_shapes.specs.Body.{BodyState}
+use Rattle.pf_shapes.specs.Scene.{Scene}
 use Rattle.pf_commands.specs.declared.checking.CheckFault.{CheckFault}
 use Rattle.pf_commands.specs.declared.fault.FrameFault.{FrameFault}
 use Rattle.pf_commands.specs.declared.map.Put.{Put}
@@ -11,7 +11,7 @@ use Rattle.pf_commands.specs.declared.payload.Command.{Command}
 use Rattle.pf_commands.specs.declared.payload.Payload.{Payload}
 use Rattle.pf_commands.specs.Check.{check_of}
 use Rattle.pf_commands.specs.Frame.{spelling}
-use Rattle.pf_commands.specs.Merge.{Commands, merge, one, name_at}
+use Rattle.pf_commands.specs.Merge.{CommandMap, merge, one, name_at}
 use Rattle.pf_commands.specs.News.{answer_to}
 use Rattle.pf_console.specs.declared.event.Event.{Event}
 use Rattle.pf_console.specs.declared.event.Event.TheVariants.{Issue, Take, Advance, Show}
@@ -23,7 +23,7 @@ use Rattle.pf_console.specs.declared.peer.Peer.{Peer}
 use Rattle.pf_console.specs.Simulation.{sim}
 
 -- a peer holds no commands at first, and is at tick 0
-abbrev pub fresh : Setting → Peer
+abbrev pub fresh : Scene → Peer
 fresh scene = record { scene = scene; commands = empty; reached = 0 }
 
 -- an answer, where the scene allows it
@@ -43,13 +43,13 @@ taking p (Ok c) = putting p c
 taking p (Err fault) = Err (Frame fault)
 
 -- one more than the greatest number below n under which the map holds a command of the tick and player, or 0
-unfoldable pub number_below : Commands → ℕ → ℕ → ℕ → ℕ
+unfoldable pub number_below : CommandMap → ℕ → ℕ → ℕ → ℕ
 number_below commands tick player zero = 0
 number_below commands tick player (suc n) =
     if is_some (get commands (name_at tick player n)) then suc n else number_below commands tick player n
 
 -- the number of the next command of a tick and player
-abbrev pub next_number : Commands → ℕ → ℕ → ℕ
+abbrev pub next_number : CommandMap → ℕ → ℕ → ℕ
 next_number commands tick player = number_below commands tick player 65536
 
 -- a number that was answered is the next one, and no answer says that the greatest there can be is held
@@ -79,7 +79,7 @@ advancing p ticks =
     if nat_le (p.reached + ticks) 1048576 then Ok (p.reached + ticks, record p { reached = p.reached + ticks }) else Err TickLimit
 
 -- it shows each tick that it has reached: the simulation from tick zero of the commands that it holds
-unfoldable pub showing : Peer → ℕ → Result (List State × Peer) Refusal
+unfoldable pub showing : Peer → ℕ → Result (List BodyState × Peer) Refusal
 showing p tick = if nat_le tick p.reached then Ok (sim p.scene p.commands tick, p) else Err (NotReached p.reached)
 
 -- ---- the session

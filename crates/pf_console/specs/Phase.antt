@@ -9,7 +9,7 @@ use Rattle.pf_shapes.specs.declared.fault.SceneFault.TheVariants.{BadLine}
 use Rattle.pf_shapes.specs.declared.reader.Progress.{Progress}
 use Rattle.pf_shapes.specs.declared.reader.Progress.TheVariants.{More, Ended}
 use Rattle.pf_shapes.specs.Fault.{scene_fault_of}
-use Rattle.pf_shapes.specs.Scene.{Setting}
+use Rattle.pf_shapes.specs.Scene.{Scene}
 use Rattle.pf_shapes.specs.SceneText.{line_of}
 use Rattle.pf_console.specs.declared.event.Event.{Event}
 use Rattle.pf_console.specs.declared.peer.Peer.{Peer}
@@ -30,12 +30,12 @@ onward (Ok (Ended scene)) = Ok ([], Seating scene)
 onward (Err fault) = Err fault
 
 -- peers begin fresh
-abbrev pub begun : Setting → Result ℤ LineFault → Answer
+abbrev pub begun : Scene → Result ℤ LineFault → Answer
 begun scene (Ok count) = Ok ([], Playing (fresh scene))
 begun scene (Err fault) = Err (scene_fault_of fault)
 
 -- `peers 1`
-unfoldable pub seated : Setting → List (List ℕ) → Answer
+unfoldable pub seated : Scene → List (List ℕ) → Answer
 seated scene (word ∷ count ∷ []) =
     if bytes_eq word (codes "peers") then begun scene (within (pos 1) (pos 1) (whole_of count)) else Err BadLine
 seated scene fields = Err BadLine

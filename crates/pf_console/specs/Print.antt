@@ -2,8 +2,8 @@
 use Rattle.std.specs.Prelude.{ℕ, ◌+◌, ℤ, pos, Bool, true, false, List, [], ◌∷◌, ◌++◌, codes, if◌then◌else◌}
 use Rattle.hex.specs.Hex.{encode_lower}
 use Rattle.pf_text.specs.Words.{words_text, line_text}
-use Rattle.pf_shapes.specs.Fixture.{FixtureDef, is_static}
-use Rattle.pf_shapes.specs.Body.{State}
+use Rattle.pf_shapes.specs.Fixture.{Fixture, is_static}
+use Rattle.pf_shapes.specs.Body.{BodyState}
 use Rattle.pf_commands.specs.declared.payload.Command.{Command}
 use Rattle.pf_commands.specs.declared.payload.Payload.{Payload}
 use Rattle.pf_commands.specs.declared.payload.Payload.TheVariants.{Push, Turn, Stop}
@@ -31,25 +31,25 @@ flag true = pos 1
 flag false = pos 0
 
 -- the numbers of a body's line: I X Y C S VX VY W TIMER AWAKE
-abbrev pub body_numbers : ℕ → State → List ℤ
+abbrev pub body_numbers : ℕ → BodyState → List ℤ
 body_numbers i b =
-    pos i ∷ b.place.x ∷ b.place.y ∷ b.rot.c ∷ b.rot.s ∷ b.vel.x ∷ b.vel.y ∷ b.spin ∷ pos b.timer ∷ flag b.awake ∷ []
+    pos i ∷ b.position.x ∷ b.position.y ∷ b.rotation.c ∷ b.rotation.s ∷ b.velocity.x ∷ b.velocity.y ∷ b.spin ∷ pos b.timer ∷ flag b.awake ∷ []
 
-abbrev pub body_text : ℕ → State → List ℕ
+abbrev pub body_text : ℕ → BodyState → List ℕ
 body_text i b = line_text (codes "body") (body_numbers i b)
 
 -- the line of a body, if it moves
-abbrev pub moving_text : ℕ → FixtureDef → State → List ℕ
+abbrev pub moving_text : ℕ → Fixture → BodyState → List ℕ
 moving_text i f b = if is_static f then [] else body_text i b
 
 -- a line for each body that moves, the first of which has this number
-unfoldable pub bodies_text : ℕ → List FixtureDef → List State → List ℕ
+unfoldable pub bodies_text : ℕ → List Fixture → List BodyState → List ℕ
 bodies_text i (f ∷ fixtures) (b ∷ bodies) =
     moving_text i f b ++ bodies_text (i + 1) fixtures bodies
 bodies_text i fixtures bodies = []
 
 -- the block of a world
-unfoldable pub block_text : List FixtureDef → ℕ → ℕ → List State → List ℕ
+unfoldable pub block_text : List Fixture → ℕ → ℕ → List BodyState → List ℕ
 block_text fixtures peer tick bodies =
     line_text (codes "show") (pos peer ∷ pos tick ∷ []) ++ bodies_text 0 fixtures bodies ++ line_text (codes "end") []
 
@@ -69,7 +69,7 @@ refusal_text (Check fault) = refused_text (check_fault_name fault)
 refusal_text (NotReached reached) = line_text (codes "refused NotReached") (pos reached ∷ [])
 
 -- the text of a reply, whose worlds have these fixtures
-unfoldable pub reply_text : List FixtureDef → Reply → List ℕ
+unfoldable pub reply_text : List Fixture → Reply → List ℕ
 reply_text fixtures (Issued peer frame) = answer_text (codes "issue") peer (encode_lower frame)
 reply_text fixtures (Took peer put) = answer_text (codes "take") peer (put_name put)
 reply_text fixtures (Advanced peer reached) = line_text (codes "advance") (pos peer ∷ pos reached ∷ [])

@@ -5,14 +5,14 @@ ghost use Rattle.std.specs.FinMap.{get};
 ghost use Rattle.hex.specs.Hex.{encode_lower};
 ghost use Rattle.pf_text.specs.Driver.{answers};
 ghost use Rattle.pf_rot.specs.Laws.{IsAtMostOne};
-ghost use Rattle.pf_shapes.specs.Body.{State};
-ghost use Rattle.pf_shapes.specs.Scene.{IsSetting, Setting};
+ghost use Rattle.pf_shapes.specs.Body.{BodyState};
+ghost use Rattle.pf_shapes.specs.Scene.{IsScene, Scene};
 ghost use Rattle.pf_commands.specs.declared.payload.Command.{Command};
 ghost use Rattle.pf_commands.specs.declared.payload.Payload.{Payload};
 ghost use Rattle.pf_commands.specs.Frame.{IsFrameable, decode_of, spelling};
 ghost use Rattle.pf_commands.specs.Payload.{IsPayload};
-ghost use Rattle.pf_commands.specs.Name.{CommandName};
-ghost use Rattle.pf_commands.specs.Merge.{Commands, AreCommands, IsCommand, merge, name_at, one, payloads_at, put_all};
+ghost use Rattle.pf_commands.specs.Name.{Name};
+ghost use Rattle.pf_commands.specs.Merge.{CommandMap, IsCommandMap, IsCommand, merge, name_at, one, payloads_at, put_all};
 ghost use Rattle.pf_console.specs.declared.event.Event.{Event};
 ghost use Rattle.pf_console.specs.declared.event.Event.TheVariants.{Show};
 ghost use Rattle.pf_console.specs.declared.event.Reply.TheVariants.{Refused, Shown};
@@ -55,7 +55,7 @@ pub fn printed_frames_are_read()
 
 /// A body that sleeps stays as it is at every later tick, up to a command for it.
 pub fn sleepers_stay()
-    ensures { (scene : Setting) (commands : Commands) (tick later i : ℕ) (body : State)
+    ensures { (scene : Scene) (commands : CommandMap) (tick later i : ℕ) (body : BodyState)
         → slice_get (sim scene commands tick) i ≡ Some body → body.awake ≡ false
         → ((t : ℕ) → tick ≤ t → t < tick + later → NoneFor i (payloads_at commands t))
         → slice_get (sim scene commands (tick + later)) i ≡ Some body }
@@ -63,8 +63,8 @@ pub fn sleepers_stay()
 
 /// No rotation of a world has a part above 1: what the bounds of a box ask for to hold it in exact numbers.
 pub fn rotations_stay_at_most_one()
-    ensures { (scene : Setting) (commands : Commands) (tick : ℕ) → IsSetting scene
-        → All (λ b. IsAtMostOne b.rot) (sim scene commands tick) }
+    ensures { (scene : Scene) (commands : CommandMap) (tick : ℕ) → IsScene scene
+        → All (λ b. IsAtMostOne b.rotation) (sim scene commands tick) }
 {}
 
 /// A refused event changes nothing, and so no later answer.
@@ -74,7 +74,7 @@ pub fn refused_events_change_nothing()
 
 /// A command for a tick changes no world at a tick up to that one.
 pub fn commands_change_later_worlds()
-    ensures { (scene : Setting) (commands : Commands) (name : CommandName) (payload : Payload) (tick : ℕ) → tick ≤ name.tick
+    ensures { (scene : Scene) (commands : CommandMap) (name : Name) (payload : Payload) (tick : ℕ) → tick ≤ name.tick
         → sim scene (merge commands (one name payload)) tick ≡ sim scene commands tick }
 {}
 
@@ -82,14 +82,14 @@ pub fn commands_change_later_worlds()
 /// later events alike.
 pub fn same_commands_same_worlds()
     ensures { (peer other : Peer) (later : List Event) → peer.scene ≡ other.scene → peer.reached ≡ other.reached
-        → ((name : CommandName) → get peer.commands name ≡ get other.commands name)
+        → ((name : Name) → get peer.commands name ≡ get other.commands name)
         → replies peer later ≡ replies other later }
 {}
 
 /// Lists of events that bring a peer the same commands, in any order and with any repeats, and take it to the same
 /// tick, are followed by the same worlds, and the same answers to all later events.
 pub fn order_and_repeats_do_not_matter()
-    ensures { (peer : Peer) (events others later : List Event) → AreCommands peer.commands
+    ensures { (peer : Peer) (events others later : List Event) → IsCommandMap peer.commands
         → All IsCommand (handed peer events)
         → ((c : Command) → Contains (handed peer events) c ↔ Contains (handed peer others) c)
         → (played peer events).reached ≡ (played peer others).reached
@@ -99,7 +99,7 @@ pub fn order_and_repeats_do_not_matter()
 /// What a peer issues, each peer of its scene takes: the frame that is answered spells the command, and taking the command
 /// is not refused.
 pub fn issued_commands_can_be_taken()
-    ensures spelled { (peer after : Peer) (payload : Payload) (frame : List ℕ) → IsSetting peer.scene → IsPayload payload
+    ensures spelled { (peer after : Peer) (payload : Payload) (frame : List ℕ) → IsScene peer.scene → IsPayload payload
         → issuing peer payload ≡ Ok (frame, after) → decode_of frame ≡ Ok (next_command peer payload) }
     ensures taken { (peer other after : Peer) (payload : Payload) (frame : List ℕ) → peer.scene ≡ other.scene
         → issuing peer payload ≡ Ok (frame, after) → IsOk (taking other (Ok (next_command peer payload))) }
@@ -108,8 +108,8 @@ pub fn issued_commands_can_be_taken()
 /// The number of a peer's next command is above each number that is held at its tick for its player, and where it is not
 /// 0 the number before it is held: so it is 0, or one more than the greatest.
 pub fn numbers_follow_the_greatest()
-    ensures above { (m : Commands) (tick player number : ℕ) → number < 65536 → IsSome (get m (name_at tick player number))
+    ensures above { (m : CommandMap) (tick player number : ℕ) → number < 65536 → IsSome (get m (name_at tick player number))
         → number < next_number m tick player }
-    ensures held { (m : Commands) (tick player number : ℕ) → next_number m tick player ≡ number + 1
+    ensures held { (m : CommandMap) (tick player number : ℕ) → next_number m tick player ≡ number + 1
         → IsSome (get m (name_at tick player number)) }
 {}

@@ -47,12 +47,12 @@ fn body_numbers(number: usize, body: &BodyState) -> [i64; 10]
 {
     [
         number as i64,
-        body.place.x.raw(),
-        body.place.y.raw(),
-        body.rot.c.raw(),
-        body.rot.s.raw(),
-        body.vel.x.raw(),
-        body.vel.y.raw(),
+        body.position.x.raw(),
+        body.position.y.raw(),
+        body.rotation.c.raw(),
+        body.rotation.s.raw(),
+        body.velocity.x.raw(),
+        body.velocity.y.raw(),
         body.spin.raw(),
         i64::from(body.timer),
         i64::from(body.awake),

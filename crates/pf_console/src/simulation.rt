@@ -25,9 +25,9 @@ pub struct World {
 
 impl Model for World {
     ghost use Rattle.std.specs.Prelude.{List};
-    ghost use Rattle.pf_shapes.specs.Body.{State};
+    ghost use Rattle.pf_shapes.specs.Body.{BodyState};
 
-    ghost Value = { List State };
+    ghost Value = { List BodyState };
 
     ghost view = { λ w. w.bodies.items };
 }
@@ -117,7 +117,7 @@ fn commanded(fixture: &Fixture, payload: &Payload, body: BodyState) -> BodyState
     };
     match *payload {
         Payload::Push { x, y, .. } => BodyState {
-            vel: body.vel.add(V2 { x, y }.scale(fixture.inverse_mass())),
+            velocity: body.velocity.add(V2 { x, y }.scale(fixture.inverse_mass())),
             ..woken
         },
         Payload::Turn { x, .. } => BodyState {
@@ -134,7 +134,7 @@ fn stopped(body: BodyState) -> BodyState
     ensures { result ≡ stopped body }
 {
     BodyState {
-        vel: V2::ZERO,
+        velocity: V2::ZERO,
         spin: Fx::ZERO,
         ..body
     }
@@ -170,20 +170,20 @@ fn fallen(pull: V2, body: BodyState) -> BodyState
     ensures { result ≡ fallen pull body }
 {
     BodyState {
-        vel: body.vel.add(pull),
+        velocity: body.velocity.add(pull),
         ..body
     }
 }
 
-/// The phase Places.
+/// The phase Positions.
 #[inline]
 #[tactic(auto, unfolding(crate::specs::Simulation::moved))]
 fn moved(body: BodyState) -> BodyState
     ensures { result ≡ moved body }
 {
     BodyState {
-        place: body.place.add(body.vel.scale(Fx::TICK)),
-        rot: body.rot.turn(body.spin),
+        position: body.position.add(body.velocity.scale(Fx::TICK)),
+        rotation: body.rotation.turn(body.spin),
         ..body
     }
 }
@@ -211,7 +211,7 @@ fn is_still(body: BodyState) -> bool
     ensures { result ≡ is_still body }
 {
     let spin = body.spin;
-    is_slow(body.vel) && spin.raw().unsigned_abs() <= STILL_SPIN
+    is_slow(body.velocity) && spin.raw().unsigned_abs() <= STILL_SPIN
 }
 
 /// Whether a velocity is at most `STILL_SPEED`.

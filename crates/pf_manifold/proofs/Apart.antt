@@ -2,8 +2,8 @@
 use Rattle.std.proofs.Common.{◌≡◌, ℕ, ◌+◌, ◌<◌, Some, List, [], ◌∷◌, ◌++◌, length, take, drop, get_or, map, refl, sym, ap, ◌∙◌}
 use Rattle.std.proofs.lemmas.List.{take-append-drop}
 use Rattle.std.proofs.lemmas.List.Concat.{flat_map-append}
-use Rattle.pf_shapes.specs.Fixture.{FixtureDef}
-use Rattle.pf_shapes.specs.Body.{State}
+use Rattle.pf_shapes.specs.Fixture.{Fixture}
+use Rattle.pf_shapes.specs.Body.{BodyState}
 use Rattle.pf_broad.specs.declared.pair.Pair.{Pair}
 use Rattle.pf_manifold.specs.Contact.{Contact}
 use Rattle.pf_manifold.specs.Placed.{PlacedShape}
@@ -20,14 +20,14 @@ map_empty : {A B : Type 0} (f : A → B) (xs : List A) → map f xs ≡ [] → x
 map_empty f [] e = refl
 map_empty f (x ∷ xs) e = absurd (cc)
 
-first_empty : (fixtures : List FixtureDef) (bodies : List State) (pairs : List Pair) (i : ℕ)
+first_empty : (fixtures : List Fixture) (bodies : List BodyState) (pairs : List Pair) (i : ℕ)
     → touches fixtures bodies pairs ≡ [] → touches fixtures bodies (take i pairs) ≡ []
 first_empty fixtures bodies pairs i none =
     (both_empty (touches fixtures bodies (take i pairs)) (touches fixtures bodies (drop i pairs))
     (sym (flat_map-append (touches_of fixtures bodies) (take i pairs) (drop i pairs))
     ∙ ap (touches fixtures bodies) (take-append-drop i pairs) ∙ none)).0
 
-pub pair_apart : (fixtures : List FixtureDef) (bodies : List State) (pairs : List Pair) (i : ℕ) (d : Pair) (a b : PlacedShape) (points : List Contact)
+pub pair_apart : (fixtures : List Fixture) (bodies : List BodyState) (pairs : List Pair) (i : ℕ) (d : Pair) (a b : PlacedShape) (points : List Contact)
     → i < length pairs → body_at fixtures bodies (get_or pairs i d).a ≡ Some a → body_at fixtures bodies (get_or pairs i d).b ≡ Some b → points ≡ collide a b
     → touches fixtures bodies pairs ≡ [] → points ≡ []
 pair_apart fixtures bodies pairs i d a b points lt is_a is_b are none =

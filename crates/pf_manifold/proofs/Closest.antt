@@ -1,11 +1,11 @@
--- The point of a box that is closest to a place, and the face that is closest to it.
+-- The point of a box that is closest to a position, and the face that is closest to it.
 use Rattle.std.proofs.Common.{◌≡◌, ℕ, ◌≤◌, ℤ, pos, neg_ℤ, ◌-ℤ◌, ◌≤ℤ◌, Bool, true, false, refl, arith}
 use Rattle.std.proofs.lemmas.Int.{ints, clamps}
 use Rattle.std.proofs.Math.Nat.{mul-le-mul}
 use Rattle.std.specs.Int.RustNames.{unsigned_abs}
 use Rattle.std.specs.Int.Signed.{≤ℤ_refl}
 use Rattle.std.specs.Prelude.{int_lt, if◌then◌else◌}
-use Rattle.pf_rot.specs.Vector.{Vec2}
+use Rattle.pf_rot.specs.Vector.{V2}
 use Rattle.pf_manifold.specs.declared.face.Face.{Face}
 use Rattle.pf_manifold.specs.declared.face.Face.TheVariants.{Right, Top, Left, Bottom}
 use Rattle.pf_manifold.specs.Face.{face_number}
@@ -37,7 +37,7 @@ clamped-closest h z w low high = omega (arith, ints, clamps)
 pub squared_le : (m n : ℕ) → m ≤ n → squared m ≤ squared n
 squared_le m n h = mul-le-mul h h
 
-pub point_is_closest : (half d : Vec2) → pos 0 ≤ℤ half.x → pos 0 ≤ℤ half.y → IsClosest half d (closest_point half d)
+pub point_is_closest : (half d : V2) → pos 0 ≤ℤ half.x → pos 0 ≤ℤ half.y → IsClosest half d (closest_point half d)
 unfolding closest_point
 point_is_closest half d sx sy = record {
   inside = record {
@@ -52,7 +52,7 @@ point_is_closest half d sx sy = record {
       omega (arith, along_x, along_y);
 }
 
-pub itself_is_closest : (half d : Vec2) → IsInBox half d → closest_point half d ≡ d
+pub itself_is_closest : (half d : V2) → IsInBox half d → closest_point half d ≡ d
 unfolding closest_point
 itself_is_closest half d inside =
     vector_by_parts _ _ (clamped-within half.x d.x inside.left inside.right) (clamped-within half.y d.y inside.below inside.above)
@@ -60,13 +60,13 @@ itself_is_closest half d inside =
 -- ---- the closest face
 
 -- of two faces the closer one is as close as either, and it is the second only where that is closer than the first
-record IsCloser (half d : Vec2) (best face closer : Face) : Type 0 where
+record IsCloser (half d : V2) (best face closer : Face) : Type 0 where
   as_first : face_distance half d closer ≤ℤ face_distance half d best
   as_second : face_distance half d closer ≤ℤ face_distance half d face
   tie : face_distance half d best ≤ℤ face_distance half d closer → closer ≡ best
   one_of : (n : ℕ) → face_number best ≤ n → face_number face ≤ n → face_number closer ≤ n
 
-closer_is : (half d : Vec2) (best face : Face) → IsCloser half d best face (closer_face half d best face)
+closer_is : (half d : V2) (best face : Face) → IsCloser half d best face (closer_face half d best face)
 unfolding closer_face
 closer_is half d best face = by (int_lt (face_distance half d face) (face_distance half d best)) refl
   where
@@ -87,19 +87,19 @@ closer_is half d best face = by (int_lt (face_distance half d face) (face_distan
     }
 
 -- the closest of the first two faces, and of the first three
-abbrev of_two : Vec2 → Vec2 → Face
+abbrev of_two : V2 → V2 → Face
 of_two half d = closer_face half d Right Top
 
-abbrev of_three : Vec2 → Vec2 → Face
+abbrev of_three : V2 → V2 → Face
 of_three half d = closer_face half d (of_two half d) Left
 
 -- what the three choices say of the face that they end at
-record AreChoices (half d : Vec2) : Type 0 where
+record AreChoices (half d : V2) : Type 0 where
   first : IsCloser half d Right Top (of_two half d)
   second : IsCloser half d (of_two half d) Left (of_three half d)
   third : IsCloser half d (of_three half d) Bottom (closest_face half d)
 
-choices : (half d : Vec2) → AreChoices half d
+choices : (half d : V2) → AreChoices half d
 unfolding closest_face
 choices half d = record {
   first = closer_is half d Right Top;
@@ -107,13 +107,13 @@ choices half d = record {
   third = closer_is half d (of_three half d) Bottom;
 }
 
-pub face_is_closest : (half d : Vec2) (face : Face) → face_distance half d (closest_face half d) ≤ℤ face_distance half d face
+pub face_is_closest : (half d : V2) (face : Face) → face_distance half d (closest_face half d) ≤ℤ face_distance half d face
 face_is_closest half d Right = let c = choices half d in omega (arith, ints, c.first.as_first, c.second.as_first, c.third.as_first)
 face_is_closest half d Top = let c = choices half d in omega (arith, ints, c.first.as_second, c.second.as_first, c.third.as_first)
 face_is_closest half d Left = let c = choices half d in omega (arith, ints, c.second.as_second, c.third.as_first)
 face_is_closest half d Bottom = let c = choices half d in c.third.as_second
 
-pub face_is_earliest : (half d : Vec2) (face : Face) → face_distance half d face ≡ face_distance half d (closest_face half d)
+pub face_is_earliest : (half d : V2) (face : Face) → face_distance half d face ≡ face_distance half d (closest_face half d)
     → face_number (closest_face half d) ≤ face_number face
 face_is_earliest half d Right e =
     let c = choices half d in

@@ -5,8 +5,8 @@ use Rattle.std.specs.Prelude.{int_lt}
 use Rattle.pf_num.specs.Fx.{product}
 use Rattle.pf_num.proofs.Operations.{product_comm, product-neg, sum-neg, difference-neg, difference-swap}
 use Rattle.pf_num.proofs.Signs.{magnitude-neg}
-use Rattle.pf_rot.specs.Vector.{Vec2, minus, negated}
-use Rattle.pf_rot.specs.Rotation.{Pair, unrotated}
+use Rattle.pf_rot.specs.Vector.{V2, sub, neg}
+use Rattle.pf_rot.specs.Rotation.{Rot, unrotate}
 use Rattle.pf_shapes.specs.Reach.{reach}
 use Rattle.pf_manifold.specs.Placed.{OrientedBox}
 use Rattle.pf_manifold.specs.Separation.{Frames, relative_rotation, frames_apart_by, frames_of, magnitudes, reaches, face_separations, Separations, separations_of, has_gap}
@@ -17,11 +17,11 @@ use Rattle.pf_manifold.proofs.Mirrors.{minus-swap}
 -- ---- frames
 
 -- a rotation the other way
-abbrev turned_back : Pair → Pair
+abbrev turned_back : Rot → Rot
 turned_back q = record { c = q.c; s = neg_ℤ q.s }
 
-unrotated-negated : (q : Pair) (v : Vec2) → unrotated q (negated v) ≡ negated (unrotated q v)
-unfolding unrotated negated
+unrotated-negated : (q : Rot) (v : V2) → unrotate q (neg v) ≡ neg (unrotate q v)
+unfolding unrotate neg
 unrotated-negated q v =
     rw (
       product-neg q.c v.x,
@@ -32,7 +32,7 @@ unrotated-negated q v =
       difference-neg (product q.c v.y) (product q.s v.x),
     ) refl
 
-relative-swap : (a b : Pair) → relative_rotation b a ≡ turned_back (relative_rotation a b)
+relative-swap : (a b : Rot) → relative_rotation b a ≡ turned_back (relative_rotation a b)
 unfolding relative_rotation
 relative-swap a b =
     rw (
@@ -45,37 +45,37 @@ relative-swap a b =
 
 -- the boxes the other way round see each other from the opposite offsets
 abbrev seen_back : Frames → Frames
-seen_back f = record { in_a = negated f.in_b; in_b = negated f.in_a; relative = turned_back f.relative }
+seen_back f = record { in_a = neg f.in_b; in_b = neg f.in_a; relative = turned_back f.relative }
 
 frames-swap : (a b : OrientedBox) → frames_of b a ≡ seen_back (frames_of a b)
 unfolding frames_of frames_apart_by
 frames-swap a b =
     rw (
-      minus-swap a.place b.place,
-      unrotated-negated b.rot (minus b.place a.place),
-      unrotated-negated a.rot (minus b.place a.place),
-      relative-swap a.rot b.rot,
+      minus-swap a.position b.position,
+      unrotated-negated b.rotation (sub b.position a.position),
+      unrotated-negated a.rotation (sub b.position a.position),
+      relative-swap a.rotation b.rotation,
     ) refl
 
 -- ---- separations
 
-magnitudes-negated : (v : Vec2) → magnitudes (negated v) ≡ magnitudes v
-unfolding magnitudes negated
+magnitudes-negated : (v : V2) → magnitudes (neg v) ≡ magnitudes v
+unfolding magnitudes neg
 magnitudes-negated v = rw (magnitude-neg v.x, magnitude-neg v.y) refl
 
-reaches-turned_back : (q : Pair) (half : Vec2) → reaches (turned_back q) half ≡ reaches q half
+reaches-turned_back : (q : Rot) (half : V2) → reaches (turned_back q) half ≡ reaches q half
 unfolding reaches reach
 reaches-turned_back q half = rw (magnitude-neg q.s) refl
 
-separations-back : (half offset : Vec2) (q : Pair) (other : Vec2)
-    → face_separations half (negated offset) (turned_back q) other ≡ face_separations half offset q other
+separations-back : (half offset : V2) (q : Rot) (other : V2)
+    → face_separations half (neg offset) (turned_back q) other ≡ face_separations half offset q other
 unfolding face_separations
 separations-back half offset q other = rw (magnitudes-negated offset, reaches-turned_back q other) refl
 
 abbrev exchanged : Separations → Separations
 exchanged s = record { a = s.b; b = s.a }
 
-separations-swap : (a b : Vec2) (f : Frames) → separations_of b a (seen_back f) ≡ exchanged (separations_of a b f)
+separations-swap : (a b : V2) (f : Frames) → separations_of b a (seen_back f) ≡ exchanged (separations_of a b f)
 unfolding separations_of
 separations-swap a b f = rw (separations-back b f.in_b f.relative a, separations-back a f.in_a f.relative b) refl
 

@@ -6,9 +6,9 @@ use Rattle.std.specs.Int.RustNames.{unsigned_abs}
 use Rattle.std.specs.Option.{IsSome}
 use Rattle.std.specs.Prelude.{int_lt, if◌then◌else◌}
 use Rattle.pf_num.specs.Root.{whole_root}
-use Rattle.pf_num.specs.Fx.{saturated, sum, difference}
+use Rattle.pf_num.specs.Fx.{saturate, sum, difference}
 use Rattle.pf_num.proofs.Roots.{whole_root-meets, root_below}
-use Rattle.pf_rot.specs.Vector.{Vec2, minus, length_of}
+use Rattle.pf_rot.specs.Vector.{V2, sub, length_of}
 use Rattle.pf_shapes.specs.Fixture.{IsSize}
 use Rattle.pf_manifold.specs.Contact.{Contact}
 use Rattle.pf_manifold.specs.Circles.{circles_apart_by, collide_circles}
@@ -43,23 +43,23 @@ held_squares d e n g h = (
 -- ---- a length and what reaches it
 
 magnitude-difference : (x y : ℤ) → unsigned_abs (difference x y) ≡ min (unsigned_abs (y -ℤ x)) 36028797018963967
-unfolding difference saturated
+unfolding difference saturate
 magnitude-difference x y = omega (arith, ints, clamps)
 
-at_most : (k r : ℕ) → k < 36028797018963967 → saturated (pos r) ≤ℤ pos k → r ≤ k
-unfolding saturated
+at_most : (k r : ℕ) → k < 36028797018963967 → saturate (pos r) ≤ℤ pos k → r ≤ k
+unfolding saturate
 at_most k r h low = omega (arith, ints, clamps)
 
-reaches : (k r : ℕ) → r ≤ k → int_lt (pos k) (saturated (pos r)) ≡ false
-unfolding saturated
-reaches k r h = let e : saturated (pos r) ≤ℤ pos k = omega (arith, ints, clamps) in tests_above (pos k) (saturated (pos r)) e
+reaches : (k r : ℕ) → r ≤ k → int_lt (pos k) (saturate (pos r)) ≡ false
+unfolding saturate
+reaches k r h = let e : saturate (pos r) ≤ℤ pos k = omega (arith, ints, clamps) in tests_above (pos k) (saturate (pos r)) e
 
 -- a whole root, held at the greatest number, is at most k where the number is below the next square
 root_reaches : (k n : ℕ) → k < 36028797018963967
-    → (int_lt (pos k) (saturated (pos (whole_root n))) ≡ false) ↔ (n < squared (k + 1))
+    → (int_lt (pos k) (saturate (pos (whole_root n))) ≡ false) ↔ (n < squared (k + 1))
 root_reaches k n h = (
   λ e.
-      let low : whole_root n ≤ k = at_most k (whole_root n) h (not_above (pos k) (saturated (pos (whole_root n))) e) in
+      let low : whole_root n ≤ k = at_most k (whole_root n) h (not_above (pos k) (saturate (pos (whole_root n))) e) in
       let square : squared (whole_root n + 1) ≤ squared (k + 1) = squared_le (whole_root n + 1) (k + 1) (omega arith) in
       omega (arith, square, (whole_root-meets n).greatest),
   λ less.
@@ -70,7 +70,7 @@ root_reaches k n h = (
 -- ---- two circles
 
 sum_of_sizes : (ra rb : ℤ) → IsSize ra → IsSize rb → sum ra rb ≡ pos (unsigned_abs ra + unsigned_abs rb)
-unfolding sum saturated
+unfolding sum saturate
 sum_of_sizes ra rb ha hb = omega (arith, ints, clamps)
 
 small_sum : (ra rb : ℤ) → IsSize ra → IsSize rb → unsigned_abs ra + unsigned_abs rb + 1 ≤ 36028797018963967
@@ -83,15 +83,15 @@ some_where_not false p = (λ e. refl, λ e. refl)
 then_also : {A B C : Type 0} → A ↔ B → B ↔ C → A ↔ C
 then_also f g = (λ a. g.0 (f.0 a), λ c. f.1 (g.1 c))
 
-distance_reaches : (a b : Vec2) (k : ℕ) → k + 1 ≤ 36028797018963967
-    → (int_lt (pos k) (length_of (minus b a)) ≡ false) ↔ (distance_squared a b < squared (k + 1))
-unfolding length_of minus
+distance_reaches : (a b : V2) (k : ℕ) → k + 1 ≤ 36028797018963967
+    → (int_lt (pos k) (length_of (sub b a)) ≡ false) ↔ (distance_squared a b < squared (k + 1))
+unfolding length_of sub
 distance_reaches a b k h =
     rw (magnitude-difference b.x a.x, magnitude-difference b.y a.y)
     (then_also (root_reaches k _ (omega arith))
     (held_squares (unsigned_abs (a.x -ℤ b.x)) (unsigned_abs (a.y -ℤ b.y)) (k + 1) 36028797018963967 h))
 
-pub circles_meet : (a b : Vec2) (ra rb : ℤ) → IsSize ra → IsSize rb
+pub circles_meet : (a b : V2) (ra rb : ℤ) → IsSize ra → IsSize rb
     → IsSome (collide_circles a ra b rb) ↔ (distance_squared a b < squared (unsigned_abs ra + unsigned_abs rb + 1))
 unfolding collide_circles circles_apart_by
 circles_meet a b ra rb ha hb =

@@ -6,8 +6,8 @@ use Rattle.std.proofs.lemmas.Int.{ints, clamps}
 use Rattle.std.proofs.lemmas.List.Elements.{All-nil, All-cons}
 use Rattle.std.specs.Ordering.{int_eq}
 use Rattle.std.specs.Prelude.{All, int_lt, nat_lt, if◌then◌else◌}
-use Rattle.pf_num.specs.Fx.{saturated, sum, difference}
-use Rattle.pf_rot.specs.Vector.{Vec2, minus, length_of}
+use Rattle.pf_num.specs.Fx.{saturate, sum, difference}
+use Rattle.pf_rot.specs.Vector.{V2, sub, length_of}
 use Rattle.pf_shapes.specs.declared.fixture.Shape.{Shape}
 use Rattle.pf_shapes.specs.declared.fixture.Shape.TheVariants.{Circle, Box}
 use Rattle.pf_shapes.specs.Fixture.{HasSize}
@@ -33,15 +33,15 @@ IfTouching None = Unit {0}
 IfTouching (Some p) = IsTouching p
 
 difference-low : (x y : ℤ) → x ≤ℤ y → difference x y ≤ℤ pos 0
-unfolding difference saturated
+unfolding difference saturate
 difference-low x y h = omega (arith, ints, clamps)
 
 difference-high : (x y : ℤ) → y ≤ℤ x → pos 0 ≤ℤ difference x y
-unfolding difference saturated
+unfolding difference saturate
 difference-high x y h = omega (arith, ints, clamps)
 
 sum-high : (x y : ℤ) → neg_ℤ x ≤ℤ y → pos 0 ≤ℤ sum x y
-unfolding sum saturated
+unfolding sum saturate
 sum-high x y h = omega (arith, ints, clamps)
 
 -- a point is kept where the distance isn't above the reach
@@ -53,10 +53,10 @@ kept_where_near reach distance p e = by (int_lt reach distance) refl
     by true test = tt
     by false test = rw e (difference-low distance reach (not_above reach distance test))
 
-circles_touch : (a b : Vec2) (ra rb : ℤ) → IfTouching (collide_circles a ra b rb)
+circles_touch : (a b : V2) (ra rb : ℤ) → IfTouching (collide_circles a ra b rb)
 unfolding collide_circles circles_apart_by rim_point
 circles_touch a b ra rb =
-    kept_where_near (sum ra rb) (length_of (minus b a)) (rim_point a ra _ (difference (length_of (minus b a)) (sum ra rb))) refl
+    kept_where_near (sum ra rb) (length_of (sub b a)) (rim_point a ra _ (difference (length_of (sub b a)) (sum ra rb))) refl
 
 -- ---- boxes and circles
 
@@ -69,24 +69,24 @@ unfolding clamped
 within_high h z some e = omega (arith, ints, clamps)
 
 -- from inside each face is at a distance from 0 on
-inside_distance : (half d : Vec2) (face : Face) → IsInBox half d → pos 0 ≤ℤ face_distance half d face
+inside_distance : (half d : V2) (face : Face) → IsInBox half d → pos 0 ≤ℤ face_distance half d face
 unfolding face_distance
 inside_distance half d Right h = difference-high half.x d.x h.right
 inside_distance half d Top h = difference-high half.y d.y h.above
 inside_distance half d Left h = sum-high half.x d.x h.left
 inside_distance half d Bottom h = sum-high half.y d.y h.below
 
-inside_touches : (half d : Vec2) (r : ℤ) (face : Face) → pos 0 ≤ℤ r → IsInBox half d → IsTouching (inside_point half r d face)
+inside_touches : (half d : V2) (r : ℤ) (face : Face) → pos 0 ≤ℤ r → IsInBox half d → IsTouching (inside_point half r d face)
 unfolding inside_point
 inside_touches half d r face some h =
     let far = inside_distance half d face h in
     difference-low (neg_ℤ (face_distance half d face)) r (omega (arith, ints, far))
 
-outside_touches : (half d closest e : Vec2) (r : ℤ) → IfTouching (outside_contact half r d closest e)
+outside_touches : (half d closest e : V2) (r : ℤ) → IfTouching (outside_contact half r d closest e)
 unfolding outside_contact outside_point
 outside_touches half d closest e r = kept_where_near r (length_of e) (outside_point half r d closest e) refl
 
-is_inside : (half d : Vec2) → pos 0 ≤ℤ half.x → pos 0 ≤ℤ half.y
+is_inside : (half d : V2) → pos 0 ≤ℤ half.x → pos 0 ≤ℤ half.y
     → (int_eq d.x (clamped half.x d.x) && int_eq d.y (clamped half.y d.y)) ≡ true → IsInBox half d
 is_inside half d sx sy test =
     let both = and_parts (int_eq d.x (clamped half.x d.x)) (int_eq d.y (clamped half.y d.y)) test in
@@ -99,22 +99,22 @@ is_inside half d sx sy test =
       above = within_high half.y d.y sy ey;
     }
 
-contact_touches : (half d : Vec2) (r : ℤ) → pos 0 ≤ℤ half.x → pos 0 ≤ℤ half.y → pos 0 ≤ℤ r
+contact_touches : (half d : V2) (r : ℤ) → pos 0 ≤ℤ half.x → pos 0 ≤ℤ half.y → pos 0 ≤ℤ r
     → IfTouching (contact_at half r d (closest_point half d))
 unfolding contact_at closest_point
 contact_touches half d r sx sy sr = by (int_eq d.x (clamped half.x d.x) && int_eq d.y (clamped half.y d.y)) refl
   where
     by : (t : Bool) → (int_eq d.x (clamped half.x d.x) && int_eq d.y (clamped half.y d.y)) ≡ t
-        → IfTouching (if t then Some (inside_point half r d (closest_face half d)) else outside_contact half r d (closest_point half d) (minus d (closest_point half d)))
+        → IfTouching (if t then Some (inside_point half r d (closest_face half d)) else outside_contact half r d (closest_point half d) (sub d (closest_point half d)))
     by true e = inside_touches half d r (closest_face half d) sr (is_inside half d sx sy e)
-    by false e = outside_touches half d (closest_point half d) (minus d (closest_point half d)) r
+    by false e = outside_touches half d (closest_point half d) (sub d (closest_point half d)) r
 
 world_touches : (b : OrientedBox) (p : Option Contact) → IfTouching p → IfTouching (if_in_world b p)
 unfolding in_world
 world_touches b None h = tt
 world_touches b (Some p) h = h
 
-box_and_circle_touch : (b : OrientedBox) (centre : Vec2) (r : ℤ) → pos 0 ≤ℤ b.half.x → pos 0 ≤ℤ b.half.y → pos 0 ≤ℤ r
+box_and_circle_touch : (b : OrientedBox) (centre : V2) (r : ℤ) → pos 0 ≤ℤ b.half.x → pos 0 ≤ℤ b.half.y → pos 0 ≤ℤ r
     → IfTouching (collide_box_circle b centre r)
 unfolding collide_box_circle
 box_and_circle_touch b centre r sx sy sr =
@@ -180,12 +180,12 @@ boxes_touch a b =
 
 shapes_touch : (s t : Shape) (a b : PlacedShape) → HasSize s → HasSize t → All IsTouching (collide_shapes s t a b)
 unfolding collide_shapes box_at
-shapes_touch (Circle ra) (Circle rb) a b hs ht = one_touches _ (circles_touch a.place b.place ra rb)
+shapes_touch (Circle ra) (Circle rb) a b hs ht = one_touches _ (circles_touch a.position b.position ra rb)
 shapes_touch (Circle r) (Box hx hy) a b hs ht =
     one_touches _ (mirrored_touches _
-    (box_and_circle_touch (box_at hx hy b) a.place r (omega (arith, ints)) (omega (arith, ints)) (omega (arith, ints))))
+    (box_and_circle_touch (box_at hx hy b) a.position r (omega (arith, ints)) (omega (arith, ints)) (omega (arith, ints))))
 shapes_touch (Box hx hy) (Circle r) a b hs ht =
-    one_touches _ (box_and_circle_touch (box_at hx hy a) b.place r (omega (arith, ints)) (omega (arith, ints)) (omega (arith, ints)))
+    one_touches _ (box_and_circle_touch (box_at hx hy a) b.position r (omega (arith, ints)) (omega (arith, ints)) (omega (arith, ints)))
 shapes_touch (Box hx hy) (Box kx ky) a b hs ht = boxes_touch _ _
 
 pub points_touch : (a b : PlacedShape) → HasSize a.shape → HasSize b.shape → All IsTouching (collide a b)

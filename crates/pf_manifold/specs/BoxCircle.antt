@@ -4,8 +4,8 @@ use Rattle.std.specs.Prelude.{ℕ, ◌+◌, ◌*◌, ℤ, neg_ℤ, ◌&&◌, Opt
 use Rattle.std.specs.Ordering.{int_eq}
 use Rattle.std.specs.Int.{int_min, int_max}
 use Rattle.pf_num.specs.Fx.{sum, difference}
-use Rattle.pf_rot.specs.Vector.{Vec2, minus, length_of}
-use Rattle.pf_rot.specs.Rotation.{rotated}
+use Rattle.pf_rot.specs.Vector.{V2, sub, length_of}
+use Rattle.pf_rot.specs.Rotation.{rotate}
 use Rattle.pf_manifold.specs.declared.face.Face.{Face}
 use Rattle.pf_manifold.specs.declared.face.Face.TheVariants.{Right, Top, Left, Bottom}
 use Rattle.pf_manifold.specs.declared.box_circle.Region.{Region}
@@ -22,7 +22,7 @@ unfoldable pub clamped : ℤ → ℤ → ℤ
 clamped h z = int_max (neg_ℤ h) (int_min h z)
 
 -- the point of a box that is closest to d, both in the box's own axes
-unfoldable pub closest_point : Vec2 → Vec2 → Vec2
+unfoldable pub closest_point : V2 → V2 → V2
 closest_point half d = record { x = clamped half.x d.x; y = clamped half.y d.y }
 
 -- where z lies to -h and h, the ends being within
@@ -35,11 +35,11 @@ region_number Within = 1
 region_number Above = 2
 
 -- 128 to 136, by the region of the circle's centre d
-unfoldable pub region_feature : Vec2 → Vec2 → ℕ
+unfoldable pub region_feature : V2 → V2 → ℕ
 region_feature half d = 128 + 3 * region_number (region_of half.x d.x) + region_number (region_of half.y d.y)
 
 -- the point closest to the circle's centre d, which is away from it by e
-unfoldable pub outside_point : Vec2 → ℤ → Vec2 → Vec2 → Vec2 → Contact
+unfoldable pub outside_point : V2 → ℤ → V2 → V2 → V2 → Contact
 outside_point half r d closest e = record {
   feature = region_feature half d;
   position = closest;
@@ -48,28 +48,28 @@ outside_point half r d closest e = record {
 }
 
 -- no point where the closest one is farther than the radius
-unfoldable pub outside_contact : Vec2 → ℤ → Vec2 → Vec2 → Vec2 → Option Contact
+unfoldable pub outside_contact : V2 → ℤ → V2 → V2 → V2 → Option Contact
 outside_contact half r d closest e = if int_lt r (length_of e) then None else Some (outside_point half r d closest e)
 
 -- ---- a circle whose centre is inside the box
 
 -- how far d is from a face
-unfoldable pub face_distance : Vec2 → Vec2 → Face → ℤ
+unfoldable pub face_distance : V2 → V2 → Face → ℤ
 face_distance half d Right = difference half.x d.x
 face_distance half d Top = difference half.y d.y
 face_distance half d Left = sum half.x d.x
 face_distance half d Bottom = sum half.y d.y
 
 -- the second face where it is closer to d, else the first
-unfoldable pub closer_face : Vec2 → Vec2 → Face → Face → Face
+unfoldable pub closer_face : V2 → V2 → Face → Face → Face
 closer_face half d best face = if int_lt (face_distance half d face) (face_distance half d best) then face else best
 
 -- the face that is closest to d, and the earliest of those
-unfoldable pub closest_face : Vec2 → Vec2 → Face
+unfoldable pub closest_face : V2 → V2 → Face
 closest_face half d = closer_face half d (closer_face half d (closer_face half d Right Top) Left) Bottom
 
 -- the point of this face next to the circle's centre d
-unfoldable pub inside_point : Vec2 → ℤ → Vec2 → Face → Contact
+unfoldable pub inside_point : V2 → ℤ → V2 → Face → Contact
 inside_point half r d face = record {
   feature = 140 + face_number face;
   position = from_parts face (front_extent face half) (side_part face d);
@@ -80,20 +80,20 @@ inside_point half r d face = record {
 -- ---- both
 
 -- the point in the box's own axes, of which d is the circle's centre and closest the point closest to that
-unfoldable pub contact_at : Vec2 → ℤ → Vec2 → Vec2 → Option Contact
+unfoldable pub contact_at : V2 → ℤ → V2 → V2 → Option Contact
 contact_at half r d closest =
     if int_eq d.x closest.x && int_eq d.y closest.y then Some (inside_point half r d (closest_face half d))
-    else outside_contact half r d closest (minus d closest)
+    else outside_contact half r d closest (sub d closest)
 
 -- a point in the box's own axes, in the world
 unfoldable pub in_world : OrientedBox → Contact → Contact
-in_world b p = record p { position = to_world b p.position; normal = rotated b.rot p.normal }
+in_world b p = record p { position = to_world b p.position; normal = rotate b.rotation p.normal }
 
 abbrev pub if_in_world : OrientedBox → Option Contact → Option Contact
 if_in_world b None = None
 if_in_world b (Some p) = Some (in_world b p)
 
 -- the point of a box and a circle with this centre and radius, its normal away from the box
-unfoldable pub collide_box_circle : OrientedBox → Vec2 → ℤ → Option Contact
+unfoldable pub collide_box_circle : OrientedBox → V2 → ℤ → Option Contact
 collide_box_circle b centre r =
     if_in_world b (contact_at b.half r (to_box b centre) (closest_point b.half (to_box b centre)))

@@ -2,8 +2,8 @@
 -- reference face, moved to that face.
 use Rattle.std.specs.Prelude.{ℕ, ◌+◌, ◌*◌, ℤ, pos, neg_ℤ, List, [], ◌∷◌, Option, None, Some, nat_lt, int_lt, if◌then◌else◌}
 use Rattle.pf_num.specs.Fx.{difference}
-use Rattle.pf_rot.specs.Vector.{Vec2, negated}
-use Rattle.pf_rot.specs.Rotation.{Pair}
+use Rattle.pf_rot.specs.Vector.{V2, neg}
+use Rattle.pf_rot.specs.Rotation.{Rot}
 use Rattle.pf_manifold.specs.declared.face.Face.{Face}
 use Rattle.pf_manifold.specs.declared.face.Face.TheVariants.{Right, Top, Left, Bottom}
 use Rattle.pf_manifold.specs.declared.incident.Mark.{Mark}
@@ -21,19 +21,19 @@ use Rattle.pf_manifold.specs.Clip.{clipped}
 -- ---- one point
 
 -- the outward normal of a face of a box turned by q, in the world
-unfoldable pub face_normal : Face → Pair → Vec2
+unfoldable pub face_normal : Face → Rot → V2
 face_normal Right q = record { x = q.c; y = q.s }
 face_normal Top q = record { x = neg_ℤ q.s; y = q.c }
 face_normal Left q = record { x = neg_ℤ q.c; y = neg_ℤ q.s }
 face_normal Bottom q = record { x = q.s; y = neg_ℤ q.c }
 
 -- from the box a to the box b, so the other way where the face is b's
-abbrev pub from_a_to_b : Owner → Vec2 → Vec2
+abbrev pub from_a_to_b : Owner → V2 → V2
 from_a_to_b BoxA normal = normal
-from_a_to_b BoxB normal = negated normal
+from_a_to_b BoxB normal = neg normal
 
-unfoldable pub reference_normal : Reference → Vec2
-reference_normal r = from_a_to_b r.owner (face_normal r.face r.box.rot)
+unfoldable pub reference_normal : Reference → V2
+reference_normal r = from_a_to_b r.owner (face_normal r.face r.box.rotation)
 
 -- 0 to 3 for the faces of a, 4 to 7 for those of b
 abbrev pub first_face : Owner → ℕ

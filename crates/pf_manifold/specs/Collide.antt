@@ -1,6 +1,6 @@
 -- The contact points of two bodies by their shapes, as Box2D 2.x's b2Contact::Evaluate.
 use Rattle.std.specs.Prelude.{ℤ, List, Option, None, Some}
-use Rattle.pf_rot.specs.Vector.{negated}
+use Rattle.pf_rot.specs.Vector.{neg}
 use Rattle.pf_shapes.specs.declared.fixture.Shape.{Shape}
 use Rattle.pf_shapes.specs.declared.fixture.Shape.TheVariants.{Circle, Box}
 use Rattle.pf_manifold.specs.Contact.{Contact}
@@ -12,11 +12,11 @@ use Rattle.pf_manifold.specs.Boxes.{collide_boxes}
 
 -- a box of these half extents where the body is
 unfoldable pub box_at : ℤ → ℤ → PlacedShape → OrientedBox
-box_at hx hy p = record { half = record { x = hx; y = hy }; place = p.place; rot = p.rot }
+box_at hx hy p = record { half = record { x = hx; y = hy }; position = p.position; rotation = p.rotation }
 
 -- the point with its normal the other way
 unfoldable pub mirrored : Contact → Contact
-mirrored p = record p { normal = negated p.normal }
+mirrored p = record p { normal = neg p.normal }
 
 abbrev pub if_mirrored : Option Contact → Option Contact
 if_mirrored None = None
@@ -24,9 +24,9 @@ if_mirrored (Some p) = Some (mirrored p)
 
 -- by the shapes of a and b: a box and a circle are seen from the box
 unfoldable pub collide_shapes : Shape → Shape → PlacedShape → PlacedShape → List Contact
-collide_shapes (Circle ra) (Circle rb) a b = at_most_one (collide_circles a.place ra b.place rb)
-collide_shapes (Box hx hy) (Circle r) a b = at_most_one (collide_box_circle (box_at hx hy a) b.place r)
-collide_shapes (Circle r) (Box hx hy) a b = at_most_one (if_mirrored (collide_box_circle (box_at hx hy b) a.place r))
+collide_shapes (Circle ra) (Circle rb) a b = at_most_one (collide_circles a.position ra b.position rb)
+collide_shapes (Box hx hy) (Circle r) a b = at_most_one (collide_box_circle (box_at hx hy a) b.position r)
+collide_shapes (Circle r) (Box hx hy) a b = at_most_one (if_mirrored (collide_box_circle (box_at hx hy b) a.position r))
 collide_shapes (Box hx hy) (Box kx ky) a b = collide_boxes (box_at hx hy a) (box_at kx ky b)
 
 -- the points of the bodies a and b

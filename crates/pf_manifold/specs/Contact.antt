@@ -1,11 +1,11 @@
 -- A contact point, as Box2D-Lite's Contact and Box2D 2.x's b2ManifoldPoint.
 use Rattle.std.specs.Prelude.{ℕ, ℤ}
-use Rattle.pf_rot.specs.Vector.{Vec2}
+use Rattle.pf_rot.specs.Vector.{V2}
 
 -- what makes the point, as a number; where it is; the normal from the first body to the second, of length 1 but for
 -- rounding; and how far the bodies are apart along it, below 0 where they overlap
 pub record Contact : Type 0 where
   pub feature : ℕ
-  pub position : Vec2
-  pub normal : Vec2
+  pub position : V2
+  pub normal : V2
   pub separation : ℤ

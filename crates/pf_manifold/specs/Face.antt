@@ -1,7 +1,7 @@
 -- The faces of a box, as the edges of Box2D-Lite's Collide.cpp, counterclockwise from the one on the right.
 use Rattle.std.specs.Prelude.{ℕ, ℤ, pos, neg_ℤ}
 use Rattle.pf_num.specs.Fx.{one}
-use Rattle.pf_rot.specs.Vector.{Vec2}
+use Rattle.pf_rot.specs.Vector.{V2}
 use Rattle.pf_manifold.specs.declared.face.Face.{Face}
 use Rattle.pf_manifold.specs.declared.face.Face.TheVariants.{Right, Top, Left, Bottom}
 
@@ -12,35 +12,35 @@ face_number Left = 2
 face_number Bottom = 3
 
 -- how far the face is from the centre
-abbrev pub front_extent : Face → Vec2 → ℤ
+abbrev pub front_extent : Face → V2 → ℤ
 front_extent Right half = half.x
 front_extent Top half = half.y
 front_extent Left half = half.x
 front_extent Bottom half = half.y
 
 -- the part of v along the face
-abbrev pub side_part : Face → Vec2 → ℤ
+abbrev pub side_part : Face → V2 → ℤ
 side_part Right v = v.y
 side_part Top v = v.x
 side_part Left v = v.y
 side_part Bottom v = v.x
 
 -- the part of v along the face's outward normal
-abbrev pub front_part : Face → Vec2 → ℤ
+abbrev pub front_part : Face → V2 → ℤ
 front_part Right v = v.x
 front_part Top v = v.y
 front_part Left v = neg_ℤ v.x
 front_part Bottom v = neg_ℤ v.y
 
 -- the vector with this part along the outward normal, and this part along the face
-abbrev pub from_parts : Face → ℤ → ℤ → Vec2
+abbrev pub from_parts : Face → ℤ → ℤ → V2
 from_parts Right front side = record { x = front; y = side }
 from_parts Top front side = record { x = side; y = front }
 from_parts Left front side = record { x = neg_ℤ front; y = side }
 from_parts Bottom front side = record { x = side; y = neg_ℤ front }
 
 -- the outward normal, in the box's own axes
-abbrev pub outward : Face → Vec2
+abbrev pub outward : Face → V2
 outward Right = record { x = one; y = pos 0 }
 outward Top = record { x = pos 0; y = one }
 outward Left = record { x = neg_ℤ one; y = pos 0 }

@@ -2,8 +2,8 @@
 -- as a segment in the reference face's own directions.
 use Rattle.std.specs.Prelude.{ℕ, ℤ, pos, neg_ℤ, int_lt, if◌then◌else◌}
 use Rattle.std.specs.Int.RustNames.{unsigned_abs}
-use Rattle.pf_rot.specs.Vector.{Vec2, plus}
-use Rattle.pf_rot.specs.Rotation.{Pair, rotated}
+use Rattle.pf_rot.specs.Vector.{V2, add}
+use Rattle.pf_rot.specs.Rotation.{Rot, rotate}
 use Rattle.pf_manifold.specs.declared.face.Face.{Face}
 use Rattle.pf_manifold.specs.declared.face.Face.TheVariants.{Right, Top, Left, Bottom}
 use Rattle.pf_manifold.specs.declared.incident.Mark.{Mark}
@@ -14,14 +14,14 @@ use Rattle.pf_manifold.specs.Reference.{Reference}
 -- ---- the edge
 
 -- the way into the reference face, in the axes of the incident box, which is turned by q
-unfoldable pub inward : Face → Pair → Vec2
+unfoldable pub inward : Face → Rot → V2
 inward Right q = record { x = neg_ℤ q.c; y = q.s }
 inward Top q = record { x = neg_ℤ q.s; y = neg_ℤ q.c }
 inward Left q = record { x = q.c; y = neg_ℤ q.s }
 inward Bottom q = record { x = q.s; y = q.c }
 
 -- the edge that looks most in the direction n: on the right or left only where n is more along x than along y
-unfoldable pub edge_along : Vec2 → Face
+unfoldable pub edge_along : V2 → Face
 edge_along n =
     if int_lt (pos (unsigned_abs n.y)) (pos (unsigned_abs n.x)) then (if int_lt (pos 0) n.x then Right else Left)
     else (if int_lt (pos 0) n.y then Top else Bottom)
@@ -32,13 +32,13 @@ incident_edge r = edge_along (inward r.face r.relative)
 -- ---- its ends
 
 -- the ends of an edge, counterclockwise, in the axes of its box of these half extents
-abbrev pub first_corner : Face → Vec2 → Vec2
+abbrev pub first_corner : Face → V2 → V2
 first_corner Right half = record { x = half.x; y = neg_ℤ half.y }
 first_corner Top half = record { x = half.x; y = half.y }
 first_corner Left half = record { x = neg_ℤ half.x; y = half.y }
 first_corner Bottom half = record { x = neg_ℤ half.x; y = neg_ℤ half.y }
 
-abbrev pub second_corner : Face → Vec2 → Vec2
+abbrev pub second_corner : Face → V2 → V2
 second_corner Right half = record { x = half.x; y = half.y }
 second_corner Top half = record { x = neg_ℤ half.x; y = half.y }
 second_corner Left half = record { x = neg_ℤ half.x; y = neg_ℤ half.y }
@@ -58,13 +58,13 @@ pub record ClipVertex : Type 0 where
   pub side : ℤ
   pub mark : Mark
 
--- a place in the reference box's axes
-unfoldable pub vertex_of : Face → Mark → Vec2 → ClipVertex
+-- a position in the reference box's axes
+unfoldable pub vertex_of : Face → Mark → V2 → ClipVertex
 vertex_of face mark v = record { front = front_part face v; side = side_part face v; mark = mark }
 
 -- a corner of the incident box
-unfoldable pub corner_vertex : Reference → Mark → Vec2 → ClipVertex
-corner_vertex r mark corner = vertex_of r.face mark (plus r.offset (rotated r.relative corner))
+unfoldable pub corner_vertex : Reference → Mark → V2 → ClipVertex
+corner_vertex r mark corner = vertex_of r.face mark (add r.offset (rotate r.relative corner))
 
 -- what is left of the edge
 pub record Segment : Type 0 where

@@ -1,7 +1,7 @@
 -- What laws of contact points speak of.
 use Rattle.std.specs.Prelude.{◌≡◌, ℕ, pos, ◌≤ℤ◌, List, map, Some, slice_get}
 use Rattle.std.specs.List.Sorted.{IsStrictlyIncreasing}
-use Rattle.pf_rot.specs.Vector.{negated}
+use Rattle.pf_rot.specs.Vector.{neg}
 use Rattle.pf_manifold.specs.Contact.{Contact}
 
 -- each point has a greater feature than the one before it
@@ -15,7 +15,7 @@ HaveDifferentFeatures points =
 
 -- as many points, as far apart, with the opposite normals
 pub record IsMirrored (points others : List Contact) : Type 0 where
-  pub normals : map (λ p. p.normal) others ≡ map (λ p. negated p.normal) points
+  pub normals : map (λ p. p.normal) others ≡ map (λ p. neg p.normal) points
   pub separations : map (λ p. p.separation) others ≡ map (λ p. p.separation) points
 
 -- the bodies overlap at the point, or just meet

@@ -1,7 +1,7 @@
--- What laws of places, edges and boxes speak of, in exact whole numbers of raw units.
+-- What laws of positions, edges and boxes speak of, in exact whole numbers of raw units.
 use Rattle.std.specs.Prelude.{◌+◌, ◌≤◌, ℤ, ◌-ℤ◌, neg_ℤ, ◌<ℤ◌, Bool}
 use Rattle.std.specs.Int.RustNames.{unsigned_abs}
-use Rattle.pf_rot.specs.Vector.{Vec2}
+use Rattle.pf_rot.specs.Vector.{V2}
 use Rattle.pf_shapes.specs.Fixture.{IsWithin}
 use Rattle.pf_shapes.specs.Laws.{IsInBox, distance_squared}
 use Rattle.pf_manifold.specs.Incident.{ClipVertex, Segment}
@@ -10,10 +10,10 @@ use Rattle.pf_manifold.specs.Separation.{frames_of, separations_of, has_gap}
 
 -- ---- closest points
 
--- p is in the box, and no place in the box is closer to d
-pub record IsClosest (half d p : Vec2) : Type 0 where
+-- p is in the box, and no position in the box is closer to d
+pub record IsClosest (half d p : V2) : Type 0 where
   pub inside : IsInBox half p
-  pub closest : (q : Vec2) → IsInBox half q → distance_squared d p ≤ distance_squared d q
+  pub closest : (q : V2) → IsInBox half q → distance_squared d p ≤ distance_squared d q
 
 -- ---- edges
 
@@ -41,5 +41,5 @@ have_gap a b = has_gap (separations_of a.half b.half (frames_of a b))
 
 -- as upright boxes they overlap or just meet: on each axis the centres are no farther apart than the half extents reach
 pub record DoOverlap (a b : OrientedBox) : Type 0 where
-  pub x : unsigned_abs (b.place.x -ℤ a.place.x) ≤ unsigned_abs a.half.x + unsigned_abs b.half.x
-  pub y : unsigned_abs (b.place.y -ℤ a.place.y) ≤ unsigned_abs a.half.y + unsigned_abs b.half.y
+  pub x : unsigned_abs (b.position.x -ℤ a.position.x) ≤ unsigned_abs a.half.x + unsigned_abs b.half.x
+  pub y : unsigned_abs (b.position.y -ℤ a.position.y) ≤ unsigned_abs a.half.y + unsigned_abs b.half.y

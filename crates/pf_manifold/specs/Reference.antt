@@ -1,8 +1,8 @@
 -- The reference box and its reference face, as Box2D's b2CollidePolygons: of two boxes the one whose face the best axis
 -- is normal to. The other box is the incident one.
 use Rattle.std.specs.Prelude.{pos, neg_ℤ, int_lt, if◌then◌else◌}
-use Rattle.pf_rot.specs.Vector.{Vec2, negated}
-use Rattle.pf_rot.specs.Rotation.{Pair}
+use Rattle.pf_rot.specs.Vector.{V2, neg}
+use Rattle.pf_rot.specs.Rotation.{Rot}
 use Rattle.pf_manifold.specs.declared.face.Face.{Face}
 use Rattle.pf_manifold.specs.declared.face.Face.TheVariants.{Right, Top, Left, Bottom}
 use Rattle.pf_manifold.specs.declared.separation.Axis.{Axis}
@@ -18,12 +18,12 @@ pub record Reference : Type 0 where
   pub owner : Owner
   pub box : OrientedBox
   pub face : Face
-  pub incident : Vec2
-  pub offset : Vec2
-  pub relative : Pair
+  pub incident : V2
+  pub offset : V2
+  pub relative : Rot
 
 -- the face on this axis that looks towards the other box, at this offset
-unfoldable pub face_towards : Axis → Vec2 → Face
+unfoldable pub face_towards : Axis → V2 → Face
 face_towards AX offset = if int_lt (pos 0) offset.x then Right else Left
 face_towards AY offset = if int_lt (pos 0) offset.y then Top else Bottom
 face_towards BX offset = if int_lt (pos 0) offset.x then Right else Left
@@ -44,9 +44,9 @@ unfoldable pub reference_b : OrientedBox → OrientedBox → Frames → Axis →
 reference_b a b f axis = record {
   owner = BoxB;
   box = b;
-  face = face_towards axis (negated f.in_b);
+  face = face_towards axis (neg f.in_b);
   incident = a.half;
-  offset = negated f.in_b;
+  offset = neg f.in_b;
   relative = record { c = f.relative.c; s = neg_ℤ f.relative.s };
 }
 

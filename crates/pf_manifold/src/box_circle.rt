@@ -172,7 +172,7 @@ fn in_world(at: &PlacedBox, point: Point) -> Point
 {
     Point {
         position: at.to_world(point.position),
-        normal: at.rot.rotate(point.normal),
+        normal: at.rotation.rotate(point.normal),
         ..point
     }
 }

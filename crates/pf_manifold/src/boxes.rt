@@ -40,7 +40,7 @@ fn reference_normal(r: &Reference) -> V2
     ensures { result ≡ reference_normal r.now }
 {
     let at = r.at;
-    let normal = face_normal(r.face, at.rot);
+    let normal = face_normal(r.face, at.rotation);
     match r.owner {
         Owner::BoxA => normal,
         Owner::BoxB => normal.neg(),

@@ -19,7 +19,7 @@ pub fn divided(v: V2, length: Fx) -> V2
     }
 }
 
-/// The normal of circles whose centres are apart by `d`: along it, and upwards where they are one place.
+/// The normal of circles whose centres are apart by `d`: along it, and upwards where they are one position.
 #[inline]
 #[tactic(auto, unfolding(crate::specs::Circles::circle_normal))]
 fn circle_normal(d: V2, length: Fx) -> V2
@@ -38,12 +38,12 @@ fn circle_normal(d: V2, length: Fx) -> V2
 /// The point on the rim of a circle along this normal.
 #[inline]
 #[tactic(auto, unfolding(crate::specs::Circles::rim_point))]
-fn rim_point(place: V2, r: Fx, normal: V2, separation: Fx) -> Point
-    ensures { result ≡ rim_point place r normal separation }
+fn rim_point(position: V2, r: Fx, normal: V2, separation: Fx) -> Point
+    ensures { result ≡ rim_point position r normal separation }
 {
     Point {
         feature: 0,
-        position: place.add(normal.scale(r)),
+        position: position.add(normal.scale(r)),
         normal,
         separation,
     }
@@ -52,8 +52,8 @@ fn rim_point(place: V2, r: Fx, normal: V2, separation: Fx) -> Point
 /// The point of circles whose centres are apart by `d`, if they touch.
 #[inline]
 #[tactic(auto, unfolding(crate::specs::Circles::circles_apart_by))]
-fn circles_apart_by(place: V2, ra: Fx, rb: Fx, d: V2) -> Option<Point>
-    ensures { result ≡ circles_apart_by place ra rb d }
+fn circles_apart_by(position: V2, ra: Fx, rb: Fx, d: V2) -> Option<Point>
+    ensures { result ≡ circles_apart_by position ra rb d }
 {
     let length = d.length();
     let reach = ra.add(rb);
@@ -61,7 +61,7 @@ fn circles_apart_by(place: V2, ra: Fx, rb: Fx, d: V2) -> Option<Point>
         return None;
     }
     let normal = circle_normal(d, length);
-    Some(rim_point(place, ra, normal, length.sub(reach)))
+    Some(rim_point(position, ra, normal, length.sub(reach)))
 }
 
 /// The point of the circles at `a` and `b`, of radii `ra` and `rb`, if they touch.

@@ -147,7 +147,7 @@ fn second_corner(edge: Face, half: V2) -> V2
     }
 }
 
-/// A place in the reference box's axes as a point of the edge.
+/// A position in the reference box's axes as a point of the edge.
 #[inline]
 #[tactic(auto, unfolding(crate::specs::Incident::vertex_of))]
 fn vertex_of(face: Face, mark: Mark, v: V2) -> Vertex

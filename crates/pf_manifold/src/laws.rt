@@ -2,7 +2,7 @@
 
 ghost use Rattle.std.specs.Prelude.{◌≡◌, ◌≢◌, ◌+◌, ◌<◌, ◌≤◌, ◌⊎◌, ◌↔◌, ℤ, pos, ◌≤ℤ◌, true, false, [], length, All, IsSome};
 ghost use Rattle.std.specs.Int.RustNames.{unsigned_abs};
-ghost use Rattle.pf_rot.specs.Vector.{Vec2};
+ghost use Rattle.pf_rot.specs.Vector.{V2};
 ghost use Rattle.pf_rot.specs.Rotation.{upright};
 ghost use Rattle.pf_shapes.specs.declared.fixture.Shape.TheVariants.{Circle, Box};
 ghost use Rattle.pf_shapes.specs.Fixture.{IsSize, HasSize};
@@ -26,9 +26,9 @@ pub fn features_ascend()
     ensures different { (a b : PlacedShape) → HaveDifferentFeatures (collide a b) }
 {}
 
-/// Two circles in two places, or a box and a circle, are the other way round as far apart, with the opposite normal.
+/// Two circles in two positions, or a box and a circle, are the other way round as far apart, with the opposite normal.
 pub fn circles_mirror()
-    ensures circles { (a b : PlacedShape) (ra rb : ℤ) → a.shape ≡ Circle ra → b.shape ≡ Circle rb → a.place ≢ b.place
+    ensures circles { (a b : PlacedShape) (ra rb : ℤ) → a.shape ≡ Circle ra → b.shape ≡ Circle rb → a.position ≢ b.position
         → IsMirrored (collide a b) (collide b a) }
     ensures box_and_circle { (a b : PlacedShape) (hx hy r : ℤ) → a.shape ≡ Box hx hy → b.shape ≡ Circle r
         → IsMirrored (collide a b) (collide b a) }
@@ -39,13 +39,13 @@ pub fn points_touch()
     ensures { (a b : PlacedShape) → HasSize a.shape → HasSize b.shape → All IsTouching (collide a b) }
 {}
 
-/// The closest point of a box is in the box, and none in it is closer, by exact distances; a place in the box is its own.
+/// The closest point of a box is in the box, and none in it is closer, by exact distances; a position in the box is its own.
 /// The closest face is one that no face is closer than, and of those the first.
 pub fn closest_points_are_closest()
-    ensures point { (half d : Vec2) → pos 0 ≤ℤ half.x → pos 0 ≤ℤ half.y → IsClosest half d (closest_point half d) }
-    ensures itself { (half d : Vec2) → IsInBox half d → closest_point half d ≡ d }
-    ensures face { (half d : Vec2) (face : Face) → face_distance half d (closest_face half d) ≤ℤ face_distance half d face }
-    ensures earliest { (half d : Vec2) (face : Face) → face_distance half d face ≡ face_distance half d (closest_face half d)
+    ensures point { (half d : V2) → pos 0 ≤ℤ half.x → pos 0 ≤ℤ half.y → IsClosest half d (closest_point half d) }
+    ensures itself { (half d : V2) → IsInBox half d → closest_point half d ≡ d }
+    ensures face { (half d : V2) (face : Face) → face_distance half d (closest_face half d) ≤ℤ face_distance half d face }
+    ensures earliest { (half d : V2) (face : Face) → face_distance half d face ≡ face_distance half d (closest_face half d)
         → face_number (closest_face half d) ≤ face_number face }
 {}
 
@@ -61,7 +61,7 @@ pub fn clipped_edges_lie_within()
 /// Two circles of allowed radii have a point exactly where their exact distance, rounded down, is at most the sum of the
 /// radii: where its square is below the square of that sum and one more unit.
 pub fn circles_touch_where_they_reach()
-    ensures { (a b : Vec2) (ra rb : ℤ) → IsSize ra → IsSize rb
+    ensures { (a b : V2) (ra rb : ℤ) → IsSize ra → IsSize rb
         → (IsSome (collide_circles a ra b rb) ↔ (distance_squared a b < squared (unsigned_abs ra + unsigned_abs rb + 1))) }
 {}
 
@@ -74,6 +74,6 @@ pub fn gaps_are_mirrored()
 /// Two upright boxes of allowed sizes have no gap exactly where on both axes the exact distance of their centres is at
 /// most the sum of their half extents.
 pub fn upright_boxes_meet_where_they_overlap()
-    ensures { (a b : OrientedBox) → a.rot ≡ upright → b.rot ≡ upright → HasSize (Box a.half.x a.half.y)
+    ensures { (a b : OrientedBox) → a.rotation ≡ upright → b.rotation ≡ upright → HasSize (Box a.half.x a.half.y)
         → HasSize (Box b.half.x b.half.y) → ((have_gap a b ≡ false) ↔ DoOverlap a b) }
 {}

@@ -1,4 +1,4 @@
-//! Contact points of circles and boxes, by their outlines, places and rotations.
+//! Contact points of circles and boxes, by their outlines, positions and rotations.
 #![tactic(auto)]
 
 mod box_circle;

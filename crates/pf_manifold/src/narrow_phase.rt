@@ -22,8 +22,8 @@ fn box_at(hx: Fx, hy: Fx, body: &Placed) -> PlacedBox
 {
     PlacedBox {
         half: V2 { x: hx, y: hy },
-        place: body.place,
-        rot: body.rot,
+        position: body.position,
+        rotation: body.rotation,
     }
 }
 
@@ -40,20 +40,20 @@ fn mirrored(point: Point) -> Point
 }
 
 /// Where two bodies touch: up to two points, in ascending order of features, with normals from `a` to
-/// `b`. It answers for all places, rotations and sizes, and takes no memory.
+/// `b`. It answers for all positions, rotations and sizes, and takes no memory.
 #[tactic(auto, unfolding(crate::specs::Collide::collide, crate::specs::Collide::collide_shapes))]
 pub fn collide(a: &Placed, b: &Placed) -> Manifold
     ensures { points_of result ≡ collide a.now b.now }
 {
     match (a.shape, b.shape) {
         (Shape::Circle { r: ra }, Shape::Circle { r: rb }) => {
-            at_most_one(collide_circles(a.place, *ra, b.place, *rb))
+            at_most_one(collide_circles(a.position, *ra, b.position, *rb))
         }
         (Shape::Box { hx, hy }, Shape::Circle { r }) => {
-            at_most_one(collide_box_circle(&box_at(*hx, *hy, a), b.place, *r))
+            at_most_one(collide_box_circle(&box_at(*hx, *hy, a), b.position, *r))
         }
         (Shape::Circle { r }, Shape::Box { hx, hy }) => {
-            let point = collide_box_circle(&box_at(*hx, *hy, b), a.place, *r);
+            let point = collide_box_circle(&box_at(*hx, *hy, b), a.position, *r);
             at_most_one(point.map(mirrored))
         }
         (Shape::Box { hx, hy }, Shape::Box { hx: kx, hy: ky }) => {

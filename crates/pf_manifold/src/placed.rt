@@ -12,16 +12,16 @@ use std::marker::Model;
 pub struct Placed<'a> {
     /// The outline.
     pub shape: &'a Shape,
-    /// The place of its centre, in units of 2^-24 of a length.
-    pub place: V2,
+    /// The position of its centre, in units of 2^-24 of a length.
+    pub position: V2,
     /// The rotation.
-    pub rot: Rot,
+    pub rotation: Rot,
 }
 
 impl<'a> Model for Placed<'a> {
     ghost Value = { PlacedShape };
 
-    ghost view = { λ p. record { shape = p.shape.now; place = p.place; rot = p.rot } };
+    ghost view = { λ p. record { shape = p.shape.now; position = p.position; rotation = p.rotation } };
 }
 
 /// A box where it is.
@@ -29,37 +29,37 @@ impl<'a> Model for Placed<'a> {
 pub struct PlacedBox {
     /// Half the width and half the height, in units of 2^-24 of a length.
     pub half: V2,
-    /// The place of its centre.
-    pub place: V2,
+    /// The position of its centre.
+    pub position: V2,
     /// The rotation.
-    pub rot: Rot,
+    pub rotation: Rot,
 }
 
 impl Model for PlacedBox {
     ghost Value = { OrientedBox };
 
-    ghost view = { λ b. record { half = b.half; place = b.place; rot = b.rot } };
+    ghost view = { λ b. record { half = b.half; position = b.position; rotation = b.rotation } };
 }
 
 impl PlacedBox {
     ghost use Rattle.std.specs.Prelude.{◌≡◌};
     ghost use Rattle.pf_manifold.specs.Placed.{to_box, to_world};
 
-    /// A place of the world in the box's own axes, seen from its centre.
+    /// A position of the world in the box's own axes, seen from its centre.
     #[inline]
     #[tactic(auto, unfolding(crate::specs::Placed::to_box))]
-    pub fn to_box(&self, place: V2) -> V2
-        ensures { result ≡ to_box self.now place }
+    pub fn to_box(&self, position: V2) -> V2
+        ensures { result ≡ to_box self.now position }
     {
-        self.rot.unrotate(place.sub(self.place))
+        self.rotation.unrotate(position.sub(self.position))
     }
 
-    /// A place in the box's own axes, in the world.
+    /// A position in the box's own axes, in the world.
     #[inline]
     #[tactic(auto, unfolding(crate::specs::Placed::to_world))]
-    pub fn to_world(&self, place: V2) -> V2
-        ensures { result ≡ to_world self.now place }
+    pub fn to_world(&self, position: V2) -> V2
+        ensures { result ≡ to_world self.now position }
     {
-        self.place.add(self.rot.rotate(place))
+        self.position.add(self.rotation.rotate(position))
     }
 }

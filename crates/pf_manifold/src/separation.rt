@@ -99,7 +99,7 @@ fn frames_apart_by(a: Rot, b: Rot, offset: V2) -> Frames
 pub fn frames_of(a: &PlacedBox, b: &PlacedBox) -> Frames
     ensures { result ≡ frames_of a.now b.now }
 {
-    frames_apart_by(a.rot, b.rot, b.place.sub(a.place))
+    frames_apart_by(a.rotation, b.rotation, b.position.sub(a.position))
 }
 
 /// Each part without its sign.

@@ -38,8 +38,8 @@ fn body<'a>(rt: &impl Abort, shape: &'a Shape, at: [i64; 4]) -> Placed<'a> {
     let pair = vector(rt, at[2], at[3]);
     Placed {
         shape,
-        place: vector(rt, at[0], at[1]),
-        rot: Rot {
+        position: vector(rt, at[0], at[1]),
+        rotation: Rot {
             c: pair.x,
             s: pair.y,
         },
@@ -66,7 +66,7 @@ fn points(manifold: Manifold) -> [[i64; 6]; 2] {
 }
 
 // The normal the other way.
-fn turned(rt: &impl Abort, [feature, x, y, nx, ny, separation]: [i64; 6]) -> [i64; 6] {
+fn turn(rt: &impl Abort, [feature, x, y, nx, ny, separation]: [i64; 6]) -> [i64; 6] {
     let normal = vector(rt, nx, ny).neg();
     [feature, x, y, normal.x.raw(), normal.y.raw(), separation]
 }
@@ -89,7 +89,7 @@ fn a_box_and_a_circle(rt: HostRuntime) {
         let a = body(&rt, &first, a);
         let b = body(&rt, &second, b);
         assert_eq!(&rt; points(collide(&a, &b)), [point, NONE]);
-        assert_eq!(&rt; points(collide(&b, &a)), [turned(&rt, point), NONE]);
+        assert_eq!(&rt; points(collide(&b, &a)), [turn(&rt, point), NONE]);
     }
 }
 
@@ -111,7 +111,7 @@ fn two_boxes(rt: HostRuntime) {
     laws::upright_boxes_meet_where_they_overlap();
 }
 
-// Radius and place of either circle, with any pair, and their point.
+// Radius and position of either circle, with any pair, and their point.
 #[rattlefmt::skip]
 const CIRCLES: [(i64, [i64; 4], i64, [i64; 4], [i64; 6]); 8] = [
     (16777216, [0, 0, 16777216, 0], 16777216, [33554432, 0, 16777216, 0], [0, 16777216, 0, 16777216, 0, 0]),
@@ -124,7 +124,7 @@ const CIRCLES: [(i64, [i64; 4], i64, [i64; 4], [i64; 6]); 8] = [
     (36028797018963967, [-36028797018963967, 5, 16777216, 0], 7, [36028797018963967, -1, 16777216, 0], [0, 0, 5, 16777216, 0, 0]),
 ];
 
-// Half extents, place and pair of the box, radius and place of the circle, and their point: in each region
+// Half extents, position and pair of the box, radius and position of the circle, and their point: in each region
 // outside the box, and next to each face inside it.
 #[rattlefmt::skip]
 const BOXES_AND_CIRCLES: [([i64; 2], [i64; 4], i64, [i64; 4], [i64; 6]); 21] = [
@@ -151,7 +151,7 @@ const BOXES_AND_CIRCLES: [([i64; 2], [i64; 4], i64, [i64; 4], [i64; 6]); 21] = [
     ([36028797018963967, 36028797018963967], [0, 36028797018963967, 36028797018963967, 0], 0, [0, 76, 16777216, 0], [143, 0, 0, 0, -36028797018963967, 0]),
 ];
 
-// Half extents, place and pair of either box, and their points: with each kind of cut, of faces of either
+// Half extents, position and pair of either box, and their points: with each kind of cut, of faces of either
 // box, and with numbers that are held at the ends of the range.
 #[rattlefmt::skip]
 const BOXES: [([i64; 2], [i64; 4], [i64; 2], [i64; 4], [[i64; 6]; 2]); 20] = [
@@ -220,7 +220,7 @@ fn points_are_listed_by_pairs(rt: HostRuntime) -> Result<(), Fail> {
     Ok(())
 }
 
-/// Boxes and circles of the rows above, at their places there.
+/// Boxes and circles of the rows above, at their positions there.
 const MANY: &[u8] = b"gravity 0 0
 box - 16777216 0 16777216 16777216 0 0 16777216 0
 circle - 16777216 0 16777216 33554432 33554432

@@ -42,8 +42,8 @@ fn placed<'a>(scene: &'a Scene, bodies: &[BodyState], number: usize) -> Placed<'
     let body = &bodies[number];
     Placed {
         shape: scene.fixtures()[number].shape(),
-        place: body.place,
-        rot: body.rot,
+        position: body.position,
+        rotation: body.rotation,
     }
 }
 

@@ -6,7 +6,7 @@ use Rattle.std.proofs.lemmas.Int.{ints, clamps, unsigned_abs-mul}
 use Rattle.std.proofs.Math.Nat.{mul-le-mul_left, mul-le-mul_right}
 use Rattle.std.specs.Int.RustNames.{unsigned_abs}
 use Rattle.pf_num.specs.Round.{nearest, near}
-use Rattle.pf_num.specs.Fx.{saturated, product}
+use Rattle.pf_num.specs.Fx.{saturate, product}
 use Rattle.pf_num.proofs.Nearest.{IsNearest, nearest-meets}
 use Rattle.pf_num.proofs.Signs.{near-pos_pos, near-negsuc_pos, nearest-zero, product_in_range}
 
@@ -50,12 +50,12 @@ near-odd (pos zero) q some = rw (near-pos_pos zero q, nearest-zero q some) refl
 near-odd (pos (suc p)) q some = rw (near-negsuc_pos p q, near-pos_pos (suc p) q) refl
 near-odd (negsuc p) q some = rw (near-pos_pos (suc p) q, near-negsuc_pos p q) (neg-neg (pos (nearest (suc p) q)))
 
-pub saturated-monotone : (a b : ℤ) → a ≤ℤ b → saturated a ≤ℤ saturated b
-unfolding saturated
+pub saturated-monotone : (a b : ℤ) → a ≤ℤ b → saturate a ≤ℤ saturate b
+unfolding saturate
 saturated-monotone a b h = omega (arith, ints, clamps)
 
-pub saturated-odd : (a : ℤ) → saturated (neg_ℤ a) ≡ neg_ℤ (saturated a)
-unfolding saturated
+pub saturated-odd : (a : ℤ) → saturate (neg_ℤ a) ≡ neg_ℤ (saturate a)
+unfolding saturate
 saturated-odd a = omega (arith, ints, clamps)
 
 from_abs : (z : ℤ) (n : ℕ) → unsigned_abs z ≤ n → (neg_ℤ (pos n) ≤ℤ z) × (z ≤ℤ pos n)
@@ -75,9 +75,9 @@ unfolding product
 product_within c p h low high =
     let exact = times_within c p h low high in
     let k = pos (unsigned_abs c) *ℤ h in
-    let turned : neg_ℤ (saturated (near k (pos 16777216))) ≡ saturated (near (neg_ℤ k) (pos 16777216)) =
+    let turn : neg_ℤ (saturate (near k (pos 16777216))) ≡ saturate (near (neg_ℤ k) (pos 16777216)) =
     rw (near-odd k 16777216 (omega arith)) (sym (saturated-odd (near k (pos 16777216)))) in (
-      rw turned (saturated-monotone _ _ (near-monotone (neg_ℤ k) (c *ℤ p) 16777216 (omega arith) exact.0)),
+      rw turn (saturated-monotone _ _ (near-monotone (neg_ℤ k) (c *ℤ p) 16777216 (omega arith) exact.0)),
       saturated-monotone _ _ (near-monotone (c *ℤ p) k 16777216 (omega arith) exact.1),
     )
 

@@ -122,8 +122,8 @@ from_zero b = omega (arith, ints)
 cancel : (n : ℤ) → n +ℤ neg_ℤ n ≡ pos 0
 cancel n = omega (arith, ints)
 
-minus : (x y z : ℤ) → y +ℤ z ≡ pos 0 → x +ℤ z ≡ x -ℤ y
-minus x y z e = omega (arith, ints)
+sub : (x y z : ℤ) → y +ℤ z ≡ pos 0 → x +ℤ z ≡ x -ℤ y
+sub x y z e = omega (arith, ints)
 
 rest : (p x y : ℤ) → y -ℤ x ≡ (p -ℤ x) -ℤ (p -ℤ y)
 rest p x y = omega (arith, ints)
@@ -163,7 +163,7 @@ sum_times m b q =
 difference_times : (m n q : ℤ) → (m -ℤ n) *ℤ q ≡ m *ℤ q -ℤ n *ℤ q
 difference_times m n q =
     let whole : n *ℤ q +ℤ neg_ℤ n *ℤ q ≡ pos 0 = sym (sum_times n (neg_ℤ n) q) ∙ ap (λ (k : ℤ). k *ℤ q) (cancel n) ∙ zero-*ℤ q in
-    sum_times m (neg_ℤ n) q ∙ minus (m *ℤ q) (n *ℤ q) (neg_ℤ n *ℤ q) whole
+    sum_times m (neg_ℤ n) q ∙ sub (m *ℤ q) (n *ℤ q) (neg_ℤ n *ℤ q) whole
 
 apart_is : (p q n m : ℤ) → (m -ℤ n) *ℤ q ≡ (p -ℤ n *ℤ q) -ℤ (p -ℤ m *ℤ q)
 apart_is p q n m = difference_times m n q ∙ rest p (n *ℤ q) (m *ℤ q)

@@ -6,7 +6,7 @@ use Rattle.std.specs.Bool.{beq}
 use Rattle.std.specs.Int.{is_negative}
 use Rattle.std.specs.Int.RustNames.{unsigned_abs}
 use Rattle.pf_num.specs.Round.{IsNear, nearest, near, with_sign, is_opposite}
-use Rattle.pf_num.specs.Fx.{one, saturated, sum, difference, product, quotient, IsRaw}
+use Rattle.pf_num.specs.Fx.{one, saturate, sum, difference, product, quotient, IsRaw}
 use Rattle.pf_num.proofs.Monotone.{saturated-odd}
 use Rattle.pf_num.proofs.Nearest.{meets, unique}
 use Rattle.pf_num.proofs.Signs.{product_is, quotient_is, nearest-zero, is_negative-pos}
@@ -14,7 +14,7 @@ use Rattle.pf_num.proofs.Signs.{product_is, quotient_is, nearest-zero, is_negati
 -- ---- sums and differences
 
 pub sum_comm : (a b : ℤ) → sum a b ≡ sum b a
-unfolding sum saturated
+unfolding sum saturate
 sum_comm a b = omega (arith, ints, clamps)
 
 pub difference-swap : (a b : ℤ) → difference a b ≡ neg_ℤ (difference b a)
@@ -23,28 +23,28 @@ difference-swap a b =
     let e : a -ℤ b ≡ neg_ℤ (b -ℤ a) = omega (arith, ints) in rw e (saturated-odd (b -ℤ a))
 
 pub sum-neg : (a b : ℤ) → sum (neg_ℤ a) (neg_ℤ b) ≡ neg_ℤ (sum a b)
-unfolding sum saturated
+unfolding sum saturate
 sum-neg a b = omega (arith, ints, clamps)
 
 pub difference-neg : (a b : ℤ) → difference (neg_ℤ a) (neg_ℤ b) ≡ neg_ℤ (difference a b)
-unfolding difference saturated
+unfolding difference saturate
 difference-neg a b = omega (arith, ints, clamps)
 
 -- different numbers have a difference
 pub difference-none : (a b : ℤ) → difference b a ≡ pos 0 → a ≡ b
-unfolding difference saturated
+unfolding difference saturate
 difference-none a b e = omega (arith, ints, clamps)
 
 -- a raw number plus or less 0
 pub sum-zero : (z : ℤ) → IsRaw z → sum z (pos 0) ≡ z
-unfolding sum saturated
+unfolding sum saturate
 sum-zero z h = omega (arith, ints, clamps)
 
 pub zero-sum : (z : ℤ) → IsRaw z → sum (pos 0) z ≡ z
 zero-sum z h = sum_comm (pos 0) z ∙ sum-zero z h
 
 pub difference-zero : (z : ℤ) → IsRaw z → difference z (pos 0) ≡ z
-unfolding difference saturated
+unfolding difference saturate
 difference-zero z h = omega (arith, ints, clamps)
 
 -- ---- signs of quotients and products
@@ -82,7 +82,7 @@ unfolding product
 product_comm a b = rw (*ℤ_comm a b) refl
 
 pub product-zero : (b : ℤ) → product (pos 0) b ≡ pos 0
-unfolding product near nearest saturated
+unfolding product near nearest saturate
 product-zero b = rw (zero-*ℤ b) refl
 
 product_of : (a b : ℤ) → with_sign (is_opposite a b) (min (nearest (unsigned_abs a * unsigned_abs b) 16777216) 36028797018963967) ≡ product a b
@@ -108,8 +108,8 @@ itself_is_near z = record {
 near_itself : (z : ℤ) → near (z *ℤ one) one ≡ z
 near_itself z = unique (z *ℤ one) one (near (z *ℤ one) one) z (omega arith) (meets (z *ℤ one) one (omega arith)) (itself_is_near z)
 
-saturated-itself : (z : ℤ) → IsRaw z → saturated z ≡ z
-unfolding saturated
+saturated-itself : (z : ℤ) → IsRaw z → saturate z ≡ z
+unfolding saturate
 saturated-itself z h = omega (arith, ints, clamps)
 
 pub product-one : (z : ℤ) → IsRaw z → product one z ≡ z

@@ -1,10 +1,10 @@
 -- Sums and differences are held in range.
 use Rattle.std.proofs.Common.{ℤ, arith}
 use Rattle.std.proofs.lemmas.Int.{ints, clamps}
-use Rattle.pf_num.specs.Fx.{IsRaw, saturated, sum, difference}
+use Rattle.pf_num.specs.Fx.{IsRaw, saturate, sum, difference}
 
-pub saturated-raw : (z : ℤ) → IsRaw (saturated z)
-unfolding saturated
+pub saturated-raw : (z : ℤ) → IsRaw (saturate z)
+unfolding saturate
 saturated-raw z = omega (arith, ints, clamps)
 
 pub sum-raw : (a b : ℤ) → IsRaw (sum a b)

@@ -6,7 +6,7 @@ use Rattle.std.proofs.Math.Nat.{mul-le-mul}
 use Rattle.std.specs.Int.{int_signum}
 use Rattle.std.specs.Int.RustNames.{unsigned_abs}
 use Rattle.pf_num.specs.Round.{nearest, near, with_sign, is_opposite}
-use Rattle.pf_num.specs.Fx.{saturated, product, quotient}
+use Rattle.pf_num.specs.Fx.{saturate, product, quotient}
 
 -- a number from 0 on isn't negative
 pub is_negative-pos : (n : ℕ) → ltb n 0 ≡ false
@@ -37,8 +37,8 @@ unfolding near
 near-negsuc_negsuc p q = refl
 
 -- a magnitude held at the greatest is the number held at both ends
-pub saturated-with_sign : (s : Bool) (n : ℕ) → saturated (with_sign s n) ≡ with_sign s (min n 36028797018963967)
-unfolding saturated
+pub saturated-with_sign : (s : Bool) (n : ℕ) → saturate (with_sign s n) ≡ with_sign s (min n 36028797018963967)
+unfolding saturate
 saturated-with_sign true n = omega (arith, ints, clamps)
 saturated-with_sign false n = omega (arith, ints, clamps)
 
@@ -92,7 +92,7 @@ quotient-zero a = refl
 
 -- a product that rounds to little enough isn't held
 pub product_in_range : (a b : ℤ) → unsigned_abs (near (a *ℤ b) (pos 16777216)) ≤ 2 ^ 38 → near (a *ℤ b) (pos 16777216) ≡ product a b
-unfolding product saturated
+unfolding product saturate
 product_in_range a b h = omega (arith, ints, clamps)
 
 -- a product of short numbers is within 2^62, and fits a machine's number

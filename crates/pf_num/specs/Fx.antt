@@ -23,21 +23,21 @@ abbrev pub IsRaw : ℤ → Type 0
 IsRaw z = unsigned_abs z ≤ 36028797018963967
 
 -- z held between -greatest and greatest
-unfoldable pub saturated : ℤ → ℤ
-saturated z = int_max (neg_ℤ greatest) (int_min z greatest)
+unfoldable pub saturate : ℤ → ℤ
+saturate z = int_max (neg_ℤ greatest) (int_min z greatest)
 
 unfoldable pub sum : ℤ → ℤ → ℤ
-sum a b = saturated (a +ℤ b)
+sum a b = saturate (a +ℤ b)
 
 unfoldable pub difference : ℤ → ℤ → ℤ
-difference a b = saturated (a -ℤ b)
+difference a b = saturate (a -ℤ b)
 
 unfoldable pub product : ℤ → ℤ → ℤ
-product a b = saturated (near (a *ℤ b) one)
+product a b = saturate (near (a *ℤ b) one)
 
 -- by 0: the greatest number, with the sign of a
 unfoldable pub quotient : ℤ → ℤ → ℤ
-quotient a b = if unsigned_abs b == 0 then int_signum a *ℤ greatest else saturated (near (a *ℤ one) b)
+quotient a b = if unsigned_abs b == 0 then int_signum a *ℤ greatest else saturate (near (a *ℤ one) b)
 
 -- the greatest r with r * r at most a * 2^24, and 0 below 0
 unfoldable pub root : ℤ → ℤ

@@ -68,7 +68,7 @@ impl Fx {
 
     /// The sum, held in range.
     #[inline]
-    #[tactic(auto, unfolding(crate::specs::Fx::sum, crate::specs::Fx::saturated))]
+    #[tactic(auto, unfolding(crate::specs::Fx::sum, crate::specs::Fx::saturate))]
     pub fn add(self, other: Fx) -> Fx
         ensures { result ≡ sum self other }
     {
@@ -79,7 +79,7 @@ impl Fx {
 
     /// The difference, held in range.
     #[inline]
-    #[tactic(auto, unfolding(crate::specs::Fx::difference, crate::specs::Fx::saturated))]
+    #[tactic(auto, unfolding(crate::specs::Fx::difference, crate::specs::Fx::saturate))]
     pub fn sub(self, other: Fx) -> Fx
         ensures { result ≡ difference self other }
     {

@@ -17,8 +17,8 @@ use std::io::{BufRead, BufReader, BufWriter, Write};
 #[derive(Drop)]
 struct Body {
     shape: Shape,
-    place: V2,
-    rot: Rot,
+    position: V2,
+    rotation: Rot,
 }
 
 /// The number that a field spells.
@@ -35,15 +35,15 @@ fn vector(x: &[u8], y: &[u8]) -> Result<V2> {
     })
 }
 
-/// A body of this shape, whose place and rotation are these fields.
+/// A body of this shape, whose position and rotation are these fields.
 fn placed(shape: Shape, fields: [&[u8]; 4]) -> Result<Body> {
     let [x, y, c, s] = fields;
-    let place = vector(x, y)?;
-    let rot = vector(c, s)?;
+    let position = vector(x, y)?;
+    let rotation = vector(c, s)?;
     Ok(Body {
         shape,
-        place,
-        rot: Rot { c: rot.x, s: rot.y },
+        position,
+        rotation: Rot { c: rotation.x, s: rotation.y },
     })
 }
 
@@ -94,8 +94,8 @@ fn push_points(text: &mut String, points: &Manifold) -> Result<()> {
 /// The answer to two bodies.
 fn answer(alloc: Global, a: &Body, b: &Body) -> Result<String> {
     let mut text = String::new(alloc);
-    let bounds_a = a.shape.bounds(a.place, a.rot, false);
-    let bounds_b = b.shape.bounds(b.place, b.rot, false);
+    let bounds_a = a.shape.bounds(a.position, a.rotation, false);
+    let bounds_b = b.shape.bounds(b.position, b.rotation, false);
     let word = if bounds_a.overlaps(&bounds_b) {
         "overlap"
     } else {
@@ -104,13 +104,13 @@ fn answer(alloc: Global, a: &Body, b: &Body) -> Result<String> {
     push_line(&mut text, word, &[])?;
     let a = Placed {
         shape: &a.shape,
-        place: a.place,
-        rot: a.rot,
+        position: a.position,
+        rotation: a.rotation,
     };
     let b = Placed {
         shape: &b.shape,
-        place: b.place,
-        rot: b.rot,
+        position: b.position,
+        rotation: b.rotation,
     };
     push_points(&mut text, &collide(&a, &b))?;
     push_line(&mut text, "end", &[])?;

@@ -5,16 +5,16 @@ use Rattle.std.proofs.lemmas.Bool.Decides.{nat_tests}
 use Rattle.std.proofs.lemmas.Int.{ints, clamps}
 use Rattle.std.specs.Int.RustNames.{unsigned_abs}
 use Rattle.pf_num.specs.Root.{whole_root}
-use Rattle.pf_num.specs.Fx.{IsRaw, saturated, sum, difference, product, tick}
+use Rattle.pf_num.specs.Fx.{IsRaw, saturate, sum, difference, product, tick}
 use Rattle.pf_num.proofs.Range.{sum-raw, difference-raw}
 use Rattle.pf_num.proofs.Roots.{root_from}
 use Rattle.pf_num.proofs.AtMostOne.{quotient_at_most_one}
 use Rattle.pf_rot.specs.Vector.{length_of}
-use Rattle.pf_rot.specs.Rotation.{Pair, scaled_to_unit, unit, turned_by, turned}
+use Rattle.pf_rot.specs.Rotation.{Rot, unit_parts, unit, turn_by_angle, turn}
 use Rattle.pf_rot.specs.Laws.{IsAtMostOne}
 
-held_root : (c r : ℕ) → c ≤ 36028797018963967 → c ≤ r → c ≤ unsigned_abs (saturated (pos r))
-unfolding saturated
+held_root : (c r : ℕ) → c ≤ 36028797018963967 → c ≤ r → c ≤ unsigned_abs (saturate (pos r))
+unfolding saturate
 held_root c r raw h = omega (arith, ints, clamps)
 
 length_reaches : (c s : ℤ) → IsRaw c → IsRaw s →
@@ -27,7 +27,7 @@ length_reaches c s raw_c raw_s =
       held_root b (whole_root (a * a + b * b)) raw_s (root_from (a * a + b * b) b (omega arith)),
     )
 
-scaled_at_most_one : (length c s : ℤ) → unsigned_abs c ≤ unsigned_abs length → unsigned_abs s ≤ unsigned_abs length → IsAtMostOne (scaled_to_unit length c s)
+scaled_at_most_one : (length c s : ℤ) → unsigned_abs c ≤ unsigned_abs length → unsigned_abs s ≤ unsigned_abs length → IsAtMostOne (unit_parts length c s)
 scaled_at_most_one length c s hc hs =
     ⊎_elim
     (λ (some : 0 < unsigned_abs length).
@@ -44,7 +44,7 @@ unit_at_most_one c s raw_c raw_s =
     let reaches = length_reaches c s raw_c raw_s in
     scaled_at_most_one (length_of (record { x = c; y = s })) c s reaches.0 reaches.1
 
-turned_by_at_most_one : (q : Pair) (a : ℤ) → IsAtMostOne q → IsAtMostOne (turned_by q a)
+turned_by_at_most_one : (q : Rot) (a : ℤ) → IsAtMostOne q → IsAtMostOne (turn_by_angle q a)
 turned_by_at_most_one q a h =
     ⊎_elim
     (λ (some : 0 < unsigned_abs a).
@@ -55,6 +55,6 @@ turned_by_at_most_one q a h =
     rw e h)
     (cases_lt 0 (unsigned_abs a))
 
-pub turned_at_most_one : (q : Pair) (spin : ℤ) → IsAtMostOne q → IsAtMostOne (turned q spin)
-unfolding turned
+pub turned_at_most_one : (q : Rot) (spin : ℤ) → IsAtMostOne q → IsAtMostOne (turn q spin)
+unfolding turn
 turned_at_most_one q spin h = turned_by_at_most_one q (product tick spin) h

@@ -4,9 +4,9 @@
 ghost use Rattle.std.specs.Prelude.{◌≡◌, ℕ, ◌+◌, ◌*◌, ℤ, pos};
 ghost use Rattle.std.specs.Int.RustNames.{unsigned_abs};
 ghost use Rattle.pf_num.specs.Root.{IsRoot};
-ghost use Rattle.pf_num.specs.Fx.{IsRaw, saturated, product, tick};
-ghost use Rattle.pf_rot.specs.Vector.{Vec2, zero_vector, length_of};
-ghost use Rattle.pf_rot.specs.Rotation.{Pair, upright, unit, turned};
+ghost use Rattle.pf_num.specs.Fx.{IsRaw, saturate, product, tick};
+ghost use Rattle.pf_rot.specs.Vector.{V2, zero_vector, length_of};
+ghost use Rattle.pf_rot.specs.Rotation.{Rot, upright, unit, turn};
 ghost use Rattle.pf_rot.specs.Laws.{IsAtMostOne};
 
 use crate::rotation::Rot;
@@ -14,20 +14,20 @@ use crate::vector::V2;
 
 /// The length is the greatest number whose square is at most the exact sum of squares, held in range.
 pub fn lengths_are_greatest()
-    ensures { (v : Vec2) (r : ℕ) → IsRoot (unsigned_abs v.x * unsigned_abs v.x + unsigned_abs v.y * unsigned_abs v.y) r
-        → length_of v ≡ saturated (pos r) }
+    ensures { (v : V2) (r : ℕ) → IsRoot (unsigned_abs v.x * unsigned_abs v.x + unsigned_abs v.y * unsigned_abs v.y) r
+        → length_of v ≡ saturate (pos r) }
 {}
 
 /// The direction (0, 0) gives the upright rotation, and an angle that rounds to 0 turns nothing, bit for bit.
 pub fn nothing_turns_nothing()
     ensures direction { unit (pos 0) (pos 0) ≡ upright }
-    ensures angle { (q : Pair) (spin : ℤ) → product tick spin ≡ pos 0 → turned q spin ≡ q }
+    ensures angle { (q : Rot) (spin : ℤ) → product tick spin ≡ pos 0 → turn q spin ≡ q }
 {}
 
 /// No part of a direction that is divided by its length is above 1 in magnitude, and turning keeps it so.
 pub fn directions_are_at_most_one()
     ensures direction { (c s : ℤ) → IsRaw c → IsRaw s → IsAtMostOne (unit c s) }
-    ensures turn { (q : Pair) (spin : ℤ) → IsAtMostOne q → IsAtMostOne (turned q spin) }
+    ensures turn { (q : Rot) (spin : ℤ) → IsAtMostOne q → IsAtMostOne (turn q spin) }
 {}
 
 /// The vector of length 0 and the rotation that leaves everything as it is.

@@ -1,7 +1,7 @@
 //! Rotations as a pair of cosine and sine, as Box2D's `b2Rot`.
 
 ghost use Rattle.std.specs.Prelude.{◌≡◌};
-ghost use Rattle.pf_rot.specs.Rotation.{Pair, unit, turned, rotated, unrotated};
+ghost use Rattle.pf_rot.specs.Rotation.{Rot, unit, turn, rotate, unrotate};
 
 use crate::vector::V2;
 use pf_num::Fx;
@@ -16,7 +16,7 @@ pub struct Rot {
 }
 
 impl Model for Rot {
-    ghost Value = { Pair };
+    ghost Value = { Rot };
 
     ghost view = { λ q. record { c = q.c; s = q.s } };
 
@@ -48,9 +48,9 @@ impl Rot {
 
     /// The rotation after a tick of this angular velocity, in radians a second. It stays as it is, bit for
     /// bit, where the angle of a tick rounds to 0.
-    #[tactic(auto, unfolding(crate::specs::Rotation::turned))]
+    #[tactic(auto, unfolding(crate::specs::Rotation::turn))]
     pub fn turn(self, spin: Fx) -> Rot
-        ensures { result ≡ turned self spin }
+        ensures { result ≡ turn self spin }
     {
         let angle = Fx::TICK.mul(spin);
         if angle == Fx::ZERO {
@@ -61,9 +61,9 @@ impl Rot {
 
     /// The vector turned by this rotation: from a body's own axes to the world's.
     #[inline]
-    #[tactic(auto, unfolding(crate::specs::Rotation::rotated))]
+    #[tactic(auto, unfolding(crate::specs::Rotation::rotate))]
     pub fn rotate(self, v: V2) -> V2
-        ensures { result ≡ rotated self v }
+        ensures { result ≡ rotate self v }
     {
         V2 {
             x: self.c.mul(v.x).sub(self.s.mul(v.y)),
@@ -73,9 +73,9 @@ impl Rot {
 
     /// The vector turned back by this rotation: from the world's axes to a body's own.
     #[inline]
-    #[tactic(auto, unfolding(crate::specs::Rotation::unrotated))]
+    #[tactic(auto, unfolding(crate::specs::Rotation::unrotate))]
     pub fn unrotate(self, v: V2) -> V2
-        ensures { result ≡ unrotated self v }
+        ensures { result ≡ unrotate self v }
     {
         V2 {
             x: self.c.mul(v.x).add(self.s.mul(v.y)),

@@ -59,9 +59,9 @@ fn lengths_and_turns(rt: HostRuntime) {
             c: from.x,
             s: from.y,
         };
-        let turned = pair.turn(Fx::from_raw(spin).expect(&rt, "in range"));
+        let turn = pair.turn(Fx::from_raw(spin).expect(&rt, "in range"));
         assert_eq!(rt;
-            (turned.c.raw(), turned.s.raw()),
+            (turn.c.raw(), turn.s.raw()),
             (turned_c, turned_s),
             "({c}, {s}) by {spin}"
         );

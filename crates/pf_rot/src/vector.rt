@@ -1,12 +1,12 @@
 //! Plane vectors, with the products of Box2D-Lite's MathUtils.
 
 ghost use Rattle.std.specs.Prelude.{◌≡◌};
-ghost use Rattle.pf_rot.specs.Vector.{Vec2, plus, minus, negated, scaled, length_of, dot, cross, cross_sv as swept};
+ghost use Rattle.pf_rot.specs.Vector.{V2, add, sub, neg, scale, length_of, dot, cross, cross_sv as swept};
 
 use pf_num::{Fx, whole_root};
 use std::marker::Model;
 
-/// A vector, a place or a velocity of the plane. Contracts see its two parts as raw numbers, in units
+/// A vector, a position or a velocity of the plane. Contracts see its two parts as raw numbers, in units
 /// of 2^-24. Each operation rounds and holds in range as those on [`Fx`] do.
 #[derive(Clone, Copy, Debug, PartialEq, Eq)]
 pub struct V2 {
@@ -15,7 +15,7 @@ pub struct V2 {
 }
 
 impl Model for V2 {
-    ghost Value = { Vec2 };
+    ghost Value = { V2 };
 
     ghost view = { λ v. record { x = v.x; y = v.y } };
 
@@ -31,9 +31,9 @@ impl V2 {
 
     /// The sum, part by part.
     #[inline]
-    #[tactic(auto, unfolding(crate::specs::Vector::plus))]
+    #[tactic(auto, unfolding(crate::specs::Vector::add))]
     pub fn add(self, other: V2) -> V2
-        ensures { result ≡ plus self other }
+        ensures { result ≡ add self other }
     {
         V2 {
             x: self.x.add(other.x),
@@ -43,9 +43,9 @@ impl V2 {
 
     /// The difference, part by part.
     #[inline]
-    #[tactic(auto, unfolding(crate::specs::Vector::minus))]
+    #[tactic(auto, unfolding(crate::specs::Vector::sub))]
     pub fn sub(self, other: V2) -> V2
-        ensures { result ≡ minus self other }
+        ensures { result ≡ sub self other }
     {
         V2 {
             x: self.x.sub(other.x),
@@ -55,9 +55,9 @@ impl V2 {
 
     /// The vector the other way.
     #[inline]
-    #[tactic(auto, unfolding(crate::specs::Vector::negated))]
+    #[tactic(auto, unfolding(crate::specs::Vector::neg))]
     pub fn neg(self) -> V2
-        ensures { result ≡ negated self }
+        ensures { result ≡ neg self }
     {
         V2 {
             x: self.x.neg(),
@@ -67,9 +67,9 @@ impl V2 {
 
     /// The vector so many times, each part's product rounded.
     #[inline]
-    #[tactic(auto, unfolding(crate::specs::Vector::scaled))]
+    #[tactic(auto, unfolding(crate::specs::Vector::scale))]
     pub fn scale(self, by: Fx) -> V2
-        ensures { result ≡ scaled by self }
+        ensures { result ≡ scale by self }
     {
         V2 {
             x: by.mul(self.x),
@@ -88,7 +88,7 @@ impl V2 {
 
     /// The length, rounded down, by the exact sum of squares.
     #[inline]
-    #[tactic(auto, unfolding(crate::specs::Vector::length_of, pf_num::specs::Fx::saturated))]
+    #[tactic(auto, unfolding(crate::specs::Vector::length_of, pf_num::specs::Fx::saturate))]
     pub fn length(self) -> Fx
         ensures { result ≡ length_of self }
     {

@@ -1,16 +1,16 @@
--- A place in a circle is in the bounds of the circle.
+-- A position in a circle is in the bounds of the circle.
 use Rattle.std.proofs.Common.{ℕ, ◌+◌, ◌*◌, ◌<◌, ◌≤◌, ℤ, pos, ◌-ℤ◌, ◌≤ℤ◌, Bool, ⊎_elim, arith}
 use Rattle.std.proofs.lemmas.Bool.{cases_lt}
 use Rattle.std.proofs.lemmas.Int.{ints, clamps}
 use Rattle.std.proofs.Math.Nat.{mul-le-mul}
 use Rattle.std.specs.Int.RustNames.{unsigned_abs}
-use Rattle.pf_num.specs.Fx.{IsRaw, saturated, sum, difference}
-use Rattle.pf_rot.specs.Vector.{Vec2, plus, minus}
-use Rattle.pf_rot.specs.Rotation.{Pair}
+use Rattle.pf_num.specs.Fx.{IsRaw, saturate, sum, difference}
+use Rattle.pf_rot.specs.Vector.{V2, add, sub}
+use Rattle.pf_rot.specs.Rotation.{Rot}
 use Rattle.pf_shapes.specs.declared.fixture.Shape.TheVariants.{Circle}
 use Rattle.pf_shapes.specs.Reach.{widened}
-use Rattle.pf_shapes.specs.Bounds.{extent, span_of}
-use Rattle.pf_shapes.specs.Laws.{IsInCircle, IsInSpan}
+use Rattle.pf_shapes.specs.Bounds.{extent, shape_bounds}
+use Rattle.pf_shapes.specs.Laws.{IsInCircle, IsInBounds}
 
 -- a side is no longer than the longest
 side : (a b r : ℕ) → a * a + b * b ≤ r * r → a ≤ r
@@ -21,17 +21,17 @@ side a b r h =
     (cases_lt r a)
 
 -- between the ends, on one axis
-ends_around : (place r p : ℤ) → pos 0 ≤ℤ r → IsRaw r → IsRaw p → unsigned_abs (p -ℤ place) ≤ unsigned_abs r →
-    (difference place (widened r) ≤ℤ p) × (p ≤ℤ sum place (widened r))
-unfolding widened sum difference saturated
-ends_around place r p some raw_r raw_p h = (omega (arith, ints, clamps), omega (arith, ints, clamps))
+ends_around : (position r p : ℤ) → pos 0 ≤ℤ r → IsRaw r → IsRaw p → unsigned_abs (p -ℤ position) ≤ unsigned_abs r →
+    (difference position (widened r) ≤ℤ p) × (p ≤ℤ sum position (widened r))
+unfolding widened sum difference saturate
+ends_around position r p some raw_r raw_p h = (omega (arith, ints, clamps), omega (arith, ints, clamps))
 
-pub circle_stays : (r : ℤ) (place : Vec2) (rot : Pair) (fixed : Bool) (p : Vec2) → pos 0 ≤ℤ r → IsRaw r → IsRaw p.x → IsRaw p.y → IsInCircle r place p →
-    IsInSpan (span_of (Circle r) place rot fixed) p
-unfolding span_of extent plus minus
-circle_stays r place rot fixed p some raw_r raw_x raw_y h =
-    let dx = unsigned_abs (p.x -ℤ place.x) in
-    let dy = unsigned_abs (p.y -ℤ place.y) in
-    let x = ends_around place.x r p.x some raw_r raw_x (side dx dy (unsigned_abs r) h.near) in
-    let y = ends_around place.y r p.y some raw_r raw_y (side dy dx (unsigned_abs r) (omega (arith, h.near))) in
+pub circle_stays : (r : ℤ) (position : V2) (rotation : Rot) (is_static : Bool) (p : V2) → pos 0 ≤ℤ r → IsRaw r → IsRaw p.x → IsRaw p.y → IsInCircle r position p →
+    IsInBounds (shape_bounds (Circle r) position rotation is_static) p
+unfolding shape_bounds extent add sub
+circle_stays r position rotation is_static p some raw_r raw_x raw_y h =
+    let dx = unsigned_abs (p.x -ℤ position.x) in
+    let dy = unsigned_abs (p.y -ℤ position.y) in
+    let x = ends_around position.x r p.x some raw_r raw_x (side dx dy (unsigned_abs r) h.near) in
+    let y = ends_around position.y r p.y some raw_r raw_y (side dy dx (unsigned_abs r) (omega (arith, h.near))) in
     record { left = x.0; right = x.1; below = y.0; above = y.1 }

@@ -3,7 +3,7 @@ use Rattle.std.proofs.Common.{◌≡◌, ℕ, ℤ, pos, negsuc, arith, ◌≤ℤ
 use Rattle.std.proofs.lemmas.Int.{ints, clamps}
 use Rattle.pf_num.specs.Round.{near}
 use Rattle.pf_num.proofs.Signs.{is_negative-pos}
-use Rattle.pf_num.specs.Fx.{saturated, sum, difference, product}
+use Rattle.pf_num.specs.Fx.{saturate, sum, difference, product}
 use Rattle.pf_shapes.specs.Fixture.{IsSize}
 use Rattle.pf_shapes.specs.Reach.{magnitude, reach, widened}
 
@@ -12,8 +12,8 @@ near-pos : (p q : ℕ) → pos 0 ≤ℤ near (pos p) (pos q)
 unfolding near
 near-pos p q = rw (is_negative-pos p, is_negative-pos q) (omega (arith, ints))
 
-saturated-pos : (z : ℤ) → pos 0 ≤ℤ z → pos 0 ≤ℤ saturated z
-unfolding saturated
+saturated-pos : (z : ℤ) → pos 0 ≤ℤ z → pos 0 ≤ℤ saturate z
+unfolding saturate
 saturated-pos z h = omega (arith, ints, clamps)
 
 product-pos : (a b : ℤ) → pos 0 ≤ℤ b → pos 0 ≤ℤ product (magnitude a) b
@@ -26,7 +26,7 @@ unfolding sum
 sum-pos a b h k = saturated-pos _ (omega (arith, ints))
 
 widened-pos : (z : ℤ) → pos 0 ≤ℤ z → pos 1 ≤ℤ widened z
-unfolding widened sum saturated
+unfolding widened sum saturate
 widened-pos z h = omega (arith, ints, clamps)
 
 -- a circle's extent is above 0
@@ -39,7 +39,7 @@ unfolding reach
 box_reaches a hx b hy w x y e =
     rw e (widened-pos _ (sum-pos _ _ (product-pos a hx (omega (arith, ints))) (product-pos b hy (omega (arith, ints)))))
 
--- a place less something is at most the place and it
+-- a position less something is at most the position and it
 pub ends_ordered : (p e : ℤ) → pos 1 ≤ℤ e → difference p e ≤ℤ sum p e
-unfolding sum difference saturated
+unfolding sum difference saturate
 ends_ordered p e h = omega (arith, ints, clamps)

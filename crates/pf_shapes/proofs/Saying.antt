@@ -12,15 +12,15 @@ use Rattle.std.proofs.lemmas.Slice.Eq.{bytes_eq-Decides}
 use Rattle.pf_text.specs.declared.numbers.Spelled.TheVariants.{Within}
 use Rattle.pf_text.specs.Numbers.{natural_of, whole_of, spelled}
 use Rattle.pf_text.proofs.Spelling.{whole-signed_decimal}
-use Rattle.pf_rot.specs.Vector.{Vec2}
-use Rattle.pf_rot.specs.Rotation.{Pair, upright, unit}
+use Rattle.pf_rot.specs.Vector.{V2}
+use Rattle.pf_rot.specs.Rotation.{Rot, upright, unit}
 use Rattle.pf_shapes.specs.declared.fault.SceneFault.{SceneFault}
 use Rattle.pf_shapes.specs.declared.fault.SceneFault.TheVariants.{BadNumber, BadMass, BadSize}
 use Rattle.pf_shapes.specs.declared.fixture.Shape.{Shape}
 use Rattle.pf_shapes.specs.declared.fixture.Shape.TheVariants.{Circle, Box}
-use Rattle.pf_shapes.specs.Fixture.{FixtureDef, IsFixture, IsSize, IsMass, IsOwner, IsWithin}
-use Rattle.pf_shapes.specs.Scene.{Setting, IsGravity, IsPlace, empty_setting, with_body}
-use Rattle.pf_shapes.specs.SceneText.{named, number_of, acceleration_of, coordinate_of, direction_of, size_of, friction_of, mass_of, owner_of, gravity_of, place_of, rotation_of, circle_fixture, box_fixture, upright_at, turned_at, placed, circle_of, box_of, so_far, gravity_line, line_of}
+use Rattle.pf_shapes.specs.Fixture.{Fixture, IsFixture, IsSize, IsMass, IsOwner, IsWithin}
+use Rattle.pf_shapes.specs.Scene.{Scene, IsGravity, IsPosition, empty_scene, with_body}
+use Rattle.pf_shapes.specs.SceneText.{named, number_of, acceleration_of, coordinate_of, direction_of, size_of, friction_of, mass_of, owner_of, gravity_of, position_of, rotation_of, circle_fixture, box_fixture, upright_at, turned_at, placed, circle_of, box_of, so_far, gravity_line, line_of}
 use Rattle.pf_shapes.specs.Saying.{owner_field, shape_word, shape_fields, body_fields, start_rotation, gravity_fields, IsDirection}
 
 -- ---- numbers
@@ -93,21 +93,21 @@ read_owner (Some player) h =
 
 -- ---- bodies
 
-read_circle : (f : FixtureDef) (r : ℤ) (place : Vec2) → f.shape ≡ Circle r → IsFixture f → IsPlace place
-    → circle_of (owner_field f.owner ∷ signed_decimal f.mass ∷ signed_decimal f.friction ∷ signed_decimal r ∷ signed_decimal place.x ∷ signed_decimal place.y ∷ [])
-    ≡ Ok (f, (place, upright))
-unfolding circle_of placed circle_fixture upright_at place_of
-read_circle f r place e h at =
+read_circle : (f : Fixture) (r : ℤ) (position : V2) → f.shape ≡ Circle r → IsFixture f → IsPosition position
+    → circle_of (owner_field f.owner ∷ signed_decimal f.mass ∷ signed_decimal f.friction ∷ signed_decimal r ∷ signed_decimal position.x ∷ signed_decimal position.y ∷ [])
+    ≡ Ok (f, (position, upright))
+unfolding circle_of placed circle_fixture upright_at position_of
+read_circle f r position e h at =
     let size : IsSize r = rw e at h.size in
     let same : record { shape = Circle r; mass = f.mass; friction = f.friction; owner = f.owner } ≡ f = rw (sym e) refl in
-    rw (read_owner f.owner h.owner, read_mass f.mass h.mass, read_friction f.friction h.friction, read_size r size, read_coordinate place.x at.x, read_coordinate place.y at.y, same) refl
+    rw (read_owner f.owner h.owner, read_mass f.mass h.mass, read_friction f.friction h.friction, read_size r size, read_coordinate position.x at.x, read_coordinate position.y at.y, same) refl
 
-read_box : (f : FixtureDef) (hx hy : ℤ) (place : Vec2) (to : Pair) → f.shape ≡ Box hx hy → IsFixture f → IsPlace place → IsDirection to
-    → box_of (owner_field f.owner ∷ signed_decimal f.mass ∷ signed_decimal f.friction ∷ signed_decimal hx ∷ signed_decimal hy ∷ signed_decimal place.x
-    ∷ signed_decimal place.y ∷ signed_decimal to.c ∷ signed_decimal to.s ∷ [])
-    ≡ Ok (f, (place, unit to.c to.s))
-unfolding box_of placed box_fixture turned_at place_of rotation_of
-read_box f hx hy place to e h at facing =
+read_box : (f : Fixture) (hx hy : ℤ) (position : V2) (to : Rot) → f.shape ≡ Box hx hy → IsFixture f → IsPosition position → IsDirection to
+    → box_of (owner_field f.owner ∷ signed_decimal f.mass ∷ signed_decimal f.friction ∷ signed_decimal hx ∷ signed_decimal hy ∷ signed_decimal position.x
+    ∷ signed_decimal position.y ∷ signed_decimal to.c ∷ signed_decimal to.s ∷ [])
+    ≡ Ok (f, (position, unit to.c to.s))
+unfolding box_of placed box_fixture turned_at position_of rotation_of
+read_box f hx hy position to e h at facing =
     let size : IsSize hx × IsSize hy = rw e at h.size in
     let same : record { shape = Box hx hy; mass = f.mass; friction = f.friction; owner = f.owner } ≡ f = rw (sym e) refl in
     rw (
@@ -116,8 +116,8 @@ read_box f hx hy place to e h at facing =
       read_friction f.friction h.friction,
       read_size hx size.0,
       read_size hy size.1,
-      read_coordinate place.x at.x,
-      read_coordinate place.y at.y,
+      read_coordinate position.x at.x,
+      read_coordinate position.y at.y,
       read_direction to.c facing.c,
       read_direction to.s facing.s,
       same,
@@ -125,23 +125,23 @@ read_box f hx hy place to e h at facing =
 
 -- ---- lines
 
-pub read_gravity : (most : ℕ) (g : Vec2) → IsGravity g
-    → line_of (record { most = most; scene = None }) (gravity_fields g) ≡ Ok (so_far most (empty_setting g))
+pub read_gravity : (most : ℕ) (g : V2) → IsGravity g
+    → line_of (record { most = most; scene = None }) (gravity_fields g) ≡ Ok (so_far most (empty_scene g))
 unfolding line_of gravity_line gravity_of
 read_gravity most g h = rw (read_acceleration g.x h.x, read_acceleration g.y h.y) refl
 
-pub read_body : (most : ℕ) (s : Setting) (f : FixtureDef) (place : Vec2) (to : Pair) → length s.fixtures < most
-    → IsFixture f → IsPlace place → IsDirection to
-    → line_of (record { most = most; scene = Some s }) (body_fields f place to) ≡ Ok (so_far most (with_body s f place (start_rotation f.shape to)))
+pub read_body : (most : ℕ) (s : Scene) (f : Fixture) (position : V2) (to : Rot) → length s.fixtures < most
+    → IsFixture f → IsPosition position → IsDirection to
+    → line_of (record { most = most; scene = Some s }) (body_fields f position to) ≡ Ok (so_far most (with_body s f position (start_rotation f.shape to)))
 unfolding line_of
-read_body most s f place to room h at facing = by f.shape refl
+read_body most s f position to room h at facing = by f.shape refl
   where
     few : nat_lt (length s.fixtures) most ≡ true
     few = grind (arith, nat_tests)
 
     by : (shape : Shape) → f.shape ≡ shape
         → line_of (record { most = most; scene = Some s })
-        (shape_word shape ∷ owner_field f.owner ∷ signed_decimal f.mass ∷ signed_decimal f.friction ∷ shape_fields shape place to)
-        ≡ Ok (so_far most (with_body s f place (start_rotation shape to)))
-    by (Circle r) e = rw (few, read_circle f r place e h at) refl
-    by (Box hx hy) e = rw (few, read_box f hx hy place to e h at facing) refl
+        (shape_word shape ∷ owner_field f.owner ∷ signed_decimal f.mass ∷ signed_decimal f.friction ∷ shape_fields shape position to)
+        ≡ Ok (so_far most (with_body s f position (start_rotation shape to)))
+    by (Circle r) e = rw (few, read_circle f r position e h at) refl
+    by (Box hx hy) e = rw (few, read_box f hx hy position to e h at facing) refl

@@ -1,11 +1,11 @@
--- Spans that have a place in common overlap, and upright spans that overlap have one: the greater of the low ends.
+-- Spans that have a position in common overlap, and upright spans that overlap have one: the greater of the low ends.
 use Rattle.std.proofs.Common.{◌≡◌, ℤ, true, refl, arith, ◌≤ℤ◌}
 use Rattle.std.proofs.lemmas.Bool.{and_parts}
 use Rattle.std.proofs.lemmas.Int.{ints, clamps}
 use Rattle.std.specs.Int.{int_max}
-use Rattle.pf_rot.specs.Vector.{Vec2}
-use Rattle.pf_shapes.specs.Bounds.{Span, IsUpright, touches, overlaps}
-use Rattle.pf_shapes.specs.Laws.{IsInSpan}
+use Rattle.pf_rot.specs.Vector.{V2}
+use Rattle.pf_shapes.specs.Bounds.{Bounds, IsUpright, touches, overlaps}
+use Rattle.pf_shapes.specs.Laws.{IsInBounds}
 
 -- on one axis
 axis_touches : (low high other_low other_high p : ℤ) → low ≤ℤ p → p ≤ℤ high → other_low ≤ℤ p → p ≤ℤ other_high →
@@ -18,14 +18,14 @@ axis_shares low high other_low other_high a b t =
     let fact : (low ≤ℤ other_high) × (other_low ≤ℤ high) = grind (arith, ints) in
     (omega (arith, ints, clamps), omega (arith, ints, clamps), omega (arith, ints, clamps), omega (arith, ints, clamps))
 
-pub shared : (a b : Span) (p : Vec2) → IsInSpan a p → IsInSpan b p → overlaps a b ≡ true
+pub shared : (a b : Bounds) (p : V2) → IsInBounds a p → IsInBounds b p → overlaps a b ≡ true
 unfolding overlaps
 shared a b p ha hb =
     let x = axis_touches a.low.x a.high.x b.low.x b.high.x p.x ha.left ha.right hb.left hb.right in
     let y = axis_touches a.low.y a.high.y b.low.y b.high.y p.y ha.below ha.above hb.below hb.above in
     rw (x, y) refl
 
-pub found : (a b : Span) → IsUpright a → IsUpright b → overlaps a b ≡ true → (p : Vec2) × IsInSpan a p × IsInSpan b p
+pub found : (a b : Bounds) → IsUpright a → IsUpright b → overlaps a b ≡ true → (p : V2) × IsInBounds a p × IsInBounds b p
 unfolding overlaps
 found a b ha hb t =
     let axes = and_parts (touches a.low.x a.high.x b.low.x b.high.x) (touches a.low.y a.high.y b.low.y b.high.y) t in

@@ -1,27 +1,27 @@
--- A place in a turned box is in the bounds of the box: along each axis it is at most as far from the centre as the box
+-- A position in a turned box is in the bounds of the box: along each axis it is at most as far from the centre as the box
 -- reaches.
 use Rattle.std.proofs.Common.{ℤ, pos, ◌≤ℤ◌, neg_ℤ, Bool, arith}
 use Rattle.std.proofs.lemmas.Int.{ints, clamps}
-use Rattle.pf_num.specs.Fx.{saturated, sum, difference, product}
+use Rattle.pf_num.specs.Fx.{saturate, sum, difference, product}
 use Rattle.pf_num.proofs.Range.{sum-raw}
 use Rattle.pf_num.proofs.Monotone.{product_within}
-use Rattle.pf_rot.specs.Vector.{Vec2, plus, minus}
-use Rattle.pf_rot.specs.Rotation.{Pair, rotated}
+use Rattle.pf_rot.specs.Vector.{V2, add, sub}
+use Rattle.pf_rot.specs.Rotation.{Rot, rotate}
 use Rattle.pf_shapes.specs.declared.fixture.Shape.TheVariants.{Box}
 use Rattle.pf_shapes.specs.Reach.{magnitude, widened, reach}
-use Rattle.pf_shapes.specs.Bounds.{extent, span_of}
-use Rattle.pf_shapes.specs.Laws.{IsInBox, IsInSpan}
+use Rattle.pf_shapes.specs.Bounds.{extent, shape_bounds}
+use Rattle.pf_shapes.specs.Laws.{IsInBox, IsInBounds}
 
 -- a number from -e to e
 abbrev IsUpTo : ℤ → ℤ → Type 0
 IsUpTo e t = (neg_ℤ e ≤ℤ t) × (t ≤ℤ e)
 
 sum_within : (u v m n : ℤ) → IsUpTo m u → IsUpTo n v → IsUpTo (sum m n) (sum u v)
-unfolding sum saturated
+unfolding sum saturate
 sum_within u v m n hu hv = (omega (arith, ints, clamps), omega (arith, ints, clamps))
 
 difference_within : (u v m n : ℤ) → IsUpTo m u → IsUpTo n v → IsUpTo (sum m n) (difference u v)
-unfolding sum difference saturated
+unfolding sum difference saturate
 difference_within u v m n hu hv = (omega (arith, ints, clamps), omega (arith, ints, clamps))
 
 -- what is as far from the centre as the turned box reaches, on either axis
@@ -38,15 +38,15 @@ unfolding reach
 reach_held a hx b hy = omega (arith, ints, sum-raw (product (magnitude a) hx) (product (magnitude b) hy))
 
 -- between the ends, on one axis
-ends_within : (place t e : ℤ) → e ≤ℤ pos 36028797018963967 → IsUpTo e t →
-    (difference place (widened e) ≤ℤ sum place t) × (sum place t ≤ℤ sum place (widened e))
-unfolding widened sum difference saturated
-ends_within place t e held h = (omega (arith, ints, clamps), omega (arith, ints, clamps))
+ends_within : (position t e : ℤ) → e ≤ℤ pos 36028797018963967 → IsUpTo e t →
+    (difference position (widened e) ≤ℤ sum position t) × (sum position t ≤ℤ sum position (widened e))
+unfolding widened sum difference saturate
+ends_within position t e held h = (omega (arith, ints, clamps), omega (arith, ints, clamps))
 
-pub box_stays : (hx hy : ℤ) (place : Vec2) (rot : Pair) (fixed : Bool) (p : Vec2) → IsInBox (record { x = hx; y = hy }) p →
-    IsInSpan (span_of (Box hx hy) place rot fixed) (plus place (rotated rot p))
-unfolding span_of extent plus minus rotated
-box_stays hx hy place rot fixed p h =
-    let x = ends_within place.x _ _ (reach_held rot.c hx rot.s hy) (first_within rot.c rot.s hx hy p.x p.y (h.left, h.right) (h.below, h.above)) in
-    let y = ends_within place.y _ _ (reach_held rot.s hx rot.c hy) (second_within rot.c rot.s hx hy p.x p.y (h.left, h.right) (h.below, h.above)) in
+pub box_stays : (hx hy : ℤ) (position : V2) (rotation : Rot) (is_static : Bool) (p : V2) → IsInBox (record { x = hx; y = hy }) p →
+    IsInBounds (shape_bounds (Box hx hy) position rotation is_static) (add position (rotate rotation p))
+unfolding shape_bounds extent add sub rotate
+box_stays hx hy position rotation is_static p h =
+    let x = ends_within position.x _ _ (reach_held rotation.c hx rotation.s hy) (first_within rotation.c rotation.s hx hy p.x p.y (h.left, h.right) (h.below, h.above)) in
+    let y = ends_within position.y _ _ (reach_held rotation.s hx rotation.c hy) (second_within rotation.c rotation.s hx hy p.x p.y (h.left, h.right) (h.below, h.above)) in
     record { left = x.0; right = x.1; below = y.0; above = y.1 }

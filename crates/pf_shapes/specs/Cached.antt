@@ -1,9 +1,9 @@
 -- What a fixture keeps beside its parts: its inverse masses, computed once.
 use Rattle.std.specs.Prelude.{◌≡◌}
 use Rattle.pf_shapes.specs.declared.fixture.Fixture.TheInside.{Inside}
-use Rattle.pf_shapes.specs.Fixture.{FixtureDef, IsFixture, inverse_mass, inverse_inertia}
+use Rattle.pf_shapes.specs.Fixture.{Fixture, IsFixture, inverse_mass, inverse_inertia}
 
-abbrev pub parts_of : Inside → FixtureDef
+abbrev pub parts_of : Inside → Fixture
 parts_of f = record { shape = f.shape; mass = f.mass; friction = f.friction; owner = f.owner }
 
 pub record IsCached (f : Inside) : Type 0 where

@@ -7,7 +7,7 @@ use Rattle.pf_shapes.specs.declared.fixture.Shape.{Shape}
 use Rattle.pf_shapes.specs.declared.fixture.Shape.TheVariants.{Circle, Box}
 
 -- what a fixture is made of: mass 0 means static, and no owner that nobody may move it
-pub record FixtureDef : Type 0 where
+pub record Fixture : Type 0 where
   pub shape : Shape
   pub mass : ℤ
   pub friction : ℤ
@@ -35,14 +35,14 @@ abbrev pub IsOwner : Option ℕ → Type 0
 IsOwner owner = IfSome owner (λ player. player < 8)
 
 -- the limits of a fixture
-pub record IsFixture (f : FixtureDef) : Type 0 where
+pub record IsFixture (f : Fixture) : Type 0 where
   pub size : HasSize f.shape
   pub mass : IsMass f.mass
   pub friction : IsWithin (pos 0) (pos 67108864) f.friction
   pub owner : IsOwner f.owner
 
 -- no force moves it
-abbrev pub is_static : FixtureDef → Bool
+abbrev pub is_static : Fixture → Bool
 is_static f = unsigned_abs f.mass == 0
 
 -- how hard a shape of this mass is to spin about its centre: a disc, or a box with the sides 2hx and 2hy
@@ -52,9 +52,9 @@ inertia (Box hx hy) mass =
     product mass (quotient (sum (product (sum hx hx) (sum hx hx)) (product (sum hy hy) (sum hy hy))) (pos 201326592))
 
 -- 1 / mass, and 0 where the body is static
-unfoldable pub inverse_mass : FixtureDef → ℤ
+unfoldable pub inverse_mass : Fixture → ℤ
 inverse_mass f = if is_static f then pos 0 else quotient one f.mass
 
 -- 1 / inertia, and 0 where the body is static
-unfoldable pub inverse_inertia : FixtureDef → ℤ
+unfoldable pub inverse_inertia : Fixture → ℤ
 inverse_inertia f = if is_static f then pos 0 else quotient one (inertia f.shape f.mass)

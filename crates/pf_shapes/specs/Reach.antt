@@ -2,7 +2,7 @@
 use Rattle.std.specs.Prelude.{ℤ, pos, ◌≤ℤ◌}
 use Rattle.std.specs.Int.RustNames.{unsigned_abs}
 use Rattle.pf_num.specs.Fx.{sum, product}
-use Rattle.pf_rot.specs.Vector.{Vec2}
+use Rattle.pf_rot.specs.Vector.{V2}
 
 -- one raw unit more
 unfoldable pub widened : ℤ → ℤ
@@ -16,6 +16,6 @@ unfoldable pub reach : ℤ → ℤ → ℤ → ℤ → ℤ
 reach a hx b hy = sum (product (magnitude a) hx) (product (magnitude b) hy)
 
 -- both parts are above 0
-pub record IsPositive (v : Vec2) : Type 0 where
+pub record IsPositive (v : V2) : Type 0 where
   pub x : pos 1 ≤ℤ v.x
   pub y : pos 1 ≤ℤ v.y

@@ -7,23 +7,23 @@ use Rattle.std.specs.Ordering.{int_eq}
 use Rattle.std.specs.Option.{option_eq}
 use Rattle.std.proofs.lemmas.Bool.Decides.{Decides-eqb, Decides-int_eq, Decides-and, Decides-like}
 use Rattle.std.proofs.lemmas.Slice.Eq.{slice_eq-Decides}
-use Rattle.pf_rot.specs.Vector.{Vec2}
-use Rattle.pf_rot.specs.Rotation.{Pair}
+use Rattle.pf_rot.specs.Vector.{V2}
+use Rattle.pf_rot.specs.Rotation.{Rot}
 use Rattle.pf_shapes.specs.declared.fixture.Shape.{Shape}
 use Rattle.pf_shapes.specs.declared.fixture.Shape.TheVariants.{Circle, Box}
-use Rattle.pf_shapes.specs.Fixture.{FixtureDef}
-use Rattle.pf_shapes.specs.Body.{State}
-use Rattle.pf_shapes.specs.Scene.{Setting}
-use Rattle.pf_shapes.specs.Same.{same_vector, same_rotation, same_shape, same_fixture, same_state, same_setting}
+use Rattle.pf_shapes.specs.Fixture.{Fixture}
+use Rattle.pf_shapes.specs.Body.{BodyState}
+use Rattle.pf_shapes.specs.Scene.{Scene}
+use Rattle.pf_shapes.specs.Same.{same_vector, same_rotation, same_shape, same_fixture, same_state, same_scene}
 
-Decides-vector : (u v : Vec2) → Decides (same_vector u v) (u ≡ v)
+Decides-vector : (u v : V2) → Decides (same_vector u v) (u ≡ v)
 Decides-vector u v =
-    Decides-like (same_vector u v) (λ e i. record { x = e.0 i; y = e.1 i }) (λ e. (ap (λ (w : Vec2). w.x) e, ap (λ (w : Vec2). w.y) e))
+    Decides-like (same_vector u v) (λ e i. record { x = e.0 i; y = e.1 i }) (λ e. (ap (λ (w : V2). w.x) e, ap (λ (w : V2). w.y) e))
     (Decides-and _ _ (Decides-int_eq u.x v.x) (Decides-int_eq u.y v.y))
 
-Decides-rotation : (p q : Pair) → Decides (same_rotation p q) (p ≡ q)
+Decides-rotation : (p q : Rot) → Decides (same_rotation p q) (p ≡ q)
 Decides-rotation p q =
-    Decides-like (same_rotation p q) (λ e i. record { c = e.0 i; s = e.1 i }) (λ e. (ap (λ (w : Pair). w.c) e, ap (λ (w : Pair). w.s) e))
+    Decides-like (same_rotation p q) (λ e i. record { c = e.0 i; s = e.1 i }) (λ e. (ap (λ (w : Rot). w.c) e, ap (λ (w : Rot). w.s) e))
     (Decides-and _ _ (Decides-int_eq p.c q.c) (Decides-int_eq p.s q.s))
 
 -- a test and a fact that both fail
@@ -62,44 +62,44 @@ Decides-flag false false = (λ e. refl, λ e. refl)
 Decides-flag true false = Decides-neither (λ e. e)
 Decides-flag false true = Decides-neither sym
 
-pub Decides-fixture : (a b : FixtureDef) → Decides (same_fixture a b) (a ≡ b)
+pub Decides-fixture : (a b : Fixture) → Decides (same_fixture a b) (a ≡ b)
 unfolding same_fixture
 Decides-fixture a b =
     Decides-like (same_fixture a b) (λ e i. record { shape = e.0 i; mass = e.1.0 i; friction = e.1.1.0 i; owner = e.1.1.1 i })
     (λ e. (
-      ap (λ (f : FixtureDef). f.shape) e,
+      ap (λ (f : Fixture). f.shape) e,
       (
-        ap (λ (f : FixtureDef). f.mass) e,
-        (ap (λ (f : FixtureDef). f.friction) e, ap (λ (f : FixtureDef). f.owner) e),
+        ap (λ (f : Fixture). f.mass) e,
+        (ap (λ (f : Fixture). f.friction) e, ap (λ (f : Fixture). f.owner) e),
       ),
     ))
     (Decides-and _ _ (Decides-shape a.shape b.shape) (Decides-and _ _ (Decides-int_eq a.mass b.mass)
     (Decides-and _ _ (Decides-int_eq a.friction b.friction) (Decides-owner a.owner b.owner))))
 
-pub Decides-state : (a b : State) → Decides (same_state a b) (a ≡ b)
+pub Decides-state : (a b : BodyState) → Decides (same_state a b) (a ≡ b)
 unfolding same_state
 Decides-state a b =
     Decides-like (same_state a b)
-    (λ e i. record { place = e.0 i; rot = e.1.0 i; vel = e.1.1.0 i; spin = e.1.1.1.0 i; timer = e.1.1.1.1.0 i; awake = e.1.1.1.1.1 i })
+    (λ e i. record { position = e.0 i; rotation = e.1.0 i; velocity = e.1.1.0 i; spin = e.1.1.1.0 i; timer = e.1.1.1.1.0 i; awake = e.1.1.1.1.1 i })
     (λ e. (
-      ap (λ (s : State). s.place) e,
+      ap (λ (s : BodyState). s.position) e,
       (
-        ap (λ (s : State). s.rot) e,
+        ap (λ (s : BodyState). s.rotation) e,
         (
-          ap (λ (s : State). s.vel) e,
-          (ap (λ (s : State). s.spin) e, (ap (λ (s : State). s.timer) e, ap (λ (s : State). s.awake) e)),
+          ap (λ (s : BodyState). s.velocity) e,
+          (ap (λ (s : BodyState). s.spin) e, (ap (λ (s : BodyState). s.timer) e, ap (λ (s : BodyState). s.awake) e)),
         ),
       ),
     ))
-    (Decides-and _ _ (Decides-vector a.place b.place) (Decides-and _ _ (Decides-rotation a.rot b.rot)
-    (Decides-and _ _ (Decides-vector a.vel b.vel) (Decides-and _ _ (Decides-int_eq a.spin b.spin)
+    (Decides-and _ _ (Decides-vector a.position b.position) (Decides-and _ _ (Decides-rotation a.rotation b.rotation)
+    (Decides-and _ _ (Decides-vector a.velocity b.velocity) (Decides-and _ _ (Decides-int_eq a.spin b.spin)
     (Decides-and _ _ (Decides-eqb a.timer b.timer) (Decides-flag a.awake b.awake))))))
 
-pub Decides-setting : (a b : Setting) → Decides (same_setting a b) (a ≡ b)
-unfolding same_setting
-Decides-setting a b =
-    Decides-like (same_setting a b) (λ e i. record { gravity = e.1 i; fixtures = e.0.0 i; starts = e.0.1 i })
-    (λ e. ((ap (λ (s : Setting). s.fixtures) e, ap (λ (s : Setting). s.starts) e), ap (λ (s : Setting). s.gravity) e))
+pub Decides-scene : (a b : Scene) → Decides (same_scene a b) (a ≡ b)
+unfolding same_scene
+Decides-scene a b =
+    Decides-like (same_scene a b) (λ e i. record { gravity = e.1 i; fixtures = e.0.0 i; starts = e.0.1 i })
+    (λ e. ((ap (λ (s : Scene). s.fixtures) e, ap (λ (s : Scene). s.starts) e), ap (λ (s : Scene). s.gravity) e))
     (Decides-and _ _
     (Decides-and _ _ (slice_eq-Decides Decides-fixture a.fixtures b.fixtures _ refl)
     (slice_eq-Decides Decides-state a.starts b.starts _ refl))
@@ -114,5 +114,5 @@ fixtures_equivalent = decided same_fixture Decides-fixture
 pub states_equivalent : IsEquivalence same_state
 states_equivalent = decided same_state Decides-state
 
-pub settings_equivalent : IsEquivalence same_setting
-settings_equivalent = decided same_setting Decides-setting
+pub scenes_equivalent : IsEquivalence same_scene
+scenes_equivalent = decided same_scene Decides-scene

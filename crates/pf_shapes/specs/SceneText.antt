@@ -9,8 +9,8 @@ use Rattle.pf_text.specs.declared.driver.TakeRefusal.{TakeRefusal}
 use Rattle.pf_text.specs.declared.driver.TakeRefusal.TheVariants as refusals
 use Rattle.pf_text.specs.Fault.{◌>>=◌}
 use Rattle.pf_text.specs.Numbers.{whole_of, spelled}
-use Rattle.pf_rot.specs.Vector.{Vec2}
-use Rattle.pf_rot.specs.Rotation.{Pair, upright, unit}
+use Rattle.pf_rot.specs.Vector.{V2}
+use Rattle.pf_rot.specs.Rotation.{Rot, upright, unit}
 use Rattle.pf_shapes.specs.declared.fault.SceneFault.{SceneFault}
 use Rattle.pf_shapes.specs.declared.fault.SceneFault.TheVariants.{BadLine, BadNumber, TooMany, BadMass, BadSize}
 use Rattle.pf_shapes.specs.declared.fixture.Shape.TheVariants.{Circle, Box}
@@ -18,11 +18,11 @@ use Rattle.pf_shapes.specs.declared.words.SceneWord.{SceneWord}
 use Rattle.pf_shapes.specs.declared.words.SceneWord.TheVariants as words
 use Rattle.pf_shapes.specs.declared.words.BodyWord.{BodyWord}
 use Rattle.pf_shapes.specs.declared.words.BodyWord.TheVariants as bodies
-use Rattle.pf_shapes.specs.Fixture.{FixtureDef}
+use Rattle.pf_shapes.specs.Fixture.{Fixture}
 use Rattle.pf_shapes.specs.declared.reader.Progress.{Progress}
 use Rattle.pf_shapes.specs.declared.reader.Progress.TheVariants.{More, Ended}
 use Rattle.pf_shapes.specs.Reader.{Reader}
-use Rattle.pf_shapes.specs.Scene.{Setting, empty_setting, with_body}
+use Rattle.pf_shapes.specs.Scene.{Scene, empty_scene, with_body}
 
 -- what a function gave is what the definition reads; memory may run out for what is no fault alone
 abbrev pub Reads : {X F : Type 0} → Result X (TakeRefusal F) → Result X F → Type 0
@@ -81,28 +81,28 @@ word_of field =
     (if bytes_eq field (codes "box") then Some (words.Body bodies.Box) else (if bytes_eq field (codes "end") then Some words.End else None)))
 
 -- `gravity GX GY`
-unfoldable pub gravity_of : List ℕ → List ℕ → Result Vec2 SceneFault
+unfoldable pub gravity_of : List ℕ → List ℕ → Result V2 SceneFault
 gravity_of x y = do
   x ← acceleration_of x
   y ← acceleration_of y
   Ok (record { x = x; y = y })
 
--- a place of a start
-unfoldable pub place_of : List ℕ → List ℕ → Result Vec2 SceneFault
-place_of x y = do
+-- a position of a start
+unfoldable pub position_of : List ℕ → List ℕ → Result V2 SceneFault
+position_of x y = do
   x ← coordinate_of x
   y ← coordinate_of y
   Ok (record { x = x; y = y })
 
 -- the rotation that points as C to S
-unfoldable pub rotation_of : List ℕ → List ℕ → Result Pair SceneFault
+unfoldable pub rotation_of : List ℕ → List ℕ → Result Rot SceneFault
 rotation_of c s = do
   c ← direction_of c
   s ← direction_of s
   Ok (unit c s)
 
 -- what four fields say of a circle
-unfoldable pub circle_fixture : List ℕ → List ℕ → List ℕ → List ℕ → Result FixtureDef SceneFault
+unfoldable pub circle_fixture : List ℕ → List ℕ → List ℕ → List ℕ → Result Fixture SceneFault
 circle_fixture owner mass friction r = do
   owner ← owner_of owner
   mass ← mass_of mass
@@ -111,7 +111,7 @@ circle_fixture owner mass friction r = do
   Ok (record { shape = Circle r; mass = mass; friction = friction; owner = owner })
 
 -- what five fields say of a box
-unfoldable pub box_fixture : List ℕ → List ℕ → List ℕ → List ℕ → List ℕ → Result FixtureDef SceneFault
+unfoldable pub box_fixture : List ℕ → List ℕ → List ℕ → List ℕ → List ℕ → Result Fixture SceneFault
 box_fixture owner mass friction hx hy = do
   owner ← owner_of owner
   mass ← mass_of mass
@@ -120,38 +120,38 @@ box_fixture owner mass friction hx hy = do
   hy ← size_of hy
   Ok (record { shape = Box hx hy; mass = mass; friction = friction; owner = owner })
 
--- a place, and upright there
-unfoldable pub upright_at : List ℕ → List ℕ → Result (Vec2 × Pair) SceneFault
+-- a position, and upright there
+unfoldable pub upright_at : List ℕ → List ℕ → Result (V2 × Rot) SceneFault
 upright_at x y = do
-  place ← place_of x y
-  Ok (place, upright)
+  position ← position_of x y
+  Ok (position, upright)
 
--- a place, and the rotation there
-unfoldable pub turned_at : List ℕ → List ℕ → List ℕ → List ℕ → Result (Vec2 × Pair) SceneFault
+-- a position, and the rotation there
+unfoldable pub turned_at : List ℕ → List ℕ → List ℕ → List ℕ → Result (V2 × Rot) SceneFault
 turned_at x y c s = do
-  place ← place_of x y
-  rot ← rotation_of c s
-  Ok (place, rot)
+  position ← position_of x y
+  rotation ← rotation_of c s
+  Ok (position, rotation)
 
 -- what a body is, and where it starts
-unfoldable pub placed : Result FixtureDef SceneFault → Result (Vec2 × Pair) SceneFault → Result (FixtureDef × (Vec2 × Pair)) SceneFault
-placed fixture posture = do
+unfoldable pub placed : Result Fixture SceneFault → Result (V2 × Rot) SceneFault → Result (Fixture × (V2 × Rot)) SceneFault
+placed fixture transform = do
   fixture ← fixture
-  posture ← posture
-  Ok (fixture, posture)
+  transform ← transform
+  Ok (fixture, transform)
 
 -- `circle OWNER MASS FRICTION R X Y`
-unfoldable pub circle_of : List (List ℕ) → Result (FixtureDef × (Vec2 × Pair)) SceneFault
+unfoldable pub circle_of : List (List ℕ) → Result (Fixture × (V2 × Rot)) SceneFault
 circle_of (owner ∷ mass ∷ friction ∷ r ∷ x ∷ y ∷ []) = placed (circle_fixture owner mass friction r) (upright_at x y)
 circle_of args = Err BadLine
 
 -- `box OWNER MASS FRICTION HX HY X Y C S`
-unfoldable pub box_of : List (List ℕ) → Result (FixtureDef × (Vec2 × Pair)) SceneFault
+unfoldable pub box_of : List (List ℕ) → Result (Fixture × (V2 × Rot)) SceneFault
 box_of (owner ∷ mass ∷ friction ∷ hx ∷ hy ∷ x ∷ y ∷ c ∷ s ∷ []) = placed (box_fixture owner mass friction hx hy) (turned_at x y c s)
 box_of args = Err BadLine
 
 -- the fields of a body behind its word
-abbrev pub body_of : BodyWord → List (List ℕ) → Result (FixtureDef × (Vec2 × Pair)) SceneFault
+abbrev pub body_of : BodyWord → List (List ℕ) → Result (Fixture × (V2 × Rot)) SceneFault
 body_of bodies.Circle args = circle_of args
 body_of bodies.Box args = box_of args
 
@@ -163,31 +163,31 @@ field_count bodies.Box = 9
 -- ---- lines
 
 -- more is to come: the scene so far
-abbrev pub so_far : ℕ → Setting → Progress
+abbrev pub so_far : ℕ → Scene → Progress
 so_far most s = More (record { most = most; scene = Some s })
 
 -- gravity comes first, and once
-unfoldable pub gravity_line : ℕ → Option Setting → List (List ℕ) → Result Progress SceneFault
+unfoldable pub gravity_line : ℕ → Option Scene → List (List ℕ) → Result Progress SceneFault
 gravity_line most None (x ∷ y ∷ []) = do
   gravity ← gravity_of x y
-  Ok (so_far most (empty_setting gravity))
+  Ok (so_far most (empty_scene gravity))
 gravity_line most scene args = Err BadLine
 
-abbrev pub body_added : ℕ → Setting → Result (FixtureDef × (Vec2 × Pair)) SceneFault → Result Progress SceneFault
+abbrev pub body_added : ℕ → Scene → Result (Fixture × (V2 × Rot)) SceneFault → Result Progress SceneFault
 body_added most s (Ok body) = Ok (so_far most (with_body s body.0 body.1.0 body.1.1))
 body_added most s (Err fault) = Err fault
 
 -- a body has the next number, where the scene may have one body more
-abbrev pub with_line : ℕ → Setting → BodyWord → List (List ℕ) → Result Progress SceneFault
+abbrev pub with_line : ℕ → Scene → BodyWord → List (List ℕ) → Result Progress SceneFault
 with_line most s word args =
     if length args == field_count word then (if nat_lt (length s.fixtures) most then body_added most s (body_of word args) else Err TooMany) else Err BadLine
 
 -- bodies come after gravity
-abbrev pub body_line : ℕ → Option Setting → BodyWord → List (List ℕ) → Result Progress SceneFault
+abbrev pub body_line : ℕ → Option Scene → BodyWord → List (List ℕ) → Result Progress SceneFault
 body_line most None word args = Err BadLine
 body_line most (Some s) word args = with_line most s word args
 
-unfoldable pub end_line : Option Setting → List (List ℕ) → Result Progress SceneFault
+unfoldable pub end_line : Option Scene → List (List ℕ) → Result Progress SceneFault
 end_line (Some s) [] = Ok (Ended s)
 end_line scene args = Err BadLine
 

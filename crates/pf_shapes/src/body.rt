@@ -1,7 +1,7 @@
 //! The state of a body at one tick.
 
 ghost use Rattle.std.specs.Prelude.{◌≡◌};
-ghost use Rattle.pf_shapes.specs.Body.{State, start_of};
+ghost use Rattle.pf_shapes.specs.Body.{BodyState, start_of};
 
 use crate::fixture::Fixture;
 use pf_num::Fx;
@@ -12,11 +12,11 @@ use std::marker::Model;
 #[derive(Clone, Copy, Debug)]
 pub struct BodyState {
     /// The centre, in units of 2^-24 of a length.
-    pub place: V2,
+    pub position: V2,
     /// The rotation.
-    pub rot: Rot,
+    pub rotation: Rot,
     /// The velocity, in lengths a second.
-    pub vel: V2,
+    pub velocity: V2,
     /// The angular velocity, in radians a second.
     pub spin: Fx,
     /// For how many ticks the body has been still. At 32 it goes to sleep, and the count is 0 again.
@@ -26,11 +26,11 @@ pub struct BodyState {
 }
 
 impl Model for BodyState {
-    ghost Value = { State };
+    ghost Value = { BodyState };
 
-    ghost view = { λ b. record { place = b.place; rot = b.rot; vel = b.vel; spin = b.spin; timer = b.timer; awake = b.awake } };
+    ghost view = { λ b. record { position = b.position; rotation = b.rotation; velocity = b.velocity; spin = b.spin; timer = b.timer; awake = b.awake } };
 
-    ghost inverse = { λ b. record { place = b.place; rot = b.rot; vel = b.vel; spin = b.spin; timer = b.timer; awake = b.awake } };
+    ghost inverse = { λ b. record { position = b.position; rotation = b.rotation; velocity = b.velocity; spin = b.spin; timer = b.timer; awake = b.awake } };
 }
 
 impl PartialEq for BodyState {
@@ -44,9 +44,9 @@ impl PartialEq for BodyState {
 
     #[tactic(auto, unfolding(crate::specs::Same::same_state))]
     fn eq(&self, other: &BodyState) -> bool {
-        self.place == other.place
-            && self.rot == other.rot
-            && self.vel == other.vel
+        self.position == other.position
+            && self.rotation == other.rotation
+            && self.velocity == other.velocity
             && self.spin == other.spin
             && self.timer == other.timer
             && self.awake == other.awake
@@ -61,13 +61,13 @@ impl Eq for BodyState {
 
 impl BodyState {
     /// The state in which a body of this fixture starts: at rest, and awake unless it is static.
-    pub fn start(fixture: &Fixture, place: V2, rot: Rot) -> BodyState
-        ensures { result ≡ start_of fixture.now place rot }
+    pub fn start(fixture: &Fixture, position: V2, rotation: Rot) -> BodyState
+        ensures { result ≡ start_of fixture.now position rotation }
     {
         BodyState {
-            place,
-            rot,
-            vel: V2::ZERO,
+            position,
+            rotation,
+            velocity: V2::ZERO,
             spin: Fx::ZERO,
             timer: 0,
             awake: !fixture.is_static(),

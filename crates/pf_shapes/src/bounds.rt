@@ -1,7 +1,7 @@
 //! The bounds of bodies, as Box2D's `b2AABB`.
 
 ghost use Rattle.std.specs.Prelude.{◌≡◌};
-ghost use Rattle.pf_shapes.specs.Bounds.{Span, overlaps, touches};
+ghost use Rattle.pf_shapes.specs.Bounds.{Bounds, overlaps, touches};
 ghost use Rattle.pf_shapes.specs.Reach.{reach, widened};
 
 use crate::body::BodyState;
@@ -11,7 +11,7 @@ use pf_rot::{Rot, V2};
 use std::marker::Model;
 
 /// An upright rectangle that a body's shape does not leave, with what else finding pairs asks of a body. All
-/// places are in units of 2^-24.
+/// positions are in units of 2^-24.
 #[derive(Clone, Copy, Debug)]
 pub struct Bounds {
     /// The low end on both axes.
@@ -19,15 +19,15 @@ pub struct Bounds {
     /// The high end on both axes.
     pub high: V2,
     /// Whether the body is static: no force moves it.
-    pub fixed: bool,
+    pub is_static: bool,
 }
 
 impl Model for Bounds {
-    ghost Value = { Span };
+    ghost Value = { Bounds };
 
-    ghost view = { λ b. record { low = b.low; high = b.high; fixed = b.fixed } };
+    ghost view = { λ b. record { low = b.low; high = b.high; is_static = b.is_static } };
 
-    ghost inverse = { λ b. record { low = b.low; high = b.high; fixed = b.fixed } };
+    ghost inverse = { λ b. record { low = b.low; high = b.high; is_static = b.is_static } };
 }
 
 /// How far a box of these half extents reaches from its centre along an axis, where its sides make these cosines with that
@@ -52,12 +52,12 @@ impl Shape {
     ghost use Rattle.std.specs.Prelude.{◌≡◌};
     ghost use Rattle.pf_shapes.specs.Fixture.{HasSize};
     ghost use Rattle.pf_shapes.specs.Reach.{IsPositive};
-    ghost use Rattle.pf_shapes.specs.Bounds.{IsUpright, extent, span_of};
+    ghost use Rattle.pf_shapes.specs.Bounds.{IsUpright, extent, shape_bounds};
 
-    /// How far the shape, turned by `rot`, reaches from its centre along each axis, and one raw unit more.
+    /// How far the shape, turned by `rotation`, reaches from its centre along each axis, and one raw unit more.
     #[tactic(auto, unfolding(crate::specs::Bounds::extent))]
-    fn extent(&self, rot: Rot) -> V2
-        ensures value { result ≡ extent self.now rot }
+    fn extent(&self, rotation: Rot) -> V2
+        ensures value { result ≡ extent self.now rotation }
         ensures positive { HasSize self.now → IsPositive result }
     {
         match self {
@@ -66,39 +66,39 @@ impl Shape {
                 y: widened(*r),
             },
             Shape::Box { hx, hy } => V2 {
-                x: widened(reach(rot.c, *hx, rot.s, *hy)),
-                y: widened(reach(rot.s, *hx, rot.c, *hy)),
+                x: widened(reach(rotation.c, *hx, rotation.s, *hy)),
+                y: widened(reach(rotation.s, *hx, rotation.c, *hy)),
             },
         }
     }
 
     /// The bounds of a body of this shape, where it is and as it is turned: one raw unit wider each way than the shape
     /// reaches. For the sizes of fixtures no low end is above its high end, wherever the body is.
-    #[tactic(auto, unfolding(crate::specs::Bounds::span_of))]
-    pub fn bounds(&self, place: V2, rot: Rot, fixed: bool) -> Bounds
-        ensures value { result ≡ span_of self.now place rot fixed }
+    #[tactic(auto, unfolding(crate::specs::Bounds::shape_bounds))]
+    pub fn bounds(&self, position: V2, rotation: Rot, is_static: bool) -> Bounds
+        ensures value { result ≡ shape_bounds self.now position rotation is_static }
         ensures upright { HasSize self.now → IsUpright result }
     {
-        let extent = self.extent(rot);
+        let extent = self.extent(rotation);
         Bounds {
-            low: place.sub(extent),
-            high: place.add(extent),
-            fixed,
+            low: position.sub(extent),
+            high: position.add(extent),
+            is_static,
         }
     }
 }
 
 impl Fixture {
     ghost use Rattle.std.specs.Prelude.{◌≡◌};
-    ghost use Rattle.pf_shapes.specs.Bounds.{IsUpright, bounds_of};
+    ghost use Rattle.pf_shapes.specs.Bounds.{IsUpright, fixture_bounds};
 
     /// The bounds of a body of this fixture in this state.
-    #[tactic(auto, unfolding(crate::specs::Bounds::bounds_of))]
+    #[tactic(auto, unfolding(crate::specs::Bounds::fixture_bounds))]
     pub fn bounds(&self, body: &BodyState) -> Bounds
-        ensures value { result ≡ bounds_of self.now body.now }
+        ensures value { result ≡ fixture_bounds self.now body.now }
         ensures upright { IsUpright result }
     {
-        self.shape().bounds(body.place, body.rot, self.is_static())
+        self.shape().bounds(body.position, body.rotation, self.is_static())
     }
 }
 

@@ -112,9 +112,9 @@ pub struct Fixture {
 }
 
 impl Model for Fixture {
-    ghost use Rattle.pf_shapes.specs.Fixture.{FixtureDef};
+    ghost use Rattle.pf_shapes.specs.Fixture.{Fixture};
 
-    ghost Value = { FixtureDef };
+    ghost Value = { Fixture };
 
     ghost view = { λ f. record { shape = f.shape; mass = f.mass; friction = f.friction; owner = f.owner } };
 

@@ -1,7 +1,7 @@
 //! A scene read line by line.
 
 ghost use Rattle.std.specs.Prelude.{◌≡◌, ◌<◌, ◌≤◌, length, map, IfOk};
-ghost use Rattle.pf_shapes.specs.Scene.{IsPosture};
+ghost use Rattle.pf_shapes.specs.Scene.{IsTransform};
 ghost use Rattle.pf_shapes.specs.SceneText.{Reads, so_far, field_count, body_added, with_line};
 
 use crate::fault::SceneFault;
@@ -151,12 +151,12 @@ fn body_added(
 ) -> Result<Progress, TakeRefusal<SceneFault>>
     requires limit { most_bodies ≤ MAX_BODIES }
     requires room { length scene.fixtures < most_bodies }
-    requires posture { IfOk body (λ body. IsPosture body.1) }
+    requires transform { IfOk body (λ body. IsTransform body.1) }
     ensures { Reads result (body_added most_bodies scene body) }
 {
-    let (fixture, (place, rot)) = body.map_err(TakeRefusal::Fault)?;
+    let (fixture, (position, rotation)) = body.map_err(TakeRefusal::Fault)?;
     let mut scene = scene;
-    scene.push(fixture, place, rot)?;
+    scene.push(fixture, position, rotation)?;
     Ok(so_far(most_bodies, scene))
 }
 

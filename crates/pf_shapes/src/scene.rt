@@ -18,24 +18,24 @@ pub struct Scene {
 }
 
 impl Model for Scene {
-    ghost use Rattle.pf_shapes.specs.Scene.{Setting, IsSetting};
+    ghost use Rattle.pf_shapes.specs.Scene.{Scene, IsScene};
 
-    ghost Value = { Setting };
+    ghost Value = { Scene };
 
     ghost view = { λ s. record { gravity = s.gravity; fixtures = s.fixtures.items; starts = s.starts.items } };
 
-    ghost invariant = { λ s. IsSetting (record { gravity = s.gravity; fixtures = s.fixtures.items; starts = s.starts.items }) };
+    ghost invariant = { λ s. IsScene (record { gravity = s.gravity; fixtures = s.fixtures.items; starts = s.starts.items }) };
 }
 
 impl Scene {
     ghost use Rattle.std.specs.Prelude.{◌≡◌, ◌<◌, ◌↔◌, [], length, IsTrue, OnOk, OnErr, IfOk};
-    ghost use Rattle.pf_shapes.specs.Scene.{IsSetting, IsGravity, IsPosture, empty_setting, with_body};
-    ghost use Rattle.pf_shapes.specs.Same.{same_setting};
+    ghost use Rattle.pf_shapes.specs.Scene.{IsScene, IsGravity, IsTransform, empty_scene, with_body};
+    ghost use Rattle.pf_shapes.specs.Same.{same_scene};
 
     /// A scene without bodies. Gravity has parts up to 2^34.
     pub fn new(alloc: Global, gravity: V2) -> Scene
         requires { IsGravity gravity }
-        ensures { result ≡ empty_setting gravity }
+        ensures { result ≡ empty_scene gravity }
     {
         Scene {
             gravity,
@@ -68,7 +68,7 @@ impl Scene {
     /// What each body is, in order of their numbers.
     pub fn fixtures(&self) -> &[Fixture]
         ensures value { result.now ≡ self.now.fixtures }
-        ensures setting { IsSetting self.now }
+        ensures scene { IsScene self.now }
     {
         self.fixtures.as_slice()
     }
@@ -76,21 +76,21 @@ impl Scene {
     /// How each body starts, in order of their numbers.
     pub fn starts(&self) -> &[BodyState]
         ensures value { result.now ≡ self.now.starts }
-        ensures setting { IsSetting self.now }
+        ensures scene { IsScene self.now }
     {
         self.starts.as_slice()
     }
 
-    /// Adds a body with the next number, which starts at rest. The parts of its place are up to 2^44, and those of its
+    /// Adds a body with the next number, which starts at rest. The parts of its position are up to 2^44, and those of its
     /// rotation up to 1. An `Err` leaves the scene as it was.
     #[tactic(auto, using(crate::proofs::Limits::starts_push))]
-    pub fn push(&mut self, fixture: Fixture, place: V2, rot: Rot) -> Result<(), AllocError>
+    pub fn push(&mut self, fixture: Fixture, position: V2, rotation: Rot) -> Result<(), AllocError>
         requires room { length self.old.fixtures < MAX_BODIES }
-        requires posture { IsPosture (place, rot) }
-        ensures ok { OnOk result (self.new ≡ with_body self.old fixture place rot) }
+        requires transform { IsTransform (position, rotation) }
+        ensures ok { OnOk result (self.new ≡ with_body self.old fixture position rotation) }
         ensures err { OnErr result (self.new ≡ self.old) }
     {
-        let start = BodyState::start(&fixture, place, rot);
+        let start = BodyState::start(&fixture, position, rotation);
         self.starts.reserve(1)?;
         self.fixtures.push(fixture)?;
         self.starts.push_reserved(start);
@@ -98,9 +98,9 @@ impl Scene {
     }
 
     /// Whether the scenes are equal, part by part.
-    #[tactic(auto, unfolding(crate::specs::Same::same_setting))]
+    #[tactic(auto, unfolding(crate::specs::Same::same_scene))]
     fn is_same(&self, other: &Scene) -> bool
-        ensures { result ≡ same_setting self.now other.now }
+        ensures { result ≡ same_scene self.now other.now }
     {
         let same_bodies = self.fixtures.as_slice() == other.fixtures.as_slice()
             && self.starts.as_slice() == other.starts.as_slice();
@@ -122,16 +122,16 @@ impl Scene {
 impl PartialEq for Scene {
     ghost use Rattle.std.specs.Prelude.{◌≡◌, ◌↔◌, IsTrue};
     ghost use Rattle.std.specs.Cmp.{partial_equiv_from_equiv};
-    ghost use Rattle.pf_shapes.specs.Same.{same_setting};
-    ghost use Rattle.pf_shapes.specs.SameLaws.{settings_equivalent};
+    ghost use Rattle.pf_shapes.specs.Same.{same_scene};
+    ghost use Rattle.pf_shapes.specs.SameLaws.{scenes_equivalent};
 
-    ghost eq = { same_setting };
+    ghost eq = { same_scene };
 
-    ghost laws = { partial_equiv_from_equiv settings_equivalent };
+    ghost laws = { partial_equiv_from_equiv scenes_equivalent };
 
     /// Whether the scenes are equal: gravity, and all bodies with their starts.
     fn eq(&self, other: &Scene) -> bool
-        ensures value { result ≡ same_setting self.now other.now }
+        ensures value { result ≡ same_scene self.now other.now }
         ensures equal { IsTrue result ↔ (self.now ≡ other.now) }
     {
         self.is_same(other)
@@ -139,7 +139,7 @@ impl PartialEq for Scene {
 }
 
 impl Eq for Scene {
-    ghost use Rattle.pf_shapes.specs.SameLaws.{settings_equivalent};
+    ghost use Rattle.pf_shapes.specs.SameLaws.{scenes_equivalent};
 
-    ghost laws = { settings_equivalent };
+    ghost laws = { scenes_equivalent };
 }

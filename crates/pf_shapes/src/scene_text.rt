@@ -4,8 +4,8 @@ ghost use Rattle.std.specs.Prelude.{◌≡◌, pos, neg_ℤ, IfOk, map};
 ghost use Rattle.pf_num.specs.Fx.{IsRaw};
 ghost use Rattle.pf_rot.specs.Laws.{IsAtMostOne};
 ghost use Rattle.pf_shapes.specs.Fixture.{IsWithin, IsMass, IsOwner};
-ghost use Rattle.pf_shapes.specs.Scene.{IsGravity, IsPlace, IsPosture};
-ghost use Rattle.pf_shapes.specs.SceneText.{number_of, acceleration_of, coordinate_of, size_of, friction_of, mass_of, owner_of, gravity_of, place_of, direction_of, rotation_of, circle_fixture, box_fixture, upright_at, turned_at, placed, circle_of, box_of, body_of};
+ghost use Rattle.pf_shapes.specs.Scene.{IsGravity, IsPosition, IsTransform};
+ghost use Rattle.pf_shapes.specs.SceneText.{number_of, acceleration_of, coordinate_of, size_of, friction_of, mass_of, owner_of, gravity_of, position_of, direction_of, rotation_of, circle_fixture, box_fixture, upright_at, turned_at, placed, circle_of, box_of, body_of};
 
 use crate::fault::SceneFault;
 use crate::fixture::{Fixture, Shape};
@@ -47,7 +47,7 @@ fn read_acceleration(field: &[u8]) -> Result<Fx, SceneFault>
     number_in(field, -MOST, MOST, SceneFault::BadNumber)
 }
 
-/// A part of a place.
+/// A part of a position.
 fn read_coordinate(field: &[u8]) -> Result<Fx, SceneFault>
     ensures value { result ≡ coordinate_of field.now }
     ensures range { IfOk result (IsWithin (neg_ℤ (pos 17592186044416)) (pos 17592186044416)) }
@@ -120,11 +120,11 @@ pub fn read_gravity(x: &[u8], y: &[u8]) -> Result<V2, SceneFault>
     })
 }
 
-/// The place of a start.
-#[tactic(auto, unfolding(crate::specs::SceneText::place_of))]
+/// The position of a start.
+#[tactic(auto, unfolding(crate::specs::SceneText::position_of))]
 fn read_place(x: &[u8], y: &[u8]) -> Result<V2, SceneFault>
-    ensures value { result ≡ place_of x.now y.now }
-    ensures range { IfOk result IsPlace }
+    ensures value { result ≡ position_of x.now y.now }
+    ensures range { IfOk result IsPosition }
 {
     Ok(V2 {
         x: read_coordinate(x)?,
@@ -143,30 +143,30 @@ fn read_rotation(c: &[u8], s: &[u8]) -> Result<Rot, SceneFault>
     Ok(Rot::unit(c, s))
 }
 
-/// A place, and upright there.
+/// A position, and upright there.
 #[tactic(auto, unfolding(crate::specs::SceneText::upright_at))]
 fn upright_at(x: &[u8], y: &[u8]) -> Result<(V2, Rot), SceneFault>
     ensures value { result ≡ upright_at x.now y.now }
-    ensures range { IfOk result IsPosture }
+    ensures range { IfOk result IsTransform }
 {
     Ok((read_place(x, y)?, Rot::UPRIGHT))
 }
 
-/// A place, and the rotation there.
+/// A position, and the rotation there.
 #[tactic(auto, unfolding(crate::specs::SceneText::turned_at))]
 fn turned_at(x: &[u8], y: &[u8], c: &[u8], s: &[u8]) -> Result<(V2, Rot), SceneFault>
     ensures value { result ≡ turned_at x.now y.now c.now s.now }
-    ensures range { IfOk result IsPosture }
+    ensures range { IfOk result IsTransform }
 {
-    let place = read_place(x, y)?;
-    let rot = read_rotation(c, s)?;
-    Ok((place, rot))
+    let position = read_place(x, y)?;
+    let rotation = read_rotation(c, s)?;
+    Ok((position, rotation))
 }
 
 /// The fields of a body behind its word: what the body is, and where it starts.
 pub fn read_body(word: BodyWord, arguments: &[&[u8]]) -> Result<(Fixture, (V2, Rot)), SceneFault>
     ensures value { result ≡ body_of word (map (λ field. field.now) arguments.now) }
-    ensures range { IfOk result (λ body. IsPosture body.1) }
+    ensures range { IfOk result (λ body. IsTransform body.1) }
 {
     match word {
         BodyWord::Circle => read_circle(arguments),
@@ -178,7 +178,7 @@ pub fn read_body(word: BodyWord, arguments: &[&[u8]]) -> Result<(Fixture, (V2, R
 #[tactic(auto, unfolding(crate::specs::SceneText::circle_of))]
 fn read_circle(arguments: &[&[u8]]) -> Result<(Fixture, (V2, Rot)), SceneFault>
     ensures value { result ≡ circle_of (map (λ field. field.now) arguments.now) }
-    ensures range { IfOk result (λ body. IsPosture body.1) }
+    ensures range { IfOk result (λ body. IsTransform body.1) }
 {
     match arguments {
         [owner, mass, friction, r, x, y] => {
@@ -192,7 +192,7 @@ fn read_circle(arguments: &[&[u8]]) -> Result<(Fixture, (V2, Rot)), SceneFault>
 #[tactic(auto, unfolding(crate::specs::SceneText::box_of))]
 fn read_box(arguments: &[&[u8]]) -> Result<(Fixture, (V2, Rot)), SceneFault>
     ensures value { result ≡ box_of (map (λ field. field.now) arguments.now) }
-    ensures range { IfOk result (λ body. IsPosture body.1) }
+    ensures range { IfOk result (λ body. IsTransform body.1) }
 {
     match arguments {
         [owner, mass, friction, hx, hy, x, y, c, s] => {
@@ -209,15 +209,15 @@ fn read_box(arguments: &[&[u8]]) -> Result<(Fixture, (V2, Rot)), SceneFault>
 #[tactic(auto, unfolding(crate::specs::SceneText::placed))]
 fn placed(
     fixture: Result<Fixture, SceneFault>,
-    posture: Result<(V2, Rot), SceneFault>,
+    transform: Result<(V2, Rot), SceneFault>,
 ) -> Result<(Fixture, (V2, Rot)), SceneFault>
-    requires { IfOk posture IsPosture }
-    ensures value { result ≡ placed fixture posture }
-    ensures range { IfOk result (λ body. IsPosture body.1) }
+    requires { IfOk transform IsTransform }
+    ensures value { result ≡ placed fixture transform }
+    ensures range { IfOk result (λ body. IsTransform body.1) }
 {
     let fixture = fixture?;
-    let posture = posture?;
-    Ok((fixture, posture))
+    let transform = transform?;
+    Ok((fixture, transform))
 }
 
 /// What four fields say of a circle.

@@ -27,9 +27,9 @@ fn a_scene_is_read(rt: HostRuntime) -> Result<(), Fail> {
     assert_eq!(rt; fixture.inverse_mass().raw(), 8_388_608);
     assert_eq!(rt; fixture.inverse_inertia().raw(), 16_777_216);
     let start = scene.starts()[0];
-    let place = start.place;
-    assert!(rt; place.x.raw() == -5 && place.y.raw() == 7);
-    assert!(rt; start.rot == Rot::UPRIGHT && start.vel == V2::ZERO && start.spin == Fx::ZERO);
+    let position = start.position;
+    assert!(rt; position.x.raw() == -5 && position.y.raw() == 7);
+    assert!(rt; start.rotation == Rot::UPRIGHT && start.velocity == V2::ZERO && start.spin == Fx::ZERO);
     assert!(rt; start.timer == 0 && start.awake);
     let floor = &scene.fixtures()[1];
     let resting = scene.starts()[1];
@@ -191,9 +191,9 @@ fn a_box_is_read(rt: HostRuntime) -> Result<(), Fail> {
         return Err(Fail::from("a box"));
     };
     assert_eq!(rt; (hx.raw(), hy.raw()), (16_777_216, 8_388_608));
-    assert_eq!(rt; (start.place.x.raw(), start.place.y.raw()), (5, -7));
+    assert_eq!(rt; (start.position.x.raw(), start.position.y.raw()), (5, -7));
     assert_eq!(rt;
-        (start.rot.c.raw(), start.rot.s.raw()),
+        (start.rotation.c.raw(), start.rotation.s.raw()),
         (10_066_330, 13_421_773)
     );
     assert_eq!(rt; fixture.inverse_inertia().raw(), 20_132_658);
@@ -234,7 +234,7 @@ fn bounds_are_a_unit_wider(rt: HostRuntime) -> Result<(), Fail> {
         (-16_777_212, -18_454_946, 16_777_222, 18_454_932)
     );
     let upturned = BodyState {
-        rot: Rot {
+        rotation: Rot {
             c: Fx::ZERO,
             s: Fx::ONE,
         },
@@ -258,11 +258,11 @@ fn bounds_that_touch_overlap(rt: HostRuntime) {
         (-33_554_434, true),
         (-33_554_435, false),
     ] {
-        let place = V2 {
+        let position = V2 {
             x: Fx::from_raw(x).expect(&rt, "in range"),
             y: Fx::ZERO,
         };
-        let other = circle.bounds(&BodyState { place, ..origin });
+        let other = circle.bounds(&BodyState { position, ..origin });
         assert_eq!(rt; bounds.overlaps(&other), touching, "{x}");
     }
 }
@@ -271,8 +271,8 @@ fn bounds_that_touch_overlap(rt: HostRuntime) {
 fn laws_are_called(_rt: HostRuntime) {
     laws::scene_lines_are_read();
     laws::overlapping_is_symmetric();
-    laws::spans_that_share_a_place_overlap();
+    laws::bounds_that_share_a_position_overlap();
     laws::boxes_stay_in_their_bounds();
     laws::circles_stay_in_their_bounds();
-    laws::bodies_that_share_a_place_overlap();
+    laws::bodies_that_share_a_position_overlap();
 }

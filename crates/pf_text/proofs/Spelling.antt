@@ -112,7 +112,7 @@ signed_decimal-whole [] z small e = absurd cc
 signed_decimal-whole (byte ∷ bytes) z small e = by (byte == 45) refl e
   where
     by : (t : Bool) → (byte == 45) ≡ t → (if t then negative (natural_of bytes) else option_map pos (natural_of (byte ∷ bytes))) ≡ Some z → (byte ∷ bytes) ≡ signed_decimal z
-    by true minus e =
+    by true sub e =
         let is : byte ≡ 45 = grind (arith, nat_tests) in
         rw is (negative_spelled bytes z (natural_of bytes) small refl e)
-    by false minus e = positive_spelled (byte ∷ bytes) z (natural_of (byte ∷ bytes)) small refl e
+    by false sub e = positive_spelled (byte ∷ bytes) z (natural_of (byte ∷ bytes)) small refl e

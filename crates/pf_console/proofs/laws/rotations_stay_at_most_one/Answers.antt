@@ -3,5 +3,5 @@ use Rattle.pf_console.proofs.Rotations.{sim_keeps}
 use Rattle.pf_console.proofs.laws.rotations_stay_at_most_one.Goals as goal
 
 pub returns : goal.returns
-returns c = λ scene commands tick setting.
-    sim_keeps scene commands scene.starts tick (starts_at_most_one scene.fixtures scene.starts setting.started)
+returns c = λ scene commands tick limits.
+    sim_keeps scene commands scene.starts tick (starts_at_most_one scene.fixtures scene.starts limits.started)

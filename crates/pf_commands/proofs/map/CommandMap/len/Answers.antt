@@ -1,6 +1,6 @@
 use Rattle.std.proofs.Common.{ap, sym, ◌∙◌, subst, length}
 use Rattle.std.specs.FinMap as map
-use Rattle.pf_commands.specs.Merge.{AreCommands}
+use Rattle.pf_commands.specs.Merge.{IsCommandMap}
 use Rattle.pf_commands.proofs.Stored.{entries-from_entries}
 use Rattle.pf_commands.proofs.map.CommandMap.len.Goals as goal
 
@@ -10,4 +10,4 @@ returns-clause-value c =
     ∙ sym (map.len-entries (map.from_entries c.self.inside.commands.entries)) ∙ ap map.len c.self.view_is
 
 pub returns-clause-range : goal.returns-clause-range
-returns-clause-range c = subst AreCommands c.self.view_is c.self.invariant
+returns-clause-range c = subst IsCommandMap c.self.view_is c.self.invariant

@@ -1,7 +1,7 @@
 use Rattle.std.proofs.Common.{ap, sym, ◌∙◌, subst}
 use Rattle.std.specs.Prelude.{IsSome}
 use Rattle.std.specs.FinMap as map
-use Rattle.pf_commands.specs.Merge.{AreCommands}
+use Rattle.pf_commands.specs.Merge.{IsCommandMap}
 use Rattle.pf_commands.proofs.Ranges.{AreCommands-insert}
 use Rattle.pf_commands.proofs.Stored.{inserted, lookup-get}
 use Rattle.pf_commands.proofs.map.CommandMap.write.Goals as goal
@@ -17,7 +17,7 @@ returns-in_err-insert-clause-held c some =
 
 pub invariant_of-self-2 : goal.invariant_of-self-2
 invariant_of-self-2 c =
-    subst AreCommands (sym (inserted c.self.inside.commands.entries _ c.args.command.now.name c.args.command.now.payload c.in_ok-insert.ensures.updates.0))
+    subst IsCommandMap (sym (inserted c.self.inside.commands.entries _ c.args.command.now.name c.args.command.now.payload c.in_ok-insert.ensures.updates.0))
     (AreCommands-insert _ c.args.command.now.name c.args.command.now.payload c.self.invariant c.read_ranges.ensures.name c.read_ranges.ensures.payload)
 
 pub returns-clause-ok : goal.returns-clause-ok

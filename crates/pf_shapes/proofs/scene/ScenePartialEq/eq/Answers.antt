@@ -1,8 +1,8 @@
 use Rattle.std.proofs.Common.{◌∙◌, sym}
-use Rattle.pf_shapes.specs.SameLaws.{Decides-setting}
+use Rattle.pf_shapes.specs.SameLaws.{Decides-scene}
 use Rattle.pf_shapes.proofs.scene.ScenePartialEq.eq.Goals as goal
 
 pub returns-clause-equal : goal.returns-clause-equal
 returns-clause-equal c =
-    let decides = Decides-setting c.args.self.now c.args.other.now in
+    let decides = Decides-scene c.args.self.now c.args.other.now in
     (λ h. decides.0 (sym c.is_same.ensures ∙ h), λ e. c.is_same.ensures ∙ decides.1 e)

@@ -1,5 +1,5 @@
 use Rattle.pf_shapes.proofs.Sharing.{shared, found}
-use Rattle.pf_shapes.proofs.laws.spans_that_share_a_place_overlap.Goals as goal
+use Rattle.pf_shapes.proofs.laws.bounds_that_share_a_position_overlap.Goals as goal
 
 pub returns-clause-shared : goal.returns-clause-shared
 returns-clause-shared c = shared
