@@ -13,7 +13,7 @@ use Rattle.hex.proofs.HexLemmas.{length-encode_with}
 use Rattle.pf_text.specs.Driver.{is_ascii, is_plain, is_skipped}
 use Rattle.pf_text.specs.Laws.{lacks_space, is_field}
 use Rattle.pf_text.proofs.Joined.{joined_fields}
-use Rattle.pf_text.proofs.Spelling.{decimal_digits}
+use Rattle.pf_text.proofs.DecimalText.{decimal_digits}
 use Rattle.pf_num.specs.Fx.{IsRaw}
 use Rattle.pf_commands.specs.declared.payload.Payload.{Payload}
 use Rattle.pf_commands.specs.declared.payload.Payload.TheVariants.{Push, Turn, Stop}

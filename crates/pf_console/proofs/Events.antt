@@ -1,6 +1,6 @@
 -- Lines that each say an event, one after the other.
 use Rattle.std.proofs.Common.{◌≡◌, ℕ, suc, ◌+◌, List, [], ◌∷◌, length, Ok, refl, add-zero, arith}
-use Rattle.pf_text.specs.Driver.{step, answers}
+use Rattle.pf_text.specs.Driver.{step, lines_output}
 use Rattle.pf_console.specs.declared.event.Event.{Event}
 use Rattle.pf_console.specs.declared.peer.Peer.{Peer}
 use Rattle.pf_console.specs.declared.phase.Phase.TheVariants.{Playing}
@@ -17,8 +17,8 @@ unfolding step says
 answer_is p line event h = rw (h.plain, h.asks, h.parted, h.event_is) refl
 
 pub answered : (number : ℕ) (p : Peer) (lines : List (List ℕ)) (events : List Event) → SayEvents lines events →
-    answers text_rules number (Playing p) lines ≡ played_out (number + length lines) p events
-unfolding answers replies played
+    lines_output text_rules number (Playing p) lines ≡ played_out (number + length lines) p events
+unfolding lines_output replies played
 answered number p [] [] h = rw (add-zero number) refl
 answered number p (line ∷ lines) (event ∷ events) h =
     let count : number + 1 + length lines ≡ number + suc (length lines) = omega arith in

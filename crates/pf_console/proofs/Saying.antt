@@ -8,8 +8,8 @@ use Rattle.std.proofs.lemmas.Int.{ints}
 use Rattle.hex.specs.Hex.{encode_lower}
 use Rattle.hex.proofs.HexLemmas.{decode_of-encode_lower}
 use Rattle.pf_num.specs.Fx.{greatest, IsRaw}
-use Rattle.pf_text.specs.Numbers.{whole_of, within}
-use Rattle.pf_text.proofs.Spelling.{whole-signed_decimal}
+use Rattle.pf_text.specs.Numbers.{whole_of, integer}
+use Rattle.pf_text.proofs.DecimalText.{whole-signed_decimal}
 use Rattle.pf_commands.specs.declared.payload.Command.{Command}
 use Rattle.pf_commands.specs.declared.payload.Payload.{Payload}
 use Rattle.pf_commands.specs.declared.payload.Payload.TheVariants.{Push, Turn, Stop}
@@ -25,12 +25,12 @@ use Rattle.pf_console.specs.Saying.{payload_fields, event_fields, CanBeSaid}
 
 -- ---- numbers
 
-within_range : (low high z : ℤ) → low ≤ℤ z → z ≤ℤ high → within low high (Some z) ≡ Ok z
+within_range : (low high z : ℤ) → low ≤ℤ z → z ≤ℤ high → integer low high (Some z) ≡ Ok z
 within_range low high z h k =
     let e : (int_le low z && int_le z high) ≡ true = grind (arith, ints, nat_tests) in rw e refl
 
-read_number : (low high z : ℤ) → unsigned_abs z < 2 ^ 64 → low ≤ℤ z → z ≤ℤ high → within low high (whole_of (signed_decimal z)) ≡ Ok z
-read_number low high z small h k = ap (within low high) (whole-signed_decimal z small) ∙ within_range low high z h k
+read_number : (low high z : ℤ) → unsigned_abs z < 2 ^ 64 → low ≤ℤ z → z ≤ℤ high → integer low high (whole_of (signed_decimal z)) ≡ Ok z
+read_number low high z small h k = ap (integer low high) (whole-signed_decimal z small) ∙ within_range low high z h k
 
 read_peer : (peer : ℕ) → peer ≡ 0 → peer_of (decimal peer) ≡ Ok peer
 read_peer peer e = rw (read_number (pos 0) (pos 0) (pos peer) (omega arith) (omega (arith, ints)) (omega (arith, ints))) refl

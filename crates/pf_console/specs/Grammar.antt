@@ -6,7 +6,7 @@ use Rattle.pf_num.specs.Fx.{greatest}
 use Rattle.pf_text.specs.declared.fault.LineFault.{LineFault}
 use Rattle.pf_text.specs.declared.fault.LineFault.TheVariants.{BadLine}
 use Rattle.pf_text.specs.Fault.{◌>>=◌}
-use Rattle.pf_text.specs.Numbers.{whole_of, within}
+use Rattle.pf_text.specs.Numbers.{whole_of, integer}
 use Rattle.pf_console.specs.declared.event.Event.{Event}
 use Rattle.pf_commands.specs.declared.payload.Payload.TheVariants.{Push, Turn, Stop}
 use Rattle.pf_console.specs.declared.event.Event.TheVariants.{Issue, Take, Advance, Show}
@@ -22,11 +22,11 @@ counted (Err fault) = Err fault
 
 -- a peer's number: there is one peer, 0
 abbrev pub peer_of : List ℕ → Result ℕ LineFault
-peer_of field = counted (within (pos 0) (pos 0) (whole_of field))
+peer_of field = counted (integer (pos 0) (pos 0) (whole_of field))
 
 -- a tick, or a count of ticks: below 2^32
 abbrev pub tick_of : List ℕ → Result ℕ LineFault
-tick_of field = counted (within (pos 0) (pos 4294967295) (whole_of field))
+tick_of field = counted (integer (pos 0) (pos 4294967295) (whole_of field))
 
 -- the first field of an event's line
 abbrev pub word_of : List ℕ → Option EventWord
@@ -47,11 +47,11 @@ kind_of field =
 
 -- the number of a body
 abbrev pub body_of : List ℕ → Result ℕ LineFault
-body_of field = counted (within (pos 0) (pos 65535) (whole_of field))
+body_of field = counted (integer (pos 0) (pos 65535) (whole_of field))
 
 -- a number of physics
 abbrev pub real_of : List ℕ → Result ℤ LineFault
-real_of field = within (neg_ℤ greatest) greatest (whole_of field)
+real_of field = integer (neg_ℤ greatest) greatest (whole_of field)
 
 -- `issue P push B X Y`
 unfoldable pub push_of : List ℕ → List (List ℕ) → Result Event LineFault

@@ -2,7 +2,7 @@
 use Rattle.std.specs.Prelude.{ℕ, ℤ, pos, List, [], ◌∷◌, None, Result, Ok, Err, codes, if◌then◌else◌}
 use Rattle.std.specs.Str.{bytes_eq}
 use Rattle.pf_text.specs.declared.fault.LineFault.{LineFault}
-use Rattle.pf_text.specs.Numbers.{whole_of, within}
+use Rattle.pf_text.specs.Numbers.{whole_of, integer}
 use Rattle.pf_text.specs.Driver.{Rules}
 use Rattle.pf_shapes.specs.declared.fault.SceneFault.{SceneFault}
 use Rattle.pf_shapes.specs.declared.fault.SceneFault.TheVariants.{BadLine}
@@ -37,7 +37,7 @@ begun scene (Err fault) = Err (scene_fault_of fault)
 -- `peers 1`
 unfoldable pub seated : Scene → List (List ℕ) → Answer
 seated scene (word ∷ count ∷ []) =
-    if bytes_eq word (codes "peers") then begun scene (within (pos 1) (pos 1) (whole_of count)) else Err BadLine
+    if bytes_eq word (codes "peers") then begun scene (integer (pos 1) (pos 1) (whole_of count)) else Err BadLine
 seated scene fields = Err BadLine
 
 -- an event is answered with the text of its reply
@@ -53,8 +53,8 @@ says (Playing peer) fields = happened peer (event_of fields)
 
 -- a text by its lines
 abbrev pub text_rules : Rules Phase SceneFault
-text_rules = record { says = says; refused = scene_fault_of }
+text_rules = record { transition = says; line_error = scene_fault_of }
 
 -- a text begins with a scene, of at most one body
 abbrev pub opening : Phase
-opening = Reading (record { most = 1; scene = None })
+opening = Reading (record { max_bodies = 1; scene = None })

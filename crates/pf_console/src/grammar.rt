@@ -7,7 +7,7 @@ use crate::digits::frame;
 use crate::event::Event;
 use pf_commands::Payload;
 use pf_num::Fx;
-use pf_text::{LineFault, Spelled, number};
+use pf_text::{LineFault, ParsedNumber, number};
 
 /// The first field of an event's line.
 #[derive(Clone, Copy, Debug, PartialEq, Eq)]
@@ -63,7 +63,7 @@ fn peer(field: &[u8]) -> Result<u8, LineFault>
     ensures { result ≡ peer_of field.now }
 {
     match number(field, 0, 0) {
-        Spelled::Within(peer) => Ok(peer as u8),
+        ParsedNumber::InRange(peer) => Ok(peer as u8),
         _ => Err(LineFault::BadNumber),
     }
 }
@@ -73,7 +73,7 @@ fn tick(field: &[u8]) -> Result<u32, LineFault>
     ensures { result ≡ tick_of field.now }
 {
     match number(field, 0, 0xffff_ffff) {
-        Spelled::Within(tick) => Ok(tick as u32),
+        ParsedNumber::InRange(tick) => Ok(tick as u32),
         _ => Err(LineFault::BadNumber),
     }
 }
@@ -83,7 +83,7 @@ fn body(field: &[u8]) -> Result<u16, LineFault>
     ensures { result ≡ body_of field.now }
 {
     match number(field, 0, 0xffff) {
-        Spelled::Within(body) => Ok(body as u16),
+        ParsedNumber::InRange(body) => Ok(body as u16),
         _ => Err(LineFault::BadNumber),
     }
 }
@@ -93,7 +93,7 @@ fn real(field: &[u8]) -> Result<Fx, LineFault>
     ensures { result ≡ real_of field.now }
 {
     match number(field, Fx::MAX.neg().raw(), Fx::MAX.raw()) {
-        Spelled::Within(raw) => Fx::from_raw(raw).ok_or(LineFault::BadNumber),
+        ParsedNumber::InRange(raw) => Fx::from_raw(raw).ok_or(LineFault::BadNumber),
         _ => Err(LineFault::BadNumber),
     }
 }

@@ -3,7 +3,7 @@
 ghost use Rattle.std.specs.Prelude.{◌≡◌, ◌↔◌, ℕ, ◌+◌, ◌≤◌, ◌<◌, false, List, length, Some, Ok, IsOk, IsSome, map, slice_get, All, Contains};
 ghost use Rattle.std.specs.FinMap.{get};
 ghost use Rattle.hex.specs.Hex.{encode_lower};
-ghost use Rattle.pf_text.specs.Driver.{answers};
+ghost use Rattle.pf_text.specs.Driver.{lines_output};
 ghost use Rattle.pf_rot.specs.Laws.{IsAtMostOne};
 ghost use Rattle.pf_shapes.specs.Body.{BodyState};
 ghost use Rattle.pf_shapes.specs.Scene.{IsScene, Scene};
@@ -38,9 +38,9 @@ pub fn shown_worlds_are_simulated()
 /// lines of events.
 pub fn events_are_answered()
     ensures said { (number : ℕ) (peer : Peer) (lines : List (List ℕ)) (events : List Event) → SayEvents lines events
-        → answers text_rules number (Playing peer) lines ≡ played_out (number + length lines) peer events }
+        → lines_output text_rules number (Playing peer) lines ≡ played_out (number + length lines) peer events }
     ensures written { (number : ℕ) (peer : Peer) (events : List Event) → All CanBeSaid events
-        → answers text_rules number (Playing peer) (map event_line events) ≡ played_out (number + length events) peer events }
+        → lines_output text_rules number (Playing peer) (map event_line events) ≡ played_out (number + length events) peer events }
 {}
 
 /// The line of an event says the event.

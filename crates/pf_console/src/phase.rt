@@ -1,7 +1,7 @@
 //! What the lines of a text mean, one after the other.
 
 ghost use Rattle.std.specs.Prelude.{◌≡◌, [], Ok, map};
-ghost use Rattle.pf_text.specs.Driver.{silent, Tells};
+ghost use Rattle.pf_text.specs.Driver.{without_output, Produces};
 ghost use Rattle.pf_console.specs.Grammar.{event_of};
 ghost use Rattle.pf_console.specs.Phase.{onward, seated, happened, text_rules};
 
@@ -52,7 +52,7 @@ fn onward(progress: Progress) -> Phase
 /// `peers 1`.
 #[tactic(auto, unfolding(crate::specs::Phase::seated))]
 fn seated(alloc: Global, scene: Scene, fields: &[&[u8]]) -> Result<Phase, SceneFault>
-    ensures { seated scene (map (λ field. field.now) fields.now) ≡ silent result }
+    ensures { seated scene (map (λ field. field.now) fields.now) ≡ without_output result }
 {
     let [word, count] = fields else {
         return Err(SceneFault::BadLine);
@@ -70,7 +70,7 @@ fn answered(
     peer: Peer,
     event: Event,
 ) -> Result<(String, Phase), TakeRefusal<SceneFault>>
-    ensures { Tells result (happened peer (Ok event)) }
+    ensures { Produces result (happened peer (Ok event)) }
 {
     let mut peer = peer;
     let reply = peer.answer(alloc, event)?;
@@ -84,7 +84,7 @@ fn happened(
     peer: Peer,
     fields: &[&[u8]],
 ) -> Result<(String, Phase), TakeRefusal<SceneFault>>
-    ensures { Tells result (happened peer (event_of (map (λ field. field.now) fields.now))) }
+    ensures { Produces result (happened peer (event_of (map (λ field. field.now) fields.now))) }
 {
     match event(fields) {
         Ok(event) => answered(alloc, peer, event),
@@ -97,7 +97,7 @@ impl Machine<()> for Phase {
 
     ghost rules = { text_rules };
 
-    fn refuse(fault: LineFault) -> SceneFault {
+    fn line_error(fault: LineFault) -> SceneFault {
         SceneFault::from(fault)
     }
 

@@ -1,6 +1,6 @@
 use Rattle.std.proofs.Common.{map, ◌+◌, subst, ◌≡◌, ℕ}
 use Rattle.std.proofs.lemmas.List.{length-map}
-use Rattle.pf_text.specs.Driver.{answers}
+use Rattle.pf_text.specs.Driver.{lines_output}
 use Rattle.pf_console.specs.declared.phase.Phase.TheVariants.{Playing}
 use Rattle.pf_console.specs.Laws.{played_out}
 use Rattle.pf_console.specs.Phase.{text_rules}
@@ -14,5 +14,5 @@ returns-clause-said c = answered
 
 pub returns-clause-written : goal.returns-clause-written
 returns-clause-written c = λ number peer events can.
-    let P : ℕ → Type 0 = λ n. answers text_rules number (Playing peer) (map event_line events) ≡ played_out (number + n) peer events in
+    let P : ℕ → Type 0 = λ n. lines_output text_rules number (Playing peer) (map event_line events) ≡ played_out (number + n) peer events in
     subst P (length-map events event_line) (answered number peer (map event_line events) events (say_events events can))
