@@ -13,7 +13,7 @@ use Rattle.pf_commands.specs.declared.payload.Command.{Command}
 use Rattle.pf_commands.specs.declared.payload.Payload.{Payload}
 use Rattle.pf_commands.specs.declared.payload.Payload.TheVariants.{Push, Turn, Stop}
 use Rattle.pf_commands.specs.Payload.{IsPayload, kind_of, body_of, x_of, y_of}
-use Rattle.pf_commands.specs.Frame.{IsBytes, IsFrameable, Spells, fields_of, fields_in, is_raw, is_canonical, is_in_range, payload_of, command_in, command_of, decode_of}
+use Rattle.pf_commands.specs.Frame.{IsBytes, IsFrameable, Encodes, fields_of, fields_in, is_raw, is_canonical, is_in_range, payload_of, command_in, command_of, decode}
 use Rattle.pf_commands.proofs.Fields.{AreFields, worth, raw_again, fields_of-fit, fields_in-fit, big_number_parts, number_of-parts, same_fields}
 
 -- ---- what is spelled is decoded
@@ -61,14 +61,14 @@ command_again c framed =
     rw (version, kind, canonical, range, command) refl
 
 -- the fields of what bytes spell are the command's
-pub fields_spelled : (bytes : List ℕ) (c : Command) → Spells bytes c → fields_of bytes ≡ fields_in c
+pub fields_spelled : (bytes : List ℕ) (c : Command) → Encodes bytes c → fields_of bytes ≡ fields_in c
 fields_spelled bytes c spelled =
     same_fields (fields_of bytes) (fields_in c) (fields_of-fit bytes spelled.are_bytes) (fields_in-fit c spelled.framed)
     (sym (big_number_parts bytes) ∙ spelled.same ∙ number_of-parts c)
 
-pub spelled_decodes : (bytes : List ℕ) (c : Command) → Spells bytes c → decode_of bytes ≡ Ok c
-unfolding decode_of
-spelled_decodes bytes c spelled =
+pub encoded_decodes : (bytes : List ℕ) (c : Command) → Encodes bytes c → decode bytes ≡ Ok c
+unfolding decode
+encoded_decodes bytes c spelled =
     let long = spelled.long in
     let fields = fields_spelled bytes c spelled in
     rw (long, fields) (command_again c spelled.framed)
@@ -157,8 +157,8 @@ command_of-names f c fits is =
     let names = command_in-names f fits (eqb-true f.version 1 (not-false _ version.0)) (ltb-false 2 f.kind kind.0) (not-false _ canonical.0) (in_range f (not-false _ range.0)) in
     subst (Names f) (ok_is (command_in f) c range.1) names
 
-pub decoded_spells : (bytes : List ℕ) (c : Command) → IsBytes bytes → decode_of bytes ≡ Ok c → Spells bytes c
-unfolding decode_of
+pub decoded_spells : (bytes : List ℕ) (c : Command) → IsBytes bytes → decode bytes ≡ Ok c → Encodes bytes c
+unfolding decode
 decoded_spells bytes c fits is =
     let short = guard_ok (nat_lt (length bytes) 27) Short _ c is in
     let long = guard_ok (nat_lt 27 (length bytes)) Long _ c short.1 in

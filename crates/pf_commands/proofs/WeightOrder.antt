@@ -8,7 +8,7 @@ use Rattle.std.specs.Ordering.{nat_cmp, ordering_then}
 use Rattle.std.proofs.lemmas.Bool.Decides.{nat_tests}
 use Rattle.std.specs.Prelude.{Some}
 use Rattle.pf_num.specs.Fx.{IsRaw}
-use Rattle.pf_commands.specs.News.{answer_to}
+use Rattle.pf_commands.specs.News.{put_outcome}
 use Rattle.pf_commands.specs.declared.map.Put.{Put}
 use Rattle.pf_commands.specs.declared.map.Put.TheVariants as put
 use Rattle.pf_commands.specs.declared.map.Put.TheVariants.{Same, Lesser}
@@ -99,11 +99,11 @@ answer_by Less = put.Greater
 answer_by Equal = Same
 answer_by Greater = Lesser
 
-answer_to-some : (held payload : Payload) → answer_by (nat_cmp (weight held) (weight payload)) ≡ answer_to (Some held) payload
+answer_to-some : (held payload : Payload) → answer_by (nat_cmp (weight held) (weight payload)) ≡ put_outcome (Some held) payload
 answer_to-some held payload = grind (arith, nat_tests)
 
 -- the answer to a payload, by the places of what is held and of it
 pub answered : (held payload : Payload) (a b : ℕ × ℕ × ℕ × ℕ) (o answer : Ordering)
-    → a ≡ places held → b ≡ places payload → IsPayload held → IsPayload payload → o ≡ places_cmp a b → o ≡ answer → answer_by answer ≡ answer_to (Some held) payload
+    → a ≡ places held → b ≡ places payload → IsPayload held → IsPayload payload → o ≡ places_cmp a b → o ≡ answer → answer_by answer ≡ put_outcome (Some held) payload
 answered held payload a b o answer a_is b_is held_is payload_is compared same =
     ap answer_by (sym same ∙ weight_from_places held payload a b o a_is b_is held_is payload_is compared) ∙ answer_to-some held payload

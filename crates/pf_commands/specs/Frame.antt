@@ -27,7 +27,7 @@ unfoldable pub number_of : Command → ℕ
 number_of c = 1 * 2 ^ 208 + c.name.tick * 2 ^ 176 + c.name.player * 2 ^ 168 + c.name.number * 2 ^ 152 + weight c.payload
 
 -- The bytes spell the command: they are 27, and as one big-endian number they are the sum of its fields at their places.
-pub record Spells (bytes : List ℕ) (c : Command) : Type 0 where
+pub record Encodes (bytes : List ℕ) (c : Command) : Type 0 where
   pub long : length bytes ≡ 27
   pub are_bytes : IsBytes bytes
   pub framed : IsFrameable c
@@ -72,8 +72,8 @@ bytes_in f =
     ++ big_bytes 1 f.kind ++ big_bytes 2 f.body ++ big_bytes 8 f.x ++ big_bytes 8 f.y
 
 -- the one spelling of a command that has one
-abbrev pub spelling : Command → List ℕ
-spelling c = bytes_in (fields_in c)
+abbrev pub encoding : Command → List ℕ
+encoding c = bytes_in (fields_in c)
 
 -- ---- decoding
 
@@ -114,8 +114,8 @@ command_of f =
     else Ok (command_in f))))
 
 -- the command that bytes spell, or the first of the six refusals
-unfoldable pub decode_of : List ℕ → Result Command FrameFault
-decode_of bytes =
+unfoldable pub decode : List ℕ → Result Command FrameFault
+decode bytes =
     if nat_lt (length bytes) 27 then Err Short
     else (if nat_lt 27 (length bytes) then Err Long
     else command_of (fields_of bytes))

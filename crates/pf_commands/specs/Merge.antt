@@ -36,27 +36,27 @@ abbrev pub IsCommandMap : CommandMap → Type 0
 IsCommandMap m = (name : Name) (payload : Payload) → get m name ≡ Some payload → IsName name × IsPayload payload
 
 -- the map of one command alone
-abbrev pub one : Name → Payload → CommandMap
-one name payload = insert empty name payload
+abbrev pub singleton : Name → Payload → CommandMap
+singleton name payload = insert empty name payload
 
 -- of two payloads the one of greater weight
-abbrev pub heavier : Payload → Payload → Payload
-heavier p q = if nat_lt (weight p) (weight q) then q else p
+abbrev pub heavier_payload : Payload → Payload → Payload
+heavier_payload p q = if nat_lt (weight p) (weight q) then q else p
 
 -- the same of two payloads that may be missing
-abbrev pub heavier_of : Option Payload → Option Payload → Option Payload
-heavier_of None q = q
-heavier_of (Some p) None = Some p
-heavier_of (Some p) (Some q) = Some (heavier p q)
+abbrev pub heaviest_of : Option Payload → Option Payload → Option Payload
+heaviest_of None q = q
+heaviest_of (Some p) None = Some p
+heaviest_of (Some p) (Some q) = Some (heavier_payload p q)
 
 -- the names of either map, each with its payload of greater weight
 unfoldable pub merge : CommandMap → CommandMap → CommandMap
-merge m k = from_entries (map (λ e. (e.0, unwrap_or (heavier_of (get m e.0) (get k e.0)) e.1)) (entries m ++ entries k))
+merge m k = from_entries (map (λ e. (e.0, unwrap_or (heaviest_of (get m e.0) (get k e.0)) e.1)) (entries m ++ entries k))
 
 -- a map with the commands of a list put in: each is merged in as the map of it alone
 abbrev pub put_all : CommandMap → List Command → CommandMap
 put_all m [] = m
-put_all m (c ∷ commands) = put_all (merge m (one c.name c.payload)) commands
+put_all m (c ∷ commands) = put_all (merge m (singleton c.name c.payload)) commands
 
 -- the payloads of a tick, in order of player, then number
 abbrev pub payloads_at : CommandMap → ℕ → List Payload

@@ -9,9 +9,9 @@ use Rattle.pf_commands.specs.declared.map.Put.{Put}
 use Rattle.pf_commands.specs.declared.map.Put.TheVariants.{New, Same, Greater, Lesser}
 
 -- the answer to a payload, given what is held under its name
-abbrev pub answer_to : Option Payload → Payload → Put
-answer_to None p = New
-answer_to (Some q) p = if weight q == weight p then Same else (if nat_lt (weight q) (weight p) then Greater else Lesser)
+abbrev pub put_outcome : Option Payload → Payload → Put
+put_outcome None p = New
+put_outcome (Some q) p = if weight q == weight p then Same else (if nat_lt (weight q) (weight p) then Greater else Lesser)
 
 -- the answers after which the map is another
 abbrev pub is_change : Put → Bool
@@ -22,21 +22,21 @@ is_change Lesser = false
 
 -- the command is new to the map, or greater than what it holds under that name
 abbrev pub is_news : CommandMap → Name × Payload → Bool
-is_news m e = is_change (answer_to (get m e.0) e.1)
+is_news m e = is_change (put_outcome (get m e.0) e.1)
 
 -- the commands of the second map that are new or greater to the first
 abbrev pub news : CommandMap → CommandMap → List (Name × Payload)
 news m k = filter (is_news m) (entries k)
 
 -- the lesser of a number and another that may be missing
-abbrev pub lesser : ℕ → Option ℕ → ℕ
-lesser n None = n
-lesser n (Some m) = min n m
+abbrev pub lesser_number : ℕ → Option ℕ → ℕ
+lesser_number n None = n
+lesser_number n (Some m) = min n m
 
 -- the least of some numbers, if there are any
 abbrev pub least_of : List ℕ → Option ℕ
 least_of [] = None
-least_of (n ∷ ns) = Some (lesser n (least_of ns))
+least_of (n ∷ ns) = Some (lesser_number n (least_of ns))
 
 -- n is one of some numbers, and at most each of them
 pub record IsLeast (ns : List ℕ) (n : ℕ) : Type 0 where

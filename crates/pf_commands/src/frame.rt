@@ -4,12 +4,12 @@ ghost use Rattle.std.specs.Prelude.{◌≡◌, ◌<◌, ◌^◌, length, IfOk, O
 ghost use Rattle.pf_commands.specs.declared.payload.Command.{Command};
 ghost use Rattle.pf_commands.specs.Name.{IsName};
 ghost use Rattle.pf_commands.specs.Payload.{IsPayload, body_of};
-ghost use Rattle.pf_commands.specs.Frame.{Spells, spelling, decode_of, payload_of};
+ghost use Rattle.pf_commands.specs.Frame.{Encodes, encoding, decode, payload_of};
 
 use crate::fault::FrameFault;
-use crate::name::{Name, PLAYERS, TICKS};
+use crate::name::{MAX_TICK, Name, PLAYERS};
 use crate::payload::{Command, Payload};
-use crate::weight::{PUSH, STOP, TURN, places_of};
+use crate::weight::{PUSH, STOP, TURN, weight_parts};
 use byteorder::{BigEndian, ByteOrder};
 use pf_num::Fx;
 
@@ -66,7 +66,7 @@ impl Fields {
         ensures name { IsName command.now.name }
         ensures payload { IsPayload command.now.payload }
     {
-        let (kind, body, x, y) = places_of(&command.payload);
+        let (kind, body, x, y) = weight_parts(&command.payload);
         Fields {
             version: VERSION,
             tick: command.name.tick(),
@@ -121,7 +121,7 @@ impl Fields {
         if !self.is_canonical() {
             return Err(FrameFault::NotCanonical);
         }
-        if self.tick >= TICKS || self.player >= PLAYERS || self.body >= BODIES {
+        if self.tick >= MAX_TICK || self.player >= PLAYERS || self.body >= BODIES {
             return Err(FrameFault::OutOfRange);
         }
         let x = Fx::from_raw(self.x.cast_signed());
@@ -148,9 +148,9 @@ fn payload_of(kind: u8, body: u16, x: Fx, y: Fx) -> Payload
 }
 
 /// The command that bytes spell, or the first cause why they spell none.
-#[tactic(auto, unfolding(crate::specs::Frame::decode_of))]
+#[tactic(auto, unfolding(crate::specs::Frame::decode))]
 fn decoded(bytes: &[u8]) -> Result<Command, FrameFault>
-    ensures { result ≡ decode_of bytes.now }
+    ensures { result ≡ decode bytes.now }
 {
     if bytes.len() < FRAME_LEN {
         return Err(FrameFault::Short);
@@ -164,13 +164,13 @@ fn decoded(bytes: &[u8]) -> Result<Command, FrameFault>
 /// The command that bytes spell. It takes no memory.
 pub fn decode(bytes: &[u8]) -> Result<Command, FrameFault>
     // What is answered is spelled so.
-    ensures found { IfOk result (Spells bytes.now) }
+    ensures found { IfOk result (Encodes bytes.now) }
 
     // What is spelled so is answered.
-    ensures only { (c : Command) → Spells bytes.now c → result ≡ Ok c }
+    ensures only { (c : Command) → Encodes bytes.now c → result ≡ Ok c }
 
     // Which refusal it is: the first that holds of the six, in the order of `FrameFault`.
-    ensures exact { result ≡ decode_of bytes.now }
+    ensures exact { result ≡ decode bytes.now }
 {
     decoded(bytes)
 }
@@ -178,8 +178,8 @@ pub fn decode(bytes: &[u8]) -> Result<Command, FrameFault>
 /// The one spelling of a command whose body is below 1,024. Other commands have none.
 pub fn encode(command: &Command) -> [u8; FRAME_LEN]
     requires { body_of command.now.payload < 2 ^ 10 }
-    ensures spelled { Spells result command.now }
-    ensures value { result ≡ spelling command.now }
+    ensures spelled { Encodes result command.now }
+    ensures value { result ≡ encoding command.now }
 {
     Fields::of_command(command).bytes()
 }

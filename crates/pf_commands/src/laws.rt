@@ -3,11 +3,11 @@
 ghost use Rattle.std.specs.Prelude.{◌≡◌, ◌<◌, IfSome, ◌↔◌, ◌≢◌, ℕ, List, [], ◌++◌, All, Contains, map, Some, Ok, Err, false};
 ghost use Rattle.std.specs.FinMap.{empty, get};
 ghost use Rattle.pf_shapes.specs.Scene.{Scene};
-ghost use Rattle.pf_commands.specs.Frame.{IsFrameable, Spells, spelling};
-ghost use Rattle.pf_commands.specs.Check.{check_all_of, IsAllowed, IsFirstFault};
+ghost use Rattle.pf_commands.specs.Frame.{IsFrameable, Encodes, encoding};
+ghost use Rattle.pf_commands.specs.Check.{check_all, IsAllowed, IsFirstFault};
 ghost use Rattle.pf_commands.specs.Name.{Name};
 ghost use Rattle.pf_commands.specs.Payload.{weight, IsPayload};
-ghost use Rattle.pf_commands.specs.Merge.{CommandMap, IsCommandMap, IsCommand, heavier_of, merge, one, put_all, payloads_at};
+ghost use Rattle.pf_commands.specs.Merge.{CommandMap, IsCommandMap, IsCommand, heaviest_of, merge, singleton, put_all, payloads_at};
 ghost use Rattle.pf_commands.specs.News.{is_news, news, least_tick, IsLeast};
 ghost use Rattle.pf_commands.specs.declared.checking.CheckFault.{CheckFault};
 ghost use Rattle.pf_commands.specs.declared.payload.Payload.{Payload};
@@ -15,11 +15,11 @@ ghost use Rattle.pf_commands.specs.declared.payload.Command.{Command};
 
 /// Each command in its ranges, with a body below 1,024, has one spelling; each spelling has one command; and no
 /// spelling begins another.
-pub fn commands_have_one_spelling()
-    ensures each { (c : Command) → IsFrameable c → Spells (spelling c) c }
-    ensures same_bytes { (a b : List ℕ) (c : Command) → Spells a c → Spells b c → a ≡ b }
-    ensures same_command { (a : List ℕ) (c d : Command) → Spells a c → Spells a d → c ≡ d }
-    ensures no_beginning { (a rest : List ℕ) (c d : Command) → Spells a c → Spells (a ++ rest) d → rest ≡ [] }
+pub fn commands_have_one_encoding()
+    ensures each { (c : Command) → IsFrameable c → Encodes (encoding c) c }
+    ensures same_bytes { (a b : List ℕ) (c : Command) → Encodes a c → Encodes b c → a ≡ b }
+    ensures same_command { (a : List ℕ) (c d : Command) → Encodes a c → Encodes a d → c ≡ d }
+    ensures no_beginning { (a rest : List ℕ) (c d : Command) → Encodes a c → Encodes (a ++ rest) d → rest ≡ [] }
 {}
 
 /// Merging is associative.
@@ -60,13 +60,13 @@ pub fn puts_are_a_merge()
 /// A command that is neither new nor greater changes nothing.
 pub fn no_news_changes_nothing()
     ensures { (m : CommandMap) (name : Name) (payload : Payload) → is_news m (name, payload) ≡ false
-        → merge m (one name payload) ≡ m }
+        → merge m (singleton name payload) ≡ m }
 {}
 
 /// A command for one tick changes the payloads of no other.
 pub fn put_keeps_other_ticks()
     ensures { (m : CommandMap) (name : Name) (payload : Payload) (tick : ℕ) → name.tick ≢ tick
-        → payloads_at (merge m (one name payload)) tick ≡ payloads_at m tick }
+        → payloads_at (merge m (singleton name payload)) tick ≡ payloads_at m tick }
 {}
 
 /// A merge changes the payloads of no tick before the least of its news, which `CommandMap::merge` answers.
@@ -83,7 +83,7 @@ pub fn least_ticks_are_least()
 
 /// Under each name a merge holds the payload of greater weight of what the two maps hold.
 pub fn get_of_merge()
-    ensures { (left right : CommandMap) (name : Name) → get (merge left right) name ≡ heavier_of (get left name) (get right name) }
+    ensures { (left right : CommandMap) (name : Name) → get (merge left right) name ≡ heaviest_of (get left name) (get right name) }
 {}
 
 /// Maps that hold the same under each name are one map.
@@ -104,7 +104,7 @@ pub fn same_weight_same_payload()
 /// Commands are allowed exactly where each one is, and else their fault is that of the first one that is not.
 pub fn first_fault_is_answered()
     ensures allowed { (scene : Scene) (commands : List (Name × Payload))
-        → (check_all_of scene commands ≡ Ok tt) ↔ All (IsAllowed scene) commands }
+        → (check_all scene commands ≡ Ok tt) ↔ All (IsAllowed scene) commands }
     ensures fault { (scene : Scene) (commands : List (Name × Payload)) (fault : CheckFault)
-        → (check_all_of scene commands ≡ Err fault) ↔ IsFirstFault scene commands fault }
+        → (check_all scene commands ≡ Err fault) ↔ IsFirstFault scene commands fault }
 {}

@@ -1,12 +1,12 @@
 //! Maps of commands: from names to payloads, in the order of names.
 
 ghost use Rattle.std.specs.Prelude.{◌≡◌};
-ghost use Rattle.pf_commands.specs.News.{answer_to, lesser};
+ghost use Rattle.pf_commands.specs.News.{put_outcome, lesser_number};
 
 use crate::checking::{CheckFault, check};
-use crate::name::{Name, PLAYERS, TICKS};
+use crate::name::{MAX_TICK, Name, PLAYERS};
 use crate::payload::{Command, Payload};
-use crate::weight::{places_of, read_ranges};
+use crate::weight::{weight_parts, read_ranges};
 use pf_shapes::Scene;
 use std::alloc::{AllocError, Global};
 use std::cmp::Ordering;
@@ -72,11 +72,11 @@ impl Model for CommandMap {
 }
 
 impl CommandMap {
-    ghost use Rattle.pf_commands.specs.Check.{check_all_of};
+    ghost use Rattle.pf_commands.specs.Check.{check_all};
     ghost use Rattle.std.specs.Prelude.{◌≡◌, ◌≤◌, ◌<◌, ◌^◌, ◌↔◌, ℕ, None, [], length, IfOk, IfSome, IfNone, IsOk, IsSome, IsTrue, OnOk, OnErr};
     ghost use Rattle.std.specs.FinMap as map;
-    ghost use Rattle.pf_commands.specs.Merge.{IsCommandMap, IsCommand, merge, one, payloads_at, name_at};
-    ghost use Rattle.pf_commands.specs.News.{answer_to, news, least_tick, NotesNews};
+    ghost use Rattle.pf_commands.specs.Merge.{IsCommandMap, IsCommand, merge, singleton, payloads_at, name_at};
+    ghost use Rattle.pf_commands.specs.News.{put_outcome, news, least_tick, NotesNews};
 
     /// The map of no commands. Takes no memory.
     pub fn new(alloc: Global) -> CommandMap
@@ -121,8 +121,8 @@ impl CommandMap {
     /// Puts the command into the map: under its name the payload of greater weight stays. Takes logarithmic time, and
     /// memory only for a new name. Without it the map stays as it was.
     pub fn put(&mut self, command: &Command) -> Result<Put, AllocError>
-        ensures answer { let c = command.now in IfOk result (λ put. put ≡ answer_to (map.get self.old c.name) c.payload) }
-        ensures ok { OnOk result (self.new ≡ merge self.old (one command.now.name command.now.payload)) }
+        ensures answer { let c = command.now in IfOk result (λ put. put ≡ put_outcome (map.get self.old c.name) c.payload) }
+        ensures ok { OnOk result (self.new ≡ merge self.old (singleton command.now.name command.now.payload)) }
         ensures err { OnErr result (self.new ≡ self.old) }
         ensures held { IsSome (map.get self.old command.now.name) → IsOk result }
         ensures range { IsCommand command.now }
@@ -139,7 +139,7 @@ impl CommandMap {
 
     /// What putting the command would answer.
     fn answer(&self, command: &Command) -> Put
-        ensures { result ≡ answer_to (map.get self.now command.now.name) command.now.payload }
+        ensures { result ≡ put_outcome (map.get self.now command.now.name) command.now.payload }
     {
         match self.get(command.name) {
             None => Put::New,
@@ -166,7 +166,7 @@ impl CommandMap {
         ensures quiet { payloads_at self.now tick ≡ [] → IsOk result }
     {
         let commands = &self.commands;
-        if tick >= TICKS {
+        if tick >= MAX_TICK {
             return Ok(Vec::new(alloc));
         }
         let first = Name::new(tick, 0, 0);
@@ -185,7 +185,7 @@ impl CommandMap {
         ensures none { IfNone result ((number : ℕ) → map.get self.now (name_at tick player number) ≡ None) }
     {
         let commands = &self.commands;
-        if tick >= TICKS || player >= PLAYERS {
+        if tick >= MAX_TICK || player >= PLAYERS {
             return None;
         }
         let first = Name::new(tick, player, 0);
@@ -251,7 +251,7 @@ impl CommandMap {
 
     /// Whether the scene allows each command, in order of their names: the first fault. Takes no memory.
     pub fn check_all(&self, scene: &Scene) -> Result<(), CheckFault>
-        ensures { result ≡ check_all_of scene.now (map.entries self.now) }
+        ensures { result ≡ check_all scene.now (map.entries self.now) }
     {
         let held = &self.commands;
         for (name, payload) in held.iter() {
@@ -266,9 +266,9 @@ impl CommandMap {
 
 /// What putting a payload under a name answers where another is held there.
 fn compared(held: &Payload, payload: &Payload) -> Put
-    ensures { result ≡ answer_to (Some held.now) payload.now }
+    ensures { result ≡ put_outcome (Some held.now) payload.now }
 {
-    match places_of(held).cmp(&places_of(payload)) {
+    match weight_parts(held).cmp(&weight_parts(payload)) {
         Ordering::Less => Put::Greater,
         Ordering::Equal => Put::Same,
         Ordering::Greater => Put::Lesser,
@@ -288,7 +288,7 @@ fn command_of(name: &Name, payload: &Payload) -> Command
 
 /// The lesser of two ticks, of which the first may be missing.
 fn earlier(least: Option<u32>, tick: u32) -> u32
-    ensures { result ≡ lesser tick least }
+    ensures { result ≡ lesser_number tick least }
 {
     match least {
         None => tick,

@@ -18,7 +18,7 @@ pub(crate) const STOP: u8 = 2;
 
 /// The places of a payload's weight, the highest first: kind, body, x and y in two's complement. Payloads are compared
 /// by weight as these are.
-pub(crate) fn places_of(payload: &Payload) -> (u8, u16, u64, u64)
+pub(crate) fn weight_parts(payload: &Payload) -> (u8, u16, u64, u64)
     ensures value { let p = payload.now in
         result ≡ (kind_of p, body_of p, cast_unsigned w64 (x_of p), cast_unsigned w64 (y_of p)) }
     ensures range { IsPayload payload.now }
@@ -41,5 +41,5 @@ pub(crate) fn read_ranges(command: &Command)
     ensures { IsCommand command.now }
 {
     let _tick = command.name.tick();
-    let _places = places_of(&command.payload);
+    let _places = weight_parts(&command.payload);
 }

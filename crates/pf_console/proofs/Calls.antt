@@ -5,9 +5,9 @@ use Rattle.pf_commands.specs.declared.checking.CheckFault.{CheckFault}
 use Rattle.pf_commands.specs.declared.map.Put.{Put}
 use Rattle.pf_commands.specs.declared.payload.Command.{Command}
 use Rattle.pf_commands.specs.declared.payload.Payload.{Payload}
-use Rattle.pf_commands.specs.Check.{check_of}
-use Rattle.pf_commands.specs.Merge.{CommandMap, merge, one, put_all}
-use Rattle.pf_commands.specs.News.{answer_to}
+use Rattle.pf_commands.specs.Check.{check}
+use Rattle.pf_commands.specs.Merge.{CommandMap, merge, singleton, put_all}
+use Rattle.pf_commands.specs.News.{put_outcome}
 use Rattle.pf_console.specs.declared.event.Event.{Event}
 use Rattle.pf_console.specs.declared.event.Event.TheVariants.{Issue, Take, Advance, Show}
 use Rattle.pf_console.specs.declared.event.Reply.{Reply}
@@ -33,18 +33,18 @@ either Holds true r s first second = first
 either Holds false r s first second = second
 
 put_allowed : (p : Peer) (c : Command) (put : Put) (checked : Result (Unit {0}) CheckFault) →
-    Brings p c (allowed checked (put, record p { commands = merge p.commands (one c.name c.payload) }))
+    Brings p c (allowed checked (put, record p { commands = merge p.commands (singleton c.name c.payload) }))
 put_allowed p c put (Ok done) = record { scene = λ reply. refl; commands = λ reply. refl }
 put_allowed p c put (Err fault) = record { scene = λ reply. refl; commands = λ reply. refl }
 
 put_with_frame : (p : Peer) (c : Command) (put : Put) (checked : Result (Unit {0}) CheckFault) →
-    Brings p c (with_frame c (allowed checked (put, record p { commands = merge p.commands (one c.name c.payload) })))
+    Brings p c (with_frame c (allowed checked (put, record p { commands = merge p.commands (singleton c.name c.payload) })))
 put_with_frame p c put (Ok done) = record { scene = λ reply. refl; commands = λ reply. refl }
 put_with_frame p c put (Err fault) = record { scene = λ reply. refl; commands = λ reply. refl }
 
 puts : (p : Peer) (c : Command) → Brings p c (putting p c)
 unfolding putting
-puts p c = put_allowed p c (answer_to (get p.commands c.name) c.payload) (check_of p.scene c.name c.payload)
+puts p c = put_allowed p c (put_outcome (get p.commands c.name) c.payload) (check p.scene c.name c.payload)
 
 issues : (p : Peer) (payload : Payload) → Brings p (next_command p payload) (issuing p payload)
 unfolding issuing putting
@@ -52,7 +52,7 @@ issues p payload =
     let c = next_command p payload in
     either (Brings p c) (nat_le 1048576 p.reached) (Err _) _ (refused p c _)
     (either (Brings p c) (nat_le 65536 (next_number p.commands p.reached 0)) (Err _) _ (refused p c _)
-    (put_with_frame p c (answer_to (get p.commands c.name) c.payload) (check_of p.scene c.name c.payload)))
+    (put_with_frame p c (put_outcome (get p.commands c.name) c.payload) (check p.scene c.name c.payload)))
 
 -- a call that changes neither scene nor commands
 record Keeps {A : Type 0} (p : Peer) (r : Result (A × Peer) Refusal) : Type 0 where
@@ -89,7 +89,7 @@ commands_after p (Show peer tick) = (shows p tick).commands (λ world. Shown pee
 
 put_all-append : (m : CommandMap) (cs ds : List Command) → put_all m (cs ++ ds) ≡ put_all (put_all m cs) ds
 put_all-append m [] ds = refl
-put_all-append m (c ∷ cs) ds = put_all-append (merge m (one c.name c.payload)) cs ds
+put_all-append m (c ∷ cs) ds = put_all-append (merge m (singleton c.name c.payload)) cs ds
 
 pub scene_played : (p : Peer) (events : List Event) → (played p events).scene ≡ p.scene
 unfolding played

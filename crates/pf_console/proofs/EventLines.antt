@@ -18,8 +18,8 @@ use Rattle.pf_num.specs.Fx.{IsRaw}
 use Rattle.pf_commands.specs.declared.payload.Payload.{Payload}
 use Rattle.pf_commands.specs.declared.payload.Payload.TheVariants.{Push, Turn, Stop}
 use Rattle.pf_commands.specs.Payload.{IsPayload}
-use Rattle.pf_commands.specs.Frame.{spelling}
-use Rattle.pf_commands.proofs.Spelling.{spelling_spells}
+use Rattle.pf_commands.specs.Frame.{encoding}
+use Rattle.pf_commands.proofs.Encoding.{encoding_encodes}
 use Rattle.pf_console.specs.declared.event.Event.{Event}
 use Rattle.pf_console.specs.declared.event.Event.TheVariants.{Issue, Take, Advance, Show}
 use Rattle.pf_console.specs.Laws.{Says, SayEvents}
@@ -146,7 +146,7 @@ event_words : (event : Event) → CanBeSaid event → AreWords (event_fields eve
 event_words (Issue peer payload) h =
     (word (codes "issue") refl (omega arith) (omega arith), (peer_word peer h.0, payload_words payload h.1))
 event_words (Take peer (Ok c)) h =
-    (word (codes "take") refl (omega arith) (omega arith), (peer_word peer h.0, (frame_word (spelling c) (spelling_spells c h.1).long, tt)))
+    (word (codes "take") refl (omega arith) (omega arith), (peer_word peer h.0, (frame_word (encoding c) (encoding_encodes c h.1).long, tt)))
 event_words (Take peer (Err fault)) h = elim h [ ]
 event_words (Advance peer ticks) h =
     (word (codes "advance") refl (omega arith) (omega arith), (peer_word peer h.0, (decimal_word ticks (omega (arith, h.1)), tt)))

@@ -10,7 +10,7 @@ use Rattle.hex.specs.declared.error.FromHexError.TheVariants.{InvalidHexCharacte
 use Rattle.pf_text.specs.declared.fault.LineFault.TheVariants.{BadNumber}
 use Rattle.pf_commands.specs.declared.fault.FrameFault.{FrameFault}
 use Rattle.pf_commands.specs.declared.fault.FrameFault.TheVariants.{Short, Long}
-use Rattle.pf_commands.specs.Frame.{decode_of}
+use Rattle.pf_commands.specs.Frame.{decode}
 use Rattle.pf_console.specs.Digits.{decoded, spelled, frame_of}
 
 -- ---- one digit
@@ -83,17 +83,17 @@ no_digits digits even e =
 
 -- the bytes of digits alone are judged by their number, where that is not 27
 judged_by_length : (digits : List ℕ) (fault : FrameFault) → length digits % 2 ≡ 0 → list_all is_ascii_hexdigit digits ≡ true
-    → ((bytes : List ℕ) → 2 * length bytes ≡ length digits → decode_of bytes ≡ Err fault) → frame_of digits ≡ Ok (Err fault)
+    → ((bytes : List ℕ) → 2 * length bytes ≡ length digits → decode bytes ≡ Err fault) → frame_of digits ≡ Ok (Err fault)
 judged_by_length digits fault even e judged =
     let found = digits_decode 0 digits even e in
     even_digits digits even ∙ ap (λ bytes. decoded (spelled bytes)) found.1 ∙ ap Ok (judged found.0 found.2)
 
-short_bytes : (bytes : List ℕ) → length bytes < 27 → decode_of bytes ≡ Err Short
-unfolding decode_of
+short_bytes : (bytes : List ℕ) → length bytes < 27 → decode bytes ≡ Err Short
+unfolding decode
 short_bytes bytes less = let e : nat_lt (length bytes) 27 ≡ true = grind (arith, nat_tests) in rw e refl
 
-long_bytes : (bytes : List ℕ) → 27 < length bytes → decode_of bytes ≡ Err Long
-unfolding decode_of
+long_bytes : (bytes : List ℕ) → 27 < length bytes → decode bytes ≡ Err Long
+unfolding decode
 long_bytes bytes more =
     let e : nat_lt (length bytes) 27 ≡ false = grind (arith, nat_tests) in
     let f : nat_lt 27 (length bytes) ≡ true = grind (arith, nat_tests) in

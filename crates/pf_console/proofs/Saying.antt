@@ -14,9 +14,9 @@ use Rattle.pf_commands.specs.declared.payload.Command.{Command}
 use Rattle.pf_commands.specs.declared.payload.Payload.{Payload}
 use Rattle.pf_commands.specs.declared.payload.Payload.TheVariants.{Push, Turn, Stop}
 use Rattle.pf_commands.specs.Payload.{IsPayload}
-use Rattle.pf_commands.specs.Frame.{IsFrameable, spelling}
-use Rattle.pf_commands.proofs.Spelling.{spelling_spells}
-use Rattle.pf_commands.proofs.Frames.{spelled_decodes}
+use Rattle.pf_commands.specs.Frame.{IsFrameable, encoding}
+use Rattle.pf_commands.proofs.Encoding.{encoding_encodes}
+use Rattle.pf_commands.proofs.Frames.{encoded_decodes}
 use Rattle.pf_console.specs.declared.event.Event.{Event}
 use Rattle.pf_console.specs.declared.event.Event.TheVariants.{Issue, Take, Advance, Show}
 use Rattle.pf_console.specs.Digits.{decoded, spelled, frame_of}
@@ -46,10 +46,10 @@ read_real z raw = read_number (neg_ℤ greatest) greatest z (omega arith) (omega
 
 -- ---- frames
 
-pub read_frame : (c : Command) → IsFrameable c → frame_of (encode_lower (spelling c)) ≡ Ok (Ok c)
+pub read_frame : (c : Command) → IsFrameable c → frame_of (encode_lower (encoding c)) ≡ Ok (Ok c)
 read_frame c h =
-    let spells = spelling_spells c h in
-    ap (λ bytes. decoded (spelled bytes)) (decode_of-encode_lower (spelling c) spells.are_bytes) ∙ ap Ok (spelled_decodes (spelling c) c spells)
+    let spells = encoding_encodes c h in
+    ap (λ bytes. decoded (spelled bytes)) (decode_of-encode_lower (encoding c) spells.are_bytes) ∙ ap Ok (encoded_decodes (encoding c) c spells)
 
 -- ---- events
 

@@ -4,7 +4,7 @@ use Rattle.hex.specs.Hex.{decode_of as hex_bytes}
 use Rattle.hex.specs.declared.error.FromHexError.{FromHexError}
 use Rattle.pf_commands.specs.declared.fault.FrameFault.{FrameFault}
 use Rattle.pf_commands.specs.declared.payload.Command.{Command}
-use Rattle.pf_commands.specs.Frame.{decode_of}
+use Rattle.pf_commands.specs.Frame.{decode}
 use Rattle.pf_text.specs.declared.fault.LineFault.{LineFault}
 use Rattle.pf_text.specs.declared.fault.LineFault.TheVariants.{BadNumber}
 
@@ -17,7 +17,7 @@ abbrev pub bytes_of : List ℕ → Result (List ℕ) LineFault
 bytes_of digits = spelled (hex_bytes digits)
 
 abbrev pub decoded : Result (List ℕ) LineFault → Result (Result Command FrameFault) LineFault
-decoded (Ok bytes) = Ok (decode_of bytes)
+decoded (Ok bytes) = Ok (decode bytes)
 decoded (Err fault) = Err fault
 
 -- the command that these bytes spell, or why they spell none

@@ -9,10 +9,10 @@ use Rattle.pf_commands.specs.declared.fault.FrameFault.{FrameFault}
 use Rattle.pf_commands.specs.declared.map.Put.{Put}
 use Rattle.pf_commands.specs.declared.payload.Command.{Command}
 use Rattle.pf_commands.specs.declared.payload.Payload.{Payload}
-use Rattle.pf_commands.specs.Check.{check_of}
-use Rattle.pf_commands.specs.Frame.{spelling}
-use Rattle.pf_commands.specs.Merge.{CommandMap, merge, one, name_at}
-use Rattle.pf_commands.specs.News.{answer_to}
+use Rattle.pf_commands.specs.Check.{check}
+use Rattle.pf_commands.specs.Frame.{encoding}
+use Rattle.pf_commands.specs.Merge.{CommandMap, merge, singleton, name_at}
+use Rattle.pf_commands.specs.News.{put_outcome}
 use Rattle.pf_console.specs.declared.event.Event.{Event}
 use Rattle.pf_console.specs.declared.event.Event.TheVariants.{Issue, Take, Advance, Show}
 use Rattle.pf_console.specs.declared.event.Reply.{Reply}
@@ -34,8 +34,8 @@ allowed (Err fault) answer = Err (Check fault)
 -- a command that the scene allows is put into the map
 unfoldable pub putting : Peer → Command → Result (Put × Peer) Refusal
 putting p c =
-    allowed (check_of p.scene c.name c.payload)
-    (answer_to (get p.commands c.name) c.payload, record p { commands = merge p.commands (one c.name c.payload) })
+    allowed (check p.scene c.name c.payload)
+    (put_outcome (get p.commands c.name) c.payload, record p { commands = merge p.commands (singleton c.name c.payload) })
 
 -- a frame is taken where it spells a command
 abbrev pub taking : Peer → Result Command FrameFault → Result (Put × Peer) Refusal
@@ -63,7 +63,7 @@ next_command p payload =
     record { name = record { tick = p.reached; player = 0; number = next_number p.commands p.reached 0 }; payload = payload }
 
 abbrev pub with_frame : Command → Result (Put × Peer) Refusal → Result (List ℕ × Peer) Refusal
-with_frame c (Ok put) = Ok (spelling c, put.1)
+with_frame c (Ok put) = Ok (encoding c, put.1)
 with_frame c (Err refusal) = Err refusal
 
 -- a command of its own is named by the reached tick and the next number, and put

@@ -6,7 +6,7 @@ use Rattle.hex.specs.Hex.{encode_lower}
 use Rattle.pf_commands.specs.declared.payload.Payload.{Payload}
 use Rattle.pf_commands.specs.declared.payload.Payload.TheVariants.{Push, Turn, Stop}
 use Rattle.pf_commands.specs.Payload.{IsPayload}
-use Rattle.pf_commands.specs.Frame.{IsFrameable, spelling}
+use Rattle.pf_commands.specs.Frame.{IsFrameable, encoding}
 use Rattle.pf_console.specs.declared.event.Event.{Event}
 use Rattle.pf_console.specs.declared.event.Event.TheVariants.{Issue, Take, Advance, Show}
 
@@ -19,7 +19,7 @@ payload_fields (Stop body) = codes "stop" ∷ decimal body ∷ []
 -- the fields of an event; a frame that spells no command has many spellings, and none here
 abbrev pub event_fields : Event → List (List ℕ)
 event_fields (Issue peer payload) = codes "issue" ∷ decimal peer ∷ payload_fields payload
-event_fields (Take peer (Ok c)) = codes "take" ∷ decimal peer ∷ encode_lower (spelling c) ∷ []
+event_fields (Take peer (Ok c)) = codes "take" ∷ decimal peer ∷ encode_lower (encoding c) ∷ []
 event_fields (Take peer (Err fault)) = []
 event_fields (Advance peer ticks) = codes "advance" ∷ decimal peer ∷ decimal ticks ∷ []
 event_fields (Show peer tick) = codes "show" ∷ decimal peer ∷ decimal tick ∷ []

@@ -9,10 +9,10 @@ ghost use Rattle.pf_shapes.specs.Body.{BodyState};
 ghost use Rattle.pf_shapes.specs.Scene.{IsScene, Scene};
 ghost use Rattle.pf_commands.specs.declared.payload.Command.{Command};
 ghost use Rattle.pf_commands.specs.declared.payload.Payload.{Payload};
-ghost use Rattle.pf_commands.specs.Frame.{IsFrameable, decode_of, spelling};
+ghost use Rattle.pf_commands.specs.Frame.{IsFrameable, decode, encoding};
 ghost use Rattle.pf_commands.specs.Payload.{IsPayload};
 ghost use Rattle.pf_commands.specs.Name.{Name};
-ghost use Rattle.pf_commands.specs.Merge.{CommandMap, IsCommandMap, IsCommand, merge, name_at, one, payloads_at, put_all};
+ghost use Rattle.pf_commands.specs.Merge.{CommandMap, IsCommandMap, IsCommand, merge, name_at, singleton, payloads_at, put_all};
 ghost use Rattle.pf_console.specs.declared.event.Event.{Event};
 ghost use Rattle.pf_console.specs.declared.event.Event.TheVariants.{Show};
 ghost use Rattle.pf_console.specs.declared.event.Reply.TheVariants.{Refused, Shown};
@@ -50,7 +50,7 @@ pub fn event_lines_say_events()
 
 /// The digits of a command's frame, as `issue` prints them, are read as the command.
 pub fn printed_frames_are_read()
-    ensures { (c : Command) → IsFrameable c → frame_of (encode_lower (spelling c)) ≡ Ok (Ok c) }
+    ensures { (c : Command) → IsFrameable c → frame_of (encode_lower (encoding c)) ≡ Ok (Ok c) }
 {}
 
 /// A body that sleeps stays as it is at every later tick, up to a command for it.
@@ -75,7 +75,7 @@ pub fn refused_events_change_nothing()
 /// A command for a tick changes no world at a tick up to that one.
 pub fn commands_change_later_worlds()
     ensures { (scene : Scene) (commands : CommandMap) (name : Name) (payload : Payload) (tick : ℕ) → tick ≤ name.tick
-        → sim scene (merge commands (one name payload)) tick ≡ sim scene commands tick }
+        → sim scene (merge commands (singleton name payload)) tick ≡ sim scene commands tick }
 {}
 
 /// Peers of one scene that hold the same commands and have reached the same tick show the same worlds, and answer all
@@ -100,7 +100,7 @@ pub fn order_and_repeats_do_not_matter()
 /// is not refused.
 pub fn issued_commands_can_be_taken()
     ensures spelled { (peer after : Peer) (payload : Payload) (frame : List ℕ) → IsScene peer.scene → IsPayload payload
-        → issuing peer payload ≡ Ok (frame, after) → decode_of frame ≡ Ok (next_command peer payload) }
+        → issuing peer payload ≡ Ok (frame, after) → decode frame ≡ Ok (next_command peer payload) }
     ensures taken { (peer other after : Peer) (payload : Payload) (frame : List ℕ) → peer.scene ≡ other.scene
         → issuing peer payload ≡ Ok (frame, after) → IsOk (taking other (Ok (next_command peer payload))) }
 {}

@@ -1,8 +1,8 @@
-use Rattle.pf_commands.proofs.Spelling.{spelling_spells, same_spelling, same_command, no_beginning}
-use Rattle.pf_commands.proofs.laws.commands_have_one_spelling.Goals as goal
+use Rattle.pf_commands.proofs.Encoding.{encoding_encodes, same_spelling, same_command, no_beginning}
+use Rattle.pf_commands.proofs.laws.commands_have_one_encoding.Goals as goal
 
 pub returns-clause-each : goal.returns-clause-each
-returns-clause-each c = spelling_spells
+returns-clause-each c = encoding_encodes
 
 pub returns-clause-same_bytes : goal.returns-clause-same_bytes
 returns-clause-same_bytes c = same_spelling

@@ -6,10 +6,10 @@ use Rattle.std.proofs.Math.Nat.{mod-eq_of_lt}
 use Rattle.byteorder.specs.Numbers.{big_number-reads_back}
 use Rattle.pf_commands.specs.declared.frame.Fields.{Fields}
 use Rattle.pf_commands.specs.declared.payload.Command.{Command}
-use Rattle.pf_commands.specs.Frame.{IsBytes, IsFrameable, Spells, fields_of, fields_in, bytes_in, spelling}
+use Rattle.pf_commands.specs.Frame.{IsBytes, IsFrameable, Encodes, fields_of, fields_in, bytes_in, encoding}
 use Rattle.pf_commands.proofs.Digits.{same_bytes}
 use Rattle.pf_commands.proofs.Fields.{AreFields, worth, fields_in-fit, big_number_parts, number_of-parts}
-use Rattle.pf_commands.proofs.Frames.{ok_is, spelled_decodes}
+use Rattle.pf_commands.proofs.Frames.{ok_is, encoded_decodes}
 
 -- ---- the bytes of fields
 
@@ -53,26 +53,26 @@ fields_again f fits =
     let y = big_number-reads_back 8 f.y [] fits.y in
     rw (version, tick, player, number, kind, body, x, y) refl
 
-pub spelling_spells : (c : Command) → IsFrameable c → Spells (spelling c) c
-spelling_spells c framed = record {
+pub encoding_encodes : (c : Command) → IsFrameable c → Encodes (encoding c) c
+encoding_encodes c framed = record {
   long = length-bytes_in (fields_in c);
   are_bytes = bytes_in-fit (fields_in c);
   framed = framed;
-  same = big_number_parts (spelling c) ∙ ap worth (fields_again (fields_in c) (fields_in-fit c framed)) ∙ sym (number_of-parts c);
+  same = big_number_parts (encoding c) ∙ ap worth (fields_again (fields_in c) (fields_in-fit c framed)) ∙ sym (number_of-parts c);
 }
 
 -- ---- one spelling of a command, one command of a spelling
 
-pub same_spelling : (a b : List ℕ) (c : Command) → Spells a c → Spells b c → a ≡ b
+pub same_spelling : (a b : List ℕ) (c : Command) → Encodes a c → Encodes b c → a ≡ b
 same_spelling a b c first second =
     same_bytes 27 a b first.long second.long first.are_bytes second.are_bytes (first.same ∙ sym second.same)
 
-pub same_command : (a : List ℕ) (c d : Command) → Spells a c → Spells a d → c ≡ d
-same_command a c d first second = ok_is c d (sym (spelled_decodes a c first) ∙ spelled_decodes a d second)
+pub same_command : (a : List ℕ) (c d : Command) → Encodes a c → Encodes a d → c ≡ d
+same_command a c d first second = ok_is c d (sym (encoded_decodes a c first) ∙ encoded_decodes a d second)
 
 empty_rest : (rest : List ℕ) → length rest ≡ 0 → rest ≡ []
 empty_rest [] none = refl
 empty_rest (b ∷ rest) none = absurd (omega arith)
 
-pub no_beginning : (a rest : List ℕ) (c d : Command) → Spells a c → Spells (a ++ rest) d → rest ≡ []
+pub no_beginning : (a rest : List ℕ) (c d : Command) → Encodes a c → Encodes (a ++ rest) d → rest ≡ []
 no_beginning a rest c d first second = empty_rest rest (omega (arith, length-append a rest, first.long, second.long))

@@ -1,0 +1,5 @@
+-- The lemmas of this crate.
+pub mod Ticks
+pub mod Orders
+pub mod Sleepers
+pub mod Rotations
