@@ -1,12 +1,13 @@
 -- The abstract session: peers of one scene, and what each event on them is replied, one event after
 -- the other.
-use Rattle.std.specs.Prelude.{ℕ, ◌<◌, ◌⊎◌, List, [], ◌∷◌, Result, Ok, Err, IsErr, IsSome, map, slice_index_or, slice_set}
+use Rattle.std.specs.Prelude.{◌≡◌, ℕ, ◌<◌, ◌≤◌, ◌⊎◌, All, length, List, [], ◌∷◌, Result, Ok, Err, IsErr, IsSome, map, slice_index_or, slice_set}
 use Rattle.std.specs.FinMap.{get}
 use Rattle.std.specs.List.{range_with_len}
 use Rattle.pf_shapes.specs.Scene.{Scene}
+use Rattle.pf_commands.specs.declared.name.TheConstants.{PLAYERS}
 use Rattle.pf_step.specs.World.{World}
 use Rattle.pf_rollback.specs.declared.fault.Refusal.{Refusal}
-use Rattle.pf_rollback.specs.Peer.{Peer, new_peer, put, issue, take, advance, world_at}
+use Rattle.pf_rollback.specs.Peer.{Peer, PeerCore, new_peer, put, issue, take, advance, world_at}
 use Rattle.pf_peers.specs.declared.event.Event.{Event}
 use Rattle.pf_peers.specs.declared.event.Event.TheVariants.{Issue, Take, Advance, Show}
 use Rattle.pf_peers.specs.declared.event.Reply.{Reply}
@@ -16,6 +17,11 @@ use Rattle.pf_peers.specs.declared.event.Reply.TheVariants.{Issued, Took, Advanc
 pub record Session : Type 0 where
   pub scene : Scene
   pub peers : List Peer
+
+-- the cores of at most eight peers of a scene
+pub record AreCores (scene : Scene) (cores : List PeerCore) : Type 0 where
+  pub few : length cores ≤ PLAYERS
+  pub scenes : All (λ core. core.scene ≡ scene) cores
 
 -- so many peers, each of the player of its number
 abbrev pub new_session : Scene → ℕ → Session

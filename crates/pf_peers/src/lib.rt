@@ -2,6 +2,7 @@
 #![tactic(auto)]
 
 mod event;
+pub mod laws;
 mod replay;
 mod session;
 

@@ -25,11 +25,11 @@ pub struct Session {
 }
 
 impl Model for Session {
-    ghost use Rattle.std.specs.Prelude.{◌≡◌, map, All};
+    ghost use Rattle.std.specs.Prelude.{map};
     ghost use Rattle.std.specs.Coded.{codes};
     ghost use Rattle.pf_commands.specs.contracts.map.CommandMap.{the_row};
     ghost use Rattle.pf_rollback.specs.Peer.{PeerCore};
-    ghost use Rattle.pf_peers.specs.Session.{Session};
+    ghost use Rattle.pf_peers.specs.Session.{AreCores, Session};
 
     ghost Value = { Session };
 
@@ -40,7 +40,7 @@ impl Model for Session {
         peers = map (λ (core : PeerCore). core.peer) s.cores.items;
     } };
 
-    ghost invariant = { λ s. All (λ (core : PeerCore). core.scene ≡ s.scene) s.cores.items };
+    ghost invariant = { λ s. AreCores s.scene s.cores.items };
 }
 
 /// The reply to a call that failed: a rejection is a reply, and out of memory is none.
@@ -158,10 +158,11 @@ impl Session {
     }
 
     /// How many peers there are.
-    pub fn len(&self) -> usize
-        ensures { result ≡ length self.now.peers }
+    pub fn peer_count(&self) -> u8
+        ensures value { result ≡ length self.now.peers }
+        ensures range { result ≤ PLAYERS }
     {
-        self.cores.len()
+        self.cores.len() as u8
     }
 
     /// The reply to an event on one of the peers. An `Err` leaves all peers as they were.

@@ -5,6 +5,7 @@
 #![tactic(auto)]
 
 mod fault;
+pub mod laws;
 mod peer;
 
 pub use fault::{Fault, Refusal};

@@ -17,5 +17,5 @@ returns-clause-reply c =
     let is : old ≡ get_or c.self.inside.cores.items (peer_of c.args.event) old =
     c.index_mut-core.ensures.value ∙ ap (λ (i : ℕ). get_or c.self.inside.cores.items i old) at in
     rw (← c.self.view_is, at) (IfOk-weaker c.answer_alone.result _ _
-    (λ reply called. peer_answer_is c.self.inside.scene c.self.inside.cores.items c.args.event old c.answer_alone.new.core reply within is c.self.invariant called)
+    (λ reply called. peer_answer_is c.self.inside.scene c.self.inside.cores.items c.args.event old c.answer_alone.new.core reply within is c.self.invariant.scenes called)
     c.answer_alone.ensures.reply)

@@ -1,6 +1,6 @@
 use Rattle.std.proofs.Common.{◌≡◌, ℕ, List, map, refl, ap, ◌∙◌, arith}
 use Rattle.std.specs.List.{range_with_len}
-use Rattle.std.proofs.lemmas.List.FromFn.{map-range_with_len_more}
+use Rattle.std.proofs.lemmas.List.FromFn.{length-map-range_with_len, map-range_with_len_more}
 use Rattle.pf_rollback.specs.Peer.{Peer, new_peer}
 use Rattle.pf_peers.specs.Session.{Session}
 use Rattle.pf_peers.proofs.Sessions.{new_core, peers_of, peers_of-new_core, scene_of-new_core}
@@ -13,7 +13,10 @@ loop-player-preserved c =
     c.in_ok-push.ensures.items ∙ rw (c.new.ensures, copied, c.loop-player.invariant, more) refl
 
 pub invariant_of-result : goal.invariant_of-result
-invariant_of-result c = rw c.loop-player.invariant (scene_of-new_core c.args.scene (range_with_len 0 c.loop-player.player))
+invariant_of-result c = rw c.loop-player.invariant (record {
+  few = omega (arith, length-map-range_with_len (new_core c.args.scene) 0 c.loop-player.player, c.requires);
+  scenes = scene_of-new_core c.args.scene (range_with_len 0 c.loop-player.player);
+})
 
 pub returns : goal.returns
 returns c =
