@@ -5,5 +5,6 @@ pub mod Staying
 pub mod Exact
 pub mod Circles
 pub mod Covering
-pub mod Saying
+pub mod SceneEncoding
 pub mod Limits
+pub mod Silence

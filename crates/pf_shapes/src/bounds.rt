@@ -98,7 +98,8 @@ impl Fixture {
         ensures value { result ≡ fixture_bounds self.now body.now }
         ensures upright { IsUpright result }
     {
-        self.shape().bounds(body.position, body.rotation, self.is_static())
+        self.shape()
+            .bounds(body.position, body.rotation, self.is_static())
     }
 }
 

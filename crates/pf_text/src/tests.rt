@@ -10,7 +10,7 @@ use std::process::Abort;
 use std::test::Fail;
 
 #[test]
-fn fields_are_parted_by_one_space(rt: HostRuntime) -> Result<(), Fail> {
+fn fields_are_separated_by_one_space(rt: HostRuntime) -> Result<(), Fail> {
     let fields = fields_of(rt.alloc(), b"circle - 7\t")?;
     assert_eq!(rt; fields.len(), 3);
     assert_eq!(rt; fields[0], b"circle".as_slice());
@@ -22,12 +22,9 @@ fn fields_are_parted_by_one_space(rt: HostRuntime) -> Result<(), Fail> {
         b"a ".as_slice(),
         b"".as_slice(),
     ] {
-        let refused = fields_of(rt.alloc(), line).err();
-        if refused == Some(LineError::Memory) {
-            return Err(AllocError)?;
-        }
+        let error = fields_of(rt.alloc(), line).err();
         assert!(rt;
-            refused == Some(LineError::Fault(LineFault::BadLine)),
+            error == Some(LineError::Fault(LineFault::BadLine)),
             "{line:?}"
         );
     }
@@ -47,24 +44,27 @@ fn a_line_may_have_2000_fields(rt: HostRuntime) -> Result<(), Fail> {
 }
 
 #[test]
-fn numbers_have_one_spelling(rt: HostRuntime) {
+fn numbers_have_one_encoding(rt: HostRuntime) {
     let table = [
-        (b"0".as_slice(), Spelled::Within(0)),
-        (b"-7".as_slice(), Spelled::Within(-7)),
-        (b"100".as_slice(), Spelled::Within(100)),
-        (b"101".as_slice(), Spelled::Outside),
-        (b"-101".as_slice(), Spelled::Outside),
-        (b"100000000000000000000000".as_slice(), Spelled::Outside),
-        (b"05".as_slice(), Spelled::Misspelt),
-        (b"-0".as_slice(), Spelled::Misspelt),
-        (b"-05".as_slice(), Spelled::Misspelt),
-        (b"+1".as_slice(), Spelled::Misspelt),
-        (b"-".as_slice(), Spelled::Misspelt),
-        (b"".as_slice(), Spelled::Misspelt),
-        (b"1a".as_slice(), Spelled::Misspelt),
+        (b"0".as_slice(), ParsedNumber::InRange(0)),
+        (b"-7".as_slice(), ParsedNumber::InRange(-7)),
+        (b"100".as_slice(), ParsedNumber::InRange(100)),
+        (b"101".as_slice(), ParsedNumber::OutOfRange),
+        (b"-101".as_slice(), ParsedNumber::OutOfRange),
+        (
+            b"100000000000000000000000".as_slice(),
+            ParsedNumber::OutOfRange,
+        ),
+        (b"05".as_slice(), ParsedNumber::NotANumber),
+        (b"-0".as_slice(), ParsedNumber::NotANumber),
+        (b"-05".as_slice(), ParsedNumber::NotANumber),
+        (b"+1".as_slice(), ParsedNumber::NotANumber),
+        (b"-".as_slice(), ParsedNumber::NotANumber),
+        (b"".as_slice(), ParsedNumber::NotANumber),
+        (b"1a".as_slice(), ParsedNumber::NotANumber),
     ];
-    for (field, spelled) in table {
-        assert!(rt; number(field, -100, 100) == spelled, "{field:?}");
+    for (field, parsed) in table {
+        assert!(rt; number(field, -100, 100) == parsed, "{field:?}");
     }
     assert!(rt; integer(b"12", 0, 20) == Ok(12));
     assert!(rt; integer(b"21", 0, 20) == Err(LineFault::BadNumber));
@@ -73,7 +73,7 @@ fn numbers_have_one_spelling(rt: HostRuntime) {
 
 fn lengths(rt: &impl Abort, alloc: Global, text: &[u8]) -> Result<Vec<usize>, Fail> {
     let mut source = Bytes::new(text);
-    let mut line = Vec::new(alloc);
+    let mut line = LineBuffer::new();
     let mut found = Vec::new(alloc);
     for _ in 0..9 {
         match take_line(&mut source, &mut line)? {
@@ -105,14 +105,15 @@ fn lines_end_with_a_line_feed(rt: HostRuntime) -> Result<(), Fail> {
         lengths(&rt, alloc, &text)?.as_slice(),
         [MAX_LINE].as_slice()
     );
-    let mut line = Vec::new(alloc);
+    let mut line = LineBuffer::new();
     let long = vec![in alloc; b'x'; MAX_LINE + 9]?;
     assert!(rt; take_line(&mut Bytes::new(&long), &mut line)? == Taken::TooLong);
-    assert_eq!(rt; line.len(), MAX_LINE + 1);
+    assert_eq!(rt; line.len(), LINE_ROOM);
     Ok(())
 }
 
-/// A line of one field is answered `ok`, one of two fields with nothing, and more are at fault.
+/// The reply to a line of one field is `ok`, to one of two fields nothing, and to one of 2,000 fields `many`. Any other line
+/// is invalid.
 #[derive(Clone, Copy, Debug, PartialEq, Eq)]
 struct Parrot;
 
@@ -120,11 +121,13 @@ impl Machine<u32> for Parrot {
     type Fault = LineFault;
 
     ghost rules = { record {
-      says = λ state fields. if length fields == 1 then Ok (codes "ok\n", state) else (if length fields == 2 then Ok ([], state) else Err BadNumber);
-      refused = λ fault. fault;
+      transition = λ state fields. if length fields == 1 then Ok (codes "ok\n", state) else
+          (if length fields == 2 then Ok ([], state) else
+          (if length fields == 2000 then Ok (codes "many\n", state) else Err BadNumber));
+      line_error = λ fault. fault;
     } };
 
-    fn refuse(fault: LineFault) -> LineFault {
+    fn line_error(fault: LineFault) -> LineFault {
         fault
     }
 
@@ -138,20 +141,21 @@ impl Machine<u32> for Parrot {
         match fields {
             [_] => Ok((String::from_str(alloc, "ok\n")?, self)),
             [_, _] => Ok((String::new(alloc), self)),
+            many if many.len() == 2000 => Ok((String::from_str(alloc, "many\n")?, self)),
             _ => Err(TakeRefusal::Fault(LineFault::BadNumber)),
         }
     }
 }
 
-/// A text of four answers, and its output.
+/// A text of three replies, and its output.
 const TEXT: &[u8] = b"a\nb\n# c\n\nd e\nf";
 
 const OUTPUT: &[u8] = b"ok\nok\nok\n";
 
-/// What came of a parrot over a text in memory, what it wrote, and how often it was asked.
+/// The result of a parrot over a text in memory, what it wrote, and how many lines it took.
 type Driven = (Result<(u64, Parrot), DriveFault<LineFault>>, Collected, u32);
 
-/// Drives a parrot over a text in memory. What is kept in memory fails for want of it alone.
+/// Drives a parrot over a text in memory. A sink in memory fails only where no memory is left.
 fn driven(alloc: Global, text: &[u8]) -> Result<Driven, AllocError> {
     let mut lent = 0;
     let mut sink = Collected::new(alloc);
@@ -163,7 +167,7 @@ fn driven(alloc: Global, text: &[u8]) -> Result<Driven, AllocError> {
 }
 
 #[test]
-fn a_text_is_answered(rt: HostRuntime) -> Result<(), Fail> {
+fn a_text_has_replies(rt: HostRuntime) -> Result<(), Fail> {
     let (result, sink, lent) = driven(rt.alloc(), TEXT)?;
     assert!(rt; result == Ok((7, Parrot)));
     assert_eq!(rt; sink.bytes(), OUTPUT);
@@ -195,7 +199,7 @@ fn a_sink_in_memory_keeps_5000_bytes(rt: HostRuntime) -> Result<(), Fail> {
 }
 
 #[test]
-fn replies_before_a_fault_stand(rt: HostRuntime) -> Result<(), Fail> {
+fn replies_before_an_invalid_line_stand(rt: HostRuntime) -> Result<(), Fail> {
     let mut long = vec![in rt.alloc(); b'#'; MAX_LINE]?;
     assert!(rt; driven(rt.alloc(), &long)?.0 == Ok((2, Parrot)));
     long.push(b'#')?;
@@ -215,14 +219,14 @@ fn replies_before_a_fault_stand(rt: HostRuntime) -> Result<(), Fail> {
 
 /// How the call of this number fails.
 fn failure(call: usize) -> Error {
-    Error::from(if call % 2 == 1 {
-        ErrorKind::Other
-    } else {
-        ErrorKind::BrokenPipe
+    Error::from(match call % 3 {
+        0 => ErrorKind::Other,
+        1 => ErrorKind::BrokenPipe,
+        _ => ErrorKind::WouldBlock,
     })
 }
 
-/// A reader that gives a byte at a time, is interrupted twice before each, and fails at one call.
+/// A reader that gives a byte at a time, is interrupted three times before each, and fails at one call.
 #[derive(Drop)]
 struct Trickle<'a> {
     bytes: &'a [u8],
@@ -236,7 +240,7 @@ impl Read for Trickle<'_> {
         if self.calls == self.fails_at {
             return Err(failure(self.calls));
         }
-        if self.calls % 3 != 0 {
+        if self.calls % 4 != 0 {
             return Err(Error::from(ErrorKind::Interrupted));
         }
         if self.bytes.is_empty() || buffer.is_empty() {
@@ -250,7 +254,7 @@ impl Read for Trickle<'_> {
 
 #[test]
 fn a_reader_may_fail_at_each_call(rt: HostRuntime) -> Result<(), Fail> {
-    let calls = 3 * (TEXT.len() + 1);
+    let calls = 4 * (TEXT.len() + 1);
     for fails_at in 1..calls + 2 {
         let reader = Trickle {
             bytes: TEXT,
@@ -279,8 +283,8 @@ fn a_reader_may_fail_at_each_call(rt: HostRuntime) -> Result<(), Fail> {
     Ok(())
 }
 
-/// A writer that takes two bytes at a time, is interrupted before each write, twice where it can
-/// be, and fails at one call.
+/// A writer that takes two bytes at a time, is interrupted up to three times before each write, and fails
+/// at one call.
 #[derive(Drop)]
 struct Brittle {
     taken: Vec<u8>,
@@ -301,7 +305,7 @@ impl Brittle {
 impl Write for Brittle {
     fn write(&mut self, bytes: &[u8]) -> std::io::Result<usize> {
         self.call()?;
-        if self.calls % 3 != 0 {
+        if self.calls % 4 != 0 {
             return Err(Error::from(ErrorKind::Interrupted));
         }
         let count = bytes.len().min(2);
@@ -316,7 +320,7 @@ impl Write for Brittle {
 
 #[test]
 fn a_writer_may_fail_at_each_call(rt: HostRuntime) -> Result<(), Fail> {
-    let calls = 19;
+    let calls = 25;
     for fails_at in 1..calls + 2 {
         let mut writer = Brittle {
             taken: Vec::new(rt.alloc()),
@@ -336,6 +340,79 @@ fn a_writer_may_fail_at_each_call(rt: HostRuntime) -> Result<(), Fail> {
             assert!(rt; result == Err(DriveFault::Write), "call {fails_at}");
         }
     }
+    Ok(())
+}
+
+/// A text of lines of one field, longer than any buffer, with a line of 2,000 fields in it.
+fn long_text(alloc: Global) -> Result<Vec<u8>, AllocError> {
+    let mut text = Vec::new(alloc);
+    for _ in 0..5000 {
+        text.extend_from_slice(b"a\n")?;
+    }
+    for _ in 1..2000 {
+        text.extend_from_slice(b"x ")?;
+    }
+    text.extend_from_slice(b"x\n")?;
+    Ok(text)
+}
+
+#[test]
+fn a_text_longer_than_a_buffer_has_its_replies(rt: HostRuntime) -> Result<(), Fail> {
+    let text = long_text(rt.alloc())?;
+    let mut taken = Vec::new(rt.alloc());
+    let mut sink = Output::new(&mut taken);
+    let mut source = Input::new(text.as_slice());
+    let result = drive(rt.alloc(), &mut 0, &mut source, &mut sink, Parrot);
+    if matches!(result, Err(DriveFault::Memory | DriveFault::Write)) {
+        return Err(AllocError)?;
+    }
+    assert!(rt; result == Ok((5002, Parrot)));
+    assert_eq!(rt; taken.len(), 3 * 5000 + 5);
+    assert!(rt;
+        taken
+            .chunks(3)
+            .take(5000)
+            .all(|reply| reply == b"ok\n".as_slice())
+    );
+    assert!(rt; taken.ends_with(b"many\n"));
+    Ok(())
+}
+
+/// A writer that keeps the bytes back until it is flushed.
+#[derive(Drop)]
+struct Held {
+    held: Vec<u8>,
+    written: Vec<u8>,
+}
+
+impl Write for Held {
+    fn write(&mut self, bytes: &[u8]) -> std::io::Result<usize> {
+        self.held.extend_from_slice(bytes)?;
+        Ok(bytes.len())
+    }
+
+    fn flush(&mut self) -> std::io::Result<()> {
+        self.written.extend_from_slice(&self.held)?;
+        self.held.clear();
+        Ok(())
+    }
+}
+
+#[test]
+fn each_reply_is_flushed(rt: HostRuntime) -> Result<(), Fail> {
+    let text = long_text(rt.alloc())?;
+    let mut writer = Held {
+        held: Vec::new(rt.alloc()),
+        written: Vec::new(rt.alloc()),
+    };
+    let mut source = Bytes::new(&text);
+    let mut sink = Output::new(&mut writer);
+    let result = drive(rt.alloc(), &mut 0, &mut source, &mut sink, Parrot);
+    if matches!(result, Err(DriveFault::Memory | DriveFault::Write)) {
+        return Err(AllocError)?;
+    }
+    assert!(rt; writer.held.is_empty());
+    assert_eq!(rt; writer.written.len(), 3 * 5000 + 5);
     Ok(())
 }
 
@@ -369,18 +446,16 @@ fn faults_are_shown_by_their_names(rt: HostRuntime) -> Result<(), Fail> {
     let fault = LineError::Fault(LineFault::BadNumber);
     let text = format!(in rt.alloc(); "{} {fault}", LineFault::BadLine)?;
     assert_eq!(rt; text.as_str(), "BadLine BadNumber");
-    let text = format!(in rt.alloc(); "{}, {}", LineError::Memory, TakeError::Memory)?;
-    assert_eq!(rt; text.as_str(), "out of memory, out of memory");
-    let text = format!(in rt.alloc(); "{ReadFailed}, {}, {WriteFailed}", TakeError::Read)?;
-    assert_eq!(rt; text.as_str(), "read failed, read failed, write failed");
+    let text = format!(in rt.alloc(); "{}, {ReadFailed}, {WriteFailed}", LineError::Memory)?;
+    assert_eq!(rt; text.as_str(), "out of memory, read failed, write failed");
     Ok(())
 }
 
 #[test]
 fn laws_are_called(_rt: HostRuntime) {
-    laws::answers_stand::<u32, Parrot>();
-    laws::skipped_line::<u32, Parrot>();
+    laws::outputs_follow_one_another::<u32, Parrot>();
+    laws::skipped_lines_change_numbers_alone::<u32, Parrot>();
     laws::lines_are_the_parts_between_feeds();
     laws::fields_are_the_parts_between_spaces();
-    laws::numbers_have_one_spelling();
+    laws::numbers_have_one_encoding();
 }

@@ -1,4 +1,4 @@
--- The fields that say a body, or gravity, are read as they are meant.
+-- The fields that encode a body, or gravity, are read as that.
 use Rattle.std.proofs.Common.{◌≡◌, ℕ, ◌<◌, ◌^◌, ℤ, pos, neg_ℤ, ◌≤ℤ◌, Bool, true, false, ◌&&◌, ⊎_elim, List, [], ◌∷◌, length, Option, Some, None, Ok, refl, ap, sym, ◌∙◌, arith, nat_lt}
 use Rattle.std.specs.Prelude.{int_le, codes, decimal}
 use Rattle.std.specs.Fmt.{signed_decimal}
@@ -9,9 +9,9 @@ use Rattle.std.proofs.lemmas.Fmt.{decimal_digit}
 use Rattle.std.proofs.lemmas.Int.{ints}
 use Rattle.std.proofs.lemmas.Option.{same_Some, none-some}
 use Rattle.std.proofs.lemmas.Slice.Eq.{bytes_eq-Decides}
-use Rattle.pf_text.specs.declared.numbers.Spelled.TheVariants.{Within}
-use Rattle.pf_text.specs.Numbers.{natural_of, whole_of, spelled}
-use Rattle.pf_text.proofs.Spelling.{whole-signed_decimal}
+use Rattle.pf_text.specs.declared.numbers.ParsedNumber.TheVariants.{InRange}
+use Rattle.pf_text.specs.Numbers.{natural_of, whole_of, number}
+use Rattle.pf_text.proofs.DecimalText.{whole-signed_decimal}
 use Rattle.pf_rot.specs.Vector.{V2}
 use Rattle.pf_rot.specs.Rotation.{Rot, upright, unit}
 use Rattle.pf_shapes.specs.declared.fault.SceneFault.{SceneFault}
@@ -20,18 +20,18 @@ use Rattle.pf_shapes.specs.declared.fixture.Shape.{Shape}
 use Rattle.pf_shapes.specs.declared.fixture.Shape.TheVariants.{Circle, Box}
 use Rattle.pf_shapes.specs.Fixture.{Fixture, IsFixture, IsSize, IsMass, IsOwner, IsWithin}
 use Rattle.pf_shapes.specs.Scene.{Scene, IsGravity, IsPosition, empty_scene, with_body}
-use Rattle.pf_shapes.specs.SceneText.{named, number_of, acceleration_of, coordinate_of, direction_of, size_of, friction_of, mass_of, owner_of, gravity_of, position_of, rotation_of, circle_fixture, box_fixture, upright_at, turned_at, placed, circle_of, box_of, so_far, gravity_line, line_of}
-use Rattle.pf_shapes.specs.Saying.{owner_field, shape_word, shape_fields, body_fields, start_rotation, gravity_fields, IsDirection}
+use Rattle.pf_shapes.specs.SceneText.{value_or_fault, number_of, acceleration_of, coordinate_of, direction_of, size_of, friction_of, mass_of, owner_of, gravity_of, position_of, rotation_of, circle_fixture, box_fixture, circle_transform, box_transform, body_parts, circle_of, box_of, scene_in_progress, gravity_line, line_of}
+use Rattle.pf_shapes.specs.SceneEncoding.{owner_field, shape_word, shape_fields, body_fields, start_rotation, gravity_fields, IsDirection}
 
 -- ---- numbers
 
-spelled_within : (low high z : ℤ) → IsWithin low high z → spelled low high (Some z) ≡ Within z
-spelled_within low high z h =
+number_within : (low high z : ℤ) → IsWithin low high z → number low high (Some z) ≡ InRange z
+number_within low high z h =
     let e : (int_le low z && int_le z high) ≡ true = (let l = h.0 in let k = h.1 in grind (arith, ints, nat_tests)) in rw e refl
 
 read_number : (outside : SceneFault) (low high z : ℤ) → unsigned_abs z < 2 ^ 64 → IsWithin low high z → number_of outside low high (signed_decimal z) ≡ Ok z
 read_number outside low high z small h =
-    ap (λ o. named outside (spelled low high o)) (whole-signed_decimal z small) ∙ ap (named outside) (spelled_within low high z h)
+    ap (λ o. value_or_fault outside (number low high o)) (whole-signed_decimal z small) ∙ ap (value_or_fault outside) (number_within low high z h)
 
 read_acceleration : (z : ℤ) → IsWithin (neg_ℤ (pos 17179869184)) (pos 17179869184) z → acceleration_of (signed_decimal z) ≡ Ok z
 read_acceleration z h = read_number BadNumber _ _ z (let l = h.0 in let k = h.1 in omega (arith, ints)) h
@@ -96,7 +96,7 @@ read_owner (Some player) h =
 read_circle : (f : Fixture) (r : ℤ) (position : V2) → f.shape ≡ Circle r → IsFixture f → IsPosition position
     → circle_of (owner_field f.owner ∷ signed_decimal f.mass ∷ signed_decimal f.friction ∷ signed_decimal r ∷ signed_decimal position.x ∷ signed_decimal position.y ∷ [])
     ≡ Ok (f, (position, upright))
-unfolding circle_of placed circle_fixture upright_at position_of
+unfolding circle_of body_parts circle_fixture circle_transform position_of
 read_circle f r position e h at =
     let size : IsSize r = rw e at h.size in
     let same : record { shape = Circle r; mass = f.mass; friction = f.friction; owner = f.owner } ≡ f = rw (sym e) refl in
@@ -106,7 +106,7 @@ read_box : (f : Fixture) (hx hy : ℤ) (position : V2) (to : Rot) → f.shape �
     → box_of (owner_field f.owner ∷ signed_decimal f.mass ∷ signed_decimal f.friction ∷ signed_decimal hx ∷ signed_decimal hy ∷ signed_decimal position.x
     ∷ signed_decimal position.y ∷ signed_decimal to.c ∷ signed_decimal to.s ∷ [])
     ≡ Ok (f, (position, unit to.c to.s))
-unfolding box_of placed box_fixture turned_at position_of rotation_of
+unfolding box_of body_parts box_fixture box_transform position_of rotation_of
 read_box f hx hy position to e h at facing =
     let size : IsSize hx × IsSize hy = rw e at h.size in
     let same : record { shape = Box hx hy; mass = f.mass; friction = f.friction; owner = f.owner } ≡ f = rw (sym e) refl in
@@ -126,13 +126,13 @@ read_box f hx hy position to e h at facing =
 -- ---- lines
 
 pub read_gravity : (most : ℕ) (g : V2) → IsGravity g
-    → line_of (record { most = most; scene = None }) (gravity_fields g) ≡ Ok (so_far most (empty_scene g))
+    → line_of (record { max_bodies = most; scene = None }) (gravity_fields g) ≡ Ok (scene_in_progress most (empty_scene g))
 unfolding line_of gravity_line gravity_of
 read_gravity most g h = rw (read_acceleration g.x h.x, read_acceleration g.y h.y) refl
 
 pub read_body : (most : ℕ) (s : Scene) (f : Fixture) (position : V2) (to : Rot) → length s.fixtures < most
     → IsFixture f → IsPosition position → IsDirection to
-    → line_of (record { most = most; scene = Some s }) (body_fields f position to) ≡ Ok (so_far most (with_body s f position (start_rotation f.shape to)))
+    → line_of (record { max_bodies = most; scene = Some s }) (body_fields f position to) ≡ Ok (scene_in_progress most (with_body s f position (start_rotation f.shape to)))
 unfolding line_of
 read_body most s f position to room h at facing = by f.shape refl
   where
@@ -140,8 +140,8 @@ read_body most s f position to room h at facing = by f.shape refl
     few = grind (arith, nat_tests)
 
     by : (shape : Shape) → f.shape ≡ shape
-        → line_of (record { most = most; scene = Some s })
+        → line_of (record { max_bodies = most; scene = Some s })
         (shape_word shape ∷ owner_field f.owner ∷ signed_decimal f.mass ∷ signed_decimal f.friction ∷ shape_fields shape position to)
-        ≡ Ok (so_far most (with_body s f position (start_rotation shape to)))
+        ≡ Ok (scene_in_progress most (with_body s f position (start_rotation shape to)))
     by (Circle r) e = rw (few, read_circle f r position e h at) refl
     by (Box hx hy) e = rw (few, read_box f hx hy position to e h at facing) refl

@@ -1,4 +1,4 @@
--- The lines that say a scene, as docs/FORMATS.md shows them: for each body its fields.
+-- The lines that encode a scene, as docs/FORMATS.md shows them: for each body its fields.
 use Rattle.std.specs.Prelude.{ℕ, pos, neg_ℤ, List, [], ◌∷◌, Option, Some, None, codes, decimal}
 use Rattle.std.specs.Fmt.{signed_decimal}
 use Rattle.pf_rot.specs.Vector.{V2}
