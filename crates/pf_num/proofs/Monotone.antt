@@ -1,4 +1,4 @@
--- Rounding keeps the order of numbers and turns with their sign, and so does what holds them in range. So a product
+-- Rounding and saturating are monotone and odd. So a product
 -- with a number from -h to h is at most the product with h.
 use Rattle.std.proofs.Common.{◌≡◌, ℕ, zero, suc, ◌+◌, ◌*◌, ◌<◌, ◌≤◌, ℤ, pos, negsuc, ◌*ℤ◌, neg_ℤ, ◌≤ℤ◌, ◌^◌, refl, sym, ap, ◌∙◌, ⊎_elim, arith}
 use Rattle.std.proofs.lemmas.Bool.{cases_lt}
@@ -68,7 +68,7 @@ times_within c p (pos h) low high =
     (rw (unsigned_abs-mul c p) (mul-le-mul_left (unsigned_abs c) (let in_range : unsigned_abs p ≤ h = omega (arith, ints) in in_range)))
 times_within c p (negsuc h) low high = absurd (omega (arith, ints))
 
--- the rounded one, held in range
+-- the rounded and saturated product
 pub product_within : (c p h : ℤ) → neg_ℤ h ≤ℤ p → p ≤ℤ h →
     (neg_ℤ (product (pos (unsigned_abs c)) h) ≤ℤ product c p) × (product c p ≤ℤ product (pos (unsigned_abs c)) h)
 unfolding product
@@ -81,8 +81,8 @@ product_within c p h low high =
       saturated-monotone _ _ (near-monotone (c *ℤ p) k 16777216 (omega arith) exact.1),
     )
 
--- a product of numbers from 0 on, the first at most 1 and the second at most 1024: it isn't held in range, and is at
--- most a half of a unit too small
+-- a product of numbers from 0 on, the first at most 1 and the second at most 1024: it doesn't
+-- saturate, and is at most a half of a unit too small
 pub product_near : (a b : ℕ) → a ≤ 16777216 → b ≤ 17179869184 →
     (n : ℕ) × (product (pos a) (pos b) ≡ pos n) × (2 * (a * b) ≤ 2 * (n * 16777216) + 16777216) × (n ≤ b)
 product_near a b ha hb =
