@@ -6,9 +6,9 @@ use Rattle.std.proofs.lemmas.Int.{ints, clamps, unsigned_abs-mul}
 use Rattle.std.proofs.Math.Nat.{mul-le-mul_left, mul-le-mul_right}
 use Rattle.std.specs.Int.RustNames.{unsigned_abs}
 use Rattle.pf_num.specs.Round.{nearest, near}
-use Rattle.pf_num.specs.Fx.{saturate, product}
+use Rattle.pf_num.specs.Fx.{one, saturate, product, quotient}
 use Rattle.pf_num.proofs.Nearest.{IsNearest, nearest-meets}
-use Rattle.pf_num.proofs.Signs.{near-pos_pos, near-negsuc_pos, nearest-zero, product_in_range}
+use Rattle.pf_num.proofs.Signs.{near-pos_pos, near-negsuc_pos, nearest-zero, product_in_range, positive-eqb}
 
 -- a quotient that rounds below that of a smaller number would be more than a half off
 nearest_ordered : (p r q n m : ℕ) → IsNearest p q n → IsNearest r q m → p < r → n ≤ m
@@ -92,3 +92,25 @@ product_near a b ha hb =
     let rounded : near (pos (a * b)) (pos 16777216) ≡ pos (nearest (a * b) 16777216) = near-pos_pos (a * b) 16777216 in
     let fits : unsigned_abs (near (pos a *ℤ pos b) (pos 16777216)) ≤ 2 ^ 38 = rw rounded (omega arith) in
     (nearest (a * b) 16777216, sym (product_in_range (pos a) (pos b) fits) ∙ rounded, meets.low, short)
+
+-- an exact product with a number from 0 on
+pub times-monotone : (a b c : ℤ) → pos 0 ≤ℤ c → a ≤ℤ b → (a *ℤ c) ≤ℤ (b *ℤ c)
+times-monotone (pos a) (pos b) (pos c) some h = pos_order (a * c) (b * c) (mul-le-mul_right c (omega (arith, ints)))
+times-monotone (negsuc a) (pos b) (pos c) some h = signs_ordered (suc a * c) (b * c)
+times-monotone (negsuc a) (negsuc b) (pos c) some h =
+    turned_order (suc a * c) (suc b * c) (mul-le-mul_right c (omega (arith, ints)))
+times-monotone (pos a) (negsuc b) (pos c) some h = absurd (omega (arith, ints))
+times-monotone a b (negsuc c) some h = absurd (omega (arith, ints))
+
+-- the rounded and saturated product
+pub product-monotone : (a b c : ℤ) → pos 0 ≤ℤ c → a ≤ℤ b → product a c ≤ℤ product b c
+unfolding product
+product-monotone a b c some h =
+    saturated-monotone _ _ (near-monotone (a *ℤ c) (b *ℤ c) 16777216 (omega arith) (times-monotone a b c some h))
+
+-- a quotient by a number above 0
+pub quotient-monotone : (a b : ℤ) (n : ℕ) → 0 < n → a ≤ℤ b → quotient a (pos n) ≤ℤ quotient b (pos n)
+unfolding quotient
+quotient-monotone a b n some h =
+    rw (positive-eqb n some)
+    (saturated-monotone _ _ (near-monotone (a *ℤ one) (b *ℤ one) n some (times-monotone a b one (omega (arith, ints)) h)))

@@ -42,7 +42,7 @@ unfolding saturate
 saturated-with_sign true n = omega (arith, ints, clamps)
 saturated-with_sign false n = omega (arith, ints, clamps)
 
-positive-eqb : (n : ℕ) → 0 < n → eqb n 0 ≡ false
+pub positive-eqb : (n : ℕ) → 0 < n → eqb n 0 ≡ false
 positive-eqb n h = grind (arith, nat_tests)
 
 -- minus a number from 0 on: its magnitude decides
@@ -84,6 +84,12 @@ unfolding quotient
 quotient_is a b m some e =
     rw (positive-eqb (unsigned_abs b) some, e, near-quotient a b 16777216 some)
     (sym (saturated-with_sign (is_opposite a b) (nearest (unsigned_abs a * 16777216) (unsigned_abs b))))
+
+-- of numbers from 0 on
+pub quotient-pos : (p q : ℕ) → 0 < q
+    → quotient (pos p) (pos q) ≡ pos (min (nearest (p * 16777216) q) 36028797018963967)
+quotient-pos p q some =
+    sym (quotient_is (pos p) (pos q) _ some refl) ∙ rw (is_negative-pos p, is_negative-pos q) refl
 
 -- a quotient by 0
 pub quotient-zero : (a : ℤ) → quotient a (pos 0) ≡ int_signum a *ℤ pos 36028797018963967

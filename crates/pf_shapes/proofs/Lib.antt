@@ -7,3 +7,4 @@ pub mod Circles
 pub mod Covering
 pub mod Saying
 pub mod Limits
+pub mod Inertia

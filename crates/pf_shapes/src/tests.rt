@@ -29,7 +29,9 @@ fn a_scene_is_read(rt: HostRuntime) -> Result<(), Fail> {
     let start = scene.starts()[0];
     let position = start.position;
     assert!(rt; position.x.raw() == -5 && position.y.raw() == 7);
-    assert!(rt; start.rotation == Rot::UPRIGHT && start.velocity == V2::ZERO && start.spin == Fx::ZERO);
+    assert!(rt;
+        start.rotation == Rot::UPRIGHT && start.velocity == V2::ZERO && start.spin == Fx::ZERO
+    );
     assert!(rt; start.timer == 0 && start.awake);
     let floor = &scene.fixtures()[1];
     let resting = scene.starts()[1];
@@ -270,6 +272,7 @@ fn bounds_that_touch_overlap(rt: HostRuntime) {
 #[test]
 fn laws_are_called(_rt: HostRuntime) {
     laws::scene_lines_are_read();
+    laws::inertias_are_positive();
     laws::overlapping_is_symmetric();
     laws::bounds_that_share_a_position_overlap();
     laws::boxes_stay_in_their_bounds();
