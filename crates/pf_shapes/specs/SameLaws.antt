@@ -21,18 +21,18 @@ Decides-vector : (u v : V2) → Decides (same_vector u v) (u ≡ v)
 Decides-vector u v =
     Decides-like (same_vector u v) (λ e i. record {
       x = e.0 i;
-      y =
-          e.1 i;
-    }) (λ e. (ap (λ (w : V2). w.x) e, ap (λ (w : V2). w.y) e))
+      y = e.1 i;
+    })
+    (λ e. (ap (λ (w : V2). w.x) e, ap (λ (w : V2). w.y) e))
     (Decides-and _ _ (Decides-int_eq u.x v.x) (Decides-int_eq u.y v.y))
 
 Decides-rotation : (p q : Rot) → Decides (same_rotation p q) (p ≡ q)
 Decides-rotation p q =
     Decides-like (same_rotation p q) (λ e i. record {
       c = e.0 i;
-      s =
-          e.1 i;
-    }) (λ e. (ap (λ (w : Rot). w.c) e, ap (λ (w : Rot). w.s) e))
+      s = e.1 i;
+    })
+    (λ e. (ap (λ (w : Rot). w.c) e, ap (λ (w : Rot). w.s) e))
     (Decides-and _ _ (Decides-int_eq p.c q.c) (Decides-int_eq p.s q.s))
 
 -- a test that is false, of a fact that does not hold
@@ -80,8 +80,7 @@ Decides-fixture a b =
     Decides-like (same_fixture a b) (λ e i. record {
       shape = e.0 i;
       mass = e.1.0 i;
-      friction =
-          e.1.1.0 i;
+      friction = e.1.1.0 i;
       owner = e.1.1.1 i;
     })
     (λ e. (
@@ -102,8 +101,7 @@ Decides-state a b =
       position = e.0 i;
       rotation = e.1.0 i;
       velocity = e.1.1.0 i;
-      spin =
-          e.1.1.1.0 i;
+      spin = e.1.1.1.0 i;
       timer = e.1.1.1.1.0 i;
       awake = e.1.1.1.1.1 i;
     })
@@ -132,13 +130,11 @@ Decides-scene a b =
     Decides-like (same_scene a b) (λ e i. record {
       gravity = e.1 i;
       fixtures = e.0.0 i;
-      starts =
-          e.0.1 i;
+      starts = e.0.1 i;
     })
     (λ e. (
       (ap (λ (s : Scene). s.fixtures) e, ap (λ (s : Scene). s.starts) e),
-      ap
-          (λ (s : Scene). s.gravity) e,
+      ap (λ (s : Scene). s.gravity) e,
     ))
     (Decides-and _ _
     (Decides-and _ _ (slice_eq-Decides Decides-fixture a.fixtures b.fixtures _ refl)
