@@ -1,6 +1,6 @@
 -- The chains: each step makes its number of the one before and of the step's own number.
 use Rattle.std.specs.Prelude.{ℕ, zero, suc, ◌+◌, ◌-◌, ◌*◌, ◌%◌, ◌^◌, ℤ, pos, neg_ℤ, int_lt, if◌then◌else◌}
-use Rattle.pf_num.specs.Fx.{greatest, sum, difference, product, quotient, root}
+use Rattle.pf_num.specs.Fx.{max_raw, sum, difference, product, quotient, root}
 use Rattle.pf_rot.specs.Vector.{length_of}
 use Rattle.pf_rot.specs.Rotation.{Rot, upright, turn}
 use Rattle.pf_bench.specs.declared.operation.Operation.{Operation}
@@ -17,7 +17,7 @@ beside_one i = pos (2 ^ 24 + i % 65536)
 
 -- a sum; from the greatest number it begins again at the least
 unfoldable pub add_step : ℤ → ℕ → ℤ
-add_step x i = let y = sum x (pos (i % 65536 * 2 ^ 30)) in if int_lt y greatest then y else neg_ℤ greatest
+add_step x i = let y = sum x (pos (i % 65536 * 2 ^ 30)) in if int_lt y max_raw then y else neg_ℤ max_raw
 
 -- a product, or the first number again where it is above a limit
 unfoldable pub mul_step : ℤ → ℤ → ℤ → ℕ → ℤ

@@ -7,7 +7,7 @@ use Rattle.std.proofs.lemmas.Bool.Decides.{nat_tests}
 use Rattle.std.proofs.lemmas.Int.{ints}
 use Rattle.hex.specs.Hex.{encode_lower}
 use Rattle.hex.proofs.HexLemmas.{decode_of-encode_lower}
-use Rattle.pf_num.specs.Fx.{greatest, IsRaw}
+use Rattle.pf_num.specs.Fx.{max_raw, IsRaw}
 use Rattle.pf_text.specs.Numbers.{whole_of, within}
 use Rattle.pf_text.proofs.Spelling.{whole-signed_decimal}
 use Rattle.pf_commands.specs.declared.payload.Command.{Command}
@@ -42,7 +42,7 @@ read_body : (body : ℕ) → body < 2 ^ 16 → body_of (decimal body) ≡ Ok bod
 read_body body small = rw (read_number (pos 0) (pos 65535) (pos body) (omega arith) (omega (arith, ints)) (omega (arith, ints))) refl
 
 read_real : (z : ℤ) → IsRaw z → real_of (signed_decimal z) ≡ Ok z
-read_real z raw = read_number (neg_ℤ greatest) greatest z (omega arith) (omega (arith, ints)) (omega (arith, ints))
+read_real z raw = read_number (neg_ℤ max_raw) max_raw z (omega arith) (omega (arith, ints)) (omega (arith, ints))
 
 -- ---- frames
 

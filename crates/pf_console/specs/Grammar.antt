@@ -2,7 +2,7 @@
 use Rattle.std.specs.Prelude.{ℕ, ℤ, pos, neg_ℤ, List, [], ◌∷◌, Option, Some, None, Result, Ok, Err, codes, if◌then◌else◌}
 use Rattle.std.specs.Int.RustNames.{unsigned_abs}
 use Rattle.std.specs.Str.{bytes_eq}
-use Rattle.pf_num.specs.Fx.{greatest}
+use Rattle.pf_num.specs.Fx.{max_raw}
 use Rattle.pf_text.specs.declared.fault.LineFault.{LineFault}
 use Rattle.pf_text.specs.declared.fault.LineFault.TheVariants.{BadLine}
 use Rattle.pf_text.specs.Fault.{◌>>=◌}
@@ -51,7 +51,7 @@ body_of field = counted (within (pos 0) (pos 65535) (whole_of field))
 
 -- a number of physics
 abbrev pub real_of : List ℕ → Result ℤ LineFault
-real_of field = within (neg_ℤ greatest) greatest (whole_of field)
+real_of field = within (neg_ℤ max_raw) max_raw (whole_of field)
 
 -- `issue P push B X Y`
 unfoldable pub push_of : List ℕ → List (List ℕ) → Result Event LineFault

@@ -10,7 +10,7 @@ use Rattle.pf_manifold.specs.declared.face.Face.{Face}
 use Rattle.pf_manifold.specs.declared.face.Face.TheVariants.{Right, Top, Left, Bottom}
 use Rattle.pf_manifold.specs.Face.{face_number}
 use Rattle.pf_manifold.specs.BoxCircle.{clamped, closest_point, face_distance, closer_face, closest_face}
-use Rattle.pf_shapes.specs.Laws.{IsInBox, squared}
+use Rattle.pf_shapes.specs.Laws.{IsInBox, square}
 use Rattle.pf_manifold.specs.PlaceLaws.{IsClosest}
 use Rattle.pf_manifold.proofs.Mirrors.{vector_by_parts}
 use Rattle.pf_manifold.proofs.Comparisons.{is_below, not_above}
@@ -34,7 +34,7 @@ clamped-closest : (h z w : ℤ) → neg_ℤ h ≤ℤ w → w ≤ℤ h → unsign
 unfolding clamped
 clamped-closest h z w low high = omega (arith, ints, clamps)
 
-pub squared_le : (m n : ℕ) → m ≤ n → squared m ≤ squared n
+pub squared_le : (m n : ℕ) → m ≤ n → square m ≤ square n
 squared_le m n h = mul-le-mul h h
 
 pub point_is_closest : (half d : V2) → pos 0 ≤ℤ half.x → pos 0 ≤ℤ half.y → IsClosest half d (closest_point half d)

@@ -6,7 +6,7 @@ ghost use Rattle.pf_rot.specs.Vector.{V2};
 ghost use Rattle.pf_rot.specs.Rotation.{upright};
 ghost use Rattle.pf_shapes.specs.declared.fixture.Shape.TheVariants.{Circle, Box};
 ghost use Rattle.pf_shapes.specs.Fixture.{IsSize, HasSize};
-ghost use Rattle.pf_shapes.specs.Laws.{IsInBox, distance_squared, squared};
+ghost use Rattle.pf_shapes.specs.Laws.{IsInBox, distance_squared, square};
 ghost use Rattle.pf_manifold.specs.declared.face.Face.{Face};
 ghost use Rattle.pf_manifold.specs.Placed.{PlacedShape, OrientedBox};
 ghost use Rattle.pf_manifold.specs.Face.{face_number};
@@ -62,7 +62,7 @@ pub fn clipped_edges_lie_within()
 /// radii: where its square is below the square of that sum and one more unit.
 pub fn circles_touch_where_they_reach()
     ensures { (a b : V2) (ra rb : ℤ) → IsSize ra → IsSize rb
-        → (IsSome (collide_circles a ra b rb) ↔ (distance_squared a b < squared (unsigned_abs ra + unsigned_abs rb + 1))) }
+        → (IsSome (collide_circles a ra b rb) ↔ (distance_squared a b < square (unsigned_abs ra + unsigned_abs rb + 1))) }
 {}
 
 /// Whether two boxes have a gap doesn't depend on which comes first, and where they have one neither order has a point.
