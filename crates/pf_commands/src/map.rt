@@ -163,7 +163,7 @@ impl CommandMap {
     /// these payloads alone, so none for a tick that has none.
     pub fn at_tick(&self, alloc: Global, tick: u32) -> Result<Vec<Payload>, AllocError>
         ensures items { IfOk result (λ payloads. payloads.items ≡ payloads_at self.now tick) }
-        ensures quiet { payloads_at self.now tick ≡ [] → IsOk result }
+        ensures no_memory { payloads_at self.now tick ≡ [] → IsOk result }
     {
         let commands = &self.commands;
         if tick >= MAX_TICK {
@@ -211,7 +211,7 @@ impl CommandMap {
         ensures least { IfOk result (λ merged. merged.least ≡ least_tick (news self.old other.now)) }
         ensures err { OnErr result (self.new ≡ self.old) }
         ensures same { news self.old other.now ≡ [] → self.new ≡ self.old }
-        ensures quiet { news self.old other.now ≡ [] → IsOk result }
+        ensures no_memory { news self.old other.now ≡ [] → IsOk result }
     {
         let merged = self.news(other);
         if merged.count > 0 {

@@ -7,10 +7,11 @@ use Rattle.pf_shapes.specs.Body.{BodyState}
 use Rattle.pf_commands.specs.declared.payload.Command.{Command}
 use Rattle.pf_commands.specs.declared.payload.Payload.{Payload}
 use Rattle.pf_commands.specs.declared.payload.Payload.TheVariants.{Push, Turn, Stop}
-use Rattle.pf_console.specs.declared.event.Reply.{Reply}
-use Rattle.pf_console.specs.declared.event.Reply.TheVariants.{Issued, Took, Advanced, Shown, Refused}
-use Rattle.pf_console.specs.declared.event.Refusal.{Refusal}
-use Rattle.pf_console.specs.declared.event.Refusal.TheVariants.{TickLimit, NumbersSpent, Frame, Check, NotReached}
+use Rattle.pf_peers.specs.declared.event.Reply.{Reply}
+use Rattle.pf_peers.specs.declared.event.Reply.TheVariants.{Issued, Took, Advanced, Shown, Refused}
+use Rattle.pf_step.specs.World.{World}
+use Rattle.pf_rollback.specs.declared.fault.Refusal.{Refusal}
+use Rattle.pf_rollback.specs.declared.fault.Refusal.TheVariants.{TickLimit, NumbersSpent, Frame, Check, NotReached}
 use Rattle.pf_console.specs.Names.{frame_fault_name, check_fault_name, put_name}
 
 -- what a command does, and the line's end
@@ -49,9 +50,10 @@ bodies_text i (f ∷ fixtures) (b ∷ bodies) =
 bodies_text i fixtures bodies = []
 
 -- the block of a world
-unfoldable pub block_text : List Fixture → ℕ → ℕ → List BodyState → List ℕ
-block_text fixtures peer tick bodies =
-    line_text (codes "show") (pos peer ∷ pos tick ∷ []) ++ bodies_text 0 fixtures bodies ++ line_text (codes "end") []
+unfoldable pub block_text : List Fixture → ℕ → ℕ → World → List ℕ
+block_text fixtures peer tick w =
+    line_text (codes "show") (pos peer ∷ pos tick ∷ []) ++ bodies_text 0 fixtures w.bodies
+    ++ line_text (codes "end") []
 
 -- a word, a peer, and what it is answered
 abbrev pub answer_text : List ℕ → ℕ → List ℕ → List ℕ

@@ -1,7 +1,8 @@
 -- What the program says of a fault on standard error, and the status it ends with.
 use Rattle.std.specs.Prelude.{◌≡◌, ℕ, ◌+◌, List, [], ◌++◌, ◌⊎◌, Option, Result, Ok, Err, codes, decimal, string_bytes}
 use Rattle.std.specs.Io.KnownBytes.{Appends}
-use Rattle.pf_text.specs.Lines.{AppendsFront}
+use Rattle.pf_text.specs.Lines.{AppendsPrefix}
+use Rattle.pf_text.specs.Streams.{SinkCall}
 use Rattle.pf_shapes.specs.declared.fault.SceneFault.{SceneFault}
 use Rattle.pf_shapes.specs.declared.fault.SceneFault.TheVariants.{BadLine, BadNumber, TooMany, BadMass, BadSize}
 use Rattle.pf_console.specs.Names.{frame_fault_name}
@@ -54,7 +55,8 @@ abbrev pub ending_status : Result (Unit {0}) PlayFault → ℕ
 ending_status (Ok done) = 0
 ending_status (Err fault) = status_of fault
 
--- all of a text was written; or else the writer failed, and a beginning of it was
-abbrev pub Reports : ℕ → ℕ → Option (List ℕ) → Option (List ℕ) → List ℕ → Type 0
-Reports failures after old new text =
-    ((after ≡ failures) × Appends old new text) ⊎ ((after ≡ failures + 1) × AppendsFront old new text)
+-- all of a text was written; or else the writer failed, and a part of it was
+abbrev pub Reports : SinkCall → List ℕ → Type 0
+Reports s text =
+    ((s.failures_after ≡ s.failures_before) × Appends s.before s.after text)
+    ⊎ ((s.failures_after ≡ s.failures_before + 1) × AppendsPrefix s.before s.after text)

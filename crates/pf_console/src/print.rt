@@ -4,10 +4,12 @@ ghost use Rattle.std.specs.Prelude.{◌≡◌, ◌++◌, ◌<◌, ◌^◌, OnOk,
 ghost use Rattle.std.specs.String.{string_bytes};
 ghost use Rattle.pf_console.specs.Print.{payload_text, command_line, body_numbers, moving_text, bodies_text, block_text, answer_text, refused_text, refusal_text, reply_text};
 
-use crate::event::{Refusal, Reply};
 use crate::names::{check_fault_name, frame_fault_name, put_name};
 use pf_commands::{Command, Payload};
+use pf_peers::Reply;
+use pf_rollback::Refusal;
 use pf_shapes::{BodyState, Fixture};
+use pf_step::World;
 use pf_text::{push_line, push_words};
 use std::alloc::{AllocError, Global};
 
@@ -131,12 +133,12 @@ fn push_block(
     fixtures: &[Fixture],
     peer: u8,
     tick: u32,
-    bodies: &[BodyState],
+    world: &World,
 ) -> Result<(), AllocError>
-    ensures { OnOk result (string_bytes text.new ≡ string_bytes text.old ++ block_text fixtures.now peer tick bodies.now) }
+    ensures { OnOk result (string_bytes text.new ≡ string_bytes text.old ++ block_text fixtures.now peer tick world.now) }
 {
     push_line(text, "show", &[i64::from(peer), i64::from(tick)])?;
-    push_bodies(text, fixtures, bodies)?;
+    push_bodies(text, fixtures, world.bodies())?;
     push_line(text, "end", &[])
 }
 
@@ -160,7 +162,7 @@ pub fn reply_text(alloc: Global, fixtures: &[Fixture], reply: &Reply) -> Result<
             )?;
         }
         Reply::Shown { peer, tick, world } => {
-            push_block(&mut text, fixtures, *peer, *tick, world.bodies())?;
+            push_block(&mut text, fixtures, *peer, *tick, world)?;
         }
         Reply::Refused(refusal) => push_refusal(&mut text, *refusal)?,
     }

@@ -67,8 +67,10 @@ fn refused_line(number: u64, fault: SceneFault) -> ArrayString<FAULT_ROOM>
 pub fn finish<W: Sink>(outcome: Result<(), PlayFault>, writer: &mut W) -> u8
     requires { W.failures writer.old + 1 < 2 ^ 64 }
     ensures status { result ≡ ending_status outcome }
-    ensures text { Reports (W.failures writer.old) (W.failures writer.new)
-        (W.contents writer.old) (W.contents writer.new) (ending_text outcome) }
+    ensures text { Reports (record {
+            before = W.contents writer.old; after = W.contents writer.new;
+            failures_before = W.failures writer.old; failures_after = W.failures writer.new })
+        (ending_text outcome) }
 {
     match outcome {
         Ok(()) => 0,
@@ -80,8 +82,10 @@ pub fn finish<W: Sink>(outcome: Result<(), PlayFault>, writer: &mut W) -> u8
 pub fn report<W: Sink>(fault: &PlayFault, writer: &mut W) -> u8
     requires { W.failures writer.old + 1 < 2 ^ 64 }
     ensures status { result ≡ status_of fault.now }
-    ensures text { Reports (W.failures writer.old) (W.failures writer.new)
-        (W.contents writer.old) (W.contents writer.new) (fault_text fault.now) }
+    ensures text { Reports (record {
+            before = W.contents writer.old; after = W.contents writer.new;
+            failures_before = W.failures writer.old; failures_after = W.failures writer.new })
+        (fault_text fault.now) }
 {
     let _ = match fault {
         PlayFault::Words(text) => writer.write_all(text.as_bytes()),

@@ -1,6 +1,7 @@
 //! What a call of the program asks for, and doing it.
 
 ghost use Rattle.std.specs.Prelude.{◌≡◌, ℕ, ◌+◌, ◌^◌, ◌<◌, List, Some};
+ghost use Rattle.pf_text.specs.Streams.{IfExposed};
 ghost use Rattle.pf_console.specs.Request.{Performs, Writes};
 ghost use Rattle.pf_console.specs.Text.{CountsReads, CountsWrites, ReadsNothing};
 
@@ -24,7 +25,8 @@ pub enum Request<'a> {
 /// Writes a text.
 fn say<W: Sink>(text: &str, writer: &mut W) -> Result<(), PlayFault>
     requires { W.failures writer.old + 1 < 2 ^ 64 }
-    ensures text { (before : List ℕ) → W.contents writer.old ≡ Some before → Writes text.now before (W.contents writer.new) result }
+    ensures text { (before : List ℕ) → W.contents writer.old ≡ Some before
+        → Writes text.now (record { before = before; after = W.contents writer.new }) result }
     ensures reads_nothing { ReadsNothing result }
     ensures writes_counted { CountsWrites (W.failures writer.old) result (W.failures writer.new) }
 {
@@ -41,8 +43,10 @@ pub fn perform<R: Source, W: Sink>(
 ) -> Result<(), PlayFault>
     requires reads { R.failures reader.old + 1 < 2 ^ 64 }
     requires writes { W.failures writer.old + 1 < 2 ^ 64 }
-    ensures done { (input before : List ℕ) → R.remaining reader.old ≡ Some input → W.contents writer.old ≡ Some before
-        → Performs request.entry input (R.remaining reader.new) before (W.contents writer.new) result }
+    ensures done { IfExposed (record {
+            unread = R.remaining reader.old; left = R.remaining reader.new;
+            before = W.contents writer.old; after = W.contents writer.new })
+        (λ transfer. Performs request.entry transfer result) }
     ensures reads_counted { CountsReads (R.failures reader.old) result (R.failures reader.new) }
     ensures writes_counted { CountsWrites (W.failures writer.old) result (W.failures writer.new) }
 {

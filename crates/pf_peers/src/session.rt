@@ -122,7 +122,7 @@ fn answer_alone(core: &mut PeerCore, alloc: Global, event: Event) -> Result<Repl
     ensures reply { IfOk result (λ reply.
         (reply, core.new.peer) ≡ peer_answer core.old.scene core.old.peer event) }
     ensures scene { core.new.scene ≡ core.old.scene }
-    ensures quiet { NeedsNoMemory core.old.scene core.old.peer event → IsOk result }
+    ensures no_memory { NeedsNoMemory core.old.scene core.old.peer event → IsOk result }
     ensures err { OnErr result (core.new ≡ core.old) }
 {
     match event {
@@ -169,7 +169,7 @@ impl Session {
     pub fn answer(&mut self, alloc: Global, event: Event) -> Result<Reply, AllocError>
         requires { IsAmong (length self.old.peers) event }
         ensures reply { IfOk result (λ reply. (reply, self.new) ≡ answer self.old event) }
-        ensures quiet { let s = self.old in
+        ensures no_memory { let s = self.old in
             NeedsNoMemory s.scene (peer_at s (peer_of event)) event → IsOk result }
         ensures err { OnErr result (self.new ≡ self.old) }
     {

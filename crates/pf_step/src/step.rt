@@ -23,7 +23,7 @@ pub fn step_alone(
     payloads: &[Payload],
 ) -> Result<World, AllocError>
     ensures value { IfOk result (λ next. next ≡ step scene.now world.now payloads.now) }
-    ensures empty { world.now.bodies ≡ [] → IsOk result }
+    ensures no_memory { world.now.bodies ≡ [] → IsOk result }
 {
     let mut bodies = copy_of(alloc, world.bodies())?;
     apply_all(scene.fixtures(), &mut bodies, payloads);

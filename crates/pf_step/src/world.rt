@@ -24,7 +24,7 @@ impl Model for World {
 /// A copy of bodies. Takes no memory where there are none.
 pub(crate) fn copy_of(alloc: Global, bodies: &[BodyState]) -> Result<Vec<BodyState>, AllocError>
     ensures items { IfOk result (λ copy. copy.items ≡ bodies.now) }
-    ensures empty { bodies.now ≡ [] → IsOk result }
+    ensures no_memory { bodies.now ≡ [] → IsOk result }
 {
     if bodies.is_empty() {
         return Ok(Vec::new(alloc));
@@ -40,7 +40,7 @@ impl World {
     #[tactic(auto, unfolding(crate::specs::World::start_of))]
     pub fn start(alloc: Global, scene: &Scene) -> Result<World, AllocError>
         ensures value { IfOk result (λ world. world ≡ start_of scene.now) }
-        ensures empty { scene.now.starts ≡ [] → IsOk result }
+        ensures no_memory { scene.now.starts ≡ [] → IsOk result }
     {
         let bodies = copy_of(alloc, scene.starts())?;
         Ok(World { bodies })
@@ -56,7 +56,7 @@ impl World {
     /// A copy. Takes time and memory for all bodies, and no memory where there are none.
     pub fn try_clone(&self) -> Result<World, AllocError>
         ensures value { IfOk result (λ copy. copy ≡ self.now) }
-        ensures empty { self.now.bodies ≡ [] → IsOk result }
+        ensures no_memory { self.now.bodies ≡ [] → IsOk result }
     {
         let bodies = copy_of(*self.bodies.allocator(), self.bodies.as_slice())?;
         Ok(World { bodies })

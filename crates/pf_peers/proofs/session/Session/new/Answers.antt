@@ -9,7 +9,7 @@ use Rattle.pf_peers.proofs.session.Session.new.Goals as goal
 pub loop-player-preserved : goal.loop-player-preserved
 loop-player-preserved c =
     let more = map-range_with_len_more (new_core c.args.scene) 0 c.loop-player.player c.loop-player.player (omega arith) in
-    let copied : c.in_ok-copy.copy ≡ c.args.scene = c.in_ok-copy.ensures in
+    let copied : c.in_ok-copy.copy ≡ c.args.scene = c.in_ok-copy.ensures.value in
     c.in_ok-push.ensures.items ∙ rw (c.new.ensures, copied, c.loop-player.invariant, more) refl
 
 pub invariant_of-result : goal.invariant_of-result
