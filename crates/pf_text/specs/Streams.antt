@@ -20,3 +20,18 @@ pub record Transfer : Type 0 where
 abbrev pub IfExposed : Streams → (Transfer → Type 0) → Type 0
 IfExposed s P = (input before : List ℕ) → s.unread ≡ Some input → s.before ≡ Some before
     → P (record { input = input; left = s.left; before = before; after = s.after })
+
+-- what a writer has taken, before a call and after it
+pub record Written : Type 0 where
+  pub before : List ℕ
+  pub after : Option (List ℕ)
+
+abbrev pub written : Transfer → Written
+written t = record { before = t.before; after = t.after }
+
+-- what a sink has taken, or `None` where that is not known, and how often it has failed, before a call and after it
+pub record SinkCall : Type 0 where
+  pub before : Option (List ℕ)
+  pub after : Option (List ℕ)
+  pub failures_before : ℕ
+  pub failures_after : ℕ
