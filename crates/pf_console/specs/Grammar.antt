@@ -8,6 +8,7 @@ use Rattle.pf_text.specs.declared.fault.LineFault.{LineFault}
 use Rattle.pf_text.specs.declared.fault.LineFault.TheVariants.{BadLine}
 use Rattle.pf_text.specs.Fault.{◌>>=◌}
 use Rattle.pf_text.specs.Numbers.{whole_of, integer}
+use Rattle.pf_rot.specs.Vector.{V2}
 use Rattle.pf_peers.specs.declared.event.Event.{Event}
 use Rattle.pf_commands.specs.declared.payload.Payload.TheVariants.{Push, Turn, Stop}
 use Rattle.pf_peers.specs.declared.event.Event.TheVariants.{Issue, Take, Advance, Show}
@@ -54,14 +55,20 @@ body_of field = as_natural (integer (pos 0) (pos 65535) (whole_of field))
 abbrev pub real_of : List ℕ → Result ℤ LineFault
 real_of field = integer (neg_ℤ max_raw) max_raw (whole_of field)
 
+-- an impulse
+abbrev pub impulse_of : List ℕ → List ℕ → Result V2 LineFault
+impulse_of x y = do
+  x ← real_of x
+  y ← real_of y
+  Ok (record { x = x; y = y })
+
 -- `issue P push B X Y`
 unfoldable pub push_of : ℕ → List ℕ → List (List ℕ) → Result Event LineFault
 push_of peers peer (body ∷ x ∷ y ∷ []) = do
   peer ← peer_of peers peer
   body ← body_of body
-  x ← real_of x
-  y ← real_of y
-  Ok (Issue peer (Push body x y))
+  impulse ← impulse_of x y
+  Ok (Issue peer (Push body impulse.x impulse.y))
 push_of peers peer args = Err BadLine
 
 -- `issue P turn B X`

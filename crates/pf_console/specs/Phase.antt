@@ -30,17 +30,21 @@ after_scene_line (Ok (More reader)) = Ok ([], Reading reader)
 after_scene_line (Ok (Ended scene)) = Ok ([], Seating scene)
 after_scene_line (Err fault) = Err fault
 
--- so many new peers
-abbrev pub with_peers : Scene → Result ℤ LineFault → Transition
-with_peers scene (Ok count) = Ok ([], Playing (new_session scene (unsigned_abs count)))
-with_peers scene (Err fault) = Err (scene_fault_of fault)
+abbrev pub as_count : Result ℤ LineFault → Result ℕ SceneFault
+as_count (Ok count) = Ok (unsigned_abs count)
+as_count (Err fault) = Err (scene_fault_of fault)
 
--- `peers N`
-unfoldable pub after_peers_line : Scene → List (List ℕ) → Transition
-after_peers_line scene (word ∷ count ∷ []) =
+-- the number of peers in `peers N`
+unfoldable pub peer_count_of : List (List ℕ) → Result ℕ SceneFault
+peer_count_of (word ∷ count ∷ []) =
     if bytes_eq word (codes "peers")
-    then with_peers scene (integer (pos 1) (pos MAX_TEXT_PEERS) (whole_of count)) else Err BadLine
-after_peers_line scene fields = Err BadLine
+    then as_count (integer (pos 1) (pos MAX_TEXT_PEERS) (whole_of count)) else Err BadLine
+peer_count_of fields = Err BadLine
+
+-- so many new peers
+abbrev pub with_peers : Scene → Result ℕ SceneFault → Transition
+with_peers scene (Ok count) = Ok ([], Playing (new_session scene count))
+with_peers scene (Err fault) = Err fault
 
 -- an event has the text of its reply
 abbrev pub after_event : Session → Result Event LineFault → Transition
@@ -51,7 +55,7 @@ after_event s (Err fault) = Err (scene_fault_of fault)
 -- the text of a line's reply, and the phase after the line
 unfoldable pub after_line : Phase → List (List ℕ) → Transition
 after_line (Reading reader) fields = after_scene_line (line_of reader fields)
-after_line (Seating scene) fields = after_peers_line scene fields
+after_line (Seating scene) fields = with_peers scene (peer_count_of fields)
 after_line (Playing s) fields = after_event s (event_of (length s.peers) fields)
 
 -- a text by its lines

@@ -2,12 +2,13 @@
 
 ghost use Rattle.std.specs.Prelude.{◌≡◌, ◌<◌, map, IfOk};
 ghost use Rattle.pf_peers.specs.Session.{IsAmong};
-ghost use Rattle.pf_console.specs.Grammar.{peer_of, tick_of, body_of, real_of, word_of, kind_of, push_of, turn_of, stop_of, issue_of, take_of, advance_of, show_of, event_of};
+ghost use Rattle.pf_console.specs.Grammar.{peer_of, tick_of, body_of, real_of, impulse_of, word_of, kind_of, push_of, turn_of, stop_of, issue_of, take_of, advance_of, show_of, event_of};
 
 use crate::digits::frame;
 use pf_commands::Payload;
 use pf_num::Fx;
 use pf_peers::Event;
+use pf_rot::V2;
 use pf_text::{LineFault, ParsedNumber, number};
 
 /// The first field of an event's line.
@@ -100,6 +101,16 @@ fn real(field: &[u8]) -> Result<Fx, LineFault>
     }
 }
 
+/// An impulse, in units of 2^-24.
+fn impulse(x: &[u8], y: &[u8]) -> Result<V2, LineFault>
+    ensures { result ≡ impulse_of x.now y.now }
+{
+    Ok(V2 {
+        x: real(x)?,
+        y: real(y)?,
+    })
+}
+
 /// `issue P push B X Y`.
 #[tactic(auto, unfolding(crate::specs::Grammar::push_of))]
 fn push(peers: u8, of: &[u8], arguments: &[&[u8]]) -> Result<Event, LineFault>
@@ -111,8 +122,7 @@ fn push(peers: u8, of: &[u8], arguments: &[&[u8]]) -> Result<Event, LineFault>
     };
     let peer = peer(peers, of)?;
     let body = body(moved)?;
-    let x = real(x)?;
-    let y = real(y)?;
+    let V2 { x, y } = impulse(x, y)?;
     let payload = Payload::Push { body, x, y };
     Ok(Event::Issue { peer, payload })
 }

@@ -1,10 +1,10 @@
 //! What the lines of a text mean, one after the other.
 
-ghost use Rattle.std.specs.Prelude.{◌≡◌, [], Ok, map, length};
+ghost use Rattle.std.specs.Prelude.{◌≡◌, ◌≤◌, [], Ok, IfOk, map, length};
 ghost use Rattle.pf_text.specs.Driver.{without_output, Produces};
 ghost use Rattle.pf_peers.specs.Session.{IsAmong};
 ghost use Rattle.pf_console.specs.Grammar.{event_of};
-ghost use Rattle.pf_console.specs.Phase.{after_event, after_peers_line, after_scene_line, text_rules, with_peers};
+ghost use Rattle.pf_console.specs.Phase.{after_event, after_scene_line, peer_count_of, text_rules, with_peers};
 
 use crate::grammar::event;
 use crate::print::reply_text;
@@ -52,28 +52,34 @@ fn after_scene_line(progress: Progress) -> Phase
     }
 }
 
+/// The number of peers in `peers N`.
+#[tactic(auto, unfolding(crate::specs::Phase::peer_count_of))]
+fn peer_count(fields: &[&[u8]]) -> Result<u8, SceneFault>
+    ensures value { result ≡ peer_count_of (map (λ field. field.now) fields.now) }
+    ensures range { IfOk result (λ count. count ≤ MAX_TEXT_PEERS) }
+{
+    let [word, count] = fields else {
+        return Err(SceneFault::BadLine);
+    };
+    if *word != b"peers".as_slice() {
+        return Err(SceneFault::BadLine);
+    }
+    let count = integer(count, 1, i64::from(MAX_TEXT_PEERS))?;
+    Ok(count as u8)
+}
+
 /// The phase after `peers N`.
-#[tactic(auto, unfolding(crate::specs::Phase::after_peers_line))]
 fn after_peers_line(
     alloc: Global,
     scene: Scene,
     fields: &[&[u8]],
 ) -> Result<(String, Phase), TakeRefusal<SceneFault>>
-    ensures { Produces result (after_peers_line scene (map (λ field. field.now) fields.now)) }
+    ensures { Produces result
+        (with_peers scene (peer_count_of (map (λ field. field.now) fields.now))) }
 {
-    let [word, count] = fields else {
-        return Err(TakeRefusal::Fault(SceneFault::BadLine));
-    };
-    if *word != b"peers".as_slice() {
-        return Err(TakeRefusal::Fault(SceneFault::BadLine));
-    }
-    match integer(count, 1, i64::from(MAX_TEXT_PEERS)) {
-        Ok(count) => {
-            let session = Session::new(alloc, scene, count as u8)?;
-            Ok((String::new(alloc), Phase::Playing(session)))
-        }
-        Err(fault) => Err(TakeRefusal::Fault(SceneFault::from(fault))),
-    }
+    let count = peer_count(fields).map_err(TakeRefusal::Fault)?;
+    let session = Session::new(alloc, scene, count)?;
+    Ok((String::new(alloc), Phase::Playing(session)))
 }
 
 /// The reply to an event, and the phase after it.
