@@ -5,7 +5,7 @@ use Rattle.std.proofs.lemmas.Bool.Decides.{nat_tests}
 use Rattle.std.specs.FinMap.{get, get-insert, get-empty, get-entries, empty, insert, entries, find, from_entries, get-from_entries}
 use Rattle.pf_commands.specs.Name.{Name}
 use Rattle.pf_commands.specs.Merge.{name_cmp, CommandMap, heavier_payload, heaviest_of, merge, singleton}
-use Rattle.pf_commands.specs.News.{put_outcome, is_change, is_news, news, lesser_number, least_of, least_tick, NotesNews}
+use Rattle.pf_commands.specs.News.{put_outcome, is_change, is_news, news, lesser_number, least_of, least_tick, IsNewsOf}
 use Rattle.pf_commands.specs.declared.payload.Payload.{Payload}
 use Rattle.std.specs.Prelude.{IfSome}
 use Rattle.std.specs.Map.{keys_of}
@@ -158,7 +158,7 @@ length-filter_le m (e ∷ es) =
     let fewer = length-filter_le m es in
     elim (is_news m e) as (λ b. length (cond b (e ∷ filter (is_news m) es) (filter (is_news m) es)) ≤ length (e ∷ es)) [ true ↦ omega arith | false ↦ omega arith ]
 
-pub noted_few : (m : CommandMap) (es : List (Name × Payload)) (count : ℕ) (least : Option ℕ) → NotesNews m es count least → count ≤ length es
+pub noted_few : (m : CommandMap) (es : List (Name × Payload)) (count : ℕ) (least : Option ℕ) → IsNewsOf m es count least → count ≤ length es
 noted_few m es count least noted = rw noted.count_is (length-filter_le m es)
 
 filter-push : (m : CommandMap) (es : List (Name × Payload)) (e : Name × Payload) (b : Bool) → is_news m e ≡ b
@@ -174,15 +174,15 @@ filter-push m (d ∷ es) e b is =
 least_tick-push : (es : List (Name × Payload)) (e : Name × Payload) → least_tick (es ++ e ∷ []) ≡ Some (lesser_number e.0.tick (least_tick es))
 least_tick-push es e = ap least_of (map-append (λ d. d.0.tick) es (e ∷ [])) ∙ least_of-push (map (λ d. d.0.tick) es) e.0.tick
 
-pub noted_more : (m : CommandMap) (es : List (Name × Payload)) (e : Name × Payload) (count : ℕ) (least : Option ℕ) → NotesNews m es count least → is_news m e ≡ true
-    → NotesNews m (es ++ e ∷ []) (count + 1) (Some (lesser_number e.0.tick least))
+pub noted_more : (m : CommandMap) (es : List (Name × Payload)) (e : Name × Payload) (count : ℕ) (least : Option ℕ) → IsNewsOf m es count least → is_news m e ≡ true
+    → IsNewsOf m (es ++ e ∷ []) (count + 1) (Some (lesser_number e.0.tick least))
 noted_more m es e count least noted fresh = record {
   count_is = rw (filter-push m es e true fresh) (simp length-append (omega (arith, noted.count_is)));
   least_is = rw (filter-push m es e true fresh) (ap (λ o. Some (lesser_number e.0.tick o)) noted.least_is ∙ sym (least_tick-push (filter (is_news m) es) e));
 }
 
-pub noted_same : (m : CommandMap) (es : List (Name × Payload)) (e : Name × Payload) (count : ℕ) (least : Option ℕ) → NotesNews m es count least → is_news m e ≡ false
-    → NotesNews m (es ++ e ∷ []) count least
+pub noted_same : (m : CommandMap) (es : List (Name × Payload)) (e : Name × Payload) (count : ℕ) (least : Option ℕ) → IsNewsOf m es count least → is_news m e ≡ false
+    → IsNewsOf m (es ++ e ∷ []) count least
 noted_same m es e count least noted steady = record {
   count_is = rw (filter-push m es e false steady) (rw append-nil noted.count_is);
   least_is = rw (filter-push m es e false steady) (rw append-nil noted.least_is);

@@ -6,7 +6,7 @@ use Rattle.pf_shapes.specs.Scene.{Scene}
 use Rattle.pf_commands.specs.declared.checking.CheckFault.{CheckFault}
 use Rattle.pf_commands.specs.declared.payload.Payload.{Payload}
 use Rattle.pf_commands.specs.Name.{Name}
-use Rattle.pf_commands.specs.Check.{check, and_then, check_all, IsAllowed, IsFirstFault}
+use Rattle.pf_commands.specs.Check.{check, and_then, check_all, IsAllowed, IsFirstError}
 
 -- checks of a list that begins with another
 check_all-append : (s : Scene) (es others : List (Name × Payload)) →
@@ -34,7 +34,7 @@ pub check_all_stops : (s : Scene) (all es rest : List (Name × Payload)) (e : Na
 check_all_stops s all es rest e fault whole h here =
     ap (check_all s) whole ∙ check_all_behind s es (e ∷ rest) h ∙ ap (λ r. and_then r (check_all s rest)) here
 
--- ---- what the answer means
+-- ---- what the result means
 
 pub each_allowed : (s : Scene) (es : List (Name × Payload)) → check_all s es ≡ Ok tt → All (IsAllowed s) es
 each_allowed s [] h = All-nil (IsAllowed s)
@@ -50,12 +50,12 @@ all_allowed s [] h = refl
 all_allowed s (e ∷ es) h =
     ap (λ r. and_then r (check_all s es)) (All-head (IsAllowed s) e es h) ∙ all_allowed s es (All-tail (IsAllowed s) e es h)
 
-pub first_fault : (s : Scene) (es : List (Name × Payload)) (fault : CheckFault) → check_all s es ≡ Err fault → IsFirstFault s es fault
+pub first_fault : (s : Scene) (es : List (Name × Payload)) (fault : CheckFault) → check_all s es ≡ Err fault → IsFirstError s es fault
 first_fault s [] fault h = absurd cc
 first_fault s (e ∷ es) fault h = by (check s e.0 e.1) refl h (first_fault s es fault)
   where
     by : (r : Result (Unit {0}) CheckFault) → check s e.0 e.1 ≡ r → and_then r (check_all s es) ≡ Err fault
-        → (check_all s es ≡ Err fault → IsFirstFault s es fault) → IsFirstFault s (e ∷ es) fault
+        → (check_all s es ≡ Err fault → IsFirstError s es fault) → IsFirstError s (e ∷ es) fault
     by (Ok done) here h rest =
         let found = rest h in
         record {
@@ -69,6 +69,6 @@ first_fault s (e ∷ es) fault h = by (check s e.0 e.1) refl h (first_fault s es
     by (Err other) here h rest =
         record { before = []; first = e; after = es; commands_are = refl; allowed = All-nil (IsAllowed s); refused = here ∙ h }
 
-pub fault_first : (s : Scene) (es : List (Name × Payload)) (fault : CheckFault) → IsFirstFault s es fault → check_all s es ≡ Err fault
+pub fault_first : (s : Scene) (es : List (Name × Payload)) (fault : CheckFault) → IsFirstError s es fault → check_all s es ≡ Err fault
 fault_first s es fault h =
     check_all_stops s es h.before h.after h.first fault h.commands_are (all_allowed s h.before h.allowed) h.refused

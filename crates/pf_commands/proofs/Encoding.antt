@@ -1,4 +1,4 @@
--- Each command that has a body below 2^10 has one spelling.
+-- Each command that has a body below 2^10 has one encoding.
 use Rattle.std.proofs.Common.{◌≡◌, ℕ, zero, suc, ◌<◌, List, [], ◌∷◌, ◌++◌, length, refl, sym, ap, ◌∙◌, arith}
 use Rattle.std.specs.Int.{byte_at, bytes_high_first}
 use Rattle.std.proofs.lemmas.List.{length-append}
@@ -61,7 +61,7 @@ encoding_encodes c framed = record {
   same = big_number_parts (encoding c) ∙ ap worth (fields_again (fields_in c) (fields_in-fit c framed)) ∙ sym (number_of-parts c);
 }
 
--- ---- one spelling of a command, one command of a spelling
+-- ---- one encoding of a command, one command of an encoding
 
 pub same_spelling : (a b : List ℕ) (c : Command) → Encodes a c → Encodes b c → a ≡ b
 same_spelling a b c first second =

@@ -13,7 +13,7 @@ abbrev pub owns : ℕ → Option ℕ → Bool
 owns player None = false
 owns player (Some owner) = owner == player
 
--- what keeps a player from moving a body, if there is one with this number
+-- whether a player may move a body, if there is one with this number
 abbrev pub allowed : ℕ → Option Fixture → Result (Unit {0}) CheckFault
 allowed player None = Err UnknownBody
 allowed player (Some f) =
@@ -24,11 +24,12 @@ abbrev pub check : Scene → Name → Payload → Result (Unit {0}) CheckFault
 check s name payload = allowed name.player (slice_get s.fixtures (body_of payload))
 
 -- one check, and then the others
-abbrev pub and_then : Result (Unit {0}) CheckFault → Result (Unit {0}) CheckFault → Result (Unit {0}) CheckFault
+abbrev pub and_then
+    : Result (Unit {0}) CheckFault → Result (Unit {0}) CheckFault → Result (Unit {0}) CheckFault
 and_then (Ok done) others = others
 and_then (Err fault) others = Err fault
 
--- whether the scene allows each command, in order: the first fault
+-- whether the scene allows each command: the first error, in order
 abbrev pub check_all : Scene → List (Name × Payload) → Result (Unit {0}) CheckFault
 check_all s [] = Ok tt
 check_all s (e ∷ es) = and_then (check s e.0 e.1) (check_all s es)
@@ -37,8 +38,9 @@ check_all s (e ∷ es) = and_then (check s e.0 e.1) (check_all s es)
 abbrev pub IsAllowed : Scene → Name × Payload → Type 0
 IsAllowed s e = check s e.0 e.1 ≡ Ok tt
 
--- the first of the commands that the scene does not allow has this fault
-pub record IsFirstFault (s : Scene) (es : List (Name × Payload)) (fault : CheckFault) : Type 0 where
+-- the first of the commands that the scene does not allow has this error
+pub record IsFirstError
+    (s : Scene) (es : List (Name × Payload)) (fault : CheckFault) : Type 0 where
   pub before : List (Name × Payload)
   pub first : Name × Payload
   pub after : List (Name × Payload)

@@ -2,7 +2,8 @@
 use Rattle.std.specs.Prelude.{ℕ, ◌<◌}
 use Rattle.pf_commands.specs.declared.name.TheConstants.{MAX_TICK, PLAYERS, NUMBERS}
 
--- the tick that a command is for, the player who gives it, and its number among the player's at that tick
+-- the tick that a command is for, the player who issues it, and its number among the player's at
+-- that tick
 pub record Name : Type 0 where
   pub tick : ℕ
   pub player : ℕ

@@ -22,8 +22,8 @@ pub enum CheckFault {
     NotOwner,
 }
 
-/// Whether the scene allows the command: a player moves the bodies that it owns, and no static one. A command that a
-/// scene allows has a frame.
+/// Whether the scene allows the command: a player moves the bodies that it owns, and no static one.
+/// A command that a scene allows has a frame.
 pub fn check(scene: &Scene, command: &Command) -> Result<(), CheckFault>
     ensures value { result ≡ check scene.now command.now.name command.now.payload }
     ensures framable { IsOk result → body_of command.now.payload < 2 ^ 10 }

@@ -25,7 +25,7 @@ const VERSION: u8 = 1;
 /// Frames name bodies below this.
 const BODIES: u16 = 1 << 10;
 
-/// The fields of a frame as they stand there, x and y in two's complement.
+/// The fields of a frame, x and y in two's complement.
 #[derive(Clone, Copy)]
 struct Fields {
     version: u8,
@@ -107,7 +107,7 @@ impl Fields {
         }
     }
 
-    /// The command that the fields name, or the first cause why they name none.
+    /// The command of the fields, or the first cause why they have none.
     #[tactic(auto, unfolding(crate::specs::Frame::command_of, crate::specs::Frame::command_in, crate::specs::Frame::is_in_range))]
     fn command(self) -> Result<Command, FrameFault>
         ensures { result ≡ command_of self }
@@ -147,7 +147,7 @@ fn payload_of(kind: u8, body: u16, x: Fx, y: Fx) -> Payload
     }
 }
 
-/// The command that bytes spell, or the first cause why they spell none.
+/// The command that bytes encode, or the first cause why they encode none.
 #[tactic(auto, unfolding(crate::specs::Frame::decode))]
 fn decoded(bytes: &[u8]) -> Result<Command, FrameFault>
     ensures { result ≡ decode bytes.now }
@@ -161,24 +161,24 @@ fn decoded(bytes: &[u8]) -> Result<Command, FrameFault>
     Fields::of_bytes(bytes).command()
 }
 
-/// The command that bytes spell. It takes no memory.
+/// The command that bytes encode. Takes no memory.
 pub fn decode(bytes: &[u8]) -> Result<Command, FrameFault>
-    // What is answered is spelled so.
+    // The bytes encode the command that is returned.
     ensures found { IfOk result (Encodes bytes.now) }
 
-    // What is spelled so is answered.
+    // A command that they encode is returned.
     ensures only { (c : Command) → Encodes bytes.now c → result ≡ Ok c }
 
-    // Which refusal it is: the first that holds of the six, in the order of `FrameFault`.
+    // Which error it is: the first that holds of the six, in the order of `FrameFault`.
     ensures exact { result ≡ decode bytes.now }
 {
     decoded(bytes)
 }
 
-/// The one spelling of a command whose body is below 1,024. Other commands have none.
+/// The frame of a command whose body is below 1,024. Other commands have none.
 pub fn encode(command: &Command) -> [u8; FRAME_LEN]
     requires { body_of command.now.payload < 2 ^ 10 }
-    ensures spelled { Encodes result command.now }
+    ensures encoded { Encodes result command.now }
     ensures value { result ≡ encoding command.now }
 {
     Fields::of_command(command).bytes()

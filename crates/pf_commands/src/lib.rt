@@ -1,4 +1,5 @@
-//! Players' commands: names, payloads, frames on the wire, maps of commands, and which commands a scene allows.
+//! Players' commands: names, payloads, frames on the wire, maps of commands, and which commands a
+//! scene allows.
 #![tactic(auto)]
 
 mod checking;

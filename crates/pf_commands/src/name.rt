@@ -28,7 +28,8 @@ impl Model for Name {
 
     ghost view = { λ n. record { tick = n.tick; player = n.player; number = n.number } };
 
-    ghost invariant = { λ n. IsName (record { tick = n.tick; player = n.player; number = n.number }) };
+    ghost invariant = { λ n.
+        IsName (record { tick = n.tick; player = n.player; number = n.number }) };
 
     ghost inverse = { λ n. record { tick = n.tick; player = n.player; number = n.number } };
 }

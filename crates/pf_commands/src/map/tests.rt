@@ -163,5 +163,5 @@ fn laws_are_called(_rt: HostRuntime) {
     crate::laws::same_gets_same_map();
     crate::laws::merge_stays_in_range();
     crate::laws::same_weight_same_payload();
-    crate::laws::first_fault_is_answered();
+    crate::laws::first_error_is_returned();
 }

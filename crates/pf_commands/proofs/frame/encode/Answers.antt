@@ -8,7 +8,7 @@ use Rattle.pf_commands.proofs.frame.encode.Goals as goal
 spells_along : (bytes : List ℕ) (c : Command) → bytes ≡ encoding c → Encodes (encoding c) c → Encodes bytes c
 spells_along bytes c same spells = subst (λ (b : List ℕ). Encodes b c) (sym same) spells
 
-pub returns-clause-spelled : goal.returns-clause-spelled
-returns-clause-spelled c =
+pub returns-clause-encoded : goal.returns-clause-encoded
+returns-clause-encoded c =
     spells_along c.bytes.result c.args.command.now (c.bytes.ensures ∙ ap bytes_in c.of_command.ensures.value)
     (encoding_encodes c.args.command.now (record { name = c.of_command.ensures.name; payload = c.of_command.ensures.payload; body = c.requires }))

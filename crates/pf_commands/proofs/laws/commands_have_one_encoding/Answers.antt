@@ -10,5 +10,5 @@ returns-clause-same_bytes c = same_spelling
 pub returns-clause-same_command : goal.returns-clause-same_command
 returns-clause-same_command c = same_command
 
-pub returns-clause-no_beginning : goal.returns-clause-no_beginning
-returns-clause-no_beginning c = no_beginning
+pub returns-clause-no_prefix : goal.returns-clause-no_prefix
+returns-clause-no_prefix c = no_beginning

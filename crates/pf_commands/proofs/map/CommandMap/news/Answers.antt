@@ -24,7 +24,7 @@ loop-name-preserved-then-is_change c =
     rw (map-append deref_pair c.loop-name.yielded ((c.in-Some.name, c.in-Some.payload) ∷ []), c.earlier.ensures, c.tick.ensures.value)
     (noted_more c.args.self.now (map deref_pair c.loop-name.yielded) e c.loop-name.count c.loop-name.least c.loop-name.invariant
     (ap (λ (x : Command). is_change (put_outcome (get c.args.self.now x.name) x.payload)) (sym c.command_of-command.ensures)
-    ∙ ap is_change (sym c.answer.ensures) ∙ sym c.is_change.ensures ∙ c.if-is_change.true))
+    ∙ ap is_change (sym c.outcome.ensures) ∙ sym c.is_change.ensures ∙ c.if-is_change.true))
 
 pub returns : goal.returns
 returns c =
