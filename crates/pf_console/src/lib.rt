@@ -16,7 +16,7 @@ mod run;
 pub use fault::{DigitsFault, PlayFault};
 pub use frame::frame_text;
 pub use reporting::{finish, report};
-pub use request::{Request, perform};
+pub use request::{Request, VERSION, perform};
 pub use run::run_text;
 
 #[cfg(test)]

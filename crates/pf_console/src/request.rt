@@ -11,15 +11,20 @@ use crate::run::run_text;
 use pf_text::{Sink, Source};
 use std::alloc::Global;
 
+/// The line of the program's version.
+pub const VERSION: &str = "pf_play 0.1.0\n";
+
 /// What a command line asks for.
 #[derive(Debug, Drop)]
 pub enum Request<'a> {
-    /// Answer a text line by line.
+    /// Process a text line by line.
     Run,
-    /// Print the fields of the frame that these digits spell.
+    /// Print the fields of the frame that these digits encode.
     Frame(&'a str),
-    /// Write this text, help or the version.
-    Say(String),
+    /// Write this text, a help.
+    Help(String),
+    /// Write the program's version.
+    Version,
 }
 
 /// Writes a text.
@@ -53,6 +58,7 @@ pub fn perform<R: Source, W: Sink>(
     match request {
         Request::Run => run_text(alloc, reader, writer),
         Request::Frame(digits) => frame_text(alloc, digits, writer),
-        Request::Say(text) => say(&text, writer),
+        Request::Help(text) => say(&text, writer),
+        Request::Version => say(VERSION, writer),
     }
 }

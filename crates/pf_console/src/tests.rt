@@ -304,7 +304,7 @@ fn other_faults_have_their_texts(rt: HostRuntime) -> Result<(), Fail> {
 fn a_text_to_say_is_written(rt: HostRuntime) -> Result<(), Fail> {
     let text = String::from_str(rt.alloc(), "help\n")?;
     let mut output = Collected::new(rt.alloc());
-    let request = Request::Say(text);
+    let request = Request::Help(text);
     let outcome = perform(rt.alloc(), request, &mut Bytes::new(FALLING), &mut output);
     if outcome.is_err() {
         return Err(AllocError)?;
