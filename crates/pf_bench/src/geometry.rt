@@ -7,7 +7,7 @@ ghost use Rattle.pf_shapes.specs.Scene.{IsPosition};
 
 use crate::chain::units;
 use pf_broad::pairs;
-use pf_manifold::{Manifold, Placed, Point, collide};
+use pf_manifold::{Manifold, PlacedShape, ContactPoint, collide};
 use pf_num::Fx;
 use pf_rot::{Rot, V2};
 use pf_shapes::{Fixture, MAX_BODIES, Scene, Shape};
@@ -88,7 +88,7 @@ fn scattered(i: u64, factor: u64) -> Fx
 
 /// The sum of all numbers of a point.
 #[inline]
-fn of_point(point: Point) -> i64 {
+fn of_point(point: ContactPoint) -> i64 {
     i64::from(point.feature)
         .wrapping_add(point.position.x.raw())
         .wrapping_add(point.position.y.raw())
@@ -109,7 +109,7 @@ fn of_manifold(manifold: Manifold) -> i64 {
 
 /// The sum over the points of `a` at the origin, and of `b` at so many positions about it.
 fn points(a: &Shape, b: &Shape, count: u64) -> i64 {
-    let a = Placed {
+    let a = PlacedShape {
         shape: a,
         position: V2::ZERO,
         rotation: turn(2),
@@ -120,7 +120,7 @@ fn points(a: &Shape, b: &Shape, count: u64) -> i64 {
             x: scattered(i, 40_503),
             y: scattered(i, 7_919),
         };
-        let b = Placed {
+        let b = PlacedShape {
             shape: b,
             position,
             rotation: turn(i),
