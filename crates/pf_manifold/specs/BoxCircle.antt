@@ -38,7 +38,8 @@ region_number Above = 2
 
 -- 128 to 136, by the regions of the circle's centre d on both axes
 unfoldable pub region_feature : V2 → V2 → ℕ
-region_feature half d = 128 + 3 * region_number (region_of half.x d.x) + region_number (region_of half.y d.y)
+region_feature half d =
+    128 + 3 * region_number (region_of half.x d.x) + region_number (region_of half.y d.y)
 
 -- the contact point at the point closest to the circle's centre d; e is the vector from there to d
 unfoldable pub outside_point : V2 → ℤ → V2 → V2 → V2 → ContactPoint
@@ -51,7 +52,8 @@ outside_point half r d closest e = record {
 
 -- no contact point where the distance is greater than the radius
 unfoldable pub outside_contact : V2 → ℤ → V2 → V2 → V2 → Option ContactPoint
-outside_contact half r d closest e = if int_lt r (length_of e) then None else Some (outside_point half r d closest e)
+outside_contact half r d closest e =
+    if int_lt r (length_of e) then None else Some (outside_point half r d closest e)
 
 -- ---- a circle whose centre is inside the box
 
@@ -64,11 +66,13 @@ face_distance half d Bottom = sum half.y d.y
 
 -- the new face where it is closer to d than the best one, else the best one
 unfoldable pub closer_face : V2 → V2 → Face → Face → Face
-closer_face half d best face = if int_lt (face_distance half d face) (face_distance half d best) then face else best
+closer_face half d best face =
+    if int_lt (face_distance half d face) (face_distance half d best) then face else best
 
 -- the face closest to d, the first in the order right, top, left, bottom
 unfoldable pub closest_face : V2 → V2 → Face
-closest_face half d = closer_face half d (closer_face half d (closer_face half d Right Top) Left) Bottom
+closest_face half d =
+    closer_face half d (closer_face half d (closer_face half d Right Top) Left) Bottom
 
 -- the contact point on this face, next to the circle's centre d
 unfoldable pub inside_point : V2 → ℤ → V2 → Face → ContactPoint
@@ -85,12 +89,14 @@ inside_point half r d face = record {
 -- centre d
 unfoldable pub contact_at : V2 → ℤ → V2 → V2 → Option ContactPoint
 contact_at half r d closest =
-    if int_eq d.x closest.x && int_eq d.y closest.y then Some (inside_point half r d (closest_face half d))
+    if int_eq d.x closest.x && int_eq d.y closest.y
+    then Some (inside_point half r d (closest_face half d))
     else outside_contact half r d closest (sub d closest)
 
 -- a contact point in the box's own axes, transformed to the world
 unfoldable pub world_contact : OrientedBox → ContactPoint → ContactPoint
-world_contact b p = record p { position = to_world b p.position; normal = rotate b.rotation p.normal }
+world_contact b p =
+    record p { position = to_world b p.position; normal = rotate b.rotation p.normal }
 
 -- the contact point of a box and a circle with this centre and radius, with the normal from the box
 -- to the circle

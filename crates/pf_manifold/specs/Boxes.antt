@@ -57,10 +57,12 @@ vertex_point r edge v separation = record {
 
 -- a vertex is a contact point where it isn't in front of the reference face
 abbrev pub point_behind : Reference → Face → ClipVertex → ℤ → Option ContactPoint
-point_behind r edge v separation = if int_lt (pos 0) separation then None else Some (vertex_point r edge v separation)
+point_behind r edge v separation =
+    if int_lt (pos 0) separation then None else Some (vertex_point r edge v separation)
 
 unfoldable pub vertex_contact : Reference → Face → ClipVertex → Option ContactPoint
-vertex_contact r edge v = point_behind r edge v (difference v.front (front_extent r.face r.box.half))
+vertex_contact r edge v =
+    point_behind r edge v (difference v.front (front_extent r.face r.box.half))
 
 -- ---- lists of contact points
 
@@ -73,11 +75,13 @@ ascending_points (Some p) (Some q) = if nat_lt q.feature p.feature then q ∷ p 
 -- the contact points of a clipped edge
 abbrev pub segment_points : Reference → Face → Option Segment → List ContactPoint
 segment_points r edge None = []
-segment_points r edge (Some s) = ascending_points (vertex_contact r edge s.first) (vertex_contact r edge s.second)
+segment_points r edge (Some s) =
+    ascending_points (vertex_contact r edge s.first) (vertex_contact r edge s.second)
 
 -- the contact points of this edge of the incident box
 unfoldable pub edge_points : Reference → Face → List ContactPoint
-edge_points r edge = segment_points r edge (clip (incident_segment r edge) (side_part r.face r.box.half))
+edge_points r edge =
+    segment_points r edge (clip (incident_segment r edge) (side_part r.face r.box.half))
 
 -- the contact points of the incident edge
 unfoldable pub reference_points : Reference → List ContactPoint
@@ -85,7 +89,8 @@ reference_points r = edge_points r (incident_edge r)
 
 -- no contact point where there is a separating axis
 unfoldable pub points_along : OrientedBox → OrientedBox → Frames → Separations → List ContactPoint
-points_along a b f s = if has_gap s then [] else reference_points (reference_of a b f (best_axis s a.half b.half))
+points_along a b f s =
+    if has_gap s then [] else reference_points (reference_of a b f (best_axis s a.half b.half))
 
 -- the contact points of two boxes
 unfoldable pub collide_boxes : OrientedBox → OrientedBox → List ContactPoint

@@ -26,11 +26,15 @@ clip_to_line false false s cut = Some s
 
 -- the part of a segment of side ≥ limit
 unfoldable pub clip_low : Segment → ℤ → Option Segment
-clip_low s limit = clip_to_line (int_lt s.first.side limit) (int_lt s.second.side limit) s (crossing s.first s.second limit CutLow)
+clip_low s limit =
+    clip_to_line (int_lt s.first.side limit) (int_lt s.second.side limit) s
+    (crossing s.first s.second limit CutLow)
 
 -- the part of a segment of side ≤ limit
 unfoldable pub clip_high : Segment → ℤ → Option Segment
-clip_high s limit = clip_to_line (int_lt limit s.first.side) (int_lt limit s.second.side) s (crossing s.first s.second limit CutHigh)
+clip_high s limit =
+    clip_to_line (int_lt limit s.first.side) (int_lt limit s.second.side) s
+    (crossing s.first s.second limit CutHigh)
 
 -- the second of two clips
 abbrev pub then_clip_high : Option Segment → ℤ → Option Segment

@@ -44,8 +44,10 @@ boxes_have_gap a b = has_gap (separations_of a.half b.half (frames_of a b))
 -- two upright boxes overlap or just touch: on each axis the distance of the centres is at most the
 -- sum of the half extents
 pub record UprightBoxesOverlap (a b : OrientedBox) : Type 0 where
-  pub x : unsigned_abs (b.position.x -ℤ a.position.x) ≤ unsigned_abs a.half.x + unsigned_abs b.half.x
-  pub y : unsigned_abs (b.position.y -ℤ a.position.y) ≤ unsigned_abs a.half.y + unsigned_abs b.half.y
+  pub x :
+      unsigned_abs (b.position.x -ℤ a.position.x) ≤ unsigned_abs a.half.x + unsigned_abs b.half.x
+  pub y :
+      unsigned_abs (b.position.y -ℤ a.position.y) ≤ unsigned_abs a.half.y + unsigned_abs b.half.y
 
 -- ---- axes
 
@@ -92,7 +94,8 @@ pub record IsNearLine (first second : ClipVertex) (limit front : ℤ) : Type 0 w
       let run = unsigned_abs (second.side -ℤ first.side) in
       let front_part = unsigned_abs (front -ℤ first.front) in
       let side_part = unsigned_abs (limit -ℤ first.side) in
-      2 ^ 25 * unsigned_abs (pos (front_part * run) -ℤ pos (rise * side_part)) ≤ run * (2 ^ 24 + rise)
+      2 ^ 25 * unsigned_abs (pos (front_part * run) -ℤ pos (rise * side_part))
+      ≤ run * (2 ^ 24 + rise)
 
 -- ---- features
 

@@ -26,7 +26,8 @@ inward_normal Bottom q = record { x = q.s; y = q.c }
 -- along x than along y
 unfoldable pub edge_along : V2 → Face
 edge_along n =
-    if int_lt (pos (unsigned_abs n.y)) (pos (unsigned_abs n.x)) then (if int_lt (pos 0) n.x then Right else Left)
+    if int_lt (pos (unsigned_abs n.y)) (pos (unsigned_abs n.x))
+    then (if int_lt (pos 0) n.x then Right else Left)
     else (if int_lt (pos 0) n.y then Top else Bottom)
 
 -- the edge whose outward normal is most against the reference normal

@@ -11,7 +11,8 @@ HaveAscendingFeatures points = IsStrictlyIncreasing (map (λ p. p.feature) point
 -- no two points have the same feature
 abbrev pub HaveDifferentFeatures : List ContactPoint → Type 0
 HaveDifferentFeatures points =
-    (i j : ℕ) (p q : ContactPoint) → slice_get points i ≡ Some p → slice_get points j ≡ Some q → p.feature ≡ q.feature → i ≡ j
+    (i j : ℕ) (p q : ContactPoint) → slice_get points i ≡ Some p → slice_get points j ≡ Some q
+    → p.feature ≡ q.feature → i ≡ j
 
 -- as many points, with the same separations and the opposite normals
 pub record IsMirrored (points others : List ContactPoint) : Type 0 where

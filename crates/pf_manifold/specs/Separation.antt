@@ -55,11 +55,15 @@ pub record Separations : Type 0 where
 
 -- the separations of boxes of the half extents a and b
 unfoldable pub separations_of : V2 → V2 → Frames → Separations
-separations_of a b f = record { a = face_separations a f.in_a f.relative b; b = face_separations b f.in_b f.relative a }
+separations_of a b f = record {
+  a = face_separations a f.in_a f.relative b;
+  b = face_separations b f.in_b f.relative a;
+}
 
 -- there is a separating axis
 unfoldable pub has_gap : Separations → Bool
-has_gap s = int_lt (pos 0) s.a.x || int_lt (pos 0) s.a.y || int_lt (pos 0) s.b.x || int_lt (pos 0) s.b.y
+has_gap s =
+    int_lt (pos 0) s.a.x || int_lt (pos 0) s.a.y || int_lt (pos 0) s.b.x || int_lt (pos 0) s.b.y
 
 -- ---- the best axis
 
@@ -82,7 +86,8 @@ pub record Candidate : Type 0 where
 
 -- the new candidate where it exceeds the threshold, else the best one so far
 unfoldable pub better_candidate : Candidate → Candidate → ℤ → Candidate
-better_candidate best new h = if int_lt (threshold best.separation h) new.separation then new else best
+better_candidate best new h =
+    if int_lt (threshold best.separation h) new.separation then new else best
 
 -- the best axis of boxes of the half extents a and b: the four candidates in the order AX, AY, BX,
 -- BY
@@ -90,6 +95,7 @@ unfoldable pub best_axis : Separations → V2 → V2 → Axis
 best_axis s a b =
     (better_candidate
     (better_candidate
-    (better_candidate (record { axis = AX; separation = s.a.x }) (record { axis = AY; separation = s.a.y }) a.y)
+    (better_candidate (record { axis = AX; separation = s.a.x })
+    (record { axis = AY; separation = s.a.y }) a.y)
     (record { axis = BX; separation = s.b.x }) b.x)
     (record { axis = BY; separation = s.b.y }) b.y).axis

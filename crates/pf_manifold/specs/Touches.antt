@@ -21,7 +21,8 @@ touch_of p point = record { a = p.a; b = p.b; point = point }
 
 -- the shape of a body, if there is one
 abbrev pub placed_shape : Option Fixture → Option BodyState → Option PlacedShape
-placed_shape (Some f) (Some b) = Some (record { shape = f.shape; position = b.position; rotation = b.rotation })
+placed_shape (Some f) (Some b) =
+    Some (record { shape = f.shape; position = b.position; rotation = b.rotation })
 placed_shape f b = None
 
 -- the shape of the body of a number, if there is one
@@ -35,7 +36,8 @@ touches_between p a b = []
 
 -- the contact points of one pair
 unfoldable pub touches_of : List Fixture → List BodyState → Pair → List Touch
-touches_of fixtures bodies p = touches_between p (placed_shape_at fixtures bodies p.a) (placed_shape_at fixtures bodies p.b)
+touches_of fixtures bodies p =
+    touches_between p (placed_shape_at fixtures bodies p.a) (placed_shape_at fixtures bodies p.b)
 
 -- the contact points of these pairs, one pair after the other
 abbrev pub touches : List Fixture → List BodyState → List Pair → List Touch
