@@ -1,4 +1,5 @@
--- Where two circles have a point: their exact distance, rounded down, is at most the sum of their radii.
+-- Where two circles have a point: their exact distance, rounded down, is at most the sum of their
+-- radii.
 use Rattle.std.proofs.Common.{◌≡◌, ℕ, ◌+◌, ◌<◌, ◌≤◌, ◌↔◌, ℤ, pos, ◌-ℤ◌, ◌≤ℤ◌, Bool, true, false, Some, None, min, refl, ⊎_elim, arith}
 use Rattle.std.proofs.lemmas.Bool.{cases_lt}
 use Rattle.std.proofs.lemmas.Int.{ints, clamps}
@@ -10,8 +11,8 @@ use Rattle.pf_num.specs.Fx.{saturate, sum, difference}
 use Rattle.pf_num.proofs.Roots.{whole_root-meets, root_below}
 use Rattle.pf_rot.specs.Vector.{V2, sub, length_of}
 use Rattle.pf_shapes.specs.Fixture.{IsSize}
-use Rattle.pf_manifold.specs.Contact.{Contact}
-use Rattle.pf_manifold.specs.Circles.{circles_apart_by, collide_circles}
+use Rattle.pf_manifold.specs.ContactPoint.{ContactPoint}
+use Rattle.pf_manifold.specs.Circles.{circle_contact, collide_circles}
 use Rattle.pf_shapes.specs.Laws.{square, distance_squared}
 use Rattle.pf_manifold.proofs.Closest.{squared_le}
 use Rattle.pf_manifold.proofs.Comparisons.{not_above, tests_above}
@@ -76,7 +77,7 @@ sum_of_sizes ra rb ha hb = omega (arith, ints, clamps)
 small_sum : (ra rb : ℤ) → IsSize ra → IsSize rb → unsigned_abs ra + unsigned_abs rb + 1 ≤ 36028797018963967
 small_sum ra rb ha hb = omega (arith, ints)
 
-some_where_not : (t : Bool) (p : Contact) → IsSome (if t then None else Some p) ↔ (t ≡ false)
+some_where_not : (t : Bool) (p : ContactPoint) → IsSome (if t then None else Some p) ↔ (t ≡ false)
 some_where_not true p = (λ e. absurd (cc), λ e. absurd (cc))
 some_where_not false p = (λ e. refl, λ e. refl)
 
@@ -93,7 +94,7 @@ distance_reaches a b k h =
 
 pub circles_meet : (a b : V2) (ra rb : ℤ) → IsSize ra → IsSize rb
     → IsSome (collide_circles a ra b rb) ↔ (distance_squared a b < square (unsigned_abs ra + unsigned_abs rb + 1))
-unfolding collide_circles circles_apart_by
+unfolding collide_circles circle_contact
 circles_meet a b ra rb ha hb =
     rw (sum_of_sizes ra rb ha hb)
     (then_also (some_where_not _ _)

@@ -5,7 +5,7 @@
 #![tactic(auto)]
 
 use anyhow::{Context, Result, bail};
-use pf_manifold::{Manifold, Placed, Point, collide};
+use pf_manifold::{Manifold, PlacedShape, ContactPoint, collide};
 use pf_num::Fx;
 use pf_rot::{Rot, V2};
 use pf_shapes::Shape;
@@ -67,7 +67,7 @@ fn body_of(alloc: Global, line: &[u8]) -> Result<Body> {
 }
 
 /// Adds the line of a point.
-fn push_point(text: &mut String, point: &Point) -> Result<()> {
+fn push_point(text: &mut String, point: &ContactPoint) -> Result<()> {
     let numbers = [
         i64::from(point.feature),
         point.position.x.raw(),
@@ -102,12 +102,12 @@ fn answer(alloc: Global, a: &Body, b: &Body) -> Result<String> {
         "apart"
     };
     push_line(&mut text, word, &[])?;
-    let a = Placed {
+    let a = PlacedShape {
         shape: &a.shape,
         position: a.position,
         rotation: a.rotation,
     };
-    let b = Placed {
+    let b = PlacedShape {
         shape: &b.shape,
         position: b.position,
         rotation: b.rotation,

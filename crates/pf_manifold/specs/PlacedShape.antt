@@ -1,4 +1,4 @@
--- Shapes where they are, as Box2D's b2Shape with its b2Transform.
+-- Shapes with their positions and rotations, as Box2D's b2Shape with a b2Transform.
 use Rattle.pf_rot.specs.Vector.{V2, add, sub}
 use Rattle.pf_rot.specs.Rotation.{Rot, rotate, unrotate}
 use Rattle.pf_shapes.specs.declared.fixture.Shape.{Shape}
@@ -15,7 +15,7 @@ pub record OrientedBox : Type 0 where
   pub position : V2
   pub rotation : Rot
 
--- a position of the world in the box's own axes, seen from its centre
+-- a position of the world in the box's own axes, relative to its centre
 unfoldable pub to_box : OrientedBox → V2 → V2
 to_box b p = unrotate b.rotation (sub p b.position)
 
