@@ -20,7 +20,7 @@ use Rattle.pf_commands.proofs.Encoding.{encoding_encodes}
 use Rattle.pf_commands.proofs.Frames.{encoded_decodes}
 use Rattle.pf_peers.specs.declared.event.Event.{Event}
 use Rattle.pf_peers.specs.declared.event.Event.TheVariants.{Issue, Take, Advance, Show}
-use Rattle.pf_console.specs.Digits.{decoded, spelled, frame_of}
+use Rattle.pf_console.specs.Digits.{frame_or_error, bytes_or_error, frame_of}
 use Rattle.pf_console.specs.Grammar.{peer_of, tick_of, body_of, real_of, event_of, issue_of, push_of, turn_of, stop_of, take_of, advance_of, show_of}
 use Rattle.pf_console.specs.EventEncoding.{payload_fields, event_fields, IsEncodable}
 
@@ -51,7 +51,7 @@ read_real z raw = read_number (neg_ℤ max_raw) max_raw z (omega arith) (omega (
 pub read_frame : (c : Command) → IsFrameable c → frame_of (encode_lower (encoding c)) ≡ Ok (Ok c)
 read_frame c h =
     let spells = encoding_encodes c h in
-    ap (λ bytes. decoded (spelled bytes)) (decode_of-encode_lower (encoding c) spells.are_bytes) ∙ ap Ok (encoded_decodes (encoding c) c spells)
+    ap (λ bytes. frame_or_error (bytes_or_error bytes)) (decode_of-encode_lower (encoding c) spells.are_bytes) ∙ ap Ok (encoded_decodes (encoding c) c spells)
 
 -- ---- events
 

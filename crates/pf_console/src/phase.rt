@@ -19,7 +19,7 @@ pub const MAX_TEXT_BODIES: usize = 1;
 /// How many peers a text may have.
 pub const MAX_TEXT_PEERS: u8 = 1;
 
-/// Where a text stands.
+/// Which part of a text comes next.
 #[derive(Drop)]
 pub enum Phase {
     /// In its scene.

@@ -3,3 +3,6 @@ pub mod Ticks
 pub mod Orders
 pub mod Sleepers
 pub mod Rotations
+pub mod Elements
+pub mod Stillness
+pub mod Commanding

@@ -14,18 +14,11 @@ use Rattle.pf_step.specs.Simulation.{sim}
 use Rattle.pf_step.specs.Step.{step}
 use Rattle.pf_step.specs.World.{World}
 use Rattle.pf_step.specs.Laws.{NoneFor}
+use Rattle.pf_step.proofs.Elements.{set_other}
 
 sleeper_stays : (pull : V2) (b : BodyState) → b.awake ≡ false → after_tick pull b ≡ b
 unfolding after_tick
 sleeper_stays pull b asleep = rw asleep refl
-
--- an element at another index
-set_other : {X : Type 0} (xs : List X) (i j : ℕ) (x : X) → i ≢ j → slice_get (slice_set xs i x) j ≡ slice_get xs j
-set_other [] i j x other = refl
-set_other (y ∷ ys) zero zero x other = absurd (other refl)
-set_other (y ∷ ys) zero (suc j) x other = refl
-set_other (y ∷ ys) (suc i) zero x other = refl
-set_other (y ∷ ys) (suc i) (suc j) x other = set_other ys i j x (λ same. other (ap suc same))
 
 -- a payload for another body
 leaves : (bodies : List BodyState) (p : Payload) (f : Option Fixture) (s : Option BodyState) (i : ℕ) (b : BodyState)
