@@ -1,6 +1,7 @@
 -- The names of commands.
 use Rattle.std.specs.Prelude.{ℕ, ◌<◌}
-use Rattle.pf_commands.specs.declared.name.TheConstants.{MAX_TICK, PLAYERS, NUMBERS}
+use Rattle.pf_commands.specs.declared.name.TheConstants.{MAX_TICK, NUMBERS}
+use Rattle.pf_shapes.specs.declared.fixture.TheConstants.{PLAYERS}
 
 -- the tick that a command is for, the player who issues it, and its number among the player's at
 -- that tick

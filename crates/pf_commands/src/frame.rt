@@ -7,11 +7,12 @@ ghost use Rattle.pf_commands.specs.Payload.{IsPayload, body_of};
 ghost use Rattle.pf_commands.specs.Frame.{Encodes, encoding, decode, payload_of};
 
 use crate::fault::FrameFault;
-use crate::name::{MAX_TICK, Name, PLAYERS};
+use crate::name::{MAX_TICK, Name};
 use crate::payload::{Command, Payload};
 use crate::weight::{PUSH, STOP, TURN, weight_parts};
 use byteorder::{BigEndian, ByteOrder};
 use pf_num::Fx;
+use pf_shapes::PLAYERS;
 
 #[cfg(test)]
 mod tests;

@@ -15,5 +15,5 @@ pub use checking::{CheckFault, check};
 pub use fault::FrameFault;
 pub use frame::{FRAME_LEN, decode, encode};
 pub use map::{CommandMap, Merged, Put};
-pub use name::{MAX_TICK, NUMBERS, Name, PLAYERS};
+pub use name::{MAX_TICK, NUMBERS, Name};
 pub use payload::{Command, Payload};

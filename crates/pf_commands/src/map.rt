@@ -4,10 +4,10 @@ ghost use Rattle.std.specs.Prelude.{◌≡◌};
 ghost use Rattle.pf_commands.specs.News.{put_outcome, lesser_number};
 
 use crate::checking::{CheckFault, check};
-use crate::name::{MAX_TICK, Name, PLAYERS};
+use crate::name::{MAX_TICK, Name};
 use crate::payload::{Command, Payload};
 use crate::weight::{read_ranges, weight_parts};
-use pf_shapes::Scene;
+use pf_shapes::{PLAYERS, Scene};
 use std::alloc::{AllocError, Global};
 use std::cmp::Ordering;
 use std::collections::BTreeMap;

@@ -2,13 +2,11 @@
 
 ghost use Rattle.std.specs.Prelude.{◌≡◌, ◌^◌, ◌<◌};
 
+use pf_shapes::PLAYERS;
 use std::marker::Model;
 
 /// The last tick that a peer can reach. Commands are for ticks below it.
 pub const MAX_TICK: u32 = 1_048_576;
-
-/// How many players there can be. They are numbered from 0.
-pub const PLAYERS: u8 = 8;
 
 /// How many commands a player can give at one tick. They are numbered from 0.
 pub const NUMBERS: u32 = 65_536;

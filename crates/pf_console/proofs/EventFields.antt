@@ -10,7 +10,7 @@ use Rattle.hex.proofs.HexLemmas.{decode_of-encode_lower}
 use Rattle.pf_num.specs.Fx.{max_raw, IsRaw}
 use Rattle.pf_text.specs.Numbers.{whole_of, integer}
 use Rattle.pf_text.proofs.DecimalText.{whole-signed_decimal}
-use Rattle.pf_commands.specs.declared.name.TheConstants.{PLAYERS}
+use Rattle.pf_shapes.specs.declared.fixture.TheConstants.{PLAYERS}
 use Rattle.pf_commands.specs.declared.payload.Command.{Command}
 use Rattle.pf_commands.specs.declared.payload.Payload.{Payload}
 use Rattle.pf_commands.specs.declared.payload.Payload.TheVariants.{Push, Turn, Stop}

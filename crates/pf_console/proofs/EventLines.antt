@@ -15,7 +15,7 @@ use Rattle.pf_text.specs.Laws.{lacks_space, is_field}
 use Rattle.pf_text.proofs.Joined.{joined_fields}
 use Rattle.pf_text.proofs.DecimalText.{decimal_digits}
 use Rattle.pf_num.specs.Fx.{IsRaw}
-use Rattle.pf_commands.specs.declared.name.TheConstants.{PLAYERS}
+use Rattle.pf_shapes.specs.declared.fixture.TheConstants.{PLAYERS}
 use Rattle.pf_commands.specs.declared.payload.Payload.{Payload}
 use Rattle.pf_commands.specs.declared.payload.Payload.TheVariants.{Push, Turn, Stop}
 use Rattle.pf_commands.specs.Payload.{IsPayload}

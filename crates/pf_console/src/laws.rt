@@ -13,7 +13,7 @@ ghost use Rattle.pf_console.specs.EventEncoding.{event_line, IsEncodable};
 ghost use Rattle.pf_console.specs.Laws.{AreLinesOf, IsLineOf, session_output};
 ghost use Rattle.pf_console.specs.Phase.{text_rules};
 
-use pf_commands::PLAYERS;
+use pf_shapes::PLAYERS;
 
 /// Lines that each encode an event have the printed replies of the abstract session, and no error;
 /// so have the lines of events.

@@ -4,7 +4,7 @@ use Rattle.std.specs.Prelude.{◌≡◌, ℕ, ◌<◌, ◌≤◌, ◌⊎◌, All
 use Rattle.std.specs.FinMap.{get}
 use Rattle.std.specs.List.{range_with_len}
 use Rattle.pf_shapes.specs.Scene.{Scene}
-use Rattle.pf_commands.specs.declared.name.TheConstants.{PLAYERS}
+use Rattle.pf_shapes.specs.declared.fixture.TheConstants.{PLAYERS}
 use Rattle.pf_step.specs.World.{World}
 use Rattle.pf_rollback.specs.declared.fault.Refusal.{Refusal}
 use Rattle.pf_rollback.specs.Peer.{Peer, PeerCore, new_peer, put, issue, take, advance, world_at}

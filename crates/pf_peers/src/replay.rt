@@ -5,8 +5,7 @@ ghost use Rattle.pf_peers.specs.Session.{IsAmong, new_session, replies_to};
 
 use crate::event::{Event, Reply};
 use crate::session::Session;
-use pf_commands::PLAYERS;
-use pf_shapes::Scene;
+use pf_shapes::{PLAYERS, Scene};
 use std::alloc::{AllocError, Global};
 
 /// The replies to a list of events on so many peers of a scene, one after the other, on one thread.

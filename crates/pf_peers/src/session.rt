@@ -9,9 +9,9 @@ ghost use Rattle.pf_commands.specs.declared.payload.Command.{Command};
 ghost use Rattle.pf_rollback.specs.Peer.{advance, issue, take, world_at};
 
 use crate::event::{Event, Reply};
-use pf_commands::{Command, FrameFault, PLAYERS, Payload};
+use pf_commands::{Command, FrameFault, Payload};
 use pf_rollback::{Fault, PeerCore, Refusal};
-use pf_shapes::Scene;
+use pf_shapes::{PLAYERS, Scene};
 use std::alloc::{AllocError, Global};
 use std::marker::Model;
 

@@ -4,7 +4,8 @@
 use Rattle.std.specs.Prelude.{◌≡◌, ◌<◌, ◌≤◌, ℕ, zero, suc, ◌+◌, List, Option, Some, None, Result, Ok, Err, is_some, nat_le, if◌then◌else◌}
 use Rattle.std.specs.FinMap.{get, empty}
 use Rattle.pf_shapes.specs.Scene.{Scene}
-use Rattle.pf_commands.specs.declared.name.TheConstants.{MAX_TICK, NUMBERS, PLAYERS}
+use Rattle.pf_commands.specs.declared.name.TheConstants.{MAX_TICK, NUMBERS}
+use Rattle.pf_shapes.specs.declared.fixture.TheConstants.{PLAYERS}
 use Rattle.pf_commands.specs.declared.checking.CheckFault.{CheckFault}
 use Rattle.pf_commands.specs.declared.fault.FrameFault.{FrameFault}
 use Rattle.pf_commands.specs.declared.map.Put.{Put}

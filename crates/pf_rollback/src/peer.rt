@@ -3,9 +3,9 @@
 
 use crate::fault::{Fault, Refusal};
 use pf_commands::{
-    Command, CommandMap, FRAME_LEN, MAX_TICK, Name, PLAYERS, Payload, Put, check, decode, encode,
+    Command, CommandMap, FRAME_LEN, MAX_TICK, Name, Payload, Put, check, decode, encode,
 };
-use pf_shapes::Scene;
+use pf_shapes::{PLAYERS, Scene};
 use pf_step::{World, step_alone};
 use std::alloc::{AllocError, Global};
 use std::marker::Model;
