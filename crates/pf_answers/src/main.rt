@@ -1,5 +1,8 @@
-//! Answers lines by calls of the crates, a line for each: `root A`, `length X Y` and `frame HEX`. Its stored run has
-//! 1,200 lines, random ones and such at the ends of ranges, with answers that an independent program gave.
+//! Prints the results of calls, to compare them with an independent program's.
+//!
+//! A line is `root A`, `length X Y` or `frame HEX`, and the output is a line for each. The stored
+//! run has 1,200 lines, random ones and some at the ends of ranges, with values by an independent
+//! program.
 #![tactic(auto)]
 
 use anyhow::{Context, Result, bail};
@@ -9,13 +12,13 @@ use pf_rot::V2;
 use std::alloc::Global;
 use std::io::{BufRead, BufReader, BufWriter, Write};
 
-/// The number that a word is.
+/// The number that a word encodes.
 fn number(word: &str) -> Result<Fx> {
     let raw = word.parse::<i64>().context("reading a number")?;
     Fx::from_raw(raw).context("a number is out of range")
 }
 
-/// What a payload does, as a client would write it.
+/// The text of a payload, as in a scene's events.
 fn payload_text(alloc: Global, payload: &Payload) -> Result<String> {
     Ok(match payload {
         Payload::Push { body, x, y } => {
@@ -31,7 +34,7 @@ fn payload_text(alloc: Global, payload: &Payload) -> Result<String> {
     })
 }
 
-/// The fields of a command.
+/// The text of a command.
 fn command_text(alloc: Global, command: &Command) -> Result<String> {
     let name = command.name;
     let tick = name.tick();
@@ -41,7 +44,7 @@ fn command_text(alloc: Global, command: &Command) -> Result<String> {
     Ok(format!(in alloc; "tick {tick} player {player} number {number} {payload}")?)
 }
 
-/// The command that a frame spells, or why it spells none.
+/// The text of the command that a frame encodes, or the name of its error.
 fn frame_text(alloc: Global, digits: &str) -> Result<String> {
     let bytes = match digits {
         "-" => Vec::new(alloc),
@@ -53,8 +56,8 @@ fn frame_text(alloc: Global, digits: &str) -> Result<String> {
     }
 }
 
-/// The answer to a line.
-fn answer(alloc: Global, line: &str) -> Result<String> {
+/// The output for a line.
+fn output_of(alloc: Global, line: &str) -> Result<String> {
     let words: Vec<&str> = line.split_whitespace().collect(alloc)?;
     match words.as_slice() {
         ["root", a] => Ok(number(a)?.root().raw().to_string(alloc)?),
@@ -74,7 +77,7 @@ fn main(rt: HostRuntime) -> Result<()> {
     let alloc = rt.alloc();
     let mut writer = BufWriter::new(alloc, std::io::writer(&rt))?;
     for line in BufReader::new(alloc, rt.reader())?.lines(alloc) {
-        let text = answer(alloc, line?.as_str())?;
+        let text = output_of(alloc, line?.as_str())?;
         writeln!(writer, "{text}")?;
     }
     writer.flush()?;

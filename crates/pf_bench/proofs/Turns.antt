@@ -1,12 +1,12 @@
 -- Turns by their number.
 use Rattle.std.proofs.Common.{◌≡◌, ℕ, ◌+◌, refl, add-one}
 use Rattle.pf_rot.specs.Rotation.{upright, turn}
-use Rattle.pf_bench.specs.Chain.{turns, beside_one}
+use Rattle.pf_bench.specs.Chain.{rotation_after, factor_near_one}
 
-pub turns_none : turns 0 ≡ upright
-unfolding turns
-turns_none = refl
+pub rotation_after_zero : rotation_after 0 ≡ upright
+unfolding rotation_after
+rotation_after_zero = refl
 
-pub turns_more : (i : ℕ) → turns (i + 1) ≡ turn (turns i) (beside_one i)
-unfolding turns
-turns_more i = rw add-one refl
+pub rotation_after_next : (i : ℕ) → rotation_after (i + 1) ≡ turn (rotation_after i) (factor_near_one i)
+unfolding rotation_after
+rotation_after_next i = rw add-one refl

@@ -1,14 +1,15 @@
-//! Chains of one operation: each step takes the number of the step before, so none can be made early.
+//! Chains of one operation: each step depends on the number of the step before, so none can be
+//! computed early.
 
 ghost use Rattle.std.specs.Prelude.{◌≡◌, ◌%◌, pos};
 ghost use Rattle.pf_num.specs.Fx.{IsRaw};
-ghost use Rattle.pf_bench.specs.Chain.{chain, last_of, beside_one, add_step, mul_step, div_step, root_step, length_step, turns};
+ghost use Rattle.pf_bench.specs.Chain.{chain, last_of, factor_near_one, add_step, mul_step, div_step, root_step, length_step, rotation_after};
 
 use crate::operation::Operation;
 use pf_num::Fx;
 use pf_rot::{Rot, V2};
 
-/// The number of so many units.
+/// The number of this raw value.
 #[inline]
 pub fn units(raw: i64) -> Fx
     requires { IsRaw raw }
@@ -17,7 +18,7 @@ pub fn units(raw: i64) -> Fx
     Fx::from_raw(raw).unwrap()
 }
 
-/// The last 16 bits of a step's number, which its operand is made of.
+/// The last 16 bits of a step's index, of which its operand is made.
 #[inline]
 fn low_bits(i: u64) -> i64
     ensures { result ≡ pos (i % 65536) }
@@ -25,15 +26,15 @@ fn low_bits(i: u64) -> i64
     (i & 0xffff) as i64
 }
 
-/// The operand of a product or a quotient: 1 or a little above it.
+/// The operand of a product or a quotient: from 1 to 1 + 2^-8.
 #[inline]
-fn beside_one(i: u64) -> Fx
-    ensures { result ≡ beside_one i }
+fn factor_near_one(i: u64) -> Fx
+    ensures { result ≡ factor_near_one i }
 {
     units((1 << 24) + low_bits(i))
 }
 
-/// A sum that begins again at the least number when it has come to the greatest.
+/// A sum that starts again at the least number when it reaches the greatest.
 #[inline]
 #[tactic(auto, unfolding(crate::specs::Chain::add_step))]
 fn add_step(x: Fx, i: u64) -> Fx
@@ -49,7 +50,7 @@ fn add_step(x: Fx, i: u64) -> Fx
 fn mul_step(x: Fx, i: u64, most: Fx, first: Fx) -> Fx
     ensures { result ≡ mul_step most first x i }
 {
-    let product = x.mul(beside_one(i));
+    let product = x.mul(factor_near_one(i));
     if product > most { first } else { product }
 }
 
@@ -59,7 +60,7 @@ fn mul_step(x: Fx, i: u64, most: Fx, first: Fx) -> Fx
 fn div_step(x: Fx, i: u64, least: Fx, back: Fx) -> Fx
     ensures { result ≡ div_step least back x i }
 {
-    let quotient = x.div(beside_one(i));
+    let quotient = x.div(factor_near_one(i));
     if quotient < least {
         quotient.add(back)
     } else {
@@ -67,7 +68,7 @@ fn div_step(x: Fx, i: u64, least: Fx, back: Fx) -> Fx
     }
 }
 
-/// Sums with whole multiples of 64, over the whole range again and again.
+/// Sums with multiples of 64, over the whole range again and again.
 fn add_chain(count: u64) -> Fx
     ensures { result ≡ chain add_step (pos 0) count }
 {
@@ -78,7 +79,7 @@ fn add_chain(count: u64) -> Fx
     x
 }
 
-/// Products with numbers beside 1, none of them above `most`.
+/// Products with numbers near 1, none of them above `most`.
 #[inline]
 fn mul_chain(count: u64, first: Fx, most: Fx) -> Fx
     ensures { result ≡ chain (mul_step most first) first count }
@@ -90,7 +91,7 @@ fn mul_chain(count: u64, first: Fx, most: Fx) -> Fx
     x
 }
 
-/// Quotients by numbers beside 1, none of them far below `least`.
+/// Quotients by numbers near 1, none of them far below `least`.
 #[inline]
 fn div_chain(count: u64, first: Fx, least: Fx, back: Fx) -> Fx
     ensures { result ≡ chain (div_step least back) first count }
@@ -111,7 +112,7 @@ fn root_step(x: Fx, i: u64) -> Fx
     x.root().add(units(low_bits(i) * (1 << 16)))
 }
 
-/// The length of a vector of `x` and up to 65535 times 2^10, taken back where it is above 64.
+/// The length of the vector of `x` and up to 65535 times 2^10, reduced where it is above 64.
 #[inline]
 #[tactic(auto, unfolding(crate::specs::Chain::length_step))]
 fn length_step(x: Fx, i: u64) -> Fx
@@ -151,16 +152,16 @@ fn length_chain(count: u64) -> Fx
     x
 }
 
-/// A rotation that is turned again and again.
-#[tactic(auto, using(crate::proofs::Turns::turns_none, crate::proofs::Turns::turns_more))]
+/// The rotation after so many turns.
+#[tactic(auto, using(crate::proofs::Turns::rotation_after_zero, crate::proofs::Turns::rotation_after_next))]
 fn turn_chain(count: u64) -> Rot
-    ensures { result ≡ turns count }
+    ensures { result ≡ rotation_after count }
 {
-    let mut pair = Rot::UPRIGHT;
+    let mut rotation = Rot::UPRIGHT;
     for i in 0..count {
-        pair = pair.turn(beside_one(i));
+        rotation = rotation.turn(factor_near_one(i));
     }
-    pair
+    rotation
 }
 
 /// The last number of the operation's chain of so many steps.

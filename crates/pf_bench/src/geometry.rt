@@ -1,4 +1,5 @@
-//! Contact points of two bodies, and pairs of bodies whose bounds overlap, over and over.
+//! Tasks of geometry that are measured: contact points of two bodies, and pairs of bodies whose
+//! bounds overlap.
 
 ghost use Rattle.std.specs.Prelude.{◌≤◌, ◌<◌};
 ghost use Rattle.pf_rot.specs.Laws.{IsAtMostOne};
@@ -7,20 +8,20 @@ ghost use Rattle.pf_shapes.specs.Scene.{IsPosition};
 
 use crate::chain::units;
 use pf_broad::pairs;
-use pf_manifold::{Manifold, Placed, Point, collide};
+use pf_manifold::{ContactPoint, Manifold, PlacedShape, collide};
 use pf_num::Fx;
 use pf_rot::{Rot, V2};
 use pf_shapes::{Fixture, MAX_BODIES, Scene, Shape};
 use std::alloc::{AllocError, Global};
 
-/// What is done over and over.
+/// A task that is repeated.
 #[derive(Clone, Copy, Debug, PartialEq, Eq)]
 pub enum Task {
-    /// The point of two circles is found.
+    /// The contact point of two circles is computed.
     Circles,
-    /// The point of a box and a circle is found.
+    /// The contact point of a box and a circle is computed.
     BoxCircle,
-    /// The points of two boxes are found.
+    /// The contact points of two boxes are computed.
     Boxes,
     /// The pairs of a field of bodies are found.
     Pairs,
@@ -65,7 +66,7 @@ fn small_box() -> Shape
 
 /// The rotation of index i: upright, a quarter, (0.8, 0.6) or (0.6, -0.8).
 #[inline]
-fn turn(i: u64) -> Rot
+fn rotation_at(i: u64) -> Rot
     ensures { IsAtMostOne result }
 {
     let (c, s) = match i % 4 {
@@ -77,9 +78,9 @@ fn turn(i: u64) -> Rot
     Rot { c, s }
 }
 
-/// A part of the position of index i, from -2 to 2.
+/// A coordinate of the position of index i, from -2 to 2.
 #[inline]
-fn scattered(i: u64, factor: u64) -> Fx
+fn scattered_coordinate(i: u64, factor: u64) -> Fx
     requires { factor < 65536 }
 {
     let part = ((i & 0xffff) * factor) & 0xffff;
@@ -88,7 +89,7 @@ fn scattered(i: u64, factor: u64) -> Fx
 
 /// The sum of all numbers of a point.
 #[inline]
-fn of_point(point: Point) -> i64 {
+fn point_sum(point: ContactPoint) -> i64 {
     i64::from(point.feature)
         .wrapping_add(point.position.x.raw())
         .wrapping_add(point.position.y.raw())
@@ -99,39 +100,39 @@ fn of_point(point: Point) -> i64 {
 
 /// The sum of all numbers of a manifold's points.
 #[inline]
-fn of_manifold(manifold: Manifold) -> i64 {
+fn manifold_sum(manifold: Manifold) -> i64 {
     match manifold {
         Manifold::Apart => 0,
-        Manifold::One(point) => of_point(point),
-        Manifold::Two(first, second) => of_point(first).wrapping_add(of_point(second)),
+        Manifold::One(point) => point_sum(point),
+        Manifold::Two(first, second) => point_sum(first).wrapping_add(point_sum(second)),
     }
 }
 
-/// The sum over the points of `a` at the origin, and of `b` at so many positions about it.
-fn points(a: &Shape, b: &Shape, count: u64) -> i64 {
-    let a = Placed {
+/// The sum over the contact points of `a` at the origin and `b` at so many positions around it.
+fn points_sum(a: &Shape, b: &Shape, count: u64) -> i64 {
+    let a = PlacedShape {
         shape: a,
         position: V2::ZERO,
-        rotation: turn(2),
+        rotation: rotation_at(2),
     };
     let mut sum: i64 = 0;
     for i in 0..count {
         let position = V2 {
-            x: scattered(i, 40_503),
-            y: scattered(i, 7_919),
+            x: scattered_coordinate(i, 40_503),
+            y: scattered_coordinate(i, 7_919),
         };
-        let b = Placed {
+        let b = PlacedShape {
             shape: b,
             position,
-            rotation: turn(i),
+            rotation: rotation_at(i),
         };
-        sum = sum.wrapping_add(of_manifold(collide(&a, &b)));
+        sum = sum.wrapping_add(manifold_sum(collide(&a, &b)));
     }
     sum
 }
 
-/// A body of this shape, of mass 1 or static.
-fn body_of(shape: Shape, is_static: bool) -> Fixture
+/// A fixture of this shape, of mass 1 or static.
+fn fixture_of(shape: Shape, is_static: bool) -> Fixture
     requires { HasSize shape }
 {
     let mass = if is_static { Fx::ZERO } else { Fx::ONE };
@@ -139,7 +140,7 @@ fn body_of(shape: Shape, is_static: bool) -> Fixture
 }
 
 /// A position on a grid of 1.75 that is 32 wide.
-fn on_grid(i: u64) -> V2
+fn grid_position(i: u64) -> V2
     requires { i < 1024 }
     ensures { IsPosition result }
 {
@@ -150,28 +151,28 @@ fn on_grid(i: u64) -> V2
     }
 }
 
-/// So many bodies, by turns a circle and a box, every eighth of them static.
-fn field(alloc: Global, held: u64) -> Result<Scene, AllocError>
-    requires { held ≤ 1024 }
+/// A scene of so many bodies, circles and boxes in turn, every eighth of them static.
+fn field_of_bodies(alloc: Global, size: u64) -> Result<Scene, AllocError>
+    requires { size ≤ 1024 }
 {
     let mut scene = Scene::new(alloc, V2::ZERO);
-    for i in 0..held {
+    for i in 0..size {
         let shape = if i % 2 == 0 {
             small_circle()
         } else {
             small_box()
         };
-        let body = body_of(shape, i % 8 == 0);
-        scene.push(body, on_grid(i), turn(i))?;
+        let body = fixture_of(shape, i % 8 == 0);
+        scene.push(body, grid_position(i), rotation_at(i))?;
     }
     Ok(scene)
 }
 
-/// How many pairs a field of so many bodies has, so many times.
-fn pairs_found(alloc: Global, count: u64, held: u64) -> Result<i64, AllocError>
-    requires { held ≤ 1024 }
+/// The number of pairs in a field of so many bodies, computed and summed so many times.
+fn pair_counts(alloc: Global, count: u64, size: u64) -> Result<i64, AllocError>
+    requires { size ≤ 1024 }
 {
-    let scene = field(alloc, held)?;
+    let scene = field_of_bodies(alloc, size)?;
     let mut sum: i64 = 0;
     for _ in 0..count {
         let found = pairs(alloc, &scene, scene.starts())?;
@@ -180,14 +181,14 @@ fn pairs_found(alloc: Global, count: u64, held: u64) -> Result<i64, AllocError>
     Ok(sum)
 }
 
-/// Does the task so many times, and sums what it answers, in 64 bits. There is no answer for more bodies than a scene
-/// has.
-pub fn sum(alloc: Global, task: Task, count: u64, held: u64) -> Result<Option<i64>, AllocError> {
+/// Repeats the task, and sums the results in 64 bits. It is `None` for more bodies than a scene can
+/// have.
+pub fn sum(alloc: Global, task: Task, count: u64, size: u64) -> Result<Option<i64>, AllocError> {
     Ok(match task {
-        Task::Circles => Some(points(&small_circle(), &small_circle(), count)),
-        Task::BoxCircle => Some(points(&small_box(), &small_circle(), count)),
-        Task::Boxes => Some(points(&small_box(), &small_box(), count)),
-        Task::Pairs if held <= MAX_BODIES as u64 => Some(pairs_found(alloc, count, held)?),
+        Task::Circles => Some(points_sum(&small_circle(), &small_circle(), count)),
+        Task::BoxCircle => Some(points_sum(&small_box(), &small_circle(), count)),
+        Task::Boxes => Some(points_sum(&small_box(), &small_box(), count)),
+        Task::Pairs if size <= MAX_BODIES as u64 => Some(pair_counts(alloc, count, size)?),
         Task::Pairs => None,
     })
 }

@@ -1,12 +1,13 @@
-//! Does one thing many times and prints what came out: what proofs cost is measured on it, beside the same in plain
-//! Rust.
+//! Repeats one task and prints its result. The cost of proved code is measured on it, beside the
+//! same tasks in plain Rust.
 //!
-//! Called as `pf_bench OPERATION COUNT`, it makes an operation of `pf_num` or `pf_rot` in a chain and prints the last
-//! number: `add`, `mul`, `div`, `mul-wide`, `div-wide`, `root`, `length` or `turn`. In the wide two each step takes
-//! the exact path over 128 bits. Called as `pf_bench TASK COUNT HELD`, it does something with a map of so many
-//! commands and prints the sum of the answers: `put`, `get`, `greatest`, `at-tick`, `merge-known`, `merge-greater`, `copy`
-//! or `decode`; or it finds the contact points of two bodies and prints the sum of their numbers, `circles`, `box-circle`
-//! or `boxes`, or the `pairs` of a scene of so many bodies, and prints how many there were.
+//! `pf_bench OPERATION COUNT` repeats an operation of `pf_num` or `pf_rot` in a chain and prints
+//! the last number: `add`, `mul`, `div`, `mul-wide`, `div-wide`, `root`, `length` or `turn`. Each
+//! step of the two wide ones takes the exact path in 128 bits. `pf_bench TASK COUNT HELD` repeats a
+//! task on a map of HELD commands and prints the sum of its results: `put`, `get`, `greatest`,
+//! `at-tick`, `merge-known`, `merge-greater`, `copy` or `decode`; or it computes the contact points
+//! of two bodies, `circles`, `box-circle` or `boxes`, and prints the sum of their numbers; or the
+//! `pairs` of a scene of HELD bodies, and prints their number.
 #![tactic(auto)]
 
 mod chain;
@@ -29,56 +30,57 @@ usage: pf_bench add|mul|div|mul-wide|div-wide|root|length|turn COUNT
        pf_bench circles|box-circle|boxes|pairs COUNT HELD
 ";
 
-/// What the words of a command line ask for: a task, how often, and with how many commands or bodies where it needs some.
+/// A call: the task, the number of repetitions, and the number of commands or bodies, if given.
 #[derive(Drop)]
 struct Request {
     task: String,
     count: u64,
-    held: Option<String>,
+    size: Option<String>,
 }
 
-/// What the words of this call ask for, if they are two or three and the second is a number.
-fn asked(rt: &(impl Env + Alloc<A = Global>)) -> Option<Request> {
+/// The request of this call's words, if they are two or three and the second is a number.
+fn request_of_call(rt: &(impl Env + Alloc<A = Global>)) -> Option<Request> {
     let mut words = env::args(rt).ok()?.skip(1);
     let task = words.next()?;
     let count = words.next()?.parse().ok()?;
-    let held = words.next();
+    let size = words.next();
     match words.next() {
-        None => Some(Request { task, count, held }),
+        None => Some(Request { task, count, size }),
         Some(_) => None,
     }
 }
 
-/// What came of a task, where the word names one, done with a map of so many commands or with so many bodies.
-fn summed(alloc: Global, task: &str, count: u64, held: &str) -> Result<Option<i128>, AllocError> {
-    let held = match held.parse() {
-        Ok(held) if held > 0 => held,
+/// The result of a task on a map of so many commands or a scene of so many bodies, if the word
+/// names one.
+fn task_sum(alloc: Global, task: &str, count: u64, size: &str) -> Result<Option<i128>, AllocError> {
+    let size = match size.parse() {
+        Ok(size) if size > 0 => size,
         _ => return Ok(None),
     };
     if let Some(task) = geometry::Task::parse(task) {
-        return Ok(geometry::sum(alloc, task, count, held)?.map(i128::from));
+        return Ok(geometry::sum(alloc, task, count, size)?.map(i128::from));
     }
     match maps::Task::parse(task) {
-        Some(task) => Ok(Some(i128::from(maps::sum(alloc, task, count, held)?))),
+        Some(task) => Ok(Some(i128::from(maps::sum(alloc, task, count, size)?))),
         None => Ok(None),
     }
 }
 
-/// The number that a request asks for, if it names a task.
-fn answer(alloc: Global, request: &Request) -> Result<Option<i128>, AllocError> {
+/// The result of a request, if it names a task.
+fn result_of(alloc: Global, request: &Request) -> Result<Option<i128>, AllocError> {
     let task = request.task.as_str();
-    match &request.held {
+    match &request.size {
         None => Ok(Operation::parse(task).map(|operation| i128::from(chain::last(
             operation,
             request.count,
         ).raw()))),
-        Some(held) => summed(alloc, task, request.count, held.as_str()),
+        Some(size) => task_sum(alloc, task, request.count, size.as_str()),
     }
 }
 
 fn main(rt: HostRuntime) -> io::Result<ExitCode> {
-    let number = match asked(&rt) {
-        Some(request) => answer(rt.alloc(), &request)?,
+    let number = match request_of_call(&rt) {
+        Some(request) => result_of(rt.alloc(), &request)?,
         None => None,
     };
     let Some(number) = number else {

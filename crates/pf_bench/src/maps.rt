@@ -1,4 +1,4 @@
-//! Maps of commands that are filled, asked, copied and merged over and over, and frames that are decoded.
+//! Tasks on command maps and frames that are measured.
 
 ghost use Rattle.std.specs.Prelude.{◌≡◌, ◌<◌, ◌^◌};
 ghost use Rattle.pf_commands.specs.Payload.{body_of};
@@ -6,7 +6,7 @@ ghost use Rattle.pf_commands.specs.Payload.{body_of};
 use pf_commands::{Command, CommandMap, FRAME_LEN, Name, Payload, decode, encode};
 use std::alloc::{AllocError, Global};
 
-/// What is done over and over.
+/// A task that is repeated.
 #[derive(Clone, Copy, Debug, PartialEq, Eq)]
 pub enum Task {
     /// An empty map is filled with all commands.
@@ -51,8 +51,8 @@ impl Task {
     }
 }
 
-/// The command of index i, with this body. Each tick has eight, of one player each, and ticks that follow on one
-/// another by index lie far apart.
+/// The command of index i, with this body. Each tick has eight, one of each player, and ticks of
+/// neighbouring indices are far apart.
 fn command(i: u64, body: u16) -> Command
     ensures { body_of result.payload ≡ body }
 {
@@ -63,31 +63,31 @@ fn command(i: u64, body: u16) -> Command
     }
 }
 
-/// The command of index i as the map holds it.
-fn held_command(i: u64) -> Command
+/// The command of index i that the map contains.
+fn stored_command(i: u64) -> Command
     ensures { body_of result.payload < 2 ^ 10 }
 {
     command(i, (i % 1024) as u16)
 }
 
-/// The command that the i-th question is about, one of `held`.
-fn asked(i: u64, held: u64) -> Command
-    requires { 0 < held }
+/// The command of the i-th query, one of `size` commands.
+fn queried_command(i: u64, size: u64) -> Command
+    requires { 0 < size }
 {
-    held_command((i % held).wrapping_mul(7919) % held)
+    stored_command((i % size).wrapping_mul(7919) % size)
 }
 
 /// The map of so many commands.
-fn map_of(alloc: Global, held: u64) -> Result<CommandMap, AllocError> {
+fn map_of(alloc: Global, size: u64) -> Result<CommandMap, AllocError> {
     let mut map = CommandMap::new(alloc);
-    for i in 0..held {
-        map.put(&held_command(i))?;
+    for i in 0..size {
+        map.put(&stored_command(i))?;
     }
     Ok(map)
 }
 
-/// The map of the first eight commands' names, all with this body.
-fn eight(alloc: Global, body: u16) -> Result<CommandMap, AllocError> {
+/// The map of the names of the first eight commands, all with this body.
+fn eight_commands(alloc: Global, body: u16) -> Result<CommandMap, AllocError> {
     let mut map = CommandMap::new(alloc);
     for i in 0..8 {
         map.put(&command(i, body))?;
@@ -95,43 +95,43 @@ fn eight(alloc: Global, body: u16) -> Result<CommandMap, AllocError> {
     Ok(map)
 }
 
-fn puts(alloc: Global, count: u64, held: u64) -> Result<u64, AllocError> {
+fn puts(alloc: Global, count: u64, size: u64) -> Result<u64, AllocError> {
     let mut sum: u64 = 0;
     for _ in 0..count {
-        sum = sum.wrapping_add(map_of(alloc, held)?.len() as u64);
+        sum = sum.wrapping_add(map_of(alloc, size)?.len() as u64);
     }
     Ok(sum)
 }
 
-fn gets(map: &CommandMap, count: u64, held: u64) -> u64
-    requires { 0 < held }
+fn gets(map: &CommandMap, count: u64, size: u64) -> u64
+    requires { 0 < size }
 {
     let mut sum: u64 = 0;
     for i in 0..count {
-        let payload = map.get(asked(i, held).name);
+        let payload = map.get(queried_command(i, size).name);
         sum = sum.wrapping_add(payload.map_or(0, |payload| u64::from(payload.body())));
     }
     sum
 }
 
-fn greatest_numbers(map: &CommandMap, count: u64, held: u64) -> u64
-    requires { 0 < held }
+fn greatest_numbers(map: &CommandMap, count: u64, size: u64) -> u64
+    requires { 0 < size }
 {
     let mut sum: u64 = 0;
     for i in 0..count {
-        let name = asked(i, held).name;
+        let name = queried_command(i, size).name;
         let greatest = map.greatest(name.tick(), name.player());
         sum = sum.wrapping_add(greatest.map_or(0, |number| u64::from(number) + 1));
     }
     sum
 }
 
-fn lists(alloc: Global, map: &CommandMap, count: u64, held: u64) -> Result<u64, AllocError>
-    requires { 0 < held }
+fn lists(alloc: Global, map: &CommandMap, count: u64, size: u64) -> Result<u64, AllocError>
+    requires { 0 < size }
 {
     let mut sum: u64 = 0;
     for i in 0..count {
-        let payloads = map.at_tick(alloc, asked(i, held).name.tick())?;
+        let payloads = map.at_tick(alloc, queried_command(i, size).name.tick())?;
         sum = sum.wrapping_add(payloads.len() as u64);
     }
     Ok(sum)
@@ -139,7 +139,7 @@ fn lists(alloc: Global, map: &CommandMap, count: u64, held: u64) -> Result<u64, 
 
 fn merges_of_known(alloc: Global, map: CommandMap, count: u64) -> Result<u64, AllocError> {
     let mut map = map;
-    let known = eight(alloc, 0)?;
+    let known = eight_commands(alloc, 0)?;
     let mut sum: u64 = 0;
     for _ in 0..count {
         sum = sum.wrapping_add(map.merge(&known)?.count as u64);
@@ -151,7 +151,7 @@ fn merges_of_greater(alloc: Global, map: CommandMap, count: u64) -> Result<u64, 
     let mut map = map;
     let mut sum: u64 = 0;
     for i in 0..count {
-        let greater = eight(alloc, 1024 + (i % 60_000) as u16)?;
+        let greater = eight_commands(alloc, 1024 + (i % 60_000) as u16)?;
         sum = sum.wrapping_add(map.merge(&greater)?.count as u64);
     }
     Ok(sum)
@@ -166,15 +166,15 @@ fn copies(map: &CommandMap, count: u64) -> Result<u64, AllocError> {
 }
 
 /// The frames of so many commands.
-fn frames(alloc: Global, held: u64) -> Result<Vec<[u8; FRAME_LEN]>, AllocError> {
+fn frames(alloc: Global, size: u64) -> Result<Vec<[u8; FRAME_LEN]>, AllocError> {
     let mut frames = Vec::new(alloc);
-    for i in 0..held {
-        frames.push(encode(&held_command(i)))?;
+    for i in 0..size {
+        frames.push(encode(&stored_command(i)))?;
     }
     Ok(frames)
 }
 
-/// The tick of the command that a frame spells, 0 where it spells none.
+/// The tick of the command that a frame encodes, or 0 where it encodes none.
 fn tick_in(frame: &[u8]) -> u64 {
     match decode(frame) {
         Ok(command) => u64::from(command.name.tick()),
@@ -191,19 +191,19 @@ fn decodes(frames: &[[u8; FRAME_LEN]], count: u64) -> u64 {
     sum
 }
 
-/// Does the task so many times with a map of so many commands, and sums what it answers, in 64 bits.
-pub fn sum(alloc: Global, task: Task, count: u64, held: u64) -> Result<u64, AllocError>
-    requires { 0 < held }
+/// Repeats the task with a map of so many commands, and sums the results in 64 bits.
+pub fn sum(alloc: Global, task: Task, count: u64, size: u64) -> Result<u64, AllocError>
+    requires { 0 < size }
 {
-    let map = map_of(alloc, held)?;
+    let map = map_of(alloc, size)?;
     match task {
-        Task::Put => puts(alloc, count, held),
-        Task::Get => Ok(gets(&map, count, held)),
-        Task::Greatest => Ok(greatest_numbers(&map, count, held)),
-        Task::AtTick => lists(alloc, &map, count, held),
+        Task::Put => puts(alloc, count, size),
+        Task::Get => Ok(gets(&map, count, size)),
+        Task::Greatest => Ok(greatest_numbers(&map, count, size)),
+        Task::AtTick => lists(alloc, &map, count, size),
         Task::MergeKnown => merges_of_known(alloc, map, count),
         Task::MergeGreater => merges_of_greater(alloc, map, count),
         Task::Copy => copies(&map, count),
-        Task::Decode => Ok(decodes(&frames(alloc, held)?, count)),
+        Task::Decode => Ok(decodes(&frames(alloc, size)?, count)),
     }
 }

@@ -1,13 +1,13 @@
--- The pairs are those that meet, and no others.
+-- The pairs are those of bodies that may touch, and no others.
 use Rattle.std.proofs.Common.{◌≡◌, ℕ, Bool, true, false, cond, ◌&&◌, ◌||◌, List, [], ◌∷◌, length, refl, sym, ap, ◌∙◌, arith, map, nat_lt, nat_eq, eqb-true}
 use Rattle.std.proofs.lemmas.Bool.Decides.{nat_tests}
 use Rattle.std.proofs.lemmas.List.Folds.{list_any-append}
 use Rattle.std.proofs.Math.Bool.{and-or_distrib_left, and_comm}
 use Rattle.std.specs.List.{range_with_len, filter, flat_map}
 use Rattle.pf_shapes.specs.Bounds.{Bounds}
-use Rattle.pf_broad.specs.Pairs.{at, meets, is_pair, pair, pairs_of}
+use Rattle.pf_broad.specs.Pairs.{bounds_at, may_touch, is_pair, pair, pairs_of}
 use Rattle.pf_broad.specs.Laws.{has_pair, IsExact}
-use Rattle.pf_broad.specs.declared.pair.Pair.{Pair}
+use Rattle.pf_shapes.specs.Pair.{Pair}
 use Rattle.pf_broad.proofs.Ranges.{has, has-below}
 
 -- a test of a number that is asked only where the number is j
@@ -58,8 +58,8 @@ in_range : (m : Bool) (i j n : ℕ) → (((nat_lt i j && m) && nat_lt j n) && na
 in_range true i j n = grind (arith, nat_tests)
 in_range false i j n = grind (arith, nat_tests)
 
--- whether (x, j) is a pair is whether x and j meet and j is a body
-has_pair-pairs_of : (bs : List Bounds) (x i j : ℕ) → has_pair (pairs_of bs x) i j ≡ (nat_eq x i && (is_pair bs x j && nat_lt j (length bs)))
+-- (x, j) is a pair where x and j may touch and j is a body
+pub has_pair-pairs_of : (bs : List Bounds) (x i j : ℕ) → has_pair (pairs_of bs x) i j ≡ (nat_eq x i && (is_pair bs x j && nat_lt j (length bs)))
 has_pair-pairs_of bs x i j =
     has_pair-map x i j (filter (is_pair bs x) (range_with_len 0 (length bs)))
     ∙ ap (λ b. nat_eq x i && b) (has-filter (is_pair bs x) (range_with_len 0 (length bs)) j
@@ -69,4 +69,4 @@ pub exact : (bs : List Bounds) → IsExact bs
 exact bs i j =
     has_pair-flat_map (pairs_of bs) (λ x. is_pair bs x j && nat_lt j (length bs)) i j (λ x. has_pair-pairs_of bs x i j) (range_with_len 0 (length bs))
     ∙ ap (λ b. (is_pair bs i j && nat_lt j (length bs)) && b) (has-below (length bs) i)
-    ∙ in_range (meets (at bs i) (at bs j)) i j (length bs)
+    ∙ in_range (may_touch (bounds_at bs i) (bounds_at bs j)) i j (length bs)

@@ -5,3 +5,4 @@ pub mod Finding
 pub mod Exact
 pub mod Ascending
 pub mod Within
+pub mod Quiet

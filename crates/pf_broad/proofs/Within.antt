@@ -6,9 +6,9 @@ use Rattle.std.specs.List.{range_with_len, filter, flat_map, All, AllByRecursion
 use Rattle.pf_shapes.specs.Fixture.{Fixture}
 use Rattle.pf_shapes.specs.Body.{BodyState}
 use Rattle.pf_shapes.specs.Bounds.{Bounds}
-use Rattle.pf_broad.specs.Pairs.{at, meets, is_pair, pair, pairs_of, pairs, all_bounds}
-use Rattle.pf_broad.specs.Laws.{IsPairOf}
-use Rattle.pf_broad.specs.declared.pair.Pair.{Pair}
+use Rattle.pf_broad.specs.Pairs.{bounds_at, may_touch, is_pair, pair, pairs_of, pairs, all_bounds}
+use Rattle.pf_shapes.specs.Pair.{IsPairOf}
+use Rattle.pf_shapes.specs.Pair.{Pair}
 use Rattle.pf_broad.proofs.Each.{append_each}
 
 -- a body's pairs are of it and a later body
@@ -19,7 +19,7 @@ map-filter_within bs i a (suc n) m e =
     let more = map-filter_within bs i (a + 1) n m (omega arith) in
     let rest = filter (is_pair bs i) (range_with_len (a + 1) n) in
     elim (is_pair bs i a) as (λ b. is_pair bs i a ≡ b → AllByRecursion (IsPairOf m) (map (pair i) (cond b (a ∷ rest) rest))) [
-      | true ↦ λ yes. ((ltb-true i a ((and_parts (nat_lt i a) (meets (at bs i) (at bs a)) yes).0), omega arith), more)
+      | true ↦ λ yes. ((ltb-true i a ((and_parts (nat_lt i a) (may_touch (bounds_at bs i) (bounds_at bs a)) yes).0), omega arith), more)
       | false ↦ λ _. more
     ] refl
 
@@ -28,17 +28,17 @@ flat_map_within bs [] = tt
 flat_map_within bs (x ∷ xs) =
     append_each (IsPairOf (length bs)) (pairs_of bs x) (flat_map (pairs_of bs) xs) (map-filter_within bs x 0 (length bs) (length bs) (omega arith)) (flat_map_within bs xs)
 
-length-spans : (fixtures : List Fixture) (bodies : List BodyState) → length bodies ≡ length fixtures → length (all_bounds fixtures bodies) ≡ length bodies
-length-spans [] [] h = refl
-length-spans (f ∷ fs) (b ∷ bs) h = ap suc (length-spans fs bs (omega arith))
-length-spans [] (b ∷ bs) h = absurd (omega arith)
-length-spans (f ∷ fs) [] h = absurd (omega arith)
+pub length-all_bounds : (fixtures : List Fixture) (bodies : List BodyState) → length bodies ≡ length fixtures → length (all_bounds fixtures bodies) ≡ length bodies
+length-all_bounds [] [] h = refl
+length-all_bounds (f ∷ fs) (b ∷ bs) h = ap suc (length-all_bounds fs bs (omega arith))
+length-all_bounds [] (b ∷ bs) h = absurd (omega arith)
+length-all_bounds (f ∷ fs) [] h = absurd (omega arith)
 
 within : (fixtures : List Fixture) (bodies : List BodyState) → length bodies ≡ length fixtures → All (IsPairOf (length bodies)) (pairs (all_bounds fixtures bodies))
 within fixtures bodies h =
-    rw (← length-spans fixtures bodies h) (All-from_recursion (IsPairOf (length (all_bounds fixtures bodies))) (pairs (all_bounds fixtures bodies))
+    rw (← length-all_bounds fixtures bodies h) (All-from_recursion (IsPairOf (length (all_bounds fixtures bodies))) (pairs (all_bounds fixtures bodies))
     (flat_map_within (all_bounds fixtures bodies) (range_with_len 0 (length (all_bounds fixtures bodies)))))
 
-pub found_within : (fixtures : List Fixture) (bodies : List BodyState) (bs : List Bounds) (ps : List Pair) → length bodies ≡ length fixtures
+pub pairs_within : (fixtures : List Fixture) (bodies : List BodyState) (bs : List Bounds) (ps : List Pair) → length bodies ≡ length fixtures
     → bs ≡ all_bounds fixtures bodies → ps ≡ pairs bs → All (IsPairOf (length bodies)) ps
-found_within fixtures bodies bs ps h e k = let P : List Pair → Type 0 = λ l. All (IsPairOf (length bodies)) l in subst P (sym (k ∙ ap pairs e)) (within fixtures bodies h)
+pairs_within fixtures bodies bs ps h e k = let P : List Pair → Type 0 = λ l. All (IsPairOf (length bodies)) l in subst P (sym (k ∙ ap pairs e)) (within fixtures bodies h)

@@ -1,17 +1,18 @@
--- What finding pairs promises of any bounds.
+-- Words of the laws of pairs.
 use Rattle.std.specs.Prelude.{◌≡◌, ℕ, ◌<◌, Bool, true, ◌&&◌, ◌||◌, ◌==◌, List, [], ◌∷◌, length, nat_lt}
 use Rattle.std.specs.List.{list_any, AllByRecursion}
 use Rattle.pf_shapes.specs.Bounds.{Bounds}
-use Rattle.pf_broad.specs.Pairs.{at, meets, pairs}
-use Rattle.pf_broad.specs.declared.pair.Pair.{Pair}
+use Rattle.pf_broad.specs.Pairs.{bounds_at, may_touch, pairs}
+use Rattle.pf_shapes.specs.Pair.{Pair}
 
 -- a list of pairs has this one
 abbrev pub has_pair : List Pair → ℕ → ℕ → Bool
 has_pair ps i j = list_any (λ p. (p.a == i) && (p.b == j)) ps
 
--- the pairs are all those of two bodies, the first before the second, that meet, and no others
+-- the pairs are all those of two bodies that may touch, the lesser number first, and no others
 abbrev pub IsExact : List Bounds → Type 0
-IsExact bs = (i j : ℕ) → has_pair (pairs bs) i j ≡ (nat_lt i j && (nat_lt j (length bs) && meets (at bs i) (at bs j)))
+IsExact bs = (i j : ℕ) → has_pair (pairs bs) i j
+    ≡ (nat_lt i j && (nat_lt j (length bs) && may_touch (bounds_at bs i) (bounds_at bs j)))
 
 -- by the first body, and of two pairs with the same first body by the second
 abbrev pub is_before : Pair → Pair → Bool
@@ -21,7 +22,3 @@ is_before p q = nat_lt p.a q.a || ((p.a == q.a) && nat_lt p.b q.b)
 abbrev pub IsAscending : List Pair → Type 0
 IsAscending [] = Unit {0}
 IsAscending (p ∷ ps) = AllByRecursion (λ q. is_before p q ≡ true) ps × IsAscending ps
-
--- two of n bodies, the lesser number first
-abbrev pub IsPairOf : ℕ → Pair → Type 0
-IsPairOf n p = (p.a < p.b) × (p.b < n)

@@ -1,10 +1,10 @@
-//! Which bodies of a scene may touch: pairs whose bounds overlap.
+//! The broad phase: the pairs of a scene's bodies that may touch, since their bounds overlap.
 #![tactic(auto)]
 
+mod broad_phase;
 pub mod laws;
-mod pair;
 
-pub use pair::{Pair, pairs};
+pub use broad_phase::pairs;
 
 #[cfg(test)]
 mod tests;

@@ -2,7 +2,7 @@
 
 use super::*;
 use pf_num::Fx;
-use pf_shapes::Scene;
+use pf_shapes::{Pair, Scene};
 use std::test::Fail;
 
 /// A static box, a box that stands on it, and a circle that touches the bounds of both.

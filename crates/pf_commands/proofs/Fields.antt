@@ -1,4 +1,4 @@
--- The fields of a frame: its number is theirs at their places, and has no other fields.
+-- The fields of a frame: its number is the sum of its shifted fields, and of no others.
 use Rattle.std.proofs.Common.{◌≡◌, ℕ, ◌+◌, ◌*◌, ◌^◌, ◌<◌, List, drop, refl, arith}
 use Rattle.std.specs.Prelude.{ℤ}
 use Rattle.std.specs.Int.{w64, cast_signed, cast_unsigned}
@@ -15,13 +15,13 @@ use Rattle.pf_commands.specs.Payload.{kind_of, x_of, y_of, weight}
 use Rattle.pf_commands.specs.Frame.{IsBytes, IsFrameable, fields_of, fields_in, number_of}
 use Rattle.pf_commands.proofs.WeightOrder.{raw_fits}
 
--- fields at their places in one number
+-- fields shifted to their bits in one number
 unfoldable pub worth : Fields → ℕ
 worth f =
     f.version * 2 ^ 208 + f.tick * 2 ^ 176 + f.player * 2 ^ 168 + f.number * 2 ^ 152
     + f.kind * 2 ^ 144 + f.body * 2 ^ 128 + f.x * 2 ^ 64 + f.y
 
--- fields as wide as their places
+-- fields no wider than their bits
 pub record AreFields (f : Fields) : Type 0 where
   pub version : f.version < 256
   pub tick : f.tick < 2 ^ 32

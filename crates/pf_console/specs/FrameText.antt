@@ -11,17 +11,17 @@ use Rattle.pf_console.specs.Digits.{frame_of}
 use Rattle.pf_console.specs.Print.{command_line}
 use Rattle.pf_text.specs.Streams.{Written}
 
-abbrev pub judged : Result Command FrameFault → Result Command DigitsFault
-judged (Ok command) = Ok command
-judged (Err fault) = Err (Refused fault)
+abbrev pub command_or_error : Result Command FrameFault → Result Command DigitsFault
+command_or_error (Ok command) = Ok command
+command_or_error (Err fault) = Err (Refused fault)
 
-abbrev pub framed : Result (Result Command FrameFault) LineFault → Result Command DigitsFault
-framed (Ok frame) = judged frame
-framed (Err fault) = Err BadNumber
+abbrev pub digits_result : Result (Result Command FrameFault) LineFault → Result Command DigitsFault
+digits_result (Ok frame) = command_or_error frame
+digits_result (Err fault) = Err BadNumber
 
--- the command that digits spell, or why they spell none
+-- the command that digits encode, or why they encode none
 abbrev pub digits_command : List ℕ → Result Command DigitsFault
-digits_command digits = framed (frame_of digits)
+digits_command digits = digits_result (frame_of digits)
 
 -- The line of the digits' command was written; or their error was returned and nothing written. Memory runs out only for
 -- digits that encode a command, and nothing is written then; where the writer failed, a part of the line was.

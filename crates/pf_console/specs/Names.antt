@@ -1,4 +1,4 @@
--- The names of faults and answers, as texts have them.
+-- The names of errors and outcomes, as texts print them.
 use Rattle.std.specs.Prelude.{ℕ, List, codes}
 use Rattle.pf_commands.specs.declared.checking.CheckFault.{CheckFault}
 use Rattle.pf_commands.specs.declared.checking.CheckFault.TheVariants.{UnknownBody, StaticBody, NotOwner}
@@ -25,4 +25,4 @@ abbrev pub put_name : Put → List ℕ
 put_name New = codes "new"
 put_name Same = codes "same"
 put_name Greater = codes "greater"
-put_name Lesser = codes "lesser"
+put_name Lesser = codes "lesser_number"

@@ -8,7 +8,7 @@ use Rattle.pf_console.specs.declared.fault.PlayFault.{PlayFault}
 use Rattle.pf_console.specs.declared.fault.PlayFault.TheVariants.{Words, Line, Frame, Memory, Read, Write}
 use Rattle.pf_console.specs.declared.phase.Phase.{Phase}
 use Rattle.pf_console.specs.declared.phase.Phase.TheVariants.{Reading, Seating, Playing}
-use Rattle.pf_console.specs.Phase.{text_rules, opening}
+use Rattle.pf_console.specs.Phase.{text_rules, first_phase}
 
 -- what is written, and the number and the error of the invalid line, if any
 pub record Text : Type 0 where
@@ -25,8 +25,8 @@ fault_of_ending (Err fault) = Some fault
 -- the output for a text's lines, up to the first that is invalid
 unfoldable pub text_of : List ℕ → Text
 text_of input = record {
-  written = (text_output text_rules opening input).text;
-  fault = fault_of_ending (text_output text_rules opening input).ending;
+  written = (text_output text_rules first_phase input).text;
+  fault = fault_of_ending (text_output text_rules first_phase input).ending;
 }
 
 -- An invalid line was taken, and no line behind it; or all of the text, all of whose lines are valid, but which ended too
@@ -34,7 +34,7 @@ text_of input = record {
 abbrev pub StopsAt : Transfer → ℕ → Type 0
 StopsAt t number =
     ((lines : List (List ℕ)) × (line : List ℕ) × (number ≡ length lines + 1) × TakesLine t.input lines line t.left)
-    ⊎ ((t.left ≡ Some []) × IsOk (text_output text_rules opening t.input).ending)
+    ⊎ ((t.left ≡ Some []) × IsOk (text_output text_rules first_phase t.input).ending)
 
 -- How a run ended, and what it read and wrote. It runs out of memory only at a valid line; there, and where the reader
 -- failed, the lines before are valid and their output was written; where the writer failed, a part of the next reply
@@ -45,9 +45,9 @@ Runs t (Ok done) =
 Runs t (Err (Line number fault)) =
     StopsAt t number × (t.after ≡ Some (t.before ++ (text_of t.input).written))
     × ((text_of t.input).fault ≡ Some (number, fault))
-Runs t (Err Memory) = StopsForMemory text_rules opening t
-Runs t (Err Read) = StopsForRead text_rules opening t
-Runs t (Err Write) = StopsForWrite text_rules opening t
+Runs t (Err Memory) = StopsForMemory text_rules first_phase t
+Runs t (Err Read) = StopsForRead text_rules first_phase t
+Runs t (Err Write) = StopsForWrite text_rules first_phase t
 Runs t (Err (Words text)) = ⊥
 Runs t (Err (Frame fault)) = ⊥
 

@@ -28,7 +28,7 @@ pub fn run_text<R: Source, W: Sink>(
     ensures reads_counted { CountsReads (R.failures reader.old) result (R.failures reader.new) }
     ensures writes_counted { CountsWrites (W.failures writer.old) result (W.failures writer.new) }
 {
-    match drive(alloc, &mut (), reader, writer, Phase::opening()) {
+    match drive(alloc, &mut (), reader, writer, Phase::first()) {
         Ok((_, Phase::Playing(_))) => Ok(()),
         Ok((number, _)) => Err(PlayFault::Line(number, SceneFault::BadLine)),
         Err(DriveFault::Line(number, fault)) => Err(PlayFault::Line(number, fault)),

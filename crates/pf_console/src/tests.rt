@@ -189,7 +189,7 @@ fn each_fault_has_its_line_and_name(rt: HostRuntime) -> Result<(), Fail> {
 }
 
 /// How the program answers a frame's digits. It reads nothing.
-fn framed(alloc: Global, digits: &str) -> Result<Ended, AllocError> {
+fn digits_result(alloc: Global, digits: &str) -> Result<Ended, AllocError> {
     let mut output = Collected::new(alloc);
     let request = Request::Frame(digits);
     let outcome = perform(alloc, request, &mut Bytes::new(FALLING), &mut output);
@@ -239,7 +239,7 @@ const FRAMES: [(&str, &[u8]); 11] = [
 #[test]
 fn frames_are_told(rt: HostRuntime) -> Result<(), Fail> {
     for (digits, expected) in FRAMES {
-        let (output, said, status) = framed(rt.alloc(), digits)?;
+        let (output, said, status) = digits_result(rt.alloc(), digits)?;
         if expected.starts_with(b"tick") {
             assert_eq!(rt; output.bytes(), expected);
             assert!(rt; said.bytes().is_empty() && status == 0);

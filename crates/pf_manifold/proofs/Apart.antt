@@ -4,11 +4,11 @@ use Rattle.std.proofs.lemmas.List.{take-append-drop}
 use Rattle.std.proofs.lemmas.List.Concat.{flat_map-append}
 use Rattle.pf_shapes.specs.Fixture.{Fixture}
 use Rattle.pf_shapes.specs.Body.{BodyState}
-use Rattle.pf_broad.specs.declared.pair.Pair.{Pair}
-use Rattle.pf_manifold.specs.Contact.{Contact}
-use Rattle.pf_manifold.specs.Placed.{PlacedShape}
+use Rattle.pf_shapes.specs.Pair.{Pair}
+use Rattle.pf_manifold.specs.ContactPoint.{ContactPoint}
+use Rattle.pf_manifold.specs.PlacedShape.{PlacedShape}
 use Rattle.pf_manifold.specs.Collide.{collide}
-use Rattle.pf_manifold.specs.Touches.{body_at, touching, touches_of, touches}
+use Rattle.pf_manifold.specs.Touches.{placed_shape_at, touch_of, touches_of, touches}
 use Rattle.pf_manifold.proofs.Pairs.{touches_more}
 
 -- two lists that are nothing together are nothing
@@ -27,10 +27,10 @@ first_empty fixtures bodies pairs i none =
     (sym (flat_map-append (touches_of fixtures bodies) (take i pairs) (drop i pairs))
     ∙ ap (touches fixtures bodies) (take-append-drop i pairs) ∙ none)).0
 
-pub pair_apart : (fixtures : List Fixture) (bodies : List BodyState) (pairs : List Pair) (i : ℕ) (d : Pair) (a b : PlacedShape) (points : List Contact)
-    → i < length pairs → body_at fixtures bodies (get_or pairs i d).a ≡ Some a → body_at fixtures bodies (get_or pairs i d).b ≡ Some b → points ≡ collide a b
+pub pair_apart : (fixtures : List Fixture) (bodies : List BodyState) (pairs : List Pair) (i : ℕ) (p : Pair) (a b : PlacedShape) (points : List ContactPoint)
+    → i < length pairs → p ≡ get_or pairs i p → placed_shape_at fixtures bodies p.a ≡ Some a → placed_shape_at fixtures bodies p.b ≡ Some b → points ≡ collide a b
     → touches fixtures bodies pairs ≡ [] → points ≡ []
-pair_apart fixtures bodies pairs i d a b points lt is_a is_b are none =
-    map_empty (touching (get_or pairs i d)) points
-    (both_empty (touches fixtures bodies (take i pairs)) (map (touching (get_or pairs i d)) points)
-    (sym (touches_more fixtures bodies pairs i d a b points lt is_a is_b are) ∙ first_empty fixtures bodies pairs (i + 1) none)).1
+pair_apart fixtures bodies pairs i p a b points lt at is_a is_b are none =
+    map_empty (touch_of p) points
+    (both_empty (touches fixtures bodies (take i pairs)) (map (touch_of p) points)
+    (sym (touches_more fixtures bodies pairs i p a b points lt at is_a is_b are) ∙ first_empty fixtures bodies pairs (i + 1) none)).1

@@ -4,8 +4,8 @@ use Rattle.std.proofs.lemmas.Int.{ints}
 use Rattle.std.specs.Prelude.{int_lt}
 use Rattle.pf_manifold.specs.declared.incident.Mark.TheVariants.{CutLow, CutHigh}
 use Rattle.pf_manifold.specs.Incident.{ClipVertex, Segment}
-use Rattle.pf_manifold.specs.Clip.{crossing, kept, clipped_low, clipped_high, then_clipped_high, clipped}
-use Rattle.pf_manifold.specs.PlaceLaws.{LiesWithin, HasEndsWithin, HasEndsBelow, HasEndsAbove}
+use Rattle.pf_manifold.specs.Clip.{crossing, clip_to_line, clip_low, clip_high, then_clip_high, clip}
+use Rattle.pf_manifold.specs.GeometryLaws.{LiesWithin, HasEndsWithin, HasEndsBelow, HasEndsAbove}
 use Rattle.pf_manifold.proofs.Comparisons.{is_below, not_above, tests_above, tests_below}
 
 -- ---- one cut
@@ -16,30 +16,30 @@ EachEnd P None = Unit {0}
 EachEnd P (Some s) = P s.first × P s.second
 
 kept_ends : (P : ClipVertex → Type 0) (t u : Bool) (s : Segment) (cut : ClipVertex)
-    → (t ≡ false → P s.first) → (u ≡ false → P s.second) → P cut → EachEnd P (kept t u s cut)
-unfolding kept
+    → (t ≡ false → P s.first) → (u ≡ false → P s.second) → P cut → EachEnd P (clip_to_line t u s cut)
+unfolding clip_to_line
 kept_ends P true true s cut first second at_cut = tt
 kept_ends P true false s cut first second at_cut = (at_cut, second refl)
 kept_ends P false true s cut first second at_cut = (first refl, at_cut)
 kept_ends P false false s cut first second at_cut = (first refl, second refl)
 
 -- nothing is left where both ends are outside
-kept_nothing : (t u : Bool) (s : Segment) (cut : ClipVertex) → kept t u s cut ≡ None → (t ≡ true) × (u ≡ true)
-unfolding kept
+kept_nothing : (t u : Bool) (s : Segment) (cut : ClipVertex) → clip_to_line t u s cut ≡ None → (t ≡ true) × (u ≡ true)
+unfolding clip_to_line
 kept_nothing true true s cut e = (refl, refl)
 kept_nothing true false s cut e = absurd (cc)
 kept_nothing false true s cut e = absurd (cc)
 kept_nothing false false s cut e = absurd (cc)
 
-low_ends : (s : Segment) (limit : ℤ) → EachEnd (λ v. limit ≤ℤ v.side) (clipped_low s limit)
-unfolding clipped_low crossing
+low_ends : (s : Segment) (limit : ℤ) → EachEnd (λ v. limit ≤ℤ v.side) (clip_low s limit)
+unfolding clip_low crossing
 low_ends s limit =
     kept_ends (λ v. limit ≤ℤ v.side) (int_lt s.first.side limit) (int_lt s.second.side limit) s (crossing s.first s.second limit CutLow)
     (not_above _ _) (not_above _ _) (omega (arith, ints))
 
 high_ends : (s : Option Segment) (side : ℤ) → pos 0 ≤ℤ side → EachEnd (λ v. neg_ℤ side ≤ℤ v.side) s
-    → EachEnd (LiesWithin side) (then_clipped_high s side)
-unfolding clipped_high crossing
+    → EachEnd (LiesWithin side) (then_clip_high s side)
+unfolding clip_high crossing
 high_ends None side some low = tt
 high_ends (Some s) side some low =
     kept_ends (LiesWithin side) (int_lt side s.first.side) (int_lt side s.second.side) s (crossing s.first s.second side CutHigh)
@@ -47,44 +47,44 @@ high_ends (Some s) side some low =
 
 -- ---- both cuts
 
-clipped_ends : (s : Segment) (side : ℤ) → pos 0 ≤ℤ side → EachEnd (LiesWithin side) (clipped s side)
-unfolding clipped
-clipped_ends s side some = high_ends (clipped_low s (neg_ℤ side)) side some (low_ends s (neg_ℤ side))
+clipped_ends : (s : Segment) (side : ℤ) → pos 0 ≤ℤ side → EachEnd (LiesWithin side) (clip s side)
+unfolding clip
+clipped_ends s side some = high_ends (clip_low s (neg_ℤ side)) side some (low_ends s (neg_ℤ side))
 
-pub clipped_within : (s t : Segment) (side : ℤ) → pos 0 ≤ℤ side → clipped s side ≡ Some t → HasEndsWithin side t
+pub clipped_within : (s t : Segment) (side : ℤ) → pos 0 ≤ℤ side → clip s side ≡ Some t → HasEndsWithin side t
 clipped_within s t side some e = let P = EachEnd (LiesWithin side) in subst P e (clipped_ends s side some)
 
 -- an edge that lies on the high side of a limit stays as it is, and so does one on the low side
-low_whole : (s : Segment) (limit : ℤ) → limit ≤ℤ s.first.side → limit ≤ℤ s.second.side → clipped_low s limit ≡ Some s
-unfolding clipped_low kept
+low_whole : (s : Segment) (limit : ℤ) → limit ≤ℤ s.first.side → limit ≤ℤ s.second.side → clip_low s limit ≡ Some s
+unfolding clip_low clip_to_line
 low_whole s limit first second = rw (tests_above s.first.side limit first, tests_above s.second.side limit second) refl
 
-high_whole : (s : Segment) (limit : ℤ) → s.first.side ≤ℤ limit → s.second.side ≤ℤ limit → clipped_high s limit ≡ Some s
-unfolding clipped_high kept
+high_whole : (s : Segment) (limit : ℤ) → s.first.side ≤ℤ limit → s.second.side ≤ℤ limit → clip_high s limit ≡ Some s
+unfolding clip_high clip_to_line
 high_whole s limit first second = rw (tests_above limit s.first.side first, tests_above limit s.second.side second) refl
 
-pub clipped_whole : (s : Segment) (side : ℤ) → HasEndsWithin side s → clipped s side ≡ Some s
-unfolding clipped
+pub clipped_whole : (s : Segment) (side : ℤ) → HasEndsWithin side s → clip s side ≡ Some s
+unfolding clip
 clipped_whole s side h = rw (low_whole s (neg_ℤ side) h.0.0 h.1.0) (high_whole s side h.0.1 h.1.1)
 
 -- ---- nothing left
 
-clipped_below : (s : Segment) (side : ℤ) → HasEndsBelow side s → clipped s side ≡ None
-unfolding clipped clipped_low kept
+clipped_below : (s : Segment) (side : ℤ) → HasEndsBelow side s → clip s side ≡ None
+unfolding clip clip_low clip_to_line
 clipped_below s side h = rw (tests_below s.first.side (neg_ℤ side) h.0, tests_below s.second.side (neg_ℤ side) h.1) refl
 
-high_nothing : (s : Segment) (limit : ℤ) → limit <ℤ s.first.side → limit <ℤ s.second.side → clipped_high s limit ≡ None
-unfolding clipped_high kept
+high_nothing : (s : Segment) (limit : ℤ) → limit <ℤ s.first.side → limit <ℤ s.second.side → clip_high s limit ≡ None
+unfolding clip_high clip_to_line
 high_nothing s limit first second = rw (tests_below limit s.first.side first, tests_below limit s.second.side second) refl
 
-clipped_above : (s : Segment) (side : ℤ) → pos 0 ≤ℤ side → HasEndsAbove side s → clipped s side ≡ None
-unfolding clipped
+clipped_above : (s : Segment) (side : ℤ) → pos 0 ≤ℤ side → HasEndsAbove side s → clip s side ≡ None
+unfolding clip
 clipped_above s side some h =
     rw (low_whole s (neg_ℤ side) (omega (arith, ints, h.0)) (omega (arith, ints, h.1))) (high_nothing s side h.0 h.1)
 
 -- both ends of what the high cut leaves nothing of are above
-above_high : (s : Segment) (side : ℤ) → clipped_high s side ≡ None → HasEndsAbove side s
-unfolding clipped_high
+above_high : (s : Segment) (side : ℤ) → clip_high s side ≡ None → HasEndsAbove side s
+unfolding clip_high
 above_high s side e =
     let tests = kept_nothing (int_lt side s.first.side) (int_lt side s.second.side) s (crossing s.first s.second side CutHigh) e in
     (is_below side s.first.side tests.0, is_below side s.second.side tests.1)
@@ -93,17 +93,17 @@ above_high s side e =
 not_cut : (side : ℤ) → pos 0 ≤ℤ side → side <ℤ neg_ℤ side → ⊥
 not_cut side some h = omega (arith, ints)
 
-outside : (s : Segment) (side : ℤ) → pos 0 ≤ℤ side → clipped s side ≡ None → HasEndsBelow side s ⊎ HasEndsAbove side s
-unfolding clipped clipped_low crossing kept
+outside : (s : Segment) (side : ℤ) → pos 0 ≤ℤ side → clip s side ≡ None → HasEndsBelow side s ⊎ HasEndsAbove side s
+unfolding clip clip_low crossing clip_to_line
 outside s side some none = by (int_lt s.first.side (neg_ℤ side)) (int_lt s.second.side (neg_ℤ side)) refl refl none
   where
     by : (t u : Bool) → int_lt s.first.side (neg_ℤ side) ≡ t → int_lt s.second.side (neg_ℤ side) ≡ u
-        → then_clipped_high (kept t u s (crossing s.first s.second (neg_ℤ side) CutLow)) side ≡ None
+        → then_clip_high (clip_to_line t u s (crossing s.first s.second (neg_ℤ side) CutLow)) side ≡ None
         → HasEndsBelow side s ⊎ HasEndsAbove side s
     by true true e f none = inl (is_below s.first.side (neg_ℤ side) e, is_below s.second.side (neg_ℤ side) f)
     by true false e f none = absurd (not_cut side some (above_high _ side none).0)
     by false true e f none = absurd (not_cut side some (above_high _ side none).1)
     by false false e f none = inr (above_high s side none)
 
-pub clipped_nothing : (s : Segment) (side : ℤ) → pos 0 ≤ℤ side → (clipped s side ≡ None) ↔ (HasEndsBelow side s ⊎ HasEndsAbove side s)
+pub clipped_nothing : (s : Segment) (side : ℤ) → pos 0 ≤ℤ side → (clip s side ≡ None) ↔ (HasEndsBelow side s ⊎ HasEndsAbove side s)
 clipped_nothing s side some = (outside s side some, ⊎_elim (clipped_below s side) (clipped_above s side some))

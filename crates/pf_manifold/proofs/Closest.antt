@@ -9,57 +9,58 @@ use Rattle.pf_rot.specs.Vector.{V2}
 use Rattle.pf_manifold.specs.declared.face.Face.{Face}
 use Rattle.pf_manifold.specs.declared.face.Face.TheVariants.{Right, Top, Left, Bottom}
 use Rattle.pf_manifold.specs.Face.{face_number}
-use Rattle.pf_manifold.specs.BoxCircle.{clamped, closest_point, face_distance, closer_face, closest_face}
-use Rattle.pf_shapes.specs.Laws.{IsInBox, squared}
-use Rattle.pf_manifold.specs.PlaceLaws.{IsClosest}
+use Rattle.pf_manifold.specs.BoxCircle.{clamp, closest_point, face_distance, closer_face, closest_face}
+use Rattle.pf_shapes.specs.Laws.{IsInBox, square}
+use Rattle.pf_manifold.specs.GeometryLaws.{IsClosest}
 use Rattle.pf_manifold.proofs.Mirrors.{vector_by_parts}
 use Rattle.pf_manifold.proofs.Comparisons.{is_below, not_above}
 
 -- ---- the closest point
 
-clamped-low : (h z : ℤ) → pos 0 ≤ℤ h → neg_ℤ h ≤ℤ clamped h z
-unfolding clamped
-clamped-low h z some = omega (arith, ints, clamps)
+clamp-low : (h z : ℤ) → pos 0 ≤ℤ h → neg_ℤ h ≤ℤ clamp h z
+unfolding clamp
+clamp-low h z some = omega (arith, ints, clamps)
 
-clamped-high : (h z : ℤ) → pos 0 ≤ℤ h → clamped h z ≤ℤ h
-unfolding clamped
-clamped-high h z some = omega (arith, ints, clamps)
+clamp-high : (h z : ℤ) → pos 0 ≤ℤ h → clamp h z ≤ℤ h
+unfolding clamp
+clamp-high h z some = omega (arith, ints, clamps)
 
-clamped-within : (h z : ℤ) → neg_ℤ h ≤ℤ z → z ≤ℤ h → clamped h z ≡ z
-unfolding clamped
-clamped-within h z low high = omega (arith, ints, clamps)
+clamp-within : (h z : ℤ) → neg_ℤ h ≤ℤ z → z ≤ℤ h → clamp h z ≡ z
+unfolding clamp
+clamp-within h z low high = omega (arith, ints, clamps)
 
 -- no number from -h to h is closer
-clamped-closest : (h z w : ℤ) → neg_ℤ h ≤ℤ w → w ≤ℤ h → unsigned_abs (z -ℤ clamped h z) ≤ unsigned_abs (z -ℤ w)
-unfolding clamped
-clamped-closest h z w low high = omega (arith, ints, clamps)
+clamp-closest : (h z w : ℤ) → neg_ℤ h ≤ℤ w → w ≤ℤ h → unsigned_abs (z -ℤ clamp h z) ≤ unsigned_abs (z -ℤ w)
+unfolding clamp
+clamp-closest h z w low high = omega (arith, ints, clamps)
 
-pub squared_le : (m n : ℕ) → m ≤ n → squared m ≤ squared n
+pub squared_le : (m n : ℕ) → m ≤ n → square m ≤ square n
 squared_le m n h = mul-le-mul h h
 
 pub point_is_closest : (half d : V2) → pos 0 ≤ℤ half.x → pos 0 ≤ℤ half.y → IsClosest half d (closest_point half d)
 unfolding closest_point
 point_is_closest half d sx sy = record {
   inside = record {
-    left = clamped-low half.x d.x sx;
-    right = clamped-high half.x d.x sx;
-    below = clamped-low half.y d.y sy;
-    above = clamped-high half.y d.y sy;
+    left = clamp-low half.x d.x sx;
+    right = clamp-high half.x d.x sx;
+    below = clamp-low half.y d.y sy;
+    above = clamp-high half.y d.y sy;
   };
   closest = λ q inside.
-      let along_x = squared_le _ _ (clamped-closest half.x d.x q.x inside.left inside.right) in
-      let along_y = squared_le _ _ (clamped-closest half.y d.y q.y inside.below inside.above) in
+      let along_x = squared_le _ _ (clamp-closest half.x d.x q.x inside.left inside.right) in
+      let along_y = squared_le _ _ (clamp-closest half.y d.y q.y inside.below inside.above) in
       omega (arith, along_x, along_y);
 }
 
 pub itself_is_closest : (half d : V2) → IsInBox half d → closest_point half d ≡ d
 unfolding closest_point
 itself_is_closest half d inside =
-    vector_by_parts _ _ (clamped-within half.x d.x inside.left inside.right) (clamped-within half.y d.y inside.below inside.above)
+    vector_by_parts _ _ (clamp-within half.x d.x inside.left inside.right) (clamp-within half.y d.y inside.below inside.above)
 
 -- ---- the closest face
 
--- of two faces the closer one is as close as either, and it is the second only where that is closer than the first
+-- of two faces the closer one is as close as either, and it is the second only where that is closer
+-- than the first
 record IsCloser (half d : V2) (best face closer : Face) : Type 0 where
   as_first : face_distance half d closer ≤ℤ face_distance half d best
   as_second : face_distance half d closer ≤ℤ face_distance half d face

@@ -6,18 +6,18 @@ use Rattle.pf_shapes.specs.declared.fixture.Shape.{Shape}
 use Rattle.pf_shapes.specs.declared.fixture.Shape.TheVariants.{Circle, Box}
 use Rattle.pf_manifold.specs.declared.face.Face.{Face}
 use Rattle.pf_manifold.specs.declared.incident.Mark.TheVariants.{CutLow, CutHigh}
-use Rattle.pf_manifold.specs.Contact.{Contact}
-use Rattle.pf_manifold.specs.Point.{at_most_one}
-use Rattle.pf_manifold.specs.Placed.{PlacedShape, OrientedBox}
+use Rattle.pf_manifold.specs.ContactPoint.{ContactPoint}
+use Rattle.pf_manifold.specs.Manifold.{at_most_one}
+use Rattle.pf_manifold.specs.PlacedShape.{PlacedShape, OrientedBox}
 use Rattle.pf_manifold.specs.Separation.{frames_of, separations_of, best_axis}
 use Rattle.pf_manifold.specs.Reference.{Reference, reference_of}
 use Rattle.pf_manifold.specs.Incident.{ClipVertex, Segment, mark_number, incident_edge, incident_segment, corner_vertex, vertex_of}
-use Rattle.pf_manifold.specs.Clip.{crossing, kept, clipped_low, clipped_high, then_clipped_high, clipped}
-use Rattle.pf_manifold.specs.Boxes.{vertex_feature, vertex_point, vertex_contact, ascending, segment_points, edge_points, reference_points, points_along, collide_boxes}
+use Rattle.pf_manifold.specs.Clip.{crossing, clip_to_line, clip_low, clip_high, then_clip_high, clip}
+use Rattle.pf_manifold.specs.Boxes.{vertex_feature, vertex_point, vertex_contact, ascending_points, segment_points, edge_points, reference_points, points_along, collide_boxes}
 use Rattle.pf_manifold.specs.Collide.{collide, collide_shapes}
 
 -- no point, one, or two of which the second has the greater feature
-abbrev pub AreAscending : List Contact → Type 0
+abbrev pub AreAscending : List ContactPoint → Type 0
 AreAscending [] = Unit {0}
 AreAscending (p ∷ []) = Unit {0}
 AreAscending (p ∷ (q ∷ [])) = p.feature < q.feature
@@ -37,8 +37,8 @@ HasMarks n (Some s) = AreMarks n (mark_number s.first.mark) (mark_number s.secon
 
 -- a cut brings a new mark
 kept_marks : (n : ℕ) (first_out second_out : Bool) (s : Segment) (cut : ClipVertex) → mark_number cut.mark ≡ n → HasMarks n (Some s)
-    → HasMarks (n + 1) (kept first_out second_out s cut)
-unfolding kept
+    → HasMarks (n + 1) (clip_to_line first_out second_out s cut)
+unfolding clip_to_line
 kept_marks n true true s cut e h = tt
 kept_marks n true false s cut e h = record {
   first_below = omega arith;
@@ -56,19 +56,19 @@ kept_marks n false false s cut e h = record {
   different = h.different;
 }
 
-low_marks : (s : Segment) (limit : ℤ) → HasMarks 2 (Some s) → HasMarks 3 (clipped_low s limit)
-unfolding clipped_low crossing
+low_marks : (s : Segment) (limit : ℤ) → HasMarks 2 (Some s) → HasMarks 3 (clip_low s limit)
+unfolding clip_low crossing
 low_marks s limit h =
     kept_marks 2 (int_lt s.first.side limit) (int_lt s.second.side limit) s (crossing s.first s.second limit CutLow) refl h
 
-high_marks : (s : Option Segment) (limit : ℤ) → HasMarks 3 s → HasMarks 4 (then_clipped_high s limit)
-unfolding clipped_high crossing
+high_marks : (s : Option Segment) (limit : ℤ) → HasMarks 3 s → HasMarks 4 (then_clip_high s limit)
+unfolding clip_high crossing
 high_marks None limit h = tt
 high_marks (Some s) limit h =
     kept_marks 3 (int_lt limit s.first.side) (int_lt limit s.second.side) s (crossing s.first s.second limit CutHigh) refl h
 
-clipped_marks : (s : Segment) (side : ℤ) → HasMarks 2 (Some s) → HasMarks 4 (clipped s side)
-unfolding clipped
+clipped_marks : (s : Segment) (side : ℤ) → HasMarks 2 (Some s) → HasMarks 4 (clip s side)
+unfolding clip
 clipped_marks s side h = high_marks _ side (low_marks s _ h)
 
 incident_marks : (r : Reference) (edge : Face) → HasMarks 2 (Some (incident_segment r edge))
@@ -77,26 +77,26 @@ incident_marks r edge = record { first_below = omega arith; second_below = omega
 
 -- ---- features of a segment's points
 
-abbrev AreDifferent : Option Contact → Option Contact → Type 0
+abbrev AreDifferent : Option ContactPoint → Option ContactPoint → Type 0
 AreDifferent None q = Unit {0}
 AreDifferent (Some p) None = Unit {0}
 AreDifferent (Some p) (Some q) = p.feature ≢ q.feature
 
-in_order : (p q : Contact) → p.feature ≢ q.feature → AreAscending (if nat_lt q.feature p.feature then q ∷ p ∷ [] else p ∷ q ∷ [])
+in_order : (p q : ContactPoint) → p.feature ≢ q.feature → AreAscending (if nat_lt q.feature p.feature then q ∷ p ∷ [] else p ∷ q ∷ [])
 in_order p q different = by (nat_lt q.feature p.feature) refl
   where
     by : (t : Bool) → nat_lt q.feature p.feature ≡ t → AreAscending (if t then q ∷ p ∷ [] else p ∷ q ∷ [])
     by true e = grind (arith, nat_tests)
     by false e = grind (arith, nat_tests)
 
-ascending_points : (p q : Option Contact) → AreDifferent p q → AreAscending (ascending p q)
-unfolding ascending
-ascending_points None None h = tt
-ascending_points None (Some q) h = tt
-ascending_points (Some p) None h = tt
-ascending_points (Some p) (Some q) h = in_order p q h
+AreAscending-ascending : (p q : Option ContactPoint) → AreDifferent p q → AreAscending (ascending_points p q)
+unfolding ascending_points
+AreAscending-ascending None None h = tt
+AreAscending-ascending None (Some q) h = tt
+AreAscending-ascending (Some p) None h = tt
+AreAscending-ascending (Some p) (Some q) h = in_order p q h
 
-if_different : (s t : Bool) (p q : Contact) → p.feature ≢ q.feature
+if_different : (s t : Bool) (p q : ContactPoint) → p.feature ≢ q.feature
     → AreDifferent (if s then None else Some p) (if t then None else Some q)
 if_different true t p q h = tt
 if_different false true p q h = tt
@@ -116,7 +116,7 @@ different_contacts r edge v w h =
 segment_ascends : (r : Reference) (edge : Face) (s : Option Segment) → HasMarks 4 s → AreAscending (segment_points r edge s)
 segment_ascends r edge None h = tt
 segment_ascends r edge (Some s) h =
-    ascending_points (vertex_contact r edge s.first) (vertex_contact r edge s.second)
+    AreAscending-ascending (vertex_contact r edge s.first) (vertex_contact r edge s.second)
     (different_contacts r edge s.first s.second h.different)
 
 edge_ascends : (r : Reference) (edge : Face) → AreAscending (edge_points r edge)
@@ -134,7 +134,7 @@ boxes_ascend a b = along_ascends _ (reference_of a b (frames_of a b) (best_axis 
 
 -- ---- bodies
 
-one_ascends : (p : Option Contact) → AreAscending (at_most_one p)
+one_ascends : (p : Option ContactPoint) → AreAscending (at_most_one p)
 one_ascends None = tt
 one_ascends (Some p) = tt
 

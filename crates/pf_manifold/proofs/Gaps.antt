@@ -1,4 +1,5 @@
--- Two boxes the other way round: what either sees of the other changes its sign, and their separations change places.
+-- Two boxes the other way round: what either sees of the other changes its sign, and their
+-- separations change places.
 use Rattle.std.proofs.Common.{◌≡◌, pos, neg_ℤ, Bool, true, ◌||◌, [], refl, sym, ◌∙◌}
 use Rattle.std.proofs.Math.Bool.{or_assoc, or_comm}
 use Rattle.std.specs.Prelude.{int_lt}
@@ -8,10 +9,10 @@ use Rattle.pf_num.proofs.Signs.{magnitude-neg}
 use Rattle.pf_rot.specs.Vector.{V2, sub, neg}
 use Rattle.pf_rot.specs.Rotation.{Rot, unrotate}
 use Rattle.pf_shapes.specs.Reach.{reach}
-use Rattle.pf_manifold.specs.Placed.{OrientedBox}
-use Rattle.pf_manifold.specs.Separation.{Frames, relative_rotation, frames_apart_by, frames_of, magnitudes, reaches, face_separations, Separations, separations_of, has_gap}
+use Rattle.pf_manifold.specs.PlacedShape.{OrientedBox}
+use Rattle.pf_manifold.specs.Separation.{Frames, relative_rotation, frames_at_offset, frames_of, magnitudes, reaches, face_separations, Separations, separations_of, has_gap}
 use Rattle.pf_manifold.specs.Boxes.{points_along, collide_boxes}
-use Rattle.pf_manifold.specs.PlaceLaws.{have_gap}
+use Rattle.pf_manifold.specs.GeometryLaws.{boxes_have_gap}
 use Rattle.pf_manifold.proofs.Mirrors.{minus-swap}
 
 -- ---- frames
@@ -48,7 +49,7 @@ abbrev seen_back : Frames → Frames
 seen_back f = record { in_a = neg f.in_b; in_b = neg f.in_a; relative = turned_back f.relative }
 
 frames-swap : (a b : OrientedBox) → frames_of b a ≡ seen_back (frames_of a b)
-unfolding frames_of frames_apart_by
+unfolding frames_of frames_at_offset
 frames-swap a b =
     rw (
       minus-swap a.position b.position,
@@ -86,11 +87,11 @@ gap-exchanged : (s : Separations) → has_gap (exchanged s) ≡ has_gap s
 unfolding has_gap
 gap-exchanged s = or_exchanged (int_lt (pos 0) s.b.x) (int_lt (pos 0) s.b.y) (int_lt (pos 0) s.a.x) (int_lt (pos 0) s.a.y)
 
-pub gap-swap : (a b : OrientedBox) → have_gap b a ≡ have_gap a b
+pub gap-swap : (a b : OrientedBox) → boxes_have_gap b a ≡ boxes_have_gap a b
 gap-swap a b = rw (frames-swap a b, separations-swap a.half b.half (frames_of a b)) (gap-exchanged _)
 
 -- ---- points
 
-pub apart_at_gap : (a b : OrientedBox) → have_gap a b ≡ true → collide_boxes a b ≡ []
+pub apart_at_gap : (a b : OrientedBox) → boxes_have_gap a b ≡ true → collide_boxes a b ≡ []
 unfolding collide_boxes points_along
 apart_at_gap a b e = rw e refl

@@ -1,7 +1,7 @@
 -- The lemmas of this crate.
 pub mod Features
 pub mod Mirrors
-pub mod Touching
+pub mod TouchingPoints
 pub mod Pairs
 pub mod Apart
 pub mod Closest
@@ -10,3 +10,7 @@ pub mod Clipping
 pub mod Meeting
 pub mod Gaps
 pub mod Upright
+pub mod IncidentEdge
+pub mod BestAxis
+pub mod Crossing
+pub mod FeatureRanges

@@ -1,4 +1,5 @@
--- Where two circles have a point: their exact distance, rounded down, is at most the sum of their radii.
+-- Where two circles have a point: their exact distance, rounded down, is at most the sum of their
+-- radii.
 use Rattle.std.proofs.Common.{◌≡◌, ℕ, ◌+◌, ◌<◌, ◌≤◌, ◌↔◌, ℤ, pos, ◌-ℤ◌, ◌≤ℤ◌, Bool, true, false, Some, None, min, refl, ⊎_elim, arith}
 use Rattle.std.proofs.lemmas.Bool.{cases_lt}
 use Rattle.std.proofs.lemmas.Int.{ints, clamps}
@@ -10,25 +11,25 @@ use Rattle.pf_num.specs.Fx.{saturate, sum, difference}
 use Rattle.pf_num.proofs.Roots.{whole_root-meets, root_below}
 use Rattle.pf_rot.specs.Vector.{V2, sub, length_of}
 use Rattle.pf_shapes.specs.Fixture.{IsSize}
-use Rattle.pf_manifold.specs.Contact.{Contact}
-use Rattle.pf_manifold.specs.Circles.{circles_apart_by, collide_circles}
-use Rattle.pf_shapes.specs.Laws.{squared, distance_squared}
+use Rattle.pf_manifold.specs.ContactPoint.{ContactPoint}
+use Rattle.pf_manifold.specs.Circles.{circle_contact, collide_circles}
+use Rattle.pf_shapes.specs.Laws.{square, distance_squared}
 use Rattle.pf_manifold.proofs.Closest.{squared_le}
 use Rattle.pf_manifold.proofs.Comparisons.{not_above, tests_above}
 
 -- ---- squares of numbers that are held at the greatest number g
 
-held_is : (d n g : ℕ) → n ≤ g → squared (min d g) < squared n → min d g ≡ d
+held_is : (d n g : ℕ) → n ≤ g → square (min d g) < square n → min d g ≡ d
 held_is d n g h less =
     ⊎_elim
     (λ (far : g < d). absurd
     (let e : min d g ≡ g = omega arith in
-    let square : squared n ≤ squared (min d g) = squared_le n (min d g) (omega arith) in
+    let square : square n ≤ square (min d g) = squared_le n (min d g) (omega arith) in
     omega (arith, square, less)))
     (λ (near : d ≤ g). omega arith)
     (cases_lt g d)
 
-held_squares : (d e n g : ℕ) → n ≤ g → (squared (min d g) + squared (min e g) < squared n) ↔ (squared d + squared e < squared n)
+held_squares : (d e n g : ℕ) → n ≤ g → (square (min d g) + square (min e g) < square n) ↔ (square d + square e < square n)
 held_squares d e n g h = (
   λ less.
       let ed : min d g ≡ d = held_is d n g h (omega (arith, less)) in
@@ -56,11 +57,11 @@ reaches k r h = let e : saturate (pos r) ≤ℤ pos k = omega (arith, ints, clam
 
 -- a whole root, held at the greatest number, is at most k where the number is below the next square
 root_reaches : (k n : ℕ) → k < 36028797018963967
-    → (int_lt (pos k) (saturate (pos (whole_root n))) ≡ false) ↔ (n < squared (k + 1))
+    → (int_lt (pos k) (saturate (pos (whole_root n))) ≡ false) ↔ (n < square (k + 1))
 root_reaches k n h = (
   λ e.
       let low : whole_root n ≤ k = at_most k (whole_root n) h (not_above (pos k) (saturate (pos (whole_root n))) e) in
-      let square : squared (whole_root n + 1) ≤ squared (k + 1) = squared_le (whole_root n + 1) (k + 1) (omega arith) in
+      let square : square (whole_root n + 1) ≤ square (k + 1) = squared_le (whole_root n + 1) (k + 1) (omega arith) in
       omega (arith, square, (whole_root-meets n).greatest),
   λ less.
       let low : whole_root n < k + 1 = root_below n (k + 1) less in
@@ -76,7 +77,7 @@ sum_of_sizes ra rb ha hb = omega (arith, ints, clamps)
 small_sum : (ra rb : ℤ) → IsSize ra → IsSize rb → unsigned_abs ra + unsigned_abs rb + 1 ≤ 36028797018963967
 small_sum ra rb ha hb = omega (arith, ints)
 
-some_where_not : (t : Bool) (p : Contact) → IsSome (if t then None else Some p) ↔ (t ≡ false)
+some_where_not : (t : Bool) (p : ContactPoint) → IsSome (if t then None else Some p) ↔ (t ≡ false)
 some_where_not true p = (λ e. absurd (cc), λ e. absurd (cc))
 some_where_not false p = (λ e. refl, λ e. refl)
 
@@ -84,7 +85,7 @@ then_also : {A B C : Type 0} → A ↔ B → B ↔ C → A ↔ C
 then_also f g = (λ a. g.0 (f.0 a), λ c. f.1 (g.1 c))
 
 distance_reaches : (a b : V2) (k : ℕ) → k + 1 ≤ 36028797018963967
-    → (int_lt (pos k) (length_of (sub b a)) ≡ false) ↔ (distance_squared a b < squared (k + 1))
+    → (int_lt (pos k) (length_of (sub b a)) ≡ false) ↔ (distance_squared a b < square (k + 1))
 unfolding length_of sub
 distance_reaches a b k h =
     rw (magnitude-difference b.x a.x, magnitude-difference b.y a.y)
@@ -92,8 +93,8 @@ distance_reaches a b k h =
     (held_squares (unsigned_abs (a.x -ℤ b.x)) (unsigned_abs (a.y -ℤ b.y)) (k + 1) 36028797018963967 h))
 
 pub circles_meet : (a b : V2) (ra rb : ℤ) → IsSize ra → IsSize rb
-    → IsSome (collide_circles a ra b rb) ↔ (distance_squared a b < squared (unsigned_abs ra + unsigned_abs rb + 1))
-unfolding collide_circles circles_apart_by
+    → IsSome (collide_circles a ra b rb) ↔ (distance_squared a b < square (unsigned_abs ra + unsigned_abs rb + 1))
+unfolding collide_circles circle_contact
 circles_meet a b ra rb ha hb =
     rw (sum_of_sizes ra rb ha hb)
     (then_also (some_where_not _ _)

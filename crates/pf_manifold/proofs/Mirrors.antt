@@ -5,6 +5,7 @@ use Rattle.std.proofs.lemmas.Bool.Decides.{nat_tests}
 use Rattle.std.proofs.lemmas.Int.{ints, clamps}
 use Rattle.std.specs.Int.RustNames.{unsigned_abs}
 use Rattle.std.specs.Prelude.{int_lt, ◌==◌, if◌then◌else◌}
+use Rattle.std.specs.Option.{option_map}
 use Rattle.pf_num.specs.Root.{whole_root}
 use Rattle.pf_num.specs.Fx.{saturate, sum, difference}
 use Rattle.pf_num.proofs.Roots.{whole_root-meets}
@@ -12,12 +13,12 @@ use Rattle.pf_num.proofs.Operations.{difference-swap, sum_comm, difference-none,
 use Rattle.pf_num.proofs.Signs.{magnitude-neg}
 use Rattle.pf_rot.specs.Vector.{V2, sub, neg, length_of}
 use Rattle.pf_shapes.specs.declared.fixture.Shape.TheVariants.{Circle, Box}
-use Rattle.pf_manifold.specs.Contact.{Contact}
-use Rattle.pf_manifold.specs.Point.{at_most_one}
-use Rattle.pf_manifold.specs.Placed.{PlacedShape}
-use Rattle.pf_manifold.specs.Circles.{divided, circle_normal, rim_point, circles_apart_by, collide_circles}
+use Rattle.pf_manifold.specs.ContactPoint.{ContactPoint}
+use Rattle.pf_manifold.specs.Manifold.{at_most_one}
+use Rattle.pf_manifold.specs.PlacedShape.{PlacedShape}
+use Rattle.pf_manifold.specs.Circles.{normalize, circle_normal, rim_point, circle_contact, collide_circles}
 use Rattle.pf_manifold.specs.BoxCircle.{collide_box_circle}
-use Rattle.pf_manifold.specs.Collide.{box_at, mirrored, if_mirrored, collide, collide_shapes}
+use Rattle.pf_manifold.specs.Collide.{box_at, mirror_image, collide, collide_shapes}
 use Rattle.pf_manifold.specs.Laws.{IsMirrored}
 
 -- ---- vectors
@@ -58,24 +59,24 @@ some_distance a b apart =
 
 -- ---- circles
 
-divided-negated : (v : V2) (length : ℤ) → 0 < unsigned_abs length → divided (neg v) length ≡ neg (divided v length)
-unfolding divided neg
-divided-negated v length some = rw (quotient-neg v.x length some, quotient-neg v.y length some) refl
+normalize-negated : (v : V2) (length : ℤ) → 0 < unsigned_abs length → normalize (neg v) length ≡ neg (normalize v length)
+unfolding normalize neg
+normalize-negated v length some = rw (quotient-neg v.x length some, quotient-neg v.y length some) refl
 
 normal-negated : (d : V2) (length : ℤ) → 0 < unsigned_abs length → circle_normal (neg d) length ≡ neg (circle_normal d length)
 unfolding circle_normal
 normal-negated d length some =
     let e : (unsigned_abs length == 0) ≡ false = grind (arith, nat_tests) in
-    rw e (divided-negated d length some)
+    rw e (normalize-negated d length some)
 
-mirrored_if : (t : Bool) (p q : Contact) → q.normal ≡ neg p.normal → q.separation ≡ p.separation
+mirrored_if : (t : Bool) (p q : ContactPoint) → q.normal ≡ neg p.normal → q.separation ≡ p.separation
     → IsMirrored (at_most_one (if t then None else Some p)) (at_most_one (if t then None else Some q))
 mirrored_if true p q n s = record { normals = refl; separations = refl }
 mirrored_if false p q n s = record { normals = ap (λ x. x ∷ []) n; separations = ap (λ x. x ∷ []) s }
 
 mirrored_apart : (a b : V2) (ra rb : ℤ) (d : V2) → 0 < unsigned_abs (length_of d)
-    → IsMirrored (at_most_one (circles_apart_by a ra rb d)) (at_most_one (circles_apart_by b rb ra (neg d)))
-unfolding circles_apart_by rim_point
+    → IsMirrored (at_most_one (circle_contact a ra rb d)) (at_most_one (circle_contact b rb ra (neg d)))
+unfolding circle_contact rim_point
 mirrored_apart a b ra rb d some =
     rw (length_of-negated d, sum_comm rb ra)
     (mirrored_if (int_lt (sum ra rb) (length_of d))
@@ -95,8 +96,8 @@ circles_mirror a b ra rb ea eb apart = rw (ea, eb) (mirrored_circles a.position 
 
 -- ---- a box and a circle
 
-mirrored_point : (p : Option Contact) → IsMirrored (at_most_one p) (at_most_one (if_mirrored p))
-unfolding mirrored
+mirrored_point : (p : Option ContactPoint) → IsMirrored (at_most_one p) (at_most_one (option_map mirror_image p))
+unfolding mirror_image
 mirrored_point None = record { normals = refl; separations = refl }
 mirrored_point (Some p) = record { normals = refl; separations = refl }
 

@@ -1,5 +1,5 @@
--- Upright boxes: the other box is seen as it lies, so that there is a gap along an axis exactly where the centres are
--- farther apart along it than the half extents reach.
+-- Upright boxes: the other box is seen as it lies, so that there is a gap along an axis exactly
+-- where the centres are farther apart along it than the half extents reach.
 use Rattle.std.proofs.Common.{◌≡◌, ◌+◌, ◌≤◌, ◌↔◌, ℤ, pos, ◌-ℤ◌, ◌≤ℤ◌, Bool, false, ◌||◌, refl, arith}
 use Rattle.std.proofs.lemmas.Bool.{or_parts}
 use Rattle.std.proofs.lemmas.Int.{ints, clamps}
@@ -14,9 +14,9 @@ use Rattle.pf_rot.specs.Rotation.{upright, unrotate}
 use Rattle.pf_shapes.specs.declared.fixture.Shape.TheVariants.{Box}
 use Rattle.pf_shapes.specs.Fixture.{IsSize, HasSize}
 use Rattle.pf_shapes.specs.Reach.{reach}
-use Rattle.pf_manifold.specs.Placed.{OrientedBox}
-use Rattle.pf_manifold.specs.Separation.{Frames, relative_rotation, frames_apart_by, frames_of, magnitudes, reaches, face_separations, separations_of, has_gap}
-use Rattle.pf_manifold.specs.PlaceLaws.{have_gap, DoOverlap}
+use Rattle.pf_manifold.specs.PlacedShape.{OrientedBox}
+use Rattle.pf_manifold.specs.Separation.{Frames, relative_rotation, frames_at_offset, frames_of, magnitudes, reaches, face_separations, separations_of, has_gap}
+use Rattle.pf_manifold.specs.GeometryLaws.{boxes_have_gap, UprightBoxesOverlap}
 use Rattle.pf_manifold.proofs.Comparisons.{not_above, tests_above}
 
 -- ---- frames
@@ -35,7 +35,7 @@ abbrev as_it_lies : V2 → Frames
 as_it_lies offset = record { in_a = offset; in_b = offset; relative = upright }
 
 frames-upright : (a b : OrientedBox) → a.rotation ≡ upright → b.rotation ≡ upright → frames_of a b ≡ as_it_lies (sub b.position a.position)
-unfolding frames_of frames_apart_by sub
+unfolding frames_of frames_at_offset sub
 frames-upright a b ea eb =
     let e = unrotated-upright (sub b.position a.position) (difference-raw b.position.x a.position.x) (difference-raw b.position.y a.position.y) in
     rw (ea, eb, e, relative-upright) refl
@@ -85,7 +85,7 @@ tests_of a b d =
     || int_lt (pos 0) (apart_along b.half.x a.half.x d.x) || int_lt (pos 0) (apart_along b.half.y a.half.y d.y)
 
 gap-upright : (a b : OrientedBox) → a.rotation ≡ upright → b.rotation ≡ upright → HasSize (Box a.half.x a.half.y) → HasSize (Box b.half.x b.half.y)
-    → have_gap a b ≡ tests_of a b (sub b.position a.position)
+    → boxes_have_gap a b ≡ tests_of a b (sub b.position a.position)
 unfolding has_gap separations_of
 gap-upright a b ea eb ha hb =
     rw (
@@ -95,7 +95,7 @@ gap-upright a b ea eb ha hb =
     ) refl
 
 gap_tests : (a b : OrientedBox) → HasSize (Box a.half.x a.half.y) → HasSize (Box b.half.x b.half.y)
-    → (tests_of a b (sub b.position a.position) ≡ false) ↔ DoOverlap a b
+    → (tests_of a b (sub b.position a.position) ≡ false) ↔ UprightBoxesOverlap a b
 unfolding sub
 gap_tests a b ha hb =
     let dx = difference b.position.x a.position.x in
@@ -117,5 +117,5 @@ gap_tests a b ha hb =
     )
 
 pub upright_boxes_meet : (a b : OrientedBox) → a.rotation ≡ upright → b.rotation ≡ upright → HasSize (Box a.half.x a.half.y)
-    → HasSize (Box b.half.x b.half.y) → (have_gap a b ≡ false) ↔ DoOverlap a b
+    → HasSize (Box b.half.x b.half.y) → (boxes_have_gap a b ≡ false) ↔ UprightBoxesOverlap a b
 upright_boxes_meet a b ea eb ha hb = rw (gap-upright a b ea eb ha hb) (gap_tests a b ha hb)

@@ -1,7 +1,7 @@
 -- What the contracts of this crate cite.
-pub mod Contact
-pub mod Point
-pub mod Placed
+pub mod ContactPoint
+pub mod Manifold
+pub mod PlacedShape
 pub mod Face
 pub mod Circles
 pub mod BoxCircle
@@ -13,4 +13,4 @@ pub mod Boxes
 pub mod Collide
 pub mod Laws
 pub mod Touches
-pub mod PlaceLaws
+pub mod GeometryLaws

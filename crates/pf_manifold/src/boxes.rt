@@ -1,15 +1,15 @@
 //! Two boxes, as Box2D-Lite's Collide.cpp.
 
 ghost use Rattle.std.specs.Prelude.{◌≡◌, ◌<◌};
-ghost use Rattle.pf_manifold.specs.Point.{points_of};
-ghost use Rattle.pf_manifold.specs.Boxes.{face_normal, reference_normal, vertex_feature, vertex_point, vertex_contact, ascending, edge_points, reference_points, points_along, collide_boxes, first_face};
+ghost use Rattle.pf_manifold.specs.Manifold.{points_of};
+ghost use Rattle.pf_manifold.specs.Boxes.{face_normal, reference_normal, vertex_feature, vertex_point, vertex_contact, ascending_points, edge_points, reference_points, points_along, collide_boxes, first_face_number};
 
-use crate::clip::clipped;
+use crate::clip::clip;
+use crate::contact_point::ContactPoint;
 use crate::face::Face;
-use crate::incident::{Mark, Vertex, incident_edge, incident_segment, mark_number};
+use crate::incident::{ClipVertex, Mark, incident_edge, incident_segment, mark_number};
 use crate::manifold::{Manifold, at_most_one};
-use crate::placed::PlacedBox;
-use crate::point::Point;
+use crate::placed_shape::OrientedBox;
 use crate::reference::{Owner, Reference, reference_of};
 use crate::separation::{Frames, Separations, best_axis, frames_of, has_gap, separations_of};
 use pf_num::Fx;
@@ -33,7 +33,8 @@ fn face_normal(face: Face, q: Rot) -> V2
     }
 }
 
-/// The outward normal of the reference face, the other way where it is one of `b`.
+/// The normal from `a` to `b`: the outward normal of the reference face, negated where that is a
+/// face of `b`.
 #[inline]
 #[tactic(auto, unfolding(crate::specs::Boxes::reference_normal))]
 fn reference_normal(r: &Reference) -> V2
@@ -47,10 +48,10 @@ fn reference_normal(r: &Reference) -> V2
     }
 }
 
-/// The number of the first face of this box: those of `b` come after those of `a`.
+/// The number of the first face of this box: 0 for `a`, 4 for `b`.
 #[inline]
-fn first_face(owner: Owner) -> u8
-    ensures value { result ≡ first_face owner }
+fn first_face_number(owner: Owner) -> u8
+    ensures value { result ≡ first_face_number owner }
     ensures bound { result < 5 }
 {
     match owner {
@@ -59,25 +60,26 @@ fn first_face(owner: Owner) -> u8
     }
 }
 
-/// The feature of a vertex: 0 to 127.
+/// The feature of a vertex, as Box2D-Lite's `FeaturePair`: 0 to 127, by the reference face, the
+/// incident edge and the mark.
 #[inline]
 #[tactic(auto, unfolding(crate::specs::Boxes::vertex_feature))]
 fn vertex_feature(r: &Reference, edge: Face, mark: Mark) -> u8
     ensures { result ≡ vertex_feature r.now edge mark }
 {
-    let face = first_face(r.owner) + r.face.number();
+    let face = first_face_number(r.owner) + r.face.number();
     16 * face + 4 * edge.number() + mark_number(mark)
 }
 
-/// The point on the reference face next to a vertex.
+/// The contact point of a vertex, moved to the reference face.
 #[inline]
 #[tactic(auto, unfolding(crate::specs::Boxes::vertex_point))]
-fn vertex_point(r: &Reference, edge: Face, v: Vertex, separation: Fx) -> Point
+fn vertex_point(r: &Reference, edge: Face, v: ClipVertex, separation: Fx) -> ContactPoint
     ensures { result ≡ vertex_point r.now edge v separation }
 {
     let at = r.at;
     let front = r.face.front_extent(at.half);
-    Point {
+    ContactPoint {
         feature: vertex_feature(r, edge, v.mark),
         position: at.to_world(r.face.from_parts(front, v.side)),
         normal: reference_normal(r),
@@ -85,10 +87,10 @@ fn vertex_point(r: &Reference, edge: Face, v: Vertex, separation: Fx) -> Point
     }
 }
 
-/// The point of a vertex that isn't in front of the reference face.
+/// The contact point of a vertex, if that isn't in front of the reference face.
 #[inline]
 #[tactic(auto, unfolding(crate::specs::Boxes::vertex_contact))]
-fn vertex_contact(r: &Reference, edge: Face, v: Vertex) -> Option<Point>
+fn vertex_contact(r: &Reference, edge: Face, v: ClipVertex) -> Option<ContactPoint>
     ensures { result ≡ vertex_contact r.now edge v }
 {
     let at = r.at;
@@ -99,11 +101,11 @@ fn vertex_contact(r: &Reference, edge: Face, v: Vertex) -> Option<Point>
     Some(vertex_point(r, edge, v, separation))
 }
 
-/// The manifold of these points, in ascending order of features.
+/// The manifold of these points, in ascending order of their features.
 #[inline]
-#[tactic(auto, unfolding(crate::specs::Boxes::ascending))]
-fn ascending(first: Option<Point>, second: Option<Point>) -> Manifold
-    ensures { points_of result ≡ ascending first second }
+#[tactic(auto, unfolding(crate::specs::Boxes::ascending_points))]
+fn ascending_points(first: Option<ContactPoint>, second: Option<ContactPoint>) -> Manifold
+    ensures { points_of result ≡ ascending_points first second }
 {
     match (first, second) {
         (Some(p), Some(q)) => {
@@ -117,23 +119,23 @@ fn ascending(first: Option<Point>, second: Option<Point>) -> Manifold
     }
 }
 
-/// The points of this edge of the incident box.
+/// The contact points of this edge of the incident box.
 #[inline]
 #[tactic(auto, unfolding(crate::specs::Boxes::edge_points))]
 fn edge_points(r: &Reference, edge: Face) -> Manifold
     ensures { points_of result ≡ edge_points r.now edge }
 {
     let at = r.at;
-    match clipped(incident_segment(r, edge), r.face.side_part(at.half)) {
+    match clip(incident_segment(r, edge), r.face.side_part(at.half)) {
         None => Manifold::Apart,
         Some(s) => {
             let first = vertex_contact(r, edge, s.first);
-            ascending(first, vertex_contact(r, edge, s.second))
+            ascending_points(first, vertex_contact(r, edge, s.second))
         }
     }
 }
 
-/// The points of the incident edge.
+/// The contact points of the incident edge.
 #[inline]
 #[tactic(auto, unfolding(crate::specs::Boxes::reference_points))]
 fn reference_points(r: &Reference) -> Manifold
@@ -142,10 +144,10 @@ fn reference_points(r: &Reference) -> Manifold
     edge_points(r, incident_edge(r))
 }
 
-/// The points of boxes with these separations.
+/// The contact points of boxes with these frames and separations.
 #[inline]
 #[tactic(auto, unfolding(crate::specs::Boxes::points_along))]
-fn points_along(a: &PlacedBox, b: &PlacedBox, frames: &Frames, s: &Separations) -> Manifold
+fn points_along(a: &OrientedBox, b: &OrientedBox, frames: &Frames, s: &Separations) -> Manifold
     ensures { points_of result ≡ points_along a.now b.now frames.now s.now }
 {
     if has_gap(s) {
@@ -155,9 +157,9 @@ fn points_along(a: &PlacedBox, b: &PlacedBox, frames: &Frames, s: &Separations) 
     reference_points(&reference_of(a, b, frames, axis))
 }
 
-/// The points of two boxes.
+/// The contact points of two boxes.
 #[tactic(auto, unfolding(crate::specs::Boxes::collide_boxes))]
-pub fn collide_boxes(a: &PlacedBox, b: &PlacedBox) -> Manifold
+pub fn collide_boxes(a: &OrientedBox, b: &OrientedBox) -> Manifold
     ensures { points_of result ≡ collide_boxes a.now b.now }
 {
     let frames = frames_of(a, b);

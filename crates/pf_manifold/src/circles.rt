@@ -1,17 +1,17 @@
 //! Two circles, as Box2D 2.x's `b2CollideCircles`.
 
 ghost use Rattle.std.specs.Prelude.{◌≡◌};
-ghost use Rattle.pf_manifold.specs.Circles.{divided, circle_normal, rim_point, circles_apart_by, collide_circles};
+ghost use Rattle.pf_manifold.specs.Circles.{normalize, circle_normal, rim_point, circle_contact, collide_circles};
 
-use crate::point::Point;
+use crate::contact_point::ContactPoint;
 use pf_num::Fx;
 use pf_rot::V2;
 
-/// A vector divided by its length.
+/// A vector divided by its length, by part.
 #[inline]
-#[tactic(auto, unfolding(crate::specs::Circles::divided))]
-pub fn divided(v: V2, length: Fx) -> V2
-    ensures { result ≡ divided v length }
+#[tactic(auto, unfolding(crate::specs::Circles::normalize))]
+pub fn normalize(v: V2, length: Fx) -> V2
+    ensures { result ≡ normalize v length }
 {
     V2 {
         x: v.x.div(length),
@@ -19,7 +19,8 @@ pub fn divided(v: V2, length: Fx) -> V2
     }
 }
 
-/// The normal of circles whose centres are apart by `d`: along it, and upwards where they are one position.
+/// The normal of circles whose centres differ by `d`: its direction, and upwards where the centres
+/// coincide.
 #[inline]
 #[tactic(auto, unfolding(crate::specs::Circles::circle_normal))]
 fn circle_normal(d: V2, length: Fx) -> V2
@@ -31,17 +32,17 @@ fn circle_normal(d: V2, length: Fx) -> V2
             y: Fx::ONE,
         }
     } else {
-        divided(d, length)
+        normalize(d, length)
     }
 }
 
-/// The point on the rim of a circle along this normal.
+/// The contact point on the rim of the first circle, along this normal.
 #[inline]
 #[tactic(auto, unfolding(crate::specs::Circles::rim_point))]
-fn rim_point(position: V2, r: Fx, normal: V2, separation: Fx) -> Point
+fn rim_point(position: V2, r: Fx, normal: V2, separation: Fx) -> ContactPoint
     ensures { result ≡ rim_point position r normal separation }
 {
-    Point {
+    ContactPoint {
         feature: 0,
         position: position.add(normal.scale(r)),
         normal,
@@ -49,11 +50,11 @@ fn rim_point(position: V2, r: Fx, normal: V2, separation: Fx) -> Point
     }
 }
 
-/// The point of circles whose centres are apart by `d`, if they touch.
+/// The contact point of circles whose centres differ by `d`, if they touch.
 #[inline]
-#[tactic(auto, unfolding(crate::specs::Circles::circles_apart_by))]
-fn circles_apart_by(position: V2, ra: Fx, rb: Fx, d: V2) -> Option<Point>
-    ensures { result ≡ circles_apart_by position ra rb d }
+#[tactic(auto, unfolding(crate::specs::Circles::circle_contact))]
+fn circle_contact(position: V2, ra: Fx, rb: Fx, d: V2) -> Option<ContactPoint>
+    ensures { result ≡ circle_contact position ra rb d }
 {
     let length = d.length();
     let reach = ra.add(rb);
@@ -64,10 +65,10 @@ fn circles_apart_by(position: V2, ra: Fx, rb: Fx, d: V2) -> Option<Point>
     Some(rim_point(position, ra, normal, length.sub(reach)))
 }
 
-/// The point of the circles at `a` and `b`, of radii `ra` and `rb`, if they touch.
+/// The contact point of the circles at `a` and `b`, of radii `ra` and `rb`, if they touch.
 #[tactic(auto, unfolding(crate::specs::Circles::collide_circles))]
-pub fn collide_circles(a: V2, ra: Fx, b: V2, rb: Fx) -> Option<Point>
+pub fn collide_circles(a: V2, ra: Fx, b: V2, rb: Fx) -> Option<ContactPoint>
     ensures { result ≡ collide_circles a ra b rb }
 {
-    circles_apart_by(a, ra, rb, b.sub(a))
+    circle_contact(a, ra, rb, b.sub(a))
 }

@@ -1,7 +1,7 @@
 //! The faces of a box, as the edges of Box2D-Lite's Collide.cpp.
 
 ghost use Rattle.std.specs.Prelude.{◌≡◌, ◌<◌};
-ghost use Rattle.pf_manifold.specs.Face.{face_number, front_extent, side_part, front_part, from_parts, outward};
+ghost use Rattle.pf_manifold.specs.Face.{face_number, front_extent, side_part, front_part, from_parts, outward_normal};
 
 use pf_num::Fx;
 use pf_rot::V2;
@@ -17,7 +17,7 @@ pub enum Face {
 
 impl Face {
     ghost use Rattle.std.specs.Prelude.{◌≡◌, ◌<◌};
-    ghost use Rattle.pf_manifold.specs.Face.{face_number, front_extent, side_part, front_part, from_parts, outward};
+    ghost use Rattle.pf_manifold.specs.Face.{face_number, front_extent, side_part, front_part, from_parts, outward_normal};
 
     /// 0 to 3.
     #[inline]
@@ -33,7 +33,7 @@ impl Face {
         }
     }
 
-    /// How far the face is from the centre of a box of these half extents.
+    /// The distance of the face from the centre of a box of these half extents.
     #[inline]
     pub fn front_extent(self, half: V2) -> Fx
         ensures { result ≡ front_extent self half }
@@ -44,7 +44,7 @@ impl Face {
         }
     }
 
-    /// The part of a vector along the face.
+    /// The coordinate of a vector along the face.
     #[inline]
     pub fn side_part(self, v: V2) -> Fx
         ensures { result ≡ side_part self v }
@@ -55,7 +55,7 @@ impl Face {
         }
     }
 
-    /// The part of a vector along the outward normal.
+    /// The coordinate of a vector along the outward normal.
     #[inline]
     pub fn front_part(self, v: V2) -> Fx
         ensures { result ≡ front_part self v }
@@ -68,7 +68,7 @@ impl Face {
         }
     }
 
-    /// The vector with these parts along the outward normal and along the face.
+    /// The vector with these coordinates along the outward normal and along the face.
     #[inline]
     pub fn from_parts(self, front: Fx, side: Fx) -> V2
         ensures { result ≡ from_parts self front side }
@@ -89,8 +89,8 @@ impl Face {
 
     /// The outward normal in the box's own axes.
     #[inline]
-    pub fn outward(self) -> V2
-        ensures { result ≡ outward self }
+    pub fn outward_normal(self) -> V2
+        ensures { result ≡ outward_normal self }
     {
         let (x, y) = (Fx::ONE, Fx::ZERO);
         match self {

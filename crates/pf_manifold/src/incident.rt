@@ -1,7 +1,7 @@
 //! The incident edge, as Box2D-Lite's `ComputeIncidentEdge`.
 
 ghost use Rattle.std.specs.Prelude.{◌≡◌, ◌<◌};
-ghost use Rattle.pf_manifold.specs.Incident.{ClipVertex, Segment as SegmentOf, inward, edge_along, incident_edge, first_corner, second_corner, mark_number, vertex_of, corner_vertex, incident_segment};
+ghost use Rattle.pf_manifold.specs.Incident.{ClipVertex, Segment, inward_normal, edge_along, incident_edge, first_corner, second_corner, mark_number, vertex_of, corner_vertex, incident_segment};
 
 use crate::face::Face;
 use crate::reference::Reference;
@@ -9,7 +9,8 @@ use pf_num::Fx;
 use pf_rot::{Rot, V2};
 use std::marker::Model;
 
-/// What made a point of the incident edge: it is one of the edge's ends, or where a limit cuts it.
+/// The origin of a vertex, for its feature: an end of the incident edge, or a crossing with a side
+/// of the reference face.
 #[derive(Clone, Copy)]
 pub enum Mark {
     First,
@@ -18,18 +19,20 @@ pub enum Mark {
     CutHigh,
 }
 
-/// A point of the incident edge in the directions of the reference face, as Box2D's `b2ClipVertex`.
+/// A vertex of the incident edge in the coordinates of the reference face, as Box2D's
+/// `b2ClipVertex`.
 #[derive(Clone, Copy)]
-pub struct Vertex {
-    /// How far it is in front of the reference box's centre, in units of 2^-24 of a length.
+pub struct ClipVertex {
+    /// The coordinate along the reference normal, from the reference box's centre, in units of
+    /// 2^-24 of a length.
     pub front: Fx,
-    /// How far it is to the side.
+    /// The coordinate along the reference face.
     pub side: Fx,
-    /// What made it.
+    /// The origin.
     pub mark: Mark,
 }
 
-impl Model for Vertex {
+impl Model for ClipVertex {
     ghost Value = { ClipVertex };
 
     ghost view = { λ v. record { front = v.front; side = v.side; mark = v.mark } };
@@ -37,15 +40,15 @@ impl Model for Vertex {
     ghost inverse = { λ v. record { front = v.front; side = v.side; mark = v.mark } };
 }
 
-/// What is left of the incident edge.
+/// A part of the incident edge.
 #[derive(Clone, Copy)]
 pub struct Segment {
-    pub first: Vertex,
-    pub second: Vertex,
+    pub first: ClipVertex,
+    pub second: ClipVertex,
 }
 
 impl Model for Segment {
-    ghost Value = { SegmentOf };
+    ghost Value = { Segment };
 
     ghost view = { λ s. record { first = s.first; second = s.second } };
 
@@ -66,11 +69,12 @@ pub fn mark_number(mark: Mark) -> u8
     }
 }
 
-/// The way into the reference face, in the axes of the incident box, which is turned by `q`.
+/// The inward normal of the reference face in the axes of the incident box, of the relative
+/// rotation `q`.
 #[inline]
-#[tactic(auto, unfolding(crate::specs::Incident::inward))]
-fn inward(face: Face, q: Rot) -> V2
-    ensures { result ≡ inward face q }
+#[tactic(auto, unfolding(crate::specs::Incident::inward_normal))]
+fn inward_normal(face: Face, q: Rot) -> V2
+    ensures { result ≡ inward_normal face q }
 {
     let (c, s) = (q.c, q.s);
     match face {
@@ -84,8 +88,8 @@ fn inward(face: Face, q: Rot) -> V2
     }
 }
 
-/// The edge that looks most in the direction `n`: one of those on the right and left only where that is
-/// more along x than along y.
+/// The edge whose outward normal is closest to the direction `n`: right or left only where `n` is
+/// longer along x than along y.
 #[inline]
 #[tactic(auto, unfolding(crate::specs::Incident::edge_along))]
 fn edge_along(n: V2) -> Face
@@ -104,16 +108,16 @@ fn edge_along(n: V2) -> Face
     }
 }
 
-/// The edge of the incident box that faces the reference face most.
+/// The incident edge: the one whose outward normal is most against the reference normal.
 #[inline]
 #[tactic(auto, unfolding(crate::specs::Incident::incident_edge))]
 pub fn incident_edge(r: &Reference) -> Face
     ensures { result ≡ incident_edge r.now }
 {
-    edge_along(inward(r.face, r.relative))
+    edge_along(inward_normal(r.face, r.relative))
 }
 
-/// The first end of an edge, counterclockwise, in the axes of its box.
+/// The first end of an edge, counterclockwise, in the axes of its box of these half extents.
 #[inline]
 fn first_corner(edge: Face, half: V2) -> V2
     ensures { result ≡ first_corner edge half }
@@ -147,29 +151,29 @@ fn second_corner(edge: Face, half: V2) -> V2
     }
 }
 
-/// A position in the reference box's axes as a point of the edge.
+/// A position in the reference box's axes, as a vertex.
 #[inline]
 #[tactic(auto, unfolding(crate::specs::Incident::vertex_of))]
-fn vertex_of(face: Face, mark: Mark, v: V2) -> Vertex
+fn vertex_of(face: Face, mark: Mark, v: V2) -> ClipVertex
     ensures { result ≡ vertex_of face mark v }
 {
-    Vertex {
+    ClipVertex {
         front: face.front_part(v),
         side: face.side_part(v),
         mark,
     }
 }
 
-/// A corner of the incident box as a point of the edge.
+/// A corner of the incident box, as a vertex.
 #[inline]
 #[tactic(auto, unfolding(crate::specs::Incident::corner_vertex))]
-fn corner_vertex(r: &Reference, mark: Mark, corner: V2) -> Vertex
+fn corner_vertex(r: &Reference, mark: Mark, corner: V2) -> ClipVertex
     ensures { result ≡ corner_vertex r.now mark corner }
 {
     vertex_of(r.face, mark, r.offset.add(r.relative.rotate(corner)))
 }
 
-/// The whole of this edge of the incident box.
+/// This edge of the incident box.
 #[inline]
 #[tactic(auto, unfolding(crate::specs::Incident::incident_segment))]
 pub fn incident_segment(r: &Reference, edge: Face) -> Segment

@@ -1,25 +1,25 @@
-//! Contact points of circles and boxes, by their outlines, positions and rotations.
+//! The narrow phase: contact points of circles and boxes, by their shapes, positions and rotations.
 #![tactic(auto)]
 
 mod box_circle;
 mod boxes;
 mod circles;
 mod clip;
+mod contact_point;
 mod face;
 mod incident;
 pub mod laws;
 mod manifold;
 mod narrow_phase;
-mod placed;
-mod point;
+mod placed_shape;
 mod reference;
 mod separation;
 mod touch;
 
+pub use contact_point::ContactPoint;
 pub use manifold::Manifold;
 pub use narrow_phase::collide;
-pub use placed::Placed;
-pub use point::Point;
+pub use placed_shape::PlacedShape;
 pub use touch::{Touch, collide_list};
 
 #[cfg(test)]

@@ -1,24 +1,24 @@
-//! The manifold of two bodies: where they touch, as Box2D 2.x's `b2Manifold`.
+//! The manifold of two bodies, as Box2D 2.x's `b2Manifold`.
 
 ghost use Rattle.std.specs.Prelude.{◌≡◌};
-ghost use Rattle.pf_manifold.specs.Point.{points_of, at_most_one};
+ghost use Rattle.pf_manifold.specs.Manifold.{points_of, at_most_one};
 
-use crate::point::Point;
+use crate::contact_point::ContactPoint;
 
-/// The points of two bodies, in ascending order of their features.
+/// The contact points of two bodies, in ascending order of their features.
 #[derive(Clone, Copy, Debug, PartialEq, Eq)]
 pub enum Manifold {
-    /// The bodies touch nowhere.
+    /// The bodies don't touch.
     Apart,
     /// They touch at one point.
-    One(Point),
-    /// They touch at two points, the one of the lesser feature first.
-    Two(Point, Point),
+    One(ContactPoint),
+    /// They touch at two points, that of the lesser feature first.
+    Two(ContactPoint, ContactPoint),
 }
 
 /// The manifold of no point, or of one.
 #[inline]
-pub fn at_most_one(point: Option<Point>) -> Manifold
+pub fn at_most_one(point: Option<ContactPoint>) -> Manifold
     ensures { points_of result ≡ at_most_one point }
 {
     match point {

@@ -1,10 +1,10 @@
 //! The reference box and its reference face, as Box2D's `b2CollidePolygons`.
 
 ghost use Rattle.std.specs.Prelude.{◌≡◌};
-ghost use Rattle.pf_manifold.specs.Reference.{Reference as ReferenceBox, face_towards, reference_a, reference_b, reference_of};
+ghost use Rattle.pf_manifold.specs.Reference.{Reference, face_towards, reference_a, reference_b, reference_of};
 
 use crate::face::Face;
-use crate::placed::PlacedBox;
+use crate::placed_shape::OrientedBox;
 use crate::separation::{Axis, Frames};
 use pf_num::Fx;
 use pf_rot::{Rot, V2};
@@ -17,14 +17,15 @@ pub enum Owner {
     BoxB,
 }
 
-/// The reference box, to whose face the best axis is normal, and the other, incident box as it sees it.
+/// The reference box, a face of which has the best axis as its normal, and the other, incident box
+/// in its axes.
 #[derive(Drop)]
 pub struct Reference<'a> {
-    /// Which of the two it is.
+    /// Which of the two boxes it is.
     pub owner: Owner,
-    /// The box itself.
-    pub at: &'a PlacedBox,
-    /// Its face towards the incident box.
+    /// The box.
+    pub at: &'a OrientedBox,
+    /// The reference face: its face towards the incident box.
     pub face: Face,
     /// The half extents of the incident box.
     pub incident: V2,
@@ -35,12 +36,19 @@ pub struct Reference<'a> {
 }
 
 impl<'a> Model for Reference<'a> {
-    ghost Value = { ReferenceBox };
+    ghost Value = { Reference };
 
-    ghost view = { λ r. record { owner = r.owner; box = r.at.now; face = r.face; incident = r.incident; offset = r.offset; relative = r.relative } };
+    ghost view = { λ r. record {
+      owner = r.owner;
+      box = r.at.now;
+      face = r.face;
+      incident = r.incident;
+      offset = r.offset;
+      relative = r.relative;
+    } };
 }
 
-/// The face on this axis that looks towards the other box, at this offset.
+/// The face on this axis towards the other box, whose centre is at this offset.
 #[inline]
 #[tactic(auto, unfolding(crate::specs::Reference::face_towards))]
 fn face_towards(axis: Axis, offset: V2) -> Face
@@ -67,7 +75,12 @@ fn face_towards(axis: Axis, offset: V2) -> Face
 /// The box `a` as the reference box.
 #[inline]
 #[tactic(auto, unfolding(crate::specs::Reference::reference_a))]
-fn reference_a<'a>(a: &'a PlacedBox, b: &'a PlacedBox, frames: &Frames, axis: Axis) -> Reference<'a>
+fn reference_a<'a>(
+    a: &'a OrientedBox,
+    b: &'a OrientedBox,
+    frames: &Frames,
+    axis: Axis,
+) -> Reference<'a>
     ensures { result ≡ reference_a a.now b.now frames.now axis }
 {
     Reference {
@@ -80,10 +93,16 @@ fn reference_a<'a>(a: &'a PlacedBox, b: &'a PlacedBox, frames: &Frames, axis: Ax
     }
 }
 
-/// The box `b` as the reference box, which sees `a` the other way and turned back.
+/// The box `b` as the reference box: the offset and the sine of the relative rotation change their
+/// signs.
 #[inline]
 #[tactic(auto, unfolding(crate::specs::Reference::reference_b))]
-fn reference_b<'a>(a: &'a PlacedBox, b: &'a PlacedBox, frames: &Frames, axis: Axis) -> Reference<'a>
+fn reference_b<'a>(
+    a: &'a OrientedBox,
+    b: &'a OrientedBox,
+    frames: &Frames,
+    axis: Axis,
+) -> Reference<'a>
     ensures { result ≡ reference_b a.now b.now frames.now axis }
 {
     let offset = frames.in_b.neg();
@@ -104,8 +123,8 @@ fn reference_b<'a>(a: &'a PlacedBox, b: &'a PlacedBox, frames: &Frames, axis: Ax
 #[inline]
 #[tactic(auto, unfolding(crate::specs::Reference::reference_of))]
 pub fn reference_of<'a>(
-    a: &'a PlacedBox,
-    b: &'a PlacedBox,
+    a: &'a OrientedBox,
+    b: &'a OrientedBox,
     frames: &Frames,
     axis: Axis,
 ) -> Reference<'a>

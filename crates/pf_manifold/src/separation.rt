@@ -1,15 +1,15 @@
 //! Separating axes of two boxes, as Box2D-Lite's Collide.cpp.
 
 ghost use Rattle.std.specs.Prelude.{◌≡◌};
-ghost use Rattle.pf_manifold.specs.Separation.{Frames as FramesOf, Separations as SeparationsOf, Candidate as AxisAndSeparation, relative_rotation, frames_apart_by, frames_of, magnitudes, reaches, face_separations, separations_of, has_gap, threshold, better, best_axis};
+ghost use Rattle.pf_manifold.specs.Separation.{Frames, Separations, Candidate, relative_rotation, frames_at_offset, frames_of, magnitudes, reaches, face_separations, separations_of, has_gap, threshold, better_candidate, best_axis};
 
-use crate::placed::PlacedBox;
+use crate::placed_shape::OrientedBox;
 use pf_num::Fx;
 use pf_rot::{Rot, V2};
 use pf_shapes::reach;
 use std::marker::Model;
 
-/// The axes that may separate two boxes: the normals of the faces of `a` and of `b`.
+/// The candidates for a separating axis: the face normals of `a` and of `b`.
 #[derive(Clone, Copy)]
 pub enum Axis {
     AX,
@@ -18,24 +18,24 @@ pub enum Axis {
     BY,
 }
 
-/// The box `b` as the box `a` sees it.
+/// The offset between two boxes in the axes of each, and their relative rotation.
 #[derive(Drop)]
 pub struct Frames {
-    /// The offset of its centre, in the axes of `a`.
+    /// The offset from the centre of `a` to that of `b`, in the axes of `a`.
     pub in_a: V2,
     /// The same offset, in the axes of `b`.
     pub in_b: V2,
-    /// Its rotation in the axes of `a`.
+    /// The rotation of `b` in the axes of `a`.
     pub relative: Rot,
 }
 
 impl Model for Frames {
-    ghost Value = { FramesOf };
+    ghost Value = { Frames };
 
     ghost view = { λ f. record { in_a = f.in_a; in_b = f.in_b; relative = f.relative } };
 }
 
-/// How far two boxes are apart along the axes of each, below 0 where they overlap.
+/// The separations of two boxes along the axes of each, below 0 where they overlap.
 #[derive(Drop)]
 pub struct Separations {
     pub a: V2,
@@ -43,7 +43,7 @@ pub struct Separations {
 }
 
 impl Model for Separations {
-    ghost Value = { SeparationsOf };
+    ghost Value = { Separations };
 
     ghost view = { λ s. record { a = s.a; b = s.b } };
 }
@@ -56,19 +56,20 @@ pub struct Candidate {
 }
 
 impl Model for Candidate {
-    ghost Value = { AxisAndSeparation };
+    ghost Value = { Candidate };
 
     ghost view = { λ c. record { axis = c.axis; separation = c.separation } };
 
     ghost inverse = { λ c. record { axis = c.axis; separation = c.separation } };
 }
 
-/// 0.95: how much of the best separation another one has to be above.
+/// 0.95, Box2D-Lite's `relativeTol`: the factor of the best separation that another one has to
+/// exceed.
 const RELATIVE_TOLERANCE: i64 = 15_938_355;
-/// 0.01: how much of the extent of its box it has to be above that.
+/// 0.01, Box2D-Lite's `absoluteTol`: the factor of the box's half extent that is added to it.
 const ABSOLUTE_TOLERANCE: i64 = 167_772;
 
-/// The rotation `b` as the rotation `a` sees it.
+/// The rotation `b` in the axes of the rotation `a`.
 #[inline]
 #[tactic(auto, unfolding(crate::specs::Separation::relative_rotation))]
 fn relative_rotation(a: Rot, b: Rot) -> Rot
@@ -80,11 +81,11 @@ fn relative_rotation(a: Rot, b: Rot) -> Rot
     }
 }
 
-/// The frames of rotations `a` and `b` whose centres are apart by this offset.
+/// The frames of boxes of the rotations `a` and `b` whose centres differ by this offset.
 #[inline]
-#[tactic(auto, unfolding(crate::specs::Separation::frames_apart_by))]
-fn frames_apart_by(a: Rot, b: Rot, offset: V2) -> Frames
-    ensures { result ≡ frames_apart_by a b offset }
+#[tactic(auto, unfolding(crate::specs::Separation::frames_at_offset))]
+fn frames_at_offset(a: Rot, b: Rot, offset: V2) -> Frames
+    ensures { result ≡ frames_at_offset a b offset }
 {
     Frames {
         in_a: a.unrotate(offset),
@@ -93,16 +94,16 @@ fn frames_apart_by(a: Rot, b: Rot, offset: V2) -> Frames
     }
 }
 
-/// The box `b` as the box `a` sees it.
+/// The frames of two boxes.
 #[inline]
 #[tactic(auto, unfolding(crate::specs::Separation::frames_of))]
-pub fn frames_of(a: &PlacedBox, b: &PlacedBox) -> Frames
+pub fn frames_of(a: &OrientedBox, b: &OrientedBox) -> Frames
     ensures { result ≡ frames_of a.now b.now }
 {
-    frames_apart_by(a.rotation, b.rotation, b.position.sub(a.position))
+    frames_at_offset(a.rotation, b.rotation, b.position.sub(a.position))
 }
 
-/// Each part without its sign.
+/// The absolute values of the parts.
 #[inline]
 #[tactic(auto, unfolding(crate::specs::Separation::magnitudes))]
 fn magnitudes(v: V2) -> V2
@@ -114,7 +115,7 @@ fn magnitudes(v: V2) -> V2
     }
 }
 
-/// How far a box of these half extents, turned by `q`, reaches from its centre along the axes.
+/// The extents along the axes of a box of these half extents, turned by `q`.
 #[inline]
 #[tactic(auto, unfolding(crate::specs::Separation::reaches))]
 fn reaches(q: Rot, half: V2) -> V2
@@ -126,7 +127,8 @@ fn reaches(q: Rot, half: V2) -> V2
     }
 }
 
-/// How far the other box, turned by `q` and off by this offset, is from the faces of a box on its axes.
+/// The separations along the axes of a box from the other box, of the rotation `q` and at this
+/// offset.
 #[inline]
 #[tactic(auto, unfolding(crate::specs::Separation::face_separations))]
 fn face_separations(half: V2, offset: V2, q: Rot, other: V2) -> V2
@@ -147,7 +149,7 @@ pub fn separations_of(a: V2, b: V2, frames: &Frames) -> Separations
     }
 }
 
-/// Whether there is an axis along which the boxes are apart.
+/// Whether there is a separating axis.
 #[inline]
 #[tactic(auto, unfolding(crate::specs::Separation::has_gap))]
 pub fn has_gap(s: &Separations) -> bool
@@ -156,7 +158,8 @@ pub fn has_gap(s: &Separations) -> bool
     s.a.x > Fx::ZERO || s.a.y > Fx::ZERO || s.b.x > Fx::ZERO || s.b.y > Fx::ZERO
 }
 
-/// What another axis has to be above to be better: `h` is the extent of its box.
+/// The separation that another axis has to exceed to replace the best one: `h` is its box's half
+/// extent.
 #[inline]
 #[tactic(auto, unfolding(crate::specs::Separation::threshold))]
 fn threshold(best: Fx, h: Fx) -> Fx
@@ -167,11 +170,11 @@ fn threshold(best: Fx, h: Fx) -> Fx
     relative.mul(best).add(absolute.mul(h))
 }
 
-/// The second candidate where it is above the threshold, else the first.
+/// The new candidate where it exceeds the threshold, else the best one so far.
 #[inline]
-#[tactic(auto, unfolding(crate::specs::Separation::better))]
-fn better(best: Candidate, new: Candidate, h: Fx) -> Candidate
-    ensures { result ≡ better best new h }
+#[tactic(auto, unfolding(crate::specs::Separation::better_candidate))]
+fn better_candidate(best: Candidate, new: Candidate, h: Fx) -> Candidate
+    ensures { result ≡ better_candidate best new h }
 {
     if new.separation > threshold(best.separation, h) {
         new
@@ -180,7 +183,8 @@ fn better(best: Candidate, new: Candidate, h: Fx) -> Candidate
     }
 }
 
-/// The best axis of boxes of half extents `a` and `b`.
+/// The best axis of boxes of the half extents `a` and `b`: the first of greatest separation, up to
+/// the tolerances.
 #[inline]
 #[tactic(auto, unfolding(crate::specs::Separation::best_axis))]
 pub fn best_axis(s: &Separations, a: V2, b: V2) -> Axis
@@ -188,7 +192,7 @@ pub fn best_axis(s: &Separations, a: V2, b: V2) -> Axis
 {
     let candidate = |axis, separation| Candidate { axis, separation };
     let best = candidate(Axis::AX, s.a.x);
-    let best = better(best, candidate(Axis::AY, s.a.y), a.y);
-    let best = better(best, candidate(Axis::BX, s.b.x), b.x);
-    better(best, candidate(Axis::BY, s.b.y), b.y).axis
+    let best = better_candidate(best, candidate(Axis::AY, s.a.y), a.y);
+    let best = better_candidate(best, candidate(Axis::BX, s.b.x), b.x);
+    better_candidate(best, candidate(Axis::BY, s.b.y), b.y).axis
 }

@@ -1,15 +1,14 @@
 //! Worked contact points.
 
 use super::*;
-use pf_broad::{Pair, pairs};
 use pf_num::Fx;
 use pf_rot::{Rot, V2};
-use pf_shapes::{Scene, Shape};
+use pf_shapes::{Pair, Scene, Shape};
 use std::process::Abort;
 use std::test::Fail;
 
-// Answers by a program of its own in Python's whole numbers. A point is its feature, position, normal and
-// separation, and what is no point is all zeros.
+// Answers by a program of its own in Python's whole numbers. A point is its feature, position,
+// normal and separation, and what is no point is all zeros.
 const NONE: [i64; 6] = [0; 6];
 
 fn fx(rt: &impl Abort, raw: i64) -> Fx {
@@ -34,9 +33,9 @@ fn box_of(rt: &impl Abort, hx: i64, hy: i64) -> Shape {
     }
 }
 
-fn body<'a>(rt: &impl Abort, shape: &'a Shape, at: [i64; 4]) -> Placed<'a> {
+fn body<'a>(rt: &impl Abort, shape: &'a Shape, at: [i64; 4]) -> PlacedShape<'a> {
     let pair = vector(rt, at[2], at[3]);
-    Placed {
+    PlacedShape {
         shape,
         position: vector(rt, at[0], at[1]),
         rotation: Rot {
@@ -46,7 +45,7 @@ fn body<'a>(rt: &impl Abort, shape: &'a Shape, at: [i64; 4]) -> Placed<'a> {
     }
 }
 
-fn numbers(p: Point) -> [i64; 6] {
+fn numbers(p: ContactPoint) -> [i64; 6] {
     [
         i64::from(p.feature),
         p.position.x.raw(),
@@ -102,6 +101,9 @@ fn two_boxes(rt: HostRuntime) {
         assert_eq!(&rt; points(collide(&a, &b)), wanted);
     }
     laws::features_ascend();
+    laws::best_axes_are_greatest();
+    laws::incident_edges_face_the_reference();
+    laws::crossings_lie_on_the_line();
     laws::circles_mirror();
     laws::points_touch();
     laws::closest_points_are_closest();
@@ -124,8 +126,8 @@ const CIRCLES: [(i64, [i64; 4], i64, [i64; 4], [i64; 6]); 8] = [
     (36028797018963967, [-36028797018963967, 5, 16777216, 0], 7, [36028797018963967, -1, 16777216, 0], [0, 0, 5, 16777216, 0, 0]),
 ];
 
-// Half extents, position and pair of the box, radius and position of the circle, and their point: in each region
-// outside the box, and next to each face inside it.
+// Half extents, position and pair of the box, radius and position of the circle, and their point:
+// in each region outside the box, and next to each face inside it.
 #[rattlefmt::skip]
 const BOXES_AND_CIRCLES: [([i64; 2], [i64; 4], i64, [i64; 4], [i64; 6]); 21] = [
     ([16777216, 16777216], [0, 0, 16777216, 0], 16777216, [33554432, 33554432, 16777216, 0], NONE),
@@ -151,8 +153,8 @@ const BOXES_AND_CIRCLES: [([i64; 2], [i64; 4], i64, [i64; 4], [i64; 6]); 21] = [
     ([36028797018963967, 36028797018963967], [0, 36028797018963967, 36028797018963967, 0], 0, [0, 76, 16777216, 0], [143, 0, 0, 0, -36028797018963967, 0]),
 ];
 
-// Half extents, position and pair of either box, and their points: with each kind of cut, of faces of either
-// box, and with numbers that are held at the ends of the range.
+// Half extents, position and pair of either box, and their points: with each kind of cut, of faces
+// of either box, and with numbers that are held at the ends of the range.
 #[rattlefmt::skip]
 const BOXES: [([i64; 2], [i64; 4], [i64; 2], [i64; 4], [[i64; 6]; 2]); 20] = [
     ([16777216, 16777216], [0, 0, 16777216, 0], [16777216, 16777216], [25165824, 33554432, 16777216, 0],
@@ -209,7 +211,8 @@ end
 fn points_are_listed_by_pairs(rt: HostRuntime) -> Result<(), Fail> {
     let alloc = rt.alloc();
     let scene = Scene::read(alloc, STANDING)?;
-    let pairs = pairs(alloc, &scene, scene.starts())?;
+    assert!(rt; scene.starts().len() == 3 && scene.fixtures().len() == 3);
+    let pairs = [(0, 1), (0, 2), (1, 2)].map(|(a, b)| Pair { a, b });
     let touches = collide_list(alloc, &scene, scene.starts(), &pairs)?;
     assert_eq!(rt; touches.len(), 1);
     let touch = &touches[0];

@@ -1,58 +1,58 @@
-//! The contact points of a list of pairs, one pair after the other, as Box2D 2.x's `b2ContactManager::Collide`.
+//! The contact points of a list of pairs of bodies, as Box2D 2.x's `b2ContactManager::Collide`.
 
 ghost use Rattle.std.specs.Prelude.{◌≡◌, ◌<◌, ◌++◌, [], All, length, map, Some, IfOk, OnOk, IsOk};
-ghost use Rattle.pf_broad.specs.Laws.{IsPairOf};
-ghost use Rattle.pf_manifold.specs.Point.{points_of};
-ghost use Rattle.pf_manifold.specs.Touches.{Touching, body_at, touching, touches};
+ghost use Rattle.pf_shapes.specs.Pair.{IsPairOf};
+ghost use Rattle.pf_manifold.specs.Manifold.{points_of};
+ghost use Rattle.pf_manifold.specs.Touches.{Touch, placed_shape_at, touch_of, touches};
 
+use crate::contact_point::ContactPoint;
 use crate::manifold::Manifold;
 use crate::narrow_phase::collide;
-use crate::placed::Placed;
-use crate::point::Point;
-use pf_broad::Pair;
-use pf_shapes::{BodyState, Scene};
+use crate::placed_shape::PlacedShape;
+use pf_shapes::{BodyState, Pair, Scene};
 use std::alloc::{AllocError, Global};
 use std::marker::Model;
 
-/// A point where two bodies of a scene touch.
+/// A contact point of two bodies of a scene.
 #[derive(Clone, Copy, Debug)]
 pub struct Touch {
-    /// The number of the first body.
+    /// The number of the first body, which is the lesser.
     pub a: usize,
     /// The number of the second body, which is the greater.
     pub b: usize,
-    /// Where they touch, with the normal from the first to the second.
-    pub point: Point,
+    /// The contact point, with the normal from the first to the second.
+    pub point: ContactPoint,
 }
 
 impl Model for Touch {
-    ghost Value = { Touching };
+    ghost Value = { Touch };
 
     ghost view = { λ t. record { a = t.a; b = t.b; point = t.point } };
 
     ghost inverse = { λ t. record { a = t.a; b = t.b; point = t.point } };
 }
 
-/// The body of this number where it is.
-fn placed<'a>(scene: &'a Scene, bodies: &[BodyState], number: usize) -> Placed<'a>
+/// The shape of the body of this number at its position and rotation.
+fn placed_shape<'a>(scene: &'a Scene, bodies: &[BodyState], number: usize) -> PlacedShape<'a>
     requires bodies { length bodies.now ≡ length scene.now.fixtures }
     requires number { number < length bodies.now }
-    ensures { body_at scene.now.fixtures bodies.now number ≡ Some result }
+    ensures { placed_shape_at scene.now.fixtures bodies.now number ≡ Some result }
 {
     let body = &bodies[number];
-    Placed {
+    PlacedShape {
         shape: scene.fixtures()[number].shape(),
         position: body.position,
         rotation: body.rotation,
     }
 }
 
-/// Adds the points of a pair.
+/// Adds the contact points of a pair. Where there is none it takes no memory.
 fn push_points(touches: &mut Vec<Touch>, pair: &Pair, points: &Manifold) -> Result<(), AllocError>
-    ensures added { OnOk result (touches.new.items ≡ touches.old.items ++ map (touching pair.now) (points_of points.now)) }
-    ensures quiet { points_of points.now ≡ [] → IsOk result }
+    ensures added { OnOk result (touches.new.items
+        ≡ touches.old.items ++ map (touch_of pair.now) (points_of points.now)) }
+    ensures no_memory { points_of points.now ≡ [] → IsOk result }
 {
-    let touch = |point: Point| Touch {
+    let touch = |point: ContactPoint| Touch {
         a: pair.a,
         b: pair.b,
         point,
@@ -68,8 +68,8 @@ fn push_points(touches: &mut Vec<Touch>, pair: &Pair, points: &Manifold) -> Resu
     Ok(())
 }
 
-/// The points where these pairs of bodies touch, in the order of the pairs, and those of one pair in ascending order of
-/// their features. Where no pair touches it takes no memory, and cannot fail.
+/// The contact points of these pairs of bodies, in the order of the pairs, and those of one pair in
+/// ascending order of their features. Where no pair touches it takes no memory, and can't fail.
 pub fn collide_list(
     alloc: Global,
     scene: &Scene,
@@ -78,13 +78,14 @@ pub fn collide_list(
 ) -> Result<Vec<Touch>, AllocError>
     requires bodies { length bodies.now ≡ length scene.now.fixtures }
     requires pairs { All (IsPairOf (length bodies.now)) pairs.now }
-    ensures found { IfOk result (λ found. found.items ≡ touches scene.now.fixtures bodies.now pairs.now) }
-    ensures quiet { touches scene.now.fixtures bodies.now pairs.now ≡ [] → IsOk result }
+    ensures found { IfOk result
+        (λ found. found.items ≡ touches scene.now.fixtures bodies.now pairs.now) }
+    ensures no_memory { touches scene.now.fixtures bodies.now pairs.now ≡ [] → IsOk result }
 {
     let mut touches = Vec::new(alloc);
     for pair in pairs {
-        let a = placed(scene, bodies, pair.a);
-        let b = placed(scene, bodies, pair.b);
+        let a = placed_shape(scene, bodies, pair.a);
+        let b = placed_shape(scene, bodies, pair.b);
         push_points(&mut touches, pair, &collide(&a, &b))?;
     }
     Ok(touches)

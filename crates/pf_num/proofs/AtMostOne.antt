@@ -8,7 +8,7 @@ use Rattle.pf_num.specs.Fx.{quotient}
 use Rattle.pf_num.proofs.Nearest.{nearest-meets}
 use Rattle.pf_num.proofs.Signs.{quotient_is}
 
-at_most : (a b n : ℕ) → a ≤ b → 0 < b → 2 * (n * b) ≤ 2 * (a * 16777216) + b → n ≤ 16777216
+pub at_most : (a b n : ℕ) → a ≤ b → 0 < b → 2 * (n * b) ≤ 2 * (a * 16777216) + b → n ≤ 16777216
 at_most a b n h some high =
     ⊎_elim
     (λ (above : 16777216 < n). let far : (16777216 + 1) * b ≤ n * b = mul-le-mul_right b (omega arith) in absurd (omega (arith, far)))

@@ -8,3 +8,4 @@ pub mod Range
 pub mod Monotone
 pub mod Operations
 pub mod AtMostOne
+pub mod Fractions

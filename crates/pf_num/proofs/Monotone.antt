@@ -1,4 +1,4 @@
--- Rounding keeps the order of numbers and turns with their sign, and so does what holds them in range. So a product
+-- Rounding and saturating are monotone and odd. So a product
 -- with a number from -h to h is at most the product with h.
 use Rattle.std.proofs.Common.{◌≡◌, ℕ, zero, suc, ◌+◌, ◌*◌, ◌<◌, ◌≤◌, ℤ, pos, negsuc, ◌*ℤ◌, neg_ℤ, ◌≤ℤ◌, ◌^◌, refl, sym, ap, ◌∙◌, ⊎_elim, arith}
 use Rattle.std.proofs.lemmas.Bool.{cases_lt}
@@ -6,9 +6,9 @@ use Rattle.std.proofs.lemmas.Int.{ints, clamps, unsigned_abs-mul}
 use Rattle.std.proofs.Math.Nat.{mul-le-mul_left, mul-le-mul_right}
 use Rattle.std.specs.Int.RustNames.{unsigned_abs}
 use Rattle.pf_num.specs.Round.{nearest, near}
-use Rattle.pf_num.specs.Fx.{saturate, product}
+use Rattle.pf_num.specs.Fx.{one, saturate, product, quotient}
 use Rattle.pf_num.proofs.Nearest.{IsNearest, nearest-meets}
-use Rattle.pf_num.proofs.Signs.{near-pos_pos, near-negsuc_pos, nearest-zero, product_in_range}
+use Rattle.pf_num.proofs.Signs.{near-pos_pos, near-negsuc_pos, nearest-zero, product_in_range, positive-eqb}
 
 -- a quotient that rounds below that of a smaller number would be more than a half off
 nearest_ordered : (p r q n m : ℕ) → IsNearest p q n → IsNearest r q m → p < r → n ≤ m
@@ -68,7 +68,7 @@ times_within c p (pos h) low high =
     (rw (unsigned_abs-mul c p) (mul-le-mul_left (unsigned_abs c) (let in_range : unsigned_abs p ≤ h = omega (arith, ints) in in_range)))
 times_within c p (negsuc h) low high = absurd (omega (arith, ints))
 
--- the rounded one, held in range
+-- the rounded and saturated product
 pub product_within : (c p h : ℤ) → neg_ℤ h ≤ℤ p → p ≤ℤ h →
     (neg_ℤ (product (pos (unsigned_abs c)) h) ≤ℤ product c p) × (product c p ≤ℤ product (pos (unsigned_abs c)) h)
 unfolding product
@@ -81,8 +81,8 @@ product_within c p h low high =
       saturated-monotone _ _ (near-monotone (c *ℤ p) k 16777216 (omega arith) exact.1),
     )
 
--- a product of numbers from 0 on, the first at most 1 and the second at most 1024: it isn't held in range, and is at
--- most a half of a unit too small
+-- a product of numbers from 0 on, the first at most 1 and the second at most 1024: it doesn't
+-- saturate, and is at most a half of a unit too small
 pub product_near : (a b : ℕ) → a ≤ 16777216 → b ≤ 17179869184 →
     (n : ℕ) × (product (pos a) (pos b) ≡ pos n) × (2 * (a * b) ≤ 2 * (n * 16777216) + 16777216) × (n ≤ b)
 product_near a b ha hb =
@@ -92,3 +92,25 @@ product_near a b ha hb =
     let rounded : near (pos (a * b)) (pos 16777216) ≡ pos (nearest (a * b) 16777216) = near-pos_pos (a * b) 16777216 in
     let fits : unsigned_abs (near (pos a *ℤ pos b) (pos 16777216)) ≤ 2 ^ 38 = rw rounded (omega arith) in
     (nearest (a * b) 16777216, sym (product_in_range (pos a) (pos b) fits) ∙ rounded, meets.low, short)
+
+-- an exact product with a number from 0 on
+pub times-monotone : (a b c : ℤ) → pos 0 ≤ℤ c → a ≤ℤ b → (a *ℤ c) ≤ℤ (b *ℤ c)
+times-monotone (pos a) (pos b) (pos c) some h = pos_order (a * c) (b * c) (mul-le-mul_right c (omega (arith, ints)))
+times-monotone (negsuc a) (pos b) (pos c) some h = signs_ordered (suc a * c) (b * c)
+times-monotone (negsuc a) (negsuc b) (pos c) some h =
+    turned_order (suc a * c) (suc b * c) (mul-le-mul_right c (omega (arith, ints)))
+times-monotone (pos a) (negsuc b) (pos c) some h = absurd (omega (arith, ints))
+times-monotone a b (negsuc c) some h = absurd (omega (arith, ints))
+
+-- the rounded and saturated product
+pub product-monotone : (a b c : ℤ) → pos 0 ≤ℤ c → a ≤ℤ b → product a c ≤ℤ product b c
+unfolding product
+product-monotone a b c some h =
+    saturated-monotone _ _ (near-monotone (a *ℤ c) (b *ℤ c) 16777216 (omega arith) (times-monotone a b c some h))
+
+-- a quotient by a number above 0
+pub quotient-monotone : (a b : ℤ) (n : ℕ) → 0 < n → a ≤ℤ b → quotient a (pos n) ≤ℤ quotient b (pos n)
+unfolding quotient
+quotient-monotone a b n some h =
+    rw (positive-eqb n some)
+    (saturated-monotone _ _ (near-monotone (a *ℤ one) (b *ℤ one) n some (times-monotone a b one (omega (arith, ints)) h)))

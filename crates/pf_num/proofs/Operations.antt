@@ -66,7 +66,7 @@ quotient_of : (a b : ℤ) → 0 < unsigned_abs b
     → with_sign (is_opposite a b) (min (nearest (unsigned_abs a * 16777216) (unsigned_abs b)) 36028797018963967) ≡ quotient a b
 quotient_of a b some = quotient_is a b _ some refl
 
-quotient-none : (b : ℤ) → 0 < unsigned_abs b → quotient (pos 0) b ≡ pos 0
+pub quotient-none : (b : ℤ) → 0 < unsigned_abs b → quotient (pos 0) b ≡ pos 0
 quotient-none b some = rw (← quotient_of (pos 0) b some, nearest-zero (unsigned_abs b) some) (signed_none (is_opposite (pos 0) b))
 
 -- the quotient of a number's negative
@@ -88,7 +88,7 @@ product-zero b = rw (zero-*ℤ b) refl
 product_of : (a b : ℤ) → with_sign (is_opposite a b) (min (nearest (unsigned_abs a * unsigned_abs b) 16777216) 36028797018963967) ≡ product a b
 product_of a b = product_is a b _ refl
 
-product-neg_left : (a b : ℤ) → product (neg_ℤ a) b ≡ neg_ℤ (product a b)
+pub product-neg_left : (a b : ℤ) → product (neg_ℤ a) b ≡ neg_ℤ (product a b)
 product-neg_left (pos zero) b = rw (product-zero b) refl
 product-neg_left (pos (suc n)) b = rw (← product_of (negsuc n) b, ← product_of (pos (suc n)) b) (opposite-neg n b _)
 product-neg_left (negsuc n) b = rw (← product_of (pos (suc n)) b, ← product_of (negsuc n) b, opposite-neg n b) (omega (arith, ints))

@@ -1,4 +1,4 @@
--- Sums and differences are held in range.
+-- Saturated numbers, sums and differences are in range.
 use Rattle.std.proofs.Common.{ℤ, arith}
 use Rattle.std.proofs.lemmas.Int.{ints, clamps}
 use Rattle.pf_num.specs.Fx.{IsRaw, saturate, sum, difference}

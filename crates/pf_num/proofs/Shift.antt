@@ -43,7 +43,7 @@ shifted-negsuc n k e =
     (⊎_elim (λ below. reaching_zero n k below (shifted-to_zero n k e below) (omega arith))
     (λ reach. from_below n k reach (shifted-down n k e reach)) (cases_lt n k))
 
--- the whole of it, for every number
+-- for every number
 pub shifted_is : (p odd : ℤ) → odd ≡ pos (unsigned_abs (shr_z p 16777216) % 2) → shr_z (p +ℤ pos 8388607 +ℤ odd) 16777216 ≡ near p (pos 16777216)
 shifted_is (pos n) odd e = rw e (ap pos (shifted-up n) ∙ sym (near-pos_pos n 16777216))
 shifted_is (negsuc n) odd e = rw (e, near-negsuc_pos n 16777216) (shifted-negsuc n (8388607 + suc (n / 16777216) % 2) refl)

@@ -36,13 +36,13 @@ pub near-negsuc_negsuc : (p q : ℕ) → near (negsuc p) (negsuc q) ≡ pos (nea
 unfolding near
 near-negsuc_negsuc p q = refl
 
--- a magnitude held at the greatest is the number held at both ends
+-- a saturated magnitude with its sign is the saturated number
 pub saturated-with_sign : (s : Bool) (n : ℕ) → saturate (with_sign s n) ≡ with_sign s (min n 36028797018963967)
 unfolding saturate
 saturated-with_sign true n = omega (arith, ints, clamps)
 saturated-with_sign false n = omega (arith, ints, clamps)
 
-positive-eqb : (n : ℕ) → 0 < n → eqb n 0 ≡ false
+pub positive-eqb : (n : ℕ) → 0 < n → eqb n 0 ≡ false
 positive-eqb n h = grind (arith, nat_tests)
 
 -- minus a number from 0 on: its magnitude decides
@@ -69,7 +69,7 @@ near-quotient (pos a) (negsuc b) k h = rw (is_negative-pos a) (near-pos_negsuc (
 near-quotient (negsuc a) (pos b) k h = rw (is_negative-pos b) (near-neg (suc a * k) b h)
 near-quotient (negsuc a) (negsuc b) k h = near-neg_negsuc (suc a * k) b
 
--- a product's magnitude, held at the greatest and given its sign
+-- a saturated magnitude of a product, with its sign, is the product
 pub product_is : (a b : ℤ) (m : ℕ) → m ≡ min (nearest (unsigned_abs a * unsigned_abs b) 16777216) 36028797018963967 →
     with_sign (is_opposite a b) m ≡ product a b
 unfolding product
@@ -85,12 +85,18 @@ quotient_is a b m some e =
     rw (positive-eqb (unsigned_abs b) some, e, near-quotient a b 16777216 some)
     (sym (saturated-with_sign (is_opposite a b) (nearest (unsigned_abs a * 16777216) (unsigned_abs b))))
 
+-- of numbers from 0 on
+pub quotient-pos : (p q : ℕ) → 0 < q
+    → quotient (pos p) (pos q) ≡ pos (min (nearest (p * 16777216) q) 36028797018963967)
+quotient-pos p q some =
+    sym (quotient_is (pos p) (pos q) _ some refl) ∙ rw (is_negative-pos p, is_negative-pos q) refl
+
 -- a quotient by 0
 pub quotient-zero : (a : ℤ) → quotient a (pos 0) ≡ int_signum a *ℤ pos 36028797018963967
 unfolding quotient
 quotient-zero a = refl
 
--- a product that rounds to little enough isn't held
+-- a product that rounds to at most 2^38 doesn't saturate
 pub product_in_range : (a b : ℤ) → unsigned_abs (near (a *ℤ b) (pos 16777216)) ≤ 2 ^ 38 → near (a *ℤ b) (pos 16777216) ≡ product a b
 unfolding product saturate
 product_in_range a b h = omega (arith, ints, clamps)

@@ -9,4 +9,6 @@ pub record IsRoot (n r : ℕ) : Type 0 where
 -- the whole root of n: that of the number before n, or one more
 unfoldable pub whole_root : ℕ → ℕ
 whole_root zero = 0
-whole_root (suc n) = if nat_le ((whole_root n + 1) * (whole_root n + 1)) (suc n) then whole_root n + 1 else whole_root n
+whole_root (suc n) =
+    if nat_le ((whole_root n + 1) * (whole_root n + 1)) (suc n) then whole_root n + 1
+    else whole_root n

@@ -1,5 +1,5 @@
--- Rounding to the nearest whole number, and of two that are equally near to the even one: the rule that
--- IEEE 754 calls roundTiesToEven, here over whole numbers of any size.
+-- Rounding to the nearest whole number, and of two that are equally near to the even one: the rule
+-- that IEEE 754 calls roundTiesToEven, here over whole numbers of any size.
 use Rattle.std.specs.Prelude.{◌≡◌, ℕ, ◌+◌, ◌*◌, ◌/◌, ◌%◌, ◌≤◌, ℤ, pos, ◌-ℤ◌, ◌*ℤ◌, neg_ℤ, Bool, true, false, not, nat_lt, if◌then◌else◌}
 use Rattle.std.specs.Bool.{beq}
 use Rattle.std.specs.Int.{is_negative}
@@ -10,7 +10,8 @@ pub record IsNear (p q n : ℤ) : Type 0 where
   pub within : 2 * unsigned_abs (p -ℤ n *ℤ q) ≤ unsigned_abs q
   pub even : 2 * unsigned_abs (p -ℤ n *ℤ q) ≡ unsigned_abs q → unsigned_abs n % 2 ≡ 0
 
--- what a remainder r of the divisor q adds to the quotient n: 1 above a half, and at a half what makes n even
+-- what a remainder r of the divisor q adds to the quotient n: 1 above a half, and at a half what
+-- makes n even
 abbrev pub carry : ℕ → ℕ → ℕ → ℕ
 carry n r q = if nat_lt (2 * r) q then 0 else (if nat_lt q (2 * r) then 1 else n % 2)
 

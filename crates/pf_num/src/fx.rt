@@ -9,13 +9,13 @@ use crate::quotient::{rounded_product, rounded_quotient};
 use crate::root::raw_root;
 use std::marker::Model;
 
-/// The greatest raw number, 2^55 - 1.
-const GREATEST: i64 = crate::quotient::GREATEST as i64;
+/// The greatest raw value, 2^55 - 1.
+const MAX_RAW: i64 = crate::quotient::MAX_RAW as i64;
 
-/// A fixed-point number: a whole number of units of 2^-24, at most 2^55 - 1 of them either way.
+/// A fixed-point number: a raw whole number in units of 2^-24, from -(2^55 - 1) to 2^55 - 1.
 ///
-/// Contracts see it as that whole number. No operation wraps or fails: what is too great or too small
-/// for the range is the range's end.
+/// Contracts see it as that whole number. No operation wraps or fails: a result out of range
+/// saturates.
 #[derive(Clone, Copy, Debug, PartialEq, Eq, PartialOrd, Ord)]
 pub struct Fx {
     raw: i64,
@@ -39,25 +39,25 @@ impl Fx {
     pub const ONE: Fx = Fx { raw: 1 << 24 };
 
     /// The greatest number, 2^55 - 1 units. Its negative is the least.
-    pub const MAX: Fx = Fx { raw: GREATEST };
+    pub const MAX: Fx = Fx { raw: MAX_RAW };
 
     /// The length of a tick, 1/64 of a second.
     pub const TICK: Fx = Fx { raw: 1 << 18 };
 
-    /// The number of so many units of 2^-24, where it is in range.
+    /// The number with this raw value, in units of 2^-24, or `None` where that is out of range.
     #[inline]
     pub const fn from_raw(raw: i64) -> Option<Fx>
         ensures range { IsSome result ↔ IsRaw raw }
         ensures value { IfSome result (λ x. x ≡ raw) }
     {
-        if raw >= -GREATEST && raw <= GREATEST {
+        if raw >= -MAX_RAW && raw <= MAX_RAW {
             Some(Fx { raw })
         } else {
             None
         }
     }
 
-    /// How many units of 2^-24 the number is.
+    /// The raw value, in units of 2^-24.
     #[inline]
     pub const fn raw(self) -> i64
         ensures value { result ≡ self }
@@ -66,29 +66,29 @@ impl Fx {
         self.raw
     }
 
-    /// The sum, held in range.
+    /// The sum, saturated.
     #[inline]
     #[tactic(auto, unfolding(crate::specs::Fx::sum, crate::specs::Fx::saturate))]
     pub fn add(self, other: Fx) -> Fx
         ensures { result ≡ sum self other }
     {
         Fx {
-            raw: (self.raw + other.raw).clamp(-GREATEST, GREATEST),
+            raw: (self.raw + other.raw).clamp(-MAX_RAW, MAX_RAW),
         }
     }
 
-    /// The difference, held in range.
+    /// The difference, saturated.
     #[inline]
     #[tactic(auto, unfolding(crate::specs::Fx::difference, crate::specs::Fx::saturate))]
     pub fn sub(self, other: Fx) -> Fx
         ensures { result ≡ difference self other }
     {
         Fx {
-            raw: (self.raw - other.raw).clamp(-GREATEST, GREATEST),
+            raw: (self.raw - other.raw).clamp(-MAX_RAW, MAX_RAW),
         }
     }
 
-    /// The product, rounded to the nearest even and held in range.
+    /// The product, rounded to the nearest even and saturated.
     #[inline]
     pub fn mul(self, other: Fx) -> Fx
         ensures { result ≡ product self other }
@@ -98,7 +98,7 @@ impl Fx {
         }
     }
 
-    /// The quotient, rounded to the nearest even and held in range. By 0 it is the greatest number
+    /// The quotient, rounded to the nearest even and saturated. By 0 it is the greatest number
     /// with the sign of `self`, and 0 where that is 0.
     #[inline]
     pub fn div(self, other: Fx) -> Fx
@@ -109,7 +109,7 @@ impl Fx {
         }
     }
 
-    /// The root, rounded down, and 0 below 0.
+    /// The square root, rounded down, and 0 for a negative number.
     #[tactic(auto, unfolding(crate::specs::Fx::root))]
     pub fn root(self) -> Fx
         ensures { result ≡ root self }
@@ -130,7 +130,7 @@ impl Fx {
         Fx { raw: -self.raw }
     }
 
-    /// The magnitude.
+    /// The absolute value.
     #[inline]
     pub fn abs(self) -> Fx
         ensures { result ≡ pos (unsigned_abs self) }

@@ -1,8 +1,7 @@
 //! Fixed-point numbers: exact, saturating arithmetic that gives the same bits on every machine.
 //!
-//! A number is a whole number of units of 2^-24. Each operation is its formula: the exact value,
-//! rounded to the nearest unit (ties to even; a root down), held between the least and the greatest
-//! number.
+//! A number is a whole number of units of 2^-24. The result of an operation is the exact value,
+//! rounded to the nearest unit (ties to even; a square root down) and saturated.
 #![tactic(auto)]
 
 mod fx;

@@ -1,4 +1,4 @@
-//! Whole square roots: a guess by Newton's method that is checked, and std's slower root behind it.
+//! Integer square roots: a checked guess by Newton's method, with std's slower root as fallback.
 
 ghost use Rattle.std.specs.Prelude.{◌≡◌, ◌<◌, ◌*◌, ◌^◌, ◌↔◌, IsTrue};
 ghost use Rattle.pf_num.specs.Root.{IsRoot, whole_root};
@@ -23,7 +23,7 @@ pub fn whole_root(n: u128) -> u64
     n.isqrt() as u64
 }
 
-/// The root of a number of so many units of 2^-24, in the same units.
+/// The square root of a raw number, as a raw number, rounded down.
 #[inline]
 #[tactic(auto, using(crate::proofs::Roots::raw_root_below))]
 pub fn raw_root(raw: u64) -> u64
@@ -34,7 +34,7 @@ pub fn raw_root(raw: u64) -> u64
     whole_root(raw as u128 * 16_777_216)
 }
 
-/// Whether a number is the whole root.
+/// Whether `root` is the whole root of `n`.
 #[inline]
 fn is_root(root: u64, n: u128) -> bool
     ensures { IsTrue result ↔ IsRoot n root }
@@ -44,34 +44,35 @@ fn is_root(root: u64, n: u128) -> bool
     square <= n && n - square <= 2 * root
 }
 
-/// A number near the root, by the root of its first byte and two steps of Newton's method. Nothing rests
-/// on it: what it gives is checked.
+/// A guess at the root: the root of the first byte, by a table, and two steps of Newton's method.
+/// No proof depends on it: the guess is checked.
 #[inline]
 fn guess_short(n: u64) -> u64 {
     let shift = n.leading_zeros().min(63) & !1;
     let normal = n << shift;
     let first = u64::from(FIRST_ROOTS[((normal >> 56) & 0xff) as usize]) << 16;
-    let second = nearer(first, normal / first.max(1));
-    nearer(second, normal / second.max(1)) >> (shift / 2)
+    let second = newton_step(first, normal / first.max(1));
+    newton_step(second, normal / second.max(1)) >> (shift / 2)
 }
 
-/// The mean of a number near a root and of the quotient by it, which is nearer.
+/// A step of Newton's method: the mean of a guess at the root and of the quotient by it.
 #[inline]
-fn nearer(root: u64, quotient: u64) -> u64 {
+fn newton_step(root: u64, quotient: u64) -> u64 {
     root.wrapping_add(quotient) / 2
 }
 
-/// The same for a number of more than 64 bits: the root of its first 64, and a step at full length.
+/// A guess for a number of more than 64 bits: the guess for its first 64, and a step at full
+/// length.
 #[inline]
 fn guess_wide(n: u128) -> u64 {
     let half = (65 - n.leading_zeros().min(64)) / 2;
     let first = (n >> (2 * half)) & 0xffff_ffff_ffff_ffff;
     let root = (guess_short(first as u64) << half.min(63)).max(1);
     let quotient = (n / root as u128) & 0xffff_ffff_ffff_ffff;
-    nearer(root, quotient as u64)
+    newton_step(root, quotient as u64)
 }
 
-/// The first 16 bits of the root of a number of 64 bits, by its first byte, which is 64 at least.
+/// The first 16 bits of the root of a 64-bit number, by its first byte, which is at least 64.
 #[rattlefmt::skip]
 static FIRST_ROOTS: [u16; 256] = [
     0, 0, 0, 0, 0, 0, 0, 0, 0, 0, 0, 0,

@@ -4,7 +4,7 @@ use Rattle.clap.specs.Words.{fault_of, subcommand_of}
 use Rattle.pf_text.specs.Streams.{Streams, IfExposed}
 use Rattle.pf_console.specs.declared.request.Request.{Request}
 use Rattle.pf_console.specs.declared.fault.PlayFault.{PlayFault}
-use Rattle.pf_console.specs.Report.{ending_status, ending_text}
+use Rattle.pf_console.specs.Report.{outcome_status, outcome_text}
 use Rattle.pf_console.specs.Request.{Performs}
 use Rattle.pf_play.specs.Options.{ParsesAs, command_line}
 
@@ -33,5 +33,5 @@ pub record Ends (Played Counted : Result (Unit {0}) PlayFault → Type 0) (Repor
   pub outcome : Result (Unit {0}) PlayFault
   pub played : Played outcome
   pub counted : Counted outcome
-  pub reported : Reported (ending_text outcome)
-  pub ends : status ≡ ending_status outcome
+  pub reported : Reported (outcome_text outcome)
+  pub ends : status ≡ outcome_status outcome

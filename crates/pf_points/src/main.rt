@@ -1,11 +1,13 @@
-//! Answers bodies, two lines a case, by whether their bounds overlap and by their contact points. A line is
-//! `circle R X Y C S` or `box HX HY X Y C S`, raw numbers of which C and S are the body's rotation as it is; the answer is
-//! `apart` or `overlap`, a line `point FEATURE X Y NX NY SEPARATION` for each point, and `end`. Its stored run has 400
-//! cases with answers that an independent program gave.
+//! Prints the contact points of pairs of bodies, to compare them with an independent program's.
+//!
+//! Each pair of bodies is two lines, `circle R X Y C S` or `box HX HY X Y C S`, of raw numbers; C
+//! and S are the cosine and sine of the body's rotation, as they are. The output is `apart` or
+//! `overlap`, by the bounds, a line `point FEATURE X Y NX NY SEPARATION` for each contact point,
+//! and `end`. The stored run has 400 pairs, with values by an independent program.
 #![tactic(auto)]
 
 use anyhow::{Context, Result, bail};
-use pf_manifold::{Manifold, Placed, Point, collide};
+use pf_manifold::{ContactPoint, Manifold, PlacedShape, collide};
 use pf_num::Fx;
 use pf_rot::{Rot, V2};
 use pf_shapes::Shape;
@@ -13,7 +15,7 @@ use pf_text::{fields_of, integer, push_line};
 use std::alloc::Global;
 use std::io::{BufRead, BufReader, BufWriter, Write};
 
-/// A body of a case.
+/// A body of a pair.
 #[derive(Drop)]
 struct Body {
     shape: Shape,
@@ -21,13 +23,13 @@ struct Body {
     rotation: Rot,
 }
 
-/// The number that a field spells.
+/// The number that a field encodes.
 fn number(field: &[u8]) -> Result<Fx> {
     let raw = integer(field, Fx::MAX.neg().raw(), Fx::MAX.raw())?;
     Fx::from_raw(raw).context("a number is out of range")
 }
 
-/// The vector that two fields spell.
+/// The vector that two fields encode.
 fn vector(x: &[u8], y: &[u8]) -> Result<V2> {
     Ok(V2 {
         x: number(x)?,
@@ -36,23 +38,26 @@ fn vector(x: &[u8], y: &[u8]) -> Result<V2> {
 }
 
 /// A body of this shape, whose position and rotation are these fields.
-fn placed(shape: Shape, fields: [&[u8]; 4]) -> Result<Body> {
+fn body_at(shape: Shape, fields: [&[u8]; 4]) -> Result<Body> {
     let [x, y, c, s] = fields;
     let position = vector(x, y)?;
     let rotation = vector(c, s)?;
     Ok(Body {
         shape,
         position,
-        rotation: Rot { c: rotation.x, s: rotation.y },
+        rotation: Rot {
+            c: rotation.x,
+            s: rotation.y,
+        },
     })
 }
 
-/// The body that a line says.
-fn body_of(alloc: Global, line: &[u8]) -> Result<Body> {
+/// The body that a line encodes.
+fn parse_body(alloc: Global, line: &[u8]) -> Result<Body> {
     let fields = fields_of(alloc, line)?;
     match fields.as_slice() {
         [word, r, x, y, c, s] if *word == b"circle".as_slice() => {
-            placed(Shape::Circle { r: number(r)? }, [*x, *y, *c, *s])
+            body_at(Shape::Circle { r: number(r)? }, [*x, *y, *c, *s])
         }
         [word, hx, hy, x, y, c, s] if *word == b"box".as_slice() => {
             let half = vector(hx, hy)?;
@@ -60,14 +65,14 @@ fn body_of(alloc: Global, line: &[u8]) -> Result<Body> {
                 hx: half.x,
                 hy: half.y,
             };
-            placed(shape, [*x, *y, *c, *s])
+            body_at(shape, [*x, *y, *c, *s])
         }
         _ => bail!("no such line"),
     }
 }
 
-/// Adds the line of a point.
-fn push_point(text: &mut String, point: &Point) -> Result<()> {
+/// Appends the line of a contact point.
+fn push_point(text: &mut String, point: &ContactPoint) -> Result<()> {
     let numbers = [
         i64::from(point.feature),
         point.position.x.raw(),
@@ -79,7 +84,7 @@ fn push_point(text: &mut String, point: &Point) -> Result<()> {
     Ok(push_line(text, "point", &numbers)?)
 }
 
-/// Adds the lines of points.
+/// Appends the lines of contact points.
 fn push_points(text: &mut String, points: &Manifold) -> Result<()> {
     match points {
         Manifold::Apart => Ok(()),
@@ -91,8 +96,8 @@ fn push_points(text: &mut String, points: &Manifold) -> Result<()> {
     }
 }
 
-/// The answer to two bodies.
-fn answer(alloc: Global, a: &Body, b: &Body) -> Result<String> {
+/// The output for two bodies.
+fn pair_text(alloc: Global, a: &Body, b: &Body) -> Result<String> {
     let mut text = String::new(alloc);
     let bounds_a = a.shape.bounds(a.position, a.rotation, false);
     let bounds_b = b.shape.bounds(b.position, b.rotation, false);
@@ -102,12 +107,12 @@ fn answer(alloc: Global, a: &Body, b: &Body) -> Result<String> {
         "apart"
     };
     push_line(&mut text, word, &[])?;
-    let a = Placed {
+    let a = PlacedShape {
         shape: &a.shape,
         position: a.position,
         rotation: a.rotation,
     };
-    let b = Placed {
+    let b = PlacedShape {
         shape: &b.shape,
         position: b.position,
         rotation: b.rotation,
@@ -122,11 +127,11 @@ fn main(rt: HostRuntime) -> Result<()> {
     let mut writer = BufWriter::new(alloc, std::io::writer(&rt))?;
     let mut first = None;
     for line in BufReader::new(alloc, rt.reader())?.lines(alloc) {
-        let second = body_of(alloc, line?.as_bytes())?;
+        let second = parse_body(alloc, line?.as_bytes())?;
         first = match first {
             None => Some(second),
             Some(first) => {
-                let text = answer(alloc, &first, &second)?;
+                let text = pair_text(alloc, &first, &second)?;
                 write!(writer, "{text}")?;
                 None
             }

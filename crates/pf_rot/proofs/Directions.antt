@@ -1,4 +1,5 @@
--- A direction that is scaled to length 1 has no part above 1: neither part is above the length.
+-- Cosine and sine of a unit rotation are at most 1: neither part of a direction is above its
+-- length.
 use Rattle.std.proofs.Common.{◌≡◌, ℕ, ◌+◌, ◌*◌, ◌<◌, ◌≤◌, ℤ, pos, false, ⊎_elim, arith, eqb}
 use Rattle.std.proofs.lemmas.Bool.{cases_lt}
 use Rattle.std.proofs.lemmas.Bool.Decides.{nat_tests}
@@ -13,9 +14,9 @@ use Rattle.pf_rot.specs.Vector.{length_of}
 use Rattle.pf_rot.specs.Rotation.{Rot, unit_parts, unit, turn_by_angle, turn}
 use Rattle.pf_rot.specs.Laws.{IsAtMostOne}
 
-held_root : (c r : ℕ) → c ≤ 36028797018963967 → c ≤ r → c ≤ unsigned_abs (saturate (pos r))
+root-saturated : (c r : ℕ) → c ≤ 36028797018963967 → c ≤ r → c ≤ unsigned_abs (saturate (pos r))
 unfolding saturate
-held_root c r raw h = omega (arith, ints, clamps)
+root-saturated c r raw h = omega (arith, ints, clamps)
 
 length_reaches : (c s : ℤ) → IsRaw c → IsRaw s →
     (unsigned_abs c ≤ unsigned_abs (length_of (record { x = c; y = s }))) × (unsigned_abs s ≤ unsigned_abs (length_of (record { x = c; y = s })))
@@ -23,8 +24,8 @@ unfolding length_of
 length_reaches c s raw_c raw_s =
     let a = unsigned_abs c in
     let b = unsigned_abs s in (
-      held_root a (whole_root (a * a + b * b)) raw_c (root_from (a * a + b * b) a (omega arith)),
-      held_root b (whole_root (a * a + b * b)) raw_s (root_from (a * a + b * b) b (omega arith)),
+      root-saturated a (whole_root (a * a + b * b)) raw_c (root_from (a * a + b * b) a (omega arith)),
+      root-saturated b (whole_root (a * a + b * b)) raw_s (root_from (a * a + b * b) b (omega arith)),
     )
 
 scaled_at_most_one : (length c s : ℤ) → unsigned_abs c ≤ unsigned_abs length → unsigned_abs s ≤ unsigned_abs length → IsAtMostOne (unit_parts length c s)

@@ -1,9 +1,9 @@
--- What the laws say of rotations.
+-- Words of the laws of rotations.
 use Rattle.std.specs.Prelude.{◌≤◌}
 use Rattle.std.specs.Int.RustNames.{unsigned_abs}
 use Rattle.pf_rot.specs.Rotation.{Rot}
 
--- neither part of a rotation is more than 1 in magnitude
+-- cosine and sine are at most 1 in magnitude
 pub record IsAtMostOne (q : Rot) : Type 0 where
   pub c : unsigned_abs q.c ≤ 16777216
   pub s : unsigned_abs q.s ≤ 16777216

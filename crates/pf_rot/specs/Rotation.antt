@@ -1,4 +1,4 @@
--- Rotations as a pair of cosine and sine, and what they do to vectors, as Box2D's b2Rot, b2MulRV and b2InvMulRV.
+-- Rotations by cosine and sine, and rotated vectors, as Box2D's b2Rot, b2Mul and b2MulT.
 use Rattle.std.specs.Prelude.{ℤ, pos, ◌==◌, if◌then◌else◌}
 use Rattle.std.specs.Int.RustNames.{unsigned_abs}
 use Rattle.pf_num.specs.Fx.{one, tick, sum, difference, product, quotient}
@@ -9,21 +9,29 @@ pub record Rot : Type 0 where
   pub c : ℤ
   pub s : ℤ
 
--- the rotation that leaves everything as it is
+-- the identity: the rotation by 0
 abbrev pub upright : Rot
 upright = record { c = one; s = pos 0 }
 
 -- v turned by q
 unfoldable pub rotate : Rot → V2 → V2
-rotate q v = record { x = difference (product q.c v.x) (product q.s v.y); y = sum (product q.s v.x) (product q.c v.y) }
+rotate q v = record {
+  x = difference (product q.c v.x) (product q.s v.y);
+  y = sum (product q.s v.x) (product q.c v.y);
+}
 
 -- v turned back by q
 unfoldable pub unrotate : Rot → V2 → V2
-unrotate q v = record { x = sum (product q.c v.x) (product q.s v.y); y = difference (product q.c v.y) (product q.s v.x) }
+unrotate q v = record {
+  x = sum (product q.c v.x) (product q.s v.y);
+  y = difference (product q.c v.y) (product q.s v.x);
+}
 
--- the pair of this direction, divided by its length, and upright where it has none
+-- the direction (c, s) divided by its length, and upright where that is 0
 abbrev pub unit_parts : ℤ → ℤ → ℤ → Rot
-unit_parts length c s = if unsigned_abs length == 0 then upright else record { c = quotient c length; s = quotient s length }
+unit_parts length c s =
+    if unsigned_abs length == 0 then upright
+    else record { c = quotient c length; s = quotient s length }
 
 unfoldable pub unit : ℤ → ℤ → Rot
 unit c s = unit_parts (length_of (record { x = c; y = s })) c s
@@ -31,8 +39,9 @@ unit c s = unit_parts (length_of (record { x = c; y = s })) c s
 -- q turned by a small angle a: a step along the tangent, and back to the unit circle
 abbrev pub turn_by_angle : Rot → ℤ → Rot
 turn_by_angle q a =
-    if unsigned_abs a == 0 then q else unit (difference q.c (product a q.s)) (sum q.s (product a q.c))
+    if unsigned_abs a == 0 then q
+    else unit (difference q.c (product a q.s)) (sum q.s (product a q.c))
 
--- q turned for a tick by the angular velocity w
+-- q after a tick at the angular velocity w
 unfoldable pub turn : Rot → ℤ → Rot
 turn q w = turn_by_angle q (product tick w)

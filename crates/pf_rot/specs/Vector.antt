@@ -1,5 +1,5 @@
--- Plane vectors over fixed-point numbers, with the products of Box2D-Lite's MathUtils. Each part is rounded and
--- held in range as the operations on numbers are.
+-- Plane vectors over fixed-point numbers, with the products of Box2D-Lite's MathUtils. Each part is
+-- rounded and saturated as the operations on numbers are.
 use Rattle.std.specs.Prelude.{◌+◌, ◌*◌, ℤ, pos, neg_ℤ}
 use Rattle.std.specs.Int.RustNames.{unsigned_abs}
 use Rattle.pf_num.specs.Root.{whole_root}
@@ -33,10 +33,12 @@ dot a b = sum (product a.x b.x) (product a.y b.y)
 unfoldable pub cross : V2 → V2 → ℤ
 cross a b = difference (product a.x b.y) (product a.y b.x)
 
--- the velocity of a point at r of a body that spins by w
+-- the velocity of the point at r of a body of the angular velocity w
 unfoldable pub cross_sv : ℤ → V2 → V2
 cross_sv w r = record { x = neg_ℤ (product w r.y); y = product w r.x }
 
--- the length, rounded down: the root of the exact sum of squares
+-- the length: the root of the exact sum of squares, rounded down and saturated
 unfoldable pub length_of : V2 → ℤ
-length_of v = saturate (pos (whole_root (unsigned_abs v.x * unsigned_abs v.x + unsigned_abs v.y * unsigned_abs v.y)))
+length_of v =
+    saturate (pos (whole_root
+    (unsigned_abs v.x * unsigned_abs v.x + unsigned_abs v.y * unsigned_abs v.y)))

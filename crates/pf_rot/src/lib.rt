@@ -1,4 +1,4 @@
-//! Plane vectors and rotation pairs over fixed-point numbers.
+//! Plane vectors and rotations over fixed-point numbers.
 #![tactic(auto)]
 
 pub mod laws;

@@ -1,4 +1,4 @@
-//! Rotations as a pair of cosine and sine, as Box2D's `b2Rot`.
+//! Rotations by cosine and sine, as Box2D's `b2Rot`.
 
 ghost use Rattle.std.specs.Prelude.{◌≡◌};
 ghost use Rattle.pf_rot.specs.Rotation.{Rot, unit, turn, rotate, unrotate};
@@ -7,8 +7,8 @@ use crate::vector::V2;
 use pf_num::Fx;
 use std::marker::Model;
 
-/// A rotation: the cosine `c` and the sine `s` of its angle, in units of 2^-24. The calls that make one
-/// keep the pair near the unit circle, but for directions that are a few raw units long.
+/// A rotation: the cosine `c` and the sine `s` of its angle, in units of 2^-24. `unit` and `turn`
+/// keep (c, s) near the unit circle, except for directions that are only a few raw units long.
 #[derive(Clone, Copy, Debug, PartialEq, Eq)]
 pub struct Rot {
     pub c: Fx,
@@ -24,13 +24,13 @@ impl Model for Rot {
 }
 
 impl Rot {
-    /// The rotation that leaves everything as it is.
+    /// The identity: the rotation by 0.
     pub const UPRIGHT: Rot = Rot {
         c: Fx::ONE,
         s: Fx::ZERO,
     };
 
-    /// The rotation whose cosine and sine are as `c` to `s`: each divided by their length, and upright where
+    /// The rotation in the direction (c, s): each part divided by the length, and upright where
     /// that is 0.
     #[tactic(auto, unfolding(crate::specs::Rotation::unit))]
     pub fn unit(c: Fx, s: Fx) -> Rot
@@ -46,8 +46,8 @@ impl Rot {
         }
     }
 
-    /// The rotation after a tick of this angular velocity, in radians a second. It stays as it is, bit for
-    /// bit, where the angle of a tick rounds to 0.
+    /// The rotation after a tick (1/64 s) at this angular velocity, in radians a second. It stays
+    /// as it is, bit for bit, where the angle rounds to 0.
     #[tactic(auto, unfolding(crate::specs::Rotation::turn))]
     pub fn turn(self, spin: Fx) -> Rot
         ensures { result ≡ turn self spin }
@@ -59,7 +59,8 @@ impl Rot {
         Rot::unit(self.c.sub(angle.mul(self.s)), self.s.add(angle.mul(self.c)))
     }
 
-    /// The vector turned by this rotation: from a body's own axes to the world's.
+    /// The vector turned by this rotation, from a body's own axes to the world's, as Box2D's
+    /// `b2Mul`.
     #[inline]
     #[tactic(auto, unfolding(crate::specs::Rotation::rotate))]
     pub fn rotate(self, v: V2) -> V2
@@ -71,7 +72,7 @@ impl Rot {
         }
     }
 
-    /// The vector turned back by this rotation: from the world's axes to a body's own.
+    /// The vector turned back by this rotation, from the world's axes to a body's own, as `b2MulT`.
     #[inline]
     #[tactic(auto, unfolding(crate::specs::Rotation::unrotate))]
     pub fn unrotate(self, v: V2) -> V2

@@ -11,7 +11,7 @@ fn vector(rt: &impl Abort, x: i64, y: i64) -> V2 {
     }
 }
 
-// A quarter turn, and operands whose products are ties; answers by hand.
+// A quarter turn, and operands whose products are ties; values by hand.
 #[test]
 fn products_of_vectors(rt: HostRuntime) {
     let a = vector(&rt, 3, -16_777_216);
@@ -38,7 +38,7 @@ fn turns_vectors(rt: HostRuntime) {
     assert_eq!(rt; v.sub(v), V2::ZERO);
 }
 
-// Answers by Python's whole numbers; the first turn is that of a disc after a push of its spin to 2.
+// Values by Python's integers; the first turn is that of a disc after a push of its spin to 2.
 #[test]
 fn lengths_and_turns(rt: HostRuntime) {
     for (x, y, length) in LENGTHS {
@@ -55,11 +55,11 @@ fn lengths_and_turns(rt: HostRuntime) {
     }
     for (c, s, spin, turned_c, turned_s) in TURNS {
         let from = vector(&rt, c, s);
-        let pair = Rot {
+        let rotation = Rot {
             c: from.x,
             s: from.y,
         };
-        let turn = pair.turn(Fx::from_raw(spin).expect(&rt, "in range"));
+        let turn = rotation.turn(Fx::from_raw(spin).expect(&rt, "in range"));
         assert_eq!(rt;
             (turn.c.raw(), turn.s.raw()),
             (turned_c, turned_s),
@@ -88,7 +88,7 @@ const LENGTHS: [(i64, i64, i64); 11] = [
     (5497558138880, 13194139533312, 14293651161088),
 ];
 
-// c, s and the rotation that points so. Short directions give no pair of length 1.
+// c, s and the rotation that points so. Short directions give no rotation of length 1.
 #[rattlefmt::skip]
 const UNITS: [(i64, i64, i64, i64); 7] = [
     (0, 0, 16777216, 0),
@@ -100,7 +100,7 @@ const UNITS: [(i64, i64, i64, i64); 7] = [
     (16777216, 16777216, 11863283, 11863283),
 ];
 
-// A pair, a spin, and the pair after a tick.
+// A rotation, an angular velocity, and the rotation after a tick.
 #[rattlefmt::skip]
 const TURNS: [(i64, i64, i64, i64, i64); 10] = [
     (16777216, 0, 33554432, 16769030, 524032),

@@ -1,13 +1,13 @@
 //! Plane vectors, with the products of Box2D-Lite's MathUtils.
 
 ghost use Rattle.std.specs.Prelude.{◌≡◌};
-ghost use Rattle.pf_rot.specs.Vector.{V2, add, sub, neg, scale, length_of, dot, cross, cross_sv as swept};
+ghost use Rattle.pf_rot.specs.Vector.{V2, add, sub, neg, scale, length_of, dot, cross, cross_sv};
 
 use pf_num::{Fx, whole_root};
 use std::marker::Model;
 
-/// A vector, a position or a velocity of the plane. Contracts see its two parts as raw numbers, in units
-/// of 2^-24. Each operation rounds and holds in range as those on [`Fx`] do.
+/// A vector, a position or a velocity of the plane. Contracts see its two parts as raw numbers, in
+/// units of 2^-24. Each operation rounds and saturates as those on [`Fx`] do.
 #[derive(Clone, Copy, Debug, PartialEq, Eq)]
 pub struct V2 {
     pub x: Fx,
@@ -23,7 +23,7 @@ impl Model for V2 {
 }
 
 impl V2 {
-    /// The vector of length 0.
+    /// The vector (0, 0).
     pub const ZERO: V2 = V2 {
         x: Fx::ZERO,
         y: Fx::ZERO,
@@ -53,7 +53,7 @@ impl V2 {
         }
     }
 
-    /// The vector the other way.
+    /// The negative.
     #[inline]
     #[tactic(auto, unfolding(crate::specs::Vector::neg))]
     pub fn neg(self) -> V2
@@ -65,7 +65,7 @@ impl V2 {
         }
     }
 
-    /// The vector so many times, each part's product rounded.
+    /// The multiple of the vector by a number, each part's product rounded.
     #[inline]
     #[tactic(auto, unfolding(crate::specs::Vector::scale))]
     pub fn scale(self, by: Fx) -> V2
@@ -86,7 +86,7 @@ impl V2 {
         self.x.mul(other.x).add(self.y.mul(other.y))
     }
 
-    /// The length, rounded down, by the exact sum of squares.
+    /// The length: the square root of the exact sum of squares, rounded down and saturated.
     #[inline]
     #[tactic(auto, unfolding(crate::specs::Vector::length_of, pf_num::specs::Fx::saturate))]
     pub fn length(self) -> Fx
@@ -109,12 +109,12 @@ impl V2 {
     }
 }
 
-/// The cross product of a number and a vector: the velocity of the point at `r` of a body that spins
-/// by `w`.
+/// The cross product of a number and a vector, as Box2D-Lite's `Cross(float, Vec2)`: the velocity
+/// of the point at `r` of a body of the angular velocity `w`.
 #[inline]
 #[tactic(auto, unfolding(crate::specs::Vector::cross_sv))]
 pub fn cross_sv(w: Fx, r: V2) -> V2
-    ensures { result ≡ swept w r }
+    ensures { result ≡ cross_sv w r }
 {
     V2 {
         x: w.mul(r.y).neg(),

@@ -8,7 +8,7 @@ use Rattle.pf_num.specs.Fx.{IsRaw, saturate, sum, difference}
 use Rattle.pf_rot.specs.Vector.{V2, add, sub}
 use Rattle.pf_rot.specs.Rotation.{Rot}
 use Rattle.pf_shapes.specs.declared.fixture.Shape.TheVariants.{Circle}
-use Rattle.pf_shapes.specs.Reach.{widened}
+use Rattle.pf_shapes.specs.Reach.{widen}
 use Rattle.pf_shapes.specs.Bounds.{extent, shape_bounds}
 use Rattle.pf_shapes.specs.Laws.{IsInCircle, IsInBounds}
 
@@ -22,8 +22,8 @@ side a b r h =
 
 -- between the ends, on one axis
 ends_around : (position r p : ℤ) → pos 0 ≤ℤ r → IsRaw r → IsRaw p → unsigned_abs (p -ℤ position) ≤ unsigned_abs r →
-    (difference position (widened r) ≤ℤ p) × (p ≤ℤ sum position (widened r))
-unfolding widened sum difference saturate
+    (difference position (widen r) ≤ℤ p) × (p ≤ℤ sum position (widen r))
+unfolding widen sum difference saturate
 ends_around position r p some raw_r raw_p h = (omega (arith, ints, clamps), omega (arith, ints, clamps))
 
 pub circle_stays : (r : ℤ) (position : V2) (rotation : Rot) (is_static : Bool) (p : V2) → pos 0 ≤ℤ r → IsRaw r → IsRaw p.x → IsRaw p.y → IsInCircle r position p →

@@ -1,5 +1,6 @@
--- A position in a turned box is in the bounds of the box in exact numbers too: each of the two rounded products of a reach
--- is at most a half of a unit too small, and the bounds are a unit wider than the reach.
+-- A position in a turned box is in the bounds of the box in exact numbers too: each of the two
+-- rounded products of a reach is at most a half of a unit too small, and the bounds are a unit
+-- wider than the reach.
 use Rattle.std.proofs.Common.{◌≡◌, ℕ, ◌+◌, ◌*◌, ◌≤◌, ℤ, pos, negsuc, ◌+ℤ◌, ◌-ℤ◌, ◌*ℤ◌, neg_ℤ, ◌≤ℤ◌, Bool, arith}
 use Rattle.std.proofs.lemmas.Int.{ints, clamps}
 use Rattle.std.specs.Int.RustNames.{unsigned_abs}
@@ -10,13 +11,13 @@ use Rattle.pf_rot.specs.Rotation.{Rot}
 use Rattle.pf_rot.specs.Laws.{IsAtMostOne}
 use Rattle.pf_shapes.specs.declared.fixture.Shape.TheVariants.{Box}
 use Rattle.pf_shapes.specs.Fixture.{IsSize}
-use Rattle.pf_shapes.specs.Reach.{widened, reach}
+use Rattle.pf_shapes.specs.Reach.{widen, reach}
 use Rattle.pf_shapes.specs.Bounds.{extent, shape_bounds}
-use Rattle.pf_shapes.specs.Laws.{IsInBox, IsInBounds, IsInner, exact_position, finer_bounds}
+use Rattle.pf_shapes.specs.Laws.{IsInBox, IsInBounds, IsInner, exact_position, bounds_to_fine_units}
 
--- the extent is a unit more than the sum of the rounded products, where nothing is held in range
-widened_sum : (m n : ℕ) → m ≤ 17179869184 → n ≤ 17179869184 → widened (sum (pos m) (pos n)) ≡ pos (m + n + 1)
-unfolding widened sum saturate
+-- the extent is a unit more than the sum of the rounded products, where nothing saturates
+widened_sum : (m n : ℕ) → m ≤ 17179869184 → n ≤ 17179869184 → widen (sum (pos m) (pos n)) ≡ pos (m + n + 1)
+unfolding widen sum saturate
 widened_sum m n hm hn = omega (arith, ints, clamps)
 
 low_end : (position : ℤ) (k : ℕ) → unsigned_abs position ≤ 18014398509481984 → k ≤ 34359738369 → difference position (pos k) ≡ position -ℤ pos k
@@ -30,8 +31,8 @@ high_end position k hp hk = omega (arith, ints, clamps)
 -- u and v are exact products, m and n are those rounded
 ends_exact : (position t : ℤ) (u v m n : ℕ) → 2 * u ≤ 2 * (m * 16777216) + 16777216 → 2 * v ≤ 2 * (n * 16777216) + 16777216 →
     m ≤ 17179869184 → n ≤ 17179869184 → unsigned_abs position ≤ 18014398509481984 → neg_ℤ (pos (u + v)) ≤ℤ t → t ≤ℤ pos (u + v) →
-    ((pos 16777216 *ℤ difference position (widened (sum (pos m) (pos n)))) ≤ℤ ((pos 16777216 *ℤ position) +ℤ t))
-    × (((pos 16777216 *ℤ position) +ℤ t) ≤ℤ (pos 16777216 *ℤ sum position (widened (sum (pos m) (pos n)))))
+    ((pos 16777216 *ℤ difference position (widen (sum (pos m) (pos n)))) ≤ℤ ((pos 16777216 *ℤ position) +ℤ t))
+    × (((pos 16777216 *ℤ position) +ℤ t) ≤ℤ (pos 16777216 *ℤ sum position (widen (sum (pos m) (pos n)))))
 ends_exact position t u v m n hu hv hm hn hp low high =
     rw (widened_sum m n hm hn, low_end position (m + n + 1) hp (omega arith), high_end position (m + n + 1) hp (omega arith))
     (omega (arith, ints), omega (arith, ints))
@@ -45,12 +46,13 @@ difference_exact : (a b : ℤ) (u v : ℕ) → neg_ℤ (pos u) ≤ℤ a → a �
     (neg_ℤ (pos (u + v)) ≤ℤ (a -ℤ b)) × ((a -ℤ b) ≤ℤ pos (u + v))
 difference_exact a b u v la ha lb hb = (omega (arith, ints), omega (arith, ints))
 
--- a position whose distance along an axis is at most the exact reach is between the ends on that axis
+-- a position whose distance along an axis is at most the exact reach is between the ends on that
+-- axis
 axis_exact : (position t a b : ℤ) (hx hy : ℕ) → unsigned_abs a ≤ 16777216 → unsigned_abs b ≤ 16777216 → hx ≤ 17179869184 → hy ≤ 17179869184 →
     unsigned_abs position ≤ 18014398509481984 →
     (neg_ℤ (pos (unsigned_abs a * hx + unsigned_abs b * hy)) ≤ℤ t) × (t ≤ℤ pos (unsigned_abs a * hx + unsigned_abs b * hy)) →
-    ((pos 16777216 *ℤ difference position (widened (reach a (pos hx) b (pos hy)))) ≤ℤ ((pos 16777216 *ℤ position) +ℤ t))
-    × (((pos 16777216 *ℤ position) +ℤ t) ≤ℤ (pos 16777216 *ℤ sum position (widened (reach a (pos hx) b (pos hy)))))
+    ((pos 16777216 *ℤ difference position (widen (reach a (pos hx) b (pos hy)))) ≤ℤ ((pos 16777216 *ℤ position) +ℤ t))
+    × (((pos 16777216 *ℤ position) +ℤ t) ≤ℤ (pos 16777216 *ℤ sum position (widen (reach a (pos hx) b (pos hy)))))
 unfolding reach
 axis_exact position t a b hx hy ha hb size_x size_y inner h =
     let m = product_near (unsigned_abs a) hx ha size_x in
@@ -60,7 +62,7 @@ axis_exact position t a b hx hy ha hb size_x size_y inner h =
 
 box_exact : (hx hy : ℕ) (position : V2) (rotation : Rot) (is_static : Bool) (p : V2) → hx ≤ 17179869184 → hy ≤ 17179869184 → IsAtMostOne rotation → IsInner position →
     IsInBox (record { x = pos hx; y = pos hy }) p →
-    IsInBounds (finer_bounds (shape_bounds (Box (pos hx) (pos hy)) position rotation is_static)) (exact_position position rotation p)
+    IsInBounds (bounds_to_fine_units (shape_bounds (Box (pos hx) (pos hy)) position rotation is_static)) (exact_position position rotation p)
 unfolding shape_bounds extent add sub
 box_exact hx hy position rotation is_static p size_x size_y turn inner h =
     let cx = times_within rotation.c p.x (pos hx) h.left h.right in
@@ -75,7 +77,7 @@ box_exact hx hy position rotation is_static p size_x size_y turn inner h =
 
 pub box_stays_exactly : (hx hy : ℤ) (position : V2) (rotation : Rot) (is_static : Bool) (p : V2) → IsSize hx → IsSize hy → IsAtMostOne rotation → IsInner position →
     IsInBox (record { x = hx; y = hy }) p →
-    IsInBounds (finer_bounds (shape_bounds (Box hx hy) position rotation is_static)) (exact_position position rotation p)
+    IsInBounds (bounds_to_fine_units (shape_bounds (Box hx hy) position rotation is_static)) (exact_position position rotation p)
 box_stays_exactly (pos hx) (pos hy) position rotation is_static p size_x size_y = box_exact hx hy position rotation is_static p (omega (arith, ints)) (omega (arith, ints))
 box_stays_exactly (negsuc hx) hy position rotation is_static p size_x size_y = absurd (omega (arith, ints))
 box_stays_exactly (pos hx) (negsuc hy) position rotation is_static p size_x size_y = absurd (omega (arith, ints))

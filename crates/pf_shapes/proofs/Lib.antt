@@ -8,3 +8,4 @@ pub mod Covering
 pub mod SceneEncoding
 pub mod Limits
 pub mod Silence
+pub mod Inertia

@@ -5,7 +5,7 @@ use Rattle.pf_num.specs.Round.{near}
 use Rattle.pf_num.proofs.Signs.{is_negative-pos}
 use Rattle.pf_num.specs.Fx.{saturate, sum, difference, product}
 use Rattle.pf_shapes.specs.Fixture.{IsSize}
-use Rattle.pf_shapes.specs.Reach.{magnitude, reach, widened}
+use Rattle.pf_shapes.specs.Reach.{magnitude, reach, widen}
 
 -- the number nearest to a number from 0 on isn't below 0
 near-pos : (p q : ℕ) → pos 0 ≤ℤ near (pos p) (pos q)
@@ -25,19 +25,19 @@ sum-pos : (a b : ℤ) → pos 0 ≤ℤ a → pos 0 ≤ℤ b → pos 0 ≤ℤ sum
 unfolding sum
 sum-pos a b h k = saturated-pos _ (omega (arith, ints))
 
-widened-pos : (z : ℤ) → pos 0 ≤ℤ z → pos 1 ≤ℤ widened z
-unfolding widened sum saturate
-widened-pos z h = omega (arith, ints, clamps)
+widen-pos : (z : ℤ) → pos 0 ≤ℤ z → pos 1 ≤ℤ widen z
+unfolding widen sum saturate
+widen-pos z h = omega (arith, ints, clamps)
 
 -- a circle's extent is above 0
-pub circle_reaches : (r w : ℤ) → IsSize r → w ≡ widened r → pos 1 ≤ℤ w
-circle_reaches r w size e = rw e (widened-pos r (omega (arith, ints)))
+pub circle_reaches : (r w : ℤ) → IsSize r → w ≡ widen r → pos 1 ≤ℤ w
+circle_reaches r w size e = rw e (widen-pos r (omega (arith, ints)))
 
 -- and a box's
-pub box_reaches : (a hx b hy w : ℤ) → IsSize hx → IsSize hy → w ≡ widened (reach a hx b hy) → pos 1 ≤ℤ w
+pub box_reaches : (a hx b hy w : ℤ) → IsSize hx → IsSize hy → w ≡ widen (reach a hx b hy) → pos 1 ≤ℤ w
 unfolding reach
 box_reaches a hx b hy w x y e =
-    rw e (widened-pos _ (sum-pos _ _ (product-pos a hx (omega (arith, ints))) (product-pos b hy (omega (arith, ints)))))
+    rw e (widen-pos _ (sum-pos _ _ (product-pos a hx (omega (arith, ints))) (product-pos b hy (omega (arith, ints)))))
 
 -- a position less something is at most the position and it
 pub ends_ordered : (p e : ℤ) → pos 1 ≤ℤ e → difference p e ≤ℤ sum p e

@@ -1,5 +1,5 @@
--- A position in a turned box is in the bounds of the box: along each axis it is at most as far from the centre as the box
--- reaches.
+-- A position in a turned box is in the bounds of the box: along each axis it is at most as far from
+-- the centre as the box reaches.
 use Rattle.std.proofs.Common.{ℤ, pos, ◌≤ℤ◌, neg_ℤ, Bool, arith}
 use Rattle.std.proofs.lemmas.Int.{ints, clamps}
 use Rattle.pf_num.specs.Fx.{saturate, sum, difference, product}
@@ -8,7 +8,7 @@ use Rattle.pf_num.proofs.Monotone.{product_within}
 use Rattle.pf_rot.specs.Vector.{V2, add, sub}
 use Rattle.pf_rot.specs.Rotation.{Rot, rotate}
 use Rattle.pf_shapes.specs.declared.fixture.Shape.TheVariants.{Box}
-use Rattle.pf_shapes.specs.Reach.{magnitude, widened, reach}
+use Rattle.pf_shapes.specs.Reach.{magnitude, widen, reach}
 use Rattle.pf_shapes.specs.Bounds.{extent, shape_bounds}
 use Rattle.pf_shapes.specs.Laws.{IsInBox, IsInBounds}
 
@@ -33,20 +33,20 @@ second_within : (c s hx hy x y : ℤ) → IsUpTo hx x → IsUpTo hy y → IsUpTo
 unfolding reach
 second_within c s hx hy x y in_x in_y = sum_within _ _ _ _ (product_within s x hx in_x.0 in_x.1) (product_within c y hy in_y.0 in_y.1)
 
-reach_held : (a hx b hy : ℤ) → reach a hx b hy ≤ℤ pos 36028797018963967
+reach-saturated : (a hx b hy : ℤ) → reach a hx b hy ≤ℤ pos 36028797018963967
 unfolding reach
-reach_held a hx b hy = omega (arith, ints, sum-raw (product (magnitude a) hx) (product (magnitude b) hy))
+reach-saturated a hx b hy = omega (arith, ints, sum-raw (product (magnitude a) hx) (product (magnitude b) hy))
 
 -- between the ends, on one axis
 ends_within : (position t e : ℤ) → e ≤ℤ pos 36028797018963967 → IsUpTo e t →
-    (difference position (widened e) ≤ℤ sum position t) × (sum position t ≤ℤ sum position (widened e))
-unfolding widened sum difference saturate
-ends_within position t e held h = (omega (arith, ints, clamps), omega (arith, ints, clamps))
+    (difference position (widen e) ≤ℤ sum position t) × (sum position t ≤ℤ sum position (widen e))
+unfolding widen sum difference saturate
+ends_within position t e in_range h = (omega (arith, ints, clamps), omega (arith, ints, clamps))
 
 pub box_stays : (hx hy : ℤ) (position : V2) (rotation : Rot) (is_static : Bool) (p : V2) → IsInBox (record { x = hx; y = hy }) p →
     IsInBounds (shape_bounds (Box hx hy) position rotation is_static) (add position (rotate rotation p))
 unfolding shape_bounds extent add sub rotate
 box_stays hx hy position rotation is_static p h =
-    let x = ends_within position.x _ _ (reach_held rotation.c hx rotation.s hy) (first_within rotation.c rotation.s hx hy p.x p.y (h.left, h.right) (h.below, h.above)) in
-    let y = ends_within position.y _ _ (reach_held rotation.s hx rotation.c hy) (second_within rotation.c rotation.s hx hy p.x p.y (h.left, h.right) (h.below, h.above)) in
+    let x = ends_within position.x _ _ (reach-saturated rotation.c hx rotation.s hy) (first_within rotation.c rotation.s hx hy p.x p.y (h.left, h.right) (h.below, h.above)) in
+    let y = ends_within position.y _ _ (reach-saturated rotation.s hx rotation.c hy) (second_within rotation.c rotation.s hx hy p.x p.y (h.left, h.right) (h.below, h.above)) in
     record { left = x.0; right = x.1; below = y.0; above = y.1 }

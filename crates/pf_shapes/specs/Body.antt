@@ -4,7 +4,8 @@ use Rattle.pf_rot.specs.Vector.{V2, zero_vector}
 use Rattle.pf_rot.specs.Rotation.{Rot}
 use Rattle.pf_shapes.specs.Fixture.{Fixture, is_static}
 
--- where a body is and how it moves; for how many ticks it has been still; and whether it is simulated
+-- position, rotation and velocities; the number of ticks for which the body has been still; and
+-- whether it is simulated
 pub record BodyState : Type 0 where
   pub position : V2
   pub rotation : Rot
@@ -13,7 +14,13 @@ pub record BodyState : Type 0 where
   pub timer : ℕ
   pub awake : Bool
 
--- a body at the start: at rest, and awake where something can move it
+-- the state at the start: at rest, and awake unless static
 abbrev pub start_of : Fixture → V2 → Rot → BodyState
-start_of f position rotation =
-    record { position = position; rotation = rotation; velocity = zero_vector; spin = pos 0; timer = 0; awake = not (is_static f) }
+start_of f position rotation = record {
+  position = position;
+  rotation = rotation;
+  velocity = zero_vector;
+  spin = pos 0;
+  timer = 0;
+  awake = not (is_static f);
+}

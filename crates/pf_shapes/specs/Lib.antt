@@ -9,6 +9,7 @@ pub mod SceneText
 pub mod SceneRead
 pub mod Reach
 pub mod Bounds
+pub mod Pair
 pub mod Laws
 pub mod Same
 pub mod SameLaws

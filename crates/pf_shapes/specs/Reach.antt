@@ -1,17 +1,19 @@
--- How far shapes reach along an axis.
+-- Extents of boxes along an axis.
 use Rattle.std.specs.Prelude.{ℤ, pos, ◌≤ℤ◌}
 use Rattle.std.specs.Int.RustNames.{unsigned_abs}
 use Rattle.pf_num.specs.Fx.{sum, product}
 use Rattle.pf_rot.specs.Vector.{V2}
 
 -- one raw unit more
-unfoldable pub widened : ℤ → ℤ
-widened z = sum z (pos 1)
+unfoldable pub widen : ℤ → ℤ
+widen z = sum z (pos 1)
 
+-- the absolute value
 abbrev pub magnitude : ℤ → ℤ
 magnitude z = pos (unsigned_abs z)
 
--- how far a box reaches along an axis, where its sides hx and hy make the cosines a and b with that axis
+-- the extent of a box from its centre along an axis with which its sides, of the half extents hx
+-- and hy, have the cosines a and b
 unfoldable pub reach : ℤ → ℤ → ℤ → ℤ → ℤ
 reach a hx b hy = sum (product (magnitude a) hx) (product (magnitude b) hy)
 

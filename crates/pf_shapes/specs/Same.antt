@@ -1,4 +1,4 @@
--- Tests of equality, part by part.
+-- Tests of equality, part by part, for the impls of `==`.
 use Rattle.std.specs.Prelude.{Bool, false, ◌&&◌, ◌==◌, nat_eq}
 use Rattle.std.specs.Bool.{beq}
 use Rattle.std.specs.Ordering.{int_eq}
@@ -25,13 +25,18 @@ same_shape a b = false
 
 unfoldable pub same_fixture : Fixture → Fixture → Bool
 same_fixture a b =
-    same_shape a.shape b.shape && (int_eq a.mass b.mass && (int_eq a.friction b.friction && option_eq nat_eq a.owner b.owner))
+    same_shape a.shape b.shape
+    && (int_eq a.mass b.mass
+    && (int_eq a.friction b.friction && option_eq nat_eq a.owner b.owner))
 
 unfoldable pub same_state : BodyState → BodyState → Bool
 same_state a b =
-    same_vector a.position b.position && (same_rotation a.rotation b.rotation && (same_vector a.velocity b.velocity
+    same_vector a.position b.position
+    && (same_rotation a.rotation b.rotation
+    && (same_vector a.velocity b.velocity
     && (int_eq a.spin b.spin && ((a.timer == b.timer) && beq a.awake b.awake))))
 
 unfoldable pub same_scene : Scene → Scene → Bool
 same_scene a b =
-    (pointwise same_fixture a.fixtures b.fixtures && pointwise same_state a.starts b.starts) && same_vector a.gravity b.gravity
+    (pointwise same_fixture a.fixtures b.fixtures && pointwise same_state a.starts b.starts)
+    && same_vector a.gravity b.gravity

@@ -8,7 +8,7 @@ use pf_num::Fx;
 use pf_rot::{Rot, V2};
 use std::marker::Model;
 
-/// Where a body is and how it moves.
+/// The motion of a body at one tick, as Box2D's `b2Body` keeps it.
 #[derive(Clone, Copy, Debug)]
 pub struct BodyState {
     /// The centre, in units of 2^-24 of a length.
@@ -19,18 +19,33 @@ pub struct BodyState {
     pub velocity: V2,
     /// The angular velocity, in radians a second.
     pub spin: Fx,
-    /// For how many ticks the body has been still. At 32 it goes to sleep, and the count is 0 again.
+    /// The number of ticks for which the body has been still. At 32 the body falls asleep, and the
+    /// timer is 0 again.
     pub timer: u8,
-    /// Whether the body is simulated: a static or sleeping body is not.
+    /// Whether the body is simulated. A static or sleeping body isn't.
     pub awake: bool,
 }
 
 impl Model for BodyState {
     ghost Value = { BodyState };
 
-    ghost view = { λ b. record { position = b.position; rotation = b.rotation; velocity = b.velocity; spin = b.spin; timer = b.timer; awake = b.awake } };
+    ghost view = { λ b. record {
+      position = b.position;
+      rotation = b.rotation;
+      velocity = b.velocity;
+      spin = b.spin;
+      timer = b.timer;
+      awake = b.awake;
+    } };
 
-    ghost inverse = { λ b. record { position = b.position; rotation = b.rotation; velocity = b.velocity; spin = b.spin; timer = b.timer; awake = b.awake } };
+    ghost inverse = { λ b. record {
+      position = b.position;
+      rotation = b.rotation;
+      velocity = b.velocity;
+      spin = b.spin;
+      timer = b.timer;
+      awake = b.awake;
+    } };
 }
 
 impl PartialEq for BodyState {
@@ -60,7 +75,7 @@ impl Eq for BodyState {
 }
 
 impl BodyState {
-    /// The state in which a body of this fixture starts: at rest, and awake unless it is static.
+    /// The state in which a body of this fixture starts: at rest, and awake unless static.
     pub fn start(fixture: &Fixture, position: V2, rotation: Rot) -> BodyState
         ensures { result ≡ start_of fixture.now position rotation }
     {

@@ -1,8 +1,8 @@
-//! The bounds of bodies, as Box2D's `b2AABB`.
+//! Bounds of bodies, as Box2D's `b2AABB`.
 
 ghost use Rattle.std.specs.Prelude.{◌≡◌};
-ghost use Rattle.pf_shapes.specs.Bounds.{Bounds, overlaps, touches};
-ghost use Rattle.pf_shapes.specs.Reach.{reach, widened};
+ghost use Rattle.pf_shapes.specs.Bounds.{Bounds, overlaps, ranges_overlap};
+ghost use Rattle.pf_shapes.specs.Reach.{reach, widen};
 
 use crate::body::BodyState;
 use crate::fixture::{Fixture, Shape};
@@ -10,15 +10,15 @@ use pf_num::Fx;
 use pf_rot::{Rot, V2};
 use std::marker::Model;
 
-/// An upright rectangle that a body's shape does not leave, with what else finding pairs asks of a body. All
-/// positions are in units of 2^-24.
+/// An axis-aligned rectangle that contains a body's shape, with what else the broad phase needs of
+/// the body. Positions are in units of 2^-24.
 #[derive(Clone, Copy, Debug)]
 pub struct Bounds {
-    /// The low end on both axes.
+    /// The lower bound on both axes.
     pub low: V2,
-    /// The high end on both axes.
+    /// The upper bound on both axes.
     pub high: V2,
-    /// Whether the body is static: no force moves it.
+    /// Whether the body is static.
     pub is_static: bool,
 }
 
@@ -30,8 +30,8 @@ impl Model for Bounds {
     ghost inverse = { λ b. record { low = b.low; high = b.high; is_static = b.is_static } };
 }
 
-/// How far a box of these half extents reaches from its centre along an axis, where its sides make these cosines with that
-/// axis. All are in units of 2^-24.
+/// The extent of a box of these half extents along an axis, from its centre, where its sides have
+/// these cosines with that axis. All are in units of 2^-24.
 #[inline]
 #[tactic(auto, unfolding(crate::specs::Reach::reach))]
 pub fn reach(cosine_x: Fx, hx: Fx, cosine_y: Fx, hy: Fx) -> Fx
@@ -40,10 +40,10 @@ pub fn reach(cosine_x: Fx, hx: Fx, cosine_y: Fx, hy: Fx) -> Fx
     cosine_x.abs().mul(hx).add(cosine_y.abs().mul(hy))
 }
 
-/// One unit of 2^-24 more.
-#[tactic(auto, unfolding(crate::specs::Reach::widened))]
-fn widened(x: Fx) -> Fx
-    ensures { result ≡ widened x }
+/// One raw unit more.
+#[tactic(auto, unfolding(crate::specs::Reach::widen))]
+fn widen(x: Fx) -> Fx
+    ensures { result ≡ widen x }
 {
     x.add(Fx::from_raw(1).unwrap())
 }
@@ -54,7 +54,8 @@ impl Shape {
     ghost use Rattle.pf_shapes.specs.Reach.{IsPositive};
     ghost use Rattle.pf_shapes.specs.Bounds.{IsUpright, extent, shape_bounds};
 
-    /// How far the shape, turned by `rotation`, reaches from its centre along each axis, and one raw unit more.
+    /// The extent along each axis of the shape, turned by `rotation`, from its centre, and one raw
+    /// unit more.
     #[tactic(auto, unfolding(crate::specs::Bounds::extent))]
     fn extent(&self, rotation: Rot) -> V2
         ensures value { result ≡ extent self.now rotation }
@@ -62,18 +63,19 @@ impl Shape {
     {
         match self {
             Shape::Circle { r } => V2 {
-                x: widened(*r),
-                y: widened(*r),
+                x: widen(*r),
+                y: widen(*r),
             },
             Shape::Box { hx, hy } => V2 {
-                x: widened(reach(rotation.c, *hx, rotation.s, *hy)),
-                y: widened(reach(rotation.s, *hx, rotation.c, *hy)),
+                x: widen(reach(rotation.c, *hx, rotation.s, *hy)),
+                y: widen(reach(rotation.s, *hx, rotation.c, *hy)),
             },
         }
     }
 
-    /// The bounds of a body of this shape, where it is and as it is turned: one raw unit wider each way than the shape
-    /// reaches. For the sizes of fixtures no low end is above its high end, wherever the body is.
+    /// The bounds of a body of this shape at this position and rotation, one raw unit wider each
+    /// way than the shape, which covers the rounding. For the sizes of fixtures no lower bound is
+    /// above the upper bound, at saturation too.
     #[tactic(auto, unfolding(crate::specs::Bounds::shape_bounds))]
     pub fn bounds(&self, position: V2, rotation: Rot, is_static: bool) -> Bounds
         ensures value { result ≡ shape_bounds self.now position rotation is_static }
@@ -104,19 +106,20 @@ impl Fixture {
 }
 
 impl Bounds {
-    /// Whether the bounds have a point in common: on both axes each low end is at most the other's high end.
+    /// Whether the bounds have a point in common, as `b2TestOverlap`: on both axes each lower bound
+    /// is at most the other's upper bound.
     #[tactic(auto, unfolding(crate::specs::Bounds::overlaps))]
     pub fn overlaps(&self, other: &Bounds) -> bool
         ensures { result ≡ overlaps self.now other.now }
     {
-        touches(self.low.x, self.high.x, other.low.x, other.high.x)
-            && touches(self.low.y, self.high.y, other.low.y, other.high.y)
+        ranges_overlap(self.low.x, self.high.x, other.low.x, other.high.x)
+            && ranges_overlap(self.low.y, self.high.y, other.low.y, other.high.y)
     }
 }
 
-/// Whether two ranges on one axis have a point in common.
-fn touches(low: Fx, high: Fx, other_low: Fx, other_high: Fx) -> bool
-    ensures { result ≡ touches low high other_low other_high }
+/// Whether two closed ranges on one axis have a point in common.
+fn ranges_overlap(low: Fx, high: Fx, other_low: Fx, other_high: Fx) -> bool
+    ensures { result ≡ ranges_overlap low high other_low other_high }
 {
     low <= other_high && other_low <= high
 }

@@ -7,30 +7,48 @@ use pf_num::Fx;
 use std::alloc::AllocError;
 use std::marker::Model;
 
-/// The outline of a body about its centre, in units of 2^-24 of a length.
+/// The least radius or half extent: 1/16 of a length, in units of 2^-24.
+pub const MIN_SIZE: i64 = 1 << 20;
+
+/// The greatest radius or half extent: 1,024 lengths.
+pub const MAX_SIZE: i64 = 1 << 34;
+
+/// The least mass of a dynamic body: 1/16, in units of 2^-24.
+pub const MIN_MASS: i64 = 1 << 20;
+
+/// The greatest mass: 1,024.
+pub const MAX_MASS: i64 = 1 << 34;
+
+/// The greatest coefficient of friction: 4, in units of 2^-24.
+pub const MAX_FRICTION: i64 = 1 << 26;
+
+/// The number of players.
+pub const PLAYERS: u8 = 8;
+
+/// The shape of a body about its centre, in units of 2^-24 of a length.
 #[derive(Debug, Drop)]
 pub enum Shape {
-    /// A disc of this radius.
+    /// A circle of this radius.
     Circle { r: Fx },
     /// A box of these half extents.
     Box { hx: Fx, hy: Fx },
 }
 
-/// The number that is this whole number.
-fn whole(n: u8) -> Fx
+/// The fixed-point number of an integer.
+fn from_int(n: u8) -> Fx
     ensures { result ≡ pos (n * 16777216) }
 {
     Fx::from_raw(i64::from(n) * 16_777_216).unwrap()
 }
 
-/// 1 / resistance, and 0 of a static body.
-fn inverse(is_static: bool, resistance: Fx) -> Fx
-    ensures { result ≡ (if is_static then pos 0 else quotient one resistance) }
+/// The inverse of a mass or an inertia, and 0 for a static body.
+fn inverse_of(is_static: bool, mass: Fx) -> Fx
+    ensures { result ≡ (if is_static then pos 0 else quotient one mass) }
 {
     if is_static {
         Fx::ZERO
     } else {
-        Fx::ONE.div(resistance)
+        Fx::ONE.div(mass)
     }
 }
 
@@ -38,17 +56,18 @@ impl Shape {
     ghost use Rattle.std.specs.Prelude.{◌≡◌};
     ghost use Rattle.pf_shapes.specs.Fixture.{inertia};
 
-    /// The moment of inertia about the centre of a body of this shape and mass: a disc, or a box.
+    /// The moment of inertia about the centre of a body of this mass: `m r^2 / 2` of a disc, `m
+    /// (w^2 + h^2) / 12` of a box with the sides w and h.
     #[tactic(auto, unfolding(crate::specs::Fixture::inertia))]
     fn inertia(&self, mass: Fx) -> Fx
         ensures { result ≡ inertia self.now mass }
     {
         match self {
-            Shape::Circle { r } => mass.mul(r.mul(*r).div(whole(2))),
+            Shape::Circle { r } => mass.mul(r.mul(*r).div(from_int(2))),
             Shape::Box { hx, hy } => {
                 let width = hx.add(*hx);
                 let height = hy.add(*hy);
-                mass.mul(width.mul(width).add(height.mul(height)).div(whole(12)))
+                mass.mul(width.mul(width).add(height.mul(height)).div(from_int(12)))
             }
         }
     }
@@ -99,8 +118,9 @@ impl Eq for Shape {
     ghost laws = { shapes_equivalent };
 }
 
-/// What a body is apart from its motion. Its numbers are in range by its type: radius and half extents
-/// from 2^20 to 2^34 units of 2^-24, mass 0 (static) or in that range, friction 0 to 2^26, players 0 to 7.
+/// What a body is apart from its motion, as Box2D's `b2FixtureDef` with the body's mass data. Its
+/// type keeps the limits: radius and half extents from `MIN_SIZE` to `MAX_SIZE`, mass 0 (static) or
+/// from `MIN_MASS` to `MAX_MASS`, friction from 0 to `MAX_FRICTION`, owner below `PLAYERS`.
 #[derive(Debug, Drop)]
 pub struct Fixture {
     shape: Shape,
@@ -116,7 +136,8 @@ impl Model for Fixture {
 
     ghost Value = { Fixture };
 
-    ghost view = { λ f. record { shape = f.shape; mass = f.mass; friction = f.friction; owner = f.owner } };
+    ghost view = { λ f.
+        record { shape = f.shape; mass = f.mass; friction = f.friction; owner = f.owner } };
 
     ghost use Rattle.pf_shapes.specs.Cached.{IsCached};
 
@@ -170,11 +191,14 @@ impl Fixture {
     ghost use Rattle.std.specs.Prelude.{◌≡◌};
     ghost use Rattle.pf_shapes.specs.Fixture.{HasSize, IsFixture, is_static, inverse_mass, inverse_inertia};
 
-    /// A fixture of these parts, with its inverse masses.
+    /// A fixture of these parts, with its inverse mass and inverse inertia, which are computed
+    /// once.
     #[tactic(auto, unfolding(crate::specs::Fixture::inverse_mass, crate::specs::Fixture::inverse_inertia))]
     pub fn new(shape: Shape, mass: Fx, friction: Fx, owner: Option<u8>) -> Fixture
-        requires { IsFixture (record { shape = shape; mass = mass; friction = friction; owner = owner }) }
-        ensures { result ≡ record { shape = shape; mass = mass; friction = friction; owner = owner } }
+        requires { IsFixture
+            (record { shape = shape; mass = mass; friction = friction; owner = owner }) }
+        ensures { result
+            ≡ record { shape = shape; mass = mass; friction = friction; owner = owner } }
     {
         let is_static = mass == Fx::ZERO;
         let inertia = shape.inertia(mass);
@@ -183,8 +207,8 @@ impl Fixture {
             mass,
             friction,
             owner,
-            inverse_mass: inverse(is_static, mass),
-            inverse_inertia: inverse(is_static, inertia),
+            inverse_mass: inverse_of(is_static, mass),
+            inverse_inertia: inverse_of(is_static, inertia),
         }
     }
 
@@ -196,21 +220,22 @@ impl Fixture {
         &self.shape
     }
 
-    /// Whether no force moves the body.
+    /// Whether the body is static: no force moves it.
     pub fn is_static(&self) -> bool
         ensures { result ≡ is_static self.now }
     {
         self.mass == Fx::ZERO
     }
 
-    /// 1 / mass in units of 2^-24, and 0 where the body is static.
+    /// 1 / mass, in units of 2^-24, and 0 for a static body.
     pub fn inverse_mass(&self) -> Fx
         ensures { result ≡ inverse_mass self.now }
     {
         self.inverse_mass
     }
 
-    /// 1 / inertia in units of 2^-24, and 0 where the body is static.
+    /// 1 / inertia, in units of 2^-24, and 0 for a static body. It rounds to 0 where the inertia is
+    /// 2^25 or more.
     pub fn inverse_inertia(&self) -> Fx
         ensures { result ≡ inverse_inertia self.now }
     {
@@ -224,7 +249,7 @@ impl Fixture {
         self.friction
     }
 
-    /// The player that may move the body, if any.
+    /// The player who may move the body, if any.
     pub fn owner(&self) -> Option<u8>
         ensures { result ≡ self.now.owner }
     {

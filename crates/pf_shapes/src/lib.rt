@@ -1,5 +1,4 @@
-//! What a simulation starts from: fixtures with their masses, states of bodies and their bounds, scenes and their
-//! texts.
+//! Fixtures with their masses, states and bounds of bodies, scenes and their texts.
 #![tactic(auto)]
 
 mod body;
@@ -7,6 +6,7 @@ mod bounds;
 mod fault;
 mod fixture;
 pub mod laws;
+mod pair;
 mod read;
 mod reader;
 mod scene;
@@ -16,10 +16,11 @@ mod words;
 pub use body::BodyState;
 pub use bounds::{Bounds, reach};
 pub use fault::SceneFault;
-pub use fixture::{Fixture, Shape};
+pub use fixture::{Fixture, MAX_FRICTION, MAX_MASS, MAX_SIZE, MIN_MASS, MIN_SIZE, PLAYERS, Shape};
+pub use pair::Pair;
 pub use read::ReadError;
 pub use reader::{Progress, SceneReader};
-pub use scene::{MAX_BODIES, Scene};
+pub use scene::{MAX_BODIES, MAX_GRAVITY, MAX_POSITION, Scene};
 
 #[cfg(test)]
 mod tests;

@@ -9,7 +9,14 @@ use std::marker::Model;
 /// The most bodies of a scene.
 pub const MAX_BODIES: usize = 1024;
 
-/// What a simulation starts from: gravity, and the bodies in order of their numbers, each with its start.
+/// The greatest part of gravity: 1,024 lengths a second squared, in units of 2^-24.
+pub const MAX_GRAVITY: i64 = 1 << 34;
+
+/// The greatest part of a start's position: 2^20 lengths, in units of 2^-24.
+pub const MAX_POSITION: i64 = 1 << 44;
+
+/// What a simulation starts from: gravity, and the bodies by their numbers, each with its fixture
+/// and its start.
 #[derive(Debug, Drop)]
 pub struct Scene {
     gravity: V2,
@@ -22,17 +29,19 @@ impl Model for Scene {
 
     ghost Value = { Scene };
 
-    ghost view = { λ s. record { gravity = s.gravity; fixtures = s.fixtures.items; starts = s.starts.items } };
+    ghost view = { λ s.
+        record { gravity = s.gravity; fixtures = s.fixtures.items; starts = s.starts.items } };
 
-    ghost invariant = { λ s. IsScene (record { gravity = s.gravity; fixtures = s.fixtures.items; starts = s.starts.items }) };
+    ghost invariant = { λ s. IsScene
+        (record { gravity = s.gravity; fixtures = s.fixtures.items; starts = s.starts.items }) };
 }
 
 impl Scene {
-    ghost use Rattle.std.specs.Prelude.{◌≡◌, ◌<◌, ◌↔◌, [], length, IsTrue, OnOk, OnErr, IfOk};
+    ghost use Rattle.std.specs.Prelude.{◌≡◌, ◌<◌, ◌↔◌, [], length, IsTrue, OnOk, OnErr, IfOk, IsOk};
     ghost use Rattle.pf_shapes.specs.Scene.{IsScene, IsGravity, IsTransform, empty_scene, with_body};
     ghost use Rattle.pf_shapes.specs.Same.{same_scene};
 
-    /// A scene without bodies. Gravity has parts up to 2^34.
+    /// A scene without bodies. The parts of gravity are at most `MAX_GRAVITY` in magnitude.
     pub fn new(alloc: Global, gravity: V2) -> Scene
         requires { IsGravity gravity }
         ensures { result ≡ empty_scene gravity }
@@ -65,7 +74,7 @@ impl Scene {
         self.gravity
     }
 
-    /// What each body is, in order of their numbers.
+    /// The fixture of each body, by its number.
     pub fn fixtures(&self) -> &[Fixture]
         ensures value { result.now ≡ self.now.fixtures }
         ensures scene { IsScene self.now }
@@ -73,7 +82,7 @@ impl Scene {
         self.fixtures.as_slice()
     }
 
-    /// How each body starts, in order of their numbers.
+    /// The start of each body, by its number.
     pub fn starts(&self) -> &[BodyState]
         ensures value { result.now ≡ self.now.starts }
         ensures scene { IsScene self.now }
@@ -81,8 +90,9 @@ impl Scene {
         self.starts.as_slice()
     }
 
-    /// Adds a body with the next number, which starts at rest. The parts of its position are up to 2^44, and those of its
-    /// rotation up to 1. An `Err` leaves the scene as it was.
+    /// Adds a body with the next number, which starts at rest. The parts of its position are at
+    /// most `MAX_POSITION` in magnitude, and those of its rotation at most 1. Out of memory, the
+    /// scene stays as it was.
     #[tactic(auto, using(crate::proofs::Limits::starts_push))]
     pub fn push(&mut self, fixture: Fixture, position: V2, rotation: Rot) -> Result<(), AllocError>
         requires room { length self.old.fixtures < MAX_BODIES }
@@ -107,10 +117,15 @@ impl Scene {
         same_bodies && self.gravity == other.gravity
     }
 
-    /// A copy. Takes time and memory for all its bodies.
+    /// A copy, which takes time and memory for all bodies. A scene without bodies takes no memory,
+    /// and its copy can't fail.
     pub fn try_clone(&self) -> Result<Scene, AllocError>
-        ensures { IfOk result (λ copy. copy ≡ self.now) }
+        ensures value { IfOk result (λ copy. copy ≡ self.now) }
+        ensures no_memory { self.now.fixtures ≡ [] → IsOk result }
     {
+        if self.is_empty() {
+            return Ok(Scene::new(*self.fixtures.allocator(), self.gravity));
+        }
         Ok(Scene {
             gravity: self.gravity,
             fixtures: self.fixtures.clone()?,

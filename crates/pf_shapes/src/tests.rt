@@ -272,6 +272,7 @@ fn bounds_that_touch_overlap(rt: HostRuntime) {
 #[test]
 fn laws_are_called(_rt: HostRuntime) {
     laws::scene_lines_are_read();
+    laws::inertias_are_positive();
     laws::overlapping_is_symmetric();
     laws::bounds_that_share_a_position_overlap();
     laws::boxes_stay_in_their_bounds();

@@ -8,8 +8,8 @@ use std::test::Fail;
 
 /// A command of the tick, the player and the number.
 fn command(tick: u32, player: u8, number: u16, payload: Payload) -> Command
-    requires tick { tick < 2 ^ 20 }
-    requires player { player < 8 }
+    requires tick { tick < MAX_TICK }
+    requires player { player < PLAYERS }
 {
     Command {
         name: Name::new(tick, player, number),
@@ -148,7 +148,7 @@ fn the_first_command_that_is_not_allowed_is_named(rt: HostRuntime) -> Result<(),
 
 #[test]
 fn laws_are_called(_rt: HostRuntime) {
-    crate::laws::commands_have_one_spelling();
+    crate::laws::commands_have_one_encoding();
     crate::laws::merge_is_associative();
     crate::laws::merge_is_commutative();
     crate::laws::merge_is_idempotent();
@@ -163,5 +163,5 @@ fn laws_are_called(_rt: HostRuntime) {
     crate::laws::same_gets_same_map();
     crate::laws::merge_stays_in_range();
     crate::laws::same_weight_same_payload();
-    crate::laws::first_fault_is_answered();
+    crate::laws::first_error_is_returned();
 }

@@ -1,27 +1,28 @@
 use Rattle.std.proofs.Common.{◌≡◌, zero, suc, ◌≤◌, List, [], ◌∷◌, Some, length, refl, sym, ◌∙◌, arith}
-use Rattle.pf_manifold.specs.Contact.{Contact}
+use Rattle.pf_manifold.specs.ContactPoint.{ContactPoint}
 use Rattle.pf_manifold.specs.Collide.{collide}
 use Rattle.pf_manifold.specs.Laws.{HaveAscendingFeatures, HaveDifferentFeatures}
 use Rattle.pf_manifold.proofs.Features.{AreAscending, bodies_ascend}
+use Rattle.pf_manifold.proofs.FeatureRanges.{circles_features, box_and_circle_features, boxes_features}
 use Rattle.pf_manifold.proofs.laws.features_ascend.Goals as goal
 
-few : (points : List Contact) → AreAscending points → length points ≤ 2
+few : (points : List ContactPoint) → AreAscending points → length points ≤ 2
 few [] h = omega arith
 few (p ∷ []) h = omega arith
 few (p ∷ (q ∷ [])) h = omega arith
 few (p ∷ (q ∷ (r ∷ rest))) h = absurd h
 
-ascending : (points : List Contact) → AreAscending points → HaveAscendingFeatures points
+ascending : (points : List ContactPoint) → AreAscending points → HaveAscendingFeatures points
 ascending [] h k within = absurd (omega arith)
 ascending (p ∷ []) h k within = absurd (omega arith)
 ascending (p ∷ (q ∷ [])) h zero within = h
 ascending (p ∷ (q ∷ [])) h (suc k) within = absurd (omega arith)
 ascending (p ∷ (q ∷ (r ∷ rest))) h k within = absurd h
 
-feature_of : (p q : Contact) → Some p ≡ Some q → p.feature ≡ q.feature
+feature_of : (p q : ContactPoint) → Some p ≡ Some q → p.feature ≡ q.feature
 feature_of p q e = cc
 
-different : (points : List Contact) → AreAscending points → HaveDifferentFeatures points
+different : (points : List ContactPoint) → AreAscending points → HaveDifferentFeatures points
 different [] h i j p q at_i at_j same = absurd (cc)
 different (x ∷ []) h zero zero p q at_i at_j same = refl
 different (x ∷ []) h zero (suc j) p q at_i at_j same = absurd (cc)
@@ -45,3 +46,12 @@ returns-clause-ascending c = λ a b. ascending (collide a b) (bodies_ascend a b)
 
 pub returns-clause-different : goal.returns-clause-different
 returns-clause-different c = λ a b. different (collide a b) (bodies_ascend a b)
+
+pub returns-clause-circles : goal.returns-clause-circles
+returns-clause-circles c = circles_features
+
+pub returns-clause-box_and_circle : goal.returns-clause-box_and_circle
+returns-clause-box_and_circle c = box_and_circle_features
+
+pub returns-clause-boxes : goal.returns-clause-boxes
+returns-clause-boxes c = boxes_features

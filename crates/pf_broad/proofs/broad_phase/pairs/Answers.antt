@@ -1,0 +1,25 @@
+use Rattle.std.proofs.Common.{◌≡◌, length, sym, subst, ◌∙◌, arith}
+use Rattle.std.proofs.lemmas.Result.{IfOk-weaker}
+use Rattle.std.specs.List.{All}
+use Rattle.pf_broad.specs.Pairs.{pairs}
+use Rattle.pf_shapes.specs.Pair.{IsPairOf}
+use Rattle.pf_broad.specs.Laws.{IsAscending}
+use Rattle.pf_broad.proofs.Ascending.{ascending}
+use Rattle.pf_broad.proofs.Within.{pairs_within}
+use Rattle.pf_broad.proofs.Quiet.{few_bodies}
+use Rattle.pf_broad.proofs.broad_phase.pairs.Goals as goal
+
+pub returns-then-bodies-lt2-clause-pairs : goal.returns-then-bodies-lt2-clause-pairs
+returns-then-bodies-lt2-clause-pairs c =
+    let none = few_bodies c.args.scene.now.fixtures c.args.bodies.now c.requires (omega arith) in cc
+
+pub returns-clause-ascending : goal.returns-clause-ascending
+returns-clause-ascending c =
+    IfOk-weaker c.all_pairs.result (λ found. found.items ≡ pairs c.deref.result.now) (λ found. IsAscending found.items)
+    (λ found e. subst IsAscending (sym e) (ascending c.deref.result.now)) c.all_pairs.ensures.value
+
+pub returns-clause-bodies : goal.returns-clause-bodies
+returns-clause-bodies c =
+    IfOk-weaker c.all_pairs.result (λ found. found.items ≡ pairs c.deref.result.now) (λ found. All (IsPairOf (length c.args.bodies.now)) found.items)
+    (λ found e. pairs_within c.args.scene.now.fixtures c.args.bodies.now c.deref.result.now found.items c.requires
+    (c.deref.ensures.value ∙ c.in_ok-bounds.ensures) e) c.all_pairs.ensures.value

@@ -1,5 +1,0 @@
-use Rattle.pf_num.proofs.Odd.{odd_is}
-use Rattle.pf_num.proofs.quotient.odd.Goals as goal
-
-pub returns : goal.returns
-returns c = odd_is c.args.n c.ranges.n
