@@ -1,4 +1,5 @@
--- What a buffer of bytes that were read does to what is known, and a writer that takes its bytes piece by piece.
+-- What a buffer of bytes that were read does to what is known, and a writer that takes its bytes
+-- piece by piece.
 use Rattle.std.proofs.Common.{◌≡◌, ℕ, ◌+◌, ◌-◌, ◌≤◌, Option, None, Some, List, [], ◌++◌, length, take, drop, min, refl, sym, ap, subst, ◌∙◌, append_assoc, append-nil, arith, take-append-drop}
 use Rattle.std.specs.Io.KnownBytes.{Consumes, Appends, Keeps, prepend_known}
 use Rattle.std.proofs.lemmas.List.{drop-take, drop-drop, length-take}
