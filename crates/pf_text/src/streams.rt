@@ -13,7 +13,7 @@ const BUFFER: usize = 8192;
 
 /// Reads the bytes that there are, and again after an interrupt. It returns 0 at the end, and
 /// nowhere else.
-#[tactic(auto, using(crate::proofs::Taking::keeps_same, crate::proofs::Taking::keeps_more, crate::proofs::Taking::consumes_after))]
+#[tactic(auto, using(crate::proofs::Taking::reads))]
 #[inline(never)]
 fn read_some<R: Read>(reader: &mut R, buffer: &mut [u8]) -> Result<usize, ReadFailed>
     ensures within { IfOk result (λ count. count ≤ length buffer.new) }
@@ -67,7 +67,7 @@ impl<R: Read> Source for Input<R> {
 
     ghost failures = { λ source. source.failures };
 
-    #[tactic(auto, using(crate::proofs::Buffered::keeps_filled, crate::proofs::Buffered::keeps_unfilled, crate::proofs::Taking::keeps_same))]
+    #[tactic(auto, using(crate::proofs::Buffered::fills))]
     #[inline]
     fn fill(&mut self) -> Result<(), ReadFailed> {
         if self.start < self.end {
@@ -99,7 +99,7 @@ impl<R: Read> Source for Input<R> {
 }
 
 /// Writes a prefix of the bytes, which are not empty, and again after an interrupt.
-#[tactic(auto, using(crate::proofs::Taking::keeps_same, crate::proofs::Taking::keeps_more, crate::proofs::Taking::appends_after, crate::proofs::Buffered::keeps_from_appends))]
+#[tactic(auto, using(crate::proofs::Buffered::writes_some))]
 fn write_some<W: Write>(writer: &mut W, bytes: &[u8]) -> Result<usize, WriteFailed>
     ensures some { IfOk result (λ count. (0 < count) × (count ≤ length bytes.now)) }
     ensures ok { IfOk result
@@ -118,7 +118,7 @@ fn write_some<W: Write>(writer: &mut W, bytes: &[u8]) -> Result<usize, WriteFail
 }
 
 /// Writes all the bytes.
-#[tactic(auto, using(crate::proofs::Buffered::appends_prefix_kept, crate::proofs::Buffered::appends_whole))]
+#[tactic(auto, using(crate::proofs::Buffered::writes_whole))]
 fn write_whole<W: Write>(writer: &mut W, bytes: &[u8]) -> Result<(), WriteFailed>
     ensures ok { OnOk result (Appends (W.contents writer.old) (W.contents writer.new) bytes.now) }
     ensures err { OnErr result
