@@ -25,4 +25,4 @@ abbrev pub put_name : Put → List ℕ
 put_name New = codes "new"
 put_name Same = codes "same"
 put_name Greater = codes "greater"
-put_name Lesser = codes "lesser_number"
+put_name Lesser = codes "lesser"

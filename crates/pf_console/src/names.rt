@@ -38,6 +38,6 @@ pub fn put_name(put: Put) -> &'static str
         Put::New => "new",
         Put::Same => "same",
         Put::Greater => "greater",
-        Put::Lesser => "lesser_number",
+        Put::Lesser => "lesser",
     }
 }
