@@ -21,6 +21,3 @@ pub use memory::{Bytes, Collected};
 pub use numbers::{ParsedNumber, integer, number, whole};
 pub use streams::{Input, Output};
 pub use words::{push_line, push_words};
-
-#[cfg(test)]
-mod tests;

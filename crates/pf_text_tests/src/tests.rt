@@ -3,7 +3,11 @@
 ghost use Rattle.std.specs.Prelude.{length, codes, [], Ok, Err, ◌==◌, if◌then◌else◌};
 ghost use Rattle.pf_text.specs.declared.fault.LineFault.TheVariants.{BadNumber};
 
-use super::*;
+use pf_text::{
+    Bytes, Collected, DriveFault, Input, LINE_ROOM, LineBuffer, LineError, LineFault, MAX_LINE,
+    Machine, Output, ParsedNumber, ReadFailed, Sink, TakeRefusal, Taken, WriteFailed, drive,
+    fields_of, integer, laws, number, take_line, whole,
+};
 use std::alloc::{AllocError, Global};
 use std::io::{Error, ErrorKind, Read, Write};
 use std::process::Abort;
