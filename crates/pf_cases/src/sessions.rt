@@ -2,11 +2,11 @@
 
 ghost use Rattle.std.specs.Prelude.{◌<◌};
 
-use pf_commands::{Command, Name, Payload, Put};
+use pf_commands::{Command, MAX_TICK, Name, Payload, Put};
 use pf_num::Fx;
 use pf_peers::{Event, Reply, Session, laws, run};
 use pf_rollback::Refusal;
-use pf_shapes::Scene;
+use pf_shapes::{PLAYERS, Scene};
 use std::test::Fail;
 
 /// A circle of player 0 and one of player 1.
@@ -24,8 +24,8 @@ fn push(body: u16) -> Payload {
 
 /// The command of a player's first push at a tick.
 fn first_push(tick: u32, player: u8) -> Command
-    requires tick { tick < pf_commands::MAX_TICK }
-    requires player { player < pf_shapes::PLAYERS }
+    requires tick { tick < MAX_TICK }
+    requires player { player < PLAYERS }
 {
     Command {
         name: Name::new(tick, player, 0),
