@@ -1,0 +1,1 @@
+-- Tests have no lemmas.

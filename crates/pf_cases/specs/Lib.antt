@@ -1,0 +1,1 @@
+-- Tests cite no definitions.
