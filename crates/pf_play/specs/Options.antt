@@ -1,5 +1,6 @@
--- How the words of the command line are parsed. `clap` says which errors words have, a request for help or the version
--- among them, and which subcommand they enter. The texts of help and of mistakes are its own.
+-- How the words of the command line are parsed. `clap` says which errors words have, a request for
+-- help or the version among them, and which subcommand they enter. The texts of help and of
+-- mistakes are its own.
 use Rattle.std.specs.Prelude.{◌≡◌, ◌⊎◌, Bool, true, false, List, [], Option, Some, None, unwrap_or, codes, Result, Ok, Err, if◌then◌else◌}
 use Rattle.std.specs.Str.{bytes_eq}
 use Rattle.clap.specs.Words.{App, IsAmong, Kinds, Row, Text, first_of, new_app, new_rule, with_rule, with_subcommand}
@@ -24,7 +25,8 @@ own_words = record {
 
 -- the subcommand `frame` has one word, which has to be there
 abbrev pub frame_words : App
-frame_words = with_rule (new_app (codes "frame")) (record (new_rule (codes "HEX")) { required = true })
+frame_words =
+    with_rule (new_app (codes "frame")) (record (new_rule (codes "HEX")) { required = true })
 
 -- what a command line may hold: the subcommand `run` or `frame`
 abbrev pub command_line : App
@@ -41,7 +43,8 @@ is_mistake other = true
 abbrev pub digits_in : Option (Text × List Row) → Option Text
 digits_in None = None
 digits_in (Some entered) =
-    if bytes_eq entered.0 (codes "frame") then Some (unwrap_or (first_of (codes "HEX") entered.1) []) else None
+    if bytes_eq entered.0 (codes "frame")
+    then Some (unwrap_or (first_of (codes "HEX") entered.1) []) else None
 
 -- what valid words ask for, by the subcommand that they enter
 abbrev pub AsksFor : Option (Text × List Row) → Request → Type 0
@@ -50,7 +53,8 @@ AsksFor entered (Frame digits) = digits_in entered ≡ Some digits.now
 AsksFor entered (Help text) = ⊥
 AsksFor entered Version = ⊥
 
--- words that have one of these errors, or none where the list is empty, and enter this subcommand are parsed as that
+-- words that have one of these errors, or none where the list is empty, and enter this subcommand
+-- are parsed as that
 abbrev pub ParsesAs : Kinds → Option (Text × List Row) → Result Request PlayFault → Type 0
 ParsesAs errors entered (Ok (Help text)) = IsAmong kind.DisplayHelp errors
 ParsesAs errors entered (Ok Version) = IsAmong kind.DisplayVersion errors

@@ -1,6 +1,6 @@
-//! Runs many texts. They stand on standard input, separated by a line that no text has; for each, the program prints its
-//! replies, the line that reports its error, if it has one, and `status N`. Its stored run has what an independent program
-//! prints for the same texts.
+//! Runs many texts. They stand on standard input, separated by a line that no text has; for each,
+//! the program prints its replies, the line that reports its error, if it has one, and `status N`.
+//! Its stored run has what an independent program prints for the same texts.
 #![tactic(auto)]
 
 ghost use Rattle.std.specs.Prelude.{◌+◌, ◌<◌, length, IfSome};

@@ -50,7 +50,7 @@ read_friction z h = read_number BadNumber _ _ z (let l = h.0 in let k = h.1 in o
 
 -- ---- fields that may be a word
 
--- a number's text is not a text that spells another number, or none
+-- a number's text is not one that encodes another number, or none
 differs : (z : ℤ) (text : List ℕ) → unsigned_abs z < 2 ^ 64 → (whole_of text ≡ Some z → ⊥) → bytes_eq (signed_decimal z) text ≡ false
 differs z text small other = by (bytes_eq (signed_decimal z) text) refl
   where

@@ -17,16 +17,20 @@ abbrev pub shape_word : Shape → List ℕ
 shape_word (Circle r) = codes "circle"
 shape_word (Box hx hy) = codes "box"
 
--- the fields behind owner, mass and friction: sizes and position, and of a box the direction that it is turned to
+-- the fields behind owner, mass and friction: sizes and position, and of a box the direction that
+-- it is turned to
 abbrev pub shape_fields : Shape → V2 → Rot → List (List ℕ)
-shape_fields (Circle r) position to = signed_decimal r ∷ signed_decimal position.x ∷ signed_decimal position.y ∷ []
+shape_fields (Circle r) position to =
+    signed_decimal r ∷ signed_decimal position.x ∷ signed_decimal position.y ∷ []
 shape_fields (Box hx hy) position to =
-    signed_decimal hx ∷ signed_decimal hy ∷ signed_decimal position.x ∷ signed_decimal position.y ∷ signed_decimal to.c ∷ signed_decimal to.s ∷ []
+    signed_decimal hx ∷ signed_decimal hy ∷ signed_decimal position.x
+    ∷ signed_decimal position.y ∷ signed_decimal to.c ∷ signed_decimal to.s ∷ []
 
 -- the fields of a body that starts at this position
 abbrev pub body_fields : Fixture → V2 → Rot → List (List ℕ)
 body_fields f position to =
-    shape_word f.shape ∷ owner_field f.owner ∷ signed_decimal f.mass ∷ signed_decimal f.friction ∷ shape_fields f.shape position to
+    shape_word f.shape ∷ owner_field f.owner ∷ signed_decimal f.mass ∷ signed_decimal f.friction
+    ∷ shape_fields f.shape position to
 
 -- the rotation in which it starts: a circle is upright, and a box is turned to its direction
 abbrev pub start_rotation : Shape → Rot → Rot

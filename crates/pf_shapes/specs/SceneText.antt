@@ -1,5 +1,5 @@
--- The lines of a scene. The first error from the left is the line's: first the word and the count of fields, then a body
--- too many, then the fields one after the other.
+-- The lines of a scene. The first error from the left is the line's: first the word and the count
+-- of fields, then a body too many, then the fields one after the other.
 use Rattle.std.specs.Prelude.{◌≡◌, ℕ, ℤ, Bool, true, false, pos, neg_ℤ, List, [], ◌∷◌, length, Option, Some, None, Result, Ok, Err, IsOk, ◌==◌, nat_lt, codes, if◌then◌else◌}
 use Rattle.std.specs.Int.RustNames.{unsigned_abs}
 use Rattle.std.specs.Str.{bytes_eq}
@@ -63,7 +63,9 @@ friction_of field = number_of BadNumber (pos 0) (pos 67108864) field
 
 -- `0`, or 2^20 to 2^34
 abbrev pub mass_of : List ℕ → Result ℤ SceneFault
-mass_of field = if bytes_eq field (codes "0") then Ok (pos 0) else number_of BadMass (pos 1048576) (pos 17179869184) field
+mass_of field =
+    if bytes_eq field (codes "0") then Ok (pos 0)
+    else number_of BadMass (pos 1048576) (pos 17179869184) field
 
 abbrev pub player_of : Result ℤ SceneFault → Result (Option ℕ) SceneFault
 player_of (Ok z) = Ok (Some (unsigned_abs z))
@@ -71,14 +73,17 @@ player_of (Err fault) = Err fault
 
 -- `-` for nobody, or a player from 0 to 7
 abbrev pub owner_of : List ℕ → Result (Option ℕ) SceneFault
-owner_of field = if bytes_eq field (codes "-") then Ok None else player_of (number_of BadNumber (pos 0) (pos 7) field)
+owner_of field =
+    if bytes_eq field (codes "-") then Ok None
+    else player_of (number_of BadNumber (pos 0) (pos 7) field)
 
 -- the first field of a line of a scene
 abbrev pub word_of : List ℕ → Option SceneWord
 word_of field =
     if bytes_eq field (codes "gravity") then Some words.Gravity else
     (if bytes_eq field (codes "circle") then Some (words.Body bodies.Circle) else
-    (if bytes_eq field (codes "box") then Some (words.Body bodies.Box) else (if bytes_eq field (codes "end") then Some words.End else None)))
+    (if bytes_eq field (codes "box") then Some (words.Body bodies.Box)
+    else (if bytes_eq field (codes "end") then Some words.End else None)))
 
 -- `gravity GX GY`
 unfoldable pub gravity_of : List ℕ → List ℕ → Result V2 SceneFault
@@ -134,7 +139,8 @@ box_transform x y c s = do
   Ok (position, rotation)
 
 -- a body's fixture and where it starts
-unfoldable pub body_parts : Result Fixture SceneFault → Result (V2 × Rot) SceneFault → Result (Fixture × (V2 × Rot)) SceneFault
+unfoldable pub body_parts : Result Fixture SceneFault → Result (V2 × Rot) SceneFault
+    → Result (Fixture × (V2 × Rot)) SceneFault
 body_parts fixture transform = do
   fixture ← fixture
   transform ← transform
@@ -142,12 +148,14 @@ body_parts fixture transform = do
 
 -- `circle OWNER MASS FRICTION R X Y`
 unfoldable pub circle_of : List (List ℕ) → Result (Fixture × (V2 × Rot)) SceneFault
-circle_of (owner ∷ mass ∷ friction ∷ r ∷ x ∷ y ∷ []) = body_parts (circle_fixture owner mass friction r) (circle_transform x y)
+circle_of (owner ∷ mass ∷ friction ∷ r ∷ x ∷ y ∷ []) =
+    body_parts (circle_fixture owner mass friction r) (circle_transform x y)
 circle_of args = Err BadLine
 
 -- `box OWNER MASS FRICTION HX HY X Y C S`
 unfoldable pub box_of : List (List ℕ) → Result (Fixture × (V2 × Rot)) SceneFault
-box_of (owner ∷ mass ∷ friction ∷ hx ∷ hy ∷ x ∷ y ∷ c ∷ s ∷ []) = body_parts (box_fixture owner mass friction hx hy) (box_transform x y c s)
+box_of (owner ∷ mass ∷ friction ∷ hx ∷ hy ∷ x ∷ y ∷ c ∷ s ∷ []) =
+    body_parts (box_fixture owner mass friction hx hy) (box_transform x y c s)
 box_of args = Err BadLine
 
 -- the fields of a body behind its word
@@ -173,15 +181,20 @@ gravity_line limit None (x ∷ y ∷ []) = do
   Ok (scene_in_progress limit (empty_scene gravity))
 gravity_line limit scene args = Err BadLine
 
-abbrev pub with_read_body : ℕ → Scene → Result (Fixture × (V2 × Rot)) SceneFault → Result Progress SceneFault
-with_read_body limit s (Ok body) = Ok (scene_in_progress limit (with_body s body.0 body.1.0 body.1.1))
+abbrev pub with_read_body : ℕ → Scene → Result (Fixture × (V2 × Rot)) SceneFault
+    → Result Progress SceneFault
+with_read_body limit s (Ok body) =
+    Ok (scene_in_progress limit (with_body s body.0 body.1.0 body.1.1))
 with_read_body limit s (Err fault) = Err fault
 
 -- the scene with the body of a line, where it may have one body more
 abbrev pub with_body_line : ℕ → Scene → BodyWord → List (List ℕ) → Result Progress SceneFault
 with_body_line limit s word args =
     if length args == field_count word
-    then (if nat_lt (length s.fixtures) limit then with_read_body limit s (body_of word args) else Err TooMany)
+    then (
+    if nat_lt (length s.fixtures) limit then with_read_body limit s (body_of word args)
+    else Err TooMany
+    )
     else Err BadLine
 
 -- bodies come after gravity
@@ -194,9 +207,11 @@ end_line (Some s) [] = Ok (Ended s)
 end_line scene args = Err BadLine
 
 -- a line by its word
-abbrev pub line_by_word : SceneReader → Option SceneWord → List (List ℕ) → Result Progress SceneFault
+abbrev pub line_by_word : SceneReader → Option SceneWord → List (List ℕ)
+    → Result Progress SceneFault
 line_by_word reader (Some words.Gravity) args = gravity_line reader.max_bodies reader.scene args
-line_by_word reader (Some (words.Body word)) args = body_line reader.max_bodies reader.scene word args
+line_by_word reader (Some (words.Body word)) args =
+    body_line reader.max_bodies reader.scene word args
 line_by_word reader (Some words.End) args = end_line reader.scene args
 line_by_word reader None args = Err BadLine
 

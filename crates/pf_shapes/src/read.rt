@@ -49,8 +49,8 @@ impl Machine<()> for Progress {
 impl Scene {
     ghost use Rattle.pf_shapes.specs.SceneRead.{scene_of, ReadsScene};
 
-    /// Reads a text that holds a scene of at most 1,024 bodies and nothing else: only skipped lines may follow its `end`.
-    /// It takes memory only for lines that are valid.
+    /// Reads a text that holds a scene of at most 1,024 bodies and nothing else: only skipped lines
+    /// may follow its `end`. It takes memory only for lines that are valid.
     #[tactic(auto, unfolding(crate::specs::SceneRead::scene_of))]
     pub fn read(alloc: Global, text: &[u8]) -> Result<Scene, ReadError>
         ensures { ReadsScene text.now result }

@@ -61,7 +61,8 @@ impl SceneReader {
     #[tactic(auto, unfolding(crate::specs::SceneText::line_of))]
     pub fn take(self, alloc: Global, fields: &[&[u8]]) -> Result<Progress, TakeRefusal<SceneFault>>
         ensures read { Reads result (line_of self (map (λ field. field.now) fields.now)) }
-        ensures memory { result ≡ Err Memory → is_body_line (map (λ field. field.now) fields.now) ≡ true }
+        ensures memory { result ≡ Err Memory
+            → is_body_line (map (λ field. field.now) fields.now) ≡ true }
     {
         let [first, arguments @ ..] = fields else {
             return Err(TakeRefusal::Fault(SceneFault::BadLine));
@@ -80,7 +81,8 @@ impl SceneReader {
     /// `gravity GX GY`.
     #[tactic(auto, unfolding(crate::specs::SceneText::gravity_line))]
     fn take_gravity(self, alloc: Global, arguments: &[&[u8]]) -> Result<Progress, SceneFault>
-        ensures { result ≡ gravity_line self.max_bodies self.scene (map (λ field. field.now) arguments.now) }
+        ensures { result ≡ gravity_line self.max_bodies self.scene
+            (map (λ field. field.now) arguments.now) }
     {
         match (self.scene, arguments) {
             (None, [x, y]) => {
@@ -97,7 +99,8 @@ impl SceneReader {
         word: BodyWord,
         arguments: &[&[u8]],
     ) -> Result<Progress, TakeRefusal<SceneFault>>
-        ensures { Reads result (body_line self.max_bodies self.scene word (map (λ field. field.now) arguments.now)) }
+        ensures { Reads result (body_line self.max_bodies self.scene word
+            (map (λ field. field.now) arguments.now)) }
     {
         let max_bodies = self.max_bodies;
         match self.scene {
@@ -136,7 +139,8 @@ fn with_body_line(
     arguments: &[&[u8]],
 ) -> Result<Progress, TakeRefusal<SceneFault>>
     requires { max_bodies ≤ MAX_BODIES }
-    ensures { Reads result (with_body_line max_bodies scene word (map (λ field. field.now) arguments.now)) }
+    ensures { Reads result
+        (with_body_line max_bodies scene word (map (λ field. field.now) arguments.now)) }
 {
     if arguments.len() != field_count(word) {
         return Err(TakeRefusal::Fault(SceneFault::BadLine));

@@ -1,10 +1,11 @@
--- What a buffer of bytes that were read does to what is known, and a writer that takes its bytes piece by piece.
+-- What a buffer of bytes that were read does to what is known, and a writer that takes its bytes
+-- piece by piece.
 use Rattle.std.proofs.Common.{◌≡◌, ℕ, ◌+◌, ◌-◌, ◌≤◌, Option, None, Some, List, [], ◌++◌, length, take, drop, min, refl, sym, ap, subst, ◌∙◌, append_assoc, append-nil, arith, take-append-drop}
 use Rattle.std.specs.Io.KnownBytes.{Consumes, Appends, Keeps, prepend_known}
 use Rattle.std.proofs.lemmas.List.{drop-take, drop-drop, length-take}
 use Rattle.pf_text.specs.Lines.{AppendsPrefix}
 use Rattle.pf_text.specs.Buffer.{unread}
-use Rattle.pf_text.proofs.Taking.{appends_kept, appends_more}
+use Rattle.pf_text.proofs.Taking.{appends_kept, appends_more, appends_after, keeps_same, keeps_more}
 
 -- an empty buffer
 unread-nil : (start end : ℕ) (buffer : List ℕ) → end ≤ start → unread start end buffer ≡ []
@@ -75,3 +76,12 @@ pub keeps_from_appends : (a b : Option (List ℕ)) → Appends a b [] → Keeps 
 keeps_from_appends None b p = tt
 keeps_from_appends (Some xs) None p = absurd p
 keeps_from_appends (Some xs) (Some ys) p = p ∙ append-nil xs
+
+-- ---- for the functions that fill a buffer and that write
+
+pub ruleset fills = (keeps_filled, keeps_unfilled, keeps_same)
+
+-- for a writer that is asked again after an interrupt
+pub ruleset writes_some = (keeps_same, keeps_more, appends_after, keeps_from_appends)
+
+pub ruleset writes_whole = (appends_prefix_kept, appends_whole)

@@ -1,4 +1,4 @@
--- The first place of a byte.
+-- The first position of a byte.
 use Rattle.std.proofs.Common.{◌≡◌, ◌==◌, ℕ, ◌+◌, ◌-◌, ◌<◌, Bool, true, false, not, Option, Some, None, unwrap_or, List, [], ◌∷◌, length, take, drop, refl, sym, ap, subst, ◌∙◌, arith}
 use Rattle.std.specs.List.{position_or_len, slice_split}
 use Rattle.std.proofs.lemmas.Bool.{not_from_true}
@@ -20,7 +20,7 @@ first_or_length byte bytes None none =
 first_or_length byte bytes (Some place) found =
     sym (prefix_len_is (λ b. not (b == byte)) bytes place 0 (omega (arith, found.0.high)) (λ k lt. failed _ (found.0.before k (omega arith) lt)) (λ lt. not_from_true _ found.1))
 
--- the parts round a byte, where its first place was found
+-- the parts round a byte, where its first position was found
 pub split_first : (byte : ℕ) (bytes : List ℕ) (place : ℕ) → IsFirstByte (is_byte byte) bytes (Some place)
     → slice_split (λ b. b == byte) bytes
     ≡ take place bytes ∷ slice_split (λ b. b == byte) (take (length bytes - (place + 1)) (drop (place + 1) bytes))

@@ -1,4 +1,4 @@
--- The laws of the answers to lines.
+-- The laws of the output for lines.
 use Rattle.std.proofs.Common.{◌≡◌, ℕ, ◌+◌, true, List, [], ◌∷◌, ◌++◌, Result, Ok, Err, refl, sym, ap, ◌∙◌, append_assoc}
 use Rattle.pf_text.specs.Driver.{Rules, Output, step, lines_output, and_then, is_plain, is_skipped}
 use Rattle.pf_text.specs.Laws.{ending_then, output_then, output_a_line_later}

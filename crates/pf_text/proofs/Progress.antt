@@ -23,7 +23,8 @@ use Rattle.pf_text.specs.Driver.{Rules, Output, TakesLine, LeadTo, StopsForMemor
 abbrev pub joined : {S F : Type 0} → List ℕ → Output S F → Output S F
 joined written output = record { text = written ++ output.text; ending = output.ending }
 
--- These lines were taken and this was written for them. The output of whatever follows them stands behind that.
+-- These lines were taken and this was written for them. The output of whatever follows them stands
+-- behind that.
 pub record Progress {S F : Type 0} (rules : Rules S F) (start : S) (input before : List ℕ) (left after : Option (List ℕ))
     (number : ℕ) (state : S) : Type 0 where
   pub taken : List (List ℕ)

@@ -27,8 +27,8 @@ abbrev pub is_skipped : List ℕ → Bool
 is_skipped [] = true
 is_skipped (byte ∷ bytes) = byte == 35
 
--- what a machine does: its output for the fields of a line and its next state, or its error; and its error for a line
--- that has no fields
+-- what a machine does: its output for the fields of a line and its next state, or its error; and
+-- its error for a line that has no fields
 pub record Rules (S F : Type 0) : Type 0 where
   pub transition : S → List (List ℕ) → Result (List ℕ × S) F
   pub line_error : LineFault → F
@@ -39,17 +39,20 @@ without_output (Ok state) = Ok ([], state)
 without_output (Err fault) = Err fault
 
 -- the transition for the fields of a line, where it has any
-abbrev pub fields_step : {S F : Type 0} → Rules S F → S → Result (List (List ℕ)) LineFault → Result (List ℕ × S) F
+abbrev pub fields_step : {S F : Type 0} → Rules S F → S → Result (List (List ℕ)) LineFault
+    → Result (List ℕ × S) F
 fields_step rules state (Ok fields) = rules.transition state fields
 fields_step rules state (Err fault) = Err (rules.line_error fault)
 
 -- the output for a line, and the next state
 unfoldable pub step : {S F : Type 0} → Rules S F → S → List ℕ → Result (List ℕ × S) F
 step rules state line =
-    if is_plain line then (if is_skipped line then Ok ([], state) else fields_step rules state (fields_of line))
+    if is_plain line
+    then (if is_skipped line then Ok ([], state) else fields_step rules state (fields_of line))
     else Err (rules.line_error BadLine)
 
--- what is written, and how it ends: with the number of the next line, or with that of the invalid line
+-- what is written, and how it ends: with the number of the next line, or with that of the invalid
+-- line
 pub record Output (S F : Type 0) : Type 0 where
   pub text : List ℕ
   pub ending : Result (ℕ × S) (ℕ × F)
@@ -57,7 +60,8 @@ pub record Output (S F : Type 0) : Type 0 where
 -- the output for a line, and for the lines behind it where it is valid
 abbrev pub and_then : {S F : Type 0} → ℕ → Result (List ℕ × S) F → (S → Output S F) → Output S F
 and_then number (Err fault) others = record { text = []; ending = Err (number, fault) }
-and_then number (Ok reply) others = record { text = reply.0 ++ (others reply.1).text; ending = (others reply.1).ending }
+and_then number (Ok reply) others =
+    record { text = reply.0 ++ (others reply.1).text; ending = (others reply.1).ending }
 
 -- the output for lines, the first of which has this number
 unfoldable pub lines_output : {S F : Type 0} → Rules S F → ℕ → S → List (List ℕ) → Output S F
@@ -69,8 +73,10 @@ lines_output rules number state (line ∷ lines) =
 abbrev pub text_output : {S F : Type 0} → Rules S F → S → List ℕ → Output S F
 text_output rules start input = lines_output rules 1 start (lines_of input)
 
--- these lines were taken from the input, then this one, of whose bytes at most 4,097 were taken, and this is left
-pub record TakesLine (input : List ℕ) (lines : List (List ℕ)) (line : List ℕ) (left : Option (List ℕ)) : Type 0 where
+-- these lines were taken from the input, then this one, of whose bytes at most 4,097 were taken,
+-- and this is left
+pub record TakesLine (input : List ℕ) (lines : List (List ℕ)) (line : List ℕ) (left : Option (List ℕ))
+    : Type 0 where
   pub bytes : List ℕ
   pub taken : Taken
   pub lines_are : AreLines input lines bytes
@@ -105,8 +111,9 @@ module _ {S F : Type 0} (rules : Rules S F) (start : S) (t : Transfer) where
     pub not_skipped : is_skipped line ≡ false
     pub valid : IsOk (step rules state line)
 
-  -- A machine ran out of memory at a line that is valid and not skipped, behind lines that are valid, and whose output
-  -- was written. A run of 2^64 - 2 valid lines ends so too, since no number is left for the next.
+  -- A machine ran out of memory at a line that is valid and not skipped, behind lines that are
+  -- valid, and whose output was written. A run of 2^64 - 2 valid lines ends so too, since no number
+  -- is left for the next.
   pub record StopsForMemory : Type 0 where
     pub lines : List (List ℕ)
     pub text : List ℕ
@@ -128,8 +135,8 @@ module _ {S F : Type 0} (rules : Rules S F) (start : S) (t : Transfer) where
     pub part_is : is_line part ≡ true
     pub left_is : t.left ≡ Some rest
 
-  -- The writer failed at the output of a valid line that has some: a part of it was written behind that of the valid
-  -- lines before.
+  -- The writer failed at the output of a valid line that has some: a part of it was written behind
+  -- that of the valid lines before.
   pub record StopsForWrite : Type 0 where
     pub lines : List (List ℕ)
     pub text : List ℕ
@@ -170,7 +177,8 @@ fault_at number refusals.Memory = faults.Memory
 fault_at number (refusals.Fault fault) = faults.Line number fault
 
 -- a machine returns the transition of its rules; it runs out of memory only where that is no error
-abbrev pub Produces : {S F : Type 0} → Result (String Global × S) (TakeRefusal F) → Result (List ℕ × S) F → Type 0
+abbrev pub Produces : {S F : Type 0} → Result (String Global × S) (TakeRefusal F)
+    → Result (List ℕ × S) F → Type 0
 Produces (Ok reply) transition = transition ≡ Ok (string_bytes reply.0, reply.1)
 Produces (Err refusals.Memory) transition = IsOk transition
 Produces (Err (refusals.Fault fault)) transition = transition ≡ Err fault

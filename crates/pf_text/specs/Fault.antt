@@ -1,4 +1,5 @@
--- Steps that may give an error, and what a function returns that may run out of memory, beside a definition that cannot.
+-- Steps that may give an error, and what a function returns that may run out of memory, beside a
+-- definition that cannot.
 use Rattle.std.specs.Prelude.{◌≡◌, Result, Ok, Err, IsOk}
 use Rattle.pf_text.specs.declared.fault.LineFault.{LineFault}
 use Rattle.pf_text.specs.declared.fault.LineError.{LineError}

@@ -1,4 +1,5 @@
--- What laws of texts speak of: fields, the bytes behind the last LF, one output behind another, and lines that come later.
+-- What laws of texts speak of: fields, the bytes behind the last LF, one output behind another, and
+-- lines that come later.
 use Rattle.std.specs.Prelude.{ℕ, ◌+◌, Bool, not, ◌&&◌, List, [], ◌∷◌, ◌++◌, length, Result, Ok, Err, ◌==◌}
 use Rattle.std.specs.List.{list_all}
 use Rattle.pf_text.specs.Driver.{Output}
@@ -17,9 +18,11 @@ unterminated_line [] = []
 unterminated_line (byte ∷ bytes) = (byte ∷ bytes) ∷ []
 
 -- a text, and behind it the output of what follows where it came to its end
-abbrev pub ending_then : {S F : Type 0} → List ℕ → Result (ℕ × S) (ℕ × F) → (ℕ → S → Output S F) → Output S F
+abbrev pub ending_then : {S F : Type 0} → List ℕ → Result (ℕ × S) (ℕ × F) → (ℕ → S → Output S F)
+    → Output S F
 ending_then text (Ok ended) others =
-    record { text = text ++ (others ended.0 ended.1).text; ending = (others ended.0 ended.1).ending }
+    let output = others ended.0 ended.1 in
+    record { text = text ++ output.text; ending = output.ending }
 ending_then text (Err fault) others = record { text = text; ending = Err fault }
 
 -- an output, and behind it that of what follows where it came to its end
@@ -33,4 +36,5 @@ ending_a_line_later (Err fault) = Err (fault.0 + 1, fault.1)
 
 -- the same output, a line later
 abbrev pub output_a_line_later : {S F : Type 0} → Output S F → Output S F
-output_a_line_later output = record { text = output.text; ending = ending_a_line_later output.ending }
+output_a_line_later output =
+    record { text = output.text; ending = ending_a_line_later output.ending }

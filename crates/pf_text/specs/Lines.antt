@@ -9,7 +9,8 @@ use Rattle.pf_text.specs.declared.lines.ReadFailed.{ReadFailed}
 -- the lines of a text, without their LFs
 unfoldable pub lines_of : List ℕ → List (List ℕ)
 lines_of [] = []
-lines_of (byte ∷ bytes) = if byte == 10 then [] ∷ lines_of bytes else onto_first byte (lines_of bytes)
+lines_of (byte ∷ bytes) =
+    if byte == 10 then [] ∷ lines_of bytes else onto_first byte (lines_of bytes)
 
 -- a line with its LF
 abbrev pub terminated_line : List ℕ → List ℕ
@@ -39,14 +40,18 @@ abbrev pub Takes : List ℕ → List ℕ → Option (List ℕ) → Result Taken 
 Takes bytes line left (Ok Line) =
     TakesPrefix bytes (terminated_line line) left × (is_line line ≡ true) × (length line ≤ 4096)
 Takes bytes line left (Ok Last) =
-    (line ≡ bytes) × (left ≡ Some []) × (is_line line ≡ true) × (0 < length line) × (length line ≤ 4096)
+    (line ≡ bytes) × (left ≡ Some []) × (is_line line ≡ true) × (0 < length line)
+    × (length line ≤ 4096)
 Takes bytes line left (Ok End) = (bytes ≡ []) × (left ≡ Some [])
 Takes bytes line left (Ok TooLong) =
     TakesPrefix bytes line left × (is_line line ≡ true) × (length line ≡ 4097)
-Takes bytes line left (Err failed) = (part : List ℕ) × TakesPrefix bytes part left × (is_line part ≡ true)
+Takes bytes line left (Err failed) =
+    (part : List ℕ) × TakesPrefix bytes part left × (is_line part ≡ true)
 
--- bytes of one line were taken and appended to what was taken of it; its LF too, where that was reached
-pub record ExtendsLine (unread left : Option (List ℕ)) (old new : List ℕ) (is_end : Bool) : Type 0 where
+-- bytes of one line were taken and appended to what was taken of it; its LF too, where that was
+-- reached
+pub record ExtendsLine (unread left : Option (List ℕ)) (old new : List ℕ) (is_end : Bool)
+    : Type 0 where
   pub part : List ℕ
   pub part_is : is_line part ≡ true
   pub line_is : new ≡ old ++ part

@@ -17,7 +17,8 @@ digits_of digits = if list_all is_ascii_digit digits then Some (digits_value 10 
 -- `0`, or digits without a leading zero
 unfoldable pub natural_of : List ℕ → Option ℕ
 natural_of [] = None
-natural_of (digit ∷ digits) = if digit == 48 && not (length digits == 0) then None else digits_of (digit ∷ digits)
+natural_of (digit ∷ digits) =
+    if digit == 48 && not (length digits == 0) then None else digits_of (digit ∷ digits)
 
 -- minus a number that is not 0
 abbrev pub negative : Option ℕ → Option ℤ
@@ -28,7 +29,8 @@ negative (Some (suc n)) = Some (negsuc n)
 -- the whole number that a field encodes
 unfoldable pub whole_of : List ℕ → Option ℤ
 whole_of [] = None
-whole_of (byte ∷ bytes) = if byte == 45 then negative (natural_of bytes) else option_map pos (natural_of (byte ∷ bytes))
+whole_of (byte ∷ bytes) =
+    if byte == 45 then negative (natural_of bytes) else option_map pos (natural_of (byte ∷ bytes))
 
 -- a number clamped to -2^56 to 2^56
 abbrev pub clamp_whole : ℤ → ℤ

@@ -17,7 +17,8 @@ use std::alloc::{AllocError, AllocFailed, Global};
 /// How many fields a line has where they are split without much of the stack.
 const FEW_FIELDS: usize = 16;
 
-/// The most fields that a line can have: each has a byte, and all but the last have a space behind them.
+/// The most fields that a line can have: each has a byte, and all but the last have a space behind
+/// them.
 const MAX_FIELDS: usize = 2048;
 
 /// Why a machine took no line.
@@ -45,7 +46,8 @@ impl<F, T: Drop> From<AllocFailed<T>> for TakeRefusal<F> {
     }
 }
 
-/// What lines mean: a state that takes the fields of one line after the other. Each line is lent an `L`.
+/// What lines mean: a state that takes the fields of one line after the other. Each line is lent an
+/// `L`.
 pub trait Machine<L>: Drop {
     /// What can be wrong with a line.
     type Fault: Drop;
@@ -126,7 +128,8 @@ fn take_fields<'a, L, M: Machine<L>>(
     machine.take(alloc, lent, &fields[..count])
 }
 
-/// The same for any line. It stands alone, so that lines of few fields do not pay for its 32 KiB of stack.
+/// The same for any line. It stands alone, so that lines of few fields do not pay for its 32 KiB of
+/// stack.
 #[inline(never)]
 fn take_many_fields<L, M: Machine<L>>(
     alloc: Global,
@@ -140,7 +143,8 @@ fn take_many_fields<L, M: Machine<L>>(
     take_fields(alloc, lent, machine, line, &mut [line; MAX_FIELDS])
 }
 
-/// The output for a line, and the next state. Only the machine takes memory, and only for a valid line.
+/// The output for a line, and the next state. Only the machine takes memory, and only for a valid
+/// line.
 #[tactic(auto, unfolding(crate::specs::Driver::step))]
 fn output<L, M: Machine<L>>(
     alloc: Global,
@@ -197,7 +201,8 @@ fn fault_at<F>(number: u64, refusal: TakeRefusal<F>) -> DriveFault<F>
 fn write_text<W: Sink>(writer: &mut W, text: &str) -> Result<(), WriteFailed>
     requires { W.failures writer.old + 1 < 2 ^ 64 }
     ensures ok { OnOk result (Appends (W.contents writer.old) (W.contents writer.new) text.now) }
-    ensures err { OnErr result (AppendsPrefix (W.contents writer.old) (W.contents writer.new) text.now) }
+    ensures err { OnErr result
+        (AppendsPrefix (W.contents writer.old) (W.contents writer.new) text.now) }
     ensures some { OnErr result (0 < length text.now) }
     ensures counted { Counts (W.failures writer.old) result (W.failures writer.new) }
 {
@@ -207,10 +212,12 @@ fn write_text<W: Sink>(writer: &mut W, text: &str) -> Result<(), WriteFailed>
     writer.write_all(text.as_bytes())
 }
 
-/// Processes the lines of a text one by one: the output of a machine for a line is written before the next line is read.
+/// Processes the lines of a text one by one: the output of a machine for a line is written before
+/// the next line is read.
 ///
-/// A line that is empty or begins with `#` is counted and skipped. At the end it returns the number of the line after
-/// the last, and the machine. At an error the output for the lines before it was written. Only the machine takes memory.
+/// A line that is empty or begins with `#` is counted and skipped. At the end it returns the number
+/// of the line after the last, and the machine. At an error the output for the lines before it was
+/// written. Only the machine takes memory.
 pub fn drive<L, M: Machine<L>, R: Source, W: Sink>(
     alloc: Global,
     lent: &mut L,

@@ -11,7 +11,8 @@ use std::alloc::{AllocError, Global};
 /// The part before the first space and the bytes behind it, if there is one.
 fn split_once(line: &[u8]) -> Option<(&[u8], &[u8])>
     ensures some { IfSome result (λ parts. parts_of line.now ≡ parts.0.now ∷ parts_of parts.1.now) }
-    ensures sizes { IfSome result (λ parts. length parts.0.now + 1 + length parts.1.now ≡ length line.now) }
+    ensures sizes { IfSome result (λ parts.
+        length parts.0.now + 1 + length parts.1.now ≡ length line.now) }
     ensures none { IfNone result (parts_of line.now ≡ line.now ∷ []) }
 {
     match memchr(b' ', line) {
@@ -77,7 +78,8 @@ pub fn split_into<'a>(line: &'a [u8], parts: &mut [&'a [u8]]) -> usize
 
 /// The fields of a line, which are separated by one space; a field without bytes is `BadLine`.
 pub fn fields_of<'a>(alloc: Global, line: &'a [u8]) -> Result<Vec<&'a [u8]>, LineError>
-    ensures { Returns (λ fields. map (λ field. field.now) fields.items) result (fields_of line.now) }
+    ensures { Returns (λ fields. map (λ field. field.now) fields.items) result
+        (fields_of line.now) }
 {
     field_count(line)?;
     Ok(parts_of(alloc, line)?)

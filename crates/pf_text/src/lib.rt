@@ -1,4 +1,5 @@
-//! Texts as lines, fields and whole numbers: what a program that processes lines needs, whatever the lines mean.
+//! Texts as lines, fields and whole numbers: what a program that processes lines needs, whatever
+//! the lines mean.
 #![tactic(auto)]
 
 mod driver;

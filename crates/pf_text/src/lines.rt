@@ -27,8 +27,8 @@ pub struct ReadFailed;
 #[error("write failed")]
 pub struct WriteFailed;
 
-/// Bytes that come one after the other, some of which are ready. A source counts its failures, and exposes its bytes to proofs
-/// where it knows them.
+/// Bytes that come one after the other, some of which are ready. A source counts its failures, and
+/// exposes its bytes to proofs where it knows them.
 pub trait Source {
     // The bytes that are still to come, or `None`, of which nothing is claimed.
     ghost remaining: { Self → Option (List ℕ) };
@@ -53,11 +53,13 @@ pub trait Source {
     /// Takes the first bytes of those that are ready.
     fn skip(&mut self, count: usize)
         requires { count ≤ length (ready self.old) }
-        ensures taken { Consumes (remaining self.old) (remaining self.new) (take count (ready self.old)) }
+        ensures taken { Consumes (remaining self.old) (remaining self.new)
+            (take count (ready self.old)) }
         ensures counted { failures self.new ≡ failures self.old };
 }
 
-/// Where bytes go. A sink counts its failures, and exposes the bytes that it has taken to proofs where it knows them.
+/// Where bytes go. A sink counts its failures, and exposes the bytes that it has taken to proofs
+/// where it knows them.
 pub trait Sink {
     // The bytes that it has taken, or `None`, of which nothing is claimed.
     ghost contents: { Self → Option (List ℕ) };
@@ -65,11 +67,13 @@ pub trait Sink {
     // How often it failed.
     ghost failures: { Self → ℕ };
 
-    /// Writes all the bytes, none of which waits for later ones. At a failure a prefix of them was written.
+    /// Writes all the bytes, none of which waits for later ones. At a failure a prefix of them was
+    /// written.
     fn write_all(&mut self, bytes: &[u8]) -> Result<(), WriteFailed>
         requires { failures self.old + 1 < 2 ^ 64 }
         ensures ok { OnOk result (Appends (contents self.old) (contents self.new) bytes.now) }
-        ensures err { OnErr result (AppendsPrefix (contents self.old) (contents self.new) bytes.now) }
+        ensures err { OnErr result
+            (AppendsPrefix (contents self.old) (contents self.new) bytes.now) }
         ensures counted { Counts (failures self.old) result (failures self.new) };
 }
 
@@ -94,7 +98,8 @@ fn line_length(bytes: &[u8]) -> usize
     memchr(b'\n', bytes).unwrap_or(bytes.len())
 }
 
-/// Takes the bytes of a line that are ready, appends them to what was taken of it, and returns whether its LF was taken.
+/// Takes the bytes of a line that are ready, appends them to what was taken of it, and returns
+/// whether its LF was taken.
 fn take_part<R: Source>(source: &mut R, line: &mut LineBuffer) -> bool
     requires begun { length line.old.items ≤ MAX_LINE }
     ensures part { ExtendsLine (R.remaining source.old) (R.remaining source.new)
@@ -114,7 +119,8 @@ fn take_part<R: Source>(source: &mut R, line: &mut LineBuffer) -> bool
     is_ended
 }
 
-/// Takes the next line of a source into `line`, which it empties first, with one byte more than a line may have at most.
+/// Takes the next line of a source into `line`, which it empties first, with one byte more than a
+/// line may have at most.
 ///
 /// At an error a part of one line was taken. It takes no memory.
 pub fn take_line<R: Source>(source: &mut R, line: &mut LineBuffer) -> Result<Taken, ReadFailed>

@@ -21,7 +21,7 @@ pub enum ParsedNumber {
 }
 
 /// The number that decimal digits encode, at most `MOST`.
-#[tactic(auto, using(crate::proofs::Digits::digits_value_next, crate::proofs::Digits::list_all_next))]
+#[tactic(auto, using(crate::proofs::Digits::next_digit))]
 fn digits_value(digits: &[u8]) -> Option<u64>
     ensures { result ≡ option_map (min (2 ^ 56)) (digits_of digits.now) }
 {

@@ -11,12 +11,14 @@ use std::io::{ErrorKind, Read, Write};
 /// How many bytes are read at once.
 const BUFFER: usize = 8192;
 
-/// Reads the bytes that there are, and again after an interrupt. It returns 0 at the end, and nowhere else.
-#[tactic(auto, using(crate::proofs::Taking::keeps_same, crate::proofs::Taking::keeps_more, crate::proofs::Taking::consumes_after))]
+/// Reads the bytes that there are, and again after an interrupt. It returns 0 at the end, and
+/// nowhere else.
+#[tactic(auto, using(crate::proofs::Taking::reads))]
 #[inline(never)]
 fn read_some<R: Read>(reader: &mut R, buffer: &mut [u8]) -> Result<usize, ReadFailed>
     ensures within { IfOk result (λ count. count ≤ length buffer.new) }
-    ensures read { ReadConsumes (R.remaining reader.old) (R.remaining reader.new) result buffer.new }
+    ensures read { ReadConsumes (R.remaining reader.old) (R.remaining reader.new)
+        result buffer.new }
 {
     for _ in 0..u64::MAX {
         match reader.read(buffer) {
@@ -58,13 +60,14 @@ impl<R: Read> Input<R> {
 }
 
 impl<R: Read> Source for Input<R> {
-    ghost remaining = { λ source. prepend_known (unread source.start source.end source.buffer) (R.remaining source.reader) };
+    ghost remaining = { λ source. prepend_known (unread source.start source.end source.buffer)
+        (R.remaining source.reader) };
 
     ghost ready = { λ source. unread source.start source.end source.buffer };
 
     ghost failures = { λ source. source.failures };
 
-    #[tactic(auto, using(crate::proofs::Buffered::keeps_filled, crate::proofs::Buffered::keeps_unfilled, crate::proofs::Taking::keeps_same))]
+    #[tactic(auto, using(crate::proofs::Buffered::fills))]
     #[inline]
     fn fill(&mut self) -> Result<(), ReadFailed> {
         if self.start < self.end {
@@ -96,10 +99,11 @@ impl<R: Read> Source for Input<R> {
 }
 
 /// Writes a prefix of the bytes, which are not empty, and again after an interrupt.
-#[tactic(auto, using(crate::proofs::Taking::keeps_same, crate::proofs::Taking::keeps_more, crate::proofs::Taking::appends_after, crate::proofs::Buffered::keeps_from_appends))]
+#[tactic(auto, using(crate::proofs::Buffered::writes_some))]
 fn write_some<W: Write>(writer: &mut W, bytes: &[u8]) -> Result<usize, WriteFailed>
     ensures some { IfOk result (λ count. (0 < count) × (count ≤ length bytes.now)) }
-    ensures ok { IfOk result (λ count. Appends (W.contents writer.old) (W.contents writer.new) (take count bytes.now)) }
+    ensures ok { IfOk result
+        (λ count. Appends (W.contents writer.old) (W.contents writer.new) (take count bytes.now)) }
     ensures err { OnErr result (Keeps (W.contents writer.old) (W.contents writer.new)) }
 {
     for _ in 0..u64::MAX {
@@ -114,10 +118,11 @@ fn write_some<W: Write>(writer: &mut W, bytes: &[u8]) -> Result<usize, WriteFail
 }
 
 /// Writes all the bytes.
-#[tactic(auto, using(crate::proofs::Buffered::appends_prefix_kept, crate::proofs::Buffered::appends_whole))]
+#[tactic(auto, using(crate::proofs::Buffered::writes_whole))]
 fn write_whole<W: Write>(writer: &mut W, bytes: &[u8]) -> Result<(), WriteFailed>
     ensures ok { OnOk result (Appends (W.contents writer.old) (W.contents writer.new) bytes.now) }
-    ensures err { OnErr result (AppendsPrefix (W.contents writer.old) (W.contents writer.new) bytes.now) }
+    ensures err { OnErr result
+        (AppendsPrefix (W.contents writer.old) (W.contents writer.new) bytes.now) }
 {
     let mut rest = bytes;
     while !rest.is_empty() {
@@ -127,7 +132,8 @@ fn write_whole<W: Write>(writer: &mut W, bytes: &[u8]) -> Result<(), WriteFailed
     Ok(())
 }
 
-/// A writer as a sink, which is flushed at each write and exposes to proofs the bytes that the writer exposes.
+/// A writer as a sink, which is flushed at each write and exposes to proofs the bytes that the
+/// writer exposes.
 #[derive(Debug, Drop)]
 pub struct Output<W: Write> {
     writer: W,

@@ -116,8 +116,8 @@ fn lines_end_with_a_line_feed(rt: HostRuntime) -> Result<(), Fail> {
     Ok(())
 }
 
-/// The reply to a line of one field is `ok`, to one of two fields nothing, and to one of 2,000 fields `many`. Any other line
-/// is invalid.
+/// The reply to a line of one field is `ok`, to one of two fields nothing, and to one of 2,000
+/// fields `many`. Any other line is invalid.
 #[derive(Clone, Copy, Debug, PartialEq, Eq)]
 struct Parrot;
 
@@ -230,7 +230,8 @@ fn failure(call: usize) -> Error {
     })
 }
 
-/// A reader that gives a byte at a time, is interrupted three times before each, and fails at one call.
+/// A reader that gives a byte at a time, is interrupted three times before each, and fails at one
+/// call.
 #[derive(Drop)]
 struct Trickle<'a> {
     bytes: &'a [u8],
@@ -287,8 +288,8 @@ fn a_reader_may_fail_at_each_call(rt: HostRuntime) -> Result<(), Fail> {
     Ok(())
 }
 
-/// A writer that takes two bytes at a time, is interrupted up to three times before each write, and fails
-/// at one call.
+/// A writer that takes two bytes at a time, is interrupted up to three times before each write, and
+/// fails at one call.
 #[derive(Drop)]
 struct Brittle {
     taken: Vec<u8>,
@@ -446,7 +447,7 @@ fn a_writer_that_takes_nothing_has_failed(rt: HostRuntime) -> Result<(), Fail> {
 }
 
 #[test]
-fn faults_are_shown_by_their_names(rt: HostRuntime) -> Result<(), Fail> {
+fn errors_are_shown_by_their_names(rt: HostRuntime) -> Result<(), Fail> {
     let fault = LineError::Fault(LineFault::BadNumber);
     let text = format!(in rt.alloc(); "{} {fault}", LineFault::BadLine)?;
     assert_eq!(rt; text.as_str(), "BadLine BadNumber");

@@ -1,8 +1,11 @@
-//! Worked scenes, their faults, and bounds.
+//! Worked scenes, invalid ones, and bounds.
 
-use super::*;
 use pf_num::Fx;
 use pf_rot::{Rot, V2};
+use pf_shapes::{
+    BodyState, Bounds, Fixture, MAX_BODIES, Progress, ReadError, Scene, SceneFault, SceneReader,
+    Shape, laws,
+};
 use std::alloc::{AllocError, Global};
 use std::test::Fail;
 
@@ -43,7 +46,7 @@ fn a_scene_is_read(rt: HostRuntime) -> Result<(), Fail> {
 }
 
 #[test]
-fn each_fault_has_its_line_and_name(rt: HostRuntime) -> Result<(), Fail> {
+fn each_error_has_its_line_and_name(rt: HostRuntime) -> Result<(), Fail> {
     for (text, number, fault) in FAULTS {
         let read = Scene::read(rt.alloc(), text).err();
         if read == Some(ReadError::Memory) {
@@ -97,7 +100,7 @@ const FAULTS: [(&[u8], u64, SceneFault); 31] = [
 ];
 
 #[test]
-fn faults_are_shown_by_their_names(rt: HostRuntime) -> Result<(), Fail> {
+fn errors_are_shown_by_their_names(rt: HostRuntime) -> Result<(), Fail> {
     let shown = [
         (SceneFault::BadLine, "line 7: BadLine"),
         (SceneFault::BadNumber, "line 7: BadNumber"),
