@@ -26,7 +26,7 @@ IsUp-filter p a (suc n) =
       | false ↦ IsUp-from (a + 1) a rest (omega arith) (IsUp-filter p (a + 1) n)
     ]
 
--- each pair's first body is low or later
+-- the first body of each pair is low or later
 abbrev AreFrom : ℕ → List Pair → Type 0
 AreFrom low ps = AllByRecursion (λ p. low ≤ p.a) ps
 
@@ -38,7 +38,7 @@ AreFrom-less : (low low' : ℕ) (ps : List Pair) → low' ≤ low → AreFrom lo
 AreFrom-less low low' [] h from = tt
 AreFrom-less low low' (p ∷ ps) h from = (omega (arith, from.0), AreFrom-less low low' ps h from.1)
 
--- a pair stands before all of these
+-- a pair is before all of these
 abbrev IsBeforeAll : Pair → List Pair → Type 0
 IsBeforeAll p qs = AllByRecursion (λ q. is_before p q ≡ true) qs
 
@@ -55,7 +55,7 @@ IsBeforeAll-map i j low (x ∷ xs) h up =
 before-first : (p q : Pair) → p.a < q.a → is_before p q ≡ true
 before-first p q h = let yes : nat_lt p.a q.a ≡ true = grind (arith, nat_tests) in rw yes refl
 
--- a body's pairs stand before those of later bodies
+-- the pairs of a body are before those of later bodies
 IsBeforeAll-later : (p : Pair) (low : ℕ) (qs : List Pair) → p.a < low → AreFrom low qs → IsBeforeAll p qs
 IsBeforeAll-later p low [] h from = tt
 IsBeforeAll-later p low (q ∷ qs) h from =

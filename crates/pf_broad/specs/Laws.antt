@@ -18,7 +18,7 @@ IsExact bs = (i j : ℕ) → has_pair (pairs bs) i j
 abbrev pub is_before : Pair → Pair → Bool
 is_before p q = nat_lt p.a q.a || ((p.a == q.a) && nat_lt p.b q.b)
 
--- each pair stands before all that follow it, so none stands twice
+-- each pair is before all that follow it, so none occurs twice
 abbrev pub IsAscending : List Pair → Type 0
 IsAscending [] = Unit {0}
 IsAscending (p ∷ ps) = AllByRecursion (λ q. is_before p q ≡ true) ps × IsAscending ps

@@ -79,7 +79,9 @@ fn two_peers_end_equal(rt: HostRuntime) -> Result<(), Fail> {
         panic!(rt; "there is no such body");
     };
     assert!(rt; left == right);
-    let (first, second) = (left.bodies()[0], left.bodies()[1]);
+    let [first, second] = left.bodies() else {
+        panic!(rt; "there are two bodies");
+    };
     let (near, far) = (first.position, second.position);
     assert_eq!(rt; near.x.raw(), 20 * 262_144);
     assert_eq!(rt; far.x.raw(), 99_999_999 + 15 * 262_144);

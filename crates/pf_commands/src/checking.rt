@@ -40,6 +40,3 @@ pub fn check(scene: &Scene, command: &Command) -> Result<(), CheckFault>
     }
     Ok(())
 }
-
-#[cfg(test)]
-mod tests;

@@ -14,9 +14,6 @@ use byteorder::{BigEndian, ByteOrder};
 use pf_num::Fx;
 use pf_shapes::PLAYERS;
 
-#[cfg(test)]
-mod tests;
-
 /// The length of a frame, in bytes.
 pub const FRAME_LEN: usize = 27;
 

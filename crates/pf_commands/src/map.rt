@@ -304,6 +304,3 @@ fn earlier(least: Option<u32>, tick: u32) -> u32
         Some(least) => tick.min(least),
     }
 }
-
-#[cfg(test)]
-mod tests;

@@ -18,6 +18,3 @@ pub use frame::frame_text;
 pub use reporting::{finish, report};
 pub use request::{Request, VERSION, perform};
 pub use run::run_text;
-
-#[cfg(test)]
-mod tests;

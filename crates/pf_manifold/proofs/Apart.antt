@@ -11,7 +11,7 @@ use Rattle.pf_manifold.specs.Collide.{collide}
 use Rattle.pf_manifold.specs.Touches.{placed_shape_at, touch_of, touches_of, touches}
 use Rattle.pf_manifold.proofs.Pairs.{touches_more}
 
--- two lists that are nothing together are nothing
+-- two lists whose concatenation is empty are empty
 both_empty : {A : Type 0} (xs ys : List A) → xs ++ ys ≡ [] → (xs ≡ []) × (ys ≡ [])
 both_empty [] ys e = (refl, e)
 both_empty (x ∷ xs) ys e = absurd (cc)

@@ -1,4 +1,4 @@
--- What clipping leaves of an edge: its part within the width of a face.
+-- A clipped edge is within the width of the face.
 use Rattle.std.proofs.Common.{◌≡◌, ℤ, pos, neg_ℤ, ◌≤ℤ◌, ◌<ℤ◌, Bool, true, false, Option, Some, None, ◌⊎◌, ◌↔◌, inl, inr, ⊎_elim, refl, subst, arith}
 use Rattle.std.proofs.lemmas.Int.{ints}
 use Rattle.std.specs.Prelude.{int_lt}
@@ -8,9 +8,9 @@ use Rattle.pf_manifold.specs.Clip.{crossing, clip_to_line, clip_low, clip_high, 
 use Rattle.pf_manifold.specs.GeometryLaws.{LiesWithin, HasEndsWithin, HasEndsBelow, HasEndsAbove}
 use Rattle.pf_manifold.proofs.Comparisons.{is_below, not_above, tests_above, tests_below}
 
--- ---- one cut
+-- ---- one side
 
--- both ends of what is left
+-- both ends of a clipped segment
 abbrev EachEnd : (ClipVertex → Type 0) → Option Segment → Type 0
 EachEnd P None = Unit {0}
 EachEnd P (Some s) = P s.first × P s.second
@@ -45,7 +45,7 @@ high_ends (Some s) side some low =
     kept_ends (LiesWithin side) (int_lt side s.first.side) (int_lt side s.second.side) s (crossing s.first s.second side CutHigh)
     (λ e. (low.0, not_above _ _ e)) (λ e. (low.1, not_above _ _ e)) (omega (arith, ints), omega (arith, ints))
 
--- ---- both cuts
+-- ---- both sides
 
 clipped_ends : (s : Segment) (side : ℤ) → pos 0 ≤ℤ side → EachEnd (LiesWithin side) (clip s side)
 unfolding clip
@@ -54,7 +54,7 @@ clipped_ends s side some = high_ends (clip_low s (neg_ℤ side)) side some (low_
 pub clipped_within : (s t : Segment) (side : ℤ) → pos 0 ≤ℤ side → clip s side ≡ Some t → HasEndsWithin side t
 clipped_within s t side some e = let P = EachEnd (LiesWithin side) in subst P e (clipped_ends s side some)
 
--- an edge that lies on the high side of a limit stays as it is, and so does one on the low side
+-- an edge above a lower limit stays as it is, and so does one below an upper limit
 low_whole : (s : Segment) (limit : ℤ) → limit ≤ℤ s.first.side → limit ≤ℤ s.second.side → clip_low s limit ≡ Some s
 unfolding clip_low clip_to_line
 low_whole s limit first second = rw (tests_above s.first.side limit first, tests_above s.second.side limit second) refl
@@ -82,14 +82,14 @@ unfolding clip
 clipped_above s side some h =
     rw (low_whole s (neg_ℤ side) (omega (arith, ints, h.0)) (omega (arith, ints, h.1))) (high_nothing s side h.0 h.1)
 
--- both ends of what the high cut leaves nothing of are above
+-- both ends are above an upper limit that leaves nothing
 above_high : (s : Segment) (side : ℤ) → clip_high s side ≡ None → HasEndsAbove side s
 unfolding clip_high
 above_high s side e =
     let tests = kept_nothing (int_lt side s.first.side) (int_lt side s.second.side) s (crossing s.first s.second side CutHigh) e in
     (is_below side s.first.side tests.0, is_below side s.second.side tests.1)
 
--- a cut end is at the low side, which isn't above
+-- a crossing with the low side isn't above the high side
 not_cut : (side : ℤ) → pos 0 ≤ℤ side → side <ℤ neg_ℤ side → ⊥
 not_cut side some h = omega (arith, ints)
 

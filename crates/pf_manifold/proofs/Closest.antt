@@ -1,4 +1,4 @@
--- The point of a box that is closest to a position, and the face that is closest to it.
+-- The point of a box closest to a position, and the face closest to it.
 use Rattle.std.proofs.Common.{◌≡◌, ℕ, ◌≤◌, ℤ, pos, neg_ℤ, ◌-ℤ◌, ◌≤ℤ◌, Bool, true, false, refl, arith}
 use Rattle.std.proofs.lemmas.Int.{ints, clamps}
 use Rattle.std.proofs.Math.Nat.{mul-le-mul}
@@ -59,8 +59,7 @@ itself_is_closest half d inside =
 
 -- ---- the closest face
 
--- of two faces the closer one is as close as either, and it is the second only where that is closer
--- than the first
+-- the closer of two faces is no farther than either, and it is the second only where that is closer
 record IsCloser (half d : V2) (best face closer : Face) : Type 0 where
   as_first : face_distance half d closer ≤ℤ face_distance half d best
   as_second : face_distance half d closer ≤ℤ face_distance half d face
@@ -94,7 +93,7 @@ of_two half d = closer_face half d Right Top
 abbrev of_three : V2 → V2 → Face
 of_three half d = closer_face half d (of_two half d) Left
 
--- what the three choices say of the face that they end at
+-- what the three comparisons give
 record AreChoices (half d : V2) : Type 0 where
   first : IsCloser half d Right Top (of_two half d)
   second : IsCloser half d (of_two half d) Left (of_three half d)

@@ -1,4 +1,4 @@
--- What the test of two numbers says of them, and they of it.
+-- The test int_lt and the order of whole numbers.
 use Rattle.std.proofs.Common.{◌≡◌, ℤ, ◌≤ℤ◌, ◌<ℤ◌, true, false, arith}
 use Rattle.std.proofs.lemmas.Bool.Decides.{nat_tests}
 use Rattle.std.proofs.lemmas.Int.{ints}
@@ -13,6 +13,6 @@ tests_below x y h = grind (arith, ints, nat_tests)
 pub tests_above : (x y : ℤ) → y ≤ℤ x → int_lt x y ≡ false
 tests_above x y h = grind (arith, ints, nat_tests)
 
--- a number that another isn't below is at least as great
+-- a failed test gives the reverse order
 pub not_above : (x y : ℤ) → int_lt x y ≡ false → y ≤ℤ x
 not_above x y e = grind (arith, ints, nat_tests)

@@ -1,4 +1,4 @@
--- The points of two bodies: at most two, in ascending order of features.
+-- Two bodies have at most two contact points, in ascending order of features.
 use Rattle.std.proofs.Common.{◌≡◌, ◌≢◌, ℕ, ◌+◌, ◌<◌, ℤ, Bool, true, false, List, [], ◌∷◌, Option, Some, None, refl, arith}
 use Rattle.std.proofs.lemmas.Bool.Decides.{nat_tests}
 use Rattle.std.specs.Prelude.{int_lt, nat_lt, if◌then◌else◌}
@@ -35,7 +35,7 @@ abbrev HasMarks : ℕ → Option Segment → Type 0
 HasMarks n None = Unit {0}
 HasMarks n (Some s) = AreMarks n (mark_number s.first.mark) (mark_number s.second.mark)
 
--- a cut brings a new mark
+-- a crossing has a new mark
 kept_marks : (n : ℕ) (first_out second_out : Bool) (s : Segment) (cut : ClipVertex) → mark_number cut.mark ≡ n → HasMarks n (Some s)
     → HasMarks (n + 1) (clip_to_line first_out second_out s cut)
 unfolding clip_to_line

@@ -1,5 +1,4 @@
--- Two boxes the other way round: what either sees of the other changes its sign, and their
--- separations change places.
+-- Two boxes exchanged: the offsets and the relative rotation change their signs, and the separations are exchanged.
 use Rattle.std.proofs.Common.{◌≡◌, pos, neg_ℤ, Bool, true, ◌||◌, [], refl, sym, ◌∙◌}
 use Rattle.std.proofs.Math.Bool.{or_assoc, or_comm}
 use Rattle.std.specs.Prelude.{int_lt}
@@ -17,7 +16,7 @@ use Rattle.pf_manifold.proofs.Mirrors.{minus-swap}
 
 -- ---- frames
 
--- a rotation the other way
+-- the inverse of a rotation
 abbrev turned_back : Rot → Rot
 turned_back q = record { c = q.c; s = neg_ℤ q.s }
 
@@ -44,7 +43,7 @@ relative-swap a b =
       difference-swap (product a.s b.c) (product a.c b.s),
     ) refl
 
--- the boxes the other way round see each other from the opposite offsets
+-- the frames of the exchanged boxes
 abbrev seen_back : Frames → Frames
 seen_back f = record { in_a = neg f.in_b; in_b = neg f.in_a; relative = turned_back f.relative }
 

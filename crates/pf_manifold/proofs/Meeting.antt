@@ -1,5 +1,5 @@
--- Where two circles have a point: their exact distance, rounded down, is at most the sum of their
--- radii.
+-- Two circles have a contact point where their exact distance, rounded down, is at most the sum of
+-- their radii.
 use Rattle.std.proofs.Common.{◌≡◌, ℕ, ◌+◌, ◌<◌, ◌≤◌, ◌↔◌, ℤ, pos, ◌-ℤ◌, ◌≤ℤ◌, Bool, true, false, Some, None, min, refl, ⊎_elim, arith}
 use Rattle.std.proofs.lemmas.Bool.{cases_lt}
 use Rattle.std.proofs.lemmas.Int.{ints, clamps}
@@ -17,7 +17,7 @@ use Rattle.pf_shapes.specs.Laws.{square, distance_squared}
 use Rattle.pf_manifold.proofs.Closest.{squared_le}
 use Rattle.pf_manifold.proofs.Comparisons.{not_above, tests_above}
 
--- ---- squares of numbers that are held at the greatest number g
+-- ---- squares of numbers that saturate at the greatest number g
 
 held_is : (d n g : ℕ) → n ≤ g → square (min d g) < square n → min d g ≡ d
 held_is d n g h less =
@@ -55,7 +55,7 @@ reaches : (k r : ℕ) → r ≤ k → int_lt (pos k) (saturate (pos r)) ≡ fals
 unfolding saturate
 reaches k r h = let e : saturate (pos r) ≤ℤ pos k = omega (arith, ints, clamps) in tests_above (pos k) (saturate (pos r)) e
 
--- a whole root, held at the greatest number, is at most k where the number is below the next square
+-- a saturated whole root is at most k where the number is below the next square
 root_reaches : (k n : ℕ) → k < 36028797018963967
     → (int_lt (pos k) (saturate (pos (whole_root n))) ≡ false) ↔ (n < square (k + 1))
 root_reaches k n h = (

@@ -1,4 +1,4 @@
--- Two circles the other way round: the vector between them turns round, and so does their normal.
+-- Two circles exchanged: the vector between them is negated, and so is their normal.
 use Rattle.std.proofs.Common.{◌≡◌, ◌≢◌, ℕ, zero, suc, ◌+◌, ◌*◌, ◌<◌, ◌≤◌, ℤ, pos, Bool, true, false, [], ◌∷◌, Option, Some, None, refl, ap, ap₂, ⊎_elim, arith}
 use Rattle.std.proofs.lemmas.Bool.{cases_lt}
 use Rattle.std.proofs.lemmas.Bool.Decides.{nat_tests}

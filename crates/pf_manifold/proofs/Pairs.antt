@@ -10,7 +10,7 @@ use Rattle.pf_manifold.specs.PlacedShape.{PlacedShape}
 use Rattle.pf_manifold.specs.Collide.{collide}
 use Rattle.pf_manifold.specs.Touches.{placed_shape_at, touches_between, touch_of, touches_of, touches}
 
--- the points of a pair of bodies that there are
+-- the contact points of a pair of existing bodies
 points_between : (fixtures : List Fixture) (bodies : List BodyState) (p : Pair) (a b : PlacedShape) (points : List ContactPoint)
     → placed_shape_at fixtures bodies p.a ≡ Some a → placed_shape_at fixtures bodies p.b ≡ Some b → points ≡ collide a b
     → touches_of fixtures bodies p ≡ map (touch_of p) points

@@ -1,4 +1,4 @@
--- No point of two bodies has a separation above 0.
+-- No contact point of two bodies has a separation above 0.
 use Rattle.std.proofs.Common.{◌≡◌, ℤ, pos, neg_ℤ, ◌≤ℤ◌, Bool, true, false, ◌&&◌, [], ◌∷◌, Option, Some, None, refl, arith}
 use Rattle.std.proofs.lemmas.Bool.{and_parts}
 use Rattle.std.proofs.lemmas.Bool.Decides.{Decides-int_eq}
@@ -45,7 +45,7 @@ sum-high : (x y : ℤ) → neg_ℤ x ≤ℤ y → pos 0 ≤ℤ sum x y
 unfolding sum saturate
 sum-high x y h = omega (arith, ints, clamps)
 
--- a point is kept where the distance isn't above the reach
+-- there is a contact point where the distance isn't above the reach
 kept_where_near : (reach distance : ℤ) (p : ContactPoint) → p.separation ≡ difference distance reach
     → IfTouching (if int_lt reach distance then None else Some p)
 kept_where_near reach distance p e = by (int_lt reach distance) refl
@@ -69,7 +69,7 @@ within_high : (h z : ℤ) → pos 0 ≤ℤ h → z ≡ clamp h z → z ≤ℤ h
 unfolding clamp
 within_high h z some e = omega (arith, ints, clamps)
 
--- from inside each face is at a distance from 0 on
+-- from inside, the distance to each face is at least 0
 inside_distance : (half d : V2) (face : Face) → IsInBox half d → pos 0 ≤ℤ face_distance half d face
 unfolding face_distance
 inside_distance half d Right h = difference-high half.x d.x h.right

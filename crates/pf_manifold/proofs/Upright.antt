@@ -1,5 +1,5 @@
--- Upright boxes: the other box is seen as it lies, so that there is a gap along an axis exactly
--- where the centres are farther apart along it than the half extents reach.
+-- Upright boxes: the offset is the same in all axes, so an axis separates the boxes exactly where the
+-- distance of the centres along it is above the sum of the half extents.
 use Rattle.std.proofs.Common.{◌≡◌, ◌+◌, ◌≤◌, ◌↔◌, ℤ, pos, ◌-ℤ◌, ◌≤ℤ◌, Bool, false, ◌||◌, refl, arith}
 use Rattle.std.proofs.lemmas.Bool.{or_parts}
 use Rattle.std.proofs.lemmas.Int.{ints, clamps}
@@ -30,11 +30,11 @@ relative-upright : relative_rotation upright upright ≡ upright
 unfolding relative_rotation sum difference product near nearest saturate
 relative-upright = refl
 
--- the other box is seen as it lies
-abbrev as_it_lies : V2 → Frames
-as_it_lies offset = record { in_a = offset; in_b = offset; relative = upright }
+-- the frames of upright boxes
+abbrev upright_frames : V2 → Frames
+upright_frames offset = record { in_a = offset; in_b = offset; relative = upright }
 
-frames-upright : (a b : OrientedBox) → a.rotation ≡ upright → b.rotation ≡ upright → frames_of a b ≡ as_it_lies (sub b.position a.position)
+frames-upright : (a b : OrientedBox) → a.rotation ≡ upright → b.rotation ≡ upright → frames_of a b ≡ upright_frames (sub b.position a.position)
 unfolding frames_of frames_at_offset sub
 frames-upright a b ea eb =
     let e = unrotated-upright (sub b.position a.position) (difference-raw b.position.x a.position.x) (difference-raw b.position.y a.position.y) in
@@ -47,7 +47,7 @@ reaches-upright half hx hy =
 
 -- ---- separations
 
--- how far a box that is off by d is from the face of a box, of half extents k and h along this axis
+-- the separation along an axis of boxes of the half extents h and k whose centres differ by d
 abbrev apart_along : ℤ → ℤ → ℤ → ℤ
 apart_along h k d = difference (difference (pos (unsigned_abs d)) h) k
 
@@ -78,7 +78,7 @@ none_of p q r s ep eq er es = rw (ep, eq, er, es) refl
 size_is_raw : (h : ℤ) → IsSize h → IsRaw h
 size_is_raw h size = omega (arith, ints)
 
--- the four tests for a gap
+-- the four tests for a separating axis
 abbrev tests_of : OrientedBox → OrientedBox → V2 → Bool
 tests_of a b d =
     int_lt (pos 0) (apart_along a.half.x b.half.x d.x) || int_lt (pos 0) (apart_along a.half.y b.half.y d.y)

@@ -7,7 +7,7 @@ use pf_shapes::{Pair, Scene, Shape};
 use std::process::Abort;
 use std::test::Fail;
 
-// Answers by a program of its own in Python's whole numbers. A point is its feature, position,
+// Values by an independent program in Python. A point is its feature, position,
 // normal and separation, and what is no point is all zeros.
 const NONE: [i64; 6] = [0; 6];
 
@@ -34,13 +34,13 @@ fn box_of(rt: &impl Abort, hx: i64, hy: i64) -> Shape {
 }
 
 fn body<'a>(rt: &impl Abort, shape: &'a Shape, at: [i64; 4]) -> PlacedShape<'a> {
-    let pair = vector(rt, at[2], at[3]);
+    let rotation = vector(rt, at[2], at[3]);
     PlacedShape {
         shape,
         position: vector(rt, at[0], at[1]),
         rotation: Rot {
-            c: pair.x,
-            s: pair.y,
+            c: rotation.x,
+            s: rotation.y,
         },
     }
 }
@@ -113,7 +113,7 @@ fn two_boxes(rt: HostRuntime) {
     laws::upright_boxes_meet_where_they_overlap();
 }
 
-// Radius and position of either circle, with any pair, and their point.
+// Radius and position of either circle, with any rotation, and their point.
 #[rattlefmt::skip]
 const CIRCLES: [(i64, [i64; 4], i64, [i64; 4], [i64; 6]); 8] = [
     (16777216, [0, 0, 16777216, 0], 16777216, [33554432, 0, 16777216, 0], [0, 16777216, 0, 16777216, 0, 0]),
@@ -126,7 +126,7 @@ const CIRCLES: [(i64, [i64; 4], i64, [i64; 4], [i64; 6]); 8] = [
     (36028797018963967, [-36028797018963967, 5, 16777216, 0], 7, [36028797018963967, -1, 16777216, 0], [0, 0, 5, 16777216, 0, 0]),
 ];
 
-// Half extents, position and pair of the box, radius and position of the circle, and their point:
+// Half extents, position and rotation of the box, radius and position of the circle, and their point:
 // in each region outside the box, and next to each face inside it.
 #[rattlefmt::skip]
 const BOXES_AND_CIRCLES: [([i64; 2], [i64; 4], i64, [i64; 4], [i64; 6]); 21] = [
@@ -153,8 +153,8 @@ const BOXES_AND_CIRCLES: [([i64; 2], [i64; 4], i64, [i64; 4], [i64; 6]); 21] = [
     ([36028797018963967, 36028797018963967], [0, 36028797018963967, 36028797018963967, 0], 0, [0, 76, 16777216, 0], [143, 0, 0, 0, -36028797018963967, 0]),
 ];
 
-// Half extents, position and pair of either box, and their points: with each kind of cut, of faces
-// of either box, and with numbers that are held at the ends of the range.
+// Half extents, position and rotation of either box, and their points: with each kind of clipping, of faces
+// of either box, and with saturated numbers.
 #[rattlefmt::skip]
 const BOXES: [([i64; 2], [i64; 4], [i64; 2], [i64; 4], [[i64; 6]; 2]); 20] = [
     ([16777216, 16777216], [0, 0, 16777216, 0], [16777216, 16777216], [25165824, 33554432, 16777216, 0],

@@ -1,5 +1,5 @@
--- A quotient of numbers with the same sign, the first at most as great as the second, is a fraction from 0 to 1, and a
--- product with such a fraction is between 0 and the other factor.
+-- A quotient of numbers with the same sign, the first at most as great as the second, is a fraction
+-- from 0 to 1, and a product with such a fraction is between 0 and the other factor.
 use Rattle.std.proofs.Common.{◌≡◌, ℕ, zero, suc, ◌+◌, ◌*◌, ◌<◌, ◌≤◌, ℤ, pos, negsuc, neg_ℤ, ◌≤ℤ◌, ◌⊎◌, inl, inr, ⊎_elim, min, refl, sym, ap, ◌∙◌, arith}
 use Rattle.std.proofs.lemmas.Bool.{cases_lt}
 use Rattle.std.proofs.lemmas.Int.{ints}

@@ -1,5 +1,5 @@
--- Rounding and saturating are monotone and odd. So a product
--- with a number from -h to h is at most the product with h.
+-- Rounding and saturating are monotone and odd. So a product with a number from -h to h is at most
+-- the product with h.
 use Rattle.std.proofs.Common.{◌≡◌, ℕ, zero, suc, ◌+◌, ◌*◌, ◌<◌, ◌≤◌, ℤ, pos, negsuc, ◌*ℤ◌, neg_ℤ, ◌≤ℤ◌, ◌^◌, refl, sym, ap, ◌∙◌, ⊎_elim, arith}
 use Rattle.std.proofs.lemmas.Bool.{cases_lt}
 use Rattle.std.proofs.lemmas.Int.{ints, clamps, unsigned_abs-mul}
@@ -81,7 +81,7 @@ product_within c p h low high =
       saturated-monotone _ _ (near-monotone (c *ℤ p) k 16777216 (omega arith) exact.1),
     )
 
--- a product of numbers from 0 on, the first at most 1 and the second at most 1024: it doesn't
+-- a product of numbers from 0 on, the first at most 1 and the second at most 1024, does not
 -- saturate, and is at most a half of a unit too small
 pub product_near : (a b : ℕ) → a ≤ 16777216 → b ≤ 17179869184 →
     (n : ℕ) × (product (pos a) (pos b) ≡ pos n) × (2 * (a * b) ≤ 2 * (n * 16777216) + 16777216) × (n ≤ b)

@@ -108,8 +108,7 @@ meets (negsuc p) (negsuc q) some =
       even = rw (times_neg (nearest (suc p) (suc q)) q, same_below (suc p) (nearest (suc p) (suc q) * suc q)) l.1;
     })
 
--- two numbers that are nearest are one: their distance times q is at most q, and at q both would be
--- even
+-- two nearest numbers are equal: their distance times q is at most q, and at q both would be even
 distances : (u v q k n m : ℕ) → 0 < q → 2 * u ≤ q → 2 * v ≤ q → k * q ≤ u + v → (2 * u ≡ q → n % 2 ≡ 0) → (2 * v ≡ q → m % 2 ≡ 0) →
     (k ≡ 1 → n % 2 ≡ 0 → m % 2 ≡ 0 → ⊥) → k ≡ 0
 distances u v q zero n m some hu hv total even_n even_m odd = refl

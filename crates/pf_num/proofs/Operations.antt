@@ -1,4 +1,4 @@
--- Operations on numbers: their operands the other way round, with the other sign, and 0 and 1.
+-- Operations on numbers: exchanged and negated operands, and 0 and 1 as operands.
 use Rattle.std.proofs.Common.{◌≡◌, zero, suc, ◌*◌, ◌<◌, ℕ, ℤ, pos, negsuc, neg_ℤ, ◌-ℤ◌, ◌*ℤ◌, Bool, true, false, min, refl, ap, ◌∙◌, not, arith}
 use Rattle.std.proofs.lemmas.Int.{ints, clamps}
 use Rattle.std.proofs.Math.IntN.{*ℤ_comm, zero-*ℤ}
@@ -30,7 +30,7 @@ pub difference-neg : (a b : ℤ) → difference (neg_ℤ a) (neg_ℤ b) ≡ neg_
 unfolding difference saturate
 difference-neg a b = omega (arith, ints, clamps)
 
--- different numbers have a difference
+-- numbers without a difference are equal
 pub difference-none : (a b : ℤ) → difference b a ≡ pos 0 → a ≡ b
 unfolding difference saturate
 difference-none a b e = omega (arith, ints, clamps)

@@ -6,7 +6,7 @@ use Rattle.std.proofs.Math.Nat.{mul-le-mul}
 use Rattle.std.specs.Prelude.{nat_le, if◌then◌else◌}
 use Rattle.pf_num.specs.Root.{IsRoot, whole_root}
 
--- one number more
+-- the step from n to n + 1
 next_root : (n r : ℕ) → IsRoot n r → IsRoot (suc n) (if nat_le ((r + 1) * (r + 1)) (suc n) then r + 1 else r)
 next_root n r h =
     ⊎_elim

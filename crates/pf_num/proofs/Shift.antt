@@ -1,4 +1,4 @@
--- The short path of a product: a half less the last unit, and one for an odd floor, and a shift.
+-- The short path of a product: 2^23 - 1 is added, and 1 for an odd floor, and the sum is shifted.
 use Rattle.std.proofs.Common.{◌≡◌, ℕ, suc, ◌+◌, ◌-◌, ◌/◌, ◌%◌, ◌<◌, ◌≤◌, ℤ, pos, negsuc, ◌+ℤ◌, neg_ℤ, refl, sym, ap, ◌∙◌, ⊎_elim, arith, add-one}
 use Rattle.std.proofs.lemmas.Bool.{cases_lt}
 use Rattle.std.proofs.lemmas.Bool.Decides.{nat_tests}

@@ -77,7 +77,7 @@ product_is a b m e =
     rw (e, near-product a b 16777216 (omega arith))
     (sym (saturated-with_sign (is_opposite a b) (nearest (unsigned_abs a * unsigned_abs b) 16777216)))
 
--- the same of a quotient
+-- a saturated magnitude of a quotient, with its sign, is the quotient
 pub quotient_is : (a b : ℤ) (m : ℕ) → 0 < unsigned_abs b → m ≡ min (nearest (unsigned_abs a * 16777216) (unsigned_abs b)) 36028797018963967 →
     with_sign (is_opposite a b) m ≡ quotient a b
 unfolding quotient
@@ -85,7 +85,7 @@ quotient_is a b m some e =
     rw (positive-eqb (unsigned_abs b) some, e, near-quotient a b 16777216 some)
     (sym (saturated-with_sign (is_opposite a b) (nearest (unsigned_abs a * 16777216) (unsigned_abs b))))
 
--- of numbers from 0 on
+-- a quotient of numbers from 0 on
 pub quotient-pos : (p q : ℕ) → 0 < q
     → quotient (pos p) (pos q) ≡ pos (min (nearest (p * 16777216) q) 36028797018963967)
 quotient-pos p q some =

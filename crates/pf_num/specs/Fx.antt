@@ -19,9 +19,9 @@ one = pos 16777216
 abbrev pub tick : ℤ
 tick = pos 262144
 
--- a raw number in the range of fixed-point numbers
+-- a raw number is in the range
 abbrev pub IsRaw : ℤ → Type 0
-IsRaw z = unsigned_abs z ≤ 36028797018963967
+IsRaw z = unsigned_abs z ≤ unsigned_abs max_raw
 
 -- z clamped to the range
 unfoldable pub saturate : ℤ → ℤ

@@ -32,8 +32,8 @@ fn ends_of_range(rt: HostRuntime) {
     assert_eq!(rt; Fx::from_raw(-M - 1), None);
 }
 
-// The paths in 64 bits and over 128 bits meet at operands of this size; answers by Python's whole
-// numbers.
+// The paths in 64 bits and over 128 bits meet at operands of this size; values by Python's
+// integers.
 #[test]
 fn paths_agree_where_they_meet(rt: HostRuntime) {
     for (a, b, product, quotient) in MEETINGS {

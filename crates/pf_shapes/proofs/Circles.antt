@@ -1,4 +1,4 @@
--- A position in a circle is in the bounds of the circle.
+-- The bounds of a circle contain the circle.
 use Rattle.std.proofs.Common.{ℕ, ◌+◌, ◌*◌, ◌<◌, ◌≤◌, ℤ, pos, ◌-ℤ◌, ◌≤ℤ◌, Bool, ⊎_elim, arith}
 use Rattle.std.proofs.lemmas.Bool.{cases_lt}
 use Rattle.std.proofs.lemmas.Int.{ints, clamps}
@@ -12,7 +12,7 @@ use Rattle.pf_shapes.specs.Reach.{widen}
 use Rattle.pf_shapes.specs.Bounds.{extent, shape_bounds}
 use Rattle.pf_shapes.specs.Laws.{IsInCircle, IsInBounds}
 
--- a side is no longer than the longest
+-- no side of a right triangle is longer than the hypotenuse
 side : (a b r : ℕ) → a * a + b * b ≤ r * r → a ≤ r
 side a b r h =
     ⊎_elim

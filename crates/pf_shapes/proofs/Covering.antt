@@ -1,5 +1,5 @@
--- Positions that a body covers are in its bounds, so two bodies that cover one position have bounds
--- that overlap.
+-- The bounds of a body contain the positions that it covers, so two bodies that cover one position
+-- have bounds that overlap.
 use Rattle.std.proofs.Common.{◌≡◌, Bool, true}
 use Rattle.pf_rot.specs.Vector.{V2}
 use Rattle.pf_shapes.specs.declared.fixture.Shape.{Shape}

@@ -1,4 +1,4 @@
--- The limits of a scene: a body more keeps them, and what follows from them.
+-- The limits of a scene are kept by one more body, and what follows from them.
 use Rattle.std.proofs.Common.{List, [], ◌∷◌, ◌++◌}
 use Rattle.std.specs.Prelude.{All}
 use Rattle.std.proofs.lemmas.List.Elements.{All-nil, All-cons}

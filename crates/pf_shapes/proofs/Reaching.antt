@@ -1,4 +1,4 @@
--- Shapes reach at least one unit, so that no low end of bounds is above the high end.
+-- Extents are at least one raw unit, so that no lower bound is above the upper bound.
 use Rattle.std.proofs.Common.{◌≡◌, ℕ, ℤ, pos, negsuc, arith, ◌≤ℤ◌}
 use Rattle.std.proofs.lemmas.Int.{ints, clamps}
 use Rattle.pf_num.specs.Round.{near}
@@ -39,7 +39,7 @@ unfolding reach
 box_reaches a hx b hy w x y e =
     rw e (widen-pos _ (sum-pos _ _ (product-pos a hx (omega (arith, ints))) (product-pos b hy (omega (arith, ints)))))
 
--- a position less something is at most the position and it
+-- a position less an extent is at most the position plus it
 pub ends_ordered : (p e : ℤ) → pos 1 ≤ℤ e → difference p e ≤ℤ sum p e
 unfolding sum difference saturate
 ends_ordered p e h = omega (arith, ints, clamps)

@@ -1,11 +1,11 @@
--- Bounds with a common position overlap, and upright bounds that overlap have one: the greater of
+-- Bounds with a common position overlap, and ordered bounds that overlap have one: the greater of
 -- the low ends.
 use Rattle.std.proofs.Common.{◌≡◌, ℤ, true, refl, arith, ◌≤ℤ◌}
 use Rattle.std.proofs.lemmas.Bool.{and_parts}
 use Rattle.std.proofs.lemmas.Int.{ints, clamps}
 use Rattle.std.specs.Int.{int_max}
 use Rattle.pf_rot.specs.Vector.{V2}
-use Rattle.pf_shapes.specs.Bounds.{Bounds, IsUpright, ranges_overlap, overlaps}
+use Rattle.pf_shapes.specs.Bounds.{Bounds, IsOrdered, ranges_overlap, overlaps}
 use Rattle.pf_shapes.specs.Laws.{IsInBounds}
 
 -- on one axis
@@ -26,7 +26,7 @@ overlaps-shared_position a b p ha hb =
     let y = ranges_overlap-shared a.low.y a.high.y b.low.y b.high.y p.y ha.below ha.above hb.below hb.above in
     rw (x, y) refl
 
-pub shared_position-overlaps : (a b : Bounds) → IsUpright a → IsUpright b → overlaps a b ≡ true → (p : V2) × IsInBounds a p × IsInBounds b p
+pub shared_position-overlaps : (a b : Bounds) → IsOrdered a → IsOrdered b → overlaps a b ≡ true → (p : V2) × IsInBounds a p × IsInBounds b p
 unfolding overlaps
 shared_position-overlaps a b ha hb t =
     let axes = and_parts (ranges_overlap a.low.x a.high.x b.low.x b.high.x) (ranges_overlap a.low.y a.high.y b.low.y b.high.y) t in

@@ -1,5 +1,5 @@
--- A position in a turned box is in the bounds of the box: along each axis it is at most as far from
--- the centre as the box reaches.
+-- The bounds of a rotated box contain the box: along each axis no position of it is farther from the
+-- centre than the extent.
 use Rattle.std.proofs.Common.{ℤ, pos, ◌≤ℤ◌, neg_ℤ, Bool, arith}
 use Rattle.std.proofs.lemmas.Int.{ints, clamps}
 use Rattle.pf_num.specs.Fx.{saturate, sum, difference, product}
@@ -24,7 +24,7 @@ difference_within : (u v m n : ℤ) → IsUpTo m u → IsUpTo n v → IsUpTo (su
 unfolding sum difference saturate
 difference_within u v m n hu hv = (omega (arith, ints, clamps), omega (arith, ints, clamps))
 
--- what is as far from the centre as the turned box reaches, on either axis
+-- both coordinates of a position of the rotated box are within its extents
 first_within : (c s hx hy x y : ℤ) → IsUpTo hx x → IsUpTo hy y → IsUpTo (reach c hx s hy) (difference (product c x) (product s y))
 unfolding reach
 first_within c s hx hy x y in_x in_y = difference_within _ _ _ _ (product_within c x hx in_x.0 in_x.1) (product_within s y hy in_y.0 in_y.1)

@@ -33,7 +33,7 @@ unfoldable pub fixture_bounds : Fixture → BodyState → Bounds
 fixture_bounds f b = shape_bounds f.shape b.position b.rotation (is_static f)
 
 -- no lower bound is above the upper bound
-pub record IsUpright (s : Bounds) : Type 0 where
+pub record IsOrdered (s : Bounds) : Type 0 where
   pub x : s.low.x ≤ℤ s.high.x
   pub y : s.low.y ≤ℤ s.high.y
 

@@ -1,6 +1,6 @@
 -- What a body is apart from its motion, as Box2D's b2FixtureDef: shape, mass, friction and owner,
 -- with the inverse mass and the inverse inertia that follow from them.
-use Rattle.std.specs.Prelude.{◌≡◌, ℕ, ◌<◌, ℤ, pos, ◌≤ℤ◌, ◌⊎◌, Bool, ◌==◌, Option, IfSome, if◌then◌else◌}
+use Rattle.std.specs.Prelude.{◌≡◌, ℕ, ◌*◌, ◌<◌, ℤ, pos, ◌≤ℤ◌, ◌⊎◌, Bool, ◌==◌, Option, IfSome, if◌then◌else◌}
 use Rattle.std.specs.Int.RustNames.{unsigned_abs}
 use Rattle.pf_num.specs.Fx.{one, sum, product, quotient}
 use Rattle.pf_shapes.specs.declared.fixture.Shape.{Shape}
@@ -50,14 +50,18 @@ pub record IsFixture (f : Fixture) : Type 0 where
 abbrev pub is_static : Fixture → Bool
 is_static f = unsigned_abs f.mass == 0
 
+-- the fixed-point number of an integer
+abbrev pub from_int : ℕ → ℤ
+from_int n = pos (n * 16777216)
+
 -- the moment of inertia about the centre: of a disc, m r^2 / 2; of a box with the sides w = 2hx and
 -- h = 2hy, m (w^2 + h^2) / 12
 unfoldable pub inertia : Shape → ℤ → ℤ
-inertia (Circle r) mass = product mass (quotient (product r r) (pos 33554432))
+inertia (Circle r) mass = product mass (quotient (product r r) (from_int 2))
 inertia (Box hx hy) mass =
     product mass
     (quotient (sum (product (sum hx hx) (sum hx hx)) (product (sum hy hy) (sum hy hy)))
-    (pos 201326592))
+    (from_int 12))
 
 -- 1 / mass, and 0 for a static body
 unfoldable pub inverse_mass : Fixture → ℤ

@@ -52,7 +52,7 @@ impl Shape {
     ghost use Rattle.std.specs.Prelude.{◌≡◌};
     ghost use Rattle.pf_shapes.specs.Fixture.{HasSize};
     ghost use Rattle.pf_shapes.specs.Reach.{IsPositive};
-    ghost use Rattle.pf_shapes.specs.Bounds.{IsUpright, extent, shape_bounds};
+    ghost use Rattle.pf_shapes.specs.Bounds.{IsOrdered, extent, shape_bounds};
 
     /// The extent along each axis of the shape, turned by `rotation`, from its centre, and one raw
     /// unit more.
@@ -79,7 +79,7 @@ impl Shape {
     #[tactic(auto, unfolding(crate::specs::Bounds::shape_bounds))]
     pub fn bounds(&self, position: V2, rotation: Rot, is_static: bool) -> Bounds
         ensures value { result ≡ shape_bounds self.now position rotation is_static }
-        ensures upright { HasSize self.now → IsUpright result }
+        ensures ordered { HasSize self.now → IsOrdered result }
     {
         let extent = self.extent(rotation);
         Bounds {
@@ -92,13 +92,13 @@ impl Shape {
 
 impl Fixture {
     ghost use Rattle.std.specs.Prelude.{◌≡◌};
-    ghost use Rattle.pf_shapes.specs.Bounds.{IsUpright, fixture_bounds};
+    ghost use Rattle.pf_shapes.specs.Bounds.{IsOrdered, fixture_bounds};
 
     /// The bounds of a body of this fixture in this state.
     #[tactic(auto, unfolding(crate::specs::Bounds::fixture_bounds))]
     pub fn bounds(&self, body: &BodyState) -> Bounds
         ensures value { result ≡ fixture_bounds self.now body.now }
-        ensures upright { IsUpright result }
+        ensures ordered { IsOrdered result }
     {
         self.shape()
             .bounds(body.position, body.rotation, self.is_static())

@@ -1,7 +1,8 @@
 //! Shapes, and fixtures with their masses.
 
-ghost use Rattle.std.specs.Prelude.{◌≡◌, ◌*◌, pos, if◌then◌else◌};
+ghost use Rattle.std.specs.Prelude.{◌≡◌, pos, if◌then◌else◌};
 ghost use Rattle.pf_num.specs.Fx.{one, quotient};
+ghost use Rattle.pf_shapes.specs.Fixture.{from_int};
 
 use pf_num::Fx;
 use std::alloc::AllocError;
@@ -36,7 +37,7 @@ pub enum Shape {
 
 /// The fixed-point number of an integer.
 fn from_int(n: u8) -> Fx
-    ensures { result ≡ pos (n * 16777216) }
+    ensures { result ≡ from_int n }
 {
     Fx::from_raw(i64::from(n) * 16_777_216).unwrap()
 }

@@ -9,7 +9,7 @@ ghost use Rattle.pf_rot.specs.Laws.{IsAtMostOne};
 ghost use Rattle.pf_shapes.specs.declared.fixture.Shape.{Shape};
 ghost use Rattle.pf_shapes.specs.Fixture.{Fixture, IsFixture, IsSize, HasSize, IsDynamicMass, inertia, inverse_mass, inverse_inertia};
 ghost use Rattle.pf_shapes.specs.Body.{BodyState, start_of};
-ghost use Rattle.pf_shapes.specs.Bounds.{Bounds, IsUpright, overlaps, shape_bounds, fixture_bounds};
+ghost use Rattle.pf_shapes.specs.Bounds.{Bounds, IsOrdered, overlaps, shape_bounds, fixture_bounds};
 ghost use Rattle.pf_shapes.specs.Laws.{Covers, IsInBox, IsInCircle, IsInBounds, IsInner, exact_position, bounds_to_fine_units};
 ghost use Rattle.pf_shapes.specs.SceneEncoding.{body_fields, gravity_fields, start_rotation, IsDirection};
 ghost use Rattle.pf_shapes.specs.Scene.{Scene, IsGravity, IsPosition, empty_scene, with_body};
@@ -54,7 +54,7 @@ pub fn overlapping_is_symmetric()
 pub fn bounds_that_share_a_position_overlap()
     ensures shared { (a b : Bounds) (p : V2) → IsInBounds a p → IsInBounds b p
         → overlaps a b ≡ true }
-    ensures found { (a b : Bounds) → IsUpright a → IsUpright b → overlaps a b ≡ true
+    ensures found { (a b : Bounds) → IsOrdered a → IsOrdered b → overlaps a b ≡ true
         → (p : V2) × IsInBounds a p × IsInBounds b p }
 {}
 

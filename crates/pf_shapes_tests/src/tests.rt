@@ -223,7 +223,7 @@ fn ends(bounds: &Bounds) -> (i64, i64, i64, i64) {
     (low.x.raw(), low.y.raw(), high.x.raw(), high.y.raw())
 }
 
-// Ends by Python's whole numbers.
+// Ends by Python's integers.
 #[test]
 fn bounds_are_a_unit_wider(rt: HostRuntime) -> Result<(), Fail> {
     let circle = Fixture::new(Shape::Circle { r: Fx::ONE }, Fx::ONE, Fx::ZERO, None);

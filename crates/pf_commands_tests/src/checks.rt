@@ -1,8 +1,7 @@
 //! Which commands a scene allows, and the names of refusals.
 
-use super::*;
-use crate::name::Name;
-use crate::payload::Payload;
+use pf_commands::{CheckFault, Command, Name, Payload, check};
+use pf_shapes::Scene;
 use std::test::Fail;
 
 #[test]
@@ -33,7 +32,7 @@ fn a_player_moves_its_own_bodies(rt: HostRuntime) -> Result<(), Fail> {
 }
 
 #[test]
-fn refusals_print_their_names(rt: HostRuntime) -> Result<(), Fail> {
+fn errors_print_their_names(rt: HostRuntime) -> Result<(), Fail> {
     let names = [
         (CheckFault::UnknownBody, "UnknownBody"),
         (CheckFault::StaticBody, "StaticBody"),

@@ -3,7 +3,8 @@
 ghost use Rattle.std.specs.Prelude.{◌<◌, ◌^◌};
 ghost use Rattle.pf_commands.specs.Payload.{body_of};
 
-use super::*;
+use pf_commands::{Command, FRAME_LEN, FrameFault, Name, Payload, decode, encode};
+use pf_num::Fx;
 use std::process::Abort;
 use std::test::Fail;
 
@@ -24,7 +25,7 @@ fn check_spells(rt: &impl Abort, frame: [u8; FRAME_LEN], command: Command)
 }
 
 #[test]
-fn frames_spell_commands(rt: HostRuntime) {
+fn frames_encode_commands(rt: HostRuntime) {
     let push = Payload::Push {
         body: 2,
         x: Fx::ONE,
@@ -67,7 +68,7 @@ fn frames_spell_commands(rt: HostRuntime) {
 }
 
 #[test]
-fn lengths_are_refused(rt: HostRuntime) {
+fn other_lengths_are_errors(rt: HostRuntime) {
     check_refused(&rt, b"", FrameFault::Short);
     check_refused(&rt, &FRAME[..26], FrameFault::Short);
     let mut longer = [0; 28];
@@ -79,7 +80,7 @@ fn lengths_are_refused(rt: HostRuntime) {
 }
 
 #[test]
-fn each_cause_is_answered(rt: HostRuntime) {
+fn each_cause_is_returned(rt: HostRuntime) {
     let mut version = FRAME;
     version[0] = 2;
     check_refused(&rt, &version, FrameFault::BadVersion);
@@ -92,7 +93,7 @@ fn each_cause_is_answered(rt: HostRuntime) {
 }
 
 #[test]
-fn the_first_cause_is_answered(rt: HostRuntime) {
+fn the_first_cause_is_returned(rt: HostRuntime) {
     let mut frame = FRAME;
     frame[5] = 8;
     check_refused(&rt, &frame, FrameFault::OutOfRange);
@@ -155,7 +156,7 @@ fn numbers_have_ranges(rt: HostRuntime) {
 }
 
 #[test]
-fn refusals_print_their_names(rt: HostRuntime) -> Result<(), Fail> {
+fn errors_print_their_names(rt: HostRuntime) -> Result<(), Fail> {
     let names = [
         (FrameFault::Short, "Short"),
         (FrameFault::Long, "Long"),

@@ -2,8 +2,10 @@
 
 ghost use Rattle.std.specs.Prelude.{◌<◌, ◌^◌};
 
-use super::*;
+use pf_commands::{CheckFault, Command, CommandMap, MAX_TICK, Name, Payload, Put, laws};
 use pf_num::Fx;
+use pf_shapes::{PLAYERS, Scene};
+use std::alloc::{AllocError, Global};
 use std::test::Fail;
 
 /// A command of the tick, the player and the number.
@@ -148,20 +150,20 @@ fn the_first_command_that_is_not_allowed_is_named(rt: HostRuntime) -> Result<(),
 
 #[test]
 fn laws_are_called(_rt: HostRuntime) {
-    crate::laws::commands_have_one_encoding();
-    crate::laws::merge_is_associative();
-    crate::laws::merge_is_commutative();
-    crate::laws::merge_is_idempotent();
-    crate::laws::merge_with_empty();
-    crate::laws::puts_in_any_order();
-    crate::laws::puts_are_a_merge();
-    crate::laws::no_news_changes_nothing();
-    crate::laws::put_keeps_other_ticks();
-    crate::laws::merge_keeps_earlier_ticks();
-    crate::laws::least_ticks_are_least();
-    crate::laws::get_of_merge();
-    crate::laws::same_gets_same_map();
-    crate::laws::merge_stays_in_range();
-    crate::laws::same_weight_same_payload();
-    crate::laws::first_error_is_returned();
+    laws::commands_have_one_encoding();
+    laws::merge_is_associative();
+    laws::merge_is_commutative();
+    laws::merge_is_idempotent();
+    laws::merge_with_empty();
+    laws::puts_in_any_order();
+    laws::puts_are_a_merge();
+    laws::no_news_changes_nothing();
+    laws::put_keeps_other_ticks();
+    laws::merge_keeps_earlier_ticks();
+    laws::least_ticks_are_least();
+    laws::get_of_merge();
+    laws::same_gets_same_map();
+    laws::merge_stays_in_range();
+    laws::same_weight_same_payload();
+    laws::first_error_is_returned();
 }

@@ -1,13 +1,9 @@
 //! Worked rows, the texts of faults, and readers and writers that fail.
 
-use crate::fault::{DigitsFault, PlayFault};
-use crate::frame::frame_text;
-use crate::laws;
-use crate::names::{check_fault_name, frame_fault_name};
-use crate::reporting::{finish, report};
-use crate::request::{Request, perform};
-use crate::run::run_text;
-use pf_commands::{CheckFault, FrameFault};
+use pf_commands::FrameFault;
+use pf_console::{
+    DigitsFault, PlayFault, Request, finish, frame_text, laws, perform, report, run_text,
+};
 use pf_shapes::SceneFault;
 use pf_text::{Bytes, Collected, Input, Output};
 use std::alloc::{AllocError, Global};
@@ -173,7 +169,7 @@ const FAULTS: [(&[u8], &[u8]); 15] = [
 ];
 
 #[test]
-fn each_fault_has_its_line_and_name(rt: HostRuntime) -> Result<(), Fail> {
+fn each_error_has_its_line_and_name(rt: HostRuntime) -> Result<(), Fail> {
     for (text, expected) in FAULTS {
         let (output, said, status) = played(rt.alloc(), text)?;
         assert!(rt; output.bytes().is_empty() && status == 1);
@@ -237,7 +233,7 @@ const FRAMES: [(&str, &[u8]); 11] = [
 ];
 
 #[test]
-fn frames_are_told(rt: HostRuntime) -> Result<(), Fail> {
+fn frames_are_printed(rt: HostRuntime) -> Result<(), Fail> {
     for (digits, expected) in FRAMES {
         let (output, said, status) = digits_result(rt.alloc(), digits)?;
         if expected.starts_with(b"tick") {
@@ -272,7 +268,7 @@ fn a_frame_of_2000_bytes_is_long(rt: HostRuntime) -> Result<(), Fail> {
 }
 
 #[test]
-fn other_faults_have_their_texts(rt: HostRuntime) -> Result<(), Fail> {
+fn other_errors_have_their_texts(rt: HostRuntime) -> Result<(), Fail> {
     let words = String::from_str(rt.alloc(), "error: such words\n")?;
     let rows = [
         (
@@ -301,7 +297,7 @@ fn other_faults_have_their_texts(rt: HostRuntime) -> Result<(), Fail> {
 }
 
 #[test]
-fn a_text_to_say_is_written(rt: HostRuntime) -> Result<(), Fail> {
+fn a_help_is_written(rt: HostRuntime) -> Result<(), Fail> {
     let text = String::from_str(rt.alloc(), "help\n")?;
     let mut output = Collected::new(rt.alloc());
     let request = Request::Help(text);
@@ -316,7 +312,7 @@ fn a_text_to_say_is_written(rt: HostRuntime) -> Result<(), Fail> {
 }
 
 #[test]
-fn faults_print_their_texts(rt: HostRuntime) -> Result<(), Fail> {
+fn errors_print_their_texts(rt: HostRuntime) -> Result<(), Fail> {
     let words = String::from_str(rt.alloc(), "error: such words\n")?;
     let rows = [
         (PlayFault::Words(words), "error: such words\n"),
@@ -354,7 +350,7 @@ const NAMED: [PlayFault; 12] = [
 ];
 
 #[test]
-fn what_is_said_of_a_fault_has_its_name_as_an_error(rt: HostRuntime) -> Result<(), Fail> {
+fn reports_have_the_names_of_errors(rt: HostRuntime) -> Result<(), Fail> {
     for fault in NAMED {
         let mut said = Collected::new(rt.alloc());
         report(&fault, &mut said);
@@ -363,16 +359,6 @@ fn what_is_said_of_a_fault_has_its_name_as_an_error(rt: HostRuntime) -> Result<(
         }
         let text = format!(in rt.alloc(); "pf_play: {fault}\n")?;
         assert_eq!(rt; said.bytes(), text.as_bytes());
-        if let PlayFault::Frame(DigitsFault::Refused(fault)) = fault {
-            assert!(rt; fault.to_string(rt.alloc())?.as_str() == frame_fault_name(fault));
-        }
-    }
-    for fault in [
-        CheckFault::UnknownBody,
-        CheckFault::StaticBody,
-        CheckFault::NotOwner,
-    ] {
-        assert!(rt; fault.to_string(rt.alloc())?.as_str() == check_fault_name(fault));
     }
     Ok(())
 }

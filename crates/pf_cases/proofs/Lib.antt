@@ -1,1 +1,0 @@
--- Tests have no lemmas.

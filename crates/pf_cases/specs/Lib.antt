@@ -1,1 +1,0 @@
--- Tests cite no definitions.
