@@ -1,5 +1,5 @@
 -- What the lines of a text mean, one after the other: first a scene, then its peers, then events.
-use Rattle.std.specs.Prelude.{ℕ, ℤ, pos, List, [], ◌∷◌, length, None, Result, Ok, Err, codes, if◌then◌else◌}
+use Rattle.std.specs.Prelude.{ℕ, ℤ, pos, Bool, true, List, [], ◌∷◌, length, None, Result, Ok, Err, codes, if◌then◌else◌}
 use Rattle.std.specs.Int.RustNames.{unsigned_abs}
 use Rattle.std.specs.Str.{bytes_eq}
 use Rattle.pf_text.specs.declared.fault.LineFault.{LineFault}
@@ -11,7 +11,7 @@ use Rattle.pf_shapes.specs.declared.reader.Progress.{Progress}
 use Rattle.pf_shapes.specs.declared.reader.Progress.TheVariants.{More, Ended}
 use Rattle.pf_shapes.specs.Fault.{scene_fault_of}
 use Rattle.pf_shapes.specs.Scene.{Scene}
-use Rattle.pf_shapes.specs.SceneText.{line_of}
+use Rattle.pf_shapes.specs.SceneText.{is_body_line, line_of}
 use Rattle.pf_peers.specs.declared.event.Event.{Event}
 use Rattle.pf_peers.specs.Session.{Session, new_session, reply_to, session_after}
 use Rattle.pf_console.specs.declared.phase.Phase.{Phase}
@@ -58,9 +58,16 @@ after_line (Reading reader) fields = after_scene_line (line_of reader fields)
 after_line (Seating scene) fields = with_peers scene (peer_count_of fields)
 after_line (Playing s) fields = after_event s (event_of (length s.peers) fields)
 
+-- the lines of a scene take memory for bodies alone
+unfoldable pub allocates : Phase → List (List ℕ) → Bool
+allocates (Reading reader) fields = is_body_line fields
+allocates (Seating scene) fields = true
+allocates (Playing s) fields = true
+
 -- a text by its lines
 abbrev pub text_rules : Rules Phase SceneFault
-text_rules = record { transition = after_line; line_error = scene_fault_of }
+text_rules =
+    record { transition = after_line; line_error = scene_fault_of; allocates = allocates }
 
 -- a text begins with a scene
 abbrev pub first_phase : Phase

@@ -121,7 +121,7 @@ impl Machine<()> for Phase {
         SceneFault::from(fault)
     }
 
-    #[tactic(auto, unfolding(crate::specs::Phase::after_line))]
+    #[tactic(auto, unfolding(crate::specs::Phase::after_line, crate::specs::Phase::allocates))]
     fn take(
         self,
         alloc: Global,

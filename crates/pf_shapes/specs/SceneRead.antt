@@ -1,5 +1,5 @@
 -- A text that holds a scene and nothing else.
-use Rattle.std.specs.Prelude.{◌≡◌, ℕ, List, None, Result, Ok, Err}
+use Rattle.std.specs.Prelude.{◌≡◌, ℕ, Bool, false, List, None, Result, Ok, Err}
 use Rattle.pf_text.specs.Driver.{Rules, StopsForMemory, without_output, text_output}
 use Rattle.pf_text.specs.Streams.{Transfer}
 use Rattle.pf_shapes.specs.declared.fault.SceneFault.{SceneFault}
@@ -10,16 +10,22 @@ use Rattle.pf_shapes.specs.declared.read.ReadError.{ReadError}
 use Rattle.pf_shapes.specs.declared.read.ReadError.TheVariants.{Memory, Line}
 use Rattle.pf_shapes.specs.Fault.{scene_fault_of}
 use Rattle.pf_shapes.specs.Scene.{Scene}
-use Rattle.pf_shapes.specs.SceneText.{line_of}
+use Rattle.pf_shapes.specs.SceneText.{is_body_line, line_of}
 
 -- no line has output, and only skipped lines follow the scene's end
 unfoldable pub transition : Progress → List (List ℕ) → Result (List ℕ × Progress) SceneFault
 transition (More reader) fields = without_output (line_of reader fields)
 transition (Ended scene) fields = Err BadLine
 
+-- only the line of a body takes memory
+unfoldable pub allocates : Progress → List (List ℕ) → Bool
+allocates (More reader) fields = is_body_line fields
+allocates (Ended scene) fields = false
+
 -- a scene's text by its lines
 abbrev pub scene_rules : Rules Progress SceneFault
-scene_rules = record { transition = transition; line_error = scene_fault_of }
+scene_rules =
+    record { transition = transition; line_error = scene_fault_of; allocates = allocates }
 
 -- a scene may have 1,024 bodies
 abbrev pub opening : Progress
@@ -35,13 +41,14 @@ scene_at_end (Err fault) = Err fault
 unfoldable pub scene_of : List ℕ → Result Scene (ℕ × SceneFault)
 scene_of input = scene_at_end (text_output scene_rules opening input).ending
 
--- a reader of the text ran out of memory at a valid line, behind valid lines
+-- a reader of the text ran out of memory at the valid line of a body, behind valid lines
 pub record OutOfMemoryIn (text : List ℕ) : Type 0 where
   pub transfer : Transfer
   pub input_is : transfer.input ≡ text
   pub stops : StopsForMemory scene_rules opening transfer
 
--- the scene of the text, or its first invalid line; or memory ran out at a valid line before that
+-- the scene of the text, or its first invalid line; or memory ran out at the line of a body before
+-- that
 abbrev pub ReadsScene : List ℕ → Result Scene ReadError → Type 0
 ReadsScene text (Ok scene) = scene_of text ≡ Ok scene
 ReadsScene text (Err (Line number fault)) = scene_of text ≡ Err (number, fault)

@@ -29,7 +29,7 @@ impl Machine<()> for Progress {
         SceneFault::from(fault)
     }
 
-    #[tactic(auto, unfolding(crate::specs::SceneRead::transition))]
+    #[tactic(auto, unfolding(crate::specs::SceneRead::transition, crate::specs::SceneRead::allocates))]
     fn take(
         self,
         alloc: Global,

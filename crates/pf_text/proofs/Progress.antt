@@ -1,5 +1,5 @@
 -- How far a run came, and what each exit of the driver makes of that.
-use Rattle.std.proofs.Common.{◌≡◌, ℕ, ◌+◌, ◌-◌, ◌<◌, ◌^◌, List, [], ◌∷◌, ◌++◌, length, Option, Some, Ok, Err, IsOk, false, inl, inr, refl, sym, ap, subst, ◌∙◌, append_assoc, append-nil, arith}
+use Rattle.std.proofs.Common.{◌≡◌, true, ℕ, ◌+◌, ◌-◌, ◌<◌, ◌^◌, List, [], ◌∷◌, ◌++◌, length, Option, Some, Ok, Err, IsOk, inl, inr, refl, sym, ap, subst, ◌∙◌, append_assoc, append-nil, arith}
 use Rattle.std.specs.Io.KnownBytes.{Appends}
 use Rattle.std.specs.List.{flat_map}
 use Rattle.std.proofs.lemmas.Bool.{lt-leb}
@@ -17,7 +17,7 @@ use Rattle.pf_text.specs.Lines.{AppendsPrefix, AreLines, Takes, terminated_line,
 use Rattle.pf_text.specs.Streams.{Transfer}
 use Rattle.pf_text.proofs.Taking.{appends_known}
 use Rattle.pf_text.proofs.LinesOf.{lines_of-AreLines, lines_of-terminated_line, lines_of-last, lines_of-front}
-use Rattle.pf_text.specs.Driver.{Rules, Output, TakesLine, LeadTo, StopsForMemory, Drives, CountsReads, CountsWrites, Produces, fault_at, is_skipped, step, lines_output, and_then, text_output}
+use Rattle.pf_text.specs.Driver.{Rules, Output, TakesLine, LeadTo, StopsForMemory, Drives, CountsReads, CountsWrites, Produces, fault_at, line_allocates, step, lines_output, and_then, text_output}
 
 -- an output behind what was written
 abbrev pub joined : {S F : Type 0} → List ℕ → Output S F → Output S F
@@ -94,7 +94,7 @@ module _ {S F : Type 0} {rules : Rules S F} {start : S} {input before : List ℕ
 
   -- where the machine ran out of memory at a valid line
   Drives-memory : (taken : Taken) (line : List ℕ) (left' : Option (List ℕ)) → Takes p.rest line left' (Ok taken)
-      → (taken ≡ End → ⊥) → is_skipped line ≡ false → IsOk (step rules state line)
+      → (taken ≡ End → ⊥) → line_allocates rules state line ≡ true → IsOk (step rules state line)
       → StopsForMemory rules start (transfer input before left' after)
   Drives-memory taken line left' t ne some ok = record {
     lines = p.taken;
@@ -102,7 +102,7 @@ module _ {S F : Type 0} {rules : Rules S F} {start : S} {input before : List ℕ
     state = state;
     valid = valid;
     after_is = p.after_is;
-    cause = inl (record { line = line; takes = takes_line taken line left' t ne; not_skipped = some; valid = ok });
+    cause = inl (record { line = line; takes = takes_line taken line left' t ne; allocates = some; valid = ok });
   }
 
   -- where no number is left for a line
@@ -195,7 +195,7 @@ module _ {S F : Type 0} {rules : Rules S F} {start : S} {input before : List ℕ
   -- where the machine did not take a line
   pub Drives-refused : (taken : Taken) (line : List ℕ) (left' : Option (List ℕ)) (refusal : TakeRefusal F)
       → Takes p.rest line left' (Ok taken) → (taken ≡ End → ⊥) → Produces (Err refusal) (step rules state line)
-      → (refusal ≡ refusals.Memory → is_skipped line ≡ false)
+      → (refusal ≡ refusals.Memory → line_allocates rules state line ≡ true)
       → Drives rules start (transfer input before left' after) (Err (fault_at number refusal))
   Drives-refused taken line left' refusals.Memory t ne said some = Drives-memory taken line left' t ne (some refl) said
   Drives-refused taken line left' (refusals.Fault fault) t ne said some = Drives-fault taken line left' fault t ne said

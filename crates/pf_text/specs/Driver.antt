@@ -27,11 +27,12 @@ abbrev pub is_skipped : List ℕ → Bool
 is_skipped [] = true
 is_skipped (byte ∷ bytes) = byte == 35
 
--- what a machine does: its output for the fields of a line and its next state, or its error; and
--- its error for a line that has no fields
+-- what a machine does: its output for the fields of a line and its next state, or its error; its
+-- error for a line that has no fields; and the fields for which it may take memory
 pub record Rules (S F : Type 0) : Type 0 where
   pub transition : S → List (List ℕ) → Result (List ℕ × S) F
   pub line_error : LineFault → F
+  pub allocates : S → List (List ℕ) → Bool
 
 -- a transition that writes nothing
 abbrev pub without_output : {S F : Type 0} → Result S F → Result (List ℕ × S) F
@@ -50,6 +51,15 @@ step rules state line =
     if is_plain line
     then (if is_skipped line then Ok ([], state) else fields_step rules state (fields_of line))
     else Err (rules.line_error BadLine)
+
+abbrev pub fields_allocate : {S F : Type 0} → Rules S F → S → Result (List (List ℕ)) LineFault → Bool
+fields_allocate rules state (Ok fields) = rules.allocates state fields
+fields_allocate rules state (Err fault) = false
+
+-- the machine may take memory for this line, which is not skipped and has fields
+abbrev pub line_allocates : {S F : Type 0} → Rules S F → S → List ℕ → Bool
+line_allocates rules state line =
+    if is_skipped line then false else fields_allocate rules state (fields_of line)
 
 -- what is written, and how it ends: with the number of the next line, or with that of the invalid
 -- line
@@ -104,14 +114,14 @@ module _ {S F : Type 0} (rules : Rules S F) (start : S) (t : Transfer) where
     pub after_is : t.after ≡ Some (t.before ++ (text_output rules start t.input).text)
     pub ending_is : (text_output rules start t.input).ending ≡ Err (number, fault)
 
-  -- a line that is valid and not skipped was taken behind these lines
+  -- a valid line for which the machine may take memory was taken behind these lines
   pub record StopsAtValidLine (lines : List (List ℕ)) (state : S) : Type 0 where
     pub line : List ℕ
     pub takes : TakesLine t.input lines line t.left
-    pub not_skipped : is_skipped line ≡ false
+    pub allocates : line_allocates rules state line ≡ true
     pub valid : IsOk (step rules state line)
 
-  -- A machine ran out of memory at a line that is valid and not skipped, behind lines that are
+  -- A machine ran out of memory at a valid line for which it may take memory, behind lines that are
   -- valid, and whose output was written. A run of 2^64 - 2 valid lines ends so too, since no number
   -- is left for the next.
   pub record StopsForMemory : Type 0 where

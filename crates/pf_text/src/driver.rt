@@ -1,13 +1,13 @@
 //! A text processed line by line.
 
-ghost use Rattle.std.specs.Prelude.{◌≡◌, ◌+◌, ◌^◌, ◌<◌, ◌≤◌, length, map, false, Err, OnOk, OnErr};
+ghost use Rattle.std.specs.Prelude.{◌≡◌, ◌+◌, ◌^◌, ◌<◌, ◌≤◌, length, map, true, Err, OnOk, OnErr};
 ghost use Rattle.pf_text.specs.declared.driver.DriveFault.TheVariants.{Read, Write};
 ghost use Rattle.pf_text.specs.declared.driver.TakeRefusal.TheVariants as refusals;
 ghost use Rattle.std.specs.Io.KnownBytes.{Appends};
 ghost use Rattle.pf_text.specs.Fields.{parts_of};
 ghost use Rattle.pf_text.specs.Lines.{AppendsPrefix, Counts};
 ghost use Rattle.pf_text.specs.Streams.{IfExposed};
-ghost use Rattle.pf_text.specs.Driver.{Rules, Produces, Drives, CountsReads, CountsWrites, fault_at, step, is_ascii, is_plain, is_skipped};
+ghost use Rattle.pf_text.specs.Driver.{Rules, Produces, Drives, CountsReads, CountsWrites, fault_at, step, line_allocates, is_ascii, is_plain, is_skipped};
 
 use crate::fault::LineFault;
 use crate::fields::{field_count, split_into};
@@ -68,7 +68,10 @@ pub trait Machine<L>: Drop {
     ) -> Result<(String, Self), TakeRefusal<Self::Fault>>
     where
         Self: Sized,
-        ensures { Produces result (rules.transition self (map (λ field. field.now) fields.now)) };
+        ensures reply { Produces result
+            (rules.transition self (map (λ field. field.now) fields.now)) }
+        ensures memory { result ≡ Err refusals.Memory
+            → rules.allocates self (map (λ field. field.now) fields.now) ≡ true };
 }
 
 /// Why a text was not processed to its end.
@@ -122,7 +125,9 @@ fn take_fields<'a, L, M: Machine<L>>(
     fields: &mut [&'a [u8]],
 ) -> Result<(String, M), TakeRefusal<M::Fault>>
     requires { length (parts_of line.now) ≤ length fields.old }
-    ensures { Produces result (M.rules.transition machine (parts_of line.now)) }
+    ensures reply { Produces result (M.rules.transition machine (parts_of line.now)) }
+    ensures memory { result ≡ Err refusals.Memory
+        → M.rules.allocates machine (parts_of line.now) ≡ true }
 {
     let count = split_into(line, fields);
     machine.take(alloc, lent, &fields[..count])
@@ -138,7 +143,9 @@ fn take_many_fields<L, M: Machine<L>>(
     line: &[u8],
 ) -> Result<(String, M), TakeRefusal<M::Fault>>
     requires { length (parts_of line.now) ≤ MAX_FIELDS }
-    ensures { Produces result (M.rules.transition machine (parts_of line.now)) }
+    ensures reply { Produces result (M.rules.transition machine (parts_of line.now)) }
+    ensures memory { result ≡ Err refusals.Memory
+        → M.rules.allocates machine (parts_of line.now) ≡ true }
 {
     take_fields(alloc, lent, machine, line, &mut [line; MAX_FIELDS])
 }
@@ -153,7 +160,8 @@ fn output<L, M: Machine<L>>(
     line: &[u8],
 ) -> Result<(String, M), TakeRefusal<M::Fault>>
     ensures reply { Produces result (step M.rules machine line.now) }
-    ensures skipped { result ≡ Err refusals.Memory → is_skipped line.now ≡ false }
+    ensures memory { result ≡ Err refusals.Memory
+        → line_allocates M.rules machine line.now ≡ true }
 {
     if !is_plain(line) {
         return Err(TakeRefusal::Fault(M::line_error(LineFault::BadLine)));

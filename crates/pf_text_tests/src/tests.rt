@@ -1,6 +1,6 @@
 //! Lines, fields and numbers by hand, and readers and writers that fail.
 
-ghost use Rattle.std.specs.Prelude.{length, codes, [], Ok, Err, ◌==◌, if◌then◌else◌};
+ghost use Rattle.std.specs.Prelude.{length, not, codes, [], Ok, Err, ◌==◌, if◌then◌else◌};
 ghost use Rattle.pf_text.specs.declared.fault.LineFault.TheVariants.{BadNumber};
 
 use pf_text::{
@@ -129,6 +129,7 @@ impl Machine<u32> for Parrot {
           (if length fields == 2 then Ok ([], state) else
           (if length fields == 2000 then Ok (codes "many\n", state) else Err BadNumber));
       line_error = λ fault. fault;
+      allocates = λ state fields. not (length fields == 2);
     } };
 
     fn line_error(fault: LineFault) -> LineFault {

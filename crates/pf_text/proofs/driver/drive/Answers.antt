@@ -28,7 +28,7 @@ returns-in-Err g c = record {
   driven = λ input before left after.
       let p = c.loop-number.invariant.so_far input before left after in
       let said = rw c.as_slice.ensures.value at c.in-Err.ensures.reply in
-      let some = rw c.as_slice.ensures.value at c.in-Err.ensures.skipped in
+      let some = rw c.as_slice.ensures.value at c.in-Err.ensures.memory in
       rw c.fault_at.ensures (Drives-refused p c.in_ok-taken.taken c.take_line.new.line.items
       (g.R.Source.remaining c.take_line.new.source) c.in-Err.refusal (c.in_ok-taken.ensures.taken p.rest p.left_is)
       c.in_default.not-End said (λ e. some (ap (λ refusal. Err refusal) e)));
