@@ -43,13 +43,25 @@ impl Model for Fields {
     ghost Value = { Fields };
 
     ghost view = { λ f. record {
-        version = f.version; tick = f.tick; player = f.player; number = f.number;
-        kind = f.kind; body = f.body; x = f.x; y = f.y;
+      version = f.version;
+      tick = f.tick;
+      player = f.player;
+      number = f.number;
+      kind = f.kind;
+      body = f.body;
+      x = f.x;
+      y = f.y;
     } };
 
     ghost inverse = { λ f. record {
-        version = f.version; tick = f.tick; player = f.player; number = f.number;
-        kind = f.kind; body = f.body; x = f.x; y = f.y;
+      version = f.version;
+      tick = f.tick;
+      player = f.player;
+      number = f.number;
+      kind = f.kind;
+      body = f.body;
+      x = f.x;
+      y = f.y;
     } };
 }
 

@@ -22,7 +22,8 @@ const FIRST_REPLY: usize = 12;
 
 const SECOND_REPLY: usize = 69;
 
-/// What the program writes, what it says of a fault, and its status. What is kept in memory fails for want of it alone.
+/// What the program writes, what it says of a fault, and its status. What is kept in memory fails
+/// for want of it alone.
 type Ended = (Collected, Collected, u8);
 
 /// How the program ends with this outcome, after what it wrote.
@@ -363,7 +364,8 @@ fn reports_have_the_names_of_errors(rt: HostRuntime) -> Result<(), Fail> {
     Ok(())
 }
 
-/// A reader of a text that gives a byte at a time, is interrupted before each, and fails at one call.
+/// A reader of a text that gives a byte at a time, is interrupted before each, and fails at one
+/// call.
 #[derive(Drop)]
 struct Trickle {
     taken: usize,
