@@ -1,5 +1,5 @@
 -- Scenes: what a simulation starts from.
-use Rattle.std.specs.Prelude.{◌≡◌, ◌≤◌, pos, neg_ℤ, List, [], ◌∷◌, ◌++◌, length}
+use Rattle.std.specs.Prelude.{◌≡◌, ◌≤◌, neg_ℤ, List, [], ◌∷◌, ◌++◌, length}
 use Rattle.pf_rot.specs.Vector.{V2}
 use Rattle.pf_rot.specs.Rotation.{Rot}
 use Rattle.pf_rot.specs.Laws.{IsAtMostOne}
