@@ -1,5 +1,5 @@
 -- Words of the laws of pairs.
-use Rattle.std.specs.Prelude.{◌≡◌, ℕ, ◌<◌, Bool, true, ◌&&◌, ◌||◌, ◌==◌, List, [], ◌∷◌, length, nat_lt}
+use Rattle.std.specs.Prelude.{◌≡◌, ℕ, Bool, true, ◌&&◌, ◌||◌, ◌==◌, List, [], ◌∷◌, length, nat_lt}
 use Rattle.std.specs.List.{list_any, AllByRecursion}
 use Rattle.pf_shapes.specs.Bounds.{Bounds}
 use Rattle.pf_broad.specs.Pairs.{bounds_at, may_touch, pairs}

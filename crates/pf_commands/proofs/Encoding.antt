@@ -4,9 +4,8 @@ use Rattle.std.specs.Int.{byte_at, bytes_high_first}
 use Rattle.std.proofs.lemmas.List.{length-append}
 use Rattle.std.proofs.Math.Nat.{mod-eq_of_lt}
 use Rattle.byteorder.specs.Numbers.{big_number-reads_back}
-use Rattle.pf_commands.specs.declared.frame.Fields.{Fields}
+use Rattle.pf_commands.specs.Frame.{Fields, IsBytes, IsFrameable, Encodes, fields_of, fields_in, bytes_in, encoding}
 use Rattle.pf_commands.specs.declared.payload.Command.{Command}
-use Rattle.pf_commands.specs.Frame.{IsBytes, IsFrameable, Encodes, fields_of, fields_in, bytes_in, encoding}
 use Rattle.pf_commands.proofs.Digits.{same_bytes}
 use Rattle.pf_commands.proofs.Fields.{AreFields, worth, fields_in-fit, big_number_parts, number_of-parts}
 use Rattle.pf_commands.proofs.Frames.{ok_is, encoded_decodes}

@@ -7,12 +7,11 @@ use Rattle.std.proofs.lemmas.Int.{to_z-of_z, fits_signed_from_abs}
 use Rattle.byteorder.specs.Endian.{big_number}
 use Rattle.byteorder.specs.Numbers.{big_from-lt}
 use Rattle.pf_num.specs.Fx.{IsRaw}
-use Rattle.pf_commands.specs.declared.frame.Fields.{Fields}
+use Rattle.pf_commands.specs.Frame.{Fields, IsBytes, IsFrameable, fields_of, fields_in, number_of}
 use Rattle.pf_commands.specs.declared.payload.Command.{Command}
 use Rattle.pf_commands.specs.declared.payload.Payload.{Payload}
 use Rattle.pf_commands.specs.declared.payload.Payload.TheVariants.{Push, Turn, Stop}
 use Rattle.pf_commands.specs.Payload.{kind_of, x_of, y_of, weight}
-use Rattle.pf_commands.specs.Frame.{IsBytes, IsFrameable, fields_of, fields_in, number_of}
 use Rattle.pf_commands.proofs.WeightOrder.{raw_fits}
 
 -- fields shifted to their bits in one number

@@ -8,12 +8,11 @@ use Rattle.std.proofs.lemmas.Int.{of_z-to_z}
 use Rattle.pf_num.specs.Fx.{IsRaw}
 use Rattle.pf_commands.specs.declared.fault.FrameFault.{FrameFault}
 use Rattle.pf_commands.specs.declared.fault.FrameFault.TheVariants.{Short, Long, BadVersion, BadKind, NotCanonical, OutOfRange}
-use Rattle.pf_commands.specs.declared.frame.Fields.{Fields}
+use Rattle.pf_commands.specs.Frame.{Fields, IsBytes, IsFrameable, Encodes, fields_of, fields_in, is_raw, is_canonical, is_in_range, payload_of, command_in, command_of, decode}
 use Rattle.pf_commands.specs.declared.payload.Command.{Command}
 use Rattle.pf_commands.specs.declared.payload.Payload.{Payload}
 use Rattle.pf_commands.specs.declared.payload.Payload.TheVariants.{Push, Turn, Stop}
 use Rattle.pf_commands.specs.Payload.{IsPayload, kind_of, body_of, x_of, y_of}
-use Rattle.pf_commands.specs.Frame.{IsBytes, IsFrameable, Encodes, fields_of, fields_in, is_raw, is_canonical, is_in_range, payload_of, command_in, command_of, decode}
 use Rattle.pf_commands.proofs.Fields.{AreFields, worth, raw_again, fields_of-fit, fields_in-fit, big_number_parts, number_of-parts, same_fields}
 
 -- ---- encoded commands are decoded

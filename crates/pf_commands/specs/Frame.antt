@@ -5,7 +5,6 @@ use Rattle.std.specs.Int.RustNames.{unsigned_abs}
 use Rattle.byteorder.specs.Endian.{big_number, big_bytes}
 use Rattle.pf_commands.specs.declared.fault.FrameFault.{FrameFault}
 use Rattle.pf_commands.specs.declared.fault.FrameFault.TheVariants.{Short, Long, BadVersion, BadKind, NotCanonical, OutOfRange}
-use Rattle.pf_commands.specs.declared.frame.Fields.{Fields}
 use Rattle.pf_commands.specs.declared.payload.Command.{Command}
 use Rattle.pf_commands.specs.declared.payload.Payload.{Payload}
 use Rattle.pf_commands.specs.declared.payload.Payload.TheVariants.{Push, Turn, Stop}
@@ -39,11 +38,22 @@ pub record Encodes (bytes : List ℕ) (c : Command) : Type 0 where
 
 -- ---- the fields of a frame
 
+-- the fields of 27 bytes, x and y in two's complement
+pub record Fields : Type 0 where
+  pub version : ℕ
+  pub tick : ℕ
+  pub player : ℕ
+  pub number : ℕ
+  pub kind : ℕ
+  pub body : ℕ
+  pub x : ℕ
+  pub y : ℕ
+
 -- the big-endian number in n bytes from index i
 abbrev pub number_at : ℕ → ℕ → List ℕ → ℕ
 number_at n i bytes = big_number n (drop i bytes)
 
--- the fields of 27 bytes, x and y in two's complement
+-- the fields of a list of bytes, of which there are to be 27
 unfoldable pub fields_of : List ℕ → Fields
 fields_of bytes = record {
   version = slice_index bytes 0;

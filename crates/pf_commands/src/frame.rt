@@ -13,6 +13,7 @@ use crate::weight::{PUSH, STOP, TURN, weight_parts};
 use byteorder::{BigEndian, ByteOrder};
 use pf_num::Fx;
 use pf_shapes::PLAYERS;
+use std::marker::Model;
 
 /// The length of a frame, in bytes.
 pub const FRAME_LEN: usize = 27;
@@ -34,6 +35,34 @@ struct Fields {
     body: u16,
     x: u64,
     y: u64,
+}
+
+impl Model for Fields {
+    ghost use Rattle.pf_commands.specs.Frame.{Fields};
+
+    ghost Value = { Fields };
+
+    ghost view = { λ f. record {
+      version = f.version;
+      tick = f.tick;
+      player = f.player;
+      number = f.number;
+      kind = f.kind;
+      body = f.body;
+      x = f.x;
+      y = f.y;
+    } };
+
+    ghost inverse = { λ f. record {
+      version = f.version;
+      tick = f.tick;
+      player = f.player;
+      number = f.number;
+      kind = f.kind;
+      body = f.body;
+      x = f.x;
+      y = f.y;
+    } };
 }
 
 impl Fields {

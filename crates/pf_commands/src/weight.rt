@@ -36,8 +36,8 @@ pub(crate) fn weight_parts(payload: &Payload) -> (u8, u16, u64, u64)
     }
 }
 
-/// Does nothing at run time. It reads a command's numbers, so that the prover knows that they are in
-/// the ranges of their types, which a `BTreeMap` of them does not say.
+/// Does nothing at run time. It reads a command's numbers, so that the prover knows that they are
+/// in the ranges of their types, which a `BTreeMap` of them does not say.
 pub(crate) fn read_ranges(command: &Command)
     ensures { IsCommand command.now }
 {

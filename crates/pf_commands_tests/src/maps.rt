@@ -104,7 +104,8 @@ fn a_map_is_merged_once(rt: HostRuntime) -> Result<(), Fail> {
     Ok(())
 }
 
-/// 3,000 commands of this number: one of player 0 at each of the last 2,999 ticks, and one of player 1 at the last.
+/// 3,000 commands of this number: one of player 0 at each of the last 2,999 ticks, and one of
+/// player 1 at the last.
 fn many(alloc: Global, number: u16) -> Result<CommandMap, Fail> {
     let mut map = CommandMap::new(alloc);
     for tick in 1_045_577..1_048_576 {

@@ -192,8 +192,7 @@ line_of_event peers event few h =
 pub lines_of_events : (peers : ℕ) (events : List Event) → peers ≤ PLAYERS → All (IsEncodable peers) events
     → AreLinesOf peers (map event_line events) events
 lines_of_events peers [] few h = tt
-lines_of_events peers (event ∷ events) few h =
-    (
-      line_of_event peers event few (All-head (IsEncodable peers) event events h),
-      lines_of_events peers events few (All-tail (IsEncodable peers) event events h),
-    )
+lines_of_events peers (event ∷ events) few h = (
+  line_of_event peers event few (All-head (IsEncodable peers) event events h),
+  lines_of_events peers events few (All-tail (IsEncodable peers) event events h),
+)

@@ -104,3 +104,6 @@ short_digits digits even e less = judged_by_length digits Short even e (λ bytes
 
 pub long_digits : (digits : List ℕ) → length digits % 2 ≡ 0 → list_all is_ascii_hexdigit digits ≡ true → 54 < length digits → frame_of digits ≡ Ok (Err Long)
 long_digits digits even e more = judged_by_length digits Long even e (λ bytes twice. long_bytes bytes (omega (arith, twice)))
+
+-- what is known of digits of another count than those of a frame
+pub ruleset other_counts = (odd_digits, no_digits, short_digits, long_digits)

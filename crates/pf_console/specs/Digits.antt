@@ -25,6 +25,7 @@ abbrev pub frame_of : List ℕ → Result (Result Command FrameFault) LineFault
 frame_of digits = frame_or_error (bytes_of digits)
 
 -- bytes that encode no command
-abbrev pub invalid_frame : Result FrameFault LineFault → Result (Result Command FrameFault) LineFault
+abbrev pub invalid_frame
+    : Result FrameFault LineFault → Result (Result Command FrameFault) LineFault
 invalid_frame (Ok fault) = Ok (Err fault)
 invalid_frame (Err fault) = Err fault

@@ -13,7 +13,8 @@ use Rattle.pf_peers.specs.declared.event.Event.TheVariants.{Issue, Take, Advance
 
 -- what is issued: its kind, its body and its numbers
 abbrev pub payload_fields : Payload → List (List ℕ)
-payload_fields (Push body x y) = codes "push" ∷ decimal body ∷ signed_decimal x ∷ signed_decimal y ∷ []
+payload_fields (Push body x y) =
+    codes "push" ∷ decimal body ∷ signed_decimal x ∷ signed_decimal y ∷ []
 payload_fields (Turn body x) = codes "turn" ∷ decimal body ∷ signed_decimal x ∷ []
 payload_fields (Stop body) = codes "stop" ∷ decimal body ∷ []
 

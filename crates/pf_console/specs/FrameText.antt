@@ -23,12 +23,15 @@ digits_result (Err fault) = Err BadNumber
 abbrev pub digits_command : List ℕ → Result Command DigitsFault
 digits_command digits = digits_result (frame_of digits)
 
--- The line of the digits' command was written; or their error was returned and nothing written. Memory runs out only for
--- digits that encode a command, and nothing is written then; where the writer failed, a part of the line was.
+-- The line of the digits' command was written; or their error was returned and nothing written.
+-- Memory runs out only for digits that encode a command, and nothing is written then; where the
+-- writer failed, a part of the line was.
 abbrev pub PrintsFrame : List ℕ → Written → Result (Unit {0}) PlayFault → Type 0
 PrintsFrame digits w (Ok done) =
-    (command : Command) × (digits_command digits ≡ Ok command) × (w.after ≡ Some (w.before ++ command_line command))
-PrintsFrame digits w (Err (Frame fault)) = (digits_command digits ≡ Err fault) × (w.after ≡ Some w.before)
+    (command : Command) × (digits_command digits ≡ Ok command)
+    × (w.after ≡ Some (w.before ++ command_line command))
+PrintsFrame digits w (Err (Frame fault)) =
+    (digits_command digits ≡ Err fault) × (w.after ≡ Some w.before)
 PrintsFrame digits w (Err Memory) = IsOk (digits_command digits) × (w.after ≡ Some w.before)
 PrintsFrame digits w (Err Write) =
     (command : Command) × (part : List ℕ) × (rest : List ℕ) × (digits_command digits ≡ Ok command)

@@ -76,6 +76,7 @@ refusal_text (NotReached reached) = line_text (codes "refused NotReached") (pos 
 unfoldable pub reply_text : List Fixture → Reply → List ℕ
 reply_text fixtures (Issued peer frame) = reply_line (codes "issue") peer (encode_lower frame)
 reply_text fixtures (Took peer put) = reply_line (codes "take") peer (put_name put)
-reply_text fixtures (Advanced peer reached) = line_text (codes "advance") (pos peer ∷ pos reached ∷ [])
+reply_text fixtures (Advanced peer reached) =
+    line_text (codes "advance") (pos peer ∷ pos reached ∷ [])
 reply_text fixtures (Shown peer tick world) = block_text fixtures peer tick world
 reply_text fixtures (Refused refusal) = refusal_text refusal

@@ -29,19 +29,21 @@ text_of input = record {
   fault = fault_of_ending (text_output text_rules first_phase input).ending;
 }
 
--- An invalid line was taken, and no line behind it; or all of the text, all of whose lines are valid, but which ended too
--- early.
+-- An invalid line was taken, and no line behind it; or all of the text, all of whose lines are
+-- valid, but which ended too early.
 abbrev pub StopsAt : Transfer → ℕ → Type 0
 StopsAt t number =
-    ((lines : List (List ℕ)) × (line : List ℕ) × (number ≡ length lines + 1) × TakesLine t.input lines line t.left)
+    ((lines : List (List ℕ)) × (line : List ℕ) × (number ≡ length lines + 1)
+    × TakesLine t.input lines line t.left)
     ⊎ ((t.left ≡ Some []) × IsOk (text_output text_rules first_phase t.input).ending)
 
--- How a run ended, and what it read and wrote. It runs out of memory only at a valid line; there, and where the reader
--- failed, the lines before are valid and their output was written; where the writer failed, a part of the next reply
--- stands behind that.
+-- How a run ended, and what it read and wrote. It runs out of memory only at a valid line; there,
+-- and where the reader failed, the lines before are valid and their output was written; where the
+-- writer failed, a part of the next reply stands behind that.
 abbrev pub Runs : Transfer → Result (Unit {0}) PlayFault → Type 0
 Runs t (Ok done) =
-    (t.left ≡ Some []) × (t.after ≡ Some (t.before ++ (text_of t.input).written)) × ((text_of t.input).fault ≡ None)
+    (t.left ≡ Some []) × (t.after ≡ Some (t.before ++ (text_of t.input).written))
+    × ((text_of t.input).fault ≡ None)
 Runs t (Err (Line number fault)) =
     StopsAt t number × (t.after ≡ Some (t.before ++ (text_of t.input).written))
     × ((text_of t.input).fault ≡ Some (number, fault))

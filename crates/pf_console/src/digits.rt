@@ -34,12 +34,7 @@ fn are_digits(bytes: &[u8]) -> bool
 }
 
 /// Why digits that are too few or too many encode no command.
-#[tactic(auto, using(
-    crate::proofs::FrameDigits::odd_digits,
-    crate::proofs::FrameDigits::no_digits,
-    crate::proofs::FrameDigits::short_digits,
-    crate::proofs::FrameDigits::long_digits
-))]
+#[tactic(auto, using(crate::proofs::FrameDigits::other_counts))]
 fn fault_of_length(digits: &[u8]) -> Result<FrameFault, LineFault>
     requires { length digits.now ≢ FRAME_DIGITS }
     ensures { frame_of digits.now ≡ invalid_frame result }

@@ -26,7 +26,8 @@ fn read(digits: &[u8]) -> Result<Command, DigitsFault>
 pub fn frame_text<W: Sink>(alloc: Global, digits: &str, writer: &mut W) -> Result<(), PlayFault>
     requires { W.failures writer.old + 1 < 2 ^ 64 }
     ensures text { (before : List ℕ) → W.contents writer.old ≡ Some before
-        → PrintsFrame digits.now (record { before = before; after = W.contents writer.new }) result }
+        → PrintsFrame digits.now
+        (record { before = before; after = W.contents writer.new }) result }
     ensures reads_nothing { ReadsNothing result }
     ensures writes_counted { CountsWrites (W.failures writer.old) result (W.failures writer.new) }
 {

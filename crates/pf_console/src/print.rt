@@ -18,7 +18,8 @@ const LINE_ROOM: usize = 64;
 
 /// Adds what a command does, and the line's end.
 fn push_payload(text: &mut String, payload: &Payload) -> Result<(), AllocError>
-    ensures { OnOk result (string_bytes text.new ≡ string_bytes text.old ++ payload_text payload.now) }
+    ensures { OnOk result (string_bytes text.new
+        ≡ string_bytes text.old ++ payload_text payload.now) }
 {
     match *payload {
         Payload::Push { body, x, y } => {
@@ -69,7 +70,8 @@ fn push_body(
     body: &BodyState,
 ) -> Result<(), AllocError>
     requires { number < 2 ^ 63 }
-    ensures { OnOk result (string_bytes text.new ≡ string_bytes text.old ++ dynamic_body_text number fixture.now body.now) }
+    ensures { OnOk result (string_bytes text.new
+        ≡ string_bytes text.old ++ dynamic_body_text number fixture.now body.now) }
 {
     if fixture.is_static() {
         return Ok(());
@@ -83,7 +85,8 @@ fn push_bodies(
     fixtures: &[Fixture],
     bodies: &[BodyState],
 ) -> Result<(), AllocError>
-    ensures { OnOk result (string_bytes text.new ≡ string_bytes text.old ++ bodies_text 0 fixtures.now bodies.now) }
+    ensures { OnOk result (string_bytes text.new
+        ≡ string_bytes text.old ++ bodies_text 0 fixtures.now bodies.now) }
 {
     for i in 0..fixtures.len().min(bodies.len()) {
         push_body(text, i, &fixtures[i], &bodies[i])?;
@@ -93,7 +96,8 @@ fn push_bodies(
 
 /// Adds a line: a word, a peer, and its reply.
 fn push_reply(text: &mut String, word: &str, peer: u8, answer: &str) -> Result<(), AllocError>
-    ensures { OnOk result (string_bytes text.new ≡ string_bytes text.old ++ reply_line word.now peer answer.now) }
+    ensures { OnOk result (string_bytes text.new
+        ≡ string_bytes text.old ++ reply_line word.now peer answer.now) }
 {
     push_words(text, word, &[i64::from(peer)])?;
     text.push(' ')?;
@@ -135,7 +139,8 @@ fn push_block(
     tick: u32,
     world: &World,
 ) -> Result<(), AllocError>
-    ensures { OnOk result (string_bytes text.new ≡ string_bytes text.old ++ block_text fixtures.now peer tick world.now) }
+    ensures { OnOk result (string_bytes text.new
+        ≡ string_bytes text.old ++ block_text fixtures.now peer tick world.now) }
 {
     push_line(text, "show", &[i64::from(peer), i64::from(tick)])?;
     push_bodies(text, fixtures, world.bodies())?;

@@ -69,8 +69,11 @@ pub fn finish<W: Sink>(outcome: Result<(), PlayFault>, writer: &mut W) -> u8
     requires { W.failures writer.old + 1 < 2 ^ 64 }
     ensures status { result ≡ outcome_status outcome }
     ensures text { Reports (record {
-            before = W.contents writer.old; after = W.contents writer.new;
-            failures_before = W.failures writer.old; failures_after = W.failures writer.new })
+      before = W.contents writer.old;
+      after = W.contents writer.new;
+      failures_before = W.failures writer.old;
+      failures_after = W.failures writer.new;
+    })
         (outcome_text outcome) }
 {
     match outcome {
@@ -85,8 +88,11 @@ pub fn report<W: Sink>(fault: &PlayFault, writer: &mut W) -> u8
     requires { W.failures writer.old + 1 < 2 ^ 64 }
     ensures status { result ≡ status_of fault.now }
     ensures text { Reports (record {
-            before = W.contents writer.old; after = W.contents writer.new;
-            failures_before = W.failures writer.old; failures_after = W.failures writer.new })
+      before = W.contents writer.old;
+      after = W.contents writer.new;
+      failures_before = W.failures writer.old;
+      failures_after = W.failures writer.new;
+    })
         (fault_text fault.now) }
 {
     let _ = match fault {

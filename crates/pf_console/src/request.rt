@@ -49,8 +49,11 @@ pub fn perform<R: Source, W: Sink>(
     requires reads { R.failures reader.old + 1 < 2 ^ 64 }
     requires writes { W.failures writer.old + 1 < 2 ^ 64 }
     ensures done { IfExposed (record {
-            unread = R.remaining reader.old; left = R.remaining reader.new;
-            before = W.contents writer.old; after = W.contents writer.new })
+      unread = R.remaining reader.old;
+      left = R.remaining reader.new;
+      before = W.contents writer.old;
+      after = W.contents writer.new;
+    })
         (λ transfer. Performs request.entry transfer result) }
     ensures reads_counted { CountsReads (R.failures reader.old) result (R.failures reader.new) }
     ensures writes_counted { CountsWrites (W.failures writer.old) result (W.failures writer.new) }

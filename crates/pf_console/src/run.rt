@@ -10,8 +10,8 @@ use pf_shapes::SceneFault;
 use pf_text::{DriveFault, Sink, Source, drive};
 use std::alloc::Global;
 
-/// Processes a text of a scene, its peers and events: the replies to its events are written, each before the
-/// next line is read, up to the first line that is invalid.
+/// Processes a text of a scene, its peers and events: the replies to its events are written, each
+/// before the next line is read, up to the first line that is invalid.
 #[tactic(auto, unfolding(crate::specs::Text::text_of))]
 pub fn run_text<R: Source, W: Sink>(
     alloc: Global,
@@ -21,8 +21,11 @@ pub fn run_text<R: Source, W: Sink>(
     requires reads { R.failures reader.old + 1 < 2 ^ 64 }
     requires writes { W.failures writer.old + 1 < 2 ^ 64 }
     ensures text { IfExposed (record {
-            unread = R.remaining reader.old; left = R.remaining reader.new;
-            before = W.contents writer.old; after = W.contents writer.new })
+      unread = R.remaining reader.old;
+      left = R.remaining reader.new;
+      before = W.contents writer.old;
+      after = W.contents writer.new;
+    })
         (λ transfer. Runs transfer result) }
     // An error of the reader or the writer is returned exactly where it failed in this call.
     ensures reads_counted { CountsReads (R.failures reader.old) result (R.failures reader.new) }

@@ -22,7 +22,8 @@ const FIRST_REPLY: usize = 12;
 
 const SECOND_REPLY: usize = 69;
 
-/// What the program writes, what it says of a fault, and its status. What is kept in memory fails for want of it alone.
+/// What the program writes, its report of an error, and its status. A `Collected` fails only where
+/// it is out of memory.
 type Ended = (Collected, Collected, u8);
 
 /// How the program ends with this outcome, after what it wrote.
@@ -43,7 +44,7 @@ fn ended(
     Ok((output, said, status))
 }
 
-/// How the program answers a text in memory.
+/// How the program runs a text in memory.
 fn played(alloc: Global, text: &[u8]) -> Result<Ended, AllocError> {
     let mut output = Collected::new(alloc);
     let outcome = perform(alloc, Request::Run, &mut Bytes::new(text), &mut output);
@@ -121,7 +122,7 @@ fn a_box_turns(rt: HostRuntime) -> Result<(), Fail> {
     Ok(())
 }
 
-/// Texts, and what is said of the line at fault.
+/// Texts, and the report of their invalid line.
 #[rattlefmt::skip]
 const FAULTS: [(&[u8], &[u8]); 15] = [
     (
@@ -184,7 +185,7 @@ fn each_error_has_its_line_and_name(rt: HostRuntime) -> Result<(), Fail> {
     Ok(())
 }
 
-/// How the program answers a frame's digits. It reads nothing.
+/// How the program prints a frame. It reads nothing.
 fn digits_result(alloc: Global, digits: &str) -> Result<Ended, AllocError> {
     let mut output = Collected::new(alloc);
     let request = Request::Frame(digits);
@@ -192,7 +193,7 @@ fn digits_result(alloc: Global, digits: &str) -> Result<Ended, AllocError> {
     ended(alloc, output, outcome)
 }
 
-/// Digits of a frame, and what is written or said of them.
+/// Digits of a frame, and what is written or reported.
 #[rattlefmt::skip]
 const FRAMES: [(&str, &[u8]); 11] = [
     (
@@ -332,7 +333,7 @@ fn errors_print_their_texts(rt: HostRuntime) -> Result<(), Fail> {
     Ok(())
 }
 
-/// The faults of lines and frames: each has a text as an error, and a name that the program says.
+/// The errors of lines and frames: each has a text as an error, which the program reports.
 #[rattlefmt::skip]
 const NAMED: [PlayFault; 12] = [
     PlayFault::Line(7, SceneFault::BadLine),
@@ -363,7 +364,8 @@ fn reports_have_the_names_of_errors(rt: HostRuntime) -> Result<(), Fail> {
     Ok(())
 }
 
-/// A reader of a text that gives a byte at a time, is interrupted before each, and fails at one call.
+/// A reader of a text that gives a byte at a time, is interrupted before each, and fails at one
+/// call.
 #[derive(Drop)]
 struct Trickle {
     taken: usize,

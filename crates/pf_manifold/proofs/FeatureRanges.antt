@@ -1,5 +1,5 @@
 -- The features of contact points by the shapes of the bodies.
-use Rattle.std.proofs.Common.{◌≡◌, ◌≢◌, ℕ, ◌+◌, ◌*◌, ◌<◌, ◌≤◌, ℤ, neg_ℤ, ◌≤ℤ◌, Bool, true, false, ◌&&◌, [], ◌∷◌, Option, Some, None, refl, sym, ap, ◌∙◌, arith}
+use Rattle.std.proofs.Common.{◌≡◌, ◌+◌, ◌<◌, ℤ, neg_ℤ, ◌≤ℤ◌, Bool, true, false, ◌&&◌, [], ◌∷◌, Option, Some, None, refl, arith}
 use Rattle.std.proofs.lemmas.Bool.Decides.{Decides-int_eq}
 use Rattle.std.proofs.lemmas.Int.{ints, clamps}
 use Rattle.std.proofs.lemmas.List.Elements.{All-nil, All-cons}
@@ -25,7 +25,7 @@ use Rattle.pf_manifold.specs.BoxCircle.{clamp, closest_point, region_of, region_
 use Rattle.pf_manifold.specs.Separation.{frames_of, separations_of, has_gap, best_axis}
 use Rattle.pf_manifold.specs.Reference.{Reference, reference_of}
 use Rattle.pf_manifold.specs.Incident.{ClipVertex, Segment, mark_number, incident_edge}
-use Rattle.pf_manifold.specs.Boxes.{first_face_number, vertex_feature, vertex_point, point_behind, vertex_contact, ascending_points, segment_points, edge_points, reference_points, points_along, collide_boxes}
+use Rattle.pf_manifold.specs.Boxes.{first_face_number, vertex_feature, vertex_point, vertex_contact, ascending_points, segment_points, edge_points, reference_points, points_along, collide_boxes}
 use Rattle.pf_manifold.specs.Collide.{box_at, mirror_image, collide, collide_shapes}
 use Rattle.pf_manifold.specs.GeometryLaws.{IsRegionFeature}
 use Rattle.pf_manifold.proofs.Comparisons.{not_above}

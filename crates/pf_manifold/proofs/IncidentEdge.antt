@@ -4,7 +4,7 @@ use Rattle.std.proofs.Common.{◌≡◌, ℤ, pos, neg_ℤ, ◌≤ℤ◌, ◌≤
 use Rattle.std.proofs.lemmas.Int.{ints}
 use Rattle.std.specs.Int.RustNames.{unsigned_abs}
 use Rattle.std.specs.Prelude.{int_lt, if◌then◌else◌, ◌<ℤ◌}
-use Rattle.pf_num.specs.Fx.{one, IsRaw, sum, difference, product}
+use Rattle.pf_num.specs.Fx.{one, IsRaw, difference, product}
 use Rattle.pf_num.proofs.Operations.{product_comm, product-zero, product-one, product-neg, sum-zero, zero-sum, difference-zero, difference-swap}
 use Rattle.pf_rot.specs.Vector.{V2, neg}
 use Rattle.pf_rot.specs.Rotation.{Rot, unrotate}

@@ -1,5 +1,5 @@
 -- The contact points of two bodies by their shapes, as Box2D 2.x's b2Contact::Evaluate.
-use Rattle.std.specs.Prelude.{ℤ, List, Option, None, Some}
+use Rattle.std.specs.Prelude.{ℤ, List}
 use Rattle.std.specs.Option.{option_map}
 use Rattle.pf_rot.specs.Vector.{neg}
 use Rattle.pf_shapes.specs.declared.fixture.Shape.{Shape}

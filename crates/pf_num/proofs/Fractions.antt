@@ -6,7 +6,7 @@ use Rattle.std.proofs.lemmas.Int.{ints}
 use Rattle.std.proofs.Math.Nat.{mul-le-mul_left, mul-le-mul_right}
 use Rattle.std.specs.Int.RustNames.{unsigned_abs}
 use Rattle.pf_num.specs.Round.{nearest}
-use Rattle.pf_num.specs.Fx.{one, IsRaw, product, quotient}
+use Rattle.pf_num.specs.Fx.{IsRaw, product, quotient}
 use Rattle.pf_num.proofs.Nearest.{nearest-meets}
 use Rattle.pf_num.proofs.Signs.{quotient-pos, quotient_is, product_is, is_negative-pos}
 use Rattle.pf_num.proofs.AtMostOne.{at_most}

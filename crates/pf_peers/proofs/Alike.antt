@@ -38,6 +38,6 @@ same_in_any_order s events others later named are same reached =
     same_peer (peer_at after i) (peer_at other i) (first.player ∙ sym second.player)
     (first.commands
     ∙ put_all-same (peer_at s i).commands (commands_for s i events) (commands_for s i others) (named i within)
-        (λ d has. All-contains IsCommand (commands_for s i events) d (are i within) has) (same i within)
+    (λ d has. All-contains IsCommand (commands_for s i events) d (are i within) has) (same i within)
     ∙ sym second.commands)
     (reached i within)))

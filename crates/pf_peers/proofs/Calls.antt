@@ -161,8 +161,8 @@ peer_after_all s (event ∷ events) i h =
     record {
       player = rest.player ∙ first.player;
       commands =
-        rest.commands ∙ ap (λ m. put_all m (commands_for (session_after s event) i events)) first.commands
-        ∙ sym (put_all-append (peer_at s i).commands (commands_by s i event) (commands_for (session_after s event) i events));
+          rest.commands ∙ ap (λ m. put_all m (commands_for (session_after s event) i events)) first.commands
+          ∙ sym (put_all-append (peer_at s i).commands (commands_by s i event) (commands_for (session_after s event) i events));
     }
 
 -- ---- equal sessions

@@ -49,10 +49,10 @@ peer_answer_is scene cores event old new reply within is scenes called =
     map-set (λ (core : PeerCore). core.peer) cores i new in
     ap (λ (ps : List Peer). let s : Session = record { scene = scene; peers = ps } in let pair : Reply × Session = (reply, s) in pair) put
     ∙ ap
-        (λ (a : Reply × Peer).
-        let s : Session = record { scene = scene; peers = slice_set (peers_of cores) i a.1 } in
-        let pair : Reply × Session = (a.0, s) in pair)
-        called_there
+    (λ (a : Reply × Peer).
+    let s : Session = record { scene = scene; peers = slice_set (peers_of cores) i a.1 } in
+    let pair : Reply × Session = (a.0, s) in pair)
+    called_there
 
 -- ---- one event after the other
 

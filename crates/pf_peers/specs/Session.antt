@@ -42,7 +42,7 @@ peer_of (Show peer tick) = peer
 
 -- the reply to a call, and the peer after it; a rejected call changes nothing
 abbrev pub reply_and_peer
-  : {A : Type 0} → (A → Reply) → Peer → Result (A × Peer) Refusal → Reply × Peer
+    : {A : Type 0} → (A → Reply) → Peer → Result (A × Peer) Refusal → Reply × Peer
 reply_and_peer reply p (Ok answer) = (reply answer.0, answer.1)
 reply_and_peer reply p (Err refusal) = (Refused refusal, p)
 
@@ -60,8 +60,8 @@ peer_answer s p (Advance peer ticks) =
     reply_and_peer (λ reached. Advanced peer reached) p (advance p ticks)
 peer_answer s p (Show peer tick) = (world_reply peer tick (world_at s p tick), p)
 
--- no memory is needed for the reply to an event: it is rejected, or a name that is held is taken, or
--- ticks are advanced
+-- no memory is needed for the reply to an event: it is rejected, or a name that is held is taken,
+-- or ticks are advanced
 abbrev pub NeedsNoMemory : Scene → Peer → Event → Type 0
 NeedsNoMemory s p (Issue peer payload) = IsErr (issue s p payload)
 NeedsNoMemory s p (Take peer (Ok c)) = IsErr (put s p c) ⊎ IsSome (get p.commands c.name)

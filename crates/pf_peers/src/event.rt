@@ -8,16 +8,25 @@ use pf_step::World;
 #[derive(Clone, Copy, Debug, PartialEq, Eq)]
 pub enum Event {
     /// Issue a command of the peer's own player.
-    Issue { peer: u8, payload: Payload },
+    Issue {
+        peer: u8,
+        payload: Payload,
+    },
     /// Take a frame: the command that it encodes, or why it encodes none.
     Take {
         peer: u8,
         frame: Result<Command, FrameFault>,
     },
     /// Go on by so many ticks of 1/64 s.
-    Advance { peer: u8, ticks: u32 },
+    Advance {
+        peer: u8,
+        ticks: u32,
+    },
     /// Show the world at this tick.
-    Show { peer: u8, tick: u32 },
+    Show {
+        peer: u8,
+        tick: u32,
+    },
 }
 
 impl Event {

@@ -18,7 +18,8 @@ pub fn shown_worlds_are_simulated()
     ensures { (s : Session) (events : List Event) (i tick : ℕ) → i < length s.peers
         → tick ≤ (peer_at (session_after_all s events) i).reached
         → reply_to (session_after_all s events) (Show i tick)
-        ≡ Shown i tick (sim s.scene (put_all (peer_at s i).commands (commands_for s i events)) tick) }
+        ≡ Shown i tick
+        (sim s.scene (put_all (peer_at s i).commands (commands_for s i events)) tick) }
 {}
 
 /// A rejected event changes nothing, and so no later reply.
@@ -43,9 +44,9 @@ pub fn order_and_repeats_do_not_matter()
         → ((i : ℕ) → i < length s.peers → IsCommandMap (peer_at s i).commands)
         → ((i : ℕ) → i < length s.peers → All IsCommand (commands_for s i events))
         → ((i : ℕ) → i < length s.peers → (c : Command)
-            → Contains (commands_for s i events) c ↔ Contains (commands_for s i others) c)
+        → Contains (commands_for s i events) c ↔ Contains (commands_for s i others) c)
         → ((i : ℕ) → i < length s.peers → (peer_at (session_after_all s events) i).reached
-            ≡ (peer_at (session_after_all s others) i).reached)
+        ≡ (peer_at (session_after_all s others) i).reached)
         → replies_to (session_after_all s events) later
         ≡ replies_to (session_after_all s others) later }
 {}

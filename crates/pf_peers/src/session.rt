@@ -36,8 +36,8 @@ impl Model for Session {
     ghost coded = { Prim.hlevel (codes, the_row.coded) };
 
     ghost view = { λ s. record {
-        scene = s.scene;
-        peers = map (λ (core : PeerCore). core.peer) s.cores.items;
+      scene = s.scene;
+      peers = map (λ (core : PeerCore). core.peer) s.cores.items;
     } };
 
     ghost invariant = { λ s. AreCores s.scene s.cores.items };

@@ -32,12 +32,14 @@ impl Model for PeerCore {
     ghost coded = { Prim.hlevel (codes, the_row.coded) };
 
     ghost view = { λ core. record {
-        scene = core.scene;
-        peer = record { player = core.player; commands = core.commands; reached = core.reached };
+      scene = core.scene;
+      peer = record { player = core.player; commands = core.commands; reached = core.reached };
     } };
 
     ghost invariant = { λ core. IsPeer (record {
-        player = core.player; commands = core.commands; reached = core.reached;
+      player = core.player;
+      commands = core.commands;
+      reached = core.reached;
     }) };
 }
 
@@ -160,8 +162,8 @@ impl PeerCore {
         Ok(encode(&command))
     }
 
-    /// Goes on by so many ticks of 1/64 s, simulates nothing, and returns the reached tick. Takes no
-    /// memory.
+    /// Goes on by so many ticks of 1/64 s, simulates nothing, and returns the reached tick. Takes
+    /// no memory.
     #[tactic(auto, unfolding(crate::specs::Peer::advance))]
     pub fn advance(&mut self, ticks: u32) -> Result<u32, Fault>
         ensures peer { Refines result self.old.peer self.new.peer (advance self.old.peer ticks) }

@@ -63,7 +63,7 @@ fn no_fields_are_a_bad_line(rt: HostRuntime) {
     assert!(rt; refused == Some(pf_text::TakeRefusal::Fault(SceneFault::BadLine)));
 }
 
-// A text, and the number and the name of its line at fault.
+// A text, and the number and the error of its invalid line.
 #[rattlefmt::skip]
 const FAULTS: [(&[u8], u64, SceneFault); 31] = [
     (b"", 1, SceneFault::BadLine),

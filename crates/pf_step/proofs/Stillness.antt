@@ -79,10 +79,12 @@ awake_case pull b awake = by (is_still (after_motion (after_gravity pull b))) re
   where
     m : BodyState
     m = after_motion (after_gravity pull b)
+
     full : (t : ℕ) (e : Bool) → (t == STILL_TICKS) ≡ e → t ≡ min (b.timer + 1) STILL_TICKS → is_still m ≡ true
         → TickCase pull b (if e then at_sleep (record m { timer = t }) else record m { timer = t })
     full t true test is still = sleeps still (grind (arith, nat_tests)) refl
     full t false test is still = counts still (grind (arith, nat_tests)) (grind (arith, nat_tests)) awake
+
     by : (t : Bool) → is_still m ≡ t
         → TickCase pull b (after_sleep (record m { timer = if t then min (m.timer + 1) STILL_TICKS else 0 }))
     by true still = full (min (b.timer + 1) STILL_TICKS) (min (b.timer + 1) STILL_TICKS == STILL_TICKS) refl refl still
@@ -148,6 +150,7 @@ counted_more s m tick i pull from b here (counts still timer short awake) before
     earlier : (k : ℕ) → suc k < b.timer → IsCommanded from ⊎ IsCounted s m tick i from → IsStillAt s m (tick - k) i
     earlier k below (inl commanded) = absurd (omega (arith, commanded.timer, timer))
     earlier k below (inr counted) = counted.still k (omega (arith, timer))
+
     stilled : (k : ℕ) → k < b.timer → IsStillAt s m (suc tick - k) i
     stilled zero below =
         let same : suc tick ≡ suc tick - 0 = omega arith in
@@ -213,8 +216,7 @@ fell_asleep s m tick i b c scene here awake next asleep =
     by from (sleeps still full timer) (inl was) =
         let is : from ≡ b = same_Some from b (sym was ∙ here) in
         let short = (counted s m tick i b scene here).short in
-        let same_timer : from.timer ≡ b.timer = ap (λ (x : BodyState). x.timer) is in
-        (
+        let same_timer : from.timer ≡ b.timer = ap (λ (x : BodyState). x.timer) is in (
           omega (arith, full, short, same_timer),
           subst (λ (x : BodyState). is_still (after_motion (after_gravity (gravity_per_tick s.gravity) x)) ≡ true) is still,
         )

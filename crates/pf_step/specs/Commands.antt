@@ -27,7 +27,7 @@ after_payload f (Stop body) b = at_rest (awake_anew b)
 
 -- the bodies where the commanded one, if there is one, has its new state
 abbrev pub bodies_with
-  : List BodyState → Payload → Option Fixture → Option BodyState → List BodyState
+    : List BodyState → Payload → Option Fixture → Option BodyState → List BodyState
 bodies_with bodies p (Some f) (Some b) = slice_set bodies (body_of p) (after_payload f p b)
 bodies_with bodies p fixture body = bodies
 

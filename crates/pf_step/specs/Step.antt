@@ -10,5 +10,5 @@ use Rattle.pf_step.specs.World.{World}
 unfoldable pub step : Scene → World → List Payload → World
 step s w payloads = record w {
   bodies =
-    map (after_tick (gravity_per_tick s.gravity)) (after_commands s.fixtures w.bodies payloads);
+      map (after_tick (gravity_per_tick s.gravity)) (after_commands s.fixtures w.bodies payloads);
 }

@@ -1,4 +1,5 @@
--- The test of equality decides equality. Stands here, since the laws of `==` are members of its impls.
+-- The test of equality decides equality. Stands here, since the laws of `==` are members of its
+-- impls.
 use Rattle.std.proofs.Common.{◌≡◌, refl, ap}
 use Rattle.std.specs.Bool.{Decides}
 use Rattle.std.specs.Cmp.{IsEquivalence, decided}

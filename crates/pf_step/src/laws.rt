@@ -53,11 +53,15 @@ pub fn stops_leave_no_velocity()
     ensures { (scene : Scene) (w : World) (i : ℕ) (f : Fixture) (b : BodyState)
         → slice_get scene.fixtures i ≡ Some f → slice_get w.bodies i ≡ Some b
         → slice_get (apply scene w (Stop i)).bodies i ≡ Some (record b {
-            velocity = zero_vector; spin = pos 0; timer = 0; awake = true }) }
+          velocity = zero_vector;
+          spin = pos 0;
+          timer = 0;
+          awake = true;
+        }) }
 {}
 
-/// A body's timer is for how many ticks it has been still: it was still at each of so many ticks, up
-/// to this one.
+/// A body's timer is for how many ticks it has been still: it was still at each of so many ticks,
+/// up to this one.
 pub fn timers_count_still_ticks()
     ensures { (scene : Scene) (commands : CommandMap) (tick i : ℕ) (b : BodyState)
         → IsScene scene → slice_get (sim scene commands tick).bodies i ≡ Some b
@@ -77,8 +81,8 @@ pub fn sleepers_were_still()
         × (is_still (after_motion (after_gravity (gravity_per_tick scene.gravity) b)) ≡ true) }
 {}
 
-/// No rotation of a world of a scene has a part above 1: what the bounds of a box ask for to contain
-/// it in exact numbers. More: where no start has one, no later world has.
+/// No rotation of a world of a scene has a part above 1: what the bounds of a box ask for to
+/// contain it in exact numbers. More: where no start has one, no later world has.
 pub fn rotations_stay_at_most_one()
     ensures scenes { (scene : Scene) (commands : CommandMap) (tick : ℕ) → IsScene scene
         → All (λ b. IsAtMostOne b.rotation) (sim scene commands tick).bodies }

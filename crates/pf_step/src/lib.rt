@@ -14,4 +14,3 @@ pub use body::{STILL_SPEED, STILL_SPIN, STILL_TICKS};
 pub use command::apply;
 pub use step::step_alone;
 pub use world::World;
-

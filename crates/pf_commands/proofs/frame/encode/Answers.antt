@@ -4,7 +4,7 @@ use Rattle.pf_commands.specs.Frame.{Encodes, encoding, bytes_in}
 use Rattle.pf_commands.proofs.Encoding.{encoding_encodes}
 use Rattle.pf_commands.proofs.frame.encode.Goals as goal
 
--- what equals a command's spelling spells it
+-- what equals a command's encoding encodes it
 spells_along : (bytes : List ℕ) (c : Command) → bytes ≡ encoding c → Encodes (encoding c) c → Encodes bytes c
 spells_along bytes c same spells = subst (λ (b : List ℕ). Encodes b c) (sym same) spells
 

@@ -12,8 +12,7 @@ use Rattle.pf_peers.proofs.replay.run.Goals as goal
 pub loop-event-init : goal.loop-event-init
 loop-event-init c =
     let same : c.in_ok-session.session ≡ new_session c.args.scene.now c.args.peers =
-    c.in_ok-session.ensures ∙ ap (λ (s : Scene). new_session s c.args.peers) c.in_ok-try_clone.ensures.value in
-    (
+    c.in_ok-session.ensures ∙ ap (λ (s : Scene). new_session s c.args.peers) c.in_ok-try_clone.ensures.value in (
       rw (c.new-replies.ensures.items, same) refl,
       ap (λ (s : Session). length s.peers) same ∙ length-map-range_with_len new_peer 0 c.args.peers,
     )
@@ -25,8 +24,7 @@ loop-event-preserved c =
     let rest = drop (c.loop-event.event-index + 1) c.args.events.now in
     let reply_is : c.in_ok-answer.field-0 ≡ reply_to s event = ap (λ (a : Reply × Session). a.0) c.in_ok-answer.ensures.reply in
     let session_is : c.answer.new.self ≡ session_after s event = ap (λ (a : Reply × Session). a.1) c.in_ok-answer.ensures.reply in
-    let more = replies_to-drop s c.args.events.now c.loop-event.event-index event (omega arith) c.event-item.is in
-    (
+    let more = replies_to-drop s c.args.events.now c.loop-event.event-index event (omega arith) c.event-item.is in (
       rw (c.in_ok-push.ensures.items, session_is, reply_is, append_assoc, ← more) c.loop-event.invariant.0,
       ap (λ (s : Session). length s.peers) session_is ∙ length-session_after s event ∙ c.loop-event.invariant.1,
     )
