@@ -11,7 +11,8 @@ use std::test::Fail;
 
 /// A scene of two bodies, the second static and nobody's.
 const SCENE: &[u8] =
-    b"# two circles\n\ngravity 0 -167772160\ncircle 3 33554432 8388608 16777216 -5 7\ncircle - 0 0 1048576 0 0\nend\n# no more\n";
+    b"# two circles\n\ngravity 0 -167772160\ncircle 3 33554432 8388608 16777216 -5 7\n\
+circle - 0 0 1048576 0 0\nend\n# no more\n";
 
 #[test]
 fn a_scene_is_read(rt: HostRuntime) -> Result<(), Fail> {

@@ -52,7 +52,8 @@ step rules state line =
     then (if is_skipped line then Ok ([], state) else fields_step rules state (fields_of line))
     else Err (rules.line_error BadLine)
 
-abbrev pub fields_allocate : {S F : Type 0} → Rules S F → S → Result (List (List ℕ)) LineFault → Bool
+abbrev pub fields_allocate : {S F : Type 0} → Rules S F → S → Result (List (List ℕ)) LineFault
+    → Bool
 fields_allocate rules state (Ok fields) = rules.allocates state fields
 fields_allocate rules state (Err fault) = false
 
@@ -85,8 +86,8 @@ text_output rules start input = lines_output rules 1 start (lines_of input)
 
 -- these lines were taken from the input, then this one, of whose bytes at most 4,097 were taken,
 -- and this is left
-pub record TakesLine (input : List ℕ) (lines : List (List ℕ)) (line : List ℕ) (left : Option (List ℕ))
-    : Type 0 where
+pub record TakesLine (input : List ℕ) (lines : List (List ℕ)) (line : List ℕ)
+    (left : Option (List ℕ)) : Type 0 where
   pub bytes : List ℕ
   pub taken : Taken
   pub lines_are : AreLines input lines bytes

@@ -72,7 +72,8 @@ fn wrong_words_are_mistakes(rt: HostRuntime) -> Result<(), Fail> {
     for (words, error, usage) in [
         (
             ["pf_play"].as_slice(),
-            "error: 'pf_play' requires a subcommand but one was not provided\n  [subcommands: run, frame]\n",
+            "error: 'pf_play' requires a subcommand but one was not provided\n  \
+[subcommands: run, frame]\n",
             USAGE,
         ),
         (
@@ -169,7 +170,8 @@ fn words_that_are_no_text_are_a_mistake(rt: HostRuntime) -> Result<(), Fail> {
     match words_of(&(Call { words: &words }, rt.alloc())) {
         Err(PlayFault::Words(text)) => assert_eq!(rt;
             text.as_str(),
-            "error: invalid UTF-8 was detected in one or more arguments\n\nUsage: pf_play <COMMAND>\n\nFor more information, try '--help'.\n"
+            "error: invalid UTF-8 was detected in one or more arguments\n\n\
+Usage: pf_play <COMMAND>\n\nFor more information, try '--help'.\n"
         ),
         other => {
             assert!(rt; matches!(other, Err(PlayFault::Memory)));

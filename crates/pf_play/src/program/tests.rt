@@ -67,7 +67,8 @@ fn an_invalid_line_is_reported(rt: HostRuntime) -> Result<(), Fail> {
 fn wrong_words_are_reported(rt: HostRuntime) -> Result<(), Fail> {
     let (status, output, errors) = ended(rt.alloc(), &["pf_play", "fall"], FALLING)?;
     let expected =
-        "error: unrecognized subcommand 'fall'\n\nUsage: pf_play <COMMAND>\n\nFor more information, try '--help'.\n";
+        "error: unrecognized subcommand 'fall'\n\n\
+Usage: pf_play <COMMAND>\n\nFor more information, try '--help'.\n";
     assert_eq!(rt; status, ExitCode::from(2));
     assert_eq!(rt; errors.bytes(), expected.as_bytes());
     assert!(rt; output.bytes().is_empty());
