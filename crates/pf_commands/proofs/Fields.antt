@@ -1,4 +1,4 @@
--- The fields of a frame: its number is theirs at their places, and has no other fields.
+-- The fields of a frame: its number is the sum of its shifted fields, and of no others.
 use Rattle.std.proofs.Common.{◌≡◌, ℕ, ◌+◌, ◌*◌, ◌^◌, ◌<◌, List, drop, refl, arith}
 use Rattle.std.specs.Prelude.{ℤ}
 use Rattle.std.specs.Int.{w64, cast_signed, cast_unsigned}
@@ -7,21 +7,20 @@ use Rattle.std.proofs.lemmas.Int.{to_z-of_z, fits_signed_from_abs}
 use Rattle.byteorder.specs.Endian.{big_number}
 use Rattle.byteorder.specs.Numbers.{big_from-lt}
 use Rattle.pf_num.specs.Fx.{IsRaw}
-use Rattle.pf_commands.specs.declared.frame.Fields.{Fields}
+use Rattle.pf_commands.specs.Frame.{Fields, IsBytes, IsFrameable, fields_of, fields_in, number_of}
 use Rattle.pf_commands.specs.declared.payload.Command.{Command}
 use Rattle.pf_commands.specs.declared.payload.Payload.{Payload}
 use Rattle.pf_commands.specs.declared.payload.Payload.TheVariants.{Push, Turn, Stop}
 use Rattle.pf_commands.specs.Payload.{kind_of, x_of, y_of, weight}
-use Rattle.pf_commands.specs.Frame.{IsBytes, IsFrameable, fields_of, fields_in, number_of}
 use Rattle.pf_commands.proofs.WeightOrder.{raw_fits}
 
--- fields at their places in one number
+-- fields shifted to their bits in one number
 unfoldable pub worth : Fields → ℕ
 worth f =
     f.version * 2 ^ 208 + f.tick * 2 ^ 176 + f.player * 2 ^ 168 + f.number * 2 ^ 152
     + f.kind * 2 ^ 144 + f.body * 2 ^ 128 + f.x * 2 ^ 64 + f.y
 
--- fields as wide as their places
+-- fields no wider than their bits
 pub record AreFields (f : Fields) : Type 0 where
   pub version : f.version < 256
   pub tick : f.tick < 2 ^ 32

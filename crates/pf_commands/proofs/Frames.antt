@@ -1,4 +1,4 @@
--- What is decoded is spelled so, and what is spelled so is decoded.
+-- Bytes decode to the command that they encode, and to no other.
 use Rattle.std.proofs.Common.{◌≡◌, ℕ, zero, suc, ◌^◌, ◌<◌, ◌≤◌, Bool, true, false, cond, eqb, List, length, Result, Ok, Err, refl, sym, ap, subst, ◌∙◌, arith}
 use Rattle.std.specs.Prelude.{ℤ, ◌&&◌, nat_lt, not}
 use Rattle.std.specs.Int.{w64, cast_signed, cast_unsigned}
@@ -8,15 +8,14 @@ use Rattle.std.proofs.lemmas.Int.{of_z-to_z}
 use Rattle.pf_num.specs.Fx.{IsRaw}
 use Rattle.pf_commands.specs.declared.fault.FrameFault.{FrameFault}
 use Rattle.pf_commands.specs.declared.fault.FrameFault.TheVariants.{Short, Long, BadVersion, BadKind, NotCanonical, OutOfRange}
-use Rattle.pf_commands.specs.declared.frame.Fields.{Fields}
+use Rattle.pf_commands.specs.Frame.{Fields, IsBytes, IsFrameable, Encodes, fields_of, fields_in, is_raw, is_canonical, is_in_range, payload_of, command_in, command_of, decode}
 use Rattle.pf_commands.specs.declared.payload.Command.{Command}
 use Rattle.pf_commands.specs.declared.payload.Payload.{Payload}
 use Rattle.pf_commands.specs.declared.payload.Payload.TheVariants.{Push, Turn, Stop}
 use Rattle.pf_commands.specs.Payload.{IsPayload, kind_of, body_of, x_of, y_of}
-use Rattle.pf_commands.specs.Frame.{IsBytes, IsFrameable, Spells, fields_of, fields_in, is_raw, is_canonical, is_in_range, payload_of, command_in, command_of, decode_of}
 use Rattle.pf_commands.proofs.Fields.{AreFields, worth, raw_again, fields_of-fit, fields_in-fit, big_number_parts, number_of-parts, same_fields}
 
--- ---- what is spelled is decoded
+-- ---- encoded commands are decoded
 
 raw_passes : (z : ℤ) → IsRaw z → is_raw (cast_unsigned w64 z) ≡ true
 raw_passes z raw = rw (raw_again z raw) (le-leb (unsigned_abs z) 36028797018963967 raw)
@@ -60,22 +59,22 @@ command_again c framed =
     let command = command_in-again c framed in
     rw (version, kind, canonical, range, command) refl
 
--- the fields of what bytes spell are the command's
-pub fields_spelled : (bytes : List ℕ) (c : Command) → Spells bytes c → fields_of bytes ≡ fields_in c
+-- the fields of bytes that encode a command are the command's
+pub fields_spelled : (bytes : List ℕ) (c : Command) → Encodes bytes c → fields_of bytes ≡ fields_in c
 fields_spelled bytes c spelled =
     same_fields (fields_of bytes) (fields_in c) (fields_of-fit bytes spelled.are_bytes) (fields_in-fit c spelled.framed)
     (sym (big_number_parts bytes) ∙ spelled.same ∙ number_of-parts c)
 
-pub spelled_decodes : (bytes : List ℕ) (c : Command) → Spells bytes c → decode_of bytes ≡ Ok c
-unfolding decode_of
-spelled_decodes bytes c spelled =
+pub encoded_decodes : (bytes : List ℕ) (c : Command) → Encodes bytes c → decode bytes ≡ Ok c
+unfolding decode
+encoded_decodes bytes c spelled =
     let long = spelled.long in
     let fields = fields_spelled bytes c spelled in
     rw (long, fields) (command_again c spelled.framed)
 
--- ---- what is decoded is spelled
+-- ---- decoded commands are encoded
 
--- a test that did not refuse
+-- a test that passed
 guard_ok : (refused : Bool) (fault : FrameFault) (others : Result Command FrameFault) (c : Command) → cond refused (Err fault) others ≡ Ok c → (refused ≡ false) × (others ≡ Ok c)
 guard_ok true fault others c is = absurd cc
 guard_ok false fault others c is = (refl, is)
@@ -157,9 +156,9 @@ command_of-names f c fits is =
     let names = command_in-names f fits (eqb-true f.version 1 (not-false _ version.0)) (ltb-false 2 f.kind kind.0) (not-false _ canonical.0) (in_range f (not-false _ range.0)) in
     subst (Names f) (ok_is (command_in f) c range.1) names
 
-pub decoded_spells : (bytes : List ℕ) (c : Command) → IsBytes bytes → decode_of bytes ≡ Ok c → Spells bytes c
-unfolding decode_of
-decoded_spells bytes c fits is =
+pub decoded_encodes : (bytes : List ℕ) (c : Command) → IsBytes bytes → decode bytes ≡ Ok c → Encodes bytes c
+unfolding decode
+decoded_encodes bytes c fits is =
     let short = guard_ok (nat_lt (length bytes) 27) Short _ c is in
     let long = guard_ok (nat_lt 27 (length bytes)) Long _ c short.1 in
     let names = command_of-names (fields_of bytes) c (fields_of-fit bytes fits) long.1 in

@@ -3,7 +3,7 @@
 pub mod Digits
 pub mod Fields
 pub mod Frames
-pub mod Spelling
+pub mod Encoding
 -- Command maps.
 pub mod Names
 pub mod WeightOrder

@@ -2,7 +2,7 @@
 use Rattle.std.proofs.Common.{◌≡◌, List, [], ◌∷◌, ap, sym, ◌∙◌, subst, arith, ◌⊎◌, inl, inr, ⊎_elim, ◌↔◌, Contains}
 use Rattle.std.proofs.lemmas.List.Elements.{Contains-append_left, Contains-append_right, Contains-push, Contains-push_cases, Contains-append_cases}
 use Rattle.std.specs.FinMap.{get, get-empty, empty}
-use Rattle.pf_commands.specs.Merge.{name_cmp, CommandMap, IsCommandMap, IsCommand, heavier_of, merge, one, put_all}
+use Rattle.pf_commands.specs.Merge.{name_cmp, CommandMap, IsCommandMap, IsCommand, heaviest_of, merge, singleton, put_all}
 use Rattle.pf_commands.specs.declared.payload.Command.{Command}
 use Rattle.pf_commands.proofs.Weights.{heavier_of-none}
 use Rattle.pf_commands.proofs.Merging.{same_commands, get-merge, merge_assoc, merge_same, merge_keeps}
@@ -14,7 +14,7 @@ Absorbs w k = merge w k ≡ w
 
 -- the map of a command alone
 abbrev single : Command → CommandMap
-single c = one c.name c.payload
+single c = singleton c.name c.payload
 
 put_all-keeps : (m : CommandMap) (cs : List Command) → Absorbs (put_all m cs) m
 put_all-keeps m [] = merge_same m
@@ -79,10 +79,10 @@ put_all-same m cs ds are each same =
     sym p_has ∙ merge_comm p q in_p in_q ∙ q_has
 
 pub merge-empty : (m : CommandMap) → merge m empty ≡ m
-merge-empty m = same_commands _ _ (λ name. get-merge m empty name ∙ ap (heavier_of (get m name)) (get-empty name_cmp name) ∙ heavier_of-none (get m name))
+merge-empty m = same_commands _ _ (λ name. get-merge m empty name ∙ ap (heaviest_of (get m name)) (get-empty name_cmp name) ∙ heavier_of-none (get m name))
 
 pub empty-merge : (m : CommandMap) → merge empty m ≡ m
-empty-merge m = same_commands _ _ (λ name. get-merge empty m name ∙ ap (λ o. heavier_of o (get m name)) (get-empty name_cmp name))
+empty-merge m = same_commands _ _ (λ name. get-merge empty m name ∙ ap (λ o. heaviest_of o (get m name)) (get-empty name_cmp name))
 
 -- putting a list into a map is merging the map of the list
 pub put_all-merge : (m : CommandMap) (cs : List Command) → put_all m cs ≡ merge m (put_all empty cs)

@@ -6,7 +6,7 @@ use Rattle.std.specs.Option.{unwrap_or, option_map, option_or}
 use Rattle.std.specs.Ordering.{eq_by_cmp, is_eq}
 use Rattle.std.specs.FinMap.{get, get-entries, get-from_entries, entries, find, same_map}
 use Rattle.pf_commands.specs.Name.{Name}
-use Rattle.pf_commands.specs.Merge.{name_cmp, CommandMap, heavier_of, merge}
+use Rattle.pf_commands.specs.Merge.{name_cmp, CommandMap, heaviest_of, merge}
 use Rattle.pf_commands.specs.declared.payload.Payload.{Payload}
 use Rattle.pf_commands.proofs.Names.{name_cmp_total, name_cmp-IsAntisymmetric}
 use Rattle.pf_commands.proofs.Weights.{heavier_of_assoc, heavier_of_same, heavier_of_keeps}
@@ -48,16 +48,16 @@ find-rewritten h name (e ∷ es) =
       | false ↦ λ _. find-rewritten h name es
     ] refl
 
-either_heavier : (p q : Option Payload) → option_map (λ x. unwrap_or (heavier_of p q) x) (option_or p q) ≡ heavier_of p q
+either_heavier : (p q : Option Payload) → option_map (λ x. unwrap_or (heaviest_of p q) x) (option_or p q) ≡ heaviest_of p q
 either_heavier None None = refl
 either_heavier None (Some q) = refl
 either_heavier (Some p) None = refl
 either_heavier (Some p) (Some q) = refl
 
-pub get-merge : (m k : CommandMap) (name : Name) → get (merge m k) name ≡ heavier_of (get m name) (get k name)
+pub get-merge : (m k : CommandMap) (name : Name) → get (merge m k) name ≡ heaviest_of (get m name) (get k name)
 unfolding merge rewritten
 get-merge m k name =
-    let h : Name → Option Payload = λ n. heavier_of (get m n) (get k n) in
+    let h : Name → Option Payload = λ n. heaviest_of (get m n) (get k n) in
     get-from_entries name_cmp_total (rewritten h (entries m ++ entries k)) name
     ∙ find-rewritten h name (entries m ++ entries k)
     ∙ ap (option_map (λ p. unwrap_or (h name) p)) (find-append name (entries m) (entries k))
@@ -67,9 +67,9 @@ get-merge m k name =
 
 pub merge_assoc : (l m k : CommandMap) → merge (merge l m) k ≡ merge l (merge m k)
 merge_assoc l m k = same_commands _ _ (λ name.
-    get-merge (merge l m) k name ∙ ap (λ o. heavier_of o (get k name)) (get-merge l m name)
+    get-merge (merge l m) k name ∙ ap (λ o. heaviest_of o (get k name)) (get-merge l m name)
     ∙ heavier_of_assoc (get l name) (get m name) (get k name)
-    ∙ ap (heavier_of (get l name)) (sym (get-merge m k name)) ∙ sym (get-merge l (merge m k) name))
+    ∙ ap (heaviest_of (get l name)) (sym (get-merge m k name)) ∙ sym (get-merge l (merge m k) name))
 
 pub merge_same : (m : CommandMap) → merge m m ≡ m
 merge_same m = same_commands _ _ (λ name. get-merge m m name ∙ heavier_of_same (get m name))
@@ -77,5 +77,5 @@ merge_same m = same_commands _ _ (λ name. get-merge m m name ∙ heavier_of_sam
 -- what is merged in keeps what was there
 pub merge_keeps : (m k : CommandMap) → merge (merge m k) m ≡ merge m k
 merge_keeps m k = same_commands _ _ (λ name.
-    get-merge (merge m k) m name ∙ ap (λ o. heavier_of o (get m name)) (get-merge m k name)
+    get-merge (merge m k) m name ∙ ap (λ o. heaviest_of o (get m name)) (get-merge m k name)
     ∙ heavier_of_keeps (get m name) (get k name) ∙ sym (get-merge m k name))

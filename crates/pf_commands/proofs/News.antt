@@ -3,7 +3,7 @@ use Rattle.std.proofs.Common.{◌≡◌, ℕ, ◌≤◌, ◌<◌, List, [], ◌�
 use Rattle.std.specs.Prelude.{Contains}
 use Rattle.std.proofs.lemmas.Bool.{cases_lt}
 use Rattle.std.proofs.lemmas.List.Elements.{All-nil, All-cons, All-contains, All-weaker, Contains-append_left, Contains-append_right}
-use Rattle.pf_commands.specs.News.{lesser, least_of, IsLeast}
+use Rattle.pf_commands.specs.News.{lesser_number, least_of, IsLeast}
 
 first_of : (n : ℕ) (ns : List ℕ) → Contains (n ∷ ns) n
 first_of n ns = Contains-append_left (n ∷ []) ns n (0, omega arith, refl)
@@ -32,7 +32,7 @@ pub least_of-least : (ns : List ℕ) (n : ℕ) → least_of ns ≡ Some n → Is
 least_of-least [] n e = absurd cc
 least_of-least (m ∷ ns) n e = by (least_of ns) refl e (least_of-least ns)
   where
-    by : (least : Option ℕ) → least_of ns ≡ least → Some (lesser m least) ≡ Some n → ((k : ℕ) → least_of ns ≡ Some k → IsLeast ns k) → IsLeast (m ∷ ns) n
+    by : (least : Option ℕ) → least_of ns ≡ least → Some (lesser_number m least) ≡ Some n → ((k : ℕ) → least_of ns ≡ Some k → IsLeast ns k) → IsLeast (m ∷ ns) n
     by None is e rest =
         let same : m ≡ n = cc in
         let alone : ns ≡ [] = none_least ns is in

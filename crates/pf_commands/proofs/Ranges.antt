@@ -4,7 +4,7 @@ use Rattle.std.specs.Ordering.{eq_by_cmp}
 use Rattle.std.specs.FinMap.{get, get-insert, get-empty, empty, insert}
 use Rattle.pf_commands.specs.Name.{Name, IsName}
 use Rattle.pf_commands.specs.Payload.{IsPayload}
-use Rattle.pf_commands.specs.Merge.{name_cmp, CommandMap, IsCommandMap, merge, one}
+use Rattle.pf_commands.specs.Merge.{name_cmp, CommandMap, IsCommandMap, merge, singleton}
 use Rattle.pf_commands.specs.declared.payload.Payload.{Payload}
 use Rattle.pf_commands.proofs.Names.{name_cmp_total}
 use Rattle.std.proofs.lemmas.Option.{same_Some}
@@ -21,7 +21,7 @@ AreCommands-insert m n p are isn isp name payload held =
       | false ↦ λ _ is. are name payload is
     ] refl (sym (get-insert name_cmp_total m n p name) ∙ held)
 
-pub AreCommands-one : (n : Name) (p : Payload) → IsName n → IsPayload p → IsCommandMap (one n p)
+pub AreCommands-one : (n : Name) (p : Payload) → IsName n → IsPayload p → IsCommandMap (singleton n p)
 AreCommands-one n p isn isp = AreCommands-insert empty n p AreCommands-empty isn isp
 
 pub AreCommands-merge : (m k : CommandMap) → IsCommandMap m → IsCommandMap k → IsCommandMap (merge m k)

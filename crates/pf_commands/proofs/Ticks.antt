@@ -6,7 +6,7 @@ use Rattle.std.specs.FinMap.{get, get-entries, entries, entries_sorted, find}
 use Rattle.std.specs.FinMap.Entries.{is_sorted-where_key, find-where_key, same_entries}
 use Rattle.std.proofs.lemmas.Bool.Decides.{nat_tests}
 use Rattle.pf_commands.specs.Name.{Name}
-use Rattle.pf_commands.specs.Merge.{name_cmp, CommandMap, merge, one, payloads_at, heavier_of}
+use Rattle.pf_commands.specs.Merge.{name_cmp, CommandMap, merge, singleton, payloads_at, heaviest_of}
 use Rattle.pf_commands.specs.News.{news, least_tick}
 use Rattle.pf_commands.specs.declared.payload.Payload.{Payload}
 use Rattle.pf_commands.proofs.Names.{name_cmp_total, name_cmp-IsAntisymmetric}
@@ -36,15 +36,15 @@ apart n name tick other at =
       | false ↦ λ _. refl
     ] refl
 
-pub payloads_at-other : (m : CommandMap) (n : Name) (p : Payload) (tick : ℕ) → n.tick ≢ tick → payloads_at (merge m (one n p)) tick ≡ payloads_at m tick
+pub payloads_at-other : (m : CommandMap) (n : Name) (p : Payload) (tick : ℕ) → n.tick ≢ tick → payloads_at (merge m (singleton n p)) tick ≡ payloads_at m tick
 payloads_at-other m n p tick other =
-    ap (map (λ e. e.1)) (same_part (λ name. name.tick == tick) (merge m (one n p)) m (λ name at.
-    get-merge_one m n p name ∙ ap (λ b. cond b (heavier_of (get m n) (Some p)) (get m name)) (apart n name tick other at)))
+    ap (map (λ e. e.1)) (same_part (λ name. name.tick == tick) (merge m (singleton n p)) m (λ name at.
+    get-merge_one m n p name ∙ ap (λ b. cond b (heaviest_of (get m n) (Some p)) (get m name)) (apart n name tick other at)))
 
 -- a merge changes the payloads of no tick before the least of its news
 pub payloads_at-before : (m k : CommandMap) (tick : ℕ) → IfSome (least_tick (news m k)) (λ least. tick < least) → payloads_at (merge m k) tick ≡ payloads_at m tick
 payloads_at-before m k tick before =
     ap (map (λ e. e.1)) (same_part (λ name. name.tick == tick) (merge m k) m (λ name at.
     let same : tick ≡ name.tick = grind (arith, nat_tests) in
-    get-merge m k name ∙ ap (heavier_of (get m name)) (get-entries k name)
+    get-merge m k name ∙ ap (heaviest_of (get m name)) (get-entries k name)
     ∙ kept_before m name (entries k) (subst (λ t. IfSome (least_tick (news m k)) (λ least. t < least)) same before)))

@@ -13,35 +13,37 @@ abbrev pub owns : ℕ → Option ℕ → Bool
 owns player None = false
 owns player (Some owner) = owner == player
 
--- what keeps a player from moving a body, if there is one with this number
+-- whether a player may move a body, if there is one with this number
 abbrev pub allowed : ℕ → Option Fixture → Result (Unit {0}) CheckFault
 allowed player None = Err UnknownBody
 allowed player (Some f) =
     if is_static f then Err StaticBody else (if owns player f.owner then Ok tt else Err NotOwner)
 
 -- whether the scene allows the command
-abbrev pub check_of : Scene → Name → Payload → Result (Unit {0}) CheckFault
-check_of s name payload = allowed name.player (slice_get s.fixtures (body_of payload))
+abbrev pub check : Scene → Name → Payload → Result (Unit {0}) CheckFault
+check s name payload = allowed name.player (slice_get s.fixtures (body_of payload))
 
 -- one check, and then the others
-abbrev pub and_then : Result (Unit {0}) CheckFault → Result (Unit {0}) CheckFault → Result (Unit {0}) CheckFault
+abbrev pub and_then
+    : Result (Unit {0}) CheckFault → Result (Unit {0}) CheckFault → Result (Unit {0}) CheckFault
 and_then (Ok done) others = others
 and_then (Err fault) others = Err fault
 
--- whether the scene allows each command, in order: the first fault
-abbrev pub check_all_of : Scene → List (Name × Payload) → Result (Unit {0}) CheckFault
-check_all_of s [] = Ok tt
-check_all_of s (e ∷ es) = and_then (check_of s e.0 e.1) (check_all_of s es)
+-- whether the scene allows each command: the first error, in order
+abbrev pub check_all : Scene → List (Name × Payload) → Result (Unit {0}) CheckFault
+check_all s [] = Ok tt
+check_all s (e ∷ es) = and_then (check s e.0 e.1) (check_all s es)
 
 -- the scene allows the command of this entry
 abbrev pub IsAllowed : Scene → Name × Payload → Type 0
-IsAllowed s e = check_of s e.0 e.1 ≡ Ok tt
+IsAllowed s e = check s e.0 e.1 ≡ Ok tt
 
--- the first of the commands that the scene does not allow has this fault
-pub record IsFirstFault (s : Scene) (es : List (Name × Payload)) (fault : CheckFault) : Type 0 where
+-- the first of the commands that the scene does not allow has this error
+pub record IsFirstError
+    (s : Scene) (es : List (Name × Payload)) (fault : CheckFault) : Type 0 where
   pub before : List (Name × Payload)
   pub first : Name × Payload
   pub after : List (Name × Payload)
   pub commands_are : es ≡ before ++ first ∷ after
   pub allowed : All (IsAllowed s) before
-  pub refused : check_of s first.0 first.1 ≡ Err fault
+  pub refused : check s first.0 first.1 ≡ Err fault

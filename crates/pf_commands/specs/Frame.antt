@@ -1,11 +1,10 @@
--- Commands as 27 bytes on the wire: which bytes spell a command, and why others spell none.
+-- Commands as 27 bytes on the wire: which bytes encode a command, and why others encode none.
 use Rattle.std.specs.Prelude.{◌≡◌, ℕ, zero, suc, ◌+◌, ◌*◌, ◌^◌, ◌<◌, Bool, true, not, ◌&&◌, List, ◌++◌, length, drop, slice_index, Result, Ok, Err, nat_lt, nat_le, ◌==◌, if◌then◌else◌, ℤ}
 use Rattle.std.specs.Int.{w64, cast_signed, cast_unsigned}
 use Rattle.std.specs.Int.RustNames.{unsigned_abs}
 use Rattle.byteorder.specs.Endian.{big_number, big_bytes}
 use Rattle.pf_commands.specs.declared.fault.FrameFault.{FrameFault}
 use Rattle.pf_commands.specs.declared.fault.FrameFault.TheVariants.{Short, Long, BadVersion, BadKind, NotCanonical, OutOfRange}
-use Rattle.pf_commands.specs.declared.frame.Fields.{Fields}
 use Rattle.pf_commands.specs.declared.payload.Command.{Command}
 use Rattle.pf_commands.specs.declared.payload.Payload.{Payload}
 use Rattle.pf_commands.specs.declared.payload.Payload.TheVariants.{Push, Turn, Stop}
@@ -16,18 +15,22 @@ use Rattle.pf_commands.specs.Payload.{IsPayload, kind_of, body_of, x_of, y_of, w
 abbrev pub IsBytes : List ℕ → Type 0
 IsBytes bytes = (i : ℕ) → slice_index bytes i < 256
 
--- what has a spelling: a command in the ranges that its type keeps, with a body below 2^10
+-- what has an encoding: a command in the ranges that its type keeps, with a body below 2^10
 pub record IsFrameable (c : Command) : Type 0 where
   pub name : IsName c.name
   pub payload : IsPayload c.payload
   pub body : body_of c.payload < 2 ^ 10
 
--- the fields of a command at their places: version 1, tick, player, number, and the payload's 19 bytes
+-- the fields of a command, each shifted to its bits: version 1, tick, player, number, and the
+-- payload's 19 bytes
 unfoldable pub number_of : Command → ℕ
-number_of c = 1 * 2 ^ 208 + c.name.tick * 2 ^ 176 + c.name.player * 2 ^ 168 + c.name.number * 2 ^ 152 + weight c.payload
+number_of c =
+    1 * 2 ^ 208 + c.name.tick * 2 ^ 176 + c.name.player * 2 ^ 168 + c.name.number * 2 ^ 152
+    + weight c.payload
 
--- The bytes spell the command: they are 27, and as one big-endian number they are the sum of its fields at their places.
-pub record Spells (bytes : List ℕ) (c : Command) : Type 0 where
+-- The bytes encode the command: they are 27, and as one big-endian number they are the sum of its
+-- shifted fields.
+pub record Encodes (bytes : List ℕ) (c : Command) : Type 0 where
   pub long : length bytes ≡ 27
   pub are_bytes : IsBytes bytes
   pub framed : IsFrameable c
@@ -35,11 +38,22 @@ pub record Spells (bytes : List ℕ) (c : Command) : Type 0 where
 
 -- ---- the fields of a frame
 
--- the number in n bytes from place i
+-- the fields of 27 bytes, x and y in two's complement
+pub record Fields : Type 0 where
+  pub version : ℕ
+  pub tick : ℕ
+  pub player : ℕ
+  pub number : ℕ
+  pub kind : ℕ
+  pub body : ℕ
+  pub x : ℕ
+  pub y : ℕ
+
+-- the big-endian number in n bytes from index i
 abbrev pub number_at : ℕ → ℕ → List ℕ → ℕ
 number_at n i bytes = big_number n (drop i bytes)
 
--- the fields of 27 bytes, x and y in two's complement
+-- the fields of a list of bytes, of which there are to be 27
 unfoldable pub fields_of : List ℕ → Fields
 fields_of bytes = record {
   version = slice_index bytes 0;
@@ -71,9 +85,9 @@ bytes_in f =
     big_bytes 1 f.version ++ big_bytes 4 f.tick ++ big_bytes 1 f.player ++ big_bytes 2 f.number
     ++ big_bytes 1 f.kind ++ big_bytes 2 f.body ++ big_bytes 8 f.x ++ big_bytes 8 f.y
 
--- the one spelling of a command that has one
-abbrev pub spelling : Command → List ℕ
-spelling c = bytes_in (fields_in c)
+-- the one encoding of a command that has one
+abbrev pub encoding : Command → List ℕ
+encoding c = bytes_in (fields_in c)
 
 -- ---- decoding
 
@@ -89,7 +103,9 @@ is_raw bits = nat_le (unsigned_abs (cast_signed w64 bits)) 36028797018963967
 
 -- the ranges of the fields
 unfoldable pub is_in_range : Fields → Bool
-is_in_range f = nat_lt f.tick (2 ^ 20) && nat_lt f.player 8 && nat_lt f.body (2 ^ 10) && is_raw f.x && is_raw f.y
+is_in_range f =
+    nat_lt f.tick (2 ^ 20) && nat_lt f.player 8 && nat_lt f.body (2 ^ 10)
+    && is_raw f.x && is_raw f.y
 
 -- the payload of a kind
 abbrev pub payload_of : ℕ → ℕ → ℤ → ℤ → Payload
@@ -104,7 +120,7 @@ command_in f = record {
   payload = payload_of f.kind f.body (cast_signed w64 f.x) (cast_signed w64 f.y);
 }
 
--- the command of fields, or the first of four refusals
+-- the command of fields, or the first of four errors
 unfoldable pub command_of : Fields → Result Command FrameFault
 command_of f =
     if not (f.version == 1) then Err BadVersion
@@ -113,9 +129,9 @@ command_of f =
     else (if not (is_in_range f) then Err OutOfRange
     else Ok (command_in f))))
 
--- the command that bytes spell, or the first of the six refusals
-unfoldable pub decode_of : List ℕ → Result Command FrameFault
-decode_of bytes =
+-- the command that bytes encode, or the first of the six errors
+unfoldable pub decode : List ℕ → Result Command FrameFault
+decode bytes =
     if nat_lt (length bytes) 27 then Err Short
     else (if nat_lt 27 (length bytes) then Err Long
     else command_of (fields_of bytes))

@@ -11,7 +11,9 @@ use Rattle.pf_commands.specs.declared.payload.Command.{Command}
 
 -- the order of names: by tick, then player, then number
 abbrev pub name_cmp : Name → Name → Ordering
-name_cmp a b = ordering_then (nat_cmp a.tick b.tick) (ordering_then (nat_cmp a.player b.player) (nat_cmp a.number b.number))
+name_cmp a b =
+    ordering_then (nat_cmp a.tick b.tick)
+    (ordering_then (nat_cmp a.player b.player) (nat_cmp a.number b.number))
 
 -- a command map: a finite map from names to payloads
 abbrev pub CommandMap : Type 0
@@ -20,7 +22,9 @@ CommandMap = FinMap name_cmp Payload
 -- a name is stored as the triple of its numbers
 abbrev pub name_code : Coded Name
 name_code =
-    code_by (ℕ × (ℕ × ℕ)) (coded× coded_ℕ (coded× coded_ℕ coded_ℕ)) (λ n. (n.tick, (n.player, n.number))) (λ t. record { tick = t.0; player = t.1.0; number = t.1.1 }) (λ _. refl)
+    code_by (ℕ × (ℕ × ℕ)) (coded× coded_ℕ (coded× coded_ℕ coded_ℕ))
+    (λ n. (n.tick, (n.player, n.number)))
+    (λ t. record { tick = t.0; player = t.1.0; number = t.1.1 }) (λ _. refl)
 
 -- the name of a command by its numbers
 abbrev pub name_at : ℕ → ℕ → ℕ → Name
@@ -33,30 +37,34 @@ pub record IsCommand (c : Command) : Type 0 where
 
 -- each command of a map is in those ranges
 abbrev pub IsCommandMap : CommandMap → Type 0
-IsCommandMap m = (name : Name) (payload : Payload) → get m name ≡ Some payload → IsName name × IsPayload payload
+IsCommandMap m =
+    (name : Name) (payload : Payload)
+    → get m name ≡ Some payload → IsName name × IsPayload payload
 
 -- the map of one command alone
-abbrev pub one : Name → Payload → CommandMap
-one name payload = insert empty name payload
+abbrev pub singleton : Name → Payload → CommandMap
+singleton name payload = insert empty name payload
 
 -- of two payloads the one of greater weight
-abbrev pub heavier : Payload → Payload → Payload
-heavier p q = if nat_lt (weight p) (weight q) then q else p
+abbrev pub heavier_payload : Payload → Payload → Payload
+heavier_payload p q = if nat_lt (weight p) (weight q) then q else p
 
 -- the same of two payloads that may be missing
-abbrev pub heavier_of : Option Payload → Option Payload → Option Payload
-heavier_of None q = q
-heavier_of (Some p) None = Some p
-heavier_of (Some p) (Some q) = Some (heavier p q)
+abbrev pub heaviest_of : Option Payload → Option Payload → Option Payload
+heaviest_of None q = q
+heaviest_of (Some p) None = Some p
+heaviest_of (Some p) (Some q) = Some (heavier_payload p q)
 
 -- the names of either map, each with its payload of greater weight
 unfoldable pub merge : CommandMap → CommandMap → CommandMap
-merge m k = from_entries (map (λ e. (e.0, unwrap_or (heavier_of (get m e.0) (get k e.0)) e.1)) (entries m ++ entries k))
+merge m k =
+    from_entries (map (λ e. (e.0, unwrap_or (heaviest_of (get m e.0) (get k e.0)) e.1))
+    (entries m ++ entries k))
 
--- a map with the commands of a list put in: each is merged in as the map of it alone
+-- a map with the commands of a list put in: each is merged in as a map of one command
 abbrev pub put_all : CommandMap → List Command → CommandMap
 put_all m [] = m
-put_all m (c ∷ commands) = put_all (merge m (one c.name c.payload)) commands
+put_all m (c ∷ commands) = put_all (merge m (singleton c.name c.payload)) commands
 
 -- the payloads of a tick, in order of player, then number
 abbrev pub payloads_at : CommandMap → ℕ → List Payload

@@ -1,14 +1,17 @@
 -- The names of commands.
-use Rattle.std.specs.Prelude.{ℕ, ◌^◌, ◌<◌}
+use Rattle.std.specs.Prelude.{ℕ, ◌<◌}
+use Rattle.pf_commands.specs.declared.name.TheConstants.{MAX_TICK, NUMBERS}
+use Rattle.pf_shapes.specs.declared.fixture.TheConstants.{PLAYERS}
 
--- the tick that a command is for, the player who gives it, and its number among the player's at that tick
+-- the tick that a command is for, the player who issues it, and its number among the player's at
+-- that tick
 pub record Name : Type 0 where
   pub tick : ℕ
   pub player : ℕ
   pub number : ℕ
 
--- the ranges of a name: ticks below 2^20, eight players, 65,536 numbers
+-- the ranges of a name
 pub record IsName (name : Name) : Type 0 where
-  pub tick : name.tick < 2 ^ 20
-  pub player : name.player < 8
-  pub number : name.number < 2 ^ 16
+  pub tick : name.tick < MAX_TICK
+  pub player : name.player < PLAYERS
+  pub number : name.number < NUMBERS

@@ -30,7 +30,9 @@ y_of (Stop body) = pos 0
 
 -- a payload's 19 bytes in a frame as one unsigned number: kind, body, x and y in two's complement
 unfoldable pub weight : Payload → ℕ
-weight p = kind_of p * 2 ^ 144 + body_of p * 2 ^ 128 + cast_unsigned w64 (x_of p) * 2 ^ 64 + cast_unsigned w64 (y_of p)
+weight p =
+    kind_of p * 2 ^ 144 + body_of p * 2 ^ 128
+    + cast_unsigned w64 (x_of p) * 2 ^ 64 + cast_unsigned w64 (y_of p)
 
 -- the ranges of a payload, which its type keeps
 pub record IsPayload (p : Payload) : Type 0 where

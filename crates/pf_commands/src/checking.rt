@@ -1,7 +1,7 @@
 //! Which commands a scene allows.
 
 ghost use Rattle.std.specs.Prelude.{◌≡◌, ◌<◌, ◌^◌, IsOk};
-ghost use Rattle.pf_commands.specs.Check.{check_of};
+ghost use Rattle.pf_commands.specs.Check.{check};
 ghost use Rattle.pf_commands.specs.Payload.{body_of};
 
 use crate::payload::Command;
@@ -22,10 +22,10 @@ pub enum CheckFault {
     NotOwner,
 }
 
-/// Whether the scene allows the command: a player moves the bodies that it owns, and no static one. A command that a
-/// scene allows has a frame.
+/// Whether the scene allows the command: a player moves the bodies that it owns, and no static one.
+/// A command that a scene allows has a frame.
 pub fn check(scene: &Scene, command: &Command) -> Result<(), CheckFault>
-    ensures value { result ≡ check_of scene.now command.now.name command.now.payload }
+    ensures value { result ≡ check scene.now command.now.name command.now.payload }
     ensures framable { IsOk result → body_of command.now.payload < 2 ^ 10 }
 {
     let body = usize::from(command.payload.body());
@@ -40,6 +40,3 @@ pub fn check(scene: &Scene, command: &Command) -> Result<(), CheckFault>
     }
     Ok(())
 }
-
-#[cfg(test)]
-mod tests;

@@ -1,8 +1,8 @@
-//! What can be wrong with a frame.
+//! Why a frame is invalid.
 
 use thiserror::Error;
 
-/// Why bytes spell no command. Of several causes the first in this order is answered.
+/// Why bytes encode no command. Of several causes it is the first in this order.
 #[derive(Clone, Copy, Debug, PartialEq, Eq, Error)]
 pub enum FrameFault {
     /// There are fewer than 27 bytes.

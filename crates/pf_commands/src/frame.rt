@@ -4,17 +4,16 @@ ghost use Rattle.std.specs.Prelude.{◌≡◌, ◌<◌, ◌^◌, length, IfOk, O
 ghost use Rattle.pf_commands.specs.declared.payload.Command.{Command};
 ghost use Rattle.pf_commands.specs.Name.{IsName};
 ghost use Rattle.pf_commands.specs.Payload.{IsPayload, body_of};
-ghost use Rattle.pf_commands.specs.Frame.{Spells, spelling, decode_of, payload_of};
+ghost use Rattle.pf_commands.specs.Frame.{Encodes, encoding, decode, payload_of};
 
 use crate::fault::FrameFault;
-use crate::name::{Name, PLAYERS, TICKS};
+use crate::name::{MAX_TICK, Name};
 use crate::payload::{Command, Payload};
-use crate::weight::{PUSH, STOP, TURN, places_of};
+use crate::weight::{PUSH, STOP, TURN, weight_parts};
 use byteorder::{BigEndian, ByteOrder};
 use pf_num::Fx;
-
-#[cfg(test)]
-mod tests;
+use pf_shapes::PLAYERS;
+use std::marker::Model;
 
 /// The length of a frame, in bytes.
 pub const FRAME_LEN: usize = 27;
@@ -25,7 +24,7 @@ const VERSION: u8 = 1;
 /// Frames name bodies below this.
 const BODIES: u16 = 1 << 10;
 
-/// The fields of a frame as they stand there, x and y in two's complement.
+/// The fields of a frame, x and y in two's complement.
 #[derive(Clone, Copy)]
 struct Fields {
     version: u8,
@@ -36,6 +35,34 @@ struct Fields {
     body: u16,
     x: u64,
     y: u64,
+}
+
+impl Model for Fields {
+    ghost use Rattle.pf_commands.specs.Frame.{Fields};
+
+    ghost Value = { Fields };
+
+    ghost view = { λ f. record {
+      version = f.version;
+      tick = f.tick;
+      player = f.player;
+      number = f.number;
+      kind = f.kind;
+      body = f.body;
+      x = f.x;
+      y = f.y;
+    } };
+
+    ghost inverse = { λ f. record {
+      version = f.version;
+      tick = f.tick;
+      player = f.player;
+      number = f.number;
+      kind = f.kind;
+      body = f.body;
+      x = f.x;
+      y = f.y;
+    } };
 }
 
 impl Fields {
@@ -66,7 +93,7 @@ impl Fields {
         ensures name { IsName command.now.name }
         ensures payload { IsPayload command.now.payload }
     {
-        let (kind, body, x, y) = places_of(&command.payload);
+        let (kind, body, x, y) = weight_parts(&command.payload);
         Fields {
             version: VERSION,
             tick: command.name.tick(),
@@ -107,7 +134,7 @@ impl Fields {
         }
     }
 
-    /// The command that the fields name, or the first cause why they name none.
+    /// The command of the fields, or the first cause why they have none.
     #[tactic(auto, unfolding(crate::specs::Frame::command_of, crate::specs::Frame::command_in, crate::specs::Frame::is_in_range))]
     fn command(self) -> Result<Command, FrameFault>
         ensures { result ≡ command_of self }
@@ -121,7 +148,7 @@ impl Fields {
         if !self.is_canonical() {
             return Err(FrameFault::NotCanonical);
         }
-        if self.tick >= TICKS || self.player >= PLAYERS || self.body >= BODIES {
+        if self.tick >= MAX_TICK || self.player >= PLAYERS || self.body >= BODIES {
             return Err(FrameFault::OutOfRange);
         }
         let x = Fx::from_raw(self.x.cast_signed());
@@ -147,10 +174,10 @@ fn payload_of(kind: u8, body: u16, x: Fx, y: Fx) -> Payload
     }
 }
 
-/// The command that bytes spell, or the first cause why they spell none.
-#[tactic(auto, unfolding(crate::specs::Frame::decode_of))]
+/// The command that bytes encode, or the first cause why they encode none.
+#[tactic(auto, unfolding(crate::specs::Frame::decode))]
 fn decoded(bytes: &[u8]) -> Result<Command, FrameFault>
-    ensures { result ≡ decode_of bytes.now }
+    ensures { result ≡ decode bytes.now }
 {
     if bytes.len() < FRAME_LEN {
         return Err(FrameFault::Short);
@@ -161,25 +188,25 @@ fn decoded(bytes: &[u8]) -> Result<Command, FrameFault>
     Fields::of_bytes(bytes).command()
 }
 
-/// The command that bytes spell. It takes no memory.
+/// The command that bytes encode. Takes no memory.
 pub fn decode(bytes: &[u8]) -> Result<Command, FrameFault>
-    // What is answered is spelled so.
-    ensures found { IfOk result (Spells bytes.now) }
+    // The bytes encode the command that is returned.
+    ensures found { IfOk result (Encodes bytes.now) }
 
-    // What is spelled so is answered.
-    ensures only { (c : Command) → Spells bytes.now c → result ≡ Ok c }
+    // A command that they encode is returned.
+    ensures only { (c : Command) → Encodes bytes.now c → result ≡ Ok c }
 
-    // Which refusal it is: the first that holds of the six, in the order of `FrameFault`.
-    ensures exact { result ≡ decode_of bytes.now }
+    // Which error it is: the first that holds of the six, in the order of `FrameFault`.
+    ensures exact { result ≡ decode bytes.now }
 {
     decoded(bytes)
 }
 
-/// The one spelling of a command whose body is below 1,024. Other commands have none.
+/// The frame of a command whose body is below 1,024. Other commands have none.
 pub fn encode(command: &Command) -> [u8; FRAME_LEN]
     requires { body_of command.now.payload < 2 ^ 10 }
-    ensures spelled { Spells result command.now }
-    ensures value { result ≡ spelling command.now }
+    ensures encoded { Encodes result command.now }
+    ensures value { result ≡ encoding command.now }
 {
     Fields::of_command(command).bytes()
 }

@@ -1,35 +1,39 @@
-//! Laws of spellings, of command maps and of checks. Their functions do nothing: their clauses are what they are for.
+//! Laws of frames, of command maps and of checks. Their functions do nothing: their clauses are
+//! what they are for.
 
 ghost use Rattle.std.specs.Prelude.{◌≡◌, ◌<◌, IfSome, ◌↔◌, ◌≢◌, ℕ, List, [], ◌++◌, All, Contains, map, Some, Ok, Err, false};
 ghost use Rattle.std.specs.FinMap.{empty, get};
 ghost use Rattle.pf_shapes.specs.Scene.{Scene};
-ghost use Rattle.pf_commands.specs.Frame.{IsFrameable, Spells, spelling};
-ghost use Rattle.pf_commands.specs.Check.{check_all_of, IsAllowed, IsFirstFault};
+ghost use Rattle.pf_commands.specs.Frame.{IsFrameable, Encodes, encoding};
+ghost use Rattle.pf_commands.specs.Check.{check_all, IsAllowed, IsFirstError};
 ghost use Rattle.pf_commands.specs.Name.{Name};
 ghost use Rattle.pf_commands.specs.Payload.{weight, IsPayload};
-ghost use Rattle.pf_commands.specs.Merge.{CommandMap, IsCommandMap, IsCommand, heavier_of, merge, one, put_all, payloads_at};
+ghost use Rattle.pf_commands.specs.Merge.{CommandMap, IsCommandMap, IsCommand, heaviest_of, merge, singleton, put_all, payloads_at};
 ghost use Rattle.pf_commands.specs.News.{is_news, news, least_tick, IsLeast};
 ghost use Rattle.pf_commands.specs.declared.checking.CheckFault.{CheckFault};
 ghost use Rattle.pf_commands.specs.declared.payload.Payload.{Payload};
 ghost use Rattle.pf_commands.specs.declared.payload.Command.{Command};
 
-/// Each command in its ranges, with a body below 1,024, has one spelling; each spelling has one command; and no
-/// spelling begins another.
-pub fn commands_have_one_spelling()
-    ensures each { (c : Command) → IsFrameable c → Spells (spelling c) c }
-    ensures same_bytes { (a b : List ℕ) (c : Command) → Spells a c → Spells b c → a ≡ b }
-    ensures same_command { (a : List ℕ) (c d : Command) → Spells a c → Spells a d → c ≡ d }
-    ensures no_beginning { (a rest : List ℕ) (c d : Command) → Spells a c → Spells (a ++ rest) d → rest ≡ [] }
+/// Each command in its ranges, with a body below 1,024, has one encoding; each encoding has one
+/// command; and no encoding is a prefix of another.
+pub fn commands_have_one_encoding()
+    ensures each { (c : Command) → IsFrameable c → Encodes (encoding c) c }
+    ensures same_bytes { (a b : List ℕ) (c : Command) → Encodes a c → Encodes b c → a ≡ b }
+    ensures same_command { (a : List ℕ) (c d : Command) → Encodes a c → Encodes a d → c ≡ d }
+    ensures no_prefix { (a rest : List ℕ) (c d : Command)
+        → Encodes a c → Encodes (a ++ rest) d → rest ≡ [] }
 {}
 
-/// Merging is associative.
+/// Merging is associative. With the next two laws: maps of commands are a join semilattice.
 pub fn merge_is_associative()
-    ensures { (first second third : CommandMap) → merge (merge first second) third ≡ merge first (merge second third) }
+    ensures { (first second third : CommandMap)
+        → merge (merge first second) third ≡ merge first (merge second third) }
 {}
 
 /// Merging is commutative, for maps in range: `CommandMap::len` says of each map that it is.
 pub fn merge_is_commutative()
-    ensures { (left right : CommandMap) → IsCommandMap left → IsCommandMap right → merge left right ≡ merge right left }
+    ensures { (left right : CommandMap) → IsCommandMap left → IsCommandMap right
+        → merge left right ≡ merge right left }
 {}
 
 /// Merging is idempotent.
@@ -54,24 +58,28 @@ pub fn puts_in_any_order()
 
 /// Putting a list into a map is merging the map of the list.
 pub fn puts_are_a_merge()
-    ensures { (m : CommandMap) (commands : List Command) → put_all m commands ≡ merge m (put_all empty commands) }
+    ensures { (m : CommandMap) (commands : List Command)
+        → put_all m commands ≡ merge m (put_all empty commands) }
 {}
 
 /// A command that is neither new nor greater changes nothing.
 pub fn no_news_changes_nothing()
-    ensures { (m : CommandMap) (name : Name) (payload : Payload) → is_news m (name, payload) ≡ false
-        → merge m (one name payload) ≡ m }
+    ensures { (m : CommandMap) (name : Name) (payload : Payload)
+        → is_news m (name, payload) ≡ false
+        → merge m (singleton name payload) ≡ m }
 {}
 
 /// A command for one tick changes the payloads of no other.
 pub fn put_keeps_other_ticks()
     ensures { (m : CommandMap) (name : Name) (payload : Payload) (tick : ℕ) → name.tick ≢ tick
-        → payloads_at (merge m (one name payload)) tick ≡ payloads_at m tick }
+        → payloads_at (merge m (singleton name payload)) tick ≡ payloads_at m tick }
 {}
 
-/// A merge changes the payloads of no tick before the least of its news, which `CommandMap::merge` answers.
+/// A merge changes the payloads of no tick before the least of its news, which `CommandMap::merge`
+/// returns.
 pub fn merge_keeps_earlier_ticks()
-    ensures { (m other : CommandMap) (tick : ℕ) → IfSome (least_tick (news m other)) (λ least. tick < least)
+    ensures { (m other : CommandMap) (tick : ℕ)
+        → IfSome (least_tick (news m other)) (λ least. tick < least)
         → payloads_at (merge m other) tick ≡ payloads_at m tick }
 {}
 
@@ -81,30 +89,35 @@ pub fn least_ticks_are_least()
         → (least_tick commands ≡ Some tick) ↔ IsLeast (map (λ e. e.0.tick) commands) tick }
 {}
 
-/// Under each name a merge holds the payload of greater weight of what the two maps hold.
+/// Under each name a merge holds the payload of greater weight of those that the two maps hold.
 pub fn get_of_merge()
-    ensures { (left right : CommandMap) (name : Name) → get (merge left right) name ≡ heavier_of (get left name) (get right name) }
+    ensures { (left right : CommandMap) (name : Name)
+        → get (merge left right) name ≡ heaviest_of (get left name) (get right name) }
 {}
 
-/// Maps that hold the same under each name are one map.
+/// Maps that hold the same payload under each name are equal.
 pub fn same_gets_same_map()
-    ensures { (left right : CommandMap) → ((name : Name) → get left name ≡ get right name) → left ≡ right }
+    ensures { (left right : CommandMap)
+        → ((name : Name) → get left name ≡ get right name) → left ≡ right }
 {}
 
 /// Maps in range are merged into a map in range.
 pub fn merge_stays_in_range()
-    ensures { (left right : CommandMap) → IsCommandMap left → IsCommandMap right → IsCommandMap (merge left right) }
+    ensures { (left right : CommandMap) → IsCommandMap left → IsCommandMap right
+        → IsCommandMap (merge left right) }
 {}
 
 /// Payloads of one weight are one payload.
 pub fn same_weight_same_payload()
-    ensures { (p q : Payload) → IsPayload p → IsPayload q → weight p ≡ weight q → p ≡ q }
+    ensures { (p q : Payload) → IsPayload p → IsPayload q
+        → weight p ≡ weight q → p ≡ q }
 {}
 
-/// Commands are allowed exactly where each one is, and else their fault is that of the first one that is not.
-pub fn first_fault_is_answered()
+/// Commands are allowed exactly where each one is, and else their error is that of the first one
+/// that is not.
+pub fn first_error_is_returned()
     ensures allowed { (scene : Scene) (commands : List (Name × Payload))
-        → (check_all_of scene commands ≡ Ok tt) ↔ All (IsAllowed scene) commands }
+        → (check_all scene commands ≡ Ok tt) ↔ All (IsAllowed scene) commands }
     ensures fault { (scene : Scene) (commands : List (Name × Payload)) (fault : CheckFault)
-        → (check_all_of scene commands ≡ Err fault) ↔ IsFirstFault scene commands fault }
+        → (check_all scene commands ≡ Err fault) ↔ IsFirstError scene commands fault }
 {}

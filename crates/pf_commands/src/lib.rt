@@ -1,4 +1,5 @@
-//! Players' commands: names, payloads, frames on the wire, maps of commands, and which commands a scene allows.
+//! Players' commands: names, payloads, frames on the wire, maps of commands, and which commands a
+//! scene allows.
 #![tactic(auto)]
 
 mod checking;
@@ -14,5 +15,5 @@ pub use checking::{CheckFault, check};
 pub use fault::FrameFault;
 pub use frame::{FRAME_LEN, decode, encode};
 pub use map::{CommandMap, Merged, Put};
-pub use name::Name;
+pub use name::{MAX_TICK, NUMBERS, Name};
 pub use payload::{Command, Payload};

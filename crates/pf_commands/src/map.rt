@@ -1,13 +1,13 @@
 //! Maps of commands: from names to payloads, in the order of names.
 
 ghost use Rattle.std.specs.Prelude.{◌≡◌};
-ghost use Rattle.pf_commands.specs.News.{answer_to, lesser};
+ghost use Rattle.pf_commands.specs.News.{put_outcome, lesser_number};
 
 use crate::checking::{CheckFault, check};
-use crate::name::{Name, PLAYERS, TICKS};
+use crate::name::{MAX_TICK, Name};
 use crate::payload::{Command, Payload};
-use crate::weight::{places_of, read_ranges};
-use pf_shapes::Scene;
+use crate::weight::{read_ranges, weight_parts};
+use pf_shapes::{PLAYERS, Scene};
 use std::alloc::{AllocError, Global};
 use std::cmp::Ordering;
 use std::collections::BTreeMap;
@@ -19,7 +19,7 @@ use std::marker::Model;
 pub enum Put {
     /// Its name was new.
     New,
-    /// The map held the very command.
+    /// The map held the same command.
     Same,
     /// The new payload is the greater one, and stays.
     Greater,
@@ -48,8 +48,8 @@ pub struct Merged {
     pub least: Option<u32>,
 }
 
-/// Commands by their names. Of two payloads of one name the one of greater weight stays, so a map depends on which
-/// commands were put into it, and neither on their order nor on how often.
+/// Commands by their names. Of two payloads of one name the one of greater weight stays, so a map
+/// depends on which commands were put into it, and neither on their order nor on how often.
 ///
 /// Contracts see it as a finite map.
 #[derive(Drop)]
@@ -72,11 +72,11 @@ impl Model for CommandMap {
 }
 
 impl CommandMap {
-    ghost use Rattle.pf_commands.specs.Check.{check_all_of};
+    ghost use Rattle.pf_commands.specs.Check.{check_all};
     ghost use Rattle.std.specs.Prelude.{◌≡◌, ◌≤◌, ◌<◌, ◌^◌, ◌↔◌, ℕ, None, [], length, IfOk, IfSome, IfNone, IsOk, IsSome, IsTrue, OnOk, OnErr};
     ghost use Rattle.std.specs.FinMap as map;
-    ghost use Rattle.pf_commands.specs.Merge.{IsCommandMap, IsCommand, merge, one, payloads_at, name_at};
-    ghost use Rattle.pf_commands.specs.News.{answer_to, news, least_tick, NotesNews};
+    ghost use Rattle.pf_commands.specs.Merge.{IsCommandMap, IsCommand, merge, singleton, payloads_at, name_at};
+    ghost use Rattle.pf_commands.specs.News.{put_outcome, news, least_tick, IsNewsOf};
 
     /// The map of no commands. Takes no memory.
     pub fn new(alloc: Global) -> CommandMap
@@ -118,11 +118,13 @@ impl CommandMap {
         self.commands.get(&name).copied()
     }
 
-    /// Puts the command into the map: under its name the payload of greater weight stays. Takes logarithmic time, and
-    /// memory only for a new name. Without it the map stays as it was.
+    /// Puts the command into the map: under its name the payload of greater weight stays. Takes
+    /// logarithmic time, and memory only for a new name. Out of memory leaves the map as it was.
     pub fn put(&mut self, command: &Command) -> Result<Put, AllocError>
-        ensures answer { let c = command.now in IfOk result (λ put. put ≡ answer_to (map.get self.old c.name) c.payload) }
-        ensures ok { OnOk result (self.new ≡ merge self.old (one command.now.name command.now.payload)) }
+        ensures outcome { let c = command.now in
+            IfOk result (λ put. put ≡ put_outcome (map.get self.old c.name) c.payload) }
+        ensures ok { let c = command.now in
+            OnOk result (self.new ≡ merge self.old (singleton c.name c.payload)) }
         ensures err { OnErr result (self.new ≡ self.old) }
         ensures held { IsSome (map.get self.old command.now.name) → IsOk result }
         ensures range { IsCommand command.now }
@@ -137,9 +139,9 @@ impl CommandMap {
         Ok(put)
     }
 
-    /// What putting the command would answer.
-    fn answer(&self, command: &Command) -> Put
-        ensures { result ≡ answer_to (map.get self.now command.now.name) command.now.payload }
+    /// The outcome of putting the command.
+    fn outcome(&self, command: &Command) -> Put
+        ensures { result ≡ put_outcome (map.get self.now command.now.name) command.now.payload }
     {
         match self.get(command.name) {
             None => Put::New,
@@ -147,10 +149,11 @@ impl CommandMap {
         }
     }
 
-    /// Holds the command's payload under its name from now on, and answers what it held there.
+    /// Writes the command's payload under its name, and returns the payload that was there.
     fn write(&mut self, command: &Command) -> Result<Option<Payload>, AllocError>
         ensures value { IfOk result (λ held. held ≡ map.get self.old command.now.name) }
-        ensures ok { OnOk result (self.new ≡ map.insert self.old command.now.name command.now.payload) }
+        ensures ok { let c = command.now in
+            OnOk result (self.new ≡ map.insert self.old c.name c.payload) }
         ensures err { OnErr result (self.new ≡ self.old) }
         ensures held { IsSome (map.get self.old command.now.name) → IsOk result }
         ensures range { IsCommand command.now }
@@ -159,14 +162,14 @@ impl CommandMap {
         Ok(self.commands.insert(command.name, command.payload)?)
     }
 
-    /// The payloads of the tick, in order of player, then number. Takes logarithmic time, and then time and memory for
-    /// these payloads alone, so none for a tick that has none.
+    /// The payloads of the tick, in order of player, then number. Takes logarithmic time, and then
+    /// time and memory for these payloads alone, so none for a tick that has none.
     pub fn at_tick(&self, alloc: Global, tick: u32) -> Result<Vec<Payload>, AllocError>
         ensures items { IfOk result (λ payloads. payloads.items ≡ payloads_at self.now tick) }
-        ensures quiet { payloads_at self.now tick ≡ [] → IsOk result }
+        ensures no_memory { payloads_at self.now tick ≡ [] → IsOk result }
     {
         let commands = &self.commands;
-        if tick >= TICKS {
+        if tick >= MAX_TICK {
             return Ok(Vec::new(alloc));
         }
         let first = Name::new(tick, 0, 0);
@@ -180,12 +183,15 @@ impl CommandMap {
 
     /// The greatest number that the map holds at the tick for the player. Takes logarithmic time.
     pub fn greatest(&self, tick: u32, player: u8) -> Option<u16>
-        ensures held { IfSome result (λ number. IsSome (map.get self.now (name_at tick player number))) }
-        ensures most { IfSome result (λ number. (other : ℕ) → IsSome (map.get self.now (name_at tick player other)) → other ≤ number) }
-        ensures none { IfNone result ((number : ℕ) → map.get self.now (name_at tick player number) ≡ None) }
+        ensures held { IfSome result (λ number.
+            IsSome (map.get self.now (name_at tick player number))) }
+        ensures most { IfSome result (λ number. (other : ℕ)
+            → IsSome (map.get self.now (name_at tick player other)) → other ≤ number) }
+        ensures none { IfNone result ((number : ℕ)
+            → map.get self.now (name_at tick player number) ≡ None) }
     {
         let commands = &self.commands;
-        if tick >= TICKS || player >= PLAYERS {
+        if tick >= MAX_TICK || player >= PLAYERS {
             return None;
         }
         let first = Name::new(tick, player, 0);
@@ -202,16 +208,17 @@ impl CommandMap {
         Ok(CommandMap { commands })
     }
 
-    /// Merges the other map into this one: under each name of either the payload of greater weight stays. Where
-    /// nothing is new or greater this takes no memory and changes nothing; else it takes time and memory for all
-    /// commands of this map, and without the memory the map stays as it was.
+    /// Merges the other map into this one: under each name of either the payload of greater weight
+    /// stays. Where nothing is new or greater this takes no memory and changes nothing; else it
+    /// takes time and memory for all commands of this map. Out of memory leaves the map as it was.
     pub fn merge(&mut self, other: &CommandMap) -> Result<Merged, AllocError>
         ensures ok { OnOk result (self.new ≡ merge self.old other.now) }
         ensures count { IfOk result (λ merged. merged.count ≡ length (news self.old other.now)) }
-        ensures least { IfOk result (λ merged. merged.least ≡ least_tick (news self.old other.now)) }
+        ensures least { IfOk result (λ merged.
+            merged.least ≡ least_tick (news self.old other.now)) }
         ensures err { OnErr result (self.new ≡ self.old) }
         ensures same { news self.old other.now ≡ [] → self.new ≡ self.old }
-        ensures quiet { news self.old other.now ≡ [] → IsOk result }
+        ensures no_memory { news self.old other.now ≡ [] → IsOk result }
     {
         let merged = self.news(other);
         if merged.count > 0 {
@@ -222,15 +229,16 @@ impl CommandMap {
         Ok(merged)
     }
 
-    /// What merging the other map would answer. Takes logarithmic time for each of its commands, and no memory.
+    /// The outcome of merging the other map. Takes logarithmic time for each of its commands, and
+    /// no memory.
     fn news(&self, other: &CommandMap) -> Merged
-        ensures { NotesNews self.now (map.entries other.now) result.count result.least }
+        ensures { IsNewsOf self.now (map.entries other.now) result.count result.least }
     {
         let mut count = 0;
         let mut least = None;
         for (name, payload) in other.commands.iter() {
             let command = command_of(name, payload);
-            if self.answer(&command).is_change() {
+            if self.outcome(&command).is_change() {
                 count += 1;
                 least = Some(earlier(least, name.tick()));
             }
@@ -249,9 +257,10 @@ impl CommandMap {
         Ok(())
     }
 
-    /// Whether the scene allows each command, in order of their names: the first fault. Takes no memory.
+    /// Whether the scene allows each command: the error of the first one, in order of their names,
+    /// that it does not allow. Takes no memory.
     pub fn check_all(&self, scene: &Scene) -> Result<(), CheckFault>
-        ensures { result ≡ check_all_of scene.now (map.entries self.now) }
+        ensures { result ≡ check_all scene.now (map.entries self.now) }
     {
         let held = &self.commands;
         for (name, payload) in held.iter() {
@@ -264,18 +273,18 @@ impl CommandMap {
     }
 }
 
-/// What putting a payload under a name answers where another is held there.
+/// The outcome of putting a payload under a name that has another.
 fn compared(held: &Payload, payload: &Payload) -> Put
-    ensures { result ≡ answer_to (Some held.now) payload.now }
+    ensures { result ≡ put_outcome (Some held.now) payload.now }
 {
-    match places_of(held).cmp(&places_of(payload)) {
+    match weight_parts(held).cmp(&weight_parts(payload)) {
         Ordering::Less => Put::Greater,
         Ordering::Equal => Put::Same,
         Ordering::Greater => Put::Lesser,
     }
 }
 
-/// The command that a map holds as this entry.
+/// The command of an entry.
 #[inline]
 fn command_of(name: &Name, payload: &Payload) -> Command
     ensures { result ≡ record { name = name.now; payload = payload.now } }
@@ -288,13 +297,10 @@ fn command_of(name: &Name, payload: &Payload) -> Command
 
 /// The lesser of two ticks, of which the first may be missing.
 fn earlier(least: Option<u32>, tick: u32) -> u32
-    ensures { result ≡ lesser tick least }
+    ensures { result ≡ lesser_number tick least }
 {
     match least {
         None => tick,
         Some(least) => tick.min(least),
     }
 }
-
-#[cfg(test)]
-mod tests;

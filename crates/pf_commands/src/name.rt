@@ -2,13 +2,14 @@
 
 ghost use Rattle.std.specs.Prelude.{◌≡◌, ◌^◌, ◌<◌};
 
+use pf_shapes::PLAYERS;
 use std::marker::Model;
 
-/// Names are for ticks below this one.
-pub(crate) const TICKS: u32 = 1 << 20;
+/// The last tick that a peer can reach. Commands are for ticks below it.
+pub const MAX_TICK: u32 = 1_048_576;
 
-/// How many players there can be.
-pub(crate) const PLAYERS: u8 = 8;
+/// How many commands a player can give at one tick. They are numbered from 0.
+pub const NUMBERS: u32 = 65_536;
 
 /// The name of a command. Names are ordered by tick, then player, then number.
 #[derive(Clone, Copy, Debug, PartialEq, Eq, PartialOrd, Ord)]
@@ -25,7 +26,8 @@ impl Model for Name {
 
     ghost view = { λ n. record { tick = n.tick; player = n.player; number = n.number } };
 
-    ghost invariant = { λ n. IsName (record { tick = n.tick; player = n.player; number = n.number }) };
+    ghost invariant = { λ n.
+        IsName (record { tick = n.tick; player = n.player; number = n.number }) };
 
     ghost inverse = { λ n. record { tick = n.tick; player = n.player; number = n.number } };
 }
@@ -34,11 +36,11 @@ impl Name {
     ghost use Rattle.std.specs.Prelude.{◌≡◌, ◌^◌, ◌<◌};
     ghost use Rattle.pf_commands.specs.Name.{Name, IsName};
 
-    /// The name of a command for a tick below 2^20, given by one of eight players.
+    /// The name of a command.
     #[inline]
     pub fn new(tick: u32, player: u8, number: u16) -> Name
-        requires tick { tick < 2 ^ 20 }
-        requires player { player < 8 }
+        requires tick { tick < MAX_TICK }
+        requires player { player < PLAYERS }
         ensures { result ≡ record { tick = tick; player = player; number = number } }
     {
         Name {

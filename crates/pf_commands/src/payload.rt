@@ -3,7 +3,8 @@
 use crate::name::Name;
 use pf_num::Fx;
 
-/// What a command does to a body, in one spelling by its type. Bodies are numbered from 0; impulses are in units of 2^-24.
+/// What a command does to a body. Its type has one value for each meaning. Bodies are numbered from
+/// 0; impulses are in units of 2^-24.
 #[derive(Clone, Copy, Debug, PartialEq, Eq)]
 pub enum Payload {
     /// Gives the body an impulse: mass times lengths a second.

@@ -16,9 +16,9 @@ pub(crate) const TURN: u8 = 1;
 /// The kind of a stop, which has neither x nor y.
 pub(crate) const STOP: u8 = 2;
 
-/// The places of a payload's weight, the highest first: kind, body, x and y in two's complement. Payloads are compared
-/// by weight as these are.
-pub(crate) fn places_of(payload: &Payload) -> (u8, u16, u64, u64)
+/// The parts of a payload's weight, the highest first: kind, body, x and y in two's complement.
+/// Payloads are compared by weight as these are.
+pub(crate) fn weight_parts(payload: &Payload) -> (u8, u16, u64, u64)
     ensures value { let p = payload.now in
         result ≡ (kind_of p, body_of p, cast_unsigned w64 (x_of p), cast_unsigned w64 (y_of p)) }
     ensures range { IsPayload payload.now }
@@ -36,10 +36,11 @@ pub(crate) fn places_of(payload: &Payload) -> (u8, u16, u64, u64)
     }
 }
 
-/// Has it known that a command's numbers are in the ranges of their types. It does nothing.
+/// Does nothing at run time. It reads a command's numbers, so that the prover knows that they are
+/// in the ranges of their types, which a `BTreeMap` of them does not say.
 pub(crate) fn read_ranges(command: &Command)
     ensures { IsCommand command.now }
 {
     let _tick = command.name.tick();
-    let _places = places_of(&command.payload);
+    let _places = weight_parts(&command.payload);
 }

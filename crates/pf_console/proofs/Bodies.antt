@@ -5,10 +5,10 @@ use Rattle.std.proofs.lemmas.Bool.{cases_lt}
 use Rattle.std.proofs.lemmas.List.{drop_all}
 use Rattle.pf_shapes.specs.Fixture.{Fixture}
 use Rattle.pf_shapes.specs.Body.{BodyState}
-use Rattle.pf_console.specs.Print.{moving_text, bodies_text}
+use Rattle.pf_console.specs.Print.{dynamic_body_text, bodies_text}
 
 bodies_text_cons : (i : ℕ) (f : Fixture) (fixtures : List Fixture) (b : BodyState) (bodies : List BodyState) →
-    bodies_text i (f ∷ fixtures) (b ∷ bodies) ≡ moving_text i f b ++ bodies_text (i + 1) fixtures bodies
+    bodies_text i (f ∷ fixtures) (b ∷ bodies) ≡ dynamic_body_text i f b ++ bodies_text (i + 1) fixtures bodies
 unfolding bodies_text
 bodies_text_cons i f fixtures b bodies = refl
 
@@ -16,7 +16,7 @@ bodies_text_cons i f fixtures b bodies = refl
 pub bodies_text_more : (fixtures : List Fixture) (bodies : List BodyState) (i : ℕ) (f : Fixture) (b : BodyState) →
     i < length fixtures → i < length bodies → f ≡ get_or fixtures i f → b ≡ get_or bodies i b →
     bodies_text i (drop i fixtures) (drop i bodies)
-    ≡ moving_text i f b ++ bodies_text (i + 1) (drop (i + 1) fixtures) (drop (i + 1) bodies)
+    ≡ dynamic_body_text i f b ++ bodies_text (i + 1) (drop (i + 1) fixtures) (drop (i + 1) bodies)
 bodies_text_more fixtures bodies i f b hf hb ef eb =
     let df : drop i fixtures ≡ f ∷ drop (suc i) fixtures =
     drop-cons fixtures i f hf ∙ ap (λ (x : Fixture). x ∷ drop (suc i) fixtures) (sym ef) in

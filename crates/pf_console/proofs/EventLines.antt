@@ -13,18 +13,19 @@ use Rattle.hex.proofs.HexLemmas.{length-encode_with}
 use Rattle.pf_text.specs.Driver.{is_ascii, is_plain, is_skipped}
 use Rattle.pf_text.specs.Laws.{lacks_space, is_field}
 use Rattle.pf_text.proofs.Joined.{joined_fields}
-use Rattle.pf_text.proofs.Spelling.{decimal_digits}
+use Rattle.pf_text.proofs.DecimalText.{decimal_digits}
 use Rattle.pf_num.specs.Fx.{IsRaw}
+use Rattle.pf_shapes.specs.declared.fixture.TheConstants.{PLAYERS}
 use Rattle.pf_commands.specs.declared.payload.Payload.{Payload}
 use Rattle.pf_commands.specs.declared.payload.Payload.TheVariants.{Push, Turn, Stop}
 use Rattle.pf_commands.specs.Payload.{IsPayload}
-use Rattle.pf_commands.specs.Frame.{spelling}
-use Rattle.pf_commands.proofs.Spelling.{spelling_spells}
-use Rattle.pf_console.specs.declared.event.Event.{Event}
-use Rattle.pf_console.specs.declared.event.Event.TheVariants.{Issue, Take, Advance, Show}
-use Rattle.pf_console.specs.Laws.{Says, SayEvents}
-use Rattle.pf_console.specs.Saying.{payload_fields, event_fields, event_line, CanBeSaid}
-use Rattle.pf_console.proofs.Saying.{read_event}
+use Rattle.pf_commands.specs.Frame.{encoding}
+use Rattle.pf_commands.proofs.Encoding.{encoding_encodes}
+use Rattle.pf_peers.specs.declared.event.Event.{Event}
+use Rattle.pf_peers.specs.declared.event.Event.TheVariants.{Issue, Take, Advance, Show}
+use Rattle.pf_console.specs.Laws.{IsLineOf, AreLinesOf}
+use Rattle.pf_console.specs.EventEncoding.{payload_fields, event_fields, event_line, IsEncodable}
+use Rattle.pf_console.proofs.EventFields.{read_event}
 
 -- ---- words: ASCII bytes without a space, at most 54 of them
 
@@ -71,17 +72,17 @@ signed_word (negsuc n) raw =
     let word = decimal_word (suc n) (omega arith) in
     record { bytes = word.bytes; some = omega arith; short = omega (arith, length-decimal-le 20 (suc n) (omega arith) (omega arith) (omega arith)) }
 
--- digits of a table without spaces, where a place past its end counts as 0
-place_is_word_byte : (table : List ℕ) → list_all is_word_byte table ≡ true → (k : ℕ) → is_word_byte (slice_index table k) ≡ true
-place_is_word_byte [] e k = refl
-place_is_word_byte (byte ∷ bytes) e zero = (and_parts (is_word_byte byte) (list_all is_word_byte bytes) e).0
-place_is_word_byte (byte ∷ bytes) e (suc k) = place_is_word_byte bytes ((and_parts (is_word_byte byte) (list_all is_word_byte bytes) e).1) k
+-- digits of a table without spaces; past its end they are 0
+entry_is_word_byte : (table : List ℕ) → list_all is_word_byte table ≡ true → (k : ℕ) → is_word_byte (slice_index table k) ≡ true
+entry_is_word_byte [] e k = refl
+entry_is_word_byte (byte ∷ bytes) e zero = (and_parts (is_word_byte byte) (list_all is_word_byte bytes) e).0
+entry_is_word_byte (byte ∷ bytes) e (suc k) = entry_is_word_byte bytes ((and_parts (is_word_byte byte) (list_all is_word_byte bytes) e).1) k
 
 encoded_bytes : (table bytes : List ℕ) → list_all is_word_byte table ≡ true → list_all is_word_byte (encode_with table bytes) ≡ true
 unfolding encode_with
 encoded_bytes table [] e = refl
 encoded_bytes table (byte ∷ bytes) e =
-    rw (place_is_word_byte table e (byte / 16), place_is_word_byte table e (byte % 16), encoded_bytes table bytes e) refl
+    rw (entry_is_word_byte table e (byte / 16), entry_is_word_byte table e (byte % 16), encoded_bytes table bytes e) refl
 
 frame_word : (bytes : List ℕ) → length bytes ≡ 27 → IsWord (encode_lower bytes)
 frame_word bytes long = record {
@@ -128,8 +129,8 @@ joined_plain words h few =
 
 -- ---- events
 
-peer_word : (peer : ℕ) → peer ≡ 0 → IsWord (decimal peer)
-peer_word peer e = decimal_word peer (omega arith)
+peer_word : (peers peer : ℕ) → peers ≤ PLAYERS → peer < peers → IsWord (decimal peer)
+peer_word peers peer few h = decimal_word peer (omega arith)
 
 word : (text : List ℕ) → list_all is_word_byte text ≡ true → 0 < length text → length text ≤ 54 → IsWord text
 word text bytes some short = record { bytes = bytes; some = some; short = short }
@@ -142,52 +143,56 @@ payload_words (Turn body x) h =
 payload_words (Stop body) h =
     (word (codes "stop") refl (omega arith) (omega arith), (decimal_word body (omega (arith, h.body)), tt))
 
-event_words : (event : Event) → CanBeSaid event → AreWords (event_fields event)
-event_words (Issue peer payload) h =
-    (word (codes "issue") refl (omega arith) (omega arith), (peer_word peer h.0, payload_words payload h.1))
-event_words (Take peer (Ok c)) h =
-    (word (codes "take") refl (omega arith) (omega arith), (peer_word peer h.0, (frame_word (spelling c) (spelling_spells c h.1).long, tt)))
-event_words (Take peer (Err fault)) h = elim h [ ]
-event_words (Advance peer ticks) h =
-    (word (codes "advance") refl (omega arith) (omega arith), (peer_word peer h.0, (decimal_word ticks (omega (arith, h.1)), tt)))
-event_words (Show peer tick) h =
-    (word (codes "show") refl (omega arith) (omega arith), (peer_word peer h.0, (decimal_word tick (omega (arith, h.1)), tt)))
+event_words : (peers : ℕ) (event : Event) → peers ≤ PLAYERS → IsEncodable peers event → AreWords (event_fields event)
+event_words peers (Issue peer payload) few h =
+    (word (codes "issue") refl (omega arith) (omega arith), (peer_word peers peer few h.0, payload_words payload h.1))
+event_words peers (Take peer (Ok c)) few h =
+    (word (codes "take") refl (omega arith) (omega arith), (peer_word peers peer few h.0, (frame_word (encoding c) (encoding_encodes c h.1).long, tt)))
+event_words peers (Take peer (Err fault)) few h = elim h [ ]
+event_words peers (Advance peer ticks) few h =
+    (word (codes "advance") refl (omega arith) (omega arith), (peer_word peers peer few h.0, (decimal_word ticks (omega (arith, h.1)), tt)))
+event_words peers (Show peer tick) few h =
+    (word (codes "show") refl (omega arith) (omega arith), (peer_word peers peer few h.0, (decimal_word tick (omega (arith, h.1)), tt)))
 
 payload_count : (payload : Payload) → length (payload_fields payload) ≤ 4
 payload_count (Push body x y) = omega arith
 payload_count (Turn body x) = omega arith
 payload_count (Stop body) = omega arith
 
-event_count : (event : Event) → CanBeSaid event → (0 < length (event_fields event)) × (length (event_fields event) ≤ 6)
-event_count (Issue peer payload) h = (omega arith, omega (arith, payload_count payload))
-event_count (Take peer (Ok c)) h = (omega arith, omega arith)
-event_count (Take peer (Err fault)) h = elim h [ ]
-event_count (Advance peer ticks) h = (omega arith, omega arith)
-event_count (Show peer tick) h = (omega arith, omega arith)
+event_count : (peers : ℕ) (event : Event) → peers ≤ PLAYERS → IsEncodable peers event → (0 < length (event_fields event)) × (length (event_fields event) ≤ 6)
+event_count peers (Issue peer payload) few h = (omega arith, omega (arith, payload_count payload))
+event_count peers (Take peer (Ok c)) few h = (omega arith, omega arith)
+event_count peers (Take peer (Err fault)) few h = elim h [ ]
+event_count peers (Advance peer ticks) few h = (omega arith, omega arith)
+event_count peers (Show peer tick) few h = (omega arith, omega arith)
 
-event_asks : (event : Event) → CanBeSaid event → is_skipped (event_line event) ≡ false
-event_asks (Issue peer (Push body x y)) h = refl
-event_asks (Issue peer (Turn body x)) h = refl
-event_asks (Issue peer (Stop body)) h = refl
-event_asks (Take peer (Ok c)) h = refl
-event_asks (Take peer (Err fault)) h = elim h [ ]
-event_asks (Advance peer ticks) h = refl
-event_asks (Show peer tick) h = refl
+event_not_skipped : (peers : ℕ) (event : Event) → peers ≤ PLAYERS → IsEncodable peers event → is_skipped (event_line event) ≡ false
+event_not_skipped peers (Issue peer (Push body x y)) few h = refl
+event_not_skipped peers (Issue peer (Turn body x)) few h = refl
+event_not_skipped peers (Issue peer (Stop body)) few h = refl
+event_not_skipped peers (Take peer (Ok c)) few h = refl
+event_not_skipped peers (Take peer (Err fault)) few h = elim h [ ]
+event_not_skipped peers (Advance peer ticks) few h = refl
+event_not_skipped peers (Show peer tick) few h = refl
 
-pub says_event : (event : Event) → CanBeSaid event → Says (event_line event) event
-says_event event h =
-    let words = event_words event h in
-    let count = event_count event h in
+pub line_of_event : (peers : ℕ) (event : Event) → peers ≤ PLAYERS → IsEncodable peers event
+    → IsLineOf peers (event_line event) event
+line_of_event peers event few h =
+    let words = event_words peers event few h in
+    let count = event_count peers event few h in
     record {
       plain = joined_plain (event_fields event) words (omega (arith, count.1));
-      asks = event_asks event h;
+      not_skipped = event_not_skipped peers event few h;
       fields = event_fields event;
-      parted = joined_fields (event_line event) (event_fields event) (count.0, words_are_fields (event_fields event) words, refl);
-      event_is = read_event event h;
+      fields_are = joined_fields (event_line event) (event_fields event) (count.0, words_are_fields (event_fields event) words, refl);
+      event_is = read_event peers event few h;
     }
 
--- the lines of events say the events
-pub say_events : (events : List Event) → All CanBeSaid events → SayEvents (map event_line events) events
-say_events [] h = tt
-say_events (event ∷ events) h =
-    (says_event event (All-head CanBeSaid event events h), say_events events (All-tail CanBeSaid event events h))
+-- the lines of events
+pub lines_of_events : (peers : ℕ) (events : List Event) → peers ≤ PLAYERS → All (IsEncodable peers) events
+    → AreLinesOf peers (map event_line events) events
+lines_of_events peers [] few h = tt
+lines_of_events peers (event ∷ events) few h = (
+  line_of_event peers event few (All-head (IsEncodable peers) event events h),
+  lines_of_events peers events few (All-tail (IsEncodable peers) event events h),
+)

@@ -1,27 +1,28 @@
--- Lines that each say an event, one after the other.
-use Rattle.std.proofs.Common.{◌≡◌, ℕ, suc, ◌+◌, List, [], ◌∷◌, length, Ok, refl, add-zero, arith}
-use Rattle.pf_text.specs.Driver.{step, answers}
-use Rattle.pf_console.specs.declared.event.Event.{Event}
-use Rattle.pf_console.specs.declared.peer.Peer.{Peer}
+-- Lines that each encode an event, one after the other.
+use Rattle.std.proofs.Common.{◌≡◌, ℕ, suc, ◌+◌, List, [], ◌∷◌, length, Ok, refl, subst, sym, add-zero, arith}
+use Rattle.pf_text.specs.Driver.{step, lines_output}
+use Rattle.pf_peers.specs.declared.event.Event.{Event}
+use Rattle.pf_peers.specs.Session.{Session, reply_to, replies_to, session_after, session_after_all}
+use Rattle.pf_peers.proofs.Sessions.{length-session_after}
 use Rattle.pf_console.specs.declared.phase.Phase.TheVariants.{Playing}
-use Rattle.pf_console.specs.Peer.{reply_of, after, replies, played}
-use Rattle.pf_console.proofs.Calls.{same_scene}
-use Rattle.pf_console.specs.Phase.{says, text_rules}
+use Rattle.pf_console.specs.Phase.{after_line, text_rules}
 use Rattle.pf_console.specs.Print.{reply_text}
-use Rattle.pf_console.specs.Laws.{Says, SayEvents, played_out}
+use Rattle.pf_console.specs.Laws.{IsLineOf, AreLinesOf, session_output}
 
--- the answer to a line that says an event
-answer_is : (p : Peer) (line : List ℕ) (event : Event) → Says line event →
-    step text_rules (Playing p) line ≡ Ok (reply_text p.scene.fixtures (reply_of p event), Playing (after p event))
-unfolding step says
-answer_is p line event h = rw (h.plain, h.asks, h.parted, h.event_is) refl
+-- the transition of a line that encodes an event
+transition_is : (s : Session) (line : List ℕ) (event : Event) → IsLineOf (length s.peers) line event →
+    step text_rules (Playing s) line ≡ Ok (reply_text s.scene.fixtures (reply_to s event), Playing (session_after s event))
+unfolding step after_line
+transition_is s line event h = rw (h.plain, h.not_skipped, h.fields_are, h.event_is) refl
 
-pub answered : (number : ℕ) (p : Peer) (lines : List (List ℕ)) (events : List Event) → SayEvents lines events →
-    answers text_rules number (Playing p) lines ≡ played_out (number + length lines) p events
-unfolding answers replies played
-answered number p [] [] h = rw (add-zero number) refl
-answered number p (line ∷ lines) (event ∷ events) h =
+pub output_is : (number : ℕ) (s : Session) (lines : List (List ℕ)) (events : List Event) → AreLinesOf (length s.peers) lines events →
+    lines_output text_rules number (Playing s) lines ≡ session_output (number + length lines) s events
+unfolding lines_output replies_to session_after_all
+output_is number s [] [] h = rw (add-zero number) refl
+output_is number s (line ∷ lines) (event ∷ events) h =
     let count : number + 1 + length lines ≡ number + suc (length lines) = omega arith in
-    rw (answer_is p line event h.0, answered (number + 1) (after p event) lines events h.1, same_scene p event, count) refl
-answered number p [] (event ∷ events) h = elim h [ ]
-answered number p (line ∷ lines) [] h = elim h [ ]
+    let P : ℕ → Type 0 = λ n. AreLinesOf n lines events in
+    let rest = subst P (sym (length-session_after s event)) h.1 in
+    rw (transition_is s line event h.0, output_is (number + 1) (session_after s event) lines events rest, count) refl
+output_is number s [] (event ∷ events) h = elim h [ ]
+output_is number s (line ∷ lines) [] h = elim h [ ]

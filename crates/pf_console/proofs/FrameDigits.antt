@@ -1,4 +1,4 @@
--- Digits that are not those of 27 bytes spell no command.
+-- Digits that are not those of 27 bytes encode no command.
 use Rattle.std.proofs.Common.{◌≡◌, ◌≢◌, ◌==◌, ℕ, ◌+◌, ◌-◌, ◌*◌, ◌%◌, ◌<◌, Bool, true, false, ◌&&◌, ◌||◌, List, [], ◌∷◌, length, Some, None, Ok, Err, refl, ap, ◌∙◌, arith, nat_le, nat_lt, if◌then◌else◌}
 use Rattle.std.specs.Char.{is_ascii_hexdigit}
 use Rattle.std.specs.List.{list_all}
@@ -10,8 +10,8 @@ use Rattle.hex.specs.declared.error.FromHexError.TheVariants.{InvalidHexCharacte
 use Rattle.pf_text.specs.declared.fault.LineFault.TheVariants.{BadNumber}
 use Rattle.pf_commands.specs.declared.fault.FrameFault.{FrameFault}
 use Rattle.pf_commands.specs.declared.fault.FrameFault.TheVariants.{Short, Long}
-use Rattle.pf_commands.specs.Frame.{decode_of}
-use Rattle.pf_console.specs.Digits.{decoded, spelled, frame_of}
+use Rattle.pf_commands.specs.Frame.{decode}
+use Rattle.pf_console.specs.Digits.{frame_or_error, bytes_or_error, frame_of}
 
 -- ---- one digit
 
@@ -74,26 +74,26 @@ others_fail i (high ∷ low ∷ rest) even e =
 pub odd_digits : (digits : List ℕ) → length digits % 2 ≢ 0 → frame_of digits ≡ Err BadNumber
 odd_digits digits odd = let e : (length digits % 2 == 1) ≡ true = grind (arith, nat_tests) in rw e refl
 
-even_digits : (digits : List ℕ) → length digits % 2 ≡ 0 → frame_of digits ≡ decoded (spelled (decode_pairs 0 digits))
+even_digits : (digits : List ℕ) → length digits % 2 ≡ 0 → frame_of digits ≡ frame_or_error (bytes_or_error (decode_pairs 0 digits))
 even_digits digits even = let e : (length digits % 2 == 1) ≡ false = grind (arith, nat_tests) in rw e refl
 
 pub no_digits : (digits : List ℕ) → length digits % 2 ≡ 0 → list_all is_ascii_hexdigit digits ≡ false → frame_of digits ≡ Err BadNumber
 no_digits digits even e =
-    even_digits digits even ∙ ap (λ bytes. decoded (spelled bytes)) (others_fail 0 digits even e).1
+    even_digits digits even ∙ ap (λ bytes. frame_or_error (bytes_or_error bytes)) (others_fail 0 digits even e).1
 
 -- the bytes of digits alone are judged by their number, where that is not 27
 judged_by_length : (digits : List ℕ) (fault : FrameFault) → length digits % 2 ≡ 0 → list_all is_ascii_hexdigit digits ≡ true
-    → ((bytes : List ℕ) → 2 * length bytes ≡ length digits → decode_of bytes ≡ Err fault) → frame_of digits ≡ Ok (Err fault)
-judged_by_length digits fault even e judged =
+    → ((bytes : List ℕ) → 2 * length bytes ≡ length digits → decode bytes ≡ Err fault) → frame_of digits ≡ Ok (Err fault)
+judged_by_length digits fault even e command_or_error =
     let found = digits_decode 0 digits even e in
-    even_digits digits even ∙ ap (λ bytes. decoded (spelled bytes)) found.1 ∙ ap Ok (judged found.0 found.2)
+    even_digits digits even ∙ ap (λ bytes. frame_or_error (bytes_or_error bytes)) found.1 ∙ ap Ok (command_or_error found.0 found.2)
 
-short_bytes : (bytes : List ℕ) → length bytes < 27 → decode_of bytes ≡ Err Short
-unfolding decode_of
+short_bytes : (bytes : List ℕ) → length bytes < 27 → decode bytes ≡ Err Short
+unfolding decode
 short_bytes bytes less = let e : nat_lt (length bytes) 27 ≡ true = grind (arith, nat_tests) in rw e refl
 
-long_bytes : (bytes : List ℕ) → 27 < length bytes → decode_of bytes ≡ Err Long
-unfolding decode_of
+long_bytes : (bytes : List ℕ) → 27 < length bytes → decode bytes ≡ Err Long
+unfolding decode
 long_bytes bytes more =
     let e : nat_lt (length bytes) 27 ≡ false = grind (arith, nat_tests) in
     let f : nat_lt 27 (length bytes) ≡ true = grind (arith, nat_tests) in
@@ -104,3 +104,6 @@ short_digits digits even e less = judged_by_length digits Short even e (λ bytes
 
 pub long_digits : (digits : List ℕ) → length digits % 2 ≡ 0 → list_all is_ascii_hexdigit digits ≡ true → 54 < length digits → frame_of digits ≡ Ok (Err Long)
 long_digits digits even e more = judged_by_length digits Long even e (λ bytes twice. long_bytes bytes (omega (arith, twice)))
+
+-- what is known of digits of another count than those of a frame
+pub ruleset other_counts = (odd_digits, no_digits, short_digits, long_digits)

@@ -4,27 +4,28 @@ use Rattle.hex.specs.Hex.{decode_of as hex_bytes}
 use Rattle.hex.specs.declared.error.FromHexError.{FromHexError}
 use Rattle.pf_commands.specs.declared.fault.FrameFault.{FrameFault}
 use Rattle.pf_commands.specs.declared.payload.Command.{Command}
-use Rattle.pf_commands.specs.Frame.{decode_of}
+use Rattle.pf_commands.specs.Frame.{decode}
 use Rattle.pf_text.specs.declared.fault.LineFault.{LineFault}
 use Rattle.pf_text.specs.declared.fault.LineFault.TheVariants.{BadNumber}
 
-abbrev pub spelled : Result (List ℕ) FromHexError → Result (List ℕ) LineFault
-spelled (Ok bytes) = Ok bytes
-spelled (Err error) = Err BadNumber
+abbrev pub bytes_or_error : Result (List ℕ) FromHexError → Result (List ℕ) LineFault
+bytes_or_error (Ok bytes) = Ok bytes
+bytes_or_error (Err error) = Err BadNumber
 
--- the bytes that digits of either case spell, two digits a byte
+-- the bytes that digits of either case encode, two digits a byte
 abbrev pub bytes_of : List ℕ → Result (List ℕ) LineFault
-bytes_of digits = spelled (hex_bytes digits)
+bytes_of digits = bytes_or_error (hex_bytes digits)
 
-abbrev pub decoded : Result (List ℕ) LineFault → Result (Result Command FrameFault) LineFault
-decoded (Ok bytes) = Ok (decode_of bytes)
-decoded (Err fault) = Err fault
+abbrev pub frame_or_error : Result (List ℕ) LineFault → Result (Result Command FrameFault) LineFault
+frame_or_error (Ok bytes) = Ok (decode bytes)
+frame_or_error (Err fault) = Err fault
 
--- the command that these bytes spell, or why they spell none
+-- the command that these bytes encode, or why they encode none
 abbrev pub frame_of : List ℕ → Result (Result Command FrameFault) LineFault
-frame_of digits = decoded (bytes_of digits)
+frame_of digits = frame_or_error (bytes_of digits)
 
--- bytes that spell no command
-abbrev pub refused : Result FrameFault LineFault → Result (Result Command FrameFault) LineFault
-refused (Ok fault) = Ok (Err fault)
-refused (Err fault) = Err fault
+-- bytes that encode no command
+abbrev pub invalid_frame
+    : Result FrameFault LineFault → Result (Result Command FrameFault) LineFault
+invalid_frame (Ok fault) = Ok (Err fault)
+invalid_frame (Err fault) = Err fault

@@ -1,5 +1,5 @@
 -- What the program does with the digits of one frame.
-use Rattle.std.specs.Prelude.{◌≡◌, ℕ, List, ◌++◌, Option, Some, Result, Ok, Err, IsOk}
+use Rattle.std.specs.Prelude.{◌≡◌, ℕ, List, ◌++◌, Some, Result, Ok, Err, IsOk}
 use Rattle.pf_text.specs.declared.fault.LineFault.{LineFault}
 use Rattle.pf_commands.specs.declared.fault.FrameFault.{FrameFault}
 use Rattle.pf_commands.specs.declared.payload.Command.{Command}
@@ -9,28 +9,31 @@ use Rattle.pf_console.specs.declared.fault.PlayFault.{PlayFault}
 use Rattle.pf_console.specs.declared.fault.PlayFault.TheVariants.{Frame, Memory, Write}
 use Rattle.pf_console.specs.Digits.{frame_of}
 use Rattle.pf_console.specs.Print.{command_line}
+use Rattle.pf_text.specs.Streams.{Written}
 
-abbrev pub judged : Result Command FrameFault → Result Command DigitsFault
-judged (Ok command) = Ok command
-judged (Err fault) = Err (Refused fault)
+abbrev pub command_or_error : Result Command FrameFault → Result Command DigitsFault
+command_or_error (Ok command) = Ok command
+command_or_error (Err fault) = Err (Refused fault)
 
-abbrev pub framed : Result (Result Command FrameFault) LineFault → Result Command DigitsFault
-framed (Ok frame) = judged frame
-framed (Err fault) = Err BadNumber
+abbrev pub digits_result : Result (Result Command FrameFault) LineFault → Result Command DigitsFault
+digits_result (Ok frame) = command_or_error frame
+digits_result (Err fault) = Err BadNumber
 
--- the command that digits spell, or why they spell none
+-- the command that digits encode, or why they encode none
 abbrev pub digits_command : List ℕ → Result Command DigitsFault
-digits_command digits = framed (frame_of digits)
+digits_command digits = digits_result (frame_of digits)
 
--- What came of the digits, with the bytes that were there before and those that are there after: the line of their
--- command, or its fault and nothing written. Where memory failed, which it does for no fault, nothing was written; where
--- the writer failed, a beginning of the line.
-abbrev pub PrintsFrame : List ℕ → List ℕ → Option (List ℕ) → Result (Unit {0}) PlayFault → Type 0
-PrintsFrame digits before after (Ok done) =
-    (command : Command) × (digits_command digits ≡ Ok command) × (after ≡ Some (before ++ command_line command))
-PrintsFrame digits before after (Err (Frame fault)) = (digits_command digits ≡ Err fault) × (after ≡ Some before)
-PrintsFrame digits before after (Err Memory) = IsOk (digits_command digits) × (after ≡ Some before)
-PrintsFrame digits before after (Err Write) =
+-- The line of the digits' command was written; or their error was returned and nothing written.
+-- Memory runs out only for digits that encode a command, and nothing is written then; where the
+-- writer failed, a part of the line was.
+abbrev pub PrintsFrame : List ℕ → Written → Result (Unit {0}) PlayFault → Type 0
+PrintsFrame digits w (Ok done) =
+    (command : Command) × (digits_command digits ≡ Ok command)
+    × (w.after ≡ Some (w.before ++ command_line command))
+PrintsFrame digits w (Err (Frame fault)) =
+    (digits_command digits ≡ Err fault) × (w.after ≡ Some w.before)
+PrintsFrame digits w (Err Memory) = IsOk (digits_command digits) × (w.after ≡ Some w.before)
+PrintsFrame digits w (Err Write) =
     (command : Command) × (part : List ℕ) × (rest : List ℕ) × (digits_command digits ≡ Ok command)
-    × (part ++ rest ≡ command_line command) × (after ≡ Some (before ++ part))
-PrintsFrame digits before after (Err other) = ⊥
+    × (part ++ rest ≡ command_line command) × (w.after ≡ Some (w.before ++ part))
+PrintsFrame digits w (Err other) = ⊥

@@ -1,32 +1,34 @@
--- The lines of events: what each says. The word and the count of fields come first, then the fields from the left.
-use Rattle.std.specs.Prelude.{ℕ, ℤ, pos, neg_ℤ, List, [], ◌∷◌, Option, Some, None, Result, Ok, Err, codes, if◌then◌else◌}
+-- The lines of events: the event that each encodes. The word and the count of fields are checked
+-- first, then the fields from the left.
+use Rattle.std.specs.Prelude.{ℕ, ℤ, pos, ◌-ℤ◌, neg_ℤ, List, [], ◌∷◌, Option, Some, None, Result, Ok, Err, codes, if◌then◌else◌}
 use Rattle.std.specs.Int.RustNames.{unsigned_abs}
 use Rattle.std.specs.Str.{bytes_eq}
 use Rattle.pf_num.specs.Fx.{max_raw}
 use Rattle.pf_text.specs.declared.fault.LineFault.{LineFault}
 use Rattle.pf_text.specs.declared.fault.LineFault.TheVariants.{BadLine}
 use Rattle.pf_text.specs.Fault.{◌>>=◌}
-use Rattle.pf_text.specs.Numbers.{whole_of, within}
-use Rattle.pf_console.specs.declared.event.Event.{Event}
+use Rattle.pf_text.specs.Numbers.{whole_of, integer}
+use Rattle.pf_rot.specs.Vector.{V2}
+use Rattle.pf_peers.specs.declared.event.Event.{Event}
 use Rattle.pf_commands.specs.declared.payload.Payload.TheVariants.{Push, Turn, Stop}
-use Rattle.pf_console.specs.declared.event.Event.TheVariants.{Issue, Take, Advance, Show}
+use Rattle.pf_peers.specs.declared.event.Event.TheVariants.{Issue, Take, Advance, Show}
 use Rattle.pf_console.specs.declared.grammar.EventWord.{EventWord}
 use Rattle.pf_console.specs.declared.grammar.EventWord.TheVariants as words
 use Rattle.pf_console.specs.declared.grammar.Kind.{Kind}
 use Rattle.pf_console.specs.declared.grammar.Kind.TheVariants as kinds
 use Rattle.pf_console.specs.Digits.{frame_of}
 
-abbrev pub counted : Result ℤ LineFault → Result ℕ LineFault
-counted (Ok z) = Ok (unsigned_abs z)
-counted (Err fault) = Err fault
+abbrev pub as_natural : Result ℤ LineFault → Result ℕ LineFault
+as_natural (Ok z) = Ok (unsigned_abs z)
+as_natural (Err fault) = Err fault
 
--- a peer's number: there is one peer, 0
-abbrev pub peer_of : List ℕ → Result ℕ LineFault
-peer_of field = counted (within (pos 0) (pos 0) (whole_of field))
+-- the number of one of so many peers
+abbrev pub peer_of : ℕ → List ℕ → Result ℕ LineFault
+peer_of peers field = as_natural (integer (pos 0) (pos peers -ℤ pos 1) (whole_of field))
 
 -- a tick, or a count of ticks: below 2^32
 abbrev pub tick_of : List ℕ → Result ℕ LineFault
-tick_of field = counted (within (pos 0) (pos 4294967295) (whole_of field))
+tick_of field = as_natural (integer (pos 0) (pos 4294967295) (whole_of field))
 
 -- the first field of an event's line
 abbrev pub word_of : List ℕ → Option EventWord
@@ -47,82 +49,88 @@ kind_of field =
 
 -- the number of a body
 abbrev pub body_of : List ℕ → Result ℕ LineFault
-body_of field = counted (within (pos 0) (pos 65535) (whole_of field))
+body_of field = as_natural (integer (pos 0) (pos 65535) (whole_of field))
 
 -- a number of physics
 abbrev pub real_of : List ℕ → Result ℤ LineFault
-real_of field = within (neg_ℤ max_raw) max_raw (whole_of field)
+real_of field = integer (neg_ℤ max_raw) max_raw (whole_of field)
 
--- `issue P push B X Y`
-unfoldable pub push_of : List ℕ → List (List ℕ) → Result Event LineFault
-push_of peer (body ∷ x ∷ y ∷ []) = do
-  peer ← peer_of peer
-  body ← body_of body
+-- an impulse
+abbrev pub impulse_of : List ℕ → List ℕ → Result V2 LineFault
+impulse_of x y = do
   x ← real_of x
   y ← real_of y
-  Ok (Issue peer (Push body x y))
-push_of peer args = Err BadLine
+  Ok (record { x = x; y = y })
+
+-- `issue P push B X Y`
+unfoldable pub push_of : ℕ → List ℕ → List (List ℕ) → Result Event LineFault
+push_of peers peer (body ∷ x ∷ y ∷ []) = do
+  peer ← peer_of peers peer
+  body ← body_of body
+  impulse ← impulse_of x y
+  Ok (Issue peer (Push body impulse.x impulse.y))
+push_of peers peer args = Err BadLine
 
 -- `issue P turn B X`
-unfoldable pub turn_of : List ℕ → List (List ℕ) → Result Event LineFault
-turn_of peer (body ∷ x ∷ []) = do
-  peer ← peer_of peer
+unfoldable pub turn_of : ℕ → List ℕ → List (List ℕ) → Result Event LineFault
+turn_of peers peer (body ∷ x ∷ []) = do
+  peer ← peer_of peers peer
   body ← body_of body
   x ← real_of x
   Ok (Issue peer (Turn body x))
-turn_of peer args = Err BadLine
+turn_of peers peer args = Err BadLine
 
 -- `issue P stop B`
-unfoldable pub stop_of : List ℕ → List (List ℕ) → Result Event LineFault
-stop_of peer (body ∷ []) = do
-  peer ← peer_of peer
+unfoldable pub stop_of : ℕ → List ℕ → List (List ℕ) → Result Event LineFault
+stop_of peers peer (body ∷ []) = do
+  peer ← peer_of peers peer
   body ← body_of body
   Ok (Issue peer (Stop body))
-stop_of peer args = Err BadLine
+stop_of peers peer args = Err BadLine
 
-abbrev pub given : Option Kind → List ℕ → List (List ℕ) → Result Event LineFault
-given (Some kinds.Push) peer args = push_of peer args
-given (Some kinds.Turn) peer args = turn_of peer args
-given (Some kinds.Stop) peer args = stop_of peer args
-given None peer args = Err BadLine
+abbrev pub issue_by_kind : ℕ → Option Kind → List ℕ → List (List ℕ) → Result Event LineFault
+issue_by_kind peers (Some kinds.Push) peer args = push_of peers peer args
+issue_by_kind peers (Some kinds.Turn) peer args = turn_of peers peer args
+issue_by_kind peers (Some kinds.Stop) peer args = stop_of peers peer args
+issue_by_kind peers None peer args = Err BadLine
 
 -- `issue P` and what is issued
-unfoldable pub issue_of : List (List ℕ) → Result Event LineFault
-issue_of (peer ∷ kind ∷ args) = given (kind_of kind) peer args
-issue_of args = Err BadLine
+unfoldable pub issue_of : ℕ → List (List ℕ) → Result Event LineFault
+issue_of peers (peer ∷ kind ∷ args) = issue_by_kind peers (kind_of kind) peer args
+issue_of peers args = Err BadLine
 
 -- `take P HEX`
-unfoldable pub take_of : List (List ℕ) → Result Event LineFault
-take_of (peer ∷ digits ∷ []) = do
-  peer ← peer_of peer
+unfoldable pub take_of : ℕ → List (List ℕ) → Result Event LineFault
+take_of peers (peer ∷ digits ∷ []) = do
+  peer ← peer_of peers peer
   frame ← frame_of digits
   Ok (Take peer frame)
-take_of args = Err BadLine
+take_of peers args = Err BadLine
 
 -- `advance P K`
-unfoldable pub advance_of : List (List ℕ) → Result Event LineFault
-advance_of (peer ∷ ticks ∷ []) = do
-  peer ← peer_of peer
+unfoldable pub advance_of : ℕ → List (List ℕ) → Result Event LineFault
+advance_of peers (peer ∷ ticks ∷ []) = do
+  peer ← peer_of peers peer
   ticks ← tick_of ticks
   Ok (Advance peer ticks)
-advance_of args = Err BadLine
+advance_of peers args = Err BadLine
 
 -- `show P T`
-unfoldable pub show_of : List (List ℕ) → Result Event LineFault
-show_of (peer ∷ tick ∷ []) = do
-  peer ← peer_of peer
+unfoldable pub show_of : ℕ → List (List ℕ) → Result Event LineFault
+show_of peers (peer ∷ tick ∷ []) = do
+  peer ← peer_of peers peer
   tick ← tick_of tick
   Ok (Show peer tick)
-show_of args = Err BadLine
+show_of peers args = Err BadLine
 
-abbrev pub spoken : Option EventWord → List (List ℕ) → Result Event LineFault
-spoken (Some words.Issue) args = issue_of args
-spoken (Some words.Take) args = take_of args
-spoken (Some words.Advance) args = advance_of args
-spoken (Some words.Show) args = show_of args
-spoken None args = Err BadLine
+abbrev pub event_by_word : ℕ → Option EventWord → List (List ℕ) → Result Event LineFault
+event_by_word peers (Some words.Issue) args = issue_of peers args
+event_by_word peers (Some words.Take) args = take_of peers args
+event_by_word peers (Some words.Advance) args = advance_of peers args
+event_by_word peers (Some words.Show) args = show_of peers args
+event_by_word peers None args = Err BadLine
 
--- the event that a line's fields say
-unfoldable pub event_of : List (List ℕ) → Result Event LineFault
-event_of [] = Err BadLine
-event_of (word ∷ args) = spoken (word_of word) args
+-- the event that a line's fields encode, on one of so many peers
+unfoldable pub event_of : ℕ → List (List ℕ) → Result Event LineFault
+event_of peers [] = Err BadLine
+event_of peers (word ∷ args) = event_by_word peers (word_of word) args

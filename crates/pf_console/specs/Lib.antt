@@ -1,7 +1,5 @@
 -- What the contracts of this crate cite.
-pub mod Simulation
 pub mod Names
-pub mod Peer
 pub mod Print
 pub mod Grammar
 pub mod Phase
@@ -10,5 +8,5 @@ pub mod Digits
 pub mod FrameText
 pub mod Report
 pub mod Request
-pub mod Saying
+pub mod EventEncoding
 pub mod Laws

@@ -1,4 +1,4 @@
--- The names of faults and answers, as texts have them.
+-- The names of errors and outcomes, as texts print them.
 use Rattle.std.specs.Prelude.{ℕ, List, codes}
 use Rattle.pf_commands.specs.declared.checking.CheckFault.{CheckFault}
 use Rattle.pf_commands.specs.declared.checking.CheckFault.TheVariants.{UnknownBody, StaticBody, NotOwner}

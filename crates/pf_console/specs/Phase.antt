@@ -1,8 +1,9 @@
 -- What the lines of a text mean, one after the other: first a scene, then its peers, then events.
-use Rattle.std.specs.Prelude.{ℕ, ℤ, pos, List, [], ◌∷◌, None, Result, Ok, Err, codes, if◌then◌else◌}
+use Rattle.std.specs.Prelude.{ℕ, ℤ, pos, List, [], ◌∷◌, length, None, Result, Ok, Err, codes, if◌then◌else◌}
+use Rattle.std.specs.Int.RustNames.{unsigned_abs}
 use Rattle.std.specs.Str.{bytes_eq}
 use Rattle.pf_text.specs.declared.fault.LineFault.{LineFault}
-use Rattle.pf_text.specs.Numbers.{whole_of, within}
+use Rattle.pf_text.specs.Numbers.{whole_of, integer}
 use Rattle.pf_text.specs.Driver.{Rules}
 use Rattle.pf_shapes.specs.declared.fault.SceneFault.{SceneFault}
 use Rattle.pf_shapes.specs.declared.fault.SceneFault.TheVariants.{BadLine}
@@ -11,50 +12,56 @@ use Rattle.pf_shapes.specs.declared.reader.Progress.TheVariants.{More, Ended}
 use Rattle.pf_shapes.specs.Fault.{scene_fault_of}
 use Rattle.pf_shapes.specs.Scene.{Scene}
 use Rattle.pf_shapes.specs.SceneText.{line_of}
-use Rattle.pf_console.specs.declared.event.Event.{Event}
-use Rattle.pf_console.specs.declared.peer.Peer.{Peer}
+use Rattle.pf_peers.specs.declared.event.Event.{Event}
+use Rattle.pf_peers.specs.Session.{Session, new_session, reply_to, session_after}
 use Rattle.pf_console.specs.declared.phase.Phase.{Phase}
 use Rattle.pf_console.specs.declared.phase.Phase.TheVariants.{Reading, Seating, Playing}
+use Rattle.pf_console.specs.declared.phase.TheConstants.{MAX_TEXT_BODIES, MAX_TEXT_PEERS}
 use Rattle.pf_console.specs.Grammar.{event_of}
-use Rattle.pf_console.specs.Peer.{fresh, reply_of, after}
 use Rattle.pf_console.specs.Print.{reply_text}
 
--- an answer, and the next phase
-abbrev pub Answer : Type 0
-Answer = Result (List ℕ × Phase) SceneFault
+-- the text of a reply with the next phase, or the error of an invalid line
+abbrev pub Transition : Type 0
+Transition = Result (List ℕ × Phase) SceneFault
 
--- a line of a scene is answered with nothing
-abbrev pub onward : Result Progress SceneFault → Answer
-onward (Ok (More reader)) = Ok ([], Reading reader)
-onward (Ok (Ended scene)) = Ok ([], Seating scene)
-onward (Err fault) = Err fault
+-- a line of a scene has no reply
+abbrev pub after_scene_line : Result Progress SceneFault → Transition
+after_scene_line (Ok (More reader)) = Ok ([], Reading reader)
+after_scene_line (Ok (Ended scene)) = Ok ([], Seating scene)
+after_scene_line (Err fault) = Err fault
 
--- peers begin fresh
-abbrev pub begun : Scene → Result ℤ LineFault → Answer
-begun scene (Ok count) = Ok ([], Playing (fresh scene))
-begun scene (Err fault) = Err (scene_fault_of fault)
+abbrev pub as_count : Result ℤ LineFault → Result ℕ SceneFault
+as_count (Ok count) = Ok (unsigned_abs count)
+as_count (Err fault) = Err (scene_fault_of fault)
 
--- `peers 1`
-unfoldable pub seated : Scene → List (List ℕ) → Answer
-seated scene (word ∷ count ∷ []) =
-    if bytes_eq word (codes "peers") then begun scene (within (pos 1) (pos 1) (whole_of count)) else Err BadLine
-seated scene fields = Err BadLine
+-- the number of peers in `peers N`
+unfoldable pub peer_count_of : List (List ℕ) → Result ℕ SceneFault
+peer_count_of (word ∷ count ∷ []) =
+    if bytes_eq word (codes "peers")
+    then as_count (integer (pos 1) (pos MAX_TEXT_PEERS) (whole_of count)) else Err BadLine
+peer_count_of fields = Err BadLine
 
--- an event is answered with the text of its reply
-abbrev pub happened : Peer → Result Event LineFault → Answer
-happened p (Ok event) = Ok (reply_text p.scene.fixtures (reply_of p event), Playing (after p event))
-happened p (Err fault) = Err (scene_fault_of fault)
+-- so many new peers
+abbrev pub with_peers : Scene → Result ℕ SceneFault → Transition
+with_peers scene (Ok count) = Ok ([], Playing (new_session scene count))
+with_peers scene (Err fault) = Err fault
 
--- what the fields of a line are answered with, and the phase after it
-unfoldable pub says : Phase → List (List ℕ) → Answer
-says (Reading reader) fields = onward (line_of reader fields)
-says (Seating scene) fields = seated scene fields
-says (Playing peer) fields = happened peer (event_of fields)
+-- an event has the text of its reply
+abbrev pub after_event : Session → Result Event LineFault → Transition
+after_event s (Ok event) =
+    Ok (reply_text s.scene.fixtures (reply_to s event), Playing (session_after s event))
+after_event s (Err fault) = Err (scene_fault_of fault)
+
+-- the text of a line's reply, and the phase after the line
+unfoldable pub after_line : Phase → List (List ℕ) → Transition
+after_line (Reading reader) fields = after_scene_line (line_of reader fields)
+after_line (Seating scene) fields = with_peers scene (peer_count_of fields)
+after_line (Playing s) fields = after_event s (event_of (length s.peers) fields)
 
 -- a text by its lines
 abbrev pub text_rules : Rules Phase SceneFault
-text_rules = record { says = says; refused = scene_fault_of }
+text_rules = record { transition = after_line; line_error = scene_fault_of }
 
--- a text begins with a scene, of at most one body
-abbrev pub opening : Phase
-opening = Reading (record { most = 1; scene = None })
+-- a text begins with a scene
+abbrev pub first_phase : Phase
+first_phase = Reading (record { max_bodies = MAX_TEXT_BODIES; scene = None })

@@ -7,10 +7,11 @@ use Rattle.pf_shapes.specs.Body.{BodyState}
 use Rattle.pf_commands.specs.declared.payload.Command.{Command}
 use Rattle.pf_commands.specs.declared.payload.Payload.{Payload}
 use Rattle.pf_commands.specs.declared.payload.Payload.TheVariants.{Push, Turn, Stop}
-use Rattle.pf_console.specs.declared.event.Reply.{Reply}
-use Rattle.pf_console.specs.declared.event.Reply.TheVariants.{Issued, Took, Advanced, Shown, Refused}
-use Rattle.pf_console.specs.declared.event.Refusal.{Refusal}
-use Rattle.pf_console.specs.declared.event.Refusal.TheVariants.{TickLimit, NumbersSpent, Frame, Check, NotReached}
+use Rattle.pf_peers.specs.declared.event.Reply.{Reply}
+use Rattle.pf_peers.specs.declared.event.Reply.TheVariants.{Issued, Took, Advanced, Shown, Refused}
+use Rattle.pf_step.specs.World.{World}
+use Rattle.pf_rollback.specs.declared.fault.Refusal.{Refusal}
+use Rattle.pf_rollback.specs.declared.fault.Refusal.TheVariants.{TickLimit, NumbersSpent, Frame, Check, NotReached}
 use Rattle.pf_console.specs.Names.{frame_fault_name, check_fault_name, put_name}
 
 -- what a command does, and the line's end
@@ -22,7 +23,8 @@ payload_text (Stop body) = line_text (codes " stop") (pos body ∷ [])
 -- the line of a command: its name, and what it does
 unfoldable pub command_line : Command → List ℕ
 command_line c =
-    words_text (codes "tick") (pos c.name.tick ∷ []) ++ words_text (codes " player") (pos c.name.player ∷ [])
+    words_text (codes "tick") (pos c.name.tick ∷ [])
+    ++ words_text (codes " player") (pos c.name.player ∷ [])
     ++ words_text (codes " number") (pos c.name.number ∷ []) ++ payload_text c.payload
 
 -- 1 or 0
@@ -33,45 +35,48 @@ flag false = pos 0
 -- the numbers of a body's line: I X Y C S VX VY W TIMER AWAKE
 abbrev pub body_numbers : ℕ → BodyState → List ℤ
 body_numbers i b =
-    pos i ∷ b.position.x ∷ b.position.y ∷ b.rotation.c ∷ b.rotation.s ∷ b.velocity.x ∷ b.velocity.y ∷ b.spin ∷ pos b.timer ∷ flag b.awake ∷ []
+    pos i ∷ b.position.x ∷ b.position.y ∷ b.rotation.c ∷ b.rotation.s
+    ∷ b.velocity.x ∷ b.velocity.y ∷ b.spin ∷ pos b.timer ∷ flag b.awake ∷ []
 
 abbrev pub body_text : ℕ → BodyState → List ℕ
 body_text i b = line_text (codes "body") (body_numbers i b)
 
 -- the line of a body, if it moves
-abbrev pub moving_text : ℕ → Fixture → BodyState → List ℕ
-moving_text i f b = if is_static f then [] else body_text i b
+abbrev pub dynamic_body_text : ℕ → Fixture → BodyState → List ℕ
+dynamic_body_text i f b = if is_static f then [] else body_text i b
 
 -- a line for each body that moves, the first of which has this number
 unfoldable pub bodies_text : ℕ → List Fixture → List BodyState → List ℕ
 bodies_text i (f ∷ fixtures) (b ∷ bodies) =
-    moving_text i f b ++ bodies_text (i + 1) fixtures bodies
+    dynamic_body_text i f b ++ bodies_text (i + 1) fixtures bodies
 bodies_text i fixtures bodies = []
 
 -- the block of a world
-unfoldable pub block_text : List Fixture → ℕ → ℕ → List BodyState → List ℕ
-block_text fixtures peer tick bodies =
-    line_text (codes "show") (pos peer ∷ pos tick ∷ []) ++ bodies_text 0 fixtures bodies ++ line_text (codes "end") []
+unfoldable pub block_text : List Fixture → ℕ → ℕ → World → List ℕ
+block_text fixtures peer tick w =
+    line_text (codes "show") (pos peer ∷ pos tick ∷ []) ++ bodies_text 0 fixtures w.bodies
+    ++ line_text (codes "end") []
 
--- a word, a peer, and what it is answered
-abbrev pub answer_text : List ℕ → ℕ → List ℕ → List ℕ
-answer_text word peer answer = words_text word (pos peer ∷ []) ++ 32 ∷ answer ++ 10 ∷ []
+-- a word, a peer, and its reply
+abbrev pub reply_line : List ℕ → ℕ → List ℕ → List ℕ
+reply_line word peer answer = words_text word (pos peer ∷ []) ++ 32 ∷ answer ++ 10 ∷ []
 
--- a refusal by its name
-abbrev pub refused_text : List ℕ → List ℕ
-refused_text name = codes "refused " ++ name ++ 10 ∷ []
+-- a rejection by its name
+abbrev pub refusal_line : List ℕ → List ℕ
+refusal_line name = codes "refused " ++ name ++ 10 ∷ []
 
 unfoldable pub refusal_text : Refusal → List ℕ
-refusal_text TickLimit = refused_text (codes "TickLimit")
-refusal_text NumbersSpent = refused_text (codes "NumbersSpent")
-refusal_text (Frame fault) = refused_text (frame_fault_name fault)
-refusal_text (Check fault) = refused_text (check_fault_name fault)
+refusal_text TickLimit = refusal_line (codes "TickLimit")
+refusal_text NumbersSpent = refusal_line (codes "NumbersSpent")
+refusal_text (Frame fault) = refusal_line (frame_fault_name fault)
+refusal_text (Check fault) = refusal_line (check_fault_name fault)
 refusal_text (NotReached reached) = line_text (codes "refused NotReached") (pos reached ∷ [])
 
 -- the text of a reply, whose worlds have these fixtures
 unfoldable pub reply_text : List Fixture → Reply → List ℕ
-reply_text fixtures (Issued peer frame) = answer_text (codes "issue") peer (encode_lower frame)
-reply_text fixtures (Took peer put) = answer_text (codes "take") peer (put_name put)
-reply_text fixtures (Advanced peer reached) = line_text (codes "advance") (pos peer ∷ pos reached ∷ [])
+reply_text fixtures (Issued peer frame) = reply_line (codes "issue") peer (encode_lower frame)
+reply_text fixtures (Took peer put) = reply_line (codes "take") peer (put_name put)
+reply_text fixtures (Advanced peer reached) =
+    line_text (codes "advance") (pos peer ∷ pos reached ∷ [])
 reply_text fixtures (Shown peer tick world) = block_text fixtures peer tick world
 reply_text fixtures (Refused refusal) = refusal_text refusal

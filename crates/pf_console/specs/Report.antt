@@ -1,7 +1,8 @@
--- What the program says of a fault on standard error, and the status it ends with.
+-- What the program prints about an error, and the status that it ends with.
 use Rattle.std.specs.Prelude.{◌≡◌, ℕ, ◌+◌, List, [], ◌++◌, ◌⊎◌, Option, Result, Ok, Err, codes, decimal, string_bytes}
 use Rattle.std.specs.Io.KnownBytes.{Appends}
-use Rattle.pf_text.specs.Lines.{AppendsFront}
+use Rattle.pf_text.specs.Lines.{AppendsPrefix}
+use Rattle.pf_text.specs.Streams.{SinkCall}
 use Rattle.pf_shapes.specs.declared.fault.SceneFault.{SceneFault}
 use Rattle.pf_shapes.specs.declared.fault.SceneFault.TheVariants.{BadLine, BadNumber, TooMany, BadMass, BadSize}
 use Rattle.pf_console.specs.Names.{frame_fault_name}
@@ -21,18 +22,19 @@ abbrev pub digits_fault_name : DigitsFault → List ℕ
 digits_fault_name digits.BadNumber = codes "BadNumber"
 digits_fault_name (digits.Refused fault) = frame_fault_name fault
 
--- the line of a frame that is refused
-unfoldable pub refused_frame : DigitsFault → List ℕ
-refused_frame fault = codes "pf_play: frame: " ++ digits_fault_name fault ++ codes "\n"
+-- the text about an invalid frame
+unfoldable pub invalid_frame_text : DigitsFault → List ℕ
+invalid_frame_text fault = codes "pf_play: frame: " ++ digits_fault_name fault ++ codes "\n"
 
--- the line of a line that is refused
-unfoldable pub refused_line : ℕ → SceneFault → List ℕ
-refused_line number fault = codes "pf_play: line " ++ decimal number ++ codes ": " ++ fault_name fault ++ codes "\n"
+-- the text about an invalid line
+unfoldable pub invalid_line_text : ℕ → SceneFault → List ℕ
+invalid_line_text number fault =
+    codes "pf_play: line " ++ decimal number ++ codes ": " ++ fault_name fault ++ codes "\n"
 
 abbrev pub fault_text : PlayFault → List ℕ
 fault_text (Words text) = string_bytes text
-fault_text (Line number fault) = refused_line number fault
-fault_text (Frame fault) = refused_frame fault
+fault_text (Line number fault) = invalid_line_text number fault
+fault_text (Frame fault) = invalid_frame_text fault
 fault_text Memory = codes "pf_play: out of memory\n"
 fault_text Read = codes "pf_play: read failed\n"
 fault_text Write = codes "pf_play: write failed\n"
@@ -45,16 +47,17 @@ status_of Memory = 3
 status_of Read = 3
 status_of Write = 3
 
--- the same of how the program came out: 0 and no text where there is no fault
-abbrev pub ending_text : Result (Unit {0}) PlayFault → List ℕ
-ending_text (Ok done) = []
-ending_text (Err fault) = fault_text fault
+-- the same of how the program ended: no text and 0 where there is no error
+abbrev pub outcome_text : Result (Unit {0}) PlayFault → List ℕ
+outcome_text (Ok done) = []
+outcome_text (Err fault) = fault_text fault
 
-abbrev pub ending_status : Result (Unit {0}) PlayFault → ℕ
-ending_status (Ok done) = 0
-ending_status (Err fault) = status_of fault
+abbrev pub outcome_status : Result (Unit {0}) PlayFault → ℕ
+outcome_status (Ok done) = 0
+outcome_status (Err fault) = status_of fault
 
--- all of a text was written; or else the writer failed, and a beginning of it was
-abbrev pub Reports : ℕ → ℕ → Option (List ℕ) → Option (List ℕ) → List ℕ → Type 0
-Reports failures after old new text =
-    ((after ≡ failures) × Appends old new text) ⊎ ((after ≡ failures + 1) × AppendsFront old new text)
+-- all of a text was written; or else the writer failed, and a part of it was
+abbrev pub Reports : SinkCall → List ℕ → Type 0
+Reports s text =
+    ((s.failures_after ≡ s.failures_before) × Appends s.before s.after text)
+    ⊎ ((s.failures_after ≡ s.failures_before + 1) × AppendsPrefix s.before s.after text)

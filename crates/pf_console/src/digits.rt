@@ -3,7 +3,7 @@
 ghost use Rattle.std.specs.Prelude.{◌≡◌, ◌≢◌, length};
 ghost use Rattle.std.specs.Char.{is_ascii_hexdigit};
 ghost use Rattle.std.specs.List.{list_all};
-ghost use Rattle.pf_console.specs.Digits.{frame_of, refused};
+ghost use Rattle.pf_console.specs.Digits.{frame_of, invalid_frame};
 
 use pf_commands::{Command, FRAME_LEN, FrameFault, decode};
 use pf_text::LineFault;
@@ -11,8 +11,8 @@ use pf_text::LineFault;
 /// How many digits the frame of a command has.
 const FRAME_DIGITS: usize = 2 * FRAME_LEN;
 
-/// The command that digits of either case spell, two a byte, or why they spell none. They are at fault where they are no
-/// bytes. However many they are, this takes no memory.
+/// The command that digits of either case encode, two a byte, or why they encode none. Digits that
+/// are no bytes are a bad number. Takes no memory, however many they are.
 pub fn frame(digits: &[u8]) -> Result<Result<Command, FrameFault>, LineFault>
     ensures { result ≡ frame_of digits.now }
 {
@@ -33,11 +33,11 @@ fn are_digits(bytes: &[u8]) -> bool
     bytes.iter().all(|byte| byte.is_ascii_hexdigit())
 }
 
-/// Why digits spell no command that are too few or too many.
-#[tactic(auto, using(crate::proofs::FrameDigits::odd_digits, crate::proofs::FrameDigits::no_digits, crate::proofs::FrameDigits::short_digits, crate::proofs::FrameDigits::long_digits))]
+/// Why digits that are too few or too many encode no command.
+#[tactic(auto, using(crate::proofs::FrameDigits::other_counts))]
 fn fault_of_length(digits: &[u8]) -> Result<FrameFault, LineFault>
     requires { length digits.now ≢ FRAME_DIGITS }
-    ensures { frame_of digits.now ≡ refused result }
+    ensures { frame_of digits.now ≡ invalid_frame result }
 {
     if digits.len() % 2 != 0 {
         return Err(LineFault::BadNumber);

@@ -9,13 +9,13 @@ use pf_text::WriteFailed;
 use std::alloc::{AllocError, AllocFailed};
 use thiserror::Error;
 
-/// Why digits are refused that were to spell a frame.
+/// Why digits encode no command.
 #[derive(Clone, Copy, Debug, PartialEq, Eq, Error)]
 pub enum DigitsFault {
-    /// They are no bytes: their number is odd, or one is no hexadecimal digit.
+    /// They are no bytes: their count is odd, or one is no hexadecimal digit.
     #[error("BadNumber")]
     BadNumber,
-    /// The bytes spell no command.
+    /// The bytes encode no command.
     #[error("{0}")]
     Refused(FrameFault),
 }
@@ -23,13 +23,13 @@ pub enum DigitsFault {
 /// Why the program ended with another status than 0.
 #[derive(Debug, Drop, Error)]
 pub enum PlayFault {
-    /// The command line is wrong, and this text says how.
+    /// The command line is invalid, and this text says how.
     #[error("{0}")]
     Words(String),
-    /// The line of this number, from 1, is refused.
+    /// The line of this number, from 1, is invalid.
     #[error("line {0}: {1}")]
     Line(u64, SceneFault),
-    /// The frame of the command line is refused.
+    /// The frame of the command line is invalid.
     #[error("frame: {0}")]
     Frame(DigitsFault),
     /// No memory is left.

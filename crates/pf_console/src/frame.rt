@@ -11,7 +11,7 @@ use pf_commands::Command;
 use pf_text::Sink;
 use std::alloc::Global;
 
-/// The command that digits spell.
+/// The command that digits encode.
 fn read(digits: &[u8]) -> Result<Command, DigitsFault>
     ensures { result ≡ digits_command digits.now }
 {
@@ -22,11 +22,12 @@ fn read(digits: &[u8]) -> Result<Command, DigitsFault>
     }
 }
 
-/// Writes the fields of the frame that hexadecimal digits spell, as one line.
+/// Writes the fields of the frame that hexadecimal digits encode, as one line.
 pub fn frame_text<W: Sink>(alloc: Global, digits: &str, writer: &mut W) -> Result<(), PlayFault>
     requires { W.failures writer.old + 1 < 2 ^ 64 }
     ensures text { (before : List ℕ) → W.contents writer.old ≡ Some before
-        → PrintsFrame digits.now before (W.contents writer.new) result }
+        → PrintsFrame digits.now
+        (record { before = before; after = W.contents writer.new }) result }
     ensures reads_nothing { ReadsNothing result }
     ensures writes_counted { CountsWrites (W.failures writer.old) result (W.failures writer.new) }
 {

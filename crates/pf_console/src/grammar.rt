@@ -1,13 +1,15 @@
 //! The lines of events.
 
-ghost use Rattle.std.specs.Prelude.{◌≡◌, map};
-ghost use Rattle.pf_console.specs.Grammar.{peer_of, tick_of, body_of, real_of, word_of, kind_of, push_of, turn_of, stop_of, issue_of, take_of, advance_of, show_of, event_of};
+ghost use Rattle.std.specs.Prelude.{◌≡◌, ◌<◌, map, IfOk};
+ghost use Rattle.pf_peers.specs.Session.{IsAmong};
+ghost use Rattle.pf_console.specs.Grammar.{peer_of, tick_of, body_of, real_of, impulse_of, word_of, kind_of, push_of, turn_of, stop_of, issue_of, take_of, advance_of, show_of, event_of};
 
 use crate::digits::frame;
-use crate::event::Event;
 use pf_commands::Payload;
 use pf_num::Fx;
-use pf_text::{LineFault, Spelled, number};
+use pf_peers::Event;
+use pf_rot::V2;
+use pf_text::{LineFault, ParsedNumber, number};
 
 /// The first field of an event's line.
 #[derive(Clone, Copy, Debug, PartialEq, Eq)]
@@ -58,12 +60,13 @@ fn kind_in(field: &[u8]) -> Option<Kind>
     }
 }
 
-/// A peer's number.
-fn peer(field: &[u8]) -> Result<u8, LineFault>
-    ensures { result ≡ peer_of field.now }
+/// The number of one of so many peers.
+fn peer(peers: u8, field: &[u8]) -> Result<u8, LineFault>
+    ensures value { result ≡ peer_of peers field.now }
+    ensures range { IfOk result (λ peer. peer < peers) }
 {
-    match number(field, 0, 0) {
-        Spelled::Within(peer) => Ok(peer as u8),
+    match number(field, 0, i64::from(peers) - 1) {
+        ParsedNumber::InRange(peer) => Ok(peer as u8),
         _ => Err(LineFault::BadNumber),
     }
 }
@@ -73,7 +76,7 @@ fn tick(field: &[u8]) -> Result<u32, LineFault>
     ensures { result ≡ tick_of field.now }
 {
     match number(field, 0, 0xffff_ffff) {
-        Spelled::Within(tick) => Ok(tick as u32),
+        ParsedNumber::InRange(tick) => Ok(tick as u32),
         _ => Err(LineFault::BadNumber),
     }
 }
@@ -83,7 +86,7 @@ fn body(field: &[u8]) -> Result<u16, LineFault>
     ensures { result ≡ body_of field.now }
 {
     match number(field, 0, 0xffff) {
-        Spelled::Within(body) => Ok(body as u16),
+        ParsedNumber::InRange(body) => Ok(body as u16),
         _ => Err(LineFault::BadNumber),
     }
 }
@@ -93,36 +96,47 @@ fn real(field: &[u8]) -> Result<Fx, LineFault>
     ensures { result ≡ real_of field.now }
 {
     match number(field, Fx::MAX.neg().raw(), Fx::MAX.raw()) {
-        Spelled::Within(raw) => Fx::from_raw(raw).ok_or(LineFault::BadNumber),
+        ParsedNumber::InRange(raw) => Fx::from_raw(raw).ok_or(LineFault::BadNumber),
         _ => Err(LineFault::BadNumber),
     }
 }
 
+/// An impulse, in units of 2^-24.
+fn impulse(x: &[u8], y: &[u8]) -> Result<V2, LineFault>
+    ensures { result ≡ impulse_of x.now y.now }
+{
+    Ok(V2 {
+        x: real(x)?,
+        y: real(y)?,
+    })
+}
+
 /// `issue P push B X Y`.
 #[tactic(auto, unfolding(crate::specs::Grammar::push_of))]
-fn push(of: &[u8], arguments: &[&[u8]]) -> Result<Event, LineFault>
-    ensures { result ≡ push_of of.now (map (λ field. field.now) arguments.now) }
+fn push(peers: u8, of: &[u8], arguments: &[&[u8]]) -> Result<Event, LineFault>
+    ensures value { result ≡ push_of peers of.now (map (λ field. field.now) arguments.now) }
+    ensures peer { IfOk result (IsAmong peers) }
 {
     let [moved, x, y] = arguments else {
         return Err(LineFault::BadLine);
     };
-    let peer = peer(of)?;
+    let peer = peer(peers, of)?;
     let body = body(moved)?;
-    let x = real(x)?;
-    let y = real(y)?;
+    let V2 { x, y } = impulse(x, y)?;
     let payload = Payload::Push { body, x, y };
     Ok(Event::Issue { peer, payload })
 }
 
 /// `issue P turn B X`.
 #[tactic(auto, unfolding(crate::specs::Grammar::turn_of))]
-fn turn(of: &[u8], arguments: &[&[u8]]) -> Result<Event, LineFault>
-    ensures { result ≡ turn_of of.now (map (λ field. field.now) arguments.now) }
+fn turn(peers: u8, of: &[u8], arguments: &[&[u8]]) -> Result<Event, LineFault>
+    ensures value { result ≡ turn_of peers of.now (map (λ field. field.now) arguments.now) }
+    ensures peer { IfOk result (IsAmong peers) }
 {
     let [moved, x] = arguments else {
         return Err(LineFault::BadLine);
     };
-    let peer = peer(of)?;
+    let peer = peer(peers, of)?;
     let body = body(moved)?;
     let x = real(x)?;
     let payload = Payload::Turn { body, x };
@@ -131,13 +145,14 @@ fn turn(of: &[u8], arguments: &[&[u8]]) -> Result<Event, LineFault>
 
 /// `issue P stop B`.
 #[tactic(auto, unfolding(crate::specs::Grammar::stop_of))]
-fn stop(of: &[u8], arguments: &[&[u8]]) -> Result<Event, LineFault>
-    ensures { result ≡ stop_of of.now (map (λ field. field.now) arguments.now) }
+fn stop(peers: u8, of: &[u8], arguments: &[&[u8]]) -> Result<Event, LineFault>
+    ensures value { result ≡ stop_of peers of.now (map (λ field. field.now) arguments.now) }
+    ensures peer { IfOk result (IsAmong peers) }
 {
     let [moved] = arguments else {
         return Err(LineFault::BadLine);
     };
-    let peer = peer(of)?;
+    let peer = peer(peers, of)?;
     let body = body(moved)?;
     let payload = Payload::Stop { body };
     Ok(Event::Issue { peer, payload })
@@ -145,74 +160,79 @@ fn stop(of: &[u8], arguments: &[&[u8]]) -> Result<Event, LineFault>
 
 /// `issue P` and what is issued.
 #[tactic(auto, unfolding(crate::specs::Grammar::issue_of))]
-fn issue(arguments: &[&[u8]]) -> Result<Event, LineFault>
-    ensures { result ≡ issue_of (map (λ field. field.now) arguments.now) }
+fn issue(peers: u8, arguments: &[&[u8]]) -> Result<Event, LineFault>
+    ensures value { result ≡ issue_of peers (map (λ field. field.now) arguments.now) }
+    ensures peer { IfOk result (IsAmong peers) }
 {
     let [of, kind, arguments @ ..] = arguments else {
         return Err(LineFault::BadLine);
     };
     match kind_in(kind) {
-        Some(Kind::Push) => push(of, arguments),
-        Some(Kind::Turn) => turn(of, arguments),
-        Some(Kind::Stop) => stop(of, arguments),
+        Some(Kind::Push) => push(peers, of, arguments),
+        Some(Kind::Turn) => turn(peers, of, arguments),
+        Some(Kind::Stop) => stop(peers, of, arguments),
         None => Err(LineFault::BadLine),
     }
 }
 
 /// `take P HEX`.
 #[tactic(auto, unfolding(crate::specs::Grammar::take_of))]
-fn take(arguments: &[&[u8]]) -> Result<Event, LineFault>
-    ensures { result ≡ take_of (map (λ field. field.now) arguments.now) }
+fn take(peers: u8, arguments: &[&[u8]]) -> Result<Event, LineFault>
+    ensures value { result ≡ take_of peers (map (λ field. field.now) arguments.now) }
+    ensures peer { IfOk result (IsAmong peers) }
 {
     let [of, digits] = arguments else {
         return Err(LineFault::BadLine);
     };
-    let peer = peer(of)?;
+    let peer = peer(peers, of)?;
     let frame = frame(digits)?;
     Ok(Event::Take { peer, frame })
 }
 
 /// `advance P K`.
 #[tactic(auto, unfolding(crate::specs::Grammar::advance_of))]
-fn advance(arguments: &[&[u8]]) -> Result<Event, LineFault>
-    ensures { result ≡ advance_of (map (λ field. field.now) arguments.now) }
+fn advance(peers: u8, arguments: &[&[u8]]) -> Result<Event, LineFault>
+    ensures value { result ≡ advance_of peers (map (λ field. field.now) arguments.now) }
+    ensures peer { IfOk result (IsAmong peers) }
 {
     let [of, ticks] = arguments else {
         return Err(LineFault::BadLine);
     };
     Ok(Event::Advance {
-        peer: peer(of)?,
+        peer: peer(peers, of)?,
         ticks: tick(ticks)?,
     })
 }
 
 /// `show P T`.
 #[tactic(auto, unfolding(crate::specs::Grammar::show_of))]
-fn show(arguments: &[&[u8]]) -> Result<Event, LineFault>
-    ensures { result ≡ show_of (map (λ field. field.now) arguments.now) }
+fn show(peers: u8, arguments: &[&[u8]]) -> Result<Event, LineFault>
+    ensures value { result ≡ show_of peers (map (λ field. field.now) arguments.now) }
+    ensures peer { IfOk result (IsAmong peers) }
 {
     let [of, at] = arguments else {
         return Err(LineFault::BadLine);
     };
     Ok(Event::Show {
-        peer: peer(of)?,
+        peer: peer(peers, of)?,
         tick: tick(at)?,
     })
 }
 
-/// The event that a line's fields say.
+/// The event that a line's fields encode, on one of so many peers.
 #[tactic(auto, unfolding(crate::specs::Grammar::event_of))]
-pub fn event(fields: &[&[u8]]) -> Result<Event, LineFault>
-    ensures { result ≡ event_of (map (λ field. field.now) fields.now) }
+pub fn event(peers: u8, fields: &[&[u8]]) -> Result<Event, LineFault>
+    ensures value { result ≡ event_of peers (map (λ field. field.now) fields.now) }
+    ensures peer { IfOk result (IsAmong peers) }
 {
     let [first, arguments @ ..] = fields else {
         return Err(LineFault::BadLine);
     };
     match word(first) {
-        Some(EventWord::Issue) => issue(arguments),
-        Some(EventWord::Take) => take(arguments),
-        Some(EventWord::Advance) => advance(arguments),
-        Some(EventWord::Show) => show(arguments),
+        Some(EventWord::Issue) => issue(peers, arguments),
+        Some(EventWord::Take) => take(peers, arguments),
+        Some(EventWord::Advance) => advance(peers, arguments),
+        Some(EventWord::Show) => show(peers, arguments),
         None => Err(LineFault::BadLine),
     }
 }

@@ -1,11 +1,11 @@
-//! The names of faults and answers, as texts have them.
+//! The names of errors and outcomes, as texts print them.
 
 ghost use Rattle.std.specs.Prelude.{◌≡◌};
 ghost use Rattle.pf_console.specs.Names.{frame_fault_name, check_fault_name, put_name};
 
 use pf_commands::{CheckFault, FrameFault, Put};
 
-/// The name of a fault of a frame.
+/// The name of a frame's error.
 pub fn frame_fault_name(fault: FrameFault) -> &'static str
     ensures { result.now ≡ frame_fault_name fault }
 {
@@ -19,7 +19,7 @@ pub fn frame_fault_name(fault: FrameFault) -> &'static str
     }
 }
 
-/// The name of a fault of a command that a scene does not allow.
+/// The name of the reason why a scene does not allow a command.
 pub fn check_fault_name(fault: CheckFault) -> &'static str
     ensures { result.now ≡ check_fault_name fault }
 {

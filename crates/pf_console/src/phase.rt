@@ -1,22 +1,25 @@
 //! What the lines of a text mean, one after the other.
 
-ghost use Rattle.std.specs.Prelude.{◌≡◌, [], Ok, map};
-ghost use Rattle.pf_text.specs.Driver.{silent, Tells};
+ghost use Rattle.std.specs.Prelude.{◌≡◌, ◌≤◌, [], Ok, IfOk, map, length};
+ghost use Rattle.pf_text.specs.Driver.{without_output, Produces};
+ghost use Rattle.pf_peers.specs.Session.{IsAmong};
 ghost use Rattle.pf_console.specs.Grammar.{event_of};
-ghost use Rattle.pf_console.specs.Phase.{onward, seated, happened, text_rules};
+ghost use Rattle.pf_console.specs.Phase.{after_event, after_scene_line, peer_count_of, text_rules, with_peers};
 
-use crate::event::Event;
 use crate::grammar::event;
-use crate::peer::Peer;
 use crate::print::reply_text;
+use pf_peers::{Event, Session};
 use pf_shapes::{Progress, Scene, SceneFault, SceneReader};
 use pf_text::{LineFault, Machine, TakeRefusal, integer};
 use std::alloc::Global;
 
-/// How many bodies a scene may have.
-const MOST_BODIES: usize = 1;
+/// How many bodies a text's scene may have.
+pub const MAX_TEXT_BODIES: usize = 1;
 
-/// Where a text stands.
+/// How many peers a text may have.
+pub const MAX_TEXT_PEERS: u8 = 1;
+
+/// Which part of a text comes next.
 #[derive(Drop)]
 pub enum Phase {
     /// In its scene.
@@ -24,24 +27,24 @@ pub enum Phase {
     /// Behind the scene, before its peers.
     Seating(Scene),
     /// Among the events.
-    Playing(Peer),
+    Playing(Session),
 }
 
 impl Phase {
     ghost use Rattle.std.specs.Prelude.{◌≡◌};
-    ghost use Rattle.pf_console.specs.Phase.{opening};
+    ghost use Rattle.pf_console.specs.Phase.{first_phase};
 
     /// The phase in which a text begins.
-    pub fn opening() -> Phase
-        ensures { result ≡ opening }
+    pub fn first() -> Phase
+        ensures { result ≡ first_phase }
     {
-        Phase::Reading(SceneReader::new(MOST_BODIES))
+        Phase::Reading(SceneReader::new(MAX_TEXT_BODIES))
     }
 }
 
 /// The phase after a line of a scene.
-fn onward(progress: Progress) -> Phase
-    ensures { onward (Ok progress) ≡ Ok ([], result) }
+fn after_scene_line(progress: Progress) -> Phase
+    ensures { after_scene_line (Ok progress) ≡ Ok ([], result) }
 {
     match progress {
         Progress::More(reader) => Phase::Reading(reader),
@@ -49,10 +52,11 @@ fn onward(progress: Progress) -> Phase
     }
 }
 
-/// `peers 1`.
-#[tactic(auto, unfolding(crate::specs::Phase::seated))]
-fn seated(alloc: Global, scene: Scene, fields: &[&[u8]]) -> Result<Phase, SceneFault>
-    ensures { seated scene (map (λ field. field.now) fields.now) ≡ silent result }
+/// The number of peers in `peers N`.
+#[tactic(auto, unfolding(crate::specs::Phase::peer_count_of))]
+fn peer_count(fields: &[&[u8]]) -> Result<u8, SceneFault>
+    ensures value { result ≡ peer_count_of (map (λ field. field.now) fields.now) }
+    ensures range { IfOk result (λ count. count ≤ MAX_TEXT_PEERS) }
 {
     let [word, count] = fields else {
         return Err(SceneFault::BadLine);
@@ -60,34 +64,50 @@ fn seated(alloc: Global, scene: Scene, fields: &[&[u8]]) -> Result<Phase, SceneF
     if *word != b"peers".as_slice() {
         return Err(SceneFault::BadLine);
     }
-    integer(count, 1, 1)?;
-    Ok(Phase::Playing(Peer::new(alloc, scene)))
+    let count = integer(count, 1, i64::from(MAX_TEXT_PEERS))?;
+    Ok(count as u8)
 }
 
-/// The answer to an event, and the phase after it.
-fn answered(
+/// The phase after `peers N`.
+fn after_peers_line(
     alloc: Global,
-    peer: Peer,
-    event: Event,
-) -> Result<(String, Phase), TakeRefusal<SceneFault>>
-    ensures { Tells result (happened peer (Ok event)) }
-{
-    let mut peer = peer;
-    let reply = peer.answer(alloc, event)?;
-    let text = reply_text(alloc, peer.scene.fixtures(), &reply)?;
-    Ok((text, Phase::Playing(peer)))
-}
-
-/// The answer to a line of an event, and the phase after it.
-fn happened(
-    alloc: Global,
-    peer: Peer,
+    scene: Scene,
     fields: &[&[u8]],
 ) -> Result<(String, Phase), TakeRefusal<SceneFault>>
-    ensures { Tells result (happened peer (event_of (map (λ field. field.now) fields.now))) }
+    ensures { Produces result
+        (with_peers scene (peer_count_of (map (λ field. field.now) fields.now))) }
 {
-    match event(fields) {
-        Ok(event) => answered(alloc, peer, event),
+    let count = peer_count(fields).map_err(TakeRefusal::Fault)?;
+    let session = Session::new(alloc, scene, count)?;
+    Ok((String::new(alloc), Phase::Playing(session)))
+}
+
+/// The reply to an event, and the phase after it.
+fn after_known_event(
+    alloc: Global,
+    session: Session,
+    event: Event,
+) -> Result<(String, Phase), TakeRefusal<SceneFault>>
+    requires { IsAmong (length session.peers) event }
+    ensures { Produces result (after_event session (Ok event)) }
+{
+    let mut session = session;
+    let reply = session.answer(alloc, event)?;
+    let text = reply_text(alloc, session.scene().fixtures(), &reply)?;
+    Ok((text, Phase::Playing(session)))
+}
+
+/// The reply to the event of a line, and the phase after it.
+fn after_event(
+    alloc: Global,
+    session: Session,
+    fields: &[&[u8]],
+) -> Result<(String, Phase), TakeRefusal<SceneFault>>
+    ensures { Produces result (after_event session
+        (event_of (length session.peers) (map (λ field. field.now) fields.now))) }
+{
+    match event(session.peer_count(), fields) {
+        Ok(event) => after_known_event(alloc, session, event),
         Err(fault) => Err(TakeRefusal::Fault(SceneFault::from(fault))),
     }
 }
@@ -97,11 +117,11 @@ impl Machine<()> for Phase {
 
     ghost rules = { text_rules };
 
-    fn refuse(fault: LineFault) -> SceneFault {
+    fn line_error(fault: LineFault) -> SceneFault {
         SceneFault::from(fault)
     }
 
-    #[tactic(auto, unfolding(crate::specs::Phase::says))]
+    #[tactic(auto, unfolding(crate::specs::Phase::after_line))]
     fn take(
         self,
         alloc: Global,
@@ -111,13 +131,10 @@ impl Machine<()> for Phase {
         match self {
             Phase::Reading(reader) => {
                 let progress = reader.take(alloc, fields)?;
-                Ok((String::new(alloc), onward(progress)))
+                Ok((String::new(alloc), after_scene_line(progress)))
             }
-            Phase::Seating(scene) => {
-                let next = seated(alloc, scene, fields).map_err(TakeRefusal::Fault)?;
-                Ok((String::new(alloc), next))
-            }
-            Phase::Playing(peer) => happened(alloc, peer, fields),
+            Phase::Seating(scene) => after_peers_line(alloc, scene, fields),
+            Phase::Playing(session) => after_event(alloc, session, fields),
         }
     }
 }

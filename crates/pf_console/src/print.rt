@@ -2,12 +2,14 @@
 
 ghost use Rattle.std.specs.Prelude.{◌≡◌, ◌++◌, ◌<◌, ◌^◌, OnOk, IfOk};
 ghost use Rattle.std.specs.String.{string_bytes};
-ghost use Rattle.pf_console.specs.Print.{payload_text, command_line, body_numbers, moving_text, bodies_text, block_text, answer_text, refused_text, refusal_text, reply_text};
+ghost use Rattle.pf_console.specs.Print.{payload_text, command_line, body_numbers, dynamic_body_text, bodies_text, block_text, reply_line, refusal_line, refusal_text, reply_text};
 
-use crate::event::{Refusal, Reply};
 use crate::names::{check_fault_name, frame_fault_name, put_name};
 use pf_commands::{Command, Payload};
+use pf_peers::Reply;
+use pf_rollback::Refusal;
 use pf_shapes::{BodyState, Fixture};
+use pf_step::World;
 use pf_text::{push_line, push_words};
 use std::alloc::{AllocError, Global};
 
@@ -16,7 +18,8 @@ const LINE_ROOM: usize = 64;
 
 /// Adds what a command does, and the line's end.
 fn push_payload(text: &mut String, payload: &Payload) -> Result<(), AllocError>
-    ensures { OnOk result (string_bytes text.new ≡ string_bytes text.old ++ payload_text payload.now) }
+    ensures { OnOk result (string_bytes text.new
+        ≡ string_bytes text.old ++ payload_text payload.now) }
 {
     match *payload {
         Payload::Push { body, x, y } => {
@@ -67,7 +70,8 @@ fn push_body(
     body: &BodyState,
 ) -> Result<(), AllocError>
     requires { number < 2 ^ 63 }
-    ensures { OnOk result (string_bytes text.new ≡ string_bytes text.old ++ moving_text number fixture.now body.now) }
+    ensures { OnOk result (string_bytes text.new
+        ≡ string_bytes text.old ++ dynamic_body_text number fixture.now body.now) }
 {
     if fixture.is_static() {
         return Ok(());
@@ -81,7 +85,8 @@ fn push_bodies(
     fixtures: &[Fixture],
     bodies: &[BodyState],
 ) -> Result<(), AllocError>
-    ensures { OnOk result (string_bytes text.new ≡ string_bytes text.old ++ bodies_text 0 fixtures.now bodies.now) }
+    ensures { OnOk result (string_bytes text.new
+        ≡ string_bytes text.old ++ bodies_text 0 fixtures.now bodies.now) }
 {
     for i in 0..fixtures.len().min(bodies.len()) {
         push_body(text, i, &fixtures[i], &bodies[i])?;
@@ -89,9 +94,10 @@ fn push_bodies(
     Ok(())
 }
 
-/// Adds a line: a word, a peer, and what it is answered.
-fn push_answer(text: &mut String, word: &str, peer: u8, answer: &str) -> Result<(), AllocError>
-    ensures { OnOk result (string_bytes text.new ≡ string_bytes text.old ++ answer_text word.now peer answer.now) }
+/// Adds a line: a word, a peer, and its reply.
+fn push_reply(text: &mut String, word: &str, peer: u8, answer: &str) -> Result<(), AllocError>
+    ensures { OnOk result (string_bytes text.new
+        ≡ string_bytes text.old ++ reply_line word.now peer answer.now) }
 {
     push_words(text, word, &[i64::from(peer)])?;
     text.push(' ')?;
@@ -99,25 +105,25 @@ fn push_answer(text: &mut String, word: &str, peer: u8, answer: &str) -> Result<
     text.push('\n')
 }
 
-/// Adds the line of a refusal by its name.
-fn push_refused(text: &mut String, name: &str) -> Result<(), AllocError>
-    ensures { OnOk result (string_bytes text.new ≡ string_bytes text.old ++ refused_text name.now) }
+/// Adds the line of a rejection by its name.
+fn push_refusal_line(text: &mut String, name: &str) -> Result<(), AllocError>
+    ensures { OnOk result (string_bytes text.new ≡ string_bytes text.old ++ refusal_line name.now) }
 {
     text.push_str("refused ")?;
     text.push_str(name)?;
     text.push('\n')
 }
 
-/// Adds the text of a refusal.
+/// Adds the text of a rejection.
 #[tactic(auto, unfolding(crate::specs::Print::refusal_text))]
 fn push_refusal(text: &mut String, refusal: Refusal) -> Result<(), AllocError>
     ensures { OnOk result (string_bytes text.new ≡ string_bytes text.old ++ refusal_text refusal) }
 {
     match refusal {
-        Refusal::TickLimit => push_refused(text, "TickLimit"),
-        Refusal::NumbersSpent => push_refused(text, "NumbersSpent"),
-        Refusal::Frame(fault) => push_refused(text, frame_fault_name(fault)),
-        Refusal::Check(fault) => push_refused(text, check_fault_name(fault)),
+        Refusal::TickLimit => push_refusal_line(text, "TickLimit"),
+        Refusal::NumbersSpent => push_refusal_line(text, "NumbersSpent"),
+        Refusal::Frame(fault) => push_refusal_line(text, frame_fault_name(fault)),
+        Refusal::Check(fault) => push_refusal_line(text, check_fault_name(fault)),
         Refusal::NotReached(reached) => {
             push_line(text, "refused NotReached", &[i64::from(reached)])
         }
@@ -131,12 +137,13 @@ fn push_block(
     fixtures: &[Fixture],
     peer: u8,
     tick: u32,
-    bodies: &[BodyState],
+    world: &World,
 ) -> Result<(), AllocError>
-    ensures { OnOk result (string_bytes text.new ≡ string_bytes text.old ++ block_text fixtures.now peer tick bodies.now) }
+    ensures { OnOk result (string_bytes text.new
+        ≡ string_bytes text.old ++ block_text fixtures.now peer tick world.now) }
 {
     push_line(text, "show", &[i64::from(peer), i64::from(tick)])?;
-    push_bodies(text, fixtures, bodies)?;
+    push_bodies(text, fixtures, world.bodies())?;
     push_line(text, "end", &[])
 }
 
@@ -149,9 +156,9 @@ pub fn reply_text(alloc: Global, fixtures: &[Fixture], reply: &Reply) -> Result<
     match reply {
         Reply::Issued { peer, frame } => {
             let digits = hex::encode(alloc, frame.as_slice())?;
-            push_answer(&mut text, "issue", *peer, &digits)?;
+            push_reply(&mut text, "issue", *peer, &digits)?;
         }
-        Reply::Took { peer, put } => push_answer(&mut text, "take", *peer, put_name(*put))?,
+        Reply::Took { peer, put } => push_reply(&mut text, "take", *peer, put_name(*put))?,
         Reply::Advanced { peer, reached } => {
             push_line(
                 &mut text,
@@ -160,7 +167,7 @@ pub fn reply_text(alloc: Global, fixtures: &[Fixture], reply: &Reply) -> Result<
             )?;
         }
         Reply::Shown { peer, tick, world } => {
-            push_block(&mut text, fixtures, *peer, *tick, world.bodies())?;
+            push_block(&mut text, fixtures, *peer, *tick, world)?;
         }
         Reply::Refused(refusal) => push_refusal(&mut text, *refusal)?,
     }

@@ -1,7 +1,7 @@
-//! What the program says of a fault, and the status that it ends with.
+//! What the program prints about an error, and the status that it ends with.
 
 ghost use Rattle.std.specs.Prelude.{◌≡◌, ◌+◌, ◌^◌, ◌<◌};
-ghost use Rattle.pf_console.specs.Report.{fault_name, digits_fault_name, refused_line, refused_frame, fault_text, status_of, ending_text, ending_status, Reports};
+ghost use Rattle.pf_console.specs.Report.{fault_name, digits_fault_name, invalid_line_text, invalid_frame_text, fault_text, status_of, outcome_text, outcome_status, Reports};
 
 use crate::fault::{DigitsFault, PlayFault};
 use crate::names::frame_fault_name;
@@ -10,10 +10,10 @@ use itoa::Buffer;
 use pf_shapes::SceneFault;
 use pf_text::Sink;
 
-/// More bytes than the line of a refused line can have.
+/// More bytes than the text about an invalid line can have.
 const FAULT_ROOM: usize = 64;
 
-/// The name of a fault.
+/// The name of an error of a line.
 fn fault_name(fault: SceneFault) -> &'static str
     ensures { result.now ≡ fault_name fault }
 {
@@ -26,7 +26,7 @@ fn fault_name(fault: SceneFault) -> &'static str
     }
 }
 
-/// The name of a fault of digits.
+/// The name of an error of digits.
 fn digits_fault_name(fault: DigitsFault) -> &'static str
     ensures { result.now ≡ digits_fault_name fault }
 {
@@ -36,10 +36,10 @@ fn digits_fault_name(fault: DigitsFault) -> &'static str
     }
 }
 
-/// The line of a frame that is refused.
-#[tactic(auto, unfolding(crate::specs::Report::refused_frame))]
-fn refused_frame(fault: DigitsFault) -> ArrayString<FAULT_ROOM>
-    ensures { result.bytes ≡ refused_frame fault }
+/// The text about an invalid frame.
+#[tactic(auto, unfolding(crate::specs::Report::invalid_frame_text))]
+fn invalid_frame_text(fault: DigitsFault) -> ArrayString<FAULT_ROOM>
+    ensures { result.bytes ≡ invalid_frame_text fault }
 {
     let mut line = ArrayString::new();
     line.push_str("pf_play: frame: ");
@@ -48,10 +48,10 @@ fn refused_frame(fault: DigitsFault) -> ArrayString<FAULT_ROOM>
     line
 }
 
-/// The line of a line that is refused, in room of its own: memory may be what is wanting.
-#[tactic(auto, unfolding(crate::specs::Report::refused_line))]
-fn refused_line(number: u64, fault: SceneFault) -> ArrayString<FAULT_ROOM>
-    ensures { result.bytes ≡ refused_line number fault }
+/// The text about an invalid line, on the stack: it takes no memory.
+#[tactic(auto, unfolding(crate::specs::Report::invalid_line_text))]
+fn invalid_line_text(number: u64, fault: SceneFault) -> ArrayString<FAULT_ROOM>
+    ensures { result.bytes ≡ invalid_line_text number fault }
 {
     let mut line = ArrayString::new();
     line.push_str("pf_play: line ");
@@ -62,13 +62,19 @@ fn refused_line(number: u64, fault: SceneFault) -> ArrayString<FAULT_ROOM>
     line
 }
 
-/// Answers the status that the program ends with, 0 where there is no fault; of a fault it writes what is to be said.
+/// Returns the status that the program ends with, 0 where there is no error, and writes the text
+/// about an error.
 #[tactic(auto, using(pf_text::proofs::Taking::appends_none))]
 pub fn finish<W: Sink>(outcome: Result<(), PlayFault>, writer: &mut W) -> u8
     requires { W.failures writer.old + 1 < 2 ^ 64 }
-    ensures status { result ≡ ending_status outcome }
-    ensures text { Reports (W.failures writer.old) (W.failures writer.new)
-        (W.contents writer.old) (W.contents writer.new) (ending_text outcome) }
+    ensures status { result ≡ outcome_status outcome }
+    ensures text { Reports (record {
+      before = W.contents writer.old;
+      after = W.contents writer.new;
+      failures_before = W.failures writer.old;
+      failures_after = W.failures writer.new;
+    })
+        (outcome_text outcome) }
 {
     match outcome {
         Ok(()) => 0,
@@ -76,19 +82,25 @@ pub fn finish<W: Sink>(outcome: Result<(), PlayFault>, writer: &mut W) -> u8
     }
 }
 
-/// Writes what is to be said of a fault, and answers its status. A writer that fails changes no status.
+/// Writes the text about an error, and returns its status. A writer that fails does not change the
+/// status.
 pub fn report<W: Sink>(fault: &PlayFault, writer: &mut W) -> u8
     requires { W.failures writer.old + 1 < 2 ^ 64 }
     ensures status { result ≡ status_of fault.now }
-    ensures text { Reports (W.failures writer.old) (W.failures writer.new)
-        (W.contents writer.old) (W.contents writer.new) (fault_text fault.now) }
+    ensures text { Reports (record {
+      before = W.contents writer.old;
+      after = W.contents writer.new;
+      failures_before = W.failures writer.old;
+      failures_after = W.failures writer.new;
+    })
+        (fault_text fault.now) }
 {
     let _ = match fault {
         PlayFault::Words(text) => writer.write_all(text.as_bytes()),
         PlayFault::Line(number, name) => {
-            writer.write_all(refused_line(*number, *name).as_str().as_bytes())
+            writer.write_all(invalid_line_text(*number, *name).as_str().as_bytes())
         }
-        PlayFault::Frame(name) => writer.write_all(refused_frame(*name).as_str().as_bytes()),
+        PlayFault::Frame(name) => writer.write_all(invalid_frame_text(*name).as_str().as_bytes()),
         PlayFault::Memory => writer.write_all(b"pf_play: out of memory\n"),
         PlayFault::Read => writer.write_all(b"pf_play: read failed\n"),
         PlayFault::Write => writer.write_all(b"pf_play: write failed\n"),
@@ -96,7 +108,7 @@ pub fn report<W: Sink>(fault: &PlayFault, writer: &mut W) -> u8
     status(fault)
 }
 
-/// The status of a fault.
+/// The status of an error.
 fn status(fault: &PlayFault) -> u8
     ensures { result ≡ status_of fault.now }
 {

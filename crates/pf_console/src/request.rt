@@ -1,6 +1,7 @@
 //! What a call of the program asks for, and doing it.
 
 ghost use Rattle.std.specs.Prelude.{◌≡◌, ℕ, ◌+◌, ◌^◌, ◌<◌, List, Some};
+ghost use Rattle.pf_text.specs.Streams.{IfExposed};
 ghost use Rattle.pf_console.specs.Request.{Performs, Writes};
 ghost use Rattle.pf_console.specs.Text.{CountsReads, CountsWrites, ReadsNothing};
 
@@ -10,21 +11,27 @@ use crate::run::run_text;
 use pf_text::{Sink, Source};
 use std::alloc::Global;
 
+/// The line of the program's version.
+pub const VERSION: &str = "pf_play 0.1.0\n";
+
 /// What a command line asks for.
 #[derive(Debug, Drop)]
 pub enum Request<'a> {
-    /// Answer a text line by line.
+    /// Process a text line by line.
     Run,
-    /// Print the fields of the frame that these digits spell.
+    /// Print the fields of the frame that these digits encode.
     Frame(&'a str),
-    /// Write this text, help or the version.
-    Say(String),
+    /// Write this text, a help.
+    Help(String),
+    /// Write the program's version.
+    Version,
 }
 
 /// Writes a text.
 fn say<W: Sink>(text: &str, writer: &mut W) -> Result<(), PlayFault>
     requires { W.failures writer.old + 1 < 2 ^ 64 }
-    ensures text { (before : List ℕ) → W.contents writer.old ≡ Some before → Writes text.now before (W.contents writer.new) result }
+    ensures text { (before : List ℕ) → W.contents writer.old ≡ Some before
+        → Writes text.now (record { before = before; after = W.contents writer.new }) result }
     ensures reads_nothing { ReadsNothing result }
     ensures writes_counted { CountsWrites (W.failures writer.old) result (W.failures writer.new) }
 {
@@ -41,14 +48,20 @@ pub fn perform<R: Source, W: Sink>(
 ) -> Result<(), PlayFault>
     requires reads { R.failures reader.old + 1 < 2 ^ 64 }
     requires writes { W.failures writer.old + 1 < 2 ^ 64 }
-    ensures done { (input before : List ℕ) → R.remaining reader.old ≡ Some input → W.contents writer.old ≡ Some before
-        → Performs request.entry input (R.remaining reader.new) before (W.contents writer.new) result }
+    ensures done { IfExposed (record {
+      unread = R.remaining reader.old;
+      left = R.remaining reader.new;
+      before = W.contents writer.old;
+      after = W.contents writer.new;
+    })
+        (λ transfer. Performs request.entry transfer result) }
     ensures reads_counted { CountsReads (R.failures reader.old) result (R.failures reader.new) }
     ensures writes_counted { CountsWrites (W.failures writer.old) result (W.failures writer.new) }
 {
     match request {
         Request::Run => run_text(alloc, reader, writer),
         Request::Frame(digits) => frame_text(alloc, digits, writer),
-        Request::Say(text) => say(&text, writer),
+        Request::Help(text) => say(&text, writer),
+        Request::Version => say(VERSION, writer),
     }
 }

@@ -1,6 +1,7 @@
-//! A text of a scene and events, answered line by line.
+//! A text of a scene and events, processed line by line.
 
-ghost use Rattle.std.specs.Prelude.{◌≡◌, ℕ, ◌+◌, ◌^◌, ◌<◌, List, Some};
+ghost use Rattle.std.specs.Prelude.{◌+◌, ◌^◌, ◌<◌};
+ghost use Rattle.pf_text.specs.Streams.{IfExposed};
 ghost use Rattle.pf_console.specs.Text.{Runs, CountsReads, CountsWrites};
 
 use crate::fault::PlayFault;
@@ -9,8 +10,8 @@ use pf_shapes::SceneFault;
 use pf_text::{DriveFault, Sink, Source, drive};
 use std::alloc::Global;
 
-/// Answers a text of a scene, its peers and events: the replies to its events are written, each before the
-/// next line is read, up to the first line that is refused.
+/// Processes a text of a scene, its peers and events: the replies to its events are written, each
+/// before the next line is read, up to the first line that is invalid.
 #[tactic(auto, unfolding(crate::specs::Text::text_of))]
 pub fn run_text<R: Source, W: Sink>(
     alloc: Global,
@@ -19,13 +20,18 @@ pub fn run_text<R: Source, W: Sink>(
 ) -> Result<(), PlayFault>
     requires reads { R.failures reader.old + 1 < 2 ^ 64 }
     requires writes { W.failures writer.old + 1 < 2 ^ 64 }
-    ensures text { (input before : List ℕ) → R.remaining reader.old ≡ Some input → W.contents writer.old ≡ Some before
-        → Runs input (R.remaining reader.new) before (W.contents writer.new) result }
-    // A fault of the reader or the writer is answered exactly where it failed in this call.
+    ensures text { IfExposed (record {
+      unread = R.remaining reader.old;
+      left = R.remaining reader.new;
+      before = W.contents writer.old;
+      after = W.contents writer.new;
+    })
+        (λ transfer. Runs transfer result) }
+    // An error of the reader or the writer is returned exactly where it failed in this call.
     ensures reads_counted { CountsReads (R.failures reader.old) result (R.failures reader.new) }
     ensures writes_counted { CountsWrites (W.failures writer.old) result (W.failures writer.new) }
 {
-    match drive(alloc, &mut (), reader, writer, Phase::opening()) {
+    match drive(alloc, &mut (), reader, writer, Phase::first()) {
         Ok((_, Phase::Playing(_))) => Ok(()),
         Ok((number, _)) => Err(PlayFault::Line(number, SceneFault::BadLine)),
         Err(DriveFault::Line(number, fault)) => Err(PlayFault::Line(number, fault)),

@@ -1,12 +1,12 @@
--- The subcommand that words enter, as the matches of a parse tell it.
+-- The subcommand that words enter, by the matches of a parse.
 use Rattle.std.proofs.Common.{rules, refl, ap, codes, ◌≡◌, ◌∙◌, List, Option, Some, None, [], Ok}
 use Rattle.std.specs.Prelude.{option_map, unwrap_or}
 use Rattle.clap.specs.Words.{Kinds, Row, Text, first_of, subcommand_name_of, subcommand_rows_of}
 use Rattle.clap.specs.declared.parser.matches.ArgMatches.{ArgMatches}
 use Rattle.clap.specs.declared.parser.matches.ArgMatches.TheViews.{out-ArgMatches}
-use Rattle.pf_play.specs.Options.{Answers, AsksFor, digits_in}
+use Rattle.pf_play.specs.Options.{ParsesAs, AsksFor, digits_in}
 use Rattle.pf_console.specs.declared.request.Request.{Request}
-use Rattle.pf_console.specs.declared.request.Request.TheVariants.{Run, Frame, Say}
+use Rattle.pf_console.specs.declared.request.Request.TheVariants.{Run, Frame, Help, Version}
 
 digits_of : (entered : Option (Text × List Row)) (rows : List Row) (value : Option Text) → option_map (λ p. p.0) entered ≡ Some (codes "frame")
     → option_map (λ p. p.1) entered ≡ Some rows → first_of (codes "HEX") rows ≡ value → digits_in entered ≡ Some (unwrap_or value [])
@@ -31,8 +31,10 @@ pub unwrap_map : {X Y : Type 0} (f : X → Y) (o : Option X) (d : X) → unwrap_
 unwrap_map f None d = refl
 unwrap_map f (Some x) d = refl
 
--- what words without a fault ask for answers them
-pub request_answers : (faults : Kinds) (entered : Option (Text × List Row)) (r : Request) → faults ≡ [] → AsksFor entered r → Answers faults entered (Ok r)
-request_answers faults entered Run fit asked = (fit, asked)
-request_answers faults entered (Frame digits) fit asked = (fit, asked)
-request_answers faults entered (Say text) fit asked = elim asked [ ]
+-- valid words are parsed as what they ask for
+pub request_parses : (errors : Kinds) (entered : Option (Text × List Row)) (r : Request) → errors ≡ [] → AsksFor entered r
+    → ParsesAs errors entered (Ok r)
+request_parses errors entered Run fit asked = (fit, asked)
+request_parses errors entered (Frame digits) fit asked = (fit, asked)
+request_parses errors entered (Help text) fit asked = elim asked [ ]
+request_parses errors entered Version fit asked = elim asked [ ]

@@ -1,38 +1,42 @@
 -- What the program does, from the words of its call to its status.
-use Rattle.std.specs.Prelude.{◌≡◌, ℕ, List, map, Option, Some, Result, Ok, Err, Vec}
+use Rattle.std.specs.Prelude.{◌≡◌, ℕ, List, map, Result, Ok, Err, Vec}
 use Rattle.clap.specs.Words.{fault_of, subcommand_of}
+use Rattle.pf_text.specs.Streams.{Streams, IfExposed}
 use Rattle.pf_console.specs.declared.request.Request.{Request}
 use Rattle.pf_console.specs.declared.fault.PlayFault.{PlayFault}
-use Rattle.pf_console.specs.Report.{ending_status, ending_text}
+use Rattle.pf_console.specs.Report.{outcome_status, outcome_text}
 use Rattle.pf_console.specs.Request.{Performs}
-use Rattle.pf_play.specs.Options.{Answers, command_line}
+use Rattle.pf_play.specs.Options.{ParsesAs, command_line}
 
--- what the words of a call, with these texts, ask for; words that could not be had ask for nothing but their fault
-abbrev pub Asks : {S A : Type 0} → (S → List ℕ) → Result (Vec S A) PlayFault → Result Request PlayFault → Type 0
+-- what the words of a call, with these texts, ask for; words that could not be read ask for nothing
+-- but their error
+abbrev pub Asks : {S A : Type 0} → (S → List ℕ) → Result (Vec S A) PlayFault
+    → Result Request PlayFault → Type 0
 Asks text (Ok words) asked =
-    Answers (fault_of command_line (map text words.items)) (subcommand_of command_line (map text words.items)) asked
+    let them = map text words.items in
+    ParsesAs (fault_of command_line them) (subcommand_of command_line them) asked
 Asks text (Err fault) asked = asked ≡ Err fault
 
--- What came of that, with the bytes of the reader and of the writer before and after: a request was done, where they tell
--- their bytes; a fault stayed as it was, and nothing was read or written.
-abbrev pub Comes : Result Request PlayFault → Option (List ℕ) → Option (List ℕ) → Option (List ℕ) → Option (List ℕ)
-    → Result (Unit {0}) PlayFault → Type 0
-Comes (Ok request) unread left before after outcome =
-    (input written : List ℕ) → unread ≡ Some input → before ≡ Some written → Performs request input left written after outcome
-Comes (Err fault) unread left before after outcome = (outcome ≡ Err fault) × (left ≡ unread) × (after ≡ before)
+-- a request was performed, where reader and writer expose their bytes; an error is the outcome, and
+-- nothing was read or written
+abbrev pub Does : Result Request PlayFault → Streams → Result (Unit {0}) PlayFault → Type 0
+Does (Ok request) s outcome = IfExposed s (λ transfer. Performs request transfer outcome)
+Does (Err fault) s outcome = (outcome ≡ Err fault) × (s.left ≡ s.unread) × (s.after ≡ s.before)
 
--- what came of a call, which is what came of one thing that its words ask for
+-- the outcome of a call: one thing that its words ask for was done
 pub record Plays {S A : Type 0} (text : S → List ℕ) (words : Result (Vec S A) PlayFault)
-    (unread left before after : Option (List ℕ)) (outcome : Result (Unit {0}) PlayFault) : Type 0 where
+    (s : Streams) (outcome : Result (Unit {0}) PlayFault) : Type 0 where
   pub asked : Result Request PlayFault
   pub asks : Asks text words asked
-  pub comes : Comes asked unread left before after outcome
+  pub does : Does asked s outcome
 
--- how a call ends: one outcome came of it, and is the one whose failures were counted, whose text was said and whose status
--- is answered
-pub record Ends (Came Counted : Result (Unit {0}) PlayFault → Type 0) (Said : List ℕ → Type 0) (status : ℕ) : Type 0 where
+-- how a call ends: it has one outcome, whose failures were counted, whose text was reported and
+-- whose status is returned
+pub record Ends (Played Counted : Result (Unit {0}) PlayFault → Type 0)
+    (Reported : List ℕ → Type 0) (status : ℕ)
+    : Type 0 where
   pub outcome : Result (Unit {0}) PlayFault
-  pub came : Came outcome
+  pub played : Played outcome
   pub counted : Counted outcome
-  pub said : Said (ending_text outcome)
-  pub ends : status ≡ ending_status outcome
+  pub reported : Reported (outcome_text outcome)
+  pub ends : status ≡ outcome_status outcome

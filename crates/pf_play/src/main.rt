@@ -7,14 +7,13 @@ mod program;
 use options::words_of;
 use pf_text::{Input, Output};
 use program::program;
+use std::io::{Stderr, Stdin, Stdout};
 use std::process::ExitCode;
 
 fn main(rt: HostRuntime) -> ExitCode {
-    program(
-        rt.alloc(),
-        words_of(&rt),
-        &mut Input::new(rt.stdin()),
-        &mut Output::new(rt.stdout()),
-        &mut Output::new(rt.stderr()),
-    )
+    // The types keep the three streams apart.
+    let mut input: Input<Stdin> = Input::new(rt.stdin());
+    let mut output: Output<Stdout> = Output::new(rt.stdout());
+    let mut errors: Output<Stderr> = Output::new(rt.stderr());
+    program(rt.alloc(), words_of(&rt), &mut input, &mut output, &mut errors)
 }

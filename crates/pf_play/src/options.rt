@@ -1,9 +1,10 @@
-//! The command line: which subcommand the words of a call ask for.
+//! The command line: what the words of a call ask for.
+
 ghost use Rattle.std.specs.Prelude.{◌≡◌, ℕ, List, [], ◌∷◌, None, false, codes, map, IfOk};
 ghost use Rattle.clap.specs.Words.{app_of, fault_of, kind_of, shape_of, subcommand_of, subcommand_rows_of};
 ghost use Rattle.clap.specs.Simple.{new_shape};
 ghost use Rattle.clap.specs.declared.builder.command.Command.TheViews.{out-Command as fields_of};
-ghost use Rattle.pf_play.specs.Options.{Answers, AsksFor, BlamesWordsOrMemory, RunsUnlessMemory, command_line, frame_words};
+ghost use Rattle.pf_play.specs.Options.{ParsesAs, AsksFor, FailsByWordsOrMemory, RunsUnlessMemory, command_line, frame_words};
 
 use clap::error::ErrorKind;
 use clap::{Arg, ArgMatches, Command, Error};
@@ -98,26 +99,25 @@ fn command<'a>(alloc: Global) -> Result<Command<'a>, AllocError>
         .subcommand(frame_command(alloc)?)
 }
 
-/// What `clap`'s answer other than a parse means here: help and version are texts to say, and what
-/// else it answers is a fault of the words, or want of memory.
-fn answer_of<'a>(alloc: Global, error: &Error) -> Result<Request<'a>, PlayFault>
-    ensures { Answers (kind_of error.now ∷ []) None result }
+/// What an error of `clap` means here: a request for help or the version, a mistake in the words,
+/// or a lack of memory.
+fn request_of<'a>(alloc: Global, error: &Error) -> Result<Request<'a>, PlayFault>
+    ensures { ParsesAs (kind_of error.now ∷ []) None result }
 {
     match error.kind() {
         ErrorKind::OutOfMemory => Err(PlayFault::Memory),
-        ErrorKind::DisplayHelp | ErrorKind::DisplayVersion => {
-            Ok(Request::Say(error.to_string(alloc)?))
-        }
+        ErrorKind::DisplayHelp => Ok(Request::Help(error.to_string(alloc)?)),
+        ErrorKind::DisplayVersion => Ok(Request::Version),
         _ => Err(PlayFault::Words(error.to_string(alloc)?)),
     }
 }
 
-// What `clap` says in Rust, where words are no text.
+// The text of `clap` in Rust, where words are no text.
 const NOT_TEXT: &str = "error: invalid UTF-8 was detected in one or more arguments\n\n\
 Usage: pf_play <COMMAND>\n\nFor more information, try '--help'.\n";
 
-/// What words without a fault ask for.
-fn asked<'a>(matches: &ArgMatches<'a>) -> Request<'a>
+/// What valid words ask for.
+fn request_for<'a>(matches: &ArgMatches<'a>) -> Request<'a>
     ensures { AsksFor (subcommand_rows_of matches.now) result }
 {
     match matches.subcommand_matches("frame") {
@@ -128,7 +128,7 @@ fn asked<'a>(matches: &ArgMatches<'a>) -> Request<'a>
 
 /// The words of this call, the program's name first.
 pub fn words_of<R: Env + Alloc<A = Global>>(rt: &R) -> Result<Vec<String>, PlayFault>
-    ensures { BlamesWordsOrMemory result }
+    ensures { FailsByWordsOrMemory result }
 {
     match env::args(rt) {
         Ok(words) => Ok(words.collect(rt.alloc())?),
@@ -137,16 +137,16 @@ pub fn words_of<R: Env + Alloc<A = Global>>(rt: &R) -> Result<Vec<String>, PlayF
     }
 }
 
-/// Reads the words of a call, of which the first is the program's name.
+/// Parses the words of a call, of which the first is the program's name.
 pub fn options<'a, S: AsStr>(alloc: Global, words: &'a [S]) -> Result<Request<'a>, PlayFault>
-    ensures answers { let them = map S.text words.now in
-        Answers (fault_of command_line them) (subcommand_of command_line them) result }
+    ensures parses { let them = map S.text words.now in
+        ParsesAs (fault_of command_line them) (subcommand_of command_line them) result }
     ensures runs { (program : List ℕ) → map S.text words.now ≡ program ∷ codes "run" ∷ []
         → RunsUnlessMemory result }
 {
     match command(alloc)?.try_get_matches_from(words) {
-        Ok(matches) => Ok(asked(&matches)),
-        Err(error) => answer_of(alloc, &error),
+        Ok(matches) => Ok(request_for(&matches)),
+        Err(error) => request_of(alloc, &error),
     }
 }
 

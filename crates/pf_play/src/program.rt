@@ -4,7 +4,7 @@ ghost use Rattle.std.specs.Prelude.{◌≡◌, ◌+◌, ◌^◌, ◌<◌};
 ghost use Rattle.std.specs.Process.{exit_status};
 ghost use Rattle.pf_console.specs.Report.{Reports};
 ghost use Rattle.pf_console.specs.Text.{CountsReads, CountsWrites};
-ghost use Rattle.pf_play.specs.Options.{BlamesWordsOrMemory};
+ghost use Rattle.pf_play.specs.Options.{FailsByWordsOrMemory};
 ghost use Rattle.pf_play.specs.Program.{Ends, Plays};
 
 use crate::options::options;
@@ -21,11 +21,13 @@ fn play<S: AsStr + Drop, R: Source, W: Sink>(
     reader: &mut R,
     writer: &mut W,
 ) -> Result<(), PlayFault>
-    requires words { BlamesWordsOrMemory words }
+    requires words { FailsByWordsOrMemory words }
     requires reads { R.failures reader.old + 1 < 2 ^ 64 }
     requires writes { W.failures writer.old + 1 < 2 ^ 64 }
-    ensures came { Plays S.text words (R.remaining reader.old) (R.remaining reader.new)
-        (W.contents writer.old) (W.contents writer.new) result }
+    ensures plays { Plays S.text words (record {
+            unread = R.remaining reader.old; left = R.remaining reader.new;
+            before = W.contents writer.old; after = W.contents writer.new })
+        result }
     ensures reads_counted { CountsReads (R.failures reader.old) result (R.failures reader.new) }
     ensures writes_counted { CountsWrites (W.failures writer.old) result (W.failures writer.new) }
 {
@@ -34,7 +36,7 @@ fn play<S: AsStr + Drop, R: Source, W: Sink>(
     perform(alloc, request, reader, writer)
 }
 
-/// Does what the words of a call ask for, says of a fault what is to be said, and answers the status to end with.
+/// Does what the words of a call ask for, reports an error, and returns the status to end with.
 pub fn program<S: AsStr + Drop, R: Source, W: Sink, E: Sink>(
     alloc: Global,
     words: Result<Vec<S>, PlayFault>,
@@ -42,15 +44,19 @@ pub fn program<S: AsStr + Drop, R: Source, W: Sink, E: Sink>(
     writer: &mut W,
     errors: &mut E,
 ) -> ExitCode
-    requires words { BlamesWordsOrMemory words }
+    requires words { FailsByWordsOrMemory words }
     requires reads { R.failures reader.old + 1 < 2 ^ 64 }
     requires writes { W.failures writer.old + 1 < 2 ^ 64 }
-    requires says { E.failures errors.old + 1 < 2 ^ 64 }
+    requires reports { E.failures errors.old + 1 < 2 ^ 64 }
     ensures { Ends
-        (Plays S.text words (R.remaining reader.old) (R.remaining reader.new) (W.contents writer.old) (W.contents writer.new))
+        (Plays S.text words (record {
+            unread = R.remaining reader.old; left = R.remaining reader.new;
+            before = W.contents writer.old; after = W.contents writer.new }))
         (λ outcome. CountsReads (R.failures reader.old) outcome (R.failures reader.new)
         × CountsWrites (W.failures writer.old) outcome (W.failures writer.new))
-        (Reports (E.failures errors.old) (E.failures errors.new) (E.contents errors.old) (E.contents errors.new))
+        (Reports (record {
+            before = E.contents errors.old; after = E.contents errors.new;
+            failures_before = E.failures errors.old; failures_after = E.failures errors.new }))
         (exit_status result) }
 {
     ExitCode::from(finish(play(alloc, words, reader, writer), errors))

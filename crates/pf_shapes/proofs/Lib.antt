@@ -5,6 +5,7 @@ pub mod Staying
 pub mod Exact
 pub mod Circles
 pub mod Covering
-pub mod Saying
+pub mod SceneEncoding
 pub mod Limits
+pub mod Silence
 pub mod Inertia

@@ -1,4 +1,4 @@
--- The names that a text's faults have in a scene.
+-- The errors of a scene that stand for those of any text.
 use Rattle.pf_text.specs.declared.fault.LineFault.{LineFault}
 use Rattle.pf_text.specs.declared.fault.LineFault.TheVariants as line_faults
 use Rattle.pf_shapes.specs.declared.fault.SceneFault.{SceneFault}

@@ -3,7 +3,7 @@ pub mod Fixture
 pub mod Cached
 pub mod Body
 pub mod Scene
-pub mod Reader
+pub mod SceneReader
 pub mod Fault
 pub mod SceneText
 pub mod SceneRead
@@ -13,4 +13,4 @@ pub mod Pair
 pub mod Laws
 pub mod Same
 pub mod SameLaws
-pub mod Saying
+pub mod SceneEncoding

@@ -9,8 +9,9 @@ use thiserror::Error;
 /// What is wrong with a line of a scene.
 #[derive(Clone, Copy, Debug, PartialEq, Eq, Error)]
 pub enum SceneFault {
-    /// No line of a scene has this word and so many fields, or none such stands here; or the line is too long, not
-    /// ASCII, or not parted by single spaces; or the text ended before its scene.
+    /// No line of a scene has this word and so many fields, or none may stand here; or the line is
+    /// too long, not ASCII, or its fields are not separated by single spaces; or the text ended
+    /// before its scene.
     #[error("BadLine")]
     BadLine,
     /// A field is no whole number, or one out of its range.

@@ -11,9 +11,9 @@ ghost use Rattle.pf_shapes.specs.Fixture.{Fixture, IsFixture, IsSize, HasSize, I
 ghost use Rattle.pf_shapes.specs.Body.{BodyState, start_of};
 ghost use Rattle.pf_shapes.specs.Bounds.{Bounds, IsOrdered, overlaps, shape_bounds, fixture_bounds};
 ghost use Rattle.pf_shapes.specs.Laws.{Covers, IsInBox, IsInCircle, IsInBounds, IsInner, exact_position, bounds_to_fine_units};
-ghost use Rattle.pf_shapes.specs.Saying.{body_fields, gravity_fields, start_rotation, IsDirection};
+ghost use Rattle.pf_shapes.specs.SceneEncoding.{body_fields, gravity_fields, start_rotation, IsDirection};
 ghost use Rattle.pf_shapes.specs.Scene.{Scene, IsGravity, IsPosition, empty_scene, with_body};
-ghost use Rattle.pf_shapes.specs.SceneText.{line_of, so_far};
+ghost use Rattle.pf_shapes.specs.SceneText.{line_of, scene_in_progress};
 
 use crate::fixture::Shape;
 
@@ -21,13 +21,13 @@ use crate::fixture::Shape;
 /// their numbers are in range.
 pub fn scene_lines_are_read()
     ensures gravity { (most : ℕ) (g : V2) → IsGravity g
-        → line_of (record { most = most; scene = None }) (gravity_fields g)
-        ≡ Ok (so_far most (empty_scene g)) }
+        → line_of (record { max_bodies = most; scene = None }) (gravity_fields g)
+        ≡ Ok (scene_in_progress most (empty_scene g)) }
     ensures body { (most : ℕ) (s : Scene) (f : Fixture) (position : V2) (to : Rot)
         → length s.fixtures < most
         → IsFixture f → IsPosition position → IsDirection to
-        → line_of (record { most = most; scene = Some s }) (body_fields f position to)
-        ≡ Ok (so_far most (with_body s f position (start_rotation f.shape to))) }
+        → line_of (record { max_bodies = most; scene = Some s }) (body_fields f position to)
+        ≡ Ok (scene_in_progress most (with_body s f position (start_rotation f.shape to))) }
 {}
 
 /// The inertia of a dynamic body of an allowed size is above 0, and no body of a lesser mass and

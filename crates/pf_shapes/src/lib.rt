@@ -21,6 +21,3 @@ pub use pair::Pair;
 pub use read::ReadError;
 pub use reader::{Progress, SceneReader};
 pub use scene::{MAX_BODIES, MAX_GRAVITY, MAX_POSITION, Scene};
-
-#[cfg(test)]
-mod tests;

@@ -7,10 +7,10 @@ use pf_text::{Bytes, Collected, DriveFault, LineFault, Machine, TakeRefusal, dri
 use std::alloc::Global;
 use thiserror::Error;
 
-/// Why a text gave no scene.
+/// Why no scene was read from a text.
 #[derive(Clone, Copy, Debug, PartialEq, Eq, Error)]
 pub enum ReadError {
-    /// The line of this number, from 1, is at fault.
+    /// The line of this number, from 1, is invalid.
     #[error("line {0}: {1}")]
     Line(u64, SceneFault),
     /// No memory is left.
@@ -25,11 +25,11 @@ impl Machine<()> for Progress {
 
     ghost rules = { scene_rules };
 
-    fn refuse(fault: LineFault) -> SceneFault {
+    fn line_error(fault: LineFault) -> SceneFault {
         SceneFault::from(fault)
     }
 
-    #[tactic(auto, unfolding(crate::specs::SceneRead::says))]
+    #[tactic(auto, unfolding(crate::specs::SceneRead::transition))]
     fn take(
         self,
         alloc: Global,
@@ -49,19 +49,23 @@ impl Machine<()> for Progress {
 impl Scene {
     ghost use Rattle.pf_shapes.specs.SceneRead.{scene_of, ReadsScene};
 
-    /// Reads a text that holds a scene of at most 1,024 bodies and nothing else: only lines that are skipped
-    /// may follow its `end`.
+    /// Reads a text that holds a scene of at most 1,024 bodies and nothing else: only skipped lines
+    /// may follow its `end`. It takes memory only for lines that are valid.
     #[tactic(auto, unfolding(crate::specs::SceneRead::scene_of))]
     pub fn read(alloc: Global, text: &[u8]) -> Result<Scene, ReadError>
-        ensures { ReadsScene result (scene_of text.now) }
+        ensures { ReadsScene text.now result }
     {
         let opening = Progress::More(SceneReader::new(MAX_BODIES));
-        let mut silence = Collected::new(alloc);
-        match drive(alloc, &mut (), &mut Bytes::new(text), &mut silence, opening) {
+        let mut output = Collected::new(alloc);
+        match drive(alloc, &mut (), &mut Bytes::new(text), &mut output, opening) {
             Ok((_, Progress::Ended(scene))) => Ok(scene),
             Ok((number, Progress::More(_))) => Err(ReadError::Line(number, SceneFault::BadLine)),
             Err(DriveFault::Line(number, fault)) => Err(ReadError::Line(number, fault)),
-            Err(_) => Err(ReadError::Memory),
+            Err(DriveFault::Memory) => Err(ReadError::Memory),
+            // A reader in memory does not fail.
+            Err(DriveFault::Read) => unreachable!(),
+            // The lines of a scene have no output.
+            Err(DriveFault::Write) => unreachable!(),
         }
     }
 }

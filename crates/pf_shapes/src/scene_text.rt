@@ -5,14 +5,14 @@ ghost use Rattle.pf_num.specs.Fx.{IsRaw};
 ghost use Rattle.pf_rot.specs.Laws.{IsAtMostOne};
 ghost use Rattle.pf_shapes.specs.Fixture.{IsWithin, IsMass, IsOwner};
 ghost use Rattle.pf_shapes.specs.Scene.{IsGravity, IsPosition, IsTransform};
-ghost use Rattle.pf_shapes.specs.SceneText.{number_of, acceleration_of, coordinate_of, size_of, friction_of, mass_of, owner_of, gravity_of, position_of, direction_of, rotation_of, circle_fixture, box_fixture, upright_at, turned_at, placed, circle_of, box_of, body_of};
+ghost use Rattle.pf_shapes.specs.SceneText.{number_of, acceleration_of, coordinate_of, size_of, friction_of, mass_of, owner_of, gravity_of, position_of, direction_of, rotation_of, circle_fixture, box_fixture, circle_transform, box_transform, body_parts, circle_of, box_of, body_of};
 
 use crate::fault::SceneFault;
 use crate::fixture::{Fixture, Shape};
 use crate::words::BodyWord;
 use pf_num::Fx;
 use pf_rot::{Rot, V2};
-use pf_text::{Spelled, number};
+use pf_text::{ParsedNumber, number};
 
 /// 2^20, the least mass and size.
 const LEAST: i64 = 1 << 20;
@@ -25,7 +25,7 @@ const MOST_DIRECTION: i64 = 1 << 24;
 /// 2^44, the farthest that a body starts from 0.
 const FARTHEST: i64 = 1 << 44;
 
-/// The number of a range that a field spells, where one that is out of it has this name.
+/// The number of a range that a field encodes; one that is out of it is the error `outside`.
 fn number_in(field: &[u8], low: i64, high: i64, outside: SceneFault) -> Result<Fx, SceneFault>
     requires low { IsRaw low }
     requires high { IsRaw high }
@@ -33,9 +33,9 @@ fn number_in(field: &[u8], low: i64, high: i64, outside: SceneFault) -> Result<F
     ensures range { IfOk result (IsWithin low high) }
 {
     match number(field, low, high) {
-        Spelled::Within(n) => Ok(Fx::from_raw(n).unwrap()),
-        Spelled::Outside => Err(outside),
-        Spelled::Misspelt => Err(SceneFault::BadNumber),
+        ParsedNumber::InRange(n) => Ok(Fx::from_raw(n).unwrap()),
+        ParsedNumber::OutOfRange => Err(outside),
+        ParsedNumber::NotANumber => Err(SceneFault::BadNumber),
     }
 }
 
@@ -103,7 +103,7 @@ fn read_owner(field: &[u8]) -> Result<Option<u8>, SceneFault>
         return Ok(None);
     }
     match number(field, 0, 7) {
-        Spelled::Within(n) => Ok(Some(n as u8)),
+        ParsedNumber::InRange(n) => Ok(Some(n as u8)),
         _ => Err(SceneFault::BadNumber),
     }
 }
@@ -122,7 +122,7 @@ pub fn read_gravity(x: &[u8], y: &[u8]) -> Result<V2, SceneFault>
 
 /// The position of a start.
 #[tactic(auto, unfolding(crate::specs::SceneText::position_of))]
-fn read_place(x: &[u8], y: &[u8]) -> Result<V2, SceneFault>
+fn read_position(x: &[u8], y: &[u8]) -> Result<V2, SceneFault>
     ensures value { result ≡ position_of x.now y.now }
     ensures range { IfOk result IsPosition }
 {
@@ -144,26 +144,26 @@ fn read_rotation(c: &[u8], s: &[u8]) -> Result<Rot, SceneFault>
 }
 
 /// A position, and upright there.
-#[tactic(auto, unfolding(crate::specs::SceneText::upright_at))]
-fn upright_at(x: &[u8], y: &[u8]) -> Result<(V2, Rot), SceneFault>
-    ensures value { result ≡ upright_at x.now y.now }
+#[tactic(auto, unfolding(crate::specs::SceneText::circle_transform))]
+fn circle_transform(x: &[u8], y: &[u8]) -> Result<(V2, Rot), SceneFault>
+    ensures value { result ≡ circle_transform x.now y.now }
     ensures range { IfOk result IsTransform }
 {
-    Ok((read_place(x, y)?, Rot::UPRIGHT))
+    Ok((read_position(x, y)?, Rot::UPRIGHT))
 }
 
 /// A position, and the rotation there.
-#[tactic(auto, unfolding(crate::specs::SceneText::turned_at))]
-fn turned_at(x: &[u8], y: &[u8], c: &[u8], s: &[u8]) -> Result<(V2, Rot), SceneFault>
-    ensures value { result ≡ turned_at x.now y.now c.now s.now }
+#[tactic(auto, unfolding(crate::specs::SceneText::box_transform))]
+fn box_transform(x: &[u8], y: &[u8], c: &[u8], s: &[u8]) -> Result<(V2, Rot), SceneFault>
+    ensures value { result ≡ box_transform x.now y.now c.now s.now }
     ensures range { IfOk result IsTransform }
 {
-    let position = read_place(x, y)?;
+    let position = read_position(x, y)?;
     let rotation = read_rotation(c, s)?;
     Ok((position, rotation))
 }
 
-/// The fields of a body behind its word: what the body is, and where it starts.
+/// A body's fixture and where it starts, from the fields behind its word.
 pub fn read_body(word: BodyWord, arguments: &[&[u8]]) -> Result<(Fixture, (V2, Rot)), SceneFault>
     ensures value { result ≡ body_of word (map (λ field. field.now) arguments.now) }
     ensures range { IfOk result (λ body. IsTransform body.1) }
@@ -182,7 +182,10 @@ fn read_circle(arguments: &[&[u8]]) -> Result<(Fixture, (V2, Rot)), SceneFault>
 {
     match arguments {
         [owner, mass, friction, r, x, y] => {
-            placed(circle_fixture(owner, mass, friction, r), upright_at(x, y))
+            body_parts(
+                circle_fixture(owner, mass, friction, r),
+                circle_transform(x, y),
+            )
         }
         _ => Err(SceneFault::BadLine),
     }
@@ -196,23 +199,23 @@ fn read_box(arguments: &[&[u8]]) -> Result<(Fixture, (V2, Rot)), SceneFault>
 {
     match arguments {
         [owner, mass, friction, hx, hy, x, y, c, s] => {
-            placed(
+            body_parts(
                 box_fixture(owner, mass, friction, hx, hy),
-                turned_at(x, y, c, s),
+                box_transform(x, y, c, s),
             )
         }
         _ => Err(SceneFault::BadLine),
     }
 }
 
-/// What a body is, and where it starts.
-#[tactic(auto, unfolding(crate::specs::SceneText::placed))]
-fn placed(
+/// A body's fixture and where it starts.
+#[tactic(auto, unfolding(crate::specs::SceneText::body_parts))]
+fn body_parts(
     fixture: Result<Fixture, SceneFault>,
     transform: Result<(V2, Rot), SceneFault>,
 ) -> Result<(Fixture, (V2, Rot)), SceneFault>
     requires { IfOk transform IsTransform }
-    ensures value { result ≡ placed fixture transform }
+    ensures value { result ≡ body_parts fixture transform }
     ensures range { IfOk result (λ body. IsTransform body.1) }
 {
     let fixture = fixture?;
@@ -220,7 +223,7 @@ fn placed(
     Ok((fixture, transform))
 }
 
-/// What four fields say of a circle.
+/// A circle, from four fields.
 #[tactic(auto, unfolding(crate::specs::SceneText::circle_fixture))]
 fn circle_fixture(
     owner: &[u8],
@@ -237,7 +240,7 @@ fn circle_fixture(
     Ok(Fixture::new(Shape::Circle { r }, mass, friction, owner))
 }
 
-/// What five fields say of a box.
+/// A box, from five fields.
 #[tactic(auto, unfolding(crate::specs::SceneText::box_fixture))]
 fn box_fixture(
     owner: &[u8],

@@ -1,10 +1,11 @@
--- What a buffer of bytes that were read does to what is known, and a writer that takes its bytes piece by piece.
+-- What a buffer of bytes that were read does to what is known, and a writer that takes its bytes
+-- piece by piece.
 use Rattle.std.proofs.Common.{◌≡◌, ℕ, ◌+◌, ◌-◌, ◌≤◌, Option, None, Some, List, [], ◌++◌, length, take, drop, min, refl, sym, ap, subst, ◌∙◌, append_assoc, append-nil, arith, take-append-drop}
 use Rattle.std.specs.Io.KnownBytes.{Consumes, Appends, Keeps, prepend_known}
 use Rattle.std.proofs.lemmas.List.{drop-take, drop-drop, length-take}
-use Rattle.pf_text.specs.Lines.{AppendsFront}
-use Rattle.pf_text.specs.Streams.{unread}
-use Rattle.pf_text.proofs.Taking.{appends_kept, appends_more}
+use Rattle.pf_text.specs.Lines.{AppendsPrefix}
+use Rattle.pf_text.specs.Buffer.{unread}
+use Rattle.pf_text.proofs.Taking.{appends_kept, appends_more, appends_after, keeps_same, keeps_more}
 
 -- an empty buffer
 unread-nil : (start end : ℕ) (buffer : List ℕ) → end ≤ start → unread start end buffer ≡ []
@@ -51,27 +52,36 @@ keeps_unfilled (Some xs) (Some ys) start end old new le k = rw (unread-nil start
 -- ---- a writer that takes its bytes piece by piece
 
 -- where the writer failed after some pieces
-pub appends_front_kept : (a b c : Option (List ℕ)) (bytes : List ℕ) → AppendsFront a b bytes → Keeps b c → AppendsFront a c bytes
-appends_front_kept a b c bytes f k = record { front = f.front; rest = f.rest; bytes_are = f.bytes_are; appended = appends_kept a b c f.front f.appended k }
+pub appends_prefix_kept : (a b c : Option (List ℕ)) (bytes : List ℕ) → AppendsPrefix a b bytes → Keeps b c → AppendsPrefix a c bytes
+appends_prefix_kept a b c bytes f k = record { prefix = f.prefix; rest = f.rest; bytes_are = f.bytes_are; appended = appends_kept a b c f.prefix f.appended k }
 
 -- a piece further
-pub appends_front_more : (a b c : Option (List ℕ)) (bytes rest : List ℕ) (count : ℕ) (f : AppendsFront a b bytes) → f.rest ≡ rest → Appends b c (take count rest) → (next : AppendsFront a c bytes) × (next.rest ≡ drop count rest)
-appends_front_more a b c bytes rest count f is p = (
+pub appends_prefix_more : (a b c : Option (List ℕ)) (bytes rest : List ℕ) (count : ℕ) (f : AppendsPrefix a b bytes) → f.rest ≡ rest → Appends b c (take count rest) → (next : AppendsPrefix a c bytes) × (next.rest ≡ drop count rest)
+appends_prefix_more a b c bytes rest count f is p = (
   record {
-    front = f.front ++ take count rest;
+    prefix = f.prefix ++ take count rest;
     rest = drop count rest;
-    bytes_are = append_assoc f.front (take count rest) (drop count rest) ∙ ap (λ r. f.front ++ r) (take-append-drop count rest ∙ sym is) ∙ f.bytes_are;
-    appended = appends_more a b c f.front (take count rest) f.appended p;
+    bytes_are = append_assoc f.prefix (take count rest) (drop count rest) ∙ ap (λ r. f.prefix ++ r) (take-append-drop count rest ∙ sym is) ∙ f.bytes_are;
+    appended = appends_more a b c f.prefix (take count rest) f.appended p;
   },
   refl,
 )
 
 -- after the last piece
-pub appends_whole : (a b : Option (List ℕ)) (bytes : List ℕ) (f : AppendsFront a b bytes) → f.rest ≡ [] → Appends a b bytes
-appends_whole a b bytes f none = subst (Appends a b) (sym (append-nil f.front) ∙ ap (λ r. f.front ++ r) (sym none) ∙ f.bytes_are) f.appended
+pub appends_whole : (a b : Option (List ℕ)) (bytes : List ℕ) (f : AppendsPrefix a b bytes) → f.rest ≡ [] → Appends a b bytes
+appends_whole a b bytes f none = subst (Appends a b) (sym (append-nil f.prefix) ∙ ap (λ r. f.prefix ++ r) (sym none) ∙ f.bytes_are) f.appended
 
 -- a write of no byte
 pub keeps_from_appends : (a b : Option (List ℕ)) → Appends a b [] → Keeps a b
 keeps_from_appends None b p = tt
 keeps_from_appends (Some xs) None p = absurd p
 keeps_from_appends (Some xs) (Some ys) p = p ∙ append-nil xs
+
+-- ---- for the functions that fill a buffer and that write
+
+pub ruleset fills = (keeps_filled, keeps_unfilled, keeps_same)
+
+-- for a writer that is asked again after an interrupt
+pub ruleset writes_some = (keeps_same, keeps_more, appends_after, keeps_from_appends)
+
+pub ruleset writes_whole = (appends_prefix_kept, appends_whole)

@@ -18,3 +18,5 @@ digits_value_next digits i lt e = omega (arith, digits_value_more 10 digits i lt
 -- that they are digits, with the next one
 pub list_all_next : (digits : List ℕ) (i : ℕ) → i < length digits → is_ascii_digit (get_or digits i 0) ≡ true → list_all is_ascii_digit (take i digits) ≡ true → list_all is_ascii_digit (take (i + 1) digits) ≡ true
 list_all_next digits i lt e front = rw (list_all_more is_ascii_digit digits i 0 lt, front, e)
+
+pub ruleset next_digit = (digits_value_next, list_all_next)

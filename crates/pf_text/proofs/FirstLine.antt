@@ -4,7 +4,7 @@ use Rattle.std.specs.Io.KnownBytes.{Consumes}
 use Rattle.std.proofs.lemmas.List.{length-take, take-take}
 use Rattle.std.proofs.lemmas.List.Sums.{prefix_len-le-length}
 use Rattle.std.proofs.lemmas.Bool.Decides.{nat_tests}
-use Rattle.pf_text.specs.Lines.{TakesPart, ended, is_line, line_length}
+use Rattle.pf_text.specs.Lines.{ExtendsLine, terminated_line, is_line, line_length}
 
 -- the front of a list, one element further
 take-next : {X : Type 0} (n : ℕ) (x : X) (xs : List X) → take (1 + n) (x ∷ xs) ≡ x ∷ take n xs
@@ -21,9 +21,9 @@ line_before [] = refl
 line_before (byte ∷ bytes) = line_before-cons (byte == 10) byte bytes refl (line_before bytes)
 
 line_ends-cons : (is_end : Bool) (byte : ℕ) (bytes : List ℕ) → (byte == 10) ≡ is_end
-    → (line_length bytes < length bytes → take (1 + line_length bytes) bytes ≡ ended (take (line_length bytes) bytes))
+    → (line_length bytes < length bytes → take (1 + line_length bytes) bytes ≡ terminated_line (take (line_length bytes) bytes))
     → line_length (byte ∷ bytes) < length (byte ∷ bytes)
-    → take (1 + line_length (byte ∷ bytes)) (byte ∷ bytes) ≡ ended (take (line_length (byte ∷ bytes)) (byte ∷ bytes))
+    → take (1 + line_length (byte ∷ bytes)) (byte ∷ bytes) ≡ terminated_line (take (line_length (byte ∷ bytes)) (byte ∷ bytes))
 line_ends-cons true byte bytes is more lt =
     let same : byte ≡ 10 = grind (arith, nat_tests) in
     rw is (ap (λ b. b ∷ []) same)
@@ -33,25 +33,25 @@ line_ends-cons false byte bytes is more lt =
     (ap (λ line. byte ∷ line) (more (omega (arith, size))))
 
 -- and the LF is behind it, where one is there
-pub line_ends : (bytes : List ℕ) → line_length bytes < length bytes → take (1 + line_length bytes) bytes ≡ ended (take (line_length bytes) bytes)
+pub line_ends : (bytes : List ℕ) → line_length bytes < length bytes → take (1 + line_length bytes) bytes ≡ terminated_line (take (line_length bytes) bytes)
 line_ends [] lt = absurd (omega arith)
 line_ends (byte ∷ bytes) lt = line_ends-cons (byte == 10) byte bytes refl (line_ends bytes) lt
 
-takes_part-cases : (a b : Option (List ℕ)) (ready old new : List ℕ) (n part : ℕ) (is_end : Bool) → part ≡ line_length (take n ready)
+extends_line-cases : (a b : Option (List ℕ)) (ready old new : List ℕ) (n part : ℕ) (is_end : Bool) → part ≡ line_length (take n ready)
     → new ≡ old ++ take part (take n ready) → nat_lt part (length (take n ready)) ≡ is_end
-    → Consumes a b (take (if is_end then part + 1 else part) ready) → TakesPart a b old new is_end
-takes_part-cases a b ready old new n part true is grown test taken =
+    → Consumes a b (take (if is_end then part + 1 else part) ready) → ExtendsLine a b old new is_end
+extends_line-cases a b ready old new n part true is grown test taken =
     let lt : part < length (take n ready) = grind (arith, nat_tests) in
     let shorter : length (take n ready) ≡ min n (length ready) = length-take n ready in
     let next : part + 1 ≡ 1 + part = omega arith in
-    let ends : take (1 + part) (take n ready) ≡ ended (take part (take n ready)) = rw is (line_ends (take n ready) (rw is at lt)) in
+    let ends : take (1 + part) (take n ready) ≡ terminated_line (take part (take n ready)) = rw is (line_ends (take n ready) (rw is at lt)) in
     record {
       part = take part (take n ready);
       part_is = rw is (line_before (take n ready));
       line_is = grown;
       taken = subst (Consumes a b) (sym (take-take (part + 1) n ready (omega arith)) ∙ rw next ends) taken;
     }
-takes_part-cases a b ready old new n part false is grown test taken =
+extends_line-cases a b ready old new n part false is grown test taken =
     let le : part ≤ length (take n ready) = rw is (prefix_len-le-length _ (take n ready)) in
     let shorter : length (take n ready) ≡ min n (length ready) = length-take n ready in
     record {
@@ -62,7 +62,7 @@ takes_part-cases a b ready old new n part false is grown test taken =
     }
 
 -- of bytes that are ready, the first n of which were looked at, a part of a line was taken
-pub takes_part : (a b : Option (List ℕ)) (ready old new : List ℕ) (n part : ℕ) → part ≡ line_length (take n ready)
+pub extends_line : (a b : Option (List ℕ)) (ready old new : List ℕ) (n part : ℕ) → part ≡ line_length (take n ready)
     → new ≡ old ++ take part (take n ready) → Consumes a b (take (if nat_lt part (length (take n ready)) then part + 1 else part) ready)
-    → TakesPart a b old new (nat_lt part (length (take n ready)))
-takes_part a b ready old new n part is grown taken = takes_part-cases a b ready old new n part _ is grown refl taken
+    → ExtendsLine a b old new (nat_lt part (length (take n ready)))
+extends_line a b ready old new n part is grown taken = extends_line-cases a b ready old new n part _ is grown refl taken

@@ -3,12 +3,12 @@ pub mod Parts
 pub mod Digits
 pub mod Taking
 pub mod FirstLine
-pub mod Places
+pub mod FirstByte
 pub mod LinesOf
 pub mod Progress
 pub mod Buffered
-pub mod Answering
+pub mod Outputs
 pub mod Ascii
-pub mod Spelling
+pub mod DecimalText
 pub mod Joined
 pub mod Steps

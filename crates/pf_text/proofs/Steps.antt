@@ -1,4 +1,4 @@
--- Steps that may have a fault.
+-- Steps that may give an error.
 use Rattle.std.proofs.Common.{◌≡◌, Result, Ok, Err, ap}
 
 value_or : {A F : Type 0} → A → Result A F → A

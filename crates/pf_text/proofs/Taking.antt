@@ -2,7 +2,7 @@
 use Rattle.std.proofs.Common.{◌≡◌, ℕ, Option, None, Some, List, [], ◌++◌, refl, sym, ap, ◌∙◌}
 use Rattle.std.specs.Io.KnownBytes.{Consumes, Appends, Keeps}
 use Rattle.std.proofs.KnownBytes.{Appends-nil}
-use Rattle.pf_text.specs.Lines.{AppendsFront}
+use Rattle.pf_text.specs.Lines.{AppendsPrefix}
 pub use Rattle.std.proofs.KnownBytes.{Appends-nil as appends_none, Appends-kept as appends_kept, Appends-trans as appends_more, Keeps-refl as keeps_same, Keeps-trans as keeps_more}
 
 -- what was appended to known bytes stands behind them
@@ -11,9 +11,9 @@ appends_known None b before text is p = absurd cc
 appends_known (Some xs) None before text is p = absurd p
 appends_known (Some xs) (Some ys) before text is p = let same : xs ≡ before = cc in ap (λ bytes. Some bytes) (p ∙ ap (λ bytes. bytes ++ text) same)
 
--- a writer that took nothing yet, or fails at once, has a beginning, which is empty
-abbrev pub appends_front_none : (a : Option (List ℕ)) (bytes : List ℕ) → AppendsFront a a bytes
-appends_front_none a bytes = record { front = []; rest = bytes; bytes_are = refl; appended = Appends-nil a }
+-- a writer that took nothing yet, or fails at once, has taken the empty prefix
+abbrev pub appends_prefix_none : (a : Option (List ℕ)) (bytes : List ℕ) → AppendsPrefix a a bytes
+appends_prefix_none a bytes = record { prefix = []; rest = bytes; bytes_are = refl; appended = Appends-nil a }
 
 -- ---- a call after others that kept what is known
 
@@ -30,3 +30,6 @@ appends_after None b c next p q = tt
 appends_after (Some xs) None c next p q = absurd p
 appends_after (Some xs) (Some ys) None next p q = absurd q
 appends_after (Some xs) (Some ys) (Some zs) next p q = q ∙ ap (λ bytes. bytes ++ next) p
+
+-- for a reader that is asked again after an interrupt
+pub ruleset reads = (keeps_same, keeps_more, consumes_after)

@@ -1,5 +1,6 @@
--- Steps that may have a fault, and what a function gives that may run out of memory, beside a definition that cannot.
-use Rattle.std.specs.Prelude.{◌≡◌, Result, Ok, Err}
+-- Steps that may give an error, and what a function returns that may run out of memory, beside a
+-- definition that cannot.
+use Rattle.std.specs.Prelude.{◌≡◌, Result, Ok, Err, IsOk}
 use Rattle.pf_text.specs.declared.fault.LineFault.{LineFault}
 use Rattle.pf_text.specs.declared.fault.LineError.{LineError}
 use Rattle.pf_text.specs.declared.fault.LineError.TheVariants.{Memory, Fault}
@@ -10,12 +11,8 @@ abbrev pub ◌>>=◌ : {A B F : Type 0} → Result A F → (A → Result B F) �
 (Ok x) >>= f = f x
 (Err fault) >>= f = Err fault
 
--- the definition gives this fault; nothing is said where memory ran out
-abbrev pub Fails : {Y : Type 0} → LineError → Result Y LineFault → Type 0
-Fails Memory read = Unit {0}
-Fails (Fault fault) read = read ≡ Err fault
-
--- what was returned, seen by view, is what the definition gives, unless memory ran out
-abbrev pub Gives : {X Y : Type 0} → (X → Y) → Result X LineError → Result Y LineFault → Type 0
-Gives view (Ok x) read = read ≡ Ok (view x)
-Gives view (Err error) read = Fails error read
+-- the result, seen by view, is the expected one; memory runs out only where that is a value
+abbrev pub Returns : {X Y : Type 0} → (X → Y) → Result X LineError → Result Y LineFault → Type 0
+Returns view (Ok x) expected = expected ≡ Ok (view x)
+Returns view (Err Memory) expected = IsOk expected
+Returns view (Err (Fault fault)) expected = expected ≡ Err fault

@@ -1,4 +1,5 @@
--- What laws of texts speak of: fields, the rest behind the last LF, one output behind another, and lines that come later.
+-- What laws of texts speak of: fields, the bytes behind the last LF, one output behind another, and
+-- lines that come later.
 use Rattle.std.specs.Prelude.{ℕ, ◌+◌, Bool, not, ◌&&◌, List, [], ◌∷◌, ◌++◌, length, Result, Ok, Err, ◌==◌}
 use Rattle.std.specs.List.{list_all}
 use Rattle.pf_text.specs.Driver.{Output}
@@ -12,23 +13,28 @@ abbrev pub is_field : List ℕ → Bool
 is_field bytes = not (length bytes == 0) && lacks_space bytes
 
 -- the line that has no LF, where there are bytes behind the last LF
-abbrev pub unended : List ℕ → List (List ℕ)
-unended [] = []
-unended (byte ∷ bytes) = (byte ∷ bytes) ∷ []
+abbrev pub unterminated_line : List ℕ → List (List ℕ)
+unterminated_line [] = []
+unterminated_line (byte ∷ bytes) = (byte ∷ bytes) ∷ []
 
--- an output, and behind it what follows where it came to its end
-abbrev pub behind : {S F : Type 0} → List ℕ → Result (ℕ × S) (ℕ × F) → (ℕ → S → Output S F) → Output S F
-behind text (Ok ended) others = record { text = text ++ (others ended.0 ended.1).text; ending = (others ended.0 ended.1).ending }
-behind text (Err fault) others = record { text = text; ending = Err fault }
+-- a text, and behind it the output of what follows where it came to its end
+abbrev pub ending_then : {S F : Type 0} → List ℕ → Result (ℕ × S) (ℕ × F) → (ℕ → S → Output S F)
+    → Output S F
+ending_then text (Ok ended) others =
+    let output = others ended.0 ended.1 in
+    record { text = text ++ output.text; ending = output.ending }
+ending_then text (Err fault) others = record { text = text; ending = Err fault }
 
-abbrev pub followed : {S F : Type 0} → Output S F → (ℕ → S → Output S F) → Output S F
-followed output others = behind output.text output.ending others
+-- an output, and behind it that of what follows where it came to its end
+abbrev pub output_then : {S F : Type 0} → Output S F → (ℕ → S → Output S F) → Output S F
+output_then output others = ending_then output.text output.ending others
 
 -- the same ending one line later
-abbrev pub ending_later : {S F : Type 0} → Result (ℕ × S) (ℕ × F) → Result (ℕ × S) (ℕ × F)
-ending_later (Ok ended) = Ok (ended.0 + 1, ended.1)
-ending_later (Err fault) = Err (fault.0 + 1, fault.1)
+abbrev pub ending_a_line_later : {S F : Type 0} → Result (ℕ × S) (ℕ × F) → Result (ℕ × S) (ℕ × F)
+ending_a_line_later (Ok ended) = Ok (ended.0 + 1, ended.1)
+ending_a_line_later (Err fault) = Err (fault.0 + 1, fault.1)
 
 -- the same output, a line later
-abbrev pub one_later : {S F : Type 0} → Output S F → Output S F
-one_later output = record { text = output.text; ending = ending_later output.ending }
+abbrev pub output_a_line_later : {S F : Type 0} → Output S F → Output S F
+output_a_line_later output =
+    record { text = output.text; ending = ending_a_line_later output.ending }

@@ -6,4 +6,5 @@ pub mod Lines
 pub mod Driver
 pub mod Laws
 pub mod Streams
+pub mod Buffer
 pub mod Words

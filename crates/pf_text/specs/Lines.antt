@@ -4,17 +4,17 @@ use Rattle.std.specs.List.{list_all, flat_map, onto_first, position_or_len}
 use Rattle.std.specs.Io.KnownBytes.{Appends, Consumes}
 use Rattle.pf_text.specs.declared.lines.Taken.{Taken}
 use Rattle.pf_text.specs.declared.lines.Taken.TheVariants.{Line, Last, End, TooLong}
-use Rattle.pf_text.specs.declared.lines.TakeError.{TakeError}
-use Rattle.pf_text.specs.declared.lines.TakeError.TheVariants.{Memory, Read}
+use Rattle.pf_text.specs.declared.lines.ReadFailed.{ReadFailed}
 
 -- the lines of a text, without their LFs
 unfoldable pub lines_of : List ℕ → List (List ℕ)
 lines_of [] = []
-lines_of (byte ∷ bytes) = if byte == 10 then [] ∷ lines_of bytes else onto_first byte (lines_of bytes)
+lines_of (byte ∷ bytes) =
+    if byte == 10 then [] ∷ lines_of bytes else onto_first byte (lines_of bytes)
 
 -- a line with its LF
-abbrev pub ended : List ℕ → List ℕ
-ended line = line ++ 10 ∷ []
+abbrev pub terminated_line : List ℕ → List ℕ
+terminated_line line = line ++ 10 ∷ []
 
 -- no byte is a LF
 abbrev pub is_line : List ℕ → Bool
@@ -26,44 +26,45 @@ line_length bytes = position_or_len (λ byte. byte == 10) bytes
 
 -- the bytes are these lines, each with its LF, and then the rest
 pub record AreLines (bytes : List ℕ) (lines : List (List ℕ)) (rest : List ℕ) : Type 0 where
-  pub bytes_are : bytes ≡ flat_map ended lines ++ rest
+  pub bytes_are : bytes ≡ flat_map terminated_line lines ++ rest
   pub lines_are : list_all is_line lines ≡ true
 
--- a beginning of the bytes was taken, and the rest is left
-pub record TakesFront (bytes front : List ℕ) (left : Option (List ℕ)) : Type 0 where
+-- the bytes begin with this prefix, and what follows it is left
+pub record TakesPrefix (bytes prefix : List ℕ) (left : Option (List ℕ)) : Type 0 where
   pub rest : List ℕ
   pub left_is : left ≡ Some rest
-  pub bytes_are : bytes ≡ front ++ rest
+  pub bytes_are : bytes ≡ prefix ++ rest
 
--- what was taken from the bytes, and what is left
-abbrev pub Takes : List ℕ → List ℕ → Option (List ℕ) → Result Taken TakeError → Type 0
-Takes bytes line left (Ok Line) = TakesFront bytes (ended line) left × (is_line line ≡ true) × (length line ≤ 4096)
-Takes bytes line left (Ok Last) = (line ≡ bytes) × (left ≡ Some []) × (is_line line ≡ true) × (0 < length line) × (length line ≤ 4096)
+-- what was taken from the bytes, and what is left; a failed reader leaves a part of one line taken
+abbrev pub Takes : List ℕ → List ℕ → Option (List ℕ) → Result Taken ReadFailed → Type 0
+Takes bytes line left (Ok Line) =
+    TakesPrefix bytes (terminated_line line) left × (is_line line ≡ true) × (length line ≤ 4096)
+Takes bytes line left (Ok Last) =
+    (line ≡ bytes) × (left ≡ Some []) × (is_line line ≡ true) × (0 < length line)
+    × (length line ≤ 4096)
 Takes bytes line left (Ok End) = (bytes ≡ []) × (left ≡ Some [])
-Takes bytes line left (Ok TooLong) = TakesFront bytes line left × (is_line line ≡ true) × (length line ≡ 4097)
-Takes bytes line left (Err error) = (part : List ℕ) × TakesFront bytes part left × (is_line part ≡ true)
+Takes bytes line left (Ok TooLong) =
+    TakesPrefix bytes line left × (is_line line ≡ true) × (length line ≡ 4097)
+Takes bytes line left (Err failed) =
+    (part : List ℕ) × TakesPrefix bytes part left × (is_line part ≡ true)
 
--- a part of a line was taken and stands behind what was taken of it, with its LF where that is the line's end
-pub record TakesPart (before after : Option (List ℕ)) (old new : List ℕ) (is_end : Bool) : Type 0 where
+-- bytes of one line were taken and appended to what was taken of it; its LF too, where that was
+-- reached
+pub record ExtendsLine (unread left : Option (List ℕ)) (old new : List ℕ) (is_end : Bool)
+    : Type 0 where
   pub part : List ℕ
   pub part_is : is_line part ≡ true
   pub line_is : new ≡ old ++ part
-  pub taken : Consumes before after (if is_end then ended part else part)
+  pub taken : Consumes unread left (if is_end then terminated_line part else part)
 
--- a beginning of the bytes was appended to what is known
-pub record AppendsFront (old new : Option (List ℕ)) (bytes : List ℕ) : Type 0 where
-  pub front : List ℕ
+-- a prefix of the bytes was appended to what is known
+pub record AppendsPrefix (old new : Option (List ℕ)) (bytes : List ℕ) : Type 0 where
+  pub prefix : List ℕ
   pub rest : List ℕ
-  pub bytes_are : front ++ rest ≡ bytes
-  pub appended : Appends old new front
+  pub bytes_are : prefix ++ rest ≡ bytes
+  pub appended : Appends old new prefix
 
 -- each failure is counted, and nothing else
 abbrev pub Counts : {T E : Type 0} → ℕ → Result T E → ℕ → Type 0
 Counts before (Ok x) after = after ≡ before
 Counts before (Err error) after = after ≡ before + 1
-
--- the same where memory may run out
-abbrev pub CountsTake : ℕ → Result Taken TakeError → ℕ → Type 0
-CountsTake before (Ok taken) after = after ≡ before
-CountsTake before (Err Memory) after = after ≡ before
-CountsTake before (Err Read) after = after ≡ before + 1

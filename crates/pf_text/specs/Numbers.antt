@@ -1,4 +1,4 @@
--- Whole numbers in decimal digits: `0`, or digits without a leading zero, or such behind a minus.
+-- Whole numbers in decimal digits: `0`, or digits without a leading zero, or those behind a minus.
 use Rattle.std.specs.Prelude.{ℕ, zero, suc, ◌^◌, ℤ, pos, negsuc, neg_ℤ, ◌&&◌, not, List, [], ◌∷◌, length, Option, Some, None, Result, Ok, Err, ◌==◌, if◌then◌else◌, int_le}
 use Rattle.std.specs.Char.{is_ascii_digit}
 use Rattle.std.specs.Int.{int_min, int_max}
@@ -7,17 +7,18 @@ use Rattle.std.specs.Option.{option_map}
 use Rattle.std.specs.Str.Parse.{digits_value}
 use Rattle.pf_text.specs.declared.fault.LineFault.{LineFault}
 use Rattle.pf_text.specs.declared.fault.LineFault.TheVariants.{BadNumber}
-use Rattle.pf_text.specs.declared.numbers.Spelled.{Spelled}
-use Rattle.pf_text.specs.declared.numbers.Spelled.TheVariants.{Within, Outside, Misspelt}
+use Rattle.pf_text.specs.declared.numbers.ParsedNumber.{ParsedNumber}
+use Rattle.pf_text.specs.declared.numbers.ParsedNumber.TheVariants.{InRange, OutOfRange, NotANumber}
 
--- the number that decimal digits write
+-- the number that decimal digits encode
 abbrev pub digits_of : List ℕ → Option ℕ
 digits_of digits = if list_all is_ascii_digit digits then Some (digits_value 10 digits) else None
 
 -- `0`, or digits without a leading zero
 unfoldable pub natural_of : List ℕ → Option ℕ
 natural_of [] = None
-natural_of (digit ∷ digits) = if digit == 48 && not (length digits == 0) then None else digits_of (digit ∷ digits)
+natural_of (digit ∷ digits) =
+    if digit == 48 && not (length digits == 0) then None else digits_of (digit ∷ digits)
 
 -- minus a number that is not 0
 abbrev pub negative : Option ℕ → Option ℤ
@@ -25,21 +26,22 @@ negative None = None
 negative (Some zero) = None
 negative (Some (suc n)) = Some (negsuc n)
 
--- the whole number that a field spells
+-- the whole number that a field encodes
 unfoldable pub whole_of : List ℕ → Option ℤ
 whole_of [] = None
-whole_of (byte ∷ bytes) = if byte == 45 then negative (natural_of bytes) else option_map pos (natural_of (byte ∷ bytes))
+whole_of (byte ∷ bytes) =
+    if byte == 45 then negative (natural_of bytes) else option_map pos (natural_of (byte ∷ bytes))
 
--- a number held between -2^56 and 2^56
-abbrev pub held : ℤ → ℤ
-held z = int_max (neg_ℤ (pos (2 ^ 56))) (int_min z (pos (2 ^ 56)))
+-- a number clamped to -2^56 to 2^56
+abbrev pub clamp_whole : ℤ → ℤ
+clamp_whole z = int_max (neg_ℤ (pos (2 ^ 56))) (int_min z (pos (2 ^ 56)))
 
--- what a field that spells this, or nothing, is to a range
-abbrev pub spelled : ℤ → ℤ → Option ℤ → Spelled
-spelled low high None = Misspelt
-spelled low high (Some z) = if int_le low z && int_le z high then Within z else Outside
+-- what a field that encodes this number, or none, is to a reader of numbers of a range
+abbrev pub number : ℤ → ℤ → Option ℤ → ParsedNumber
+number low high None = NotANumber
+number low high (Some z) = if int_le low z && int_le z high then InRange z else OutOfRange
 
--- the same where one fault serves both
-abbrev pub within : ℤ → ℤ → Option ℤ → Result ℤ LineFault
-within low high None = Err BadNumber
-within low high (Some z) = if int_le low z && int_le z high then Ok z else Err BadNumber
+-- the same where one error serves both
+abbrev pub integer : ℤ → ℤ → Option ℤ → Result ℤ LineFault
+integer low high None = Err BadNumber
+integer low high (Some z) = if int_le low z && int_le z high then Ok z else Err BadNumber

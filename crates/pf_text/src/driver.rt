@@ -1,23 +1,32 @@
-//! A text answered line by line.
+//! A text processed line by line.
 
-ghost use Rattle.std.specs.Prelude.{◌≡◌, ℕ, ◌+◌, ◌^◌, ◌<◌, List, Some, map, OnOk, OnErr};
-ghost use Rattle.pf_text.specs.declared.driver.DriveFault.TheVariants.{Memory, Write};
+ghost use Rattle.std.specs.Prelude.{◌≡◌, ◌+◌, ◌^◌, ◌<◌, ◌≤◌, length, map, false, Err, OnOk, OnErr};
+ghost use Rattle.pf_text.specs.declared.driver.DriveFault.TheVariants.{Read, Write};
 ghost use Rattle.pf_text.specs.declared.driver.TakeRefusal.TheVariants as refusals;
 ghost use Rattle.std.specs.Io.KnownBytes.{Appends};
-ghost use Rattle.pf_text.specs.Lines.{AppendsFront, Counts};
-ghost use Rattle.pf_text.specs.Driver.{Rules, Tells, Drives, CountsReads, CountsWrites, fault_of, fault_at, step, is_ascii, is_plain, is_skipped};
+ghost use Rattle.pf_text.specs.Fields.{parts_of};
+ghost use Rattle.pf_text.specs.Lines.{AppendsPrefix, Counts};
+ghost use Rattle.pf_text.specs.Streams.{IfExposed};
+ghost use Rattle.pf_text.specs.Driver.{Rules, Produces, Drives, CountsReads, CountsWrites, fault_at, step, is_ascii, is_plain, is_skipped};
 
-use crate::fault::{LineError, LineFault};
-use crate::fields::fields_of;
-use crate::lines::{MAX_LINE, Sink, Source, TakeError, Taken, WriteFailed, take_line};
+use crate::fault::LineFault;
+use crate::fields::{field_count, split_into};
+use crate::lines::{LineBuffer, MAX_LINE, ReadFailed, Sink, Source, Taken, WriteFailed, take_line};
 use std::alloc::{AllocError, AllocFailed, Global};
+
+/// How many fields a line has where they are split without much of the stack.
+const FEW_FIELDS: usize = 16;
+
+/// The most fields that a line can have: each has a byte, and all but the last have a space behind
+/// them.
+const MAX_FIELDS: usize = 2048;
 
 /// Why a machine took no line.
 #[derive(Clone, Copy, Debug, PartialEq, Eq)]
 pub enum TakeRefusal<F> {
     /// No memory is left.
     Memory,
-    /// The line is at fault.
+    /// The line is invalid.
     Fault(F),
 }
 
@@ -37,19 +46,20 @@ impl<F, T: Drop> From<AllocFailed<T>> for TakeRefusal<F> {
     }
 }
 
-/// What lines mean: a state that takes the fields of one line after the other. Each line is lent an `L`.
+/// What lines mean: a state that takes the fields of one line after the other. Each line is lent an
+/// `L`.
 pub trait Machine<L>: Drop {
     /// What can be wrong with a line.
     type Fault: Drop;
 
-    // What it answers to fields, and its fault for a line that has none.
+    // Its output for fields and its next state, and its error for a line that has none.
     ghost rules: { Rules Self Self.Fault };
 
-    /// The fault of a line that has no fields, is too long or not ASCII.
-    fn refuse(fault: LineFault) -> Self::Fault
-        ensures { result ≡ rules.refused fault };
+    /// The error of a line that has no fields, is too long or not ASCII.
+    fn line_error(fault: LineFault) -> Self::Fault
+        ensures { result ≡ rules.line_error fault };
 
-    /// Answers the fields of a line with a text, which may be empty, and the next state.
+    /// Takes the fields of a line, and returns its output, which may be empty, and the next state.
     fn take(
         self,
         alloc: Global,
@@ -58,13 +68,13 @@ pub trait Machine<L>: Drop {
     ) -> Result<(String, Self), TakeRefusal<Self::Fault>>
     where
         Self: Sized,
-        ensures { Tells result (rules.says self (map (λ field. field.now) fields.now)) };
+        ensures { Produces result (rules.transition self (map (λ field. field.now) fields.now)) };
 }
 
-/// Why a text was not answered to its end.
+/// Why a text was not processed to its end.
 #[derive(Clone, Copy, Debug, PartialEq, Eq)]
 pub enum DriveFault<F> {
-    /// The line of this number, from 1, is at fault.
+    /// The line of this number, from 1, is invalid.
     Line(u64, F),
     /// No memory is left, or no number for a line.
     Memory,
@@ -74,7 +84,7 @@ pub enum DriveFault<F> {
     Write,
 }
 
-/// Whether all bytes are of ASCII. It has no early end, so that it takes many bytes at once.
+/// Whether all bytes are of ASCII. It has no early exit, so that the compiler can vectorize it.
 #[tactic(auto, using(crate::proofs::Ascii::ascii_next))]
 fn is_ascii(line: &[u8]) -> bool
     ensures { result ≡ is_ascii line.now }
@@ -103,37 +113,68 @@ fn is_skipped(line: &[u8]) -> bool
     }
 }
 
-/// The answer to a line, and the next state.
-#[tactic(auto, unfolding(crate::specs::Driver::step))]
-fn answer<L, M: Machine<L>>(
+/// The output for the fields of a line, which are written into `fields`, and the next state.
+fn take_fields<'a, L, M: Machine<L>>(
+    alloc: Global,
+    lent: &mut L,
+    machine: M,
+    line: &'a [u8],
+    fields: &mut [&'a [u8]],
+) -> Result<(String, M), TakeRefusal<M::Fault>>
+    requires { length (parts_of line.now) ≤ length fields.old }
+    ensures { Produces result (M.rules.transition machine (parts_of line.now)) }
+{
+    let count = split_into(line, fields);
+    machine.take(alloc, lent, &fields[..count])
+}
+
+/// The same for any line. It stands alone, so that lines of few fields do not pay for its 32 KiB of
+/// stack.
+#[inline(never)]
+fn take_many_fields<L, M: Machine<L>>(
     alloc: Global,
     lent: &mut L,
     machine: M,
     line: &[u8],
 ) -> Result<(String, M), TakeRefusal<M::Fault>>
-    ensures { Tells result (step M.rules machine line.now) }
+    requires { length (parts_of line.now) ≤ MAX_FIELDS }
+    ensures { Produces result (M.rules.transition machine (parts_of line.now)) }
+{
+    take_fields(alloc, lent, machine, line, &mut [line; MAX_FIELDS])
+}
+
+/// The output for a line, and the next state. Only the machine takes memory, and only for a valid
+/// line.
+#[tactic(auto, unfolding(crate::specs::Driver::step))]
+fn output<L, M: Machine<L>>(
+    alloc: Global,
+    lent: &mut L,
+    machine: M,
+    line: &[u8],
+) -> Result<(String, M), TakeRefusal<M::Fault>>
+    ensures reply { Produces result (step M.rules machine line.now) }
+    ensures skipped { result ≡ Err refusals.Memory → is_skipped line.now ≡ false }
 {
     if !is_plain(line) {
-        return Err(TakeRefusal::Fault(M::refuse(LineFault::BadLine)));
+        return Err(TakeRefusal::Fault(M::line_error(LineFault::BadLine)));
     }
     if is_skipped(line) {
         return Ok((String::new(alloc), machine));
     }
-    match fields_of(alloc, line) {
-        Ok(fields) => machine.take(alloc, lent, &fields),
-        Err(LineError::Fault(fault)) => Err(TakeRefusal::Fault(M::refuse(fault))),
-        Err(LineError::Memory) => Err(TakeRefusal::Memory),
+    match field_count(line) {
+        Ok(count) if count <= FEW_FIELDS => {
+            take_fields(alloc, lent, machine, line, &mut [line; FEW_FIELDS])
+        }
+        Ok(_) => take_many_fields(alloc, lent, machine, line),
+        Err(fault) => Err(TakeRefusal::Fault(M::line_error(fault))),
     }
 }
 
-impl<F> From<TakeError> for DriveFault<F> {
-    ghost from_gives = { λ error fault. fault ≡ fault_of error };
+impl<F> From<ReadFailed> for DriveFault<F> {
+    ghost from_gives = { λ _ fault. fault ≡ Read };
 
-    fn from(error: TakeError) -> DriveFault<F> {
-        match error {
-            TakeError::Memory => DriveFault::Memory,
-            TakeError::Read => DriveFault::Read,
-        }
+    fn from(_failed: ReadFailed) -> DriveFault<F> {
+        DriveFault::Read
     }
 }
 
@@ -145,15 +186,7 @@ impl<F> From<WriteFailed> for DriveFault<F> {
     }
 }
 
-impl<F> From<AllocError> for DriveFault<F> {
-    ghost from_gives = { λ _ fault. fault ≡ Memory };
-
-    fn from(_error: AllocError) -> DriveFault<F> {
-        DriveFault::Memory
-    }
-}
-
-/// What a refusal of the line of this number makes of the run.
+/// The error of a run whose machine did not take the line of this number.
 fn fault_at<F>(number: u64, refusal: TakeRefusal<F>) -> DriveFault<F>
     ensures { result ≡ fault_at number refusal }
 {
@@ -163,12 +196,14 @@ fn fault_at<F>(number: u64, refusal: TakeRefusal<F>) -> DriveFault<F>
     }
 }
 
-/// Writes a text; an empty one asks nothing of the writer.
+/// Writes a text; for an empty one the writer is not called.
 #[tactic(auto, using(crate::proofs::Taking::appends_none))]
 fn write_text<W: Sink>(writer: &mut W, text: &str) -> Result<(), WriteFailed>
     requires { W.failures writer.old + 1 < 2 ^ 64 }
     ensures ok { OnOk result (Appends (W.contents writer.old) (W.contents writer.new) text.now) }
-    ensures err { OnErr result (AppendsFront (W.contents writer.old) (W.contents writer.new) text.now) }
+    ensures err { OnErr result
+        (AppendsPrefix (W.contents writer.old) (W.contents writer.new) text.now) }
+    ensures some { OnErr result (0 < length text.now) }
     ensures counted { Counts (W.failures writer.old) result (W.failures writer.new) }
 {
     if text.is_empty() {
@@ -177,10 +212,12 @@ fn write_text<W: Sink>(writer: &mut W, text: &str) -> Result<(), WriteFailed>
     writer.write_all(text.as_bytes())
 }
 
-/// Answers the lines of a text one by one: what a machine says of a line is written before the next line is read.
+/// Processes the lines of a text one by one: the output of a machine for a line is written before
+/// the next line is read.
 ///
-/// A line that is empty or begins with `#` is counted and skipped. At the end it answers the number of the line after
-/// the last, and the machine. At a fault the answers of the lines before it were written.
+/// A line that is empty or begins with `#` is counted and skipped. At the end it returns the number
+/// of the line after the last, and the machine. At an error the output for the lines before it was
+/// written. Only the machine takes memory.
 pub fn drive<L, M: Machine<L>, R: Source, W: Sink>(
     alloc: Global,
     lent: &mut L,
@@ -190,21 +227,26 @@ pub fn drive<L, M: Machine<L>, R: Source, W: Sink>(
 ) -> Result<(u64, M), DriveFault<M::Fault>>
     requires reads { R.failures reader.old + 1 < 2 ^ 64 }
     requires writes { W.failures writer.old + 1 < 2 ^ 64 }
-    ensures driven { (input before : List ℕ) → R.remaining reader.old ≡ Some input → W.contents writer.old ≡ Some before
-        → Drives M.rules start input (R.remaining reader.new) before (W.contents writer.new) result }
-    // A fault of the reader or the writer is answered exactly where it failed in this call.
+    ensures driven { IfExposed (record {
+      unread = R.remaining reader.old;
+      left = R.remaining reader.new;
+      before = W.contents writer.old;
+      after = W.contents writer.new;
+    })
+        (λ transfer. Drives M.rules start transfer result) }
+    // An error of the reader or the writer is returned exactly where it failed in this call.
     ensures reads_counted { CountsReads (R.failures reader.old) result (R.failures reader.new) }
     ensures writes_counted { CountsWrites (W.failures writer.old) result (W.failures writer.new) }
 {
-    let mut line = Vec::with_capacity(alloc, MAX_LINE + 1)?;
+    let mut line = LineBuffer::new();
     let mut machine = start;
     for number in 1..u64::MAX {
         let taken = take_line(reader, &mut line)?;
         if let Taken::End = taken {
             return Ok((number, machine));
         }
-        let (text, next) = match answer(alloc, lent, machine, &line) {
-            Ok(answered) => answered,
+        let (text, next) = match output(alloc, lent, machine, line.as_slice()) {
+            Ok(reply) => reply,
             Err(refusal) => return Err(fault_at(number, refusal)),
         };
         machine = next;

@@ -9,7 +9,7 @@ use thiserror::Error;
 /// What is wrong with a line, in the names that any text has.
 #[derive(Clone, Copy, Debug, PartialEq, Eq, Error)]
 pub enum LineFault {
-    /// The line has no such form.
+    /// No line has this form.
     #[error("BadLine")]
     BadLine,
     /// A field is no whole number, or one out of its range.
@@ -23,7 +23,7 @@ pub enum LineError {
     /// No memory is left.
     #[error("out of memory")]
     Memory,
-    /// The line is at fault.
+    /// The line is invalid.
     #[error("{0}")]
     Fault(LineFault),
 }

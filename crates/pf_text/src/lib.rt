@@ -1,4 +1,5 @@
-//! Texts as lines, fields and whole numbers: what a program that answers lines needs, whatever the lines mean.
+//! Texts as lines, fields and whole numbers: what a program that processes lines needs, whatever
+//! the lines mean.
 #![tactic(auto)]
 
 mod driver;
@@ -14,11 +15,10 @@ mod words;
 pub use driver::{DriveFault, Machine, TakeRefusal, drive};
 pub use fault::{LineError, LineFault};
 pub use fields::fields_of;
-pub use lines::{MAX_LINE, ReadFailed, Sink, Source, TakeError, Taken, WriteFailed, take_line};
+pub use lines::{
+    LINE_ROOM, LineBuffer, MAX_LINE, ReadFailed, Sink, Source, Taken, WriteFailed, take_line,
+};
 pub use memory::{Bytes, Collected};
-pub use numbers::{Spelled, integer, number, whole};
+pub use numbers::{ParsedNumber, integer, number, whole};
 pub use streams::{Input, Output};
 pub use words::{push_line, push_words};
-
-#[cfg(test)]
-mod tests;

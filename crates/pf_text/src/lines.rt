@@ -1,16 +1,21 @@
 //! Bytes that come and go, and one line of them.
 
-ghost use Rattle.std.specs.Prelude.{◌≡◌, ◌≢◌, ℕ, ◌+◌, ◌^◌, ◌<◌, ◌≤◌, List, [], length, take, true, false, Option, Some, Ok, IfOk, IfErr, OnOk, OnErr};
+ghost use Rattle.std.specs.Prelude.{◌≡◌, ◌≢◌, ℕ, ◌+◌, ◌^◌, ◌<◌, ◌≤◌, List, [], length, take, true, false, Option, Some, OnOk, OnErr};
 ghost use Rattle.std.specs.Io.KnownBytes.{Consumes, Appends, Keeps, IsAtEnd};
-ghost use Rattle.pf_text.specs.declared.lines.TakeError.TheVariants.{Memory, Read};
-ghost use Rattle.pf_text.specs.Lines.{AppendsFront, Counts, CountsTake, Takes, TakesPart, line_length};
+ghost use Rattle.pf_text.specs.Lines.{AppendsPrefix, Counts, Takes, ExtendsLine, line_length};
 
+use arrayvec::ArrayVec;
 use memchr::memchr;
-use std::alloc::AllocError;
 use thiserror::Error;
 
 /// How many bytes a line may have, its LF apart.
 pub const MAX_LINE: usize = 4096;
+
+/// Room for a line, and one byte more, by which a line is found too long.
+pub const LINE_ROOM: usize = MAX_LINE + 1;
+
+/// The bytes of one line.
+pub type LineBuffer = ArrayVec<u8, LINE_ROOM>;
 
 /// A source gave no byte: what it reads from failed.
 #[derive(Clone, Copy, Debug, PartialEq, Eq, Error)]
@@ -22,8 +27,8 @@ pub struct ReadFailed;
 #[error("write failed")]
 pub struct WriteFailed;
 
-/// Bytes that come one after the other, some of which are ready. A source counts its failures, and tells its bytes where it
-/// knows them.
+/// Bytes that come one after the other, some of which are ready. A source counts its failures, and
+/// exposes its bytes to proofs where it knows them.
 pub trait Source {
     // The bytes that are still to come, or `None`, of which nothing is claimed.
     ghost remaining: { Self → Option (List ℕ) };
@@ -48,23 +53,27 @@ pub trait Source {
     /// Takes the first bytes of those that are ready.
     fn skip(&mut self, count: usize)
         requires { count ≤ length (ready self.old) }
-        ensures taken { Consumes (remaining self.old) (remaining self.new) (take count (ready self.old)) }
+        ensures taken { Consumes (remaining self.old) (remaining self.new)
+            (take count (ready self.old)) }
         ensures counted { failures self.new ≡ failures self.old };
 }
 
-/// Where bytes go. A sink counts its failures, and tells what it holds where it knows it.
+/// Where bytes go. A sink counts its failures, and exposes the bytes that it has taken to proofs
+/// where it knows them.
 pub trait Sink {
-    // The bytes that it holds, or `None`, of which nothing is claimed.
+    // The bytes that it has taken, or `None`, of which nothing is claimed.
     ghost contents: { Self → Option (List ℕ) };
 
     // How often it failed.
     ghost failures: { Self → ℕ };
 
-    /// Writes all the bytes, none of which waits for later ones. At a failure a beginning of them was written.
+    /// Writes all the bytes, none of which waits for later ones. At a failure a prefix of them was
+    /// written.
     fn write_all(&mut self, bytes: &[u8]) -> Result<(), WriteFailed>
         requires { failures self.old + 1 < 2 ^ 64 }
         ensures ok { OnOk result (Appends (contents self.old) (contents self.new) bytes.now) }
-        ensures err { OnErr result (AppendsFront (contents self.old) (contents self.new) bytes.now) }
+        ensures err { OnErr result
+            (AppendsPrefix (contents self.old) (contents self.new) bytes.now) }
         ensures counted { Counts (failures self.old) result (failures self.new) };
 }
 
@@ -81,71 +90,46 @@ pub enum Taken {
     TooLong,
 }
 
-/// Why no line was taken.
-#[derive(Clone, Copy, Debug, PartialEq, Eq, Error)]
-pub enum TakeError {
-    /// No memory is left for its bytes.
-    #[error("out of memory")]
-    Memory,
-    /// The source failed.
-    #[error("read failed")]
-    Read,
-}
-
-impl From<ReadFailed> for TakeError {
-    ghost from_gives = { λ _ error. error ≡ Read };
-
-    fn from(_failed: ReadFailed) -> TakeError {
-        TakeError::Read
-    }
-}
-
-impl From<AllocError> for TakeError {
-    ghost from_gives = { λ _ error. error ≡ Memory };
-
-    fn from(_error: AllocError) -> TakeError {
-        TakeError::Memory
-    }
-}
-
 /// How many bytes come before the first LF, or all.
-#[tactic(auto, using(crate::proofs::Places::first_or_length))]
+#[tactic(auto, using(crate::proofs::FirstByte::first_or_length))]
 fn line_length(bytes: &[u8]) -> usize
     ensures { result ≡ line_length bytes.now }
 {
     memchr(b'\n', bytes).unwrap_or(bytes.len())
 }
 
-/// Takes what is ready of a line, behind what was taken of it, and answers whether its LF was taken too.
-fn take_part<R: Source>(source: &mut R, line: &mut Vec<u8>) -> Result<bool, TakeError>
+/// Takes the bytes of a line that are ready, appends them to what was taken of it, and returns
+/// whether its LF was taken.
+fn take_part<R: Source>(source: &mut R, line: &mut LineBuffer) -> bool
     requires begun { length line.old.items ≤ MAX_LINE }
-    ensures part { IfOk result (TakesPart (R.remaining source.old) (R.remaining source.new) line.old.items line.new.items) }
-    ensures err { OnErr result (Keeps (R.remaining source.old) (R.remaining source.new) × (line.new.items ≡ line.old.items)) }
-    ensures memory { IfErr result (λ error. error ≡ Memory) }
-    ensures further { R.ready source.old ≢ [] → result ≡ Ok false → length line.old.items < length line.new.items }
-    ensures bounded { length line.new.items ≤ MAX_LINE + 1 }
-    ensures line { result ≡ Ok true → length line.new.items ≤ MAX_LINE }
+    ensures part { ExtendsLine (R.remaining source.old) (R.remaining source.new)
+        line.old.items line.new.items result }
+    ensures further { R.ready source.old ≢ [] → result ≡ false
+        → length line.old.items < length line.new.items }
+    ensures bounded { length line.new.items ≤ LINE_ROOM }
+    ensures line { result ≡ true → length line.new.items ≤ MAX_LINE }
     ensures counted { R.failures source.new ≡ R.failures source.old }
 {
     let ready = source.ready();
-    let ready = &ready[..ready.len().min(MAX_LINE + 1 - line.len())];
+    let ready = &ready[..ready.len().min(LINE_ROOM - line.len())];
     let part = line_length(ready);
     let is_ended = part < ready.len();
-    line.extend_from_slice(&ready[..part])?;
+    line.try_extend_from_slice(&ready[..part]).unwrap();
     source.skip(if is_ended { part + 1 } else { part });
-    Ok(is_ended)
+    is_ended
 }
 
-/// Takes the next line of a source into `line`, which it empties first, with one byte more than a line may have at most.
+/// Takes the next line of a source into `line`, which it empties first, with one byte more than a
+/// line may have at most.
 ///
-/// At an error a part of one line was taken.
-pub fn take_line<R: Source>(source: &mut R, line: &mut Vec<u8>) -> Result<Taken, TakeError>
+/// At an error a part of one line was taken. It takes no memory.
+pub fn take_line<R: Source>(source: &mut R, line: &mut LineBuffer) -> Result<Taken, ReadFailed>
     requires { R.failures source.old + 1 < 2 ^ 64 }
     ensures taken { (before : List ℕ) → R.remaining source.old ≡ Some before
         → Takes before line.new.items (R.remaining source.new) result }
-    ensures counted { CountsTake (R.failures source.old) result (R.failures source.new) }
+    ensures counted { Counts (R.failures source.old) result (R.failures source.new) }
     // However long a line is, the buffer stays small.
-    ensures bounded { length line.new.items ≤ MAX_LINE + 1 }
+    ensures bounded { length line.new.items ≤ LINE_ROOM }
 {
     line.clear();
     while line.len() <= MAX_LINE {
@@ -157,7 +141,7 @@ pub fn take_line<R: Source>(source: &mut R, line: &mut Vec<u8>) -> Result<Taken,
                 Taken::Last
             });
         }
-        if take_part(source, line)? {
+        if take_part(source, line) {
             return Ok(Taken::Line);
         }
     }

@@ -1,4 +1,4 @@
-//! A source and a sink in memory, which tell their bytes.
+//! A source and a sink in memory, which expose their bytes to proofs.
 
 ghost use Rattle.std.specs.Prelude.{◌≡◌, Some, []};
 
@@ -43,7 +43,7 @@ impl Source for Bytes<'_> {
     }
 }
 
-/// A sink that keeps in memory what is written. It fails where no memory is left.
+/// A sink that keeps in memory the bytes that are written. It fails where no memory is left.
 #[derive(Debug, Drop)]
 pub struct Collected {
     bytes: Vec<u8>,
@@ -51,7 +51,7 @@ pub struct Collected {
 }
 
 impl Collected {
-    /// A sink that holds nothing yet.
+    /// A sink that has taken no bytes yet.
     pub fn new(alloc: Global) -> Self
         ensures contents { ⟦<Collected as Sink>⟧.contents result ≡ Some [] }
         ensures failures { ⟦<Collected as Sink>⟧.failures result ≡ 0 }
@@ -62,7 +62,7 @@ impl Collected {
         }
     }
 
-    /// What was written.
+    /// The bytes that were written.
     pub fn bytes(&self) -> &[u8]
         ensures { ⟦<Collected as Sink>⟧.contents self.now ≡ Some result.now }
     {
@@ -75,7 +75,7 @@ impl Sink for Collected {
 
     ghost failures = { λ sink. sink.failures };
 
-    #[tactic(auto, using(crate::proofs::Taking::appends_front_none))]
+    #[tactic(auto, using(crate::proofs::Taking::appends_prefix_none))]
     fn write_all(&mut self, bytes: &[u8]) -> Result<(), WriteFailed> {
         if self.bytes.extend_from_slice(bytes).is_ok() {
             return Ok(());

@@ -2,26 +2,26 @@
 
 ghost use Rattle.std.specs.Prelude.{◌≡◌, ◌^◌, pos, neg_ℤ, ◌<ℤ◌, min};
 ghost use Rattle.std.specs.Option.{option_map};
-ghost use Rattle.pf_text.specs.Numbers.{digits_of, natural_of, whole_of, held, spelled, within};
+ghost use Rattle.pf_text.specs.Numbers.{digits_of, natural_of, whole_of, clamp_whole, number, integer};
 
 use crate::fault::LineFault;
 
-/// Where a number is held: no number of a range is so great.
+/// Where a number is clamped: no number of a range is so great.
 const MOST: u64 = 1 << 56;
 
-/// What a field is to a reader that wants a number of a range.
+/// What a field is to a reader that expects a number of a range.
 #[derive(Clone, Copy, Debug, PartialEq, Eq)]
-pub enum Spelled {
+pub enum ParsedNumber {
     /// A whole number of the range.
-    Within(i64),
-    /// A whole number that is out of the range, however long it is.
-    Outside,
+    InRange(i64),
+    /// A whole number out of the range, however long it is.
+    OutOfRange,
     /// No whole number.
-    Misspelt,
+    NotANumber,
 }
 
-/// The number that decimal digits write, held at `MOST`.
-#[tactic(auto, using(crate::proofs::Digits::digits_value_next, crate::proofs::Digits::list_all_next))]
+/// The number that decimal digits encode, at most `MOST`.
+#[tactic(auto, using(crate::proofs::Digits::next_digit))]
 fn digits_value(digits: &[u8]) -> Option<u64>
     ensures { result ≡ option_map (min (2 ^ 56)) (digits_of digits.now) }
 {
@@ -35,7 +35,7 @@ fn digits_value(digits: &[u8]) -> Option<u64>
     Some(value)
 }
 
-/// The number that digits without a leading zero write, held at `MOST`.
+/// The number that digits without a leading zero encode, at most `MOST`.
 #[tactic(auto, unfolding(crate::specs::Numbers::natural_of))]
 fn natural(digits: &[u8]) -> Option<u64>
     ensures { result ≡ option_map (min (2 ^ 56)) (natural_of digits.now) }
@@ -46,10 +46,10 @@ fn natural(digits: &[u8]) -> Option<u64>
     }
 }
 
-/// The whole number that a field spells, held between -2^56 and 2^56.
+/// The whole number that a field encodes, clamped to -2^56 to 2^56.
 #[tactic(auto, unfolding(crate::specs::Numbers::whole_of))]
 pub fn whole(field: &[u8]) -> Option<i64>
-    ensures { result ≡ option_map held (whole_of field.now) }
+    ensures { result ≡ option_map clamp_whole (whole_of field.now) }
 {
     match field {
         [] => None,
@@ -61,27 +61,27 @@ pub fn whole(field: &[u8]) -> Option<i64>
     }
 }
 
-/// What a field is to a reader that wants a number from `low` to `high`.
-pub fn number(field: &[u8], low: i64, high: i64) -> Spelled
+/// What a field is to a reader that expects a number from `low` to `high`.
+pub fn number(field: &[u8], low: i64, high: i64) -> ParsedNumber
     requires low { neg_ℤ (pos (2 ^ 56)) <ℤ low }
     requires high { high <ℤ pos (2 ^ 56) }
-    ensures { result ≡ spelled low high (whole_of field.now) }
+    ensures { result ≡ number low high (whole_of field.now) }
 {
     match whole(field) {
-        None => Spelled::Misspelt,
-        Some(number) if number < low || number > high => Spelled::Outside,
-        Some(number) => Spelled::Within(number),
+        None => ParsedNumber::NotANumber,
+        Some(number) if number < low || number > high => ParsedNumber::OutOfRange,
+        Some(number) => ParsedNumber::InRange(number),
     }
 }
 
-/// The number from `low` to `high` that a field spells; any other field is `BadNumber`.
+/// The number from `low` to `high` that a field encodes; any other field is `BadNumber`.
 pub fn integer(field: &[u8], low: i64, high: i64) -> Result<i64, LineFault>
     requires low { neg_ℤ (pos (2 ^ 56)) <ℤ low }
     requires high { high <ℤ pos (2 ^ 56) }
-    ensures { result ≡ within low high (whole_of field.now) }
+    ensures { result ≡ integer low high (whole_of field.now) }
 {
     match number(field, low, high) {
-        Spelled::Within(number) => Ok(number),
-        Spelled::Outside | Spelled::Misspelt => Err(LineFault::BadNumber),
+        ParsedNumber::InRange(number) => Ok(number),
+        ParsedNumber::OutOfRange | ParsedNumber::NotANumber => Err(LineFault::BadNumber),
     }
 }

@@ -2,8 +2,8 @@
 
 ghost use Rattle.std.specs.Prelude.{◌≡◌, ◌+◌, ◌<◌, ◌≤◌, length, take, IfOk, OnOk, OnErr};
 ghost use Rattle.std.specs.Io.KnownBytes.{Appends, Keeps, ReadConsumes, prepend_known};
-ghost use Rattle.pf_text.specs.Lines.{AppendsFront};
-ghost use Rattle.pf_text.specs.Streams.{unread};
+ghost use Rattle.pf_text.specs.Lines.{AppendsPrefix};
+ghost use Rattle.pf_text.specs.Buffer.{unread};
 
 use crate::lines::{ReadFailed, Sink, Source, WriteFailed};
 use std::io::{ErrorKind, Read, Write};
@@ -11,12 +11,14 @@ use std::io::{ErrorKind, Read, Write};
 /// How many bytes are read at once.
 const BUFFER: usize = 8192;
 
-/// Reads what there is, and again after an interrupt. It answers 0 bytes at the end, and nowhere else.
-#[tactic(auto, using(crate::proofs::Taking::keeps_same, crate::proofs::Taking::keeps_more, crate::proofs::Taking::consumes_after))]
+/// Reads the bytes that there are, and again after an interrupt. It returns 0 at the end, and
+/// nowhere else.
+#[tactic(auto, using(crate::proofs::Taking::reads))]
 #[inline(never)]
 fn read_some<R: Read>(reader: &mut R, buffer: &mut [u8]) -> Result<usize, ReadFailed>
     ensures within { IfOk result (λ count. count ≤ length buffer.new) }
-    ensures read { ReadConsumes (R.remaining reader.old) (R.remaining reader.new) result buffer.new }
+    ensures read { ReadConsumes (R.remaining reader.old) (R.remaining reader.new)
+        result buffer.new }
 {
     for _ in 0..u64::MAX {
         match reader.read(buffer) {
@@ -28,7 +30,7 @@ fn read_some<R: Read>(reader: &mut R, buffer: &mut [u8]) -> Result<usize, ReadFa
     Err(ReadFailed)
 }
 
-/// A reader as a source, which tells of its bytes what the reader does.
+/// A reader as a source, which exposes to proofs the bytes that the reader exposes.
 #[derive(Drop)]
 pub struct Input<R: Read> {
     reader: R,
@@ -41,7 +43,7 @@ pub struct Input<R: Read> {
 }
 
 impl<R: Read> Input<R> {
-    /// The bytes of a reader.
+    /// The bytes of a reader, from its next on.
     #[tactic(auto, using(crate::proofs::Taking::keeps_same))]
     pub fn new(reader: R) -> Self
         ensures remaining { Keeps (R.remaining reader) (⟦<Input<R> as Source>⟧.remaining result) }
@@ -58,13 +60,14 @@ impl<R: Read> Input<R> {
 }
 
 impl<R: Read> Source for Input<R> {
-    ghost remaining = { λ source. prepend_known (unread source.start source.end source.buffer) (R.remaining source.reader) };
+    ghost remaining = { λ source. prepend_known (unread source.start source.end source.buffer)
+        (R.remaining source.reader) };
 
     ghost ready = { λ source. unread source.start source.end source.buffer };
 
     ghost failures = { λ source. source.failures };
 
-    #[tactic(auto, using(crate::proofs::Buffered::keeps_filled, crate::proofs::Buffered::keeps_unfilled, crate::proofs::Taking::keeps_same))]
+    #[tactic(auto, using(crate::proofs::Buffered::fills))]
     #[inline]
     fn fill(&mut self) -> Result<(), ReadFailed> {
         if self.start < self.end {
@@ -95,11 +98,12 @@ impl<R: Read> Source for Input<R> {
     }
 }
 
-/// Writes a beginning of the bytes, which are not empty, and again after an interrupt.
-#[tactic(auto, using(crate::proofs::Taking::keeps_same, crate::proofs::Taking::keeps_more, crate::proofs::Taking::appends_after, crate::proofs::Buffered::keeps_from_appends))]
+/// Writes a prefix of the bytes, which are not empty, and again after an interrupt.
+#[tactic(auto, using(crate::proofs::Buffered::writes_some))]
 fn write_some<W: Write>(writer: &mut W, bytes: &[u8]) -> Result<usize, WriteFailed>
     ensures some { IfOk result (λ count. (0 < count) × (count ≤ length bytes.now)) }
-    ensures ok { IfOk result (λ count. Appends (W.contents writer.old) (W.contents writer.new) (take count bytes.now)) }
+    ensures ok { IfOk result
+        (λ count. Appends (W.contents writer.old) (W.contents writer.new) (take count bytes.now)) }
     ensures err { OnErr result (Keeps (W.contents writer.old) (W.contents writer.new)) }
 {
     for _ in 0..u64::MAX {
@@ -114,10 +118,11 @@ fn write_some<W: Write>(writer: &mut W, bytes: &[u8]) -> Result<usize, WriteFail
 }
 
 /// Writes all the bytes.
-#[tactic(auto, using(crate::proofs::Buffered::appends_front_kept, crate::proofs::Buffered::appends_whole))]
+#[tactic(auto, using(crate::proofs::Buffered::writes_whole))]
 fn write_whole<W: Write>(writer: &mut W, bytes: &[u8]) -> Result<(), WriteFailed>
     ensures ok { OnOk result (Appends (W.contents writer.old) (W.contents writer.new) bytes.now) }
-    ensures err { OnErr result (AppendsFront (W.contents writer.old) (W.contents writer.new) bytes.now) }
+    ensures err { OnErr result
+        (AppendsPrefix (W.contents writer.old) (W.contents writer.new) bytes.now) }
 {
     let mut rest = bytes;
     while !rest.is_empty() {
@@ -127,7 +132,8 @@ fn write_whole<W: Write>(writer: &mut W, bytes: &[u8]) -> Result<(), WriteFailed
     Ok(())
 }
 
-/// A writer as a sink, which is flushed at each write and tells of its bytes what the writer does.
+/// A writer as a sink, which is flushed at each write and exposes to proofs the bytes that the
+/// writer exposes.
 #[derive(Debug, Drop)]
 pub struct Output<W: Write> {
     writer: W,
@@ -135,7 +141,7 @@ pub struct Output<W: Write> {
 }
 
 impl<W: Write> Output<W> {
-    /// What goes to a writer.
+    /// A sink of what a writer takes.
     pub fn new(writer: W) -> Self
         ensures contents { ⟦<Output<W> as Sink>⟧.contents result ≡ W.contents writer }
         ensures failures { ⟦<Output<W> as Sink>⟧.failures result ≡ 0 }

@@ -1,4 +1,4 @@
-//! What is said to the words behind the program's name, and words as the system has them.
+//! What the words behind the program's name are parsed as, and words as the system has them.
 
 use super::*;
 use std::env::FillError;
@@ -10,12 +10,11 @@ const FRAME_USAGE: &str = "\nUsage: pf_play frame <HEX>\n\nFor more information,
 
 const RUN_USAGE: &str = "\nUsage: pf_play run\n\nFor more information, try '--help'.\n";
 
-// What `options` says to the words behind the program's name, and by which status.
-fn said(alloc: Global, words: &[&str]) -> Result<(u8, String), AllocError> {
+// The text of the mistake in these words; or an empty one, where they have none.
+fn mistake(alloc: Global, words: &[&str]) -> Result<String, AllocError> {
     match options(alloc, words) {
-        Ok(Request::Run | Request::Frame(_)) => Ok((0, String::new(alloc))),
-        Ok(Request::Say(text)) => Ok((0, text)),
-        Err(PlayFault::Words(text)) => Ok((2, text)),
+        Ok(_) => Ok(String::new(alloc)),
+        Err(PlayFault::Words(text)) => Ok(text),
         Err(_) => Err(AllocError),
     }
 }
@@ -46,17 +45,31 @@ fn takes_the_digits_of_a_frame(rt: HostRuntime) -> Result<(), Fail> {
 }
 
 #[test]
-fn says_the_version(rt: HostRuntime) -> Result<(), Fail> {
-    let (status, text) = said(rt.alloc(), &["pf_play", "--version"])?;
-    assert_eq!(rt; text.as_str(), "pf_play 0.1.0\n");
-    assert_eq!(rt; status, 0);
+fn tells_help_from_version(rt: HostRuntime) -> Result<(), Fail> {
+    for word in ["--version", "-V"] {
+        let words = ["pf_play", word];
+        let request = options(rt.alloc(), &words)?;
+        assert!(rt; matches!(request, Request::Version), "{word}");
+    }
+    for words in [
+        ["pf_play", "--help"].as_slice(),
+        ["pf_play", "-h"].as_slice(),
+        ["pf_play", "run", "--help"].as_slice(),
+        ["pf_play", "frame", "-h"].as_slice(),
+        ["pf_play", "-h", "-V"].as_slice(),
+    ] {
+        let Request::Help(text) = options(rt.alloc(), words)? else {
+            return Err(Fail::from("a help"));
+        };
+        assert!(rt; text.contains("Usage: pf_play"));
+    }
     Ok(())
 }
 
 #[test]
-fn refuses_wrong_words(rt: HostRuntime) -> Result<(), Fail> {
+fn wrong_words_are_mistakes(rt: HostRuntime) -> Result<(), Fail> {
     let alloc = rt.alloc();
-    for (words, fault, usage) in [
+    for (words, error, usage) in [
         (
             ["pf_play"].as_slice(),
             "error: 'pf_play' requires a subcommand but one was not provided\n  [subcommands: run, frame]\n",
@@ -98,15 +111,14 @@ fn refuses_wrong_words(rt: HostRuntime) -> Result<(), Fail> {
             RUN_USAGE,
         ),
     ] {
-        let (status, text) = said(alloc, words)?;
-        let expected = format!(in alloc; "{fault}{usage}")?;
+        let text = mistake(alloc, words)?;
+        let expected = format!(in alloc; "{error}{usage}")?;
         assert_eq!(rt; text.as_str(), expected.as_str());
-        assert_eq!(rt; status, 2);
     }
     Ok(())
 }
 
-/// A call with these words. It has no variables.
+/// A call with these words. It has no environment variables.
 #[derive(Clone, Copy)]
 struct Call<'a> {
     words: &'a [&'a [u8]],
@@ -134,10 +146,17 @@ impl Env for Call<'_> {
 }
 
 #[test]
-fn words_come_whole_and_in_order(rt: HostRuntime) -> Result<(), Fail> {
-    let words = [b"pf_play".as_slice(), b"frame", &[b'0'; 300]];
+fn all_words_are_read_whole_and_in_order(rt: HostRuntime) -> Result<(), Fail> {
+    let long = vec![in rt.alloc(); b'0'; 5000]?;
+    let mut words = Vec::new(rt.alloc());
+    for word in [b"pf_play".as_slice(), b"frame", b"", b"\xc3\xa4 \n\0", &long[..300]] {
+        words.push(word)?;
+    }
+    for length in 1..100 {
+        words.push(&long[..50 * length])?;
+    }
     let found = words_of(&(Call { words: &words }, rt.alloc()))?;
-    assert_eq!(rt; found.len(), 3);
+    assert_eq!(rt; found.len(), 104);
     for (word, expected) in found.iter().zip(words.iter()) {
         assert_eq!(rt; word.as_bytes(), *expected);
     }
@@ -145,7 +164,7 @@ fn words_come_whole_and_in_order(rt: HostRuntime) -> Result<(), Fail> {
 }
 
 #[test]
-fn words_that_are_no_text_are_at_fault(rt: HostRuntime) -> Result<(), Fail> {
+fn words_that_are_no_text_are_a_mistake(rt: HostRuntime) -> Result<(), Fail> {
     let words = [b"pf_play".as_slice(), b"run", b"\xff"];
     match words_of(&(Call { words: &words }, rt.alloc())) {
         Err(PlayFault::Words(text)) => assert_eq!(rt;

@@ -1,6 +1,6 @@
-//! Calls from their words to their status, with what is written and what is said.
+//! Calls from their words to their status, with what is written and what is reported.
 
-ghost use Rattle.pf_play.specs.Options.{BlamesWordsOrMemory};
+ghost use Rattle.pf_play.specs.Options.{FailsByWordsOrMemory};
 
 use super::*;
 use pf_text::{Bytes, Collected, Input, Output};
@@ -13,16 +13,16 @@ const FALLING: &str =
 
 const FALLEN: &str = "advance 0 2\nshow 0 2\nbody 0 0 -122880 16777216 0 0 -5242880 0 0 1\nend\n";
 
-/// The status, what is written, and what is said of a fault.
+/// The status, what is written, and what is reported of an error.
 type Ended = (ExitCode, Collected, Collected);
 
-/// How a call ends on a text in memory. What is kept in memory fails for want of it alone.
+/// How a call ends on a text in memory. A sink in memory fails only where no memory is left.
 fn answered(
     alloc: Global,
     words: Result<Vec<&str>, PlayFault>,
     text: &str,
 ) -> Result<Ended, AllocError>
-    requires { BlamesWordsOrMemory words }
+    requires { FailsByWordsOrMemory words }
 {
     let mut reader = Bytes::new(text.as_bytes());
     let mut output = Collected::new(alloc);
@@ -45,7 +45,7 @@ fn ended(alloc: Global, words: &[&str], text: &str) -> Result<Ended, AllocError>
 }
 
 #[test]
-fn a_text_is_answered(rt: HostRuntime) -> Result<(), Fail> {
+fn a_text_has_replies(rt: HostRuntime) -> Result<(), Fail> {
     let (status, output, errors) = ended(rt.alloc(), &["pf_play", "run"], FALLING)?;
     assert_eq!(rt; status, ExitCode::from(0));
     assert_eq!(rt; output.bytes(), FALLEN.as_bytes());
@@ -54,7 +54,7 @@ fn a_text_is_answered(rt: HostRuntime) -> Result<(), Fail> {
 }
 
 #[test]
-fn a_refused_line_is_told(rt: HostRuntime) -> Result<(), Fail> {
+fn an_invalid_line_is_reported(rt: HostRuntime) -> Result<(), Fail> {
     let text = format!(in rt.alloc(); "{FALLING}advance 0 05\nshow 0 1\n")?;
     let (status, output, errors) = ended(rt.alloc(), &["pf_play", "run"], text.as_str())?;
     assert_eq!(rt; status, ExitCode::from(1));
@@ -64,12 +64,12 @@ fn a_refused_line_is_told(rt: HostRuntime) -> Result<(), Fail> {
 }
 
 #[test]
-fn wrong_words_are_told(rt: HostRuntime) -> Result<(), Fail> {
+fn wrong_words_are_reported(rt: HostRuntime) -> Result<(), Fail> {
     let (status, output, errors) = ended(rt.alloc(), &["pf_play", "fall"], FALLING)?;
-    let said =
+    let expected =
         "error: unrecognized subcommand 'fall'\n\nUsage: pf_play <COMMAND>\n\nFor more information, try '--help'.\n";
     assert_eq!(rt; status, ExitCode::from(2));
-    assert_eq!(rt; errors.bytes(), said.as_bytes());
+    assert_eq!(rt; errors.bytes(), expected.as_bytes());
     assert!(rt; output.bytes().is_empty());
     Ok(())
 }
@@ -91,7 +91,7 @@ const FRAMES: [(&str, &str); 3] = [
 ];
 
 #[test]
-fn frames_are_told(rt: HostRuntime) -> Result<(), Fail> {
+fn frames_are_printed(rt: HostRuntime) -> Result<(), Fail> {
     for (digits, line) in FRAMES {
         let (status, output, errors) = ended(rt.alloc(), &["pf_play", "frame", digits], FALLING)?;
         assert_eq!(rt; status, ExitCode::from(0));
@@ -106,8 +106,8 @@ fn frames_are_told(rt: HostRuntime) -> Result<(), Fail> {
     Ok(())
 }
 
-/// What is told of runs, below the options.
-const RUN_TOLD: &str = "\
+/// The help of runs, below the options.
+const RUN_TEXT: &str = "\
 Standard input holds a scene, a line `peers 1`, and then events, a line each:
 
   issue 0 push B X Y   gives body B an impulse now, and answers the command's frame
@@ -185,14 +185,14 @@ them. It prints tick, player and number of the command that they spell, and what
 
 #[test]
 fn texts_that_are_asked_for_are_written(rt: HostRuntime) -> Result<(), Fail> {
-    for (words, head, told) in [
+    for (words, head, tail) in [
         (["pf_play", "--version"].as_slice(), "pf_play 0.1.0\n", ""),
-        (["pf_play", "--help"].as_slice(), HELP, RUN_TOLD),
-        (["pf_play", "run", "--help"].as_slice(), RUN_HELP, RUN_TOLD),
+        (["pf_play", "--help"].as_slice(), HELP, RUN_TEXT),
+        (["pf_play", "run", "--help"].as_slice(), RUN_HELP, RUN_TEXT),
         (["pf_play", "frame", "--help"].as_slice(), FRAME_HELP, ""),
     ] {
         let (status, output, errors) = ended(rt.alloc(), words, FALLING)?;
-        let expected = format!(in rt.alloc(); "{head}{told}")?;
+        let expected = format!(in rt.alloc(); "{head}{tail}")?;
         assert_eq!(rt; status, ExitCode::from(0));
         assert_eq!(rt; output.bytes(), expected.as_str().as_bytes());
         assert!(rt; errors.bytes().is_empty());
@@ -202,7 +202,7 @@ fn texts_that_are_asked_for_are_written(rt: HostRuntime) -> Result<(), Fail> {
 
 /// The lines of the help that are set in by two spaces, between these two texts.
 fn set_in(alloc: Global, after: &str, before: &str) -> Result<String, AllocError> {
-    let (_, rest) = RUN_TOLD.split_once(after).unwrap_or(("", ""));
+    let (_, rest) = RUN_TEXT.split_once(after).unwrap_or(("", ""));
     let (shown, _) = rest.split_once(before).unwrap_or((rest, ""));
     let mut text = String::new(alloc);
     for line in shown.lines() {
@@ -253,7 +253,7 @@ impl Write for Broken {
 }
 
 #[test]
-fn a_reader_that_fails_is_told(rt: HostRuntime) -> Result<(), Fail> {
+fn a_reader_that_fails_is_reported(rt: HostRuntime) -> Result<(), Fail> {
     let words = Ok(Vec::from_slice(rt.alloc(), &["pf_play", "run"])?);
     let mut reader = Input::new(Broken { is_read: false });
     let mut output = Collected::new(rt.alloc());
@@ -268,7 +268,7 @@ fn a_reader_that_fails_is_told(rt: HostRuntime) -> Result<(), Fail> {
 }
 
 #[test]
-fn a_writer_that_fails_is_told(rt: HostRuntime) -> Result<(), Fail> {
+fn a_writer_that_fails_is_reported(rt: HostRuntime) -> Result<(), Fail> {
     let words = Ok(Vec::from_slice(rt.alloc(), &["pf_play", "run"])?);
     let mut reader = Bytes::new(FALLING.as_bytes());
     let mut output = Output::new(Broken { is_read: true });
@@ -282,7 +282,7 @@ fn a_writer_that_fails_is_told(rt: HostRuntime) -> Result<(), Fail> {
 }
 
 #[test]
-fn words_that_cannot_be_had_are_told(rt: HostRuntime) -> Result<(), Fail> {
+fn words_that_cannot_be_read_are_reported(rt: HostRuntime) -> Result<(), Fail> {
     let (status, output, errors) = answered(rt.alloc(), Err(PlayFault::Memory), FALLING)?;
     assert_eq!(rt; status, ExitCode::from(3));
     assert_eq!(rt; errors.bytes(), b"pf_play: out of memory\n".as_slice());
@@ -296,7 +296,7 @@ fn words_that_cannot_be_had_are_told(rt: HostRuntime) -> Result<(), Fail> {
 }
 
 #[test]
-fn a_fault_that_cannot_be_told_keeps_its_status(rt: HostRuntime) -> Result<(), Fail> {
+fn an_error_that_cannot_be_reported_keeps_its_status(rt: HostRuntime) -> Result<(), Fail> {
     let words: Result<Vec<&str>, PlayFault> = Err(PlayFault::Memory);
     let mut reader = Bytes::new(FALLING.as_bytes());
     let mut output = Collected::new(rt.alloc());

@@ -1,14 +1,14 @@
 use Rattle.std.proofs.Common.{◌≡◌, sym, ap, subst, ◌∙◌, List, ℕ}
 use Rattle.pf_commands.specs.declared.payload.Command.{Command}
-use Rattle.pf_commands.specs.Frame.{Spells, spelling, bytes_in}
-use Rattle.pf_commands.proofs.Spelling.{spelling_spells}
+use Rattle.pf_commands.specs.Frame.{Encodes, encoding, bytes_in}
+use Rattle.pf_commands.proofs.Encoding.{encoding_encodes}
 use Rattle.pf_commands.proofs.frame.encode.Goals as goal
 
--- what equals a command's spelling spells it
-spells_along : (bytes : List ℕ) (c : Command) → bytes ≡ spelling c → Spells (spelling c) c → Spells bytes c
-spells_along bytes c same spells = subst (λ (b : List ℕ). Spells b c) (sym same) spells
+-- what equals a command's encoding encodes it
+spells_along : (bytes : List ℕ) (c : Command) → bytes ≡ encoding c → Encodes (encoding c) c → Encodes bytes c
+spells_along bytes c same spells = subst (λ (b : List ℕ). Encodes b c) (sym same) spells
 
-pub returns-clause-spelled : goal.returns-clause-spelled
-returns-clause-spelled c =
+pub returns-clause-encoded : goal.returns-clause-encoded
+returns-clause-encoded c =
     spells_along c.bytes.result c.args.command.now (c.bytes.ensures ∙ ap bytes_in c.of_command.ensures.value)
-    (spelling_spells c.args.command.now (record { name = c.of_command.ensures.name; payload = c.of_command.ensures.payload; body = c.requires }))
+    (encoding_encodes c.args.command.now (record { name = c.of_command.ensures.name; payload = c.of_command.ensures.payload; body = c.requires }))

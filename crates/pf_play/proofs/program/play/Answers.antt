@@ -2,11 +2,11 @@ use Rattle.std.proofs.Common.{refl, Err}
 use Rattle.std.proofs.lemmas.Result.{err_from_is_err_and}
 use Rattle.pf_play.proofs.program.play.Goals as goal
 
-pub returns-in_err-words-clause-came : goal.returns-in_err-words-clause-came
-returns-in_err-words-clause-came g c =
+pub returns-in_err-words-clause-plays : goal.returns-in_err-words-clause-plays
+returns-in_err-words-clause-plays g c =
     let error = err_from_is_err_and c.from_residual.result c.from_residual.ensures.1 in
     record {
       asked = Err c.in_err-words.field-0.0;
       asks = rw c.in_err-words.was refl;
-      comes = (rw (error.1, error.2) refl, refl, refl);
+      does = (rw (error.1, error.2) refl, refl, refl);
     }

@@ -1,4 +1,4 @@
-use Rattle.pf_shapes.proofs.Saying.{read_gravity, read_body}
+use Rattle.pf_shapes.proofs.SceneEncoding.{read_gravity, read_body}
 use Rattle.pf_shapes.proofs.laws.scene_lines_are_read.Goals as goal
 
 pub returns-clause-gravity : goal.returns-clause-gravity

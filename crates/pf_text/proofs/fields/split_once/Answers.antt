@@ -1,4 +1,4 @@
-use Rattle.pf_text.proofs.Places.{split_first, split_none}
+use Rattle.pf_text.proofs.FirstByte.{split_first, split_none}
 use Rattle.pf_text.proofs.fields.split_once.Goals as goal
 
 pub returns-in-Some-clause-some : goal.returns-in-Some-clause-some

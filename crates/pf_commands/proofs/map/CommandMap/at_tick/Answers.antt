@@ -6,12 +6,12 @@ use Rattle.pf_commands.specs.Merge.{payloads_at}
 use Rattle.pf_commands.proofs.Spans.{payloads_at-out_of_range, payloads_between}
 use Rattle.pf_commands.proofs.map.CommandMap.at_tick.Goals as goal
 
-pub returns-then-tick-ge-TICKS-clause-items : goal.returns-then-tick-ge-TICKS-clause-items
-returns-then-tick-ge-TICKS-clause-items c =
-    c.new.ensures.items ∙ sym (payloads_at-out_of_range _ c.args.tick c.self.invariant c.if-tick-ge-TICKS.true) ∙ ap (λ m. payloads_at m c.args.tick) c.self.view_is
+pub returns-then-tick-ge-MAX_TICK-clause-items : goal.returns-then-tick-ge-MAX_TICK-clause-items
+returns-then-tick-ge-MAX_TICK-clause-items c =
+    c.new.ensures.items ∙ sym (payloads_at-out_of_range _ c.args.tick c.self.invariant c.if-tick-ge-MAX_TICK.true) ∙ ap (λ m. payloads_at m c.args.tick) c.self.view_is
 
-pub returns-in_err-push-clause-quiet : goal.returns-in_err-push-clause-quiet
-returns-in_err-push-clause-quiet c none =
+pub returns-in_err-push-clause-no_memory : goal.returns-in_err-push-clause-no_memory
+returns-in_err-push-clause-no_memory c none =
     let found = c.range-payload-items.result in
     let all = payloads_between c.self.inside.commands.entries found _ _ c.args.tick (c.new-2.ensures.start ∙ c.new-first.ensures) (c.new-2.ensures.end ∙ c.new-last.ensures)
     c.range-payload-items.ensures.ordered c.self.invariant c.self.view_is (c.range-payload-items.ensures.between (search rules)) in

@@ -1,13 +1,13 @@
 use Rattle.std.proofs.Common.{rules, ◌∙◌, arith}
 use Rattle.pf_commands.proofs.Spans.{span, get-out_of_range, held_in_span, most_in_span, none_in_span}
 use Rattle.pf_commands.proofs.map.CommandMap.greatest.Goals as goal
-use Rattle.pf_commands.proofs.map.CommandMap.greatest.Goals.{then-tick-ge-TICKS-via-then-tick-ge-TICKS, then-tick-ge-TICKS-via-else-tick-ge-TICKS+then-player-ge-PLAYERS}
+use Rattle.pf_commands.proofs.map.CommandMap.greatest.Goals.{then-tick-ge-MAX_TICK-via-then-tick-ge-MAX_TICK, then-tick-ge-MAX_TICK-via-else-tick-ge-MAX_TICK+then-player-ge-PLAYERS}
 
-pub returns-then-tick-ge-TICKS-clause-none : goal.returns-then-tick-ge-TICKS-clause-none
-returns-then-tick-ge-TICKS-clause-none c number =
-    rw (← c.self.view_is) (get-out_of_range _ c.self.invariant _ (λ isn. elim c.then-tick-ge-TICKS.branch [
-      | then-tick-ge-TICKS-via-then-tick-ge-TICKS w ↦ omega (arith, isn.tick)
-      | then-tick-ge-TICKS-via-else-tick-ge-TICKS+then-player-ge-PLAYERS w ↦ omega (arith, isn.player)
+pub returns-then-tick-ge-MAX_TICK-clause-none : goal.returns-then-tick-ge-MAX_TICK-clause-none
+returns-then-tick-ge-MAX_TICK-clause-none c number =
+    rw (← c.self.view_is) (get-out_of_range _ c.self.invariant _ (λ isn. elim c.then-tick-ge-MAX_TICK.branch [
+      | then-tick-ge-MAX_TICK-via-then-tick-ge-MAX_TICK w ↦ omega (arith, isn.tick)
+      | then-tick-ge-MAX_TICK-via-else-tick-ge-MAX_TICK+then-player-ge-PLAYERS w ↦ omega (arith, isn.player)
     ]))
 
 pub returns-in_err-name-clause-none : goal.returns-in_err-name-clause-none

@@ -4,7 +4,7 @@ use Rattle.std.proofs.lemmas.List.{map-append, length-map}
 use Rattle.std.proofs.lemmas.Map.Iter.{iter_turn, iter_end}
 use Rattle.std.specs.FinMap.{get}
 use Rattle.pf_commands.specs.declared.payload.Command.{Command}
-use Rattle.pf_commands.specs.News.{is_change, answer_to}
+use Rattle.pf_commands.specs.News.{is_change, put_outcome}
 use Rattle.pf_commands.proofs.Changes.{noted_few, noted_more}
 use Rattle.pf_commands.proofs.Stored.{entries-from_entries}
 use Rattle.pf_commands.proofs.map.CommandMap.news.Goals as goal
@@ -23,8 +23,8 @@ loop-name-preserved-then-is_change c =
     let e = deref_pair (c.in-Some.name, c.in-Some.payload) in
     rw (map-append deref_pair c.loop-name.yielded ((c.in-Some.name, c.in-Some.payload) ∷ []), c.earlier.ensures, c.tick.ensures.value)
     (noted_more c.args.self.now (map deref_pair c.loop-name.yielded) e c.loop-name.count c.loop-name.least c.loop-name.invariant
-    (ap (λ (x : Command). is_change (answer_to (get c.args.self.now x.name) x.payload)) (sym c.command_of-command.ensures)
-    ∙ ap is_change (sym c.answer.ensures) ∙ sym c.is_change.ensures ∙ c.if-is_change.true))
+    (ap (λ (x : Command). is_change (put_outcome (get c.args.self.now x.name) x.payload)) (sym c.command_of-command.ensures)
+    ∙ ap is_change (sym c.outcome.ensures) ∙ sym c.is_change.ensures ∙ c.if-is_change.true))
 
 pub returns : goal.returns
 returns c =

@@ -3,7 +3,7 @@ use Rattle.std.specs.Map.Iter.{deref_pair}
 use Rattle.std.proofs.lemmas.List.{map-append}
 use Rattle.std.proofs.lemmas.Map.Iter.{iter_end}
 use Rattle.pf_commands.specs.declared.payload.Command.{Command}
-use Rattle.pf_commands.specs.Merge.{merge, one}
+use Rattle.pf_commands.specs.Merge.{merge, singleton}
 use Rattle.pf_commands.proofs.Changes.{put_entries, put_entries-push, put_entries-all}
 use Rattle.pf_commands.proofs.map.CommandMap.put_all.Goals as goal
 
@@ -11,8 +11,8 @@ pub loop-name-preserved : goal.loop-name-preserved
 loop-name-preserved c =
     let e = deref_pair (c.in-Some.name, c.in-Some.payload) in
     let done = map deref_pair c.loop-name.yielded in
-    c.in_ok-put.ensures.ok ∙ ap (λ (x : Command). merge c.loop-name.self (one x.name x.payload)) c.command_of-command.ensures
-    ∙ ap (λ m. merge m (one e.0 e.1)) c.loop-name.invariant ∙ sym (put_entries-push c.args.self.now done e)
+    c.in_ok-put.ensures.ok ∙ ap (λ (x : Command). merge c.loop-name.self (singleton x.name x.payload)) c.command_of-command.ensures
+    ∙ ap (λ m. merge m (singleton e.0 e.1)) c.loop-name.invariant ∙ sym (put_entries-push c.args.self.now done e)
     ∙ ap (put_entries c.args.self.now) (sym (map-append deref_pair c.loop-name.yielded ((c.in-Some.name, c.in-Some.payload) ∷ [])))
 
 pub returns : goal.returns

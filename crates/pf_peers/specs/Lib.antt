@@ -1,0 +1,4 @@
+-- What the contracts of this crate cite.
+pub mod Session
+pub mod Answers
+pub mod Laws

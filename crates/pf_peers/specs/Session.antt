@@ -1,0 +1,98 @@
+-- The abstract session: peers of one scene, and what each event on them is replied, one event after
+-- the other.
+use Rattle.std.specs.Prelude.{◌≡◌, ℕ, ◌<◌, ◌≤◌, ◌⊎◌, All, length, List, [], ◌∷◌, Result, Ok, Err, IsErr, IsSome, map, slice_index_or, slice_set}
+use Rattle.std.specs.FinMap.{get}
+use Rattle.std.specs.List.{range_with_len}
+use Rattle.pf_shapes.specs.Scene.{Scene}
+use Rattle.pf_shapes.specs.declared.fixture.TheConstants.{PLAYERS}
+use Rattle.pf_step.specs.World.{World}
+use Rattle.pf_rollback.specs.declared.fault.Refusal.{Refusal}
+use Rattle.pf_rollback.specs.Peer.{Peer, PeerCore, new_peer, put, issue, take, advance, world_at}
+use Rattle.pf_peers.specs.declared.event.Event.{Event}
+use Rattle.pf_peers.specs.declared.event.Event.TheVariants.{Issue, Take, Advance, Show}
+use Rattle.pf_peers.specs.declared.event.Reply.{Reply}
+use Rattle.pf_peers.specs.declared.event.Reply.TheVariants.{Issued, Took, Advanced, Shown, Refused}
+
+-- the peers of a scene, by their numbers
+pub record Session : Type 0 where
+  pub scene : Scene
+  pub peers : List Peer
+
+-- the cores of at most eight peers of a scene
+pub record AreCores (scene : Scene) (cores : List PeerCore) : Type 0 where
+  pub few : length cores ≤ PLAYERS
+  pub scenes : All (λ core. core.scene ≡ scene) cores
+
+-- so many peers, each of the player of its number
+abbrev pub new_session : Scene → ℕ → Session
+new_session scene count = record { scene = scene; peers = map new_peer (range_with_len 0 count) }
+
+-- the peer of a number
+abbrev pub peer_at : Session → ℕ → Peer
+peer_at s i = slice_index_or s.peers i (new_peer 0)
+
+-- the number of an event's peer
+abbrev pub peer_of : Event → ℕ
+peer_of (Issue peer payload) = peer
+peer_of (Take peer frame) = peer
+peer_of (Advance peer ticks) = peer
+peer_of (Show peer tick) = peer
+
+-- ---- one event
+
+-- the reply to a call, and the peer after it; a rejected call changes nothing
+abbrev pub reply_and_peer
+    : {A : Type 0} → (A → Reply) → Peer → Result (A × Peer) Refusal → Reply × Peer
+reply_and_peer reply p (Ok answer) = (reply answer.0, answer.1)
+reply_and_peer reply p (Err refusal) = (Refused refusal, p)
+
+-- the reply of a world, if there is one
+abbrev pub world_reply : ℕ → ℕ → Result World Refusal → Reply
+world_reply peer tick (Ok world) = Shown peer tick world
+world_reply peer tick (Err refusal) = Refused refusal
+
+-- the reply to an event on its peer, and the peer after it
+unfoldable pub peer_answer : Scene → Peer → Event → Reply × Peer
+peer_answer s p (Issue peer payload) =
+    reply_and_peer (λ frame. Issued peer frame) p (issue s p payload)
+peer_answer s p (Take peer frame) = reply_and_peer (λ put. Took peer put) p (take s p frame)
+peer_answer s p (Advance peer ticks) =
+    reply_and_peer (λ reached. Advanced peer reached) p (advance p ticks)
+peer_answer s p (Show peer tick) = (world_reply peer tick (world_at s p tick), p)
+
+-- no memory is needed for the reply to an event: it is rejected, or a name that is held is taken,
+-- or ticks are advanced
+abbrev pub NeedsNoMemory : Scene → Peer → Event → Type 0
+NeedsNoMemory s p (Issue peer payload) = IsErr (issue s p payload)
+NeedsNoMemory s p (Take peer (Ok c)) = IsErr (put s p c) ⊎ IsSome (get p.commands c.name)
+NeedsNoMemory s p (Take peer (Err fault)) = Unit {0}
+NeedsNoMemory s p (Advance peer ticks) = Unit {0}
+NeedsNoMemory s p (Show peer tick) = IsErr (world_at s p tick)
+
+-- the reply to an event on a session, and the session after it
+abbrev pub answer : Session → Event → Reply × Session
+answer s event =
+    let a = peer_answer s.scene (peer_at s (peer_of event)) event in
+    (a.0, record s { peers = slice_set s.peers (peer_of event) a.1 })
+
+abbrev pub reply_to : Session → Event → Reply
+reply_to s event = (answer s event).0
+
+abbrev pub session_after : Session → Event → Session
+session_after s event = (answer s event).1
+
+-- ---- a list of events
+
+-- the replies, one after the other
+unfoldable pub replies_to : Session → List Event → List Reply
+replies_to s [] = []
+replies_to s (event ∷ events) = reply_to s event ∷ replies_to (session_after s event) events
+
+-- the session after all of them
+unfoldable pub session_after_all : Session → List Event → Session
+session_after_all s [] = s
+session_after_all s (event ∷ events) = session_after_all (session_after s event) events
+
+-- the event is on one of so many peers
+abbrev pub IsAmong : ℕ → Event → Type 0
+IsAmong peers event = peer_of event < peers

@@ -1,0 +1,62 @@
+//! What is asked of peers, and what they reply.
+
+use pf_commands::{Command, FRAME_LEN, FrameFault, Payload, Put};
+use pf_rollback::Refusal;
+use pf_step::World;
+
+/// One call on one peer.
+#[derive(Clone, Copy, Debug, PartialEq, Eq)]
+pub enum Event {
+    /// Issue a command of the peer's own player.
+    Issue {
+        peer: u8,
+        payload: Payload,
+    },
+    /// Take a frame: the command that it encodes, or why it encodes none.
+    Take {
+        peer: u8,
+        frame: Result<Command, FrameFault>,
+    },
+    /// Go on by so many ticks of 1/64 s.
+    Advance {
+        peer: u8,
+        ticks: u32,
+    },
+    /// Show the world at this tick.
+    Show {
+        peer: u8,
+        tick: u32,
+    },
+}
+
+impl Event {
+    ghost use Rattle.std.specs.Prelude.{◌≡◌};
+    ghost use Rattle.pf_peers.specs.Session.{peer_of};
+
+    /// The number of the peer.
+    pub fn peer(&self) -> u8
+        ensures { result ≡ peer_of self.now }
+    {
+        match self {
+            Event::Issue { peer, .. }
+            | Event::Take { peer, .. }
+            | Event::Advance { peer, .. }
+            | Event::Show { peer, .. } => *peer,
+        }
+    }
+}
+
+/// The reply to an event.
+#[derive(Debug, Drop)]
+pub enum Reply {
+    /// The peer holds its own command, which has this frame.
+    Issued { peer: u8, frame: [u8; FRAME_LEN] },
+    /// The peer holds the command, or a greater one of its name.
+    Took { peer: u8, put: Put },
+    /// The peer has reached this tick.
+    Advanced { peer: u8, reached: u32 },
+    /// The world at this tick.
+    Shown { peer: u8, tick: u32, world: World },
+    /// The event was rejected and changed nothing.
+    Refused(Refusal),
+}

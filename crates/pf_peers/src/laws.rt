@@ -1,0 +1,52 @@
+//! Laws of sessions. Their functions do nothing: their clauses are what they are for.
+
+ghost use Rattle.std.specs.Prelude.{◌≡◌, ◌↔◌, ℕ, ◌≤◌, ◌<◌, List, length, All, Contains};
+ghost use Rattle.pf_commands.specs.declared.payload.Command.{Command};
+ghost use Rattle.pf_commands.specs.Merge.{IsCommand, IsCommandMap, put_all};
+ghost use Rattle.pf_step.specs.Simulation.{sim};
+ghost use Rattle.pf_rollback.specs.declared.fault.Refusal.{Refusal};
+ghost use Rattle.pf_peers.specs.declared.event.Event.{Event};
+ghost use Rattle.pf_peers.specs.declared.event.Event.TheVariants.{Show};
+ghost use Rattle.pf_peers.specs.declared.event.Reply.TheVariants.{Refused, Shown};
+ghost use Rattle.pf_peers.specs.Laws.{IsAlike, commands_for};
+ghost use Rattle.pf_peers.specs.Session.{Session, peer_at, replies_to, reply_to, session_after, session_after_all};
+
+/// After any list of events, a world that a peer shows at a tick that it has reached is the
+/// simulation from tick zero of the commands that the peer held before and of those that the events
+/// brought to it, put together in whatever order they came.
+pub fn shown_worlds_are_simulated()
+    ensures { (s : Session) (events : List Event) (i tick : ℕ) → i < length s.peers
+        → tick ≤ (peer_at (session_after_all s events) i).reached
+        → reply_to (session_after_all s events) (Show i tick)
+        ≡ Shown i tick
+        (sim s.scene (put_all (peer_at s i).commands (commands_for s i events)) tick) }
+{}
+
+/// A rejected event changes nothing, and so no later reply.
+pub fn refused_events_change_nothing()
+    ensures { (s : Session) (event : Event) (refusal : Refusal)
+        → reply_to s event ≡ Refused refusal → session_after s event ≡ s }
+{}
+
+/// Sessions of one scene whose peers are alike, each to each, reply alike to all later events.
+pub fn same_commands_same_replies()
+    ensures { (s t : Session) (later : List Event) → s.scene ≡ t.scene
+        → length s.peers ≡ length t.peers
+        → ((i : ℕ) → i < length s.peers → IsAlike (peer_at s i) (peer_at t i))
+        → replies_to s later ≡ replies_to t later }
+{}
+
+/// Lists of events that bring each peer the same commands, in any order and with any repeats, and
+/// take it to the same tick, are followed by the same replies to all later events, worlds among
+/// them.
+pub fn order_and_repeats_do_not_matter()
+    ensures { (s : Session) (events others later : List Event)
+        → ((i : ℕ) → i < length s.peers → IsCommandMap (peer_at s i).commands)
+        → ((i : ℕ) → i < length s.peers → All IsCommand (commands_for s i events))
+        → ((i : ℕ) → i < length s.peers → (c : Command)
+        → Contains (commands_for s i events) c ↔ Contains (commands_for s i others) c)
+        → ((i : ℕ) → i < length s.peers → (peer_at (session_after_all s events) i).reached
+        ≡ (peer_at (session_after_all s others) i).reached)
+        → replies_to (session_after_all s events) later
+        ≡ replies_to (session_after_all s others) later }
+{}

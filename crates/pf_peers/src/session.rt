@@ -1,0 +1,179 @@
+//! Peers of one scene, which are asked one event after the other.
+
+ghost use Rattle.std.specs.Prelude.{◌≡◌, Ok, IfOk, OnErr, IsErr, IsOk, IsSome};
+ghost use Rattle.std.specs.FinMap.{get};
+ghost use Rattle.pf_peers.specs.Answers.{IsReplyOf};
+ghost use Rattle.pf_peers.specs.Session.{NeedsNoMemory, peer_answer, reply_and_peer, world_reply};
+ghost use Rattle.pf_peers.specs.declared.event.Reply.TheVariants.{Advanced, Issued, Took};
+ghost use Rattle.pf_commands.specs.declared.payload.Command.{Command};
+ghost use Rattle.pf_rollback.specs.Peer.{advance, issue, take, world_at};
+
+use crate::event::{Event, Reply};
+use pf_commands::{Command, FrameFault, Payload};
+use pf_rollback::{Fault, PeerCore, Refusal};
+use pf_shapes::{PLAYERS, Scene};
+use std::alloc::{AllocError, Global};
+use std::marker::Model;
+
+/// The peers of a scene, by their numbers. The player of each is its number.
+///
+/// Contracts see the scene and the list of the abstract peers.
+#[derive(Drop)]
+pub struct Session {
+    scene: Scene,
+    cores: Vec<PeerCore>,
+}
+
+impl Model for Session {
+    ghost use Rattle.std.specs.Prelude.{map};
+    ghost use Rattle.std.specs.Coded.{codes};
+    ghost use Rattle.pf_commands.specs.contracts.map.CommandMap.{the_row};
+    ghost use Rattle.pf_rollback.specs.Peer.{PeerCore};
+    ghost use Rattle.pf_peers.specs.Session.{AreCores, Session};
+
+    ghost Value = { Session };
+
+    ghost coded = { Prim.hlevel (codes, the_row.coded) };
+
+    ghost view = { λ s. record {
+      scene = s.scene;
+      peers = map (λ (core : PeerCore). core.peer) s.cores.items;
+    } };
+
+    ghost invariant = { λ s. AreCores s.scene s.cores.items };
+}
+
+/// The reply to a call that failed: a rejection is a reply, and out of memory is none.
+fn refused(fault: Fault) -> Result<Reply, AllocError>
+    ensures { IsReplyOf fault result }
+{
+    match fault {
+        Fault::Refused(refusal) => Ok(Reply::Refused(refusal)),
+        Fault::OutOfMemory => Err(AllocError),
+    }
+}
+
+/// The reply of a peer that is to issue a command.
+fn issue(core: &mut PeerCore, peer: u8, payload: Payload) -> Result<Reply, AllocError>
+    ensures reply { let p = core.old.peer in IfOk result (λ reply. (reply, core.new.peer)
+        ≡ reply_and_peer (λ frame. Issued peer frame) p (issue core.old.scene p payload)) }
+    ensures scene { core.new.scene ≡ core.old.scene }
+    ensures rejected { IsErr (issue core.old.scene core.old.peer payload) → IsOk result }
+    ensures err { OnErr result (core.new ≡ core.old) }
+{
+    match core.issue(payload) {
+        Ok(frame) => Ok(Reply::Issued { peer, frame }),
+        Err(fault) => refused(fault),
+    }
+}
+
+/// The reply of a peer that is to take a command, or the reason why a frame encodes none.
+fn take(
+    core: &mut PeerCore,
+    peer: u8,
+    frame: Result<Command, FrameFault>,
+) -> Result<Reply, AllocError>
+    ensures reply { let p = core.old.peer in IfOk result (λ reply. (reply, core.new.peer)
+        ≡ reply_and_peer (λ put. Took peer put) p (take core.old.scene p frame)) }
+    ensures scene { core.new.scene ≡ core.old.scene }
+    ensures rejected { IsErr (take core.old.scene core.old.peer frame) → IsOk result }
+    ensures held { (c : Command) → frame ≡ Ok c
+        → IsSome (get core.old.peer.commands c.name) → IsOk result }
+    ensures err { OnErr result (core.new ≡ core.old) }
+{
+    let command = match frame {
+        Ok(command) => command,
+        Err(fault) => return Ok(Reply::Refused(Refusal::Frame(fault))),
+    };
+    match core.put(&command) {
+        Ok(put) => Ok(Reply::Took { peer, put }),
+        Err(fault) => refused(fault),
+    }
+}
+
+/// The reply of a peer that is to go on by so many ticks. Takes no memory.
+fn advance(core: &mut PeerCore, peer: u8, ticks: u32) -> Result<Reply, AllocError>
+    ensures reply { let p = core.old.peer in IfOk result (λ reply. (reply, core.new.peer)
+        ≡ reply_and_peer (λ reached. Advanced peer reached) p (advance p ticks)) }
+    ensures scene { core.new.scene ≡ core.old.scene }
+    ensures ok { IsOk result }
+{
+    match core.advance(ticks) {
+        Ok(reached) => Ok(Reply::Advanced { peer, reached }),
+        Err(fault) => refused(fault),
+    }
+}
+
+/// The reply of a peer that is to show the world at a tick.
+fn show(core: &PeerCore, alloc: Global, peer: u8, tick: u32) -> Result<Reply, AllocError>
+    ensures reply { IfOk result (λ reply.
+        reply ≡ world_reply peer tick (world_at core.now.scene core.now.peer tick)) }
+    ensures rejected { IsErr (world_at core.now.scene core.now.peer tick) → IsOk result }
+{
+    match core.world_at(alloc, tick) {
+        Ok(world) => Ok(Reply::Shown { peer, tick, world }),
+        Err(fault) => refused(fault),
+    }
+}
+
+/// The reply of a peer to an event. An `Err` leaves the peer as it was.
+#[tactic(auto, unfolding(crate::specs::Session::peer_answer))]
+fn answer_alone(core: &mut PeerCore, alloc: Global, event: Event) -> Result<Reply, AllocError>
+    ensures reply { IfOk result (λ reply.
+        (reply, core.new.peer) ≡ peer_answer core.old.scene core.old.peer event) }
+    ensures scene { core.new.scene ≡ core.old.scene }
+    ensures no_memory { NeedsNoMemory core.old.scene core.old.peer event → IsOk result }
+    ensures err { OnErr result (core.new ≡ core.old) }
+{
+    match event {
+        Event::Issue { peer, payload } => issue(core, peer, payload),
+        Event::Take { peer, frame } => take(core, peer, frame),
+        Event::Advance { peer, ticks } => advance(core, peer, ticks),
+        Event::Show { peer, tick } => show(core, alloc, peer, tick),
+    }
+}
+
+impl Session {
+    ghost use Rattle.std.specs.Prelude.{◌≡◌, ◌≤◌, ◌<◌, length, IfOk, IsOk, OnErr};
+    ghost use Rattle.pf_peers.specs.Session.{IsAmong, NeedsNoMemory, answer, new_session, peer_at, peer_of};
+
+    /// So many peers of the scene, at tick 0 and without commands.
+    pub fn new(alloc: Global, scene: Scene, peers: u8) -> Result<Session, AllocError>
+        requires { peers ≤ PLAYERS }
+        ensures { IfOk result (λ session. session ≡ new_session scene peers) }
+    {
+        let mut cores = Vec::new(alloc);
+        for player in 0..peers {
+            let copy = scene.try_clone()?;
+            cores.push(PeerCore::new(alloc, copy, player))?;
+        }
+        Ok(Session { scene, cores })
+    }
+
+    /// The scene of all peers.
+    pub fn scene(&self) -> &Scene
+        ensures { result.now ≡ self.now.scene }
+    {
+        &self.scene
+    }
+
+    /// How many peers there are.
+    pub fn peer_count(&self) -> u8
+        ensures value { result ≡ length self.now.peers }
+        ensures range { result ≤ PLAYERS }
+    {
+        self.cores.len() as u8
+    }
+
+    /// The reply to an event on one of the peers. An `Err` leaves all peers as they were.
+    pub fn answer(&mut self, alloc: Global, event: Event) -> Result<Reply, AllocError>
+        requires { IsAmong (length self.old.peers) event }
+        ensures reply { IfOk result (λ reply. (reply, self.new) ≡ answer self.old event) }
+        ensures no_memory { let s = self.old in
+            NeedsNoMemory s.scene (peer_at s (peer_of event)) event → IsOk result }
+        ensures err { OnErr result (self.new ≡ self.old) }
+    {
+        let core = &mut self.cores[usize::from(event.peer())];
+        answer_alone(core, alloc, event)
+    }
+}

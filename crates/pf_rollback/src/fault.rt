@@ -1,0 +1,55 @@
+//! Why a call of a peer core fails.
+
+ghost use Rattle.std.specs.Prelude.{◌≡◌};
+ghost use Rattle.pf_rollback.specs.declared.fault.Fault.TheVariants.{OutOfMemory, Refused};
+
+use pf_commands::{CheckFault, FrameFault};
+use std::alloc::AllocError;
+use thiserror::Error;
+
+/// Why a peer rejects a call. A rejected call changes nothing and takes no memory.
+#[derive(Clone, Copy, Debug, PartialEq, Eq, Error)]
+pub enum Refusal {
+    /// The peer would pass the last tick, 1,048,576.
+    #[error("TickLimit")]
+    TickLimit,
+    /// The peer holds its player's command 65,535 of the reached tick, so no number is left.
+    #[error("NumbersSpent")]
+    NumbersSpent,
+    /// The bytes are no command's frame.
+    #[error("{0}")]
+    Frame(FrameFault),
+    /// The scene does not allow the command.
+    #[error("{0}")]
+    Check(CheckFault),
+    /// The tick is above the reached one, which this is.
+    #[error("NotReached {0}")]
+    NotReached(u32),
+}
+
+/// Why a call fails.
+#[derive(Clone, Copy, Debug, PartialEq, Eq, Error)]
+pub enum Fault {
+    /// The peer rejects it.
+    #[error("{0}")]
+    Refused(Refusal),
+    /// An allocation failed. The peer is as it was.
+    #[error("out of memory")]
+    OutOfMemory,
+}
+
+impl From<AllocError> for Fault {
+    ghost from_gives = { λ _ fault. fault ≡ OutOfMemory };
+
+    fn from(_error: AllocError) -> Fault {
+        Fault::OutOfMemory
+    }
+}
+
+impl From<Refusal> for Fault {
+    ghost from_gives = { λ refusal fault. fault ≡ Refused refusal };
+
+    fn from(refusal: Refusal) -> Fault {
+        Fault::Refused(refusal)
+    }
+}

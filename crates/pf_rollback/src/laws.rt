@@ -1,0 +1,43 @@
+//! Laws of abstract peers. Their functions do nothing: their clauses are what they are for.
+
+ghost use Rattle.std.specs.Prelude.{◌≡◌, ℕ, ◌+◌, ◌≤◌, ◌<◌, List, Ok, IsOk, IsSome};
+ghost use Rattle.std.specs.FinMap.{get};
+ghost use Rattle.pf_shapes.specs.Scene.{IsScene, Scene};
+ghost use Rattle.pf_commands.specs.declared.payload.Payload.{Payload};
+ghost use Rattle.pf_commands.specs.Frame.{decode};
+ghost use Rattle.pf_commands.specs.Merge.{CommandMap, name_at};
+ghost use Rattle.pf_commands.specs.Name.{Name};
+ghost use Rattle.pf_commands.specs.Payload.{IsPayload};
+ghost use Rattle.pf_rollback.specs.Peer.{IsPeer, Peer, issue, next_command, next_number, take, world_at};
+
+use pf_commands::NUMBERS;
+
+/// Peers of one scene that hold the same commands show the same worlds at each tick that both have
+/// reached.
+pub fn same_commands_same_worlds()
+    ensures { (scene : Scene) (p q : Peer) (tick : ℕ)
+        → ((name : Name) → get p.commands name ≡ get q.commands name)
+        → tick ≤ p.reached → tick ≤ q.reached → world_at scene p tick ≡ world_at scene q tick }
+{}
+
+/// What a peer issues, each peer of its scene can take: the frame that is returned encodes the
+/// command, and taking the command is not rejected.
+pub fn issued_commands_can_be_taken()
+    ensures encoded { (scene : Scene) (p after : Peer) (payload : Payload) (frame : List ℕ)
+        → IsScene scene → IsPeer p → IsPayload payload
+        → issue scene p payload ≡ Ok (frame, after)
+        → decode frame ≡ Ok (next_command p payload) }
+    ensures taken { (scene : Scene) (p after other : Peer) (payload : Payload) (frame : List ℕ)
+        → issue scene p payload ≡ Ok (frame, after)
+        → IsOk (take scene other (Ok (next_command p payload))) }
+{}
+
+/// The number of a peer's next command is above each number that is held at its tick for its
+/// player, and where it is not 0 the number before it is held: so it is 0, or one more than the
+/// greatest.
+pub fn numbers_follow_the_greatest()
+    ensures above { (m : CommandMap) (tick player number : ℕ) → number < NUMBERS
+        → IsSome (get m (name_at tick player number)) → number < next_number m tick player }
+    ensures before { (m : CommandMap) (tick player number : ℕ)
+        → next_number m tick player ≡ number + 1 → IsSome (get m (name_at tick player number)) }
+{}

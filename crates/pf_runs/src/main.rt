@@ -1,0 +1,50 @@
+//! Runs many texts. They stand on standard input, separated by a line that no text has; for each,
+//! the program prints its replies, the line that reports its error, if it has one, and `status N`.
+//! Its stored run has what an independent program prints for the same texts.
+#![tactic(auto)]
+
+ghost use Rattle.std.specs.Prelude.{◌+◌, ◌<◌, length, IfSome};
+
+use anyhow::{Result, bail};
+use memchr::memmem;
+use pf_console::{finish, run_text};
+use pf_text::{Bytes, Output, Sink};
+use std::alloc::Global;
+use std::io::{Read, Write};
+
+/// What stands between two texts.
+const SEPARATOR: &[u8] = b"\n= next text =\n";
+
+/// The first of several texts, and the texts behind it.
+fn split_once(texts: &[u8]) -> Option<(&[u8], &[u8])>
+    ensures { IfSome result (λ parts. length parts.1.now < length texts.now) }
+{
+    match memmem::find(texts, SEPARATOR) {
+        Some(end) => Some((&texts[..end], &texts[end + SEPARATOR.len()..])),
+        None => None,
+    }
+}
+
+/// Prints the replies to a text, its error and its status.
+fn run<W: Write + Drop>(alloc: Global, text: &[u8], writer: W) -> Result<()> {
+    let mut output = Output::new(writer);
+    let outcome = run_text(alloc, &mut Bytes::new(text), &mut output);
+    let status = finish(outcome, &mut output);
+    let line = format!(in alloc; "status {status}\n")?;
+    if output.write_all(line.as_bytes()).is_err() {
+        bail!("write failed");
+    }
+    Ok(())
+}
+
+fn main(rt: HostRuntime) -> Result<()> {
+    let alloc = rt.alloc();
+    let mut texts = Vec::new(alloc);
+    rt.stdin().read_to_end(&mut texts)?;
+    let mut rest = texts.as_slice();
+    while let Some((text, others)) = split_once(rest) {
+        run(alloc, text, rt.stdout())?;
+        rest = others;
+    }
+    run(alloc, rest, rt.stdout())
+}

@@ -1,0 +1,47 @@
+-- The phase Commands: what players' commands do to bodies, as b2Body's ApplyLinearImpulse and
+-- ApplyAngularImpulse, and a stop.
+use Rattle.std.specs.Prelude.{true, List, [], ◌∷◌, Option, Some, slice_get, slice_set}
+use Rattle.pf_num.specs.Fx.{sum, product}
+use Rattle.pf_rot.specs.Vector.{V2, add, scale}
+use Rattle.pf_shapes.specs.Fixture.{Fixture, inverse_mass, inverse_inertia}
+use Rattle.pf_shapes.specs.Body.{BodyState}
+use Rattle.pf_shapes.specs.Scene.{Scene}
+use Rattle.pf_commands.specs.declared.payload.Payload.{Payload}
+use Rattle.pf_commands.specs.declared.payload.Payload.TheVariants.{Push, Turn, Stop}
+use Rattle.pf_commands.specs.Payload.{body_of}
+use Rattle.pf_step.specs.Body.{at_rest}
+use Rattle.pf_step.specs.World.{World}
+
+-- awake, and still for no tick
+abbrev pub awake_anew : BodyState → BodyState
+awake_anew b = record b { timer = 0; awake = true }
+
+-- the state of a body of this fixture after a command for it
+unfoldable pub after_payload : Fixture → Payload → BodyState → BodyState
+after_payload f (Push body x y) b =
+    let impulse : V2 = record { x = x; y = y } in
+    record (awake_anew b) { velocity = add b.velocity (scale (inverse_mass f) impulse) }
+after_payload f (Turn body x) b =
+    record (awake_anew b) { spin = sum b.spin (product (inverse_inertia f) x) }
+after_payload f (Stop body) b = at_rest (awake_anew b)
+
+-- the bodies where the commanded one, if there is one, has its new state
+abbrev pub bodies_with
+    : List BodyState → Payload → Option Fixture → Option BodyState → List BodyState
+bodies_with bodies p (Some f) (Some b) = slice_set bodies (body_of p) (after_payload f p b)
+bodies_with bodies p fixture body = bodies
+
+-- the bodies after one command
+unfoldable pub after_command : List Fixture → List BodyState → Payload → List BodyState
+after_command fixtures bodies p =
+    bodies_with bodies p (slice_get fixtures (body_of p)) (slice_get bodies (body_of p))
+
+-- the bodies after one command after the other
+unfoldable pub after_commands : List Fixture → List BodyState → List Payload → List BodyState
+after_commands fixtures bodies [] = bodies
+after_commands fixtures bodies (p ∷ payloads) =
+    after_commands fixtures (after_command fixtures bodies p) payloads
+
+-- a world after one command
+unfoldable pub apply : Scene → World → Payload → World
+apply s w p = record w { bodies = after_command s.fixtures w.bodies p }

@@ -1,0 +1,96 @@
+//! Worlds: the state of all bodies of a scene at one tick.
+
+ghost use Rattle.std.specs.Prelude.{◌≡◌, [], IfOk, IsOk};
+
+use pf_shapes::{BodyState, Scene};
+use std::alloc::{AllocError, Global};
+use std::marker::Model;
+
+/// The state of each body of a scene at one tick, static bodies among them, in order of their
+/// numbers.
+#[derive(Debug, Drop)]
+pub struct World {
+    pub(crate) bodies: Vec<BodyState>,
+}
+
+impl Model for World {
+    ghost use Rattle.pf_step.specs.World.{World};
+
+    ghost Value = { World };
+
+    ghost view = { λ w. record { bodies = w.bodies.items } };
+}
+
+/// A copy of bodies. Takes no memory where there are none.
+pub(crate) fn copy_of(alloc: Global, bodies: &[BodyState]) -> Result<Vec<BodyState>, AllocError>
+    ensures items { IfOk result (λ copy. copy.items ≡ bodies.now) }
+    ensures no_memory { bodies.now ≡ [] → IsOk result }
+{
+    if bodies.is_empty() {
+        return Ok(Vec::new(alloc));
+    }
+    Vec::from_slice(alloc, bodies)
+}
+
+impl World {
+    ghost use Rattle.std.specs.Prelude.{◌≡◌, [], IfOk, IsOk};
+    ghost use Rattle.pf_step.specs.World.{start_of, same_world};
+
+    /// The world at tick 0: each body at its start. Takes no memory where the scene has no bodies.
+    #[tactic(auto, unfolding(crate::specs::World::start_of))]
+    pub fn start(alloc: Global, scene: &Scene) -> Result<World, AllocError>
+        ensures value { IfOk result (λ world. world ≡ start_of scene.now) }
+        ensures no_memory { scene.now.starts ≡ [] → IsOk result }
+    {
+        let bodies = copy_of(alloc, scene.starts())?;
+        Ok(World { bodies })
+    }
+
+    /// The bodies in order of their numbers, static ones among them.
+    pub fn bodies(&self) -> &[BodyState]
+        ensures { result.now ≡ self.now.bodies }
+    {
+        self.bodies.as_slice()
+    }
+
+    /// A copy. Takes time and memory for all bodies, and no memory where there are none.
+    pub fn try_clone(&self) -> Result<World, AllocError>
+        ensures value { IfOk result (λ copy. copy ≡ self.now) }
+        ensures no_memory { self.now.bodies ≡ [] → IsOk result }
+    {
+        let bodies = copy_of(*self.bodies.allocator(), self.bodies.as_slice())?;
+        Ok(World { bodies })
+    }
+
+    /// Whether the bodies are equal, part by part.
+    fn is_same(&self, other: &World) -> bool
+        ensures { result ≡ same_world self.now other.now }
+    {
+        self.bodies.as_slice() == other.bodies.as_slice()
+    }
+}
+
+impl PartialEq for World {
+    ghost use Rattle.std.specs.Prelude.{◌≡◌, ◌↔◌, IsTrue};
+    ghost use Rattle.std.specs.Cmp.{partial_equiv_from_equiv};
+    ghost use Rattle.pf_step.specs.World.{same_world};
+    ghost use Rattle.pf_step.specs.WorldLaws.{worlds_equivalent};
+
+    ghost eq = { same_world };
+
+    ghost laws = { partial_equiv_from_equiv worlds_equivalent };
+
+    /// Whether the worlds are equal, bit for bit.
+    fn eq(&self, other: &World) -> bool
+        ensures value { result ≡ same_world self.now other.now }
+        ensures equal { IsTrue result ↔ (self.now ≡ other.now) }
+    {
+        self.is_same(other)
+    }
+}
+
+impl Eq for World {
+    ghost use Rattle.pf_step.specs.WorldLaws.{worlds_equivalent};
+
+    ghost laws = { worlds_equivalent };
+}

@@ -1,5 +1,0 @@
-use Rattle.pf_text.proofs.Spelling.{whole-signed_decimal, signed_decimal-whole}
-use Rattle.pf_text.proofs.laws.numbers_have_one_spelling.Goals as goal
-
-pub returns : goal.returns
-returns c = λ field z small. (signed_decimal-whole field z small, λ e. rw e (whole-signed_decimal z small))

@@ -1,0 +1,466 @@
+//! Lines, fields and numbers by hand, and readers and writers that fail.
+
+ghost use Rattle.std.specs.Prelude.{length, codes, [], Ok, Err, ◌==◌, if◌then◌else◌};
+ghost use Rattle.pf_text.specs.declared.fault.LineFault.TheVariants.{BadNumber};
+
+use pf_text::{
+    Bytes, Collected, DriveFault, Input, LINE_ROOM, LineBuffer, LineError, LineFault, MAX_LINE,
+    Machine, Output, ParsedNumber, ReadFailed, Sink, TakeRefusal, Taken, WriteFailed, drive,
+    fields_of, integer, laws, number, take_line, whole,
+};
+use std::alloc::{AllocError, Global};
+use std::io::{Error, ErrorKind, Read, Write};
+use std::process::Abort;
+use std::test::Fail;
+
+#[test]
+fn fields_are_separated_by_one_space(rt: HostRuntime) -> Result<(), Fail> {
+    let fields = fields_of(rt.alloc(), b"circle - 7\t")?;
+    assert_eq!(rt; fields.len(), 3);
+    assert_eq!(rt; fields[0], b"circle".as_slice());
+    assert_eq!(rt; fields[1], b"-".as_slice());
+    assert_eq!(rt; fields[2], b"7\t".as_slice());
+    for line in [
+        b"a  b".as_slice(),
+        b" a".as_slice(),
+        b"a ".as_slice(),
+        b"".as_slice(),
+    ] {
+        let error = fields_of(rt.alloc(), line).err();
+        assert!(rt;
+            error == Some(LineError::Fault(LineFault::BadLine)),
+            "{line:?}"
+        );
+    }
+    Ok(())
+}
+
+#[test]
+fn a_line_may_have_2000_fields(rt: HostRuntime) -> Result<(), Fail> {
+    let mut line = Vec::from_slice(rt.alloc(), b"x")?;
+    for _ in 1..2000 {
+        line.extend_from_slice(b" x")?;
+    }
+    let fields = fields_of(rt.alloc(), &line)?;
+    assert_eq!(rt; fields.len(), 2000);
+    assert!(rt; fields.iter().all(|field| *field == b"x".as_slice()));
+    Ok(())
+}
+
+#[test]
+fn numbers_have_one_encoding(rt: HostRuntime) {
+    let table = [
+        (b"0".as_slice(), ParsedNumber::InRange(0)),
+        (b"-7".as_slice(), ParsedNumber::InRange(-7)),
+        (b"100".as_slice(), ParsedNumber::InRange(100)),
+        (b"101".as_slice(), ParsedNumber::OutOfRange),
+        (b"-101".as_slice(), ParsedNumber::OutOfRange),
+        (
+            b"100000000000000000000000".as_slice(),
+            ParsedNumber::OutOfRange,
+        ),
+        (b"05".as_slice(), ParsedNumber::NotANumber),
+        (b"-0".as_slice(), ParsedNumber::NotANumber),
+        (b"-05".as_slice(), ParsedNumber::NotANumber),
+        (b"+1".as_slice(), ParsedNumber::NotANumber),
+        (b"-".as_slice(), ParsedNumber::NotANumber),
+        (b"".as_slice(), ParsedNumber::NotANumber),
+        (b"1a".as_slice(), ParsedNumber::NotANumber),
+    ];
+    for (field, parsed) in table {
+        assert!(rt; number(field, -100, 100) == parsed, "{field:?}");
+    }
+    assert!(rt; integer(b"12", 0, 20) == Ok(12));
+    assert!(rt; integer(b"21", 0, 20) == Err(LineFault::BadNumber));
+    assert!(rt; whole(b"-99999999999999999999") == Some(-(1 << 56)));
+}
+
+fn lengths(rt: &impl Abort, alloc: Global, text: &[u8]) -> Result<Vec<usize>, Fail> {
+    let mut source = Bytes::new(text);
+    let mut line = LineBuffer::new();
+    let mut found = Vec::new(alloc);
+    for _ in 0..9 {
+        match take_line(&mut source, &mut line)? {
+            Taken::End => return Ok(found),
+            Taken::TooLong => found.push(0)?,
+            Taken::Line | Taken::Last => found.push(line.len())?,
+        }
+    }
+    assert!(rt; false, "the text has no end");
+    Ok(found)
+}
+
+#[test]
+fn lines_end_with_a_line_feed(rt: HostRuntime) -> Result<(), Fail> {
+    let alloc = rt.alloc();
+    assert!(rt; lengths(&rt, alloc, b"")?.is_empty());
+    assert_eq!(rt; lengths(&rt, alloc, b"\n")?.as_slice(), [0].as_slice());
+    assert_eq!(rt;
+        lengths(&rt, alloc, b"ab\r\n\0\x7f\tz")?.as_slice(),
+        [3, 4].as_slice()
+    );
+    let mut text = vec![in alloc; b'x'; MAX_LINE]?;
+    assert_eq!(rt;
+        lengths(&rt, alloc, &text)?.as_slice(),
+        [MAX_LINE].as_slice()
+    );
+    text.push(b'\n')?;
+    assert_eq!(rt;
+        lengths(&rt, alloc, &text)?.as_slice(),
+        [MAX_LINE].as_slice()
+    );
+    let mut line = LineBuffer::new();
+    let long = vec![in alloc; b'x'; MAX_LINE + 9]?;
+    assert!(rt; take_line(&mut Bytes::new(&long), &mut line)? == Taken::TooLong);
+    assert_eq!(rt; line.len(), LINE_ROOM);
+    Ok(())
+}
+
+/// The reply to a line of one field is `ok`, to one of two fields nothing, and to one of 2,000
+/// fields `many`. Any other line is invalid.
+#[derive(Clone, Copy, Debug, PartialEq, Eq)]
+struct Parrot;
+
+impl Machine<u32> for Parrot {
+    type Fault = LineFault;
+
+    ghost rules = { record {
+      transition = λ state fields. if length fields == 1 then Ok (codes "ok\n", state) else
+          (if length fields == 2 then Ok ([], state) else
+          (if length fields == 2000 then Ok (codes "many\n", state) else Err BadNumber));
+      line_error = λ fault. fault;
+    } };
+
+    fn line_error(fault: LineFault) -> LineFault {
+        fault
+    }
+
+    fn take(
+        self,
+        alloc: Global,
+        lent: &mut u32,
+        fields: &[&[u8]],
+    ) -> Result<(String, Self), TakeRefusal<LineFault>> {
+        *lent = lent.wrapping_add(1);
+        match fields {
+            [_] => Ok((String::from_str(alloc, "ok\n")?, self)),
+            [_, _] => Ok((String::new(alloc), self)),
+            many if many.len() == 2000 => Ok((String::from_str(alloc, "many\n")?, self)),
+            _ => Err(TakeRefusal::Fault(LineFault::BadNumber)),
+        }
+    }
+}
+
+/// A text of three replies, and its output.
+const TEXT: &[u8] = b"a\nb\n# c\n\nd e\nf";
+
+const OUTPUT: &[u8] = b"ok\nok\nok\n";
+
+/// The result of a parrot over a text in memory, what it wrote, and how many lines it took.
+type Driven = (Result<(u64, Parrot), DriveFault<LineFault>>, Collected, u32);
+
+/// Drives a parrot over a text in memory. A sink in memory fails only where no memory is left.
+fn driven(alloc: Global, text: &[u8]) -> Result<Driven, AllocError> {
+    let mut lent = 0;
+    let mut sink = Collected::new(alloc);
+    let result = drive(alloc, &mut lent, &mut Bytes::new(text), &mut sink, Parrot);
+    if matches!(result, Err(DriveFault::Memory | DriveFault::Write)) {
+        return Err(AllocError);
+    }
+    Ok((result, sink, lent))
+}
+
+#[test]
+fn a_text_has_replies(rt: HostRuntime) -> Result<(), Fail> {
+    let (result, sink, lent) = driven(rt.alloc(), TEXT)?;
+    assert!(rt; result == Ok((7, Parrot)));
+    assert_eq!(rt; sink.bytes(), OUTPUT);
+    assert_eq!(rt; lent, 4);
+    let (result, sink, _) = driven(rt.alloc(), b"")?;
+    assert!(rt; result == Ok((1, Parrot)) && sink.bytes().is_empty());
+    Ok(())
+}
+
+#[test]
+fn a_text_may_have_70000_lines(rt: HostRuntime) -> Result<(), Fail> {
+    let mut text = Vec::new(rt.alloc());
+    for _ in 0..70_000 {
+        text.extend_from_slice(b"#\n")?;
+    }
+    assert!(rt; driven(rt.alloc(), &text)?.0 == Ok((70_001, Parrot)));
+    Ok(())
+}
+
+#[test]
+fn a_sink_in_memory_keeps_5000_bytes(rt: HostRuntime) -> Result<(), Fail> {
+    let bytes = vec![in rt.alloc(); b'x'; 5000]?;
+    let mut sink = Collected::new(rt.alloc());
+    if sink.write_all(&bytes).is_err() {
+        return Err(AllocError)?;
+    }
+    assert!(rt; sink.bytes() == bytes.as_slice());
+    Ok(())
+}
+
+#[test]
+fn replies_before_an_invalid_line_stand(rt: HostRuntime) -> Result<(), Fail> {
+    let mut long = vec![in rt.alloc(); b'#'; MAX_LINE]?;
+    assert!(rt; driven(rt.alloc(), &long)?.0 == Ok((2, Parrot)));
+    long.push(b'#')?;
+    assert!(rt; driven(rt.alloc(), &long)?.0 == Err(DriveFault::Line(1, LineFault::BadLine)));
+    let table = [
+        (b"a\n\nb c d\ne".as_slice(), 3, LineFault::BadNumber),
+        (b"a\nb  c\n".as_slice(), 2, LineFault::BadLine),
+        (b"a\n# \xff\n".as_slice(), 2, LineFault::BadLine),
+    ];
+    for (text, number, fault) in table {
+        let (result, sink, _) = driven(rt.alloc(), text)?;
+        assert!(rt; result == Err(DriveFault::Line(number, fault)), "{text:?}");
+        assert_eq!(rt; sink.bytes(), b"ok\n".as_slice());
+    }
+    Ok(())
+}
+
+/// How the call of this number fails.
+fn failure(call: usize) -> Error {
+    Error::from(match call % 3 {
+        0 => ErrorKind::Other,
+        1 => ErrorKind::BrokenPipe,
+        _ => ErrorKind::WouldBlock,
+    })
+}
+
+/// A reader that gives a byte at a time, is interrupted three times before each, and fails at one
+/// call.
+#[derive(Drop)]
+struct Trickle<'a> {
+    bytes: &'a [u8],
+    calls: usize,
+    fails_at: usize,
+}
+
+impl Read for Trickle<'_> {
+    fn read(&mut self, buffer: &mut [u8]) -> std::io::Result<usize> {
+        self.calls = self.calls.wrapping_add(1);
+        if self.calls == self.fails_at {
+            return Err(failure(self.calls));
+        }
+        if self.calls % 4 != 0 {
+            return Err(Error::from(ErrorKind::Interrupted));
+        }
+        if self.bytes.is_empty() || buffer.is_empty() {
+            return Ok(0);
+        }
+        buffer[0] = self.bytes[0];
+        self.bytes = &self.bytes[1..];
+        Ok(1)
+    }
+}
+
+#[test]
+fn a_reader_may_fail_at_each_call(rt: HostRuntime) -> Result<(), Fail> {
+    let calls = 4 * (TEXT.len() + 1);
+    for fails_at in 1..calls + 2 {
+        let reader = Trickle {
+            bytes: TEXT,
+            calls: 0,
+            fails_at,
+        };
+        let mut sink = Collected::new(rt.alloc());
+        let result = drive(
+            rt.alloc(),
+            &mut 0,
+            &mut Input::new(reader),
+            &mut sink,
+            Parrot,
+        );
+        if matches!(result, Err(DriveFault::Memory | DriveFault::Write)) {
+            return Err(AllocError)?;
+        }
+        let written = sink.bytes();
+        assert!(rt; OUTPUT.starts_with(written) && written.len() % 3 == 0);
+        if fails_at > calls {
+            assert!(rt; result == Ok((7, Parrot)) && written == OUTPUT);
+        } else {
+            assert!(rt; result == Err(DriveFault::Read), "call {fails_at}");
+        }
+    }
+    Ok(())
+}
+
+/// A writer that takes two bytes at a time, is interrupted up to three times before each write, and
+/// fails at one call.
+#[derive(Drop)]
+struct Brittle {
+    taken: Vec<u8>,
+    calls: usize,
+    fails_at: usize,
+}
+
+impl Brittle {
+    fn call(&mut self) -> std::io::Result<()> {
+        self.calls = self.calls.wrapping_add(1);
+        if self.calls == self.fails_at {
+            return Err(failure(self.calls));
+        }
+        Ok(())
+    }
+}
+
+impl Write for Brittle {
+    fn write(&mut self, bytes: &[u8]) -> std::io::Result<usize> {
+        self.call()?;
+        if self.calls % 4 != 0 {
+            return Err(Error::from(ErrorKind::Interrupted));
+        }
+        let count = bytes.len().min(2);
+        self.taken.extend_from_slice(&bytes[..count])?;
+        Ok(count)
+    }
+
+    fn flush(&mut self) -> std::io::Result<()> {
+        self.call()
+    }
+}
+
+#[test]
+fn a_writer_may_fail_at_each_call(rt: HostRuntime) -> Result<(), Fail> {
+    let calls = 25;
+    for fails_at in 1..calls + 2 {
+        let mut writer = Brittle {
+            taken: Vec::new(rt.alloc()),
+            calls: 0,
+            fails_at,
+        };
+        let mut sink = Output::new(&mut writer);
+        let result = drive(rt.alloc(), &mut 0, &mut Bytes::new(TEXT), &mut sink, Parrot);
+        if writer.calls < fails_at && result.is_err() {
+            return Err(AllocError)?;
+        }
+        let taken = writer.taken.as_slice();
+        assert!(rt; OUTPUT.starts_with(taken));
+        if fails_at > calls {
+            assert!(rt; result == Ok((7, Parrot)) && taken == OUTPUT);
+        } else {
+            assert!(rt; result == Err(DriveFault::Write), "call {fails_at}");
+        }
+    }
+    Ok(())
+}
+
+/// A text of lines of one field, longer than any buffer, with a line of 2,000 fields in it.
+fn long_text(alloc: Global) -> Result<Vec<u8>, AllocError> {
+    let mut text = Vec::new(alloc);
+    for _ in 0..5000 {
+        text.extend_from_slice(b"a\n")?;
+    }
+    for _ in 1..2000 {
+        text.extend_from_slice(b"x ")?;
+    }
+    text.extend_from_slice(b"x\n")?;
+    Ok(text)
+}
+
+#[test]
+fn a_text_longer_than_a_buffer_has_its_replies(rt: HostRuntime) -> Result<(), Fail> {
+    let text = long_text(rt.alloc())?;
+    let mut taken = Vec::new(rt.alloc());
+    let mut sink = Output::new(&mut taken);
+    let mut source = Input::new(text.as_slice());
+    let result = drive(rt.alloc(), &mut 0, &mut source, &mut sink, Parrot);
+    if matches!(result, Err(DriveFault::Memory | DriveFault::Write)) {
+        return Err(AllocError)?;
+    }
+    assert!(rt; result == Ok((5002, Parrot)));
+    assert_eq!(rt; taken.len(), 3 * 5000 + 5);
+    assert!(rt;
+        taken
+            .chunks(3)
+            .take(5000)
+            .all(|reply| reply == b"ok\n".as_slice())
+    );
+    assert!(rt; taken.ends_with(b"many\n"));
+    Ok(())
+}
+
+/// A writer that keeps the bytes back until it is flushed.
+#[derive(Drop)]
+struct Held {
+    held: Vec<u8>,
+    written: Vec<u8>,
+}
+
+impl Write for Held {
+    fn write(&mut self, bytes: &[u8]) -> std::io::Result<usize> {
+        self.held.extend_from_slice(bytes)?;
+        Ok(bytes.len())
+    }
+
+    fn flush(&mut self) -> std::io::Result<()> {
+        self.written.extend_from_slice(&self.held)?;
+        self.held.clear();
+        Ok(())
+    }
+}
+
+#[test]
+fn each_reply_is_flushed(rt: HostRuntime) -> Result<(), Fail> {
+    let text = long_text(rt.alloc())?;
+    let mut writer = Held {
+        held: Vec::new(rt.alloc()),
+        written: Vec::new(rt.alloc()),
+    };
+    let mut source = Bytes::new(&text);
+    let mut sink = Output::new(&mut writer);
+    let result = drive(rt.alloc(), &mut 0, &mut source, &mut sink, Parrot);
+    if matches!(result, Err(DriveFault::Memory | DriveFault::Write)) {
+        return Err(AllocError)?;
+    }
+    assert!(rt; writer.held.is_empty());
+    assert_eq!(rt; writer.written.len(), 3 * 5000 + 5);
+    Ok(())
+}
+
+/// A writer that takes no byte.
+#[derive(Drop)]
+struct Full;
+
+impl Write for Full {
+    fn write(&mut self, _bytes: &[u8]) -> std::io::Result<usize> {
+        Ok(0)
+    }
+
+    fn flush(&mut self) -> std::io::Result<()> {
+        Ok(())
+    }
+}
+
+#[test]
+fn a_writer_that_takes_nothing_has_failed(rt: HostRuntime) -> Result<(), Fail> {
+    let mut sink = Output::new(Full);
+    let result = drive(rt.alloc(), &mut 0, &mut Bytes::new(TEXT), &mut sink, Parrot);
+    if result == Err(DriveFault::Memory) {
+        return Err(AllocError)?;
+    }
+    assert!(rt; result == Err(DriveFault::Write));
+    Ok(())
+}
+
+#[test]
+fn errors_are_shown_by_their_names(rt: HostRuntime) -> Result<(), Fail> {
+    let fault = LineError::Fault(LineFault::BadNumber);
+    let text = format!(in rt.alloc(); "{} {fault}", LineFault::BadLine)?;
+    assert_eq!(rt; text.as_str(), "BadLine BadNumber");
+    let text = format!(in rt.alloc(); "{}, {ReadFailed}, {WriteFailed}", LineError::Memory)?;
+    assert_eq!(rt; text.as_str(), "out of memory, read failed, write failed");
+    Ok(())
+}
+
+#[test]
+fn laws_are_called(_rt: HostRuntime) {
+    laws::outputs_follow_one_another::<u32, Parrot>();
+    laws::skipped_lines_change_numbers_alone::<u32, Parrot>();
+    laws::lines_are_the_parts_between_feeds();
+    laws::fields_are_the_parts_between_spaces();
+    laws::numbers_have_one_encoding();
+}
