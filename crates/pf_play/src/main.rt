@@ -15,5 +15,11 @@ fn main(rt: HostRuntime) -> ExitCode {
     let mut input: Input<Stdin> = Input::new(rt.stdin());
     let mut output: Output<Stdout> = Output::new(rt.stdout());
     let mut errors: Output<Stderr> = Output::new(rt.stderr());
-    program(rt.alloc(), words_of(&rt), &mut input, &mut output, &mut errors)
+    program(
+        rt.alloc(),
+        words_of(&rt),
+        &mut input,
+        &mut output,
+        &mut errors,
+    )
 }

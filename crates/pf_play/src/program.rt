@@ -25,8 +25,11 @@ fn play<S: AsStr + Drop, R: Source, W: Sink>(
     requires reads { R.failures reader.old + 1 < 2 ^ 64 }
     requires writes { W.failures writer.old + 1 < 2 ^ 64 }
     ensures plays { Plays S.text words (record {
-            unread = R.remaining reader.old; left = R.remaining reader.new;
-            before = W.contents writer.old; after = W.contents writer.new })
+      unread = R.remaining reader.old;
+      left = R.remaining reader.new;
+      before = W.contents writer.old;
+      after = W.contents writer.new;
+    })
         result }
     ensures reads_counted { CountsReads (R.failures reader.old) result (R.failures reader.new) }
     ensures writes_counted { CountsWrites (W.failures writer.old) result (W.failures writer.new) }
@@ -50,13 +53,19 @@ pub fn program<S: AsStr + Drop, R: Source, W: Sink, E: Sink>(
     requires reports { E.failures errors.old + 1 < 2 ^ 64 }
     ensures { Ends
         (Plays S.text words (record {
-            unread = R.remaining reader.old; left = R.remaining reader.new;
-            before = W.contents writer.old; after = W.contents writer.new }))
+          unread = R.remaining reader.old;
+          left = R.remaining reader.new;
+          before = W.contents writer.old;
+          after = W.contents writer.new;
+        }))
         (λ outcome. CountsReads (R.failures reader.old) outcome (R.failures reader.new)
         × CountsWrites (W.failures writer.old) outcome (W.failures writer.new))
         (Reports (record {
-            before = E.contents errors.old; after = E.contents errors.new;
-            failures_before = E.failures errors.old; failures_after = E.failures errors.new }))
+          before = E.contents errors.old;
+          after = E.contents errors.new;
+          failures_before = E.failures errors.old;
+          failures_after = E.failures errors.new;
+        }))
         (exit_status result) }
 {
     ExitCode::from(finish(play(alloc, words, reader, writer), errors))

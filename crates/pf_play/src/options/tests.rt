@@ -150,7 +150,13 @@ impl Env for Call<'_> {
 fn all_words_are_read_whole_and_in_order(rt: HostRuntime) -> Result<(), Fail> {
     let long = vec![in rt.alloc(); b'0'; 5000]?;
     let mut words = Vec::new(rt.alloc());
-    for word in [b"pf_play".as_slice(), b"frame", b"", b"\xc3\xa4 \n\0", &long[..300]] {
+    for word in [
+        b"pf_play".as_slice(),
+        b"frame",
+        b"",
+        b"\xc3\xa4 \n\0",
+        &long[..300],
+    ] {
         words.push(word)?;
     }
     for length in 1..100 {

@@ -66,8 +66,7 @@ fn an_invalid_line_is_reported(rt: HostRuntime) -> Result<(), Fail> {
 #[test]
 fn wrong_words_are_reported(rt: HostRuntime) -> Result<(), Fail> {
     let (status, output, errors) = ended(rt.alloc(), &["pf_play", "fall"], FALLING)?;
-    let expected =
-        "error: unrecognized subcommand 'fall'\n\n\
+    let expected = "error: unrecognized subcommand 'fall'\n\n\
 Usage: pf_play <COMMAND>\n\nFor more information, try '--help'.\n";
     assert_eq!(rt; status, ExitCode::from(2));
     assert_eq!(rt; errors.bytes(), expected.as_bytes());
