@@ -1,11 +1,11 @@
 -- A clipped edge is within the width of the face.
-use Rattle.std.proofs.Common.{◌≡◌, ℤ, pos, neg_ℤ, ◌≤ℤ◌, ◌<ℤ◌, Bool, true, false, Option, Some, None, ◌⊎◌, ◌↔◌, inl, inr, ⊎_elim, refl, subst, arith}
+use Rattle.std.proofs.Common.{◌≡◌, ℤ, pos, neg_ℤ, ◌≤ℤ◌, ◌<ℤ◌, Bool, true, false, Option, Some, None, ◌⊎◌, ◌↔◌, inl, inr, ⊎_elim, refl, sym, ap, subst, arith}
 use Rattle.std.proofs.lemmas.Int.{ints}
-use Rattle.std.specs.Prelude.{int_lt}
+use Rattle.std.specs.Prelude.{int_lt, unwrap_or}
 use Rattle.pf_manifold.specs.declared.incident.Mark.TheVariants.{CutLow, CutHigh}
 use Rattle.pf_manifold.specs.Incident.{ClipVertex, Segment}
 use Rattle.pf_manifold.specs.Clip.{crossing, clip_to_line, clip_low, clip_high, then_clip_high, clip}
-use Rattle.pf_manifold.specs.GeometryLaws.{LiesWithin, HasEndsWithin, HasEndsBelow, HasEndsAbove}
+use Rattle.pf_manifold.specs.GeometryLaws.{IsClipped, LiesWithin, HasEndsWithin, HasEndsBelow, HasEndsAbove}
 use Rattle.pf_manifold.proofs.Comparisons.{is_below, not_above, tests_above, tests_below}
 
 -- ---- one side
@@ -23,6 +23,15 @@ kept_ends P true false s cut first second at_cut = (at_cut, second refl)
 kept_ends P false true s cut first second at_cut = (first refl, at_cut)
 kept_ends P false false s cut first second at_cut = (first refl, second refl)
 
+first_end : (s : Segment) {x y : Segment} → Some x ≡ Some y → y.first ≡ x.first
+first_end s e = sym (ap (λ (o : Option Segment). (unwrap_or o s).first) e)
+
+second_end : (s : Segment) {x y : Segment} → Some x ≡ Some y → y.second ≡ x.second
+second_end s e = sym (ap (λ (o : Option Segment). (unwrap_or o s).second) e)
+
+below_is_most : (x y : ℤ) → x <ℤ y → x ≤ℤ y
+below_is_most x y h = omega (arith, ints)
+
 -- nothing is left where both ends are outside
 kept_nothing : (t u : Bool) (s : Segment) (cut : ClipVertex) → clip_to_line t u s cut ≡ None → (t ≡ true) × (u ≡ true)
 unfolding clip_to_line
@@ -30,6 +39,48 @@ kept_nothing true true s cut e = (refl, refl)
 kept_nothing true false s cut e = absurd (cc)
 kept_nothing false true s cut e = absurd (cc)
 kept_nothing false false s cut e = absurd (cc)
+
+-- the ends of a clipped segment, by the tests of the old ones
+record AreClipped (t u : Bool) (s clipped : Segment) (cut : ClipVertex) : Type 0 where
+  first : (clipped.first ≡ s.first) ⊎ ((clipped.first ≡ cut) × (t ≡ true) × (u ≡ false))
+  second : (clipped.second ≡ s.second) ⊎ ((clipped.second ≡ cut) × (t ≡ false) × (u ≡ true))
+
+clipped_ends_by : (t u : Bool) (s clipped : Segment) (cut : ClipVertex) → clip_to_line t u s cut ≡ Some clipped
+    → AreClipped t u s clipped cut
+unfolding clip_to_line
+clipped_ends_by true true s clipped cut e = absurd (cc)
+clipped_ends_by true false s clipped cut e =
+    record { first = inr (first_end s e, refl, refl); second = inl (second_end s e) }
+clipped_ends_by false true s clipped cut e =
+    record { first = inl (first_end s e); second = inr (second_end s e, refl, refl) }
+clipped_ends_by false false s clipped cut e =
+    record { first = inl (first_end s e); second = inl (second_end s e) }
+
+pub clip_low_is : (s t : Segment) (limit : ℤ) → clip_low s limit ≡ Some t → IsClipped s t limit CutLow
+unfolding clip_low
+clip_low_is s t limit e =
+    let ends = clipped_ends_by (int_lt s.first.side limit) (int_lt s.second.side limit) s t (crossing s.first s.second limit CutLow) e in
+    record {
+      first = ⊎_elim (λ old. inl old)
+          (λ new. inr (new.0, inl (below_is_most _ _ (is_below s.first.side limit new.1), not_above s.second.side limit new.2)))
+          ends.first;
+      second = ⊎_elim (λ old. inl old)
+          (λ new. inr (new.0, inr (below_is_most _ _ (is_below s.second.side limit new.2), not_above s.first.side limit new.1)))
+          ends.second;
+    }
+
+pub clip_high_is : (s t : Segment) (limit : ℤ) → clip_high s limit ≡ Some t → IsClipped s t limit CutHigh
+unfolding clip_high
+clip_high_is s t limit e =
+    let ends = clipped_ends_by (int_lt limit s.first.side) (int_lt limit s.second.side) s t (crossing s.first s.second limit CutHigh) e in
+    record {
+      first = ⊎_elim (λ old. inl old)
+          (λ new. inr (new.0, inr (not_above limit s.second.side new.2, below_is_most _ _ (is_below limit s.first.side new.1))))
+          ends.first;
+      second = ⊎_elim (λ old. inl old)
+          (λ new. inr (new.0, inl (not_above limit s.first.side new.1, below_is_most _ _ (is_below limit s.second.side new.2))))
+          ends.second;
+    }
 
 low_ends : (s : Segment) (limit : ℤ) → EachEnd (λ v. limit ≤ℤ v.side) (clip_low s limit)
 unfolding clip_low crossing

@@ -1,10 +1,12 @@
 -- Words of the laws of positions, edges and boxes, in exact raw numbers.
-use Rattle.std.specs.Prelude.{◌≢◌, ℕ, ◌+◌, ◌*◌, ◌^◌, ◌<◌, ◌≤◌, ℤ, pos, ◌-ℤ◌, neg_ℤ, ◌≤ℤ◌, ◌<ℤ◌, ◌⊎◌, Bool}
+use Rattle.std.specs.Prelude.{◌≡◌, ◌≢◌, ℕ, ◌+◌, ◌*◌, ◌^◌, ◌<◌, ◌≤◌, ℤ, pos, ◌-ℤ◌, neg_ℤ, ◌≤ℤ◌, ◌<ℤ◌, ◌⊎◌, Bool}
 use Rattle.std.specs.Int.RustNames.{unsigned_abs}
 use Rattle.pf_rot.specs.Vector.{V2}
 use Rattle.pf_shapes.specs.Fixture.{IsWithin}
 use Rattle.pf_shapes.specs.Laws.{IsInBox, distance_squared}
+use Rattle.pf_manifold.specs.declared.incident.Mark.{Mark}
 use Rattle.pf_manifold.specs.Incident.{ClipVertex, Segment}
+use Rattle.pf_manifold.specs.Clip.{crossing}
 use Rattle.pf_manifold.specs.PlacedShape.{OrientedBox}
 use Rattle.pf_manifold.specs.declared.separation.Axis.{Axis}
 use Rattle.pf_manifold.specs.declared.separation.Axis.TheVariants.{AX, AY, BX, BY}
@@ -79,6 +81,18 @@ boxes_best_axis a b = best_axis (separations_of a.half b.half (frames_of a b)) a
 -- z is between a and b, in either order
 abbrev pub IsBetween : ℤ → ℤ → ℤ → Type 0
 IsBetween a b z = ((a ≤ℤ z) × (z ≤ℤ b)) ⊎ ((b ≤ℤ z) × (z ≤ℤ a))
+
+-- an end of a clipped segment is the old end, or a crossing whose limit is between the sides of
+-- both ends
+abbrev pub IsClippedEnd : Segment → ℤ → Mark → ClipVertex → ClipVertex → Type 0
+IsClippedEnd s limit mark old new =
+    (new ≡ old)
+    ⊎ ((new ≡ crossing s.first s.second limit mark) × IsBetween s.first.side s.second.side limit)
+
+-- so are both ends
+pub record IsClipped (s clipped : Segment) (limit : ℤ) (mark : Mark) : Type 0 where
+  pub first : IsClippedEnd s limit mark s.first clipped.first
+  pub second : IsClippedEnd s limit mark s.second clipped.second
 
 -- both coordinates are up to 2^53: no difference of two such numbers saturates
 pub record IsInnerVertex (v : ClipVertex) : Type 0 where

@@ -18,12 +18,13 @@ ghost use Rattle.pf_manifold.specs.Reference.{Reference};
 ghost use Rattle.pf_manifold.specs.Circles.{collide_circles};
 ghost use Rattle.pf_manifold.specs.BoxCircle.{closest_point, face_distance, closest_face};
 ghost use Rattle.pf_manifold.specs.Incident.{ClipVertex, Segment, inward_normal, incident_edge};
-ghost use Rattle.pf_manifold.specs.Clip.{crossing, clip};
+ghost use Rattle.pf_manifold.specs.Clip.{crossing, clip_low, clip_high, clip};
 ghost use Rattle.pf_manifold.specs.Boxes.{collide_boxes};
 ghost use Rattle.pf_manifold.specs.Collide.{collide};
 ghost use Rattle.pf_manifold.specs.Laws.{HaveAscendingFeatures, HaveDifferentFeatures, IsMirrored, IsTouching};
-ghost use Rattle.pf_manifold.specs.GeometryLaws.{IsClosest, HasEndsWithin, HasEndsBelow, HasEndsAbove, boxes_have_gap, UprightBoxesOverlap, boxes_separation, extent_along, boxes_best_axis, IsBetween, IsInnerVertex, IsNearLine, IsRegionFeature};
+ghost use Rattle.pf_manifold.specs.GeometryLaws.{IsClosest, HasEndsWithin, HasEndsBelow, HasEndsAbove, boxes_have_gap, UprightBoxesOverlap, boxes_separation, extent_along, boxes_best_axis, IsBetween, IsClipped, IsInnerVertex, IsNearLine, IsRegionFeature};
 
+use crate::incident::Mark;
 use crate::separation::Axis;
 
 /// Two bodies have at most two contact points, in ascending order of features, which are different
@@ -84,11 +85,16 @@ pub fn clipped_edges_lie_within()
         → ((clip s side ≡ None) ↔ (HasEndsBelow side s ⊎ HasEndsAbove side s)) }
 {}
 
-/// A vertex that clipping adds is on the line through both ends of the segment: its side coordinate
-/// is the limit, and its front coordinate is between those of the ends, and that of the line up to
+/// Clipping a segment at a limit adds no vertex but a crossing, where the limit is between the
+/// sides of both ends. The crossing is on the line through both ends: its side coordinate is the
+/// limit, and its front coordinate is between those of the ends, and that of the line up to
 /// rounding, once to a raw unit and once as a fraction of 2^-24. Where the limit is the side of an
 /// end, it is that end.
 pub fn crossings_lie_on_the_line()
+    ensures low { (s t : Segment) (limit : ℤ) → clip_low s limit ≡ Some t
+        → IsClipped s t limit Mark.CutLow }
+    ensures high { (s t : Segment) (limit : ℤ) → clip_high s limit ≡ Some t
+        → IsClipped s t limit Mark.CutHigh }
     ensures side { (first second : ClipVertex) (limit : ℤ) (mark : Mark)
         → (crossing first second limit mark).side ≡ limit }
     ensures between { (first second : ClipVertex) (limit : ℤ) (mark : Mark)

@@ -1,5 +1,12 @@
 use Rattle.pf_manifold.proofs.Crossing.{crossing_side, crossing_between, crossing_line, crossing_first, crossing_second}
+use Rattle.pf_manifold.proofs.Clipping.{clip_low_is, clip_high_is}
 use Rattle.pf_manifold.proofs.laws.crossings_lie_on_the_line.Goals as goal
+
+pub returns-clause-low : goal.returns-clause-low
+returns-clause-low c = clip_low_is
+
+pub returns-clause-high : goal.returns-clause-high
+returns-clause-high c = clip_high_is
 
 pub returns-clause-side : goal.returns-clause-side
 returns-clause-side c = crossing_side
