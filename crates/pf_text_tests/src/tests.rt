@@ -465,4 +465,5 @@ fn laws_are_called(_rt: HostRuntime) {
     laws::lines_are_the_parts_between_feeds();
     laws::fields_are_the_parts_between_spaces();
     laws::numbers_have_one_encoding();
+    laws::named_limits();
 }
