@@ -1,10 +1,11 @@
 -- The lines that encode a scene, as docs/FORMATS.md shows them: for each body its fields.
-use Rattle.std.specs.Prelude.{ℕ, pos, neg_ℤ, List, [], ◌∷◌, Option, Some, None, codes, decimal}
+use Rattle.std.specs.Prelude.{ℕ, neg_ℤ, List, [], ◌∷◌, Option, Some, None, codes, decimal}
 use Rattle.std.specs.Fmt.{signed_decimal}
 use Rattle.pf_rot.specs.Vector.{V2}
 use Rattle.pf_rot.specs.Rotation.{Rot, upright, unit}
 use Rattle.pf_shapes.specs.declared.fixture.Shape.{Shape}
 use Rattle.pf_shapes.specs.declared.fixture.Shape.TheVariants.{Circle, Box}
+use Rattle.pf_shapes.specs.declared.scene_text.TheConstants.{MAX_DIRECTION}
 use Rattle.pf_shapes.specs.Fixture.{Fixture, IsWithin}
 
 -- `-` for nobody, or the player
@@ -41,7 +42,7 @@ start_rotation (Box hx hy) to = unit to.c to.s
 abbrev pub gravity_fields : V2 → List (List ℕ)
 gravity_fields g = codes "gravity" ∷ signed_decimal g.x ∷ signed_decimal g.y ∷ []
 
--- the parts of a direction are up to 2^24 either way
+-- both parts of a direction are in range
 pub record IsDirection (to : Rot) : Type 0 where
-  pub c : IsWithin (neg_ℤ (pos 16777216)) (pos 16777216) to.c
-  pub s : IsWithin (neg_ℤ (pos 16777216)) (pos 16777216) to.s
+  pub c : IsWithin (neg_ℤ MAX_DIRECTION) MAX_DIRECTION to.c
+  pub s : IsWithin (neg_ℤ MAX_DIRECTION) MAX_DIRECTION to.s

@@ -8,6 +8,7 @@ use Rattle.pf_shapes.specs.declared.reader.Progress.{Progress}
 use Rattle.pf_shapes.specs.declared.reader.Progress.TheVariants.{More, Ended}
 use Rattle.pf_shapes.specs.declared.read.ReadError.{ReadError}
 use Rattle.pf_shapes.specs.declared.read.ReadError.TheVariants.{Memory, Line}
+use Rattle.pf_shapes.specs.declared.scene.TheConstants.{MAX_BODIES}
 use Rattle.pf_shapes.specs.Fault.{scene_fault_of}
 use Rattle.pf_shapes.specs.Scene.{Scene}
 use Rattle.pf_shapes.specs.SceneText.{is_body_line, line_of}
@@ -27,9 +28,9 @@ abbrev pub scene_rules : Rules Progress SceneFault
 scene_rules =
     record { transition = transition; line_error = scene_fault_of; allocates = allocates }
 
--- a scene may have 1,024 bodies
+-- a text begins with a scene of at most `MAX_BODIES`
 abbrev pub opening : Progress
-opening = More (record { max_bodies = 1024; scene = None })
+opening = More (record { max_bodies = MAX_BODIES; scene = None })
 
 -- a scene that has no end is invalid at the line behind the last
 abbrev pub scene_at_end : Result (ℕ × Progress) (ℕ × SceneFault) → Result Scene (ℕ × SceneFault)

@@ -18,6 +18,9 @@ use Rattle.pf_shapes.specs.declared.words.SceneWord.{SceneWord}
 use Rattle.pf_shapes.specs.declared.words.SceneWord.TheVariants as words
 use Rattle.pf_shapes.specs.declared.words.BodyWord.{BodyWord}
 use Rattle.pf_shapes.specs.declared.words.BodyWord.TheVariants as bodies
+use Rattle.pf_shapes.specs.declared.fixture.TheConstants.{MIN_SIZE, MAX_SIZE, MIN_MASS, MAX_MASS, MAX_FRICTION}
+use Rattle.pf_shapes.specs.declared.scene.TheConstants.{MAX_GRAVITY, MAX_POSITION}
+use Rattle.pf_shapes.specs.declared.scene_text.TheConstants.{MAX_DIRECTION}
 use Rattle.pf_shapes.specs.Fixture.{Fixture}
 use Rattle.pf_shapes.specs.declared.reader.Progress.{Progress}
 use Rattle.pf_shapes.specs.declared.reader.Progress.TheVariants.{More, Ended}
@@ -41,31 +44,31 @@ value_or_fault outside NotANumber = Err BadNumber
 abbrev pub number_of : SceneFault → ℤ → ℤ → List ℕ → Result ℤ SceneFault
 number_of outside low high field = value_or_fault outside (number low high (whole_of field))
 
--- up to 2^34 either way
+-- a part of gravity
 abbrev pub acceleration_of : List ℕ → Result ℤ SceneFault
-acceleration_of field = number_of BadNumber (neg_ℤ (pos 17179869184)) (pos 17179869184) field
+acceleration_of field = number_of BadNumber (neg_ℤ MAX_GRAVITY) MAX_GRAVITY field
 
--- up to 2^44 either way
+-- a part of a position
 abbrev pub coordinate_of : List ℕ → Result ℤ SceneFault
-coordinate_of field = number_of BadNumber (neg_ℤ (pos 17592186044416)) (pos 17592186044416) field
+coordinate_of field = number_of BadNumber (neg_ℤ MAX_POSITION) MAX_POSITION field
 
--- a part of a direction: up to 2^24 either way
+-- a part of a direction
 abbrev pub direction_of : List ℕ → Result ℤ SceneFault
-direction_of field = number_of BadNumber (neg_ℤ (pos 16777216)) (pos 16777216) field
+direction_of field = number_of BadNumber (neg_ℤ MAX_DIRECTION) MAX_DIRECTION field
 
--- a radius or a half extent: 2^20 to 2^34
+-- a radius or a half extent
 abbrev pub size_of : List ℕ → Result ℤ SceneFault
-size_of field = number_of BadSize (pos 1048576) (pos 17179869184) field
+size_of field = number_of BadSize MIN_SIZE MAX_SIZE field
 
--- up to 2^26
+-- a coefficient of friction
 abbrev pub friction_of : List ℕ → Result ℤ SceneFault
-friction_of field = number_of BadNumber (pos 0) (pos 67108864) field
+friction_of field = number_of BadNumber (pos 0) MAX_FRICTION field
 
--- `0`, or 2^20 to 2^34
+-- a mass: `0`, or that of a dynamic body
 abbrev pub mass_of : List ℕ → Result ℤ SceneFault
 mass_of field =
     if bytes_eq field (codes "0") then Ok (pos 0)
-    else number_of BadMass (pos 1048576) (pos 17179869184) field
+    else number_of BadMass MIN_MASS MAX_MASS field
 
 abbrev pub player_of : Result ℤ SceneFault → Result (Option ℕ) SceneFault
 player_of (Ok z) = Ok (Some (unsigned_abs z))

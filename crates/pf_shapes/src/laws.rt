@@ -15,7 +15,9 @@ ghost use Rattle.pf_shapes.specs.SceneEncoding.{body_fields, gravity_fields, sta
 ghost use Rattle.pf_shapes.specs.Scene.{Scene, IsGravity, IsPosition, empty_scene, with_body};
 ghost use Rattle.pf_shapes.specs.SceneText.{line_of, scene_in_progress};
 
-use crate::fixture::Shape;
+use crate::fixture::{MAX_FRICTION, MAX_MASS, MAX_SIZE, MIN_MASS, MIN_SIZE, PLAYERS, Shape};
+use crate::scene::{MAX_BODIES, MAX_GRAVITY, MAX_POSITION};
+use crate::scene_text::MAX_DIRECTION;
 
 /// The fields of gravity, and those of a body for which the scene has room, parse as that, where
 /// their numbers are in range.
@@ -86,4 +88,15 @@ pub fn circles_stay_in_their_bounds()
 pub fn bodies_that_share_a_position_overlap()
     ensures { (f g : Fixture) (a b : BodyState) (p : V2) → Covers f.shape a p → Covers g.shape b p
         → overlaps (fixture_bounds f a) (fixture_bounds g b) ≡ true }
+{}
+
+/// The limits of a scene, in raw units.
+pub fn named_limits()
+    ensures sizes { (MIN_SIZE ≡ pos (2 ^ 20)) × (MAX_SIZE ≡ pos (2 ^ 34)) }
+    ensures masses { (MIN_MASS ≡ pos (2 ^ 20)) × (MAX_MASS ≡ pos (2 ^ 34)) }
+    ensures friction { MAX_FRICTION ≡ pos (2 ^ 26) }
+    ensures gravity { MAX_GRAVITY ≡ pos (2 ^ 34) }
+    ensures position { MAX_POSITION ≡ pos (2 ^ 44) }
+    ensures direction { MAX_DIRECTION ≡ pos (2 ^ 24) }
+    ensures counts { (MAX_BODIES ≡ 1024) × (PLAYERS ≡ 8) }
 {}

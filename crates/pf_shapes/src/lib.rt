@@ -21,3 +21,4 @@ pub use pair::Pair;
 pub use read::ReadError;
 pub use reader::{Progress, SceneReader};
 pub use scene::{MAX_BODIES, MAX_GRAVITY, MAX_POSITION, Scene};
+pub use scene_text::MAX_DIRECTION;

@@ -8,22 +8,17 @@ ghost use Rattle.pf_shapes.specs.Scene.{IsGravity, IsPosition, IsTransform};
 ghost use Rattle.pf_shapes.specs.SceneText.{number_of, acceleration_of, coordinate_of, size_of, friction_of, mass_of, owner_of, gravity_of, position_of, direction_of, rotation_of, circle_fixture, box_fixture, circle_transform, box_transform, body_parts, circle_of, box_of, body_of};
 
 use crate::fault::SceneFault;
-use crate::fixture::{Fixture, Shape};
+use crate::fixture::{
+    Fixture, MAX_FRICTION, MAX_MASS, MAX_SIZE, MIN_MASS, MIN_SIZE, PLAYERS, Shape,
+};
+use crate::scene::{MAX_GRAVITY, MAX_POSITION};
 use crate::words::BodyWord;
 use pf_num::Fx;
 use pf_rot::{Rot, V2};
 use pf_text::{ParsedNumber, number};
 
-/// 2^20, the least mass and size.
-const LEAST: i64 = 1 << 20;
-/// 2^34, the greatest mass, size and part of gravity.
-const MOST: i64 = 1 << 34;
-/// 2^26, the greatest friction.
-const MOST_FRICTION: i64 = 1 << 26;
-/// 2^24, the greatest part of a direction.
-const MOST_DIRECTION: i64 = 1 << 24;
-/// 2^44, the farthest that a body starts from 0.
-const FARTHEST: i64 = 1 << 44;
+/// The greatest part of a direction: 1, in units of 2^-24.
+pub const MAX_DIRECTION: i64 = 1 << 24;
 
 /// The number of a range that a field encodes; one that is out of it is the error `outside`.
 fn number_in(field: &[u8], low: i64, high: i64, outside: SceneFault) -> Result<Fx, SceneFault>
@@ -42,45 +37,40 @@ fn number_in(field: &[u8], low: i64, high: i64, outside: SceneFault) -> Result<F
 /// A part of gravity.
 fn read_acceleration(field: &[u8]) -> Result<Fx, SceneFault>
     ensures value { result ≡ acceleration_of field.now }
-    ensures range { IfOk result (IsWithin (neg_ℤ (pos 17179869184)) (pos 17179869184)) }
+    ensures range { IfOk result (IsWithin (neg_ℤ MAX_GRAVITY) MAX_GRAVITY) }
 {
-    number_in(field, -MOST, MOST, SceneFault::BadNumber)
+    number_in(field, -MAX_GRAVITY, MAX_GRAVITY, SceneFault::BadNumber)
 }
 
 /// A part of a position.
 fn read_coordinate(field: &[u8]) -> Result<Fx, SceneFault>
     ensures value { result ≡ coordinate_of field.now }
-    ensures range { IfOk result (IsWithin (neg_ℤ (pos 17592186044416)) (pos 17592186044416)) }
+    ensures range { IfOk result (IsWithin (neg_ℤ MAX_POSITION) MAX_POSITION) }
 {
-    number_in(field, -FARTHEST, FARTHEST, SceneFault::BadNumber)
+    number_in(field, -MAX_POSITION, MAX_POSITION, SceneFault::BadNumber)
 }
 
 /// A part of a direction.
 fn read_direction(field: &[u8]) -> Result<Fx, SceneFault>
     ensures { result ≡ direction_of field.now }
 {
-    number_in(
-        field,
-        -MOST_DIRECTION,
-        MOST_DIRECTION,
-        SceneFault::BadNumber,
-    )
+    number_in(field, -MAX_DIRECTION, MAX_DIRECTION, SceneFault::BadNumber)
 }
 
 /// A radius or a half extent.
 fn read_size(field: &[u8]) -> Result<Fx, SceneFault>
     ensures value { result ≡ size_of field.now }
-    ensures range { IfOk result (IsWithin (pos 1048576) (pos 17179869184)) }
+    ensures range { IfOk result (IsWithin MIN_SIZE MAX_SIZE) }
 {
-    number_in(field, LEAST, MOST, SceneFault::BadSize)
+    number_in(field, MIN_SIZE, MAX_SIZE, SceneFault::BadSize)
 }
 
 /// A coefficient of friction.
 fn read_friction(field: &[u8]) -> Result<Fx, SceneFault>
     ensures value { result ≡ friction_of field.now }
-    ensures range { IfOk result (IsWithin (pos 0) (pos 67108864)) }
+    ensures range { IfOk result (IsWithin (pos 0) MAX_FRICTION) }
 {
-    number_in(field, 0, MOST_FRICTION, SceneFault::BadNumber)
+    number_in(field, 0, MAX_FRICTION, SceneFault::BadNumber)
 }
 
 /// A mass: `0` for a static body.
@@ -91,7 +81,7 @@ fn read_mass(field: &[u8]) -> Result<Fx, SceneFault>
     if field == b"0".as_slice() {
         return Ok(Fx::ZERO);
     }
-    number_in(field, LEAST, MOST, SceneFault::BadMass)
+    number_in(field, MIN_MASS, MAX_MASS, SceneFault::BadMass)
 }
 
 /// The player that owns a body, or `-` for nobody.
@@ -102,7 +92,7 @@ fn read_owner(field: &[u8]) -> Result<Option<u8>, SceneFault>
     if field == b"-".as_slice() {
         return Ok(None);
     }
-    match number(field, 0, 7) {
+    match number(field, 0, i64::from(PLAYERS) - 1) {
         ParsedNumber::InRange(n) => Ok(Some(n as u8)),
         _ => Err(SceneFault::BadNumber),
     }

@@ -282,4 +282,5 @@ fn laws_are_called(_rt: HostRuntime) {
     laws::boxes_stay_in_their_bounds();
     laws::circles_stay_in_their_bounds();
     laws::bodies_that_share_a_position_overlap();
+    laws::named_limits();
 }

@@ -10,6 +10,7 @@ use Rattle.pf_text.specs.declared.driver.DriveFault.{DriveFault}
 use Rattle.pf_text.specs.declared.driver.DriveFault.TheVariants as faults
 use Rattle.pf_text.specs.declared.lines.Taken.{Taken}
 use Rattle.pf_text.specs.declared.lines.Taken.TheVariants.{End}
+use Rattle.pf_text.specs.declared.lines.TheConstants.{MAX_LINE}
 use Rattle.pf_text.specs.Fields.{fields_of}
 use Rattle.pf_text.specs.Lines.{lines_of, is_line, AreLines, Takes}
 use Rattle.pf_text.specs.Streams.{Transfer}
@@ -18,9 +19,9 @@ use Rattle.pf_text.specs.Streams.{Transfer}
 abbrev pub is_ascii : List ℕ → Bool
 is_ascii bytes = list_all (λ byte. nat_lt byte 128) bytes
 
--- a line has at most 4,096 bytes, all of ASCII
+-- a line has at most `MAX_LINE` bytes, all of ASCII
 abbrev pub is_plain : List ℕ → Bool
-is_plain line = nat_le (length line) 4096 && is_ascii line
+is_plain line = nat_le (length line) MAX_LINE && is_ascii line
 
 -- an empty line, or one that begins with `#`
 abbrev pub is_skipped : List ℕ → Bool

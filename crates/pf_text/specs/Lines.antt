@@ -5,6 +5,7 @@ use Rattle.std.specs.Io.KnownBytes.{Appends, Consumes}
 use Rattle.pf_text.specs.declared.lines.Taken.{Taken}
 use Rattle.pf_text.specs.declared.lines.Taken.TheVariants.{Line, Last, End, TooLong}
 use Rattle.pf_text.specs.declared.lines.ReadFailed.{ReadFailed}
+use Rattle.pf_text.specs.declared.lines.TheConstants.{MAX_LINE, LINE_ROOM}
 
 -- the lines of a text, without their LFs
 unfoldable pub lines_of : List ℕ → List (List ℕ)
@@ -38,13 +39,13 @@ pub record TakesPrefix (bytes prefix : List ℕ) (left : Option (List ℕ)) : Ty
 -- what was taken from the bytes, and what is left; a failed reader leaves a part of one line taken
 abbrev pub Takes : List ℕ → List ℕ → Option (List ℕ) → Result Taken ReadFailed → Type 0
 Takes bytes line left (Ok Line) =
-    TakesPrefix bytes (terminated_line line) left × (is_line line ≡ true) × (length line ≤ 4096)
+    TakesPrefix bytes (terminated_line line) left × (is_line line ≡ true) × (length line ≤ MAX_LINE)
 Takes bytes line left (Ok Last) =
     (line ≡ bytes) × (left ≡ Some []) × (is_line line ≡ true) × (0 < length line)
-    × (length line ≤ 4096)
+    × (length line ≤ MAX_LINE)
 Takes bytes line left (Ok End) = (bytes ≡ []) × (left ≡ Some [])
 Takes bytes line left (Ok TooLong) =
-    TakesPrefix bytes line left × (is_line line ≡ true) × (length line ≡ 4097)
+    TakesPrefix bytes line left × (is_line line ≡ true) × (length line ≡ LINE_ROOM)
 Takes bytes line left (Err failed) =
     (part : List ℕ) × TakesPrefix bytes part left × (is_line part ≡ true)
 

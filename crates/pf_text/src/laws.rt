@@ -12,6 +12,7 @@ ghost use Rattle.pf_text.specs.Lines.{lines_of, is_line, AreLines};
 ghost use Rattle.pf_text.specs.Numbers.{whole_of};
 
 use crate::driver::Machine;
+use crate::lines::{LINE_ROOM, MAX_LINE};
 
 /// The output for lines stands, whatever follows them; that for what follows begins where they
 /// ended.
@@ -51,4 +52,10 @@ pub fn fields_are_the_parts_between_spaces()
 pub fn numbers_have_one_encoding()
     ensures { (field : List ℕ) (z : ℤ) → unsigned_abs z < 2 ^ 64
         → (whole_of field ≡ Some z) ↔ (field ≡ signed_decimal z) }
+{}
+
+/// The longest line that is valid, and the bytes that are taken of one that is too long.
+pub fn named_limits()
+    ensures line { MAX_LINE ≡ 4096 }
+    ensures room { LINE_ROOM ≡ 4097 }
 {}

@@ -349,7 +349,8 @@ fn a_writer_may_fail_at_each_call(rt: HostRuntime) -> Result<(), Fail> {
     Ok(())
 }
 
-/// A text of 1,000 lines of one field, longer than any buffer, with a line of 2,000 fields at its end.
+/// A text of 1,000 lines of one field, longer than any buffer, with a line of 2,000 fields at its
+/// end.
 fn long_text(alloc: Global) -> Result<Vec<u8>, AllocError> {
     let mut text = Vec::new(alloc);
     for _ in 0..1000 {
@@ -464,4 +465,5 @@ fn laws_are_called(_rt: HostRuntime) {
     laws::lines_are_the_parts_between_feeds();
     laws::fields_are_the_parts_between_spaces();
     laws::numbers_have_one_encoding();
+    laws::named_limits();
 }
