@@ -5,6 +5,3 @@ mod broad_phase;
 pub mod laws;
 
 pub use broad_phase::pairs;
-
-#[cfg(test)]
-mod tests;

@@ -21,6 +21,3 @@ pub use manifold::Manifold;
 pub use narrow_phase::collide;
 pub use placed_shape::PlacedShape;
 pub use touch::{Touch, collide_list};
-
-#[cfg(test)]
-mod tests;

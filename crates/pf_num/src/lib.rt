@@ -11,6 +11,3 @@ mod root;
 
 pub use fx::Fx;
 pub use root::whole_root;
-
-#[cfg(test)]
-mod tests;

@@ -7,6 +7,3 @@ mod vector;
 
 pub use rotation::Rot;
 pub use vector::{V2, cross_sv};
-
-#[cfg(test)]
-mod tests;

@@ -1,7 +1,7 @@
 //! Worked vectors, lengths and turns.
 
-use super::*;
 use pf_num::Fx;
+use pf_rot::{Rot, V2, cross_sv, laws};
 use std::process::Abort;
 
 fn vector(rt: &impl Abort, x: i64, y: i64) -> V2 {

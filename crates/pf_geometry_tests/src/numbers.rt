@@ -1,6 +1,6 @@
 //! Worked numbers: ties, the ends of the range, and where the paths of an operation meet.
 
-use super::*;
+use pf_num::{Fx, laws, whole_root};
 use std::process::Abort;
 use std::test::Fail;
 

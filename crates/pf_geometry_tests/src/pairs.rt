@@ -1,6 +1,6 @@
 //! Pairs of scenes, by hand.
 
-use super::*;
+use pf_broad::{laws, pairs};
 use pf_num::Fx;
 use pf_shapes::{Pair, Scene};
 use std::test::Fail;

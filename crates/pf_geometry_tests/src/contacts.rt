@@ -1,6 +1,6 @@
 //! Worked contact points.
 
-use super::*;
+use pf_manifold::{ContactPoint, Manifold, PlacedShape, collide, collide_list, laws};
 use pf_num::Fx;
 use pf_rot::{Rot, V2};
 use pf_shapes::{Pair, Scene, Shape};
