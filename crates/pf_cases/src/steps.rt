@@ -103,4 +103,5 @@ fn laws_are_called(_rt: HostRuntime) {
     laws::timers_count_still_ticks();
     laws::sleepers_were_still();
     laws::rotations_stay_at_most_one();
+    laws::named_limits();
 }

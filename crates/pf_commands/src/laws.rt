@@ -1,7 +1,7 @@
 //! Laws of frames, of command maps and of checks. Their functions do nothing: their clauses are
 //! what they are for.
 
-ghost use Rattle.std.specs.Prelude.{◌≡◌, ◌<◌, IfSome, ◌↔◌, ◌≢◌, ℕ, List, [], ◌++◌, All, Contains, map, Some, Ok, Err, false};
+ghost use Rattle.std.specs.Prelude.{◌≡◌, ◌<◌, ◌^◌, IfSome, ◌↔◌, ◌≢◌, ℕ, List, [], ◌++◌, All, Contains, map, Some, Ok, Err, false};
 ghost use Rattle.std.specs.FinMap.{empty, get};
 ghost use Rattle.pf_shapes.specs.Scene.{Scene};
 ghost use Rattle.pf_commands.specs.Frame.{IsFrameable, Encodes, encoding};
@@ -13,6 +13,8 @@ ghost use Rattle.pf_commands.specs.News.{is_news, news, least_tick, IsLeast};
 ghost use Rattle.pf_commands.specs.declared.checking.CheckFault.{CheckFault};
 ghost use Rattle.pf_commands.specs.declared.payload.Payload.{Payload};
 ghost use Rattle.pf_commands.specs.declared.payload.Command.{Command};
+
+use crate::name::{MAX_TICK, NUMBERS};
 
 /// Each command in its ranges, with a body below 1,024, has one encoding; each encoding has one
 /// command; and no encoding is a prefix of another.
@@ -120,4 +122,10 @@ pub fn first_error_is_returned()
         → (check_all scene commands ≡ Ok tt) ↔ All (IsAllowed scene) commands }
     ensures fault { (scene : Scene) (commands : List (Name × Payload)) (fault : CheckFault)
         → (check_all scene commands ≡ Err fault) ↔ IsFirstError scene commands fault }
+{}
+
+/// The last tick, and how many commands a player can give at one tick.
+pub fn named_limits()
+    ensures tick { MAX_TICK ≡ 2 ^ 20 }
+    ensures numbers { NUMBERS ≡ 2 ^ 16 }
 {}

@@ -167,4 +167,5 @@ fn laws_are_called(_rt: HostRuntime) {
     laws::merge_stays_in_range();
     laws::same_weight_same_payload();
     laws::first_error_is_returned();
+    laws::named_limits();
 }

@@ -475,4 +475,5 @@ fn laws_are_called(_rt: HostRuntime) {
     laws::event_lines_have_replies();
     laws::event_lines_encode_events();
     laws::printed_frames_are_parsed();
+    laws::named_limits();
 }

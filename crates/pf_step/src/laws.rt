@@ -1,6 +1,6 @@
 //! Laws of simulations. Their functions do nothing: their clauses are what they are for.
 
-ghost use Rattle.std.specs.Prelude.{◌≡◌, ◌≢◌, ℕ, ◌+◌, ◌-◌, ◌≤◌, ◌<◌, pos, true, false, Some, All, slice_get};
+ghost use Rattle.std.specs.Prelude.{◌≡◌, ◌≢◌, ℕ, ◌+◌, ◌-◌, ◌^◌, ◌≤◌, ◌<◌, pos, true, false, Some, All, slice_get};
 ghost use Rattle.pf_rot.specs.Vector.{zero_vector};
 ghost use Rattle.pf_rot.specs.Laws.{IsAtMostOne};
 ghost use Rattle.pf_shapes.specs.Body.{BodyState};
@@ -17,7 +17,7 @@ ghost use Rattle.pf_step.specs.Laws.{NoneFor};
 ghost use Rattle.pf_step.specs.World.{World};
 ghost use Rattle.pf_step.specs.Simulation.{sim};
 
-use crate::body::STILL_TICKS;
+use crate::body::{STILL_SPEED, STILL_SPIN, STILL_TICKS};
 
 /// Commands that have the same payloads at each tick before `tick` make the same world at `tick`.
 pub fn worlds_follow_earlier_commands()
@@ -89,4 +89,12 @@ pub fn rotations_stay_at_most_one()
     ensures starts { (scene : Scene) (commands : CommandMap) (tick : ℕ)
         → All (λ b. IsAtMostOne b.rotation) scene.starts
         → All (λ b. IsAtMostOne b.rotation) (sim scene commands tick).bodies }
+{}
+
+/// A still body moves at most 1/64 of a length and turns by at most 1/32 of a radian a second, and
+/// sleeps after 32 such ticks.
+pub fn named_limits()
+    ensures speed { STILL_SPEED ≡ 2 ^ 18 }
+    ensures spin { STILL_SPIN ≡ 2 ^ 19 }
+    ensures ticks { STILL_TICKS ≡ 32 }
 {}
