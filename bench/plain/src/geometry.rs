@@ -3,7 +3,7 @@
 //! In a task on points the body a stands at the origin, turned by (0.8, 0.6), and the body b of step `i` at
 //! `x = i * 40503 % 65536 - 32768` and `y = i * 7919 % 65536 - 32768` in units of 2^10, turned by the pair of `i % 4`: upright,
 //! a quarter, (0.8, 0.6) or (0.6, -0.8). Circles have the radius 1, boxes the half extents 1 and 1/2. What is
-//! printed is the sum over all points of the feature, both parts of the place, both of the normal, and the separation, in 64
+//! printed is the sum over all points of the feature, both parts of the position, both of the normal, and the separation, in 64
 //! bits that wrap. HELD is of no account:
 //!
 //! | TASK         | a      | b      |
@@ -93,8 +93,8 @@ enum Shape {
 #[derive(Clone, Copy)]
 struct Body {
     shape: Shape,
-    place: Vector,
-    rot: Pair,
+    position: Vector,
+    rotation: Pair,
 }
 
 #[derive(Clone, Copy)]
@@ -151,8 +151,8 @@ fn region(z: i64, h: i64) -> u8 {
     }
 }
 
-fn box_circle(half: Vector, place: Vector, rot: Pair, centre: Vector, r: i64) -> Option<Point> {
-    let d = rot.unrotate(centre.minus(place));
+fn box_circle(half: Vector, position: Vector, rotation: Pair, centre: Vector, r: i64) -> Option<Point> {
+    let d = rotation.unrotate(centre.minus(position));
     let k = Vector {
         x: d.x.min(half.x).max(-half.x),
         y: d.y.min(half.y).max(-half.y),
@@ -184,8 +184,8 @@ fn box_circle(half: Vector, place: Vector, rot: Pair, centre: Vector, r: i64) ->
     };
     Some(Point {
         feature,
-        position: place.plus(rot.rotate(local)),
-        normal: rot.rotate(normal),
+        position: position.plus(rotation.rotate(local)),
+        normal: rotation.rotate(normal),
         separation,
     })
 }
@@ -198,8 +198,8 @@ struct Frames {
 }
 
 fn frames(a: &Body, b: &Body) -> Frames {
-    let offset = b.place.minus(a.place);
-    let (qa, qb) = (a.rot, b.rot);
+    let offset = b.position.minus(a.position);
+    let (qa, qb) = (a.rotation, b.rotation);
     Frames {
         in_a: qa.unrotate(offset),
         in_b: qb.unrotate(offset),
@@ -295,7 +295,7 @@ fn boxes(a: &Body, ha: Vector, b: &Body, hb: Vector) -> Manifold {
     }
     let axis = best_axis(sa, sb, ha, hb);
     let is_b = axis >= 2;
-    let (place, rot, half, other) = if is_b { (b.place, b.rot, hb, ha) } else { (a.place, a.rot, ha, hb) };
+    let (position, rotation, half, other) = if is_b { (b.position, b.rotation, hb, ha) } else { (a.position, a.rotation, ha, hb) };
     let d = if is_b { f.in_b.negated() } else { f.in_a };
     let q = if is_b { Pair { c: f.relative.c, s: -f.relative.s } } else { f.relative };
     let is_x = axis.is_multiple_of(2);
@@ -320,10 +320,10 @@ fn boxes(a: &Body, ha: Vector, b: &Body, hb: Vector) -> Manifold {
         return Manifold::Apart;
     };
     let normal = match face {
-        0 => Vector { x: rot.c, y: rot.s },
-        1 => Vector { x: -rot.s, y: rot.c },
-        2 => Vector { x: -rot.c, y: -rot.s },
-        _ => Vector { x: rot.s, y: -rot.c },
+        0 => Vector { x: rotation.c, y: rotation.s },
+        1 => Vector { x: -rotation.s, y: rotation.c },
+        2 => Vector { x: -rotation.c, y: -rotation.s },
+        _ => Vector { x: rotation.s, y: -rotation.c },
     };
     let normal = if is_b { normal.negated() } else { normal };
     let point = |v: Vertex| {
@@ -334,7 +334,7 @@ fn boxes(a: &Body, ha: Vector, b: &Body, hb: Vector) -> Manifold {
         let local = if is_x { Vector { x: g(hf), y: v.side } } else { Vector { x: v.side, y: g(hf) } };
         Some(Point {
             feature: 16 * (face + 4 * u8::from(is_b)) + 4 * edge + v.mark,
-            position: place.plus(rot.rotate(local)),
+            position: position.plus(rotation.rotate(local)),
             normal,
             separation,
         })
@@ -349,10 +349,10 @@ fn boxes(a: &Body, ha: Vector, b: &Body, hb: Vector) -> Manifold {
 
 fn collide(a: &Body, b: &Body) -> Manifold {
     match (a.shape, b.shape) {
-        (Shape::Circle(ra), Shape::Circle(rb)) => at_most_one(circles(a.place, ra, b.place, rb)),
-        (Shape::Box(half), Shape::Circle(r)) => at_most_one(box_circle(half, a.place, a.rot, b.place, r)),
+        (Shape::Circle(ra), Shape::Circle(rb)) => at_most_one(circles(a.position, ra, b.position, rb)),
+        (Shape::Box(half), Shape::Circle(r)) => at_most_one(box_circle(half, a.position, a.rotation, b.position, r)),
         (Shape::Circle(r), Shape::Box(half)) => {
-            let point = box_circle(half, b.place, b.rot, a.place, r);
+            let point = box_circle(half, b.position, b.rotation, a.position, r);
             at_most_one(point.map(|p| Point { normal: p.normal.negated(), ..p }))
         }
         (Shape::Box(ha), Shape::Box(hb)) => boxes(a, ha, b, hb),
@@ -392,12 +392,12 @@ fn of_manifold(manifold: Manifold) -> i64 {
 
 /// The sum over COUNT pairs of these shapes.
 fn points(a: Shape, b: Shape, count: u64) -> i64 {
-    let a = Body { shape: a, place: Vector { x: 0, y: 0 }, rot: turned(2) };
+    let a = Body { shape: a, position: Vector { x: 0, y: 0 }, rotation: turned(2) };
     let mut sum = 0i64;
     for i in 0..count {
         let at = |k: u64| ((((i & 0xffff) * k) & 0xffff) as i64 - 32_768) << 10;
-        let place = Vector { x: at(40_503), y: at(7_919) };
-        let b = Body { shape: b, place, rot: turned(i) };
+        let position = Vector { x: at(40_503), y: at(7_919) };
+        let b = Body { shape: b, position, rotation: turned(i) };
         sum = sum.wrapping_add(of_manifold(collide(&a, &b)));
     }
     sum
@@ -406,25 +406,25 @@ fn points(a: Shape, b: Shape, count: u64) -> i64 {
 struct Bounds {
     low: Vector,
     high: Vector,
-    fixed: bool,
+    is_static: bool,
 }
 
-fn bounds(body: &Body, fixed: bool) -> Bounds {
+fn bounds(body: &Body, is_static: bool) -> Bounds {
     let extent = match body.shape {
         Shape::Circle(r) => Vector { x: add(r, 1), y: add(r, 1) },
         Shape::Box(h) => {
-            let (c, s) = (body.rot.c.abs(), body.rot.s.abs());
+            let (c, s) = (body.rotation.c.abs(), body.rotation.s.abs());
             Vector {
                 x: add(add(mul(c, h.x), mul(s, h.y)), 1),
                 y: add(add(mul(s, h.x), mul(c, h.y)), 1),
             }
         }
     };
-    Bounds { low: body.place.minus(extent), high: body.place.plus(extent), fixed }
+    Bounds { low: body.position.minus(extent), high: body.position.plus(extent), is_static }
 }
 
 fn meets(a: &Bounds, b: &Bounds) -> bool {
-    !(a.fixed && b.fixed)
+    !(a.is_static && b.is_static)
         && a.low.x <= b.high.x
         && b.low.x <= a.high.x
         && a.low.y <= b.high.y
@@ -433,7 +433,7 @@ fn meets(a: &Bounds, b: &Bounds) -> bool {
 
 /// All pairs by a double loop over bounds that are computed once for each body.
 fn pairs(bodies: &[(Body, bool)]) -> Vec<(usize, usize)> {
-    let bounds: Vec<Bounds> = bodies.iter().map(|(body, fixed)| bounds(body, *fixed)).collect();
+    let bounds: Vec<Bounds> = bodies.iter().map(|(body, is_static)| bounds(body, *is_static)).collect();
     let mut found = Vec::new();
     for i in 0..bounds.len() {
         for j in i + 1..bounds.len() {
@@ -449,8 +449,8 @@ fn field(held: u64) -> Vec<(Body, bool)> {
     let body = |i: u64| {
         let shape = if i.is_multiple_of(2) { small_circle() } else { small_box() };
         let at = |k: u64| k as i64 * (ONE * 7 / 4);
-        let place = Vector { x: at(i % 32), y: at(i / 32) };
-        (Body { shape, place, rot: turned(i) }, i.is_multiple_of(8))
+        let position = Vector { x: at(i % 32), y: at(i / 32) };
+        (Body { shape, position, rotation: turned(i) }, i.is_multiple_of(8))
     };
     (0..held).map(body).collect()
 }
