@@ -91,7 +91,7 @@ fn body(field: &[u8]) -> Result<u16, LineFault>
     }
 }
 
-/// A number of physics, in units of 2^-24.
+/// A fixed-point number, in units of 2^-24.
 fn real(field: &[u8]) -> Result<Fx, LineFault>
     ensures { result ≡ real_of field.now }
 {

@@ -24,7 +24,7 @@ pub const MAX_TEXT_PEERS: u8 = 1;
 pub enum Phase {
     /// In its scene.
     Reading(SceneReader),
-    /// Behind the scene, before its peers.
+    /// After the scene, before `peers N`.
     Seating(Scene),
     /// Among the events.
     Playing(Session),

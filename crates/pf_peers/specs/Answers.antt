@@ -1,4 +1,4 @@
--- What a peer's failed call is replied.
+-- The reply to a peer's call that failed.
 use Rattle.std.specs.Prelude.{◌≡◌, Result, Ok, IsErr}
 use Rattle.std.specs.declared.alloc.AllocError.{AllocError}
 use Rattle.pf_rollback.specs.declared.fault.Fault.{Fault}

@@ -1,4 +1,4 @@
--- The abstract session: peers of one scene, and what each event on them is replied, one event after
+-- The abstract session: peers of one scene, and the reply to each event on them, one event after
 -- the other.
 use Rattle.std.specs.Prelude.{◌≡◌, ℕ, ◌<◌, ◌≤◌, ◌⊎◌, All, length, List, [], ◌∷◌, Result, Ok, Err, IsErr, IsSome, map, slice_index_or, slice_set}
 use Rattle.std.specs.FinMap.{get}
@@ -7,7 +7,7 @@ use Rattle.pf_shapes.specs.Scene.{Scene}
 use Rattle.pf_shapes.specs.declared.fixture.TheConstants.{PLAYERS}
 use Rattle.pf_step.specs.World.{World}
 use Rattle.pf_rollback.specs.declared.fault.Refusal.{Refusal}
-use Rattle.pf_rollback.specs.Peer.{Peer, PeerCore, new_peer, put, issue, take, advance, world_at}
+use Rattle.pf_rollback.specs.Peer.{Peer, PeerCore, new_peer, put, issue, take, advance, IsEmptyBefore, world_at}
 use Rattle.pf_peers.specs.declared.event.Event.{Event}
 use Rattle.pf_peers.specs.declared.event.Event.TheVariants.{Issue, Take, Advance, Show}
 use Rattle.pf_peers.specs.declared.event.Reply.{Reply}
@@ -61,13 +61,13 @@ peer_answer s p (Advance peer ticks) =
 peer_answer s p (Show peer tick) = (world_reply peer tick (world_at s p tick), p)
 
 -- no memory is needed for the reply to an event: it is rejected, or a name that is held is taken,
--- or ticks are advanced
+-- or ticks are advanced, or a world without bodies is shown before any command
 abbrev pub NeedsNoMemory : Scene → Peer → Event → Type 0
 NeedsNoMemory s p (Issue peer payload) = IsErr (issue s p payload)
 NeedsNoMemory s p (Take peer (Ok c)) = IsErr (put s p c) ⊎ IsSome (get p.commands c.name)
 NeedsNoMemory s p (Take peer (Err fault)) = Unit {0}
 NeedsNoMemory s p (Advance peer ticks) = Unit {0}
-NeedsNoMemory s p (Show peer tick) = IsErr (world_at s p tick)
+NeedsNoMemory s p (Show peer tick) = IsErr (world_at s p tick) ⊎ IsEmptyBefore s p.commands tick
 
 -- the reply to an event on a session, and the session after it
 abbrev pub answer : Session → Event → Reply × Session

@@ -6,7 +6,7 @@ ghost use Rattle.pf_peers.specs.Answers.{IsReplyOf};
 ghost use Rattle.pf_peers.specs.Session.{NeedsNoMemory, peer_answer, reply_and_peer, world_reply};
 ghost use Rattle.pf_peers.specs.declared.event.Reply.TheVariants.{Advanced, Issued, Took};
 ghost use Rattle.pf_commands.specs.declared.payload.Command.{Command};
-ghost use Rattle.pf_rollback.specs.Peer.{advance, issue, take, world_at};
+ghost use Rattle.pf_rollback.specs.Peer.{IsEmptyBefore, advance, issue, take, world_at};
 
 use crate::event::{Event, Reply};
 use pf_commands::{Command, FrameFault, Payload};
@@ -53,7 +53,7 @@ fn refused(fault: Fault) -> Result<Reply, AllocError>
     }
 }
 
-/// The reply of a peer that is to issue a command.
+/// The reply of a peer to Issue.
 fn issue(core: &mut PeerCore, peer: u8, payload: Payload) -> Result<Reply, AllocError>
     ensures reply { let p = core.old.peer in IfOk result (λ reply. (reply, core.new.peer)
         ≡ reply_and_peer (λ frame. Issued peer frame) p (issue core.old.scene p payload)) }
@@ -67,7 +67,7 @@ fn issue(core: &mut PeerCore, peer: u8, payload: Payload) -> Result<Reply, Alloc
     }
 }
 
-/// The reply of a peer that is to take a command, or the reason why a frame encodes none.
+/// The reply of a peer to Take, with a command or the reason why the frame encodes none.
 fn take(
     core: &mut PeerCore,
     peer: u8,
@@ -91,7 +91,7 @@ fn take(
     }
 }
 
-/// The reply of a peer that is to go on by so many ticks. Takes no memory.
+/// The reply of a peer to Advance. Takes no memory.
 fn advance(core: &mut PeerCore, peer: u8, ticks: u32) -> Result<Reply, AllocError>
     ensures reply { let p = core.old.peer in IfOk result (λ reply. (reply, core.new.peer)
         ≡ reply_and_peer (λ reached. Advanced peer reached) p (advance p ticks)) }
@@ -104,11 +104,12 @@ fn advance(core: &mut PeerCore, peer: u8, ticks: u32) -> Result<Reply, AllocErro
     }
 }
 
-/// The reply of a peer that is to show the world at a tick.
+/// The reply of a peer to Show.
 fn show(core: &PeerCore, alloc: Global, peer: u8, tick: u32) -> Result<Reply, AllocError>
     ensures reply { IfOk result (λ reply.
         reply ≡ world_reply peer tick (world_at core.now.scene core.now.peer tick)) }
     ensures rejected { IsErr (world_at core.now.scene core.now.peer tick) → IsOk result }
+    ensures no_memory { IsEmptyBefore core.now.scene core.now.peer.commands tick → IsOk result }
 {
     match core.world_at(alloc, tick) {
         Ok(world) => Ok(Reply::Shown { peer, tick, world }),
@@ -137,10 +138,11 @@ impl Session {
     ghost use Rattle.std.specs.Prelude.{◌≡◌, ◌≤◌, ◌<◌, length, IfOk, IsOk, OnErr};
     ghost use Rattle.pf_peers.specs.Session.{IsAmong, NeedsNoMemory, answer, new_session, peer_at, peer_of};
 
-    /// So many peers of the scene, at tick 0 and without commands.
+    /// So many peers of the scene, at tick 0 and without commands. Takes no memory for none.
     pub fn new(alloc: Global, scene: Scene, peers: u8) -> Result<Session, AllocError>
         requires { peers ≤ PLAYERS }
-        ensures { IfOk result (λ session. session ≡ new_session scene peers) }
+        ensures value { IfOk result (λ session. session ≡ new_session scene peers) }
+        ensures no_memory { peers ≡ 0 → IsOk result }
     {
         let mut cores = Vec::new(alloc);
         for player in 0..peers {

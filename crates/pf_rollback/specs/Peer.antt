@@ -1,7 +1,7 @@
 -- The abstract peer: a player, the commands that it holds and the tick that it has reached; what
 -- each call on it returns and leaves. A call returns its answer with the peer after it, or why it
 -- is rejected.
-use Rattle.std.specs.Prelude.{◌≡◌, ◌<◌, ◌≤◌, ℕ, zero, suc, ◌+◌, List, Option, Some, None, Result, Ok, Err, is_some, nat_le, if◌then◌else◌}
+use Rattle.std.specs.Prelude.{◌≡◌, ◌<◌, ◌≤◌, ℕ, zero, suc, ◌+◌, List, [], Option, Some, None, Result, Ok, Err, is_some, nat_le, if◌then◌else◌}
 use Rattle.std.specs.FinMap.{get, empty}
 use Rattle.pf_shapes.specs.Scene.{Scene}
 use Rattle.pf_commands.specs.declared.name.TheConstants.{MAX_TICK, NUMBERS}
@@ -13,7 +13,7 @@ use Rattle.pf_commands.specs.declared.payload.Command.{Command}
 use Rattle.pf_commands.specs.declared.payload.Payload.{Payload}
 use Rattle.pf_commands.specs.Check.{check}
 use Rattle.pf_commands.specs.Frame.{encoding}
-use Rattle.pf_commands.specs.Merge.{CommandMap, merge, singleton, name_at}
+use Rattle.pf_commands.specs.Merge.{CommandMap, merge, singleton, name_at, payloads_at}
 use Rattle.pf_commands.specs.News.{put_outcome}
 use Rattle.pf_rollback.specs.declared.fault.Refusal.{Refusal}
 use Rattle.pf_rollback.specs.declared.fault.Refusal.TheVariants.{TickLimit, NumbersSpent, Frame, Check, NotReached}
@@ -107,6 +107,11 @@ unfoldable pub advance : Peer → ℕ → Result (ℕ × Peer) Refusal
 advance p ticks =
     let tick = p.reached + ticks in
     if nat_le tick MAX_TICK then Ok (tick, record p { reached = tick }) else Err TickLimit
+
+-- a scene without bodies, and no command before the tick
+pub record IsEmptyBefore (s : Scene) (commands : CommandMap) (tick : ℕ) : Type 0 where
+  pub no_bodies : s.starts ≡ []
+  pub no_commands : (earlier : ℕ) → earlier < tick → payloads_at commands earlier ≡ []
 
 -- a peer shows each tick that it has reached: the simulation from tick zero of its commands
 unfoldable pub world_at : Scene → Peer → ℕ → Result World Refusal

@@ -13,7 +13,7 @@ pub enum Refusal {
     /// The peer would pass the last tick, 1,048,576.
     #[error("TickLimit")]
     TickLimit,
-    /// The peer holds its player's command 65,535 of the reached tick, so no number is left.
+    /// The peer holds a command of its player at the reached tick with the last number, 65,535.
     #[error("NumbersSpent")]
     NumbersSpent,
     /// The bytes are no command's frame.
@@ -22,7 +22,7 @@ pub enum Refusal {
     /// The scene does not allow the command.
     #[error("{0}")]
     Check(CheckFault),
-    /// The tick is above the reached one, which this is.
+    /// The tick is above the reached tick, which is given here.
     #[error("NotReached {0}")]
     NotReached(u32),
 }

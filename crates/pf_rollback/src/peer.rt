@@ -49,7 +49,7 @@ impl PeerCore {
     ghost use Rattle.pf_commands.specs.Frame.{decode};
     ghost use Rattle.pf_commands.specs.declared.payload.Command.{Command};
     ghost use Rattle.pf_step.specs.Simulation.{sim};
-    ghost use Rattle.pf_rollback.specs.Peer.{new_peer, put, take, next_number, IsNextNumber, issue, advance, world_at};
+    ghost use Rattle.pf_rollback.specs.Peer.{new_peer, put, take, next_number, IsNextNumber, issue, advance, IsEmptyBefore, world_at};
     ghost use Rattle.pf_rollback.specs.Calls.{Refines, Returns};
 
     /// A peer of this player, from 0, at tick 0 and without commands. Takes no memory.
@@ -95,14 +95,15 @@ impl PeerCore {
         self.reached
     }
 
-    /// Takes a command of any player, for any tick. Out of memory is possible only where the
-    /// command's name is new, and leaves the peer as it was.
+    /// Takes a command of any player, for any tick. Returns an error where the scene does not allow
+    /// it, and out of memory, which is possible only where its name is new. An error leaves the peer
+    /// as it was.
     #[tactic(auto, unfolding(crate::specs::Peer::put))]
     pub fn put(&mut self, command: &Command) -> Result<Put, Fault>
         ensures peer { Refines result self.old.peer self.new.peer
             (put self.old.scene self.old.peer command.now) }
         ensures scene { self.new.scene ≡ self.old.scene }
-        ensures held { IsSome (get self.old.peer.commands command.now.name)
+        ensures no_memory { IsSome (get self.old.peer.commands command.now.name)
             → result ≢ Err Fault.OutOfMemory }
     {
         if let Err(fault) = check(&self.scene, command) {
@@ -111,12 +112,13 @@ impl PeerCore {
         Ok(self.commands.put(command)?)
     }
 
-    /// Takes the command that a frame of bytes encodes, as [`PeerCore::put`] does.
+    /// Takes the command that a frame of bytes encodes, as [`PeerCore::put`] does. Returns an error
+    /// where the bytes encode none.
     pub fn take(&mut self, frame: &[u8]) -> Result<Put, Fault>
         ensures peer { Refines result self.old.peer self.new.peer
             (take self.old.scene self.old.peer (decode frame.now)) }
         ensures scene { self.new.scene ≡ self.old.scene }
-        ensures held { (c : Command) → decode frame.now ≡ Ok c
+        ensures no_memory { (c : Command) → decode frame.now ≡ Ok c
             → IsSome (get self.old.peer.commands c.name) → result ≢ Err Fault.OutOfMemory }
     {
         match decode(frame) {
@@ -138,7 +140,8 @@ impl PeerCore {
     }
 
     /// Issues a command of the peer's own player at the reached tick, under the next number, and
-    /// returns its frame. Out of memory leaves the peer as it was.
+    /// returns its frame. Returns an error at the last tick, where no number is left, where the
+    /// scene does not allow the command, and out of memory; each leaves the peer as it was.
     #[tactic(auto, unfolding(crate::specs::Peer::issue, crate::specs::Peer::put))]
     pub fn issue(&mut self, payload: Payload) -> Result<[u8; FRAME_LEN], Fault>
         ensures peer { Refines result self.old.peer self.new.peer
@@ -162,13 +165,13 @@ impl PeerCore {
         Ok(encode(&command))
     }
 
-    /// Goes on by so many ticks of 1/64 s, simulates nothing, and returns the reached tick. Takes
-    /// no memory.
+    /// Goes on by so many ticks of 1/64 s, simulates nothing, and returns the reached tick. Returns
+    /// an error, and stays, where that is above [`MAX_TICK`]. Takes no memory.
     #[tactic(auto, unfolding(crate::specs::Peer::advance))]
     pub fn advance(&mut self, ticks: u32) -> Result<u32, Fault>
         ensures peer { Refines result self.old.peer self.new.peer (advance self.old.peer ticks) }
         ensures scene { self.new.scene ≡ self.old.scene }
-        ensures limit { result ≢ Err Fault.OutOfMemory }
+        ensures no_memory { result ≢ Err Fault.OutOfMemory }
     {
         match self.reached.checked_add(ticks) {
             Some(reached) if reached <= MAX_TICK => {
@@ -180,10 +183,13 @@ impl PeerCore {
     }
 
     /// The world at a tick that the peer has reached, simulated from tick zero by the commands that
-    /// it holds. It changes nothing.
+    /// it holds. Returns an error for a later tick, and out of memory. Takes no memory for a scene
+    /// without bodies, at a tick before which there is no command.
     #[tactic(auto, unfolding(crate::specs::Peer::world_at))]
     pub fn world_at(&self, alloc: Global, tick: u32) -> Result<World, Fault>
-        ensures { Returns result (world_at self.now.scene self.now.peer tick) }
+        ensures value { Returns result (world_at self.now.scene self.now.peer tick) }
+        ensures no_memory { IsEmptyBefore self.now.scene self.now.peer.commands tick
+            → result ≢ Err Fault.OutOfMemory }
     {
         if tick > self.reached {
             return Err(Fault::Refused(Refusal::NotReached(self.reached)));
@@ -192,10 +198,12 @@ impl PeerCore {
     }
 
     /// The world at a tick, simulated from tick zero.
-    #[tactic(auto, using(crate::proofs::Ticks::sim_none, crate::proofs::Ticks::sim_more))]
+    #[tactic(auto, using(crate::proofs::Ticks::sim_none, crate::proofs::Ticks::sim_more, pf_step::proofs::Empty::sim_empty))]
     fn simulate(&self, alloc: Global, ticks: u32) -> Result<World, AllocError>
-        ensures { let core = self.now in
+        ensures value { let core = self.now in
             IfOk result (λ world. world ≡ sim core.scene core.peer.commands ticks) }
+        ensures no_memory { let core = self.now in
+            IsEmptyBefore core.scene core.peer.commands ticks → IsOk result }
     {
         let mut world = World::start(alloc, &self.scene)?;
         for tick in 0..ticks {

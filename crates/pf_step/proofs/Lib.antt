@@ -1,5 +1,6 @@
 -- The lemmas of this crate.
 pub mod Ticks
+pub mod Empty
 pub mod Orders
 pub mod Sleepers
 pub mod Rotations

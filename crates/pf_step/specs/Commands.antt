@@ -13,17 +13,17 @@ use Rattle.pf_step.specs.Body.{at_rest}
 use Rattle.pf_step.specs.World.{World}
 
 -- awake, and still for no tick
-abbrev pub awake_anew : BodyState → BodyState
-awake_anew b = record b { timer = 0; awake = true }
+abbrev pub woken_body : BodyState → BodyState
+woken_body b = record b { timer = 0; awake = true }
 
 -- the state of a body of this fixture after a command for it
 unfoldable pub after_payload : Fixture → Payload → BodyState → BodyState
 after_payload f (Push body x y) b =
     let impulse : V2 = record { x = x; y = y } in
-    record (awake_anew b) { velocity = add b.velocity (scale (inverse_mass f) impulse) }
+    record (woken_body b) { velocity = add b.velocity (scale (inverse_mass f) impulse) }
 after_payload f (Turn body x) b =
-    record (awake_anew b) { spin = sum b.spin (product (inverse_inertia f) x) }
-after_payload f (Stop body) b = at_rest (awake_anew b)
+    record (woken_body b) { spin = sum b.spin (product (inverse_inertia f) x) }
+after_payload f (Stop body) b = at_rest (woken_body b)
 
 -- the bodies where the commanded one, if there is one, has its new state
 abbrev pub bodies_with

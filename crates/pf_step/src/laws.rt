@@ -70,8 +70,7 @@ pub fn timers_count_still_ticks()
         × (is_still c ≡ true) }
 {}
 
-/// A body that falls asleep has a full timer: it was still at each of the 31 ticks before, and no
-/// command was for it. So it was still for 32 ticks.
+/// A body that falls asleep was still at this tick and at each of the 31 ticks before it.
 pub fn sleepers_were_still()
     ensures { (scene : Scene) (commands : CommandMap) (tick i : ℕ) (b c : BodyState)
         → IsScene scene

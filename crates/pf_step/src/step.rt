@@ -14,7 +14,7 @@ use pf_shapes::{BodyState, Scene};
 use std::alloc::{AllocError, Global};
 
 /// The world one tick of 1/64 s later, with the payloads of the tick's commands in order of player,
-/// then number. Without memory there is no new world; none is taken where there are no bodies.
+/// then number. Takes no memory where there are no bodies.
 #[tactic(auto, unfolding(crate::specs::Step::step))]
 pub fn step_alone(
     alloc: Global,

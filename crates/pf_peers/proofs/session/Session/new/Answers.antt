@@ -22,5 +22,9 @@ pub returns : goal.returns
 returns c =
     let all : c.loop-player.player ≡ c.args.peers = omega arith in
     let with_peers : List Peer → Session = λ ps. record { scene = c.args.scene; peers = ps } in
-    ap with_peers (ap peers_of c.loop-player.invariant ∙ peers_of-new_core c.args.scene (range_with_len 0 c.loop-player.player)
-    ∙ ap (λ (n : ℕ). map new_peer (range_with_len 0 n)) all)
+    record {
+      value = ap with_peers (ap peers_of c.loop-player.invariant
+          ∙ peers_of-new_core c.args.scene (range_with_len 0 c.loop-player.player)
+          ∙ ap (λ (n : ℕ). map new_peer (range_with_len 0 n)) all);
+      no_memory = λ none. refl;
+    }
