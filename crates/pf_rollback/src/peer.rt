@@ -96,8 +96,8 @@ impl PeerCore {
     }
 
     /// Takes a command of any player, for any tick. Returns an error where the scene does not allow
-    /// it, and out of memory, which is possible only where its name is new. An error leaves the peer
-    /// as it was.
+    /// it, and out of memory, which is possible only where its name is new. An error leaves the
+    /// peer as it was.
     #[tactic(auto, unfolding(crate::specs::Peer::put))]
     pub fn put(&mut self, command: &Command) -> Result<Put, Fault>
         ensures peer { Refines result self.old.peer self.new.peer
