@@ -7,7 +7,9 @@
 //! task on a map of HELD commands and prints the sum of its results: `put`, `get`, `greatest`,
 //! `at-tick`, `merge-known`, `merge-greater`, `copy` or `decode`; or it computes the contact points
 //! of two bodies, `circles`, `box-circle` or `boxes`, and prints the sum of their numbers; or the
-//! `pairs` of a scene of HELD bodies, and prints their number.
+//! `pairs` of a scene of HELD bodies, and prints their number. Without words it reads such calls
+//! from standard input, a line each. The stored run has all of them, with results by the same tasks
+//! in plain Rust.
 #![tactic(auto)]
 
 mod chain;
@@ -17,12 +19,10 @@ mod operation;
 
 use operation::Operation;
 use std::alloc::{AllocError, Global};
-use std::env::Env;
+use std::convert::AsStr;
+use std::io::{BufRead, BufReader};
 use std::process::ExitCode;
 use std::{env, io};
-
-#[cfg(test)]
-mod tests;
 
 const USAGE: &str = "\
 usage: pf_bench add|mul|div|mul-wide|div-wide|root|length|turn COUNT
@@ -30,31 +30,23 @@ usage: pf_bench add|mul|div|mul-wide|div-wide|root|length|turn COUNT
        pf_bench circles|box-circle|boxes|pairs COUNT HELD
 ";
 
-/// A call: the task, the number of repetitions, and the number of commands or bodies, if given.
-#[derive(Drop)]
-struct Request {
-    task: String,
-    count: u64,
-    size: Option<String>,
+/// The last number of an operation's chain, if the word names one.
+fn last_number(operation: &str, count: &str) -> Option<i128> {
+    let operation = Operation::parse(operation)?;
+    let last = chain::last(operation, count.parse().ok()?);
+    Some(i128::from(last.raw()))
 }
 
-/// The request of this call's words, if they are two or three and the second is a number.
-fn request_of_call(rt: &(impl Env + Alloc<A = Global>)) -> Option<Request> {
-    let mut words = env::args(rt).ok()?.skip(1);
-    let task = words.next()?;
-    let count = words.next()?.parse().ok()?;
-    let size = words.next();
-    match words.next() {
-        None => Some(Request { task, count, size }),
-        Some(_) => None,
-    }
-}
-
-/// The result of a task on a map of so many commands or a scene of so many bodies, if the word
-/// names one.
-fn task_sum(alloc: Global, task: &str, count: u64, size: &str) -> Result<Option<i128>, AllocError> {
-    let size = match size.parse() {
-        Ok(size) if size > 0 => size,
+/// The result of a task on a map of so many commands or a scene of so many bodies, if the words
+/// name one.
+fn task_sum(
+    alloc: Global,
+    task: &str,
+    count: &str,
+    size: &str,
+) -> Result<Option<i128>, AllocError> {
+    let (count, size) = match (count.parse(), size.parse()) {
+        (Ok(count), Ok(size)) if size > 0 => (count, size),
         _ => return Ok(None),
     };
     if let Some(task) = geometry::Task::parse(task) {
@@ -66,24 +58,36 @@ fn task_sum(alloc: Global, task: &str, count: u64, size: &str) -> Result<Option<
     }
 }
 
-/// The result of a request, if it names a task.
-fn result_of(alloc: Global, request: &Request) -> Result<Option<i128>, AllocError> {
-    let task = request.task.as_str();
-    match &request.size {
-        None => Ok(Operation::parse(task).map(|operation| i128::from(chain::last(
-            operation,
-            request.count,
-        ).raw()))),
-        Some(size) => task_sum(alloc, task, request.count, size.as_str()),
+/// The result of a call's words, if they name a task.
+fn result_of<S: AsStr>(alloc: Global, words: &[S]) -> Result<Option<i128>, AllocError> {
+    match words {
+        [task, count] => Ok(last_number(task.as_str(), count.as_str())),
+        [task, count, size] => task_sum(alloc, task.as_str(), count.as_str(), size.as_str()),
+        _ => Ok(None),
     }
 }
 
+/// Prints the results of calls, a line each.
+fn run_lines(rt: &HostRuntime) -> io::Result<()> {
+    let alloc = rt.alloc();
+    for line in BufReader::new(alloc, rt.reader())?.lines(alloc) {
+        let line = line?;
+        let words: Vec<&str> = line.split_whitespace().collect(alloc)?;
+        match result_of(alloc, &words)? {
+            Some(number) => println!(rt; "{number}")?,
+            None => println!(rt; "no such task")?,
+        }
+    }
+    Ok(())
+}
+
 fn main(rt: HostRuntime) -> io::Result<ExitCode> {
-    let number = match request_of_call(&rt) {
-        Some(request) => result_of(rt.alloc(), &request)?,
-        None => None,
-    };
-    let Some(number) = number else {
+    let words: Vec<String> = env::args(&rt)?.skip(1).collect(rt.alloc())?;
+    if words.is_empty() {
+        run_lines(&rt)?;
+        return Ok(ExitCode::SUCCESS);
+    }
+    let Some(number) = result_of(rt.alloc(), &words)? else {
         eprint!(rt; "{USAGE}")?;
         return Ok(ExitCode::from(2));
     };

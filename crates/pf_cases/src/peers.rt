@@ -1,11 +1,15 @@
 //! One peer: its own commands, others', late ones, and what it rejects.
 
-use pf_commands::{CheckFault, Command, FrameFault, MAX_TICK, Name, Payload, Put, decode, encode};
+ghost use Rattle.std.specs.Prelude.{◌≡◌};
+ghost use Rattle.pf_commands.specs.Payload.{body_of};
+
+use crate::scenes::scene_of;
+use pf_commands::{
+    CheckFault, Command, FRAME_LEN, FrameFault, MAX_TICK, Name, Payload, Put, decode, encode,
+};
 use pf_num::Fx;
-use pf_rollback::{Fault, PeerCore, Refusal, laws};
-use pf_shapes::Scene;
-use pf_step::World;
-use std::alloc::AllocError;
+use pf_rollback::{Fault, PeerCore, Refusal};
+use std::alloc::{AllocError, Global};
 use std::test::Fail;
 
 /// A circle of player 2, a static one, and one of nobody.
@@ -19,13 +23,6 @@ const PUSH: Payload = Payload::Push {
     y: Fx::ZERO,
 };
 
-/// Where the circle is along x, in units of 2^-24.
-fn x_of(world: &World) -> Option<i64> {
-    let body = world.bodies().first()?;
-    let position = body.position;
-    Some(position.x.raw())
-}
-
 /// What a call returned, unless memory ran out.
 fn known<T: Drop>(outcome: Result<T, Fault>) -> Result<Result<T, Refusal>, AllocError> {
     match outcome {
@@ -35,78 +32,116 @@ fn known<T: Drop>(outcome: Result<T, Fault>) -> Result<Result<T, Refusal>, Alloc
     }
 }
 
-#[test]
-fn a_late_command_changes_later_worlds(rt: HostRuntime) -> Result<(), Fail> {
-    let mut peer = PeerCore::new(rt.alloc(), Scene::read(rt.alloc(), SCENE)?, 2);
-    assert!(rt; peer.player() == 2 && peer.reached() == 0 && peer.scene().len() == 3);
-    assert!(rt; peer.advance(10) == Ok(10));
-    let late = Command {
+/// Player 2's peer, at a tick.
+fn peer_at(alloc: Global, tick: u32) -> Result<PeerCore, Fail> {
+    let mut peer = PeerCore::new(alloc, scene_of(alloc, SCENE)?, 2);
+    if known(peer.advance(tick))? != Ok(tick) {
+        return Err(Fail::from("a peer reaches a tick"));
+    }
+    Ok(peer)
+}
+
+/// What comes of a frame.
+fn taken(peer: &mut PeerCore, frame: &[u8]) -> Result<Result<Put, Refusal>, AllocError> {
+    known(peer.take(frame))
+}
+
+/// What comes of a command of the peer's own: its frame.
+fn issued(
+    peer: &mut PeerCore,
+    payload: Payload,
+) -> Result<Result<[u8; FRAME_LEN], Refusal>, AllocError> {
+    known(peer.issue(payload))
+}
+
+/// Where the circle is along x at a tick, in units of 2^-24.
+fn x_at(alloc: Global, peer: &PeerCore, tick: u32) -> Result<Result<i64, Refusal>, AllocError> {
+    Ok(known(peer.world_at(alloc, tick))?.map(|world| match world.bodies() {
+        [circle, ..] => circle.position.x.raw(),
+        [] => 0,
+    }))
+}
+
+/// The circle's push at tick 4.
+fn late() -> Command
+    ensures { body_of result.payload ≡ 0 }
+{
+    Command {
         name: Name::new(4, 2, 0),
         payload: PUSH,
-    };
-    let frame = encode(&late);
-    assert!(rt; known(peer.take(&frame))? == Ok(Put::New));
-    assert!(rt; known(peer.take(&frame))? == Ok(Put::Same));
-    assert!(rt; known(peer.put(&late))? == Ok(Put::Same));
-    assert_eq!(rt; peer.commands().len(), 1);
-    let Ok(before) = known(peer.world_at(rt.alloc(), 4))? else {
-        panic!(rt; "there is no such body");
-    };
-    assert!(rt; x_of(&before) == Some(0));
-    let Ok(after) = known(peer.world_at(rt.alloc(), 10))? else {
-        panic!(rt; "there is no such body");
-    };
-    assert!(rt; x_of(&after) == Some(1_572_864));
+    }
+}
+
+#[test]
+fn a_late_command_is_taken_once(rt: HostRuntime) -> Result<(), Fail> {
+    let mut peer = peer_at(rt.alloc(), 10)?;
+    let frame = encode(&late());
+    assert!(rt; taken(&mut peer, &frame)? == Ok(Put::New));
+    assert!(rt; taken(&mut peer, &frame)? == Ok(Put::Same));
+    assert!(rt; known(peer.put(&late()))? == Ok(Put::Same));
+    assert!(rt; peer.commands().len() == 1 && peer.reached() == 10);
+    assert!(rt; peer.player() == 2 && peer.scene().len() == 3);
+    Ok(())
+}
+
+#[test]
+fn a_late_command_changes_later_worlds(rt: HostRuntime) -> Result<(), Fail> {
+    let mut peer = peer_at(rt.alloc(), 10)?;
+    assert!(rt; known(peer.put(&late()))?.is_ok());
+    assert!(rt; x_at(rt.alloc(), &peer, 4)? == Ok(0));
+    assert!(rt; x_at(rt.alloc(), &peer, 10)? == Ok(1_572_864));
+    assert!(rt; x_at(rt.alloc(), &peer, 11)? == Err(Refusal::NotReached(10)));
     Ok(())
 }
 
 #[test]
 fn issued_commands_are_numbered_from_0(rt: HostRuntime) -> Result<(), Fail> {
-    let mut peer = PeerCore::new(rt.alloc(), Scene::read(rt.alloc(), SCENE)?, 2);
-    assert!(rt; peer.advance(7) == Ok(7));
+    let mut peer = peer_at(rt.alloc(), 7)?;
     for number in 0..3 {
-        let Ok(frame) = known(peer.issue(PUSH))? else {
-            panic!(rt; "there is no such body");
+        let Ok(frame) = issued(&mut peer, PUSH)? else {
+            panic!(rt; "a push is allowed");
         };
         let name = Name::new(7, 2, number);
-        assert!(rt;
-            decode(&frame)
-                == Ok(Command {
-                    name,
-                    payload: PUSH
-                })
-        );
+        let payload = PUSH;
+        assert!(rt; decode(&frame) == Ok(Command { name, payload }));
     }
     Ok(())
 }
 
 #[test]
-fn rejected_calls_have_their_reasons(rt: HostRuntime) -> Result<(), Fail> {
-    let mut peer = PeerCore::new(rt.alloc(), Scene::read(rt.alloc(), SCENE)?, 2);
-    let stop = Payload::Stop { body: 1 };
-    assert!(rt; known(peer.issue(stop))? == Err(Refusal::Check(CheckFault::StaticBody)));
-    let unknown = Payload::Stop { body: 3 };
-    assert!(rt; known(peer.issue(unknown))? == Err(Refusal::Check(CheckFault::UnknownBody)));
-    let nobodys = Payload::Stop { body: 2 };
-    assert!(rt; known(peer.issue(nobodys))? == Err(Refusal::Check(CheckFault::NotOwner)));
-    assert!(rt; known(peer.take(&[]))? == Err(Refusal::Frame(FrameFault::Short)));
-    let last = Command {
-        name: Name::new(0, 2, 65_535),
-        payload: PUSH,
-    };
-    assert!(rt; known(peer.put(&last))? == Ok(Put::New));
-    assert!(rt; known(peer.issue(PUSH))? == Err(Refusal::NumbersSpent));
-    assert!(rt; peer.advance(MAX_TICK + 1) == Err(Fault::Refused(Refusal::TickLimit)));
-    assert!(rt; peer.advance(MAX_TICK) == Ok(MAX_TICK));
-    assert!(rt; known(peer.issue(PUSH))? == Err(Refusal::TickLimit));
-    let beyond = known(peer.world_at(rt.alloc(), MAX_TICK + 1))?;
-    assert!(rt; beyond.err() == Some(Refusal::NotReached(MAX_TICK)));
+fn rejected_commands_have_their_reasons(rt: HostRuntime) -> Result<(), Fail> {
+    let mut peer = peer_at(rt.alloc(), 0)?;
+    let table = [
+        (1, CheckFault::StaticBody),
+        (2, CheckFault::NotOwner),
+        (3, CheckFault::UnknownBody),
+    ];
+    for (body, fault) in table {
+        let refused = issued(&mut peer, Payload::Stop { body })?;
+        assert!(rt; refused == Err(Refusal::Check(fault)), "body {body}");
+    }
+    let short = Refusal::Frame(FrameFault::Short);
+    assert!(rt; taken(&mut peer, &[])? == Err(short));
     Ok(())
 }
 
 #[test]
-fn laws_are_called(_rt: HostRuntime) {
-    laws::same_commands_same_worlds();
-    laws::issued_commands_can_be_taken();
-    laws::numbers_follow_the_greatest();
+fn the_last_number_is_not_followed(rt: HostRuntime) -> Result<(), Fail> {
+    let mut peer = peer_at(rt.alloc(), 0)?;
+    let last = Command {
+        name: Name::new(0, 2, 65_535),
+        payload: PUSH,
+    };
+    assert!(rt; known(peer.put(&last))?.is_ok());
+    assert!(rt; issued(&mut peer, PUSH)? == Err(Refusal::NumbersSpent));
+    Ok(())
+}
+
+#[test]
+fn the_last_tick_has_no_commands(rt: HostRuntime) -> Result<(), Fail> {
+    let mut peer = peer_at(rt.alloc(), MAX_TICK)?;
+    assert!(rt; known(peer.advance(1))? == Err(Refusal::TickLimit));
+    assert!(rt; issued(&mut peer, PUSH)? == Err(Refusal::TickLimit));
+    assert_eq!(rt; peer.reached(), MAX_TICK);
+    Ok(())
 }

@@ -29,20 +29,7 @@ use Rattle.pf_manifold.specs.Boxes.{first_face_number, vertex_feature, vertex_po
 use Rattle.pf_manifold.specs.Collide.{box_at, mirror_image, collide, collide_shapes}
 use Rattle.pf_manifold.specs.GeometryLaws.{IsRegionFeature}
 use Rattle.pf_manifold.proofs.Comparisons.{not_above}
-
--- ---- optional points
-
-abbrev OfPoint : (ContactPoint → Type 0) → Option ContactPoint → Type 0
-OfPoint P None = Unit {0}
-OfPoint P (Some p) = P p
-
-one_has : (P : ContactPoint → Type 0) (p : Option ContactPoint) → OfPoint P p → All P (at_most_one p)
-one_has P None h = All-nil P
-one_has P (Some p) h = All-cons P p [] h (All-nil P)
-
-unless_has : (P : ContactPoint → Type 0) (t : Bool) (p : ContactPoint) → P p → OfPoint P (if t then None else Some p)
-unless_has P true p h = tt
-unless_has P false p h = h
+use Rattle.pf_manifold.proofs.PointLists.{OfPoint, one_has, unless_has, mapped_has, boxes_have}
 
 -- ---- circles
 
@@ -122,27 +109,18 @@ contact_feature half d r = by (int_eq d.x (clamp half.x d.x) && int_eq d.y (clam
         unless_has HasRegion (int_lt r (length_of (sub d (closest_point half d))))
         (outside_point half r d (closest_point half d) (sub d (closest_point half d))) (outside_feature half d e)
 
-world_feature : (b : OrientedBox) (p : Option ContactPoint) → OfPoint HasRegion p → OfPoint HasRegion (option_map (world_contact b) p)
-unfolding world_contact
-world_feature b None h = tt
-world_feature b (Some p) h = h
-
-mirror_feature : (p : Option ContactPoint) → OfPoint HasRegion p → OfPoint HasRegion (option_map mirror_image p)
-unfolding mirror_image
-mirror_feature None h = tt
-mirror_feature (Some p) h = h
-
 box_circle_feature : (b : OrientedBox) (centre : V2) (r : ℤ) → OfPoint HasRegion (collide_box_circle b centre r)
-unfolding collide_box_circle
-box_circle_feature b centre r = world_feature b _ (contact_feature b.half (to_box b centre) r)
+unfolding collide_box_circle world_contact
+box_circle_feature b centre r =
+    mapped_has HasRegion (world_contact b) (λ p h. h) _ (contact_feature b.half (to_box b centre) r)
 
 pub box_and_circle_features : (a b : PlacedShape) (hx hy r : ℤ) → a.shape ≡ Box hx hy → b.shape ≡ Circle r
     → All HasRegion (collide a b) × All HasRegion (collide b a)
-unfolding collide collide_shapes box_at
+unfolding collide collide_shapes box_at mirror_image
 box_and_circle_features a b hx hy r ea eb =
     rw (ea, eb) (
       one_has HasRegion _ (box_circle_feature (box_at hx hy a) b.position r),
-      one_has HasRegion _ (mirror_feature _ (box_circle_feature (box_at hx hy a) b.position r)),
+      one_has HasRegion _ (mapped_has HasRegion mirror_image (λ p h. h) _ (box_circle_feature (box_at hx hy a) b.position r)),
     )
 
 -- ---- boxes
@@ -173,38 +151,7 @@ vertex_small : (r : Reference) (edge : Face) (v : ClipVertex) → OfPoint IsSmal
 unfolding vertex_contact vertex_point
 vertex_small r edge v = unless_has IsSmall _ (vertex_point r edge v _) (vertex_feature_small r edge v.mark)
 
-two_small : (t : Bool) (p q : ContactPoint) → IsSmall p → IsSmall q → All IsSmall (if t then q ∷ p ∷ [] else p ∷ q ∷ [])
-two_small true p q hp hq = All-cons IsSmall q (p ∷ []) hq (one_has IsSmall (Some p) hp)
-two_small false p q hp hq = All-cons IsSmall p (q ∷ []) hp (one_has IsSmall (Some q) hq)
-
-ascending_small : (p q : Option ContactPoint) → OfPoint IsSmall p → OfPoint IsSmall q → All IsSmall (ascending_points p q)
-unfolding ascending_points
-ascending_small None q hp hq = one_has IsSmall q hq
-ascending_small (Some p) None hp hq = one_has IsSmall (Some p) hp
-ascending_small (Some p) (Some q) hp hq = two_small (nat_lt q.feature p.feature) p q hp hq
-
-segment_small : (r : Reference) (edge : Face) (s : Option Segment) → All IsSmall (segment_points r edge s)
-segment_small r edge None = All-nil IsSmall
-segment_small r edge (Some s) =
-    ascending_small (vertex_contact r edge s.first) (vertex_contact r edge s.second)
-    (vertex_small r edge s.first) (vertex_small r edge s.second)
-
-edge_small : (r : Reference) (edge : Face) → All IsSmall (edge_points r edge)
-unfolding edge_points
-edge_small r edge = segment_small r edge _
-
-along_small : (gap : Bool) (r : Reference) → All IsSmall (if gap then [] else reference_points r)
-unfolding reference_points
-along_small true r = All-nil IsSmall
-along_small false r = edge_small r (incident_edge r)
-
-boxes_small : (a b : OrientedBox) → All IsSmall (collide_boxes a b)
-unfolding collide_boxes points_along
-boxes_small a b =
-    along_small (has_gap (separations_of a.half b.half (frames_of a b)))
-    (reference_of a b (frames_of a b) (best_axis (separations_of a.half b.half (frames_of a b)) a.half b.half))
-
 pub boxes_features : (a b : PlacedShape) (hx hy kx ky : ℤ) → a.shape ≡ Box hx hy → b.shape ≡ Box kx ky
     → All IsSmall (collide a b)
 unfolding collide collide_shapes box_at
-boxes_features a b hx hy kx ky ea eb = rw (ea, eb) (boxes_small (box_at hx hy a) (box_at kx ky b))
+boxes_features a b hx hy kx ky ea eb = rw (ea, eb) (boxes_have IsSmall vertex_small (box_at hx hy a) (box_at kx ky b))

@@ -2,6 +2,7 @@
 pub mod Features
 pub mod Mirrors
 pub mod TouchingPoints
+pub mod PointLists
 pub mod Pairs
 pub mod Apart
 pub mod Closest

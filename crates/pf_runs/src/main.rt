@@ -1,19 +1,23 @@
 //! Runs many texts. They stand on standard input, separated by a line that no text has; for each,
 //! the program prints its replies, the line that reports its error, if it has one, and `status N`.
-//! Its stored run has what an independent program prints for the same texts.
+//! A text `frame DIGITS` is printed as a frame. The stored run has what an independent program
+//! prints for the same texts.
 #![tactic(auto)]
 
 ghost use Rattle.std.specs.Prelude.{◌+◌, ◌<◌, length, IfSome};
 
-use anyhow::{Result, bail};
+use anyhow::{Context, Result, bail};
 use memchr::memmem;
-use pf_console::{finish, run_text};
+use pf_console::{finish, frame_text, run_text};
 use pf_text::{Bytes, Output, Sink};
 use std::alloc::Global;
 use std::io::{Read, Write};
 
 /// What stands between two texts.
 const SEPARATOR: &[u8] = b"\n= next text =\n";
+
+/// What stands before the digits of a frame.
+const FRAME: &[u8] = b"frame ";
 
 /// The first of several texts, and the texts behind it.
 fn split_once(texts: &[u8]) -> Option<(&[u8], &[u8])>
@@ -28,7 +32,13 @@ fn split_once(texts: &[u8]) -> Option<(&[u8], &[u8])>
 /// Prints the replies to a text, its error and its status.
 fn run<W: Write + Drop>(alloc: Global, text: &[u8], writer: W) -> Result<()> {
     let mut output = Output::new(writer);
-    let outcome = run_text(alloc, &mut Bytes::new(text), &mut output);
+    let outcome = match text.strip_prefix(FRAME) {
+        Some(digits) => {
+            let digits = str::from_utf8(digits).context("digits are text")?;
+            frame_text(alloc, digits, &mut output)
+        }
+        None => run_text(alloc, &mut Bytes::new(text), &mut output),
+    };
     let status = finish(outcome, &mut output);
     let line = format!(in alloc; "status {status}\n")?;
     if output.write_all(line.as_bytes()).is_err() {

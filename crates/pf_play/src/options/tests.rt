@@ -66,52 +66,55 @@ fn tells_help_from_version(rt: HostRuntime) -> Result<(), Fail> {
     Ok(())
 }
 
+/// Words, and the mistake in them with the usage that is shown.
+const MISTAKES: [(&[&str], &str, &str); 8] = [
+    (
+        &["pf_play"],
+        "error: 'pf_play' requires a subcommand but one was not provided\n  \
+[subcommands: run, frame]\n",
+        USAGE,
+    ),
+    (
+        &["pf_play", "fall"],
+        "error: unrecognized subcommand 'fall'\n",
+        USAGE,
+    ),
+    (
+        &["pf_play", "help"],
+        "error: unrecognized subcommand 'help'\n",
+        USAGE,
+    ),
+    (
+        &["pf_play", "--fast"],
+        "error: unexpected argument '--fast' found\n",
+        USAGE,
+    ),
+    (
+        &["pf_play", "run", "--crew"],
+        "error: unexpected argument '--crew' found\n",
+        RUN_USAGE,
+    ),
+    (
+        &["pf_play", "frame"],
+        "error: the following required arguments were not provided:\n  <HEX>\n",
+        FRAME_USAGE,
+    ),
+    (
+        &["pf_play", "frame", "01", "02"],
+        "error: unexpected argument '02' found\n",
+        FRAME_USAGE,
+    ),
+    (
+        &["pf_play", "run", "more"],
+        "error: unexpected argument 'more' found\n",
+        RUN_USAGE,
+    ),
+];
+
 #[test]
 fn wrong_words_are_mistakes(rt: HostRuntime) -> Result<(), Fail> {
     let alloc = rt.alloc();
-    for (words, error, usage) in [
-        (
-            ["pf_play"].as_slice(),
-            "error: 'pf_play' requires a subcommand but one was not provided\n  \
-[subcommands: run, frame]\n",
-            USAGE,
-        ),
-        (
-            ["pf_play", "fall"].as_slice(),
-            "error: unrecognized subcommand 'fall'\n",
-            USAGE,
-        ),
-        (
-            ["pf_play", "help"].as_slice(),
-            "error: unrecognized subcommand 'help'\n",
-            USAGE,
-        ),
-        (
-            ["pf_play", "--fast"].as_slice(),
-            "error: unexpected argument '--fast' found\n",
-            USAGE,
-        ),
-        (
-            ["pf_play", "run", "--crew"].as_slice(),
-            "error: unexpected argument '--crew' found\n",
-            RUN_USAGE,
-        ),
-        (
-            ["pf_play", "frame"].as_slice(),
-            "error: the following required arguments were not provided:\n  <HEX>\n",
-            FRAME_USAGE,
-        ),
-        (
-            ["pf_play", "frame", "01", "02"].as_slice(),
-            "error: unexpected argument '02' found\n",
-            FRAME_USAGE,
-        ),
-        (
-            ["pf_play", "run", "more"].as_slice(),
-            "error: unexpected argument 'more' found\n",
-            RUN_USAGE,
-        ),
-    ] {
+    for (words, error, usage) in MISTAKES {
         let text = mistake(alloc, words)?;
         let expected = format!(in alloc; "{error}{usage}")?;
         assert_eq!(rt; text.as_str(), expected.as_str());

@@ -1,0 +1,99 @@
+//! Each law is called once. They compute nothing: their clauses are the statements.
+
+use pf_num::Fx;
+use pf_rot::{Rot, V2};
+
+#[test]
+fn laws_of_numbers(rt: HostRuntime) {
+    use pf_num::laws;
+    use pf_rot::laws as rotations;
+    laws::rounds_to_nearest_even();
+    laws::roots_are_greatest();
+    let (zero, one, greatest, tick) = laws::named_numbers();
+    assert!(rt; zero == Fx::ZERO && one == Fx::ONE && greatest == Fx::MAX && tick == Fx::TICK);
+    assert!(rt; Fx::from_raw(Fx::MAX.raw() + 1).is_none());
+    rotations::lengths_are_greatest();
+    rotations::nothing_turns_nothing();
+    rotations::directions_are_at_most_one();
+    assert_eq!(rt; rotations::named_values(), (V2::ZERO, Rot::UPRIGHT));
+}
+
+#[test]
+fn laws_of_shapes(_rt: HostRuntime) {
+    use pf_broad::laws as pairs;
+    use pf_shapes::laws;
+    laws::scene_lines_are_read();
+    laws::inertias_are_positive();
+    laws::overlapping_is_symmetric();
+    laws::bounds_that_share_a_position_overlap();
+    laws::boxes_stay_in_their_bounds();
+    laws::circles_stay_in_their_bounds();
+    laws::bodies_that_share_a_position_overlap();
+    laws::named_limits();
+    pairs::pairs_are_exact();
+}
+
+#[test]
+fn laws_of_contact_points(_rt: HostRuntime) {
+    use pf_manifold::laws;
+    laws::features_ascend();
+    laws::best_axes_are_greatest();
+    laws::incident_edges_face_the_reference();
+    laws::crossings_lie_on_the_line();
+    laws::circles_mirror();
+    laws::points_touch();
+    laws::closest_points_are_closest();
+    laws::clipped_edges_lie_within();
+    laws::circles_touch_where_they_reach();
+    laws::gaps_are_mirrored();
+    laws::upright_boxes_meet_where_they_overlap();
+}
+
+#[test]
+fn laws_of_commands(_rt: HostRuntime) {
+    use pf_commands::laws;
+    laws::commands_have_one_encoding();
+    laws::merge_is_associative();
+    laws::merge_is_commutative();
+    laws::merge_is_idempotent();
+    laws::merge_with_empty();
+    laws::puts_in_any_order();
+    laws::puts_are_a_merge();
+    laws::no_news_changes_nothing();
+    laws::put_keeps_other_ticks();
+    laws::merge_keeps_earlier_ticks();
+    laws::least_ticks_are_least();
+    laws::get_of_merge();
+    laws::same_gets_same_map();
+    laws::merge_stays_in_range();
+    laws::same_weight_same_payload();
+    laws::first_error_is_returned();
+    laws::named_limits();
+}
+
+#[test]
+fn laws_of_steps(_rt: HostRuntime) {
+    use pf_step::laws;
+    laws::worlds_follow_earlier_commands();
+    laws::commands_change_later_worlds();
+    laws::sleepers_stay();
+    laws::commands_change_one_body();
+    laws::stops_leave_no_velocity();
+    laws::timers_count_still_ticks();
+    laws::sleepers_were_still();
+    laws::rotations_stay_at_most_one();
+    laws::named_limits();
+}
+
+#[test]
+fn laws_of_peers(_rt: HostRuntime) {
+    use pf_peers::laws as sessions;
+    use pf_rollback::laws;
+    laws::same_commands_same_worlds();
+    laws::issued_commands_can_be_taken();
+    laws::numbers_follow_the_greatest();
+    sessions::shown_worlds_are_simulated();
+    sessions::refused_events_change_nothing();
+    sessions::same_commands_same_replies();
+    sessions::order_and_repeats_do_not_matter();
+}

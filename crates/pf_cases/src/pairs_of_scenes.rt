@@ -1,0 +1,75 @@
+//! Pairs of bodies that may touch, and their contact points, by hand.
+
+use crate::scenes::scene_of;
+use pf_broad::pairs;
+use pf_manifold::{Touch, collide_list};
+use pf_shapes::Pair;
+use std::alloc::Global;
+use std::test::Fail;
+
+/// A static box, a box that stands on it, and a circle that touches the bounds of both.
+const TOUCHING: &[u8] = b"gravity 0 0
+box - 0 0 17179869184 16777216 0 -16777216 16777216 0
+box - 16777216 0 16777216 16777216 0 16777216 16777216 0
+circle - 16777216 0 16777216 33554434 16777216
+end
+";
+
+/// Three circles at one position, the first and the last of them static, and one whose bounds are
+/// a unit apart from theirs.
+const STACKED: &[u8] = b"gravity 0 0
+circle - 0 0 16777216 0 0
+circle - 16777216 0 16777216 0 0
+circle - 0 0 16777216 0 0
+circle - 16777216 0 16777216 33554435 0
+end
+";
+
+/// The pairs of a scene's bodies at their starts, and their contact points.
+fn found(alloc: Global, text: &[u8]) -> Result<(Vec<Pair>, Vec<Touch>), Fail> {
+    let scene = scene_of(alloc, text)?;
+    let starts = scene.starts();
+    if scene.fixtures().len() != starts.len() {
+        return Err(Fail::from("each body has a start"));
+    }
+    let pairs = pairs(alloc, &scene, starts)?;
+    let touches = collide_list(alloc, &scene, starts, &pairs)?;
+    Ok((pairs, touches))
+}
+
+/// The bodies of a contact point, and its feature.
+fn key(touch: &Touch) -> (usize, usize, u8) {
+    (touch.a, touch.b, touch.point.feature)
+}
+
+#[test]
+fn bounds_that_touch_are_pairs(rt: HostRuntime) -> Result<(), Fail> {
+    let (pairs, touches) = found(rt.alloc(), TOUCHING)?;
+    assert!(rt;
+        pairs
+            .iter()
+            .map(|pair| (pair.a, pair.b))
+            .eq([(0, 1), (0, 2), (1, 2)])
+    );
+    // Box and circle stand on the floor. Of one another they touch the bounds alone.
+    assert!(rt;
+        touches
+            .iter()
+            .map(key)
+            .eq([(0, 1, 28), (0, 1, 29), (0, 2, 133)])
+    );
+    Ok(())
+}
+
+#[test]
+fn static_bodies_are_no_pair(rt: HostRuntime) -> Result<(), Fail> {
+    let (pairs, touches) = found(rt.alloc(), STACKED)?;
+    assert!(rt;
+        pairs
+            .iter()
+            .map(|pair| (pair.a, pair.b))
+            .eq([(0, 1), (1, 2)])
+    );
+    assert!(rt; touches.iter().map(key).eq([(0, 1, 0), (1, 2, 0)]));
+    Ok(())
+}
