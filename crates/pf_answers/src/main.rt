@@ -2,12 +2,12 @@
 //!
 //! A line is an operation and its raw numbers, as `add A B`, `dot X Y U V`, `turn C S SPIN` or
 //! `whole N`; or `frame HEX`, which prints the command that a frame encodes, or `encode HEX`,
-//! which encodes that command again. The output is a line for each. The stored run has 3,900
+//! which encodes that command again. The output is a line for each. The stored run has 3,965
 //! lines, random ones and some at the ends of ranges, with values by an independent program.
 #![tactic(auto)]
 
 use anyhow::{Context, Result, bail};
-use pf_commands::{Command, FrameFault, Payload, decode, encode};
+use pf_commands::{Command, Payload, decode, encode};
 use pf_num::{Fx, whole_root};
 use pf_rot::{Rot, V2, cross_sv};
 use std::alloc::Global;
@@ -79,7 +79,10 @@ fn arithmetic(alloc: Global, operation: &str, numbers: &[Fx]) -> Result<String> 
     if let Some(number) = number_result(operation, numbers).or(measure(operation, numbers)) {
         return Ok(number.raw().to_string(alloc)?);
     }
-    let pair = match (vector_result(operation, numbers), rotation_result(operation, numbers)) {
+    let pair = match (
+        vector_result(operation, numbers),
+        rotation_result(operation, numbers),
+    ) {
         (Some(vector), _) => (vector.x.raw(), vector.y.raw()),
         (None, Some(rotation)) => (rotation.c.raw(), rotation.s.raw()),
         (None, None) => bail!("no such line"),
@@ -114,34 +117,41 @@ fn command_text(alloc: Global, command: &Command) -> Result<String> {
     Ok(format!(in alloc; "tick {tick} player {player} number {number} {payload}")?)
 }
 
-/// The command that a frame encodes, or its error.
-fn decoded(alloc: Global, digits: &str) -> Result<Result<Command, FrameFault>> {
-    let bytes = match digits {
-        "-" => Vec::new(alloc),
-        digits => hex::decode(alloc, digits).context("reading digits")?,
-    };
-    Ok(decode(&bytes))
+/// The bytes that digits encode.
+fn bytes_of(alloc: Global, digits: &str) -> Result<Vec<u8>> {
+    match digits {
+        "-" => Ok(Vec::new(alloc)),
+        digits => hex::decode(alloc, digits).context("reading digits"),
+    }
+}
+
+/// The text of the command that a frame encodes, or the name of its error.
+fn frame_text(alloc: Global, frame: &[u8]) -> Result<String> {
+    match decode(frame) {
+        Ok(command) => command_text(alloc, &command),
+        Err(fault) => Ok(fault.to_string(alloc)?),
+    }
+}
+
+/// The digits of the frame that encodes what this one does, or the name of its error.
+fn frame_again(alloc: Global, frame: &[u8]) -> Result<String> {
+    match decode(frame) {
+        Ok(command) => Ok(hex::encode(alloc, encode(&command).as_slice())?),
+        Err(fault) => Ok(fault.to_string(alloc)?),
+    }
 }
 
 /// The output for a line.
 fn output_of(alloc: Global, line: &str) -> Result<String> {
     let words: Vec<&str> = line.split_whitespace().collect(alloc)?;
     match words.as_slice() {
-        ["frame", digits] => match decoded(alloc, digits)? {
-            Ok(command) => command_text(alloc, &command),
-            Err(fault) => Ok(fault.to_string(alloc)?),
-        },
-        ["encode", digits] => match decoded(alloc, digits)? {
-            Ok(command) => Ok(hex::encode(alloc, encode(&command))?),
-            Err(fault) => Ok(fault.to_string(alloc)?),
-        },
+        ["frame", digits] => frame_text(alloc, &bytes_of(alloc, digits)?),
+        ["encode", digits] => frame_again(alloc, &bytes_of(alloc, digits)?),
         ["whole", number] => {
             let whole = number.parse::<u128>().context("reading a number")?;
             Ok(whole_root(whole).to_string(alloc)?)
         }
-        [operation, numbers @ ..] => {
-            arithmetic(alloc, operation, &numbers_of(alloc, numbers)?)
-        }
+        [operation, numbers @ ..] => { arithmetic(alloc, operation, &numbers_of(alloc, numbers)?) }
         [] => bail!("no such line"),
     }
 }

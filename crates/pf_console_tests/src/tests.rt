@@ -81,7 +81,10 @@ fn digits_result(alloc: Global, digits: &str) -> Result<Ended, AllocError> {
 fn frames_are_printed(rt: HostRuntime) -> Result<(), Fail> {
     let digits = "010000000000000002000000000000000000000000000000000000";
     let (output, said, status) = digits_result(rt.alloc(), digits)?;
-    assert_eq!(rt; output.bytes(), b"tick 0 player 0 number 0 stop 0\n".as_slice());
+    assert_eq!(rt;
+        output.bytes(),
+        b"tick 0 player 0 number 0 stop 0\n".as_slice()
+    );
     assert!(rt; said.bytes().is_empty() && status == 0);
     let (output, said, status) = digits_result(rt.alloc(), "01")?;
     assert_eq!(rt; said.bytes(), b"pf_play: frame: Short\n".as_slice());

@@ -3,7 +3,8 @@
 //! Each pair of bodies is two lines, `circle R X Y C S` or `box HX HY X Y C S`, of raw numbers; C
 //! and S are the cosine and sine of the body's rotation, as they are. The output is `apart` or
 //! `overlap`, by the bounds, a line `point FEATURE X Y NX NY SEPARATION` for each contact point,
-//! and `end`. The stored run has 400 pairs, with values by an independent program.
+//! and `end`. The stored run has 470 pairs: random ones, and some of each kind of clipping, of each
+//! region of a box, and with saturated numbers, with values by an independent program.
 #![tactic(auto)]
 
 use anyhow::{Context, Result, bail};
