@@ -13,81 +13,107 @@ use pf_rot::{Rot, V2, cross_sv};
 use std::alloc::Global;
 use std::io::{BufRead, BufReader, BufWriter, Write};
 
-/// The numbers that words encode.
-fn numbers_of(alloc: Global, words: &[&str]) -> Result<Vec<Fx>> {
-    let mut numbers = Vec::new(alloc);
-    for word in words {
-        let raw = word.parse::<i64>().context("reading a number")?;
-        numbers.push(Fx::from_raw(raw).context("a number is out of range")?)?;
+/// The number that a word encodes.
+fn number(word: &str) -> Result<Fx> {
+    let raw = word.parse::<i64>().context("reading a number")?;
+    Fx::from_raw(raw).context("a number is out of range")
+}
+
+/// The first four numbers that words encode, with 0 for each that is not there.
+fn numbers_of(words: &[&str]) -> Result<[Fx; 4]> {
+    let mut numbers = [Fx::ZERO; 4];
+    for (place, word) in numbers.iter_mut().zip(words) {
+        *place = number(word)?;
     }
     Ok(numbers)
 }
 
-/// The number that an operation returns.
-fn number_result(operation: &str, numbers: &[Fx]) -> Option<Fx> {
-    Some(match (operation, numbers) {
-        ("add", [a, b]) => a.add(*b),
-        ("sub", [a, b]) => a.sub(*b),
-        ("mul", [a, b]) => a.mul(*b),
-        ("div", [a, b]) => a.div(*b),
-        ("min", [a, b]) => (*a).min(*b),
-        ("max", [a, b]) => (*a).max(*b),
-        ("neg", [a]) => a.neg(),
-        ("abs", [a]) => a.abs(),
-        ("root", [a]) => a.root(),
+/// The number that an operation on two numbers returns.
+fn number_result(operation: &str, a: Fx, b: Fx) -> Option<Fx> {
+    Some(match operation {
+        "add" => a.add(b),
+        "sub" => a.sub(b),
+        "mul" => a.mul(b),
+        "div" => a.div(b),
+        "min" => a.min(b),
+        "max" => a.max(b),
+        "neg" => a.neg(),
+        "abs" => a.abs(),
+        "root" => a.root(),
         _ => return None,
     })
 }
 
-/// The number that an operation on vectors returns.
-fn measure(operation: &str, numbers: &[Fx]) -> Option<Fx> {
-    let vector = |x: &Fx, y: &Fx| V2 { x: *x, y: *y };
-    Some(match (operation, numbers) {
-        ("length", [x, y]) => vector(x, y).length(),
-        ("dot", [x, y, u, v]) => vector(x, y).dot(vector(u, v)),
-        ("cross", [x, y, u, v]) => vector(x, y).cross(vector(u, v)),
+/// The number that an operation on two vectors returns.
+fn measure(operation: &str, a: V2, b: V2) -> Option<Fx> {
+    Some(match operation {
+        "length" => a.length(),
+        "dot" => a.dot(b),
+        "cross" => a.cross(b),
         _ => return None,
     })
 }
 
-/// The vector that an operation returns.
-fn vector_result(operation: &str, numbers: &[Fx]) -> Option<V2> {
-    let vector = |x: &Fx, y: &Fx| V2 { x: *x, y: *y };
-    Some(match (operation, numbers) {
-        ("plus", [x, y, u, v]) => vector(x, y).add(vector(u, v)),
-        ("minus", [x, y, u, v]) => vector(x, y).sub(vector(u, v)),
-        ("opposite", [x, y]) => vector(x, y).neg(),
-        ("scale", [k, x, y]) => vector(x, y).scale(*k),
-        ("cross_sv", [w, x, y]) => cross_sv(*w, vector(x, y)),
-        ("rotate", [c, s, x, y]) => Rot { c: *c, s: *s }.rotate(vector(x, y)),
-        ("unrotate", [c, s, x, y]) => Rot { c: *c, s: *s }.unrotate(vector(x, y)),
+/// The vector that an operation on two vectors returns.
+fn vector_result(operation: &str, a: V2, b: V2) -> Option<V2> {
+    Some(match operation {
+        "plus" => a.add(b),
+        "minus" => a.sub(b),
+        "opposite" => a.neg(),
         _ => return None,
     })
 }
 
-/// The rotation that an operation returns.
-fn rotation_result(operation: &str, numbers: &[Fx]) -> Option<Rot> {
-    Some(match (operation, numbers) {
-        ("unit", [c, s]) => Rot::unit(*c, *s),
-        ("turn", [c, s, spin]) => Rot { c: *c, s: *s }.turn(*spin),
+/// The vector that an operation on a number and a vector returns.
+fn product(operation: &str, k: Fx, vector: V2) -> Option<V2> {
+    Some(match operation {
+        "scale" => vector.scale(k),
+        "cross_sv" => cross_sv(k, vector),
         _ => return None,
     })
+}
+
+/// The vector that an operation on a rotation and a vector returns.
+fn turned_vector(operation: &str, rotation: Rot, vector: V2) -> Option<V2> {
+    Some(match operation {
+        "rotate" => rotation.rotate(vector),
+        "unrotate" => rotation.unrotate(vector),
+        _ => return None,
+    })
+}
+
+/// The rotation that an operation on a direction and an angular velocity returns.
+fn rotation_result(operation: &str, direction: V2, spin: Fx) -> Option<Rot> {
+    let (c, s) = (direction.x, direction.y);
+    Some(match operation {
+        "unit" => Rot::unit(c, s),
+        "turn" => Rot { c, s }.turn(spin),
+        _ => return None,
+    })
+}
+
+/// The two numbers that an operation on these numbers returns.
+fn pair_result(operation: &str, numbers: [Fx; 4]) -> Option<(i64, i64)> {
+    let [a, b, c, d] = numbers;
+    let (first, middle) = (V2 { x: a, y: b }, V2 { x: b, y: c });
+    let second = V2 { x: c, y: d };
+    if let Some(rotation) = rotation_result(operation, first, c) {
+        return Some((rotation.c.raw(), rotation.s.raw()));
+    }
+    let vector = vector_result(operation, first, second)
+        .or(product(operation, a, middle))
+        .or(turned_vector(operation, Rot { c: a, s: b }, second))?;
+    Some((vector.x.raw(), vector.y.raw()))
 }
 
 /// The output for an operation on numbers.
-fn arithmetic(alloc: Global, operation: &str, numbers: &[Fx]) -> Result<String> {
-    if let Some(number) = number_result(operation, numbers).or(measure(operation, numbers)) {
+fn arithmetic(alloc: Global, operation: &str, numbers: [Fx; 4]) -> Result<String> {
+    let [a, b, c, d] = numbers;
+    let (first, second) = (V2 { x: a, y: b }, V2 { x: c, y: d });
+    if let Some(number) = number_result(operation, a, b).or(measure(operation, first, second)) {
         return Ok(number.raw().to_string(alloc)?);
     }
-    let pair = match (
-        vector_result(operation, numbers),
-        rotation_result(operation, numbers),
-    ) {
-        (Some(vector), _) => (vector.x.raw(), vector.y.raw()),
-        (None, Some(rotation)) => (rotation.c.raw(), rotation.s.raw()),
-        (None, None) => bail!("no such line"),
-    };
-    let (x, y) = pair;
+    let (x, y) = pair_result(operation, numbers).context("no such line")?;
     Ok(format!(in alloc; "{x} {y}")?)
 }
 
@@ -151,7 +177,7 @@ fn output_of(alloc: Global, line: &str) -> Result<String> {
             let whole = number.parse::<u128>().context("reading a number")?;
             Ok(whole_root(whole).to_string(alloc)?)
         }
-        [operation, numbers @ ..] => { arithmetic(alloc, operation, &numbers_of(alloc, numbers)?) }
+        [operation, numbers @ ..] => { arithmetic(alloc, operation, numbers_of(numbers)?) }
         [] => bail!("no such line"),
     }
 }

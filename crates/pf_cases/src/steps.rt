@@ -51,18 +51,6 @@ fn a_circle_falls(rt: HostRuntime) -> Result<(), Fail> {
     Ok(())
 }
 
-#[test]
-fn a_resting_body_sleeps_at_its_32nd_tick(rt: HostRuntime) -> Result<(), Fail> {
-    let scene = scene_of(rt.alloc(), RESTING)?;
-    let before = body(&world_at(rt.alloc(), &scene, 31)?)?;
-    assert!(rt; before.timer == 31 && before.awake);
-    let asleep = world_at(rt.alloc(), &scene, 32)?;
-    let resting = body(&asleep)?;
-    assert!(rt; resting.timer == 0 && !resting.awake);
-    assert!(rt; world_at(rt.alloc(), &scene, 37)? == asleep);
-    Ok(())
-}
-
 /// Applies a payload, in a world of that scene.
 fn command(world: &mut World, scene: &Scene, payload: Payload) {
     apply(world, scene, payload);

@@ -1,11 +1,9 @@
 -- The features of contact points by the shapes of the bodies.
-use Rattle.std.proofs.Common.{◌≡◌, ◌+◌, ◌<◌, ℤ, neg_ℤ, ◌≤ℤ◌, Bool, true, false, ◌&&◌, [], ◌∷◌, Option, Some, None, refl, arith}
+use Rattle.std.proofs.Common.{◌≡◌, ◌+◌, ◌<◌, ℤ, neg_ℤ, ◌≤ℤ◌, Bool, true, false, ◌&&◌, Some, refl, arith}
 use Rattle.std.proofs.lemmas.Bool.Decides.{Decides-int_eq}
 use Rattle.std.proofs.lemmas.Int.{ints, clamps}
-use Rattle.std.proofs.lemmas.List.Elements.{All-nil, All-cons}
-use Rattle.std.specs.Option.{option_map}
 use Rattle.std.specs.Ordering.{int_eq}
-use Rattle.std.specs.Prelude.{All, int_lt, nat_lt, if◌then◌else◌}
+use Rattle.std.specs.Prelude.{All, int_lt, if◌then◌else◌}
 use Rattle.pf_rot.specs.Vector.{V2, sub, length_of}
 use Rattle.pf_shapes.specs.declared.fixture.Shape.TheVariants.{Circle, Box}
 use Rattle.pf_manifold.specs.declared.face.Face.{Face}
@@ -17,15 +15,13 @@ use Rattle.pf_manifold.specs.declared.reference.Owner.TheVariants.{BoxA, BoxB}
 use Rattle.pf_manifold.specs.declared.box_circle.Region.{Region}
 use Rattle.pf_manifold.specs.declared.box_circle.Region.TheVariants.{Below, Within, Above}
 use Rattle.pf_manifold.specs.ContactPoint.{ContactPoint}
-use Rattle.pf_manifold.specs.Manifold.{at_most_one}
 use Rattle.pf_manifold.specs.PlacedShape.{PlacedShape, OrientedBox, to_box}
 use Rattle.pf_manifold.specs.Face.{face_number}
 use Rattle.pf_manifold.specs.Circles.{rim_point, circle_contact, collide_circles}
 use Rattle.pf_manifold.specs.BoxCircle.{clamp, closest_point, region_of, region_number, region_feature, outside_point, outside_contact, closest_face, inside_point, contact_at, world_contact, collide_box_circle}
-use Rattle.pf_manifold.specs.Separation.{frames_of, separations_of, has_gap, best_axis}
-use Rattle.pf_manifold.specs.Reference.{Reference, reference_of}
-use Rattle.pf_manifold.specs.Incident.{ClipVertex, Segment, mark_number, incident_edge}
-use Rattle.pf_manifold.specs.Boxes.{first_face_number, vertex_feature, vertex_point, vertex_contact, ascending_points, segment_points, edge_points, reference_points, points_along, collide_boxes}
+use Rattle.pf_manifold.specs.Reference.{Reference}
+use Rattle.pf_manifold.specs.Incident.{ClipVertex, mark_number}
+use Rattle.pf_manifold.specs.Boxes.{first_face_number, vertex_feature, vertex_point, vertex_contact}
 use Rattle.pf_manifold.specs.Collide.{box_at, mirror_image, collide, collide_shapes}
 use Rattle.pf_manifold.specs.GeometryLaws.{IsRegionFeature}
 use Rattle.pf_manifold.proofs.Comparisons.{not_above}

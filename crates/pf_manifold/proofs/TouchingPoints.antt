@@ -1,12 +1,10 @@
 -- No contact point of two bodies has a separation above 0.
-use Rattle.std.proofs.Common.{◌≡◌, ℤ, pos, neg_ℤ, ◌≤ℤ◌, Bool, true, false, ◌&&◌, [], ◌∷◌, Option, Some, None, refl, arith}
+use Rattle.std.proofs.Common.{◌≡◌, ℤ, pos, neg_ℤ, ◌≤ℤ◌, Bool, true, false, ◌&&◌, Some, None, refl, arith}
 use Rattle.std.proofs.lemmas.Bool.{and_parts}
 use Rattle.std.proofs.lemmas.Bool.Decides.{Decides-int_eq}
 use Rattle.std.proofs.lemmas.Int.{ints, clamps}
-use Rattle.std.proofs.lemmas.List.Elements.{All-nil, All-cons}
-use Rattle.std.specs.Option.{option_map}
 use Rattle.std.specs.Ordering.{int_eq}
-use Rattle.std.specs.Prelude.{All, int_lt, nat_lt, if◌then◌else◌}
+use Rattle.std.specs.Prelude.{All, int_lt, if◌then◌else◌}
 use Rattle.pf_num.specs.Fx.{saturate, sum, difference}
 use Rattle.pf_rot.specs.Vector.{V2, sub, length_of}
 use Rattle.pf_shapes.specs.declared.fixture.Shape.{Shape}
@@ -15,15 +13,13 @@ use Rattle.pf_shapes.specs.Fixture.{HasSize}
 use Rattle.pf_manifold.specs.declared.face.Face.{Face}
 use Rattle.pf_manifold.specs.declared.face.Face.TheVariants.{Right, Top, Left, Bottom}
 use Rattle.pf_manifold.specs.ContactPoint.{ContactPoint}
-use Rattle.pf_manifold.specs.Manifold.{at_most_one}
 use Rattle.pf_manifold.specs.PlacedShape.{PlacedShape, OrientedBox, to_box}
 use Rattle.pf_manifold.specs.Face.{front_extent}
 use Rattle.pf_manifold.specs.Circles.{circle_contact, collide_circles, rim_point}
 use Rattle.pf_manifold.specs.BoxCircle.{clamp, closest_point, outside_point, outside_contact, face_distance, closest_face, inside_point, contact_at, world_contact, collide_box_circle}
-use Rattle.pf_manifold.specs.Reference.{Reference, reference_of}
-use Rattle.pf_manifold.specs.Incident.{ClipVertex, Segment, incident_edge}
-use Rattle.pf_manifold.specs.Separation.{frames_of, separations_of, best_axis, has_gap}
-use Rattle.pf_manifold.specs.Boxes.{vertex_point, vertex_contact, point_behind, ascending_points, segment_points, edge_points, reference_points, points_along, collide_boxes}
+use Rattle.pf_manifold.specs.Reference.{Reference}
+use Rattle.pf_manifold.specs.Incident.{ClipVertex}
+use Rattle.pf_manifold.specs.Boxes.{vertex_point, vertex_contact, point_behind}
 use Rattle.pf_manifold.specs.Collide.{box_at, mirror_image, collide, collide_shapes}
 use Rattle.pf_manifold.specs.Laws.{IsTouching}
 use Rattle.pf_shapes.specs.Laws.{IsInBox}

@@ -6,7 +6,6 @@ use Rattle.pf_commands.specs.declared.payload.Command.{Command}
 use Rattle.pf_commands.specs.Merge.{IsCommand, IsCommandMap}
 use Rattle.pf_commands.proofs.Lists.{put_all-same}
 use Rattle.pf_commands.proofs.Merging.{same_commands}
-use Rattle.pf_rollback.specs.Peer.{Peer}
 use Rattle.pf_peers.specs.declared.event.Event.{Event}
 use Rattle.pf_peers.specs.Laws.{IsAlike, commands_for}
 use Rattle.pf_peers.specs.Session.{Session, peer_at, replies_to, session_after_all}

@@ -1,9 +1,8 @@
 -- What events leave as it was, and what they leave behind.
-use Rattle.std.proofs.Common.{◌≡◌, ◌≢◌, ℕ, ◌+◌, ◌<◌, Bool, true, false, ◌==◌, if◌then◌else◌, List, [], ◌∷◌, ◌++◌, length, get_or, Result, Ok, Err, refl, ap, sym, ◌∙◌, nat_le, arith, append_assoc}
-use Rattle.std.specs.Prelude.{slice_set}
+use Rattle.std.proofs.Common.{◌≡◌, ◌≢◌, ℕ, ◌+◌, ◌<◌, Bool, true, false, ◌==◌, if◌then◌else◌, List, [], ◌∷◌, ◌++◌, length, Result, Ok, Err, refl, ap, sym, ◌∙◌, nat_le, arith}
 use Rattle.std.specs.FinMap.{get}
 use Rattle.std.proofs.lemmas.Bool.Decides.{nat_tests}
-use Rattle.std.proofs.lemmas.List.{ext_get_or, get_or-set_same, get_or-set_other, set-get_or}
+use Rattle.std.proofs.lemmas.List.{ext_get_or, get_or-set_same, get_or-set_other}
 use Rattle.pf_shapes.specs.Scene.{Scene}
 use Rattle.pf_commands.specs.declared.checking.CheckFault.{CheckFault}
 use Rattle.pf_commands.specs.declared.map.Put.{Put}
@@ -18,7 +17,7 @@ use Rattle.pf_rollback.specs.Peer.{Peer, if_allowed, new_peer, with_command, wit
 use Rattle.pf_peers.specs.declared.event.Event.{Event}
 use Rattle.pf_peers.specs.declared.event.Event.TheVariants.{Issue, Take, Advance, Show}
 use Rattle.pf_peers.specs.declared.event.Reply.{Reply}
-use Rattle.pf_peers.specs.declared.event.Reply.TheVariants.{Issued, Took, Advanced, Shown}
+use Rattle.pf_peers.specs.declared.event.Reply.TheVariants.{Issued, Took, Advanced}
 use Rattle.pf_peers.specs.Laws.{if_taken, commands_from, commands_for}
 use Rattle.pf_peers.specs.Session.{Session, peer_answer, peer_at, peer_of, reply_and_peer, session_after, session_after_all}
 use Rattle.pf_peers.proofs.Sessions.{length-session_after}

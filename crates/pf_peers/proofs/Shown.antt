@@ -1,5 +1,5 @@
 -- What a peer shows of a tick that it has reached.
-use Rattle.std.proofs.Common.{◌≡◌, ℕ, ◌<◌, ◌≤◌, List, Result, length, refl, ap, ◌∙◌}
+use Rattle.std.proofs.Common.{◌≡◌, ℕ, ◌<◌, ◌≤◌, List, Result, length, ap, ◌∙◌}
 use Rattle.pf_shapes.specs.Scene.{Scene}
 use Rattle.pf_commands.specs.Merge.{CommandMap, put_all}
 use Rattle.pf_step.specs.Simulation.{sim}

@@ -7,7 +7,6 @@ use Rattle.pf_commands.specs.Merge.{CommandMap}
 use Rattle.pf_commands.specs.Name.{Name}
 use Rattle.pf_commands.proofs.Merging.{same_commands}
 use Rattle.pf_step.specs.Simulation.{sim}
-use Rattle.pf_step.specs.World.{World}
 use Rattle.pf_rollback.specs.Peer.{Peer, world_at}
 
 -- at a tick that was reached

@@ -1,5 +1,5 @@
 -- What one command does to a world.
-use Rattle.std.proofs.Common.{◌≡◌, ◌≢◌, ℕ, true, pos, List, Option, Some, None, refl, ap, slice_get, slice_set}
+use Rattle.std.proofs.Common.{◌≡◌, ◌≢◌, ℕ, true, pos, List, Option, Some, None, refl, slice_get}
 use Rattle.pf_rot.specs.Vector.{zero_vector}
 use Rattle.pf_shapes.specs.Fixture.{Fixture}
 use Rattle.pf_shapes.specs.Body.{BodyState}

@@ -1,5 +1,5 @@
 -- What a body's timer counts, and when a body falls asleep.
-use Rattle.std.proofs.Common.{◌≡◌, ◌≢◌, ◌==◌, ℕ, zero, suc, ◌+◌, ◌-◌, ◌<◌, ◌≤◌, ◌⊎◌, inl, inr, Bool, true, false, ◌&&◌, List, [], ◌∷◌, Option, Some, None, min, refl, ap, sym, ◌∙◌, subst, arith, add-one, slice_get, slice_set, if◌then◌else◌}
+use Rattle.std.proofs.Common.{◌≡◌, ◌≢◌, ◌==◌, ℕ, zero, suc, ◌+◌, ◌-◌, ◌<◌, ◌≤◌, ◌⊎◌, inl, inr, Bool, true, false, List, [], ◌∷◌, Option, Some, None, min, refl, ap, sym, ◌∙◌, subst, arith, slice_get, slice_set, if◌then◌else◌}
 use Rattle.std.proofs.lemmas.Bool.Decides.{nat_tests}
 use Rattle.pf_rot.specs.Vector.{V2}
 use Rattle.pf_shapes.specs.Fixture.{Fixture}
@@ -14,8 +14,8 @@ use Rattle.pf_step.specs.Body.{gravity_per_tick, after_gravity, after_motion, is
 use Rattle.pf_step.specs.Commands.{after_payload, bodies_with, after_command, after_commands}
 use Rattle.pf_step.specs.Simulation.{sim}
 use Rattle.pf_step.specs.Step.{step}
-use Rattle.pf_step.specs.World.{World, start_of}
-use Rattle.pf_step.proofs.Elements.{set_other, set_same, IsMapped, mapped}
+use Rattle.pf_step.specs.World.{start_of}
+use Rattle.pf_step.proofs.Elements.{set_other, set_same, mapped}
 
 -- ---- commands
 

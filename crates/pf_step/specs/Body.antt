@@ -1,6 +1,6 @@
 -- What one body goes through in a tick: the phases of Box2D-Lite's World::Step that one body alone
 -- goes through, and the sleep of Box2D 2.x.
-use Rattle.std.specs.Prelude.{ℕ, ◌+◌, ◌*◌, pos, Bool, true, false, ◌&&◌, min, ◌==◌, nat_le, if◌then◌else◌}
+use Rattle.std.specs.Prelude.{◌+◌, ◌*◌, pos, Bool, false, ◌&&◌, min, ◌==◌, nat_le, if◌then◌else◌}
 use Rattle.std.specs.Int.RustNames.{unsigned_abs}
 use Rattle.pf_num.specs.Fx.{tick}
 use Rattle.pf_rot.specs.Vector.{V2, zero_vector, add, scale}

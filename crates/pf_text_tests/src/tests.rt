@@ -16,10 +16,17 @@ use std::test::Fail;
 #[test]
 fn fields_are_separated_by_one_space(rt: HostRuntime) -> Result<(), Fail> {
     let fields = fields_of(rt.alloc(), b"circle - 7\t")?;
-    assert_eq!(rt; fields.len(), 3);
-    assert_eq!(rt; fields[0], b"circle".as_slice());
-    assert_eq!(rt; fields[1], b"-".as_slice());
-    assert_eq!(rt; fields[2], b"7\t".as_slice());
+    let [circle, dash, seven] = fields.as_slice() else {
+        panic!(rt; "there are three fields");
+    };
+    assert_eq!(rt; *circle, b"circle".as_slice());
+    assert_eq!(rt; *dash, b"-".as_slice());
+    assert_eq!(rt; *seven, b"7\t".as_slice());
+    Ok(())
+}
+
+#[test]
+fn other_spaces_are_errors(rt: HostRuntime) {
     for line in [
         b"a  b".as_slice(),
         b" a".as_slice(),
@@ -32,7 +39,6 @@ fn fields_are_separated_by_one_space(rt: HostRuntime) -> Result<(), Fail> {
             "{line:?}"
         );
     }
-    Ok(())
 }
 
 #[test]
@@ -90,27 +96,28 @@ fn lengths(rt: &impl Abort, alloc: Global, text: &[u8]) -> Result<Vec<usize>, Fa
     Ok(found)
 }
 
+/// Texts, and the lengths of their lines.
+const LINES: [(&[u8], &[usize]); 3] = [(b"", &[]), (b"\n", &[0]), (b"ab\r\n\0\x7f\tz", &[3, 4])];
+
 #[test]
 fn lines_end_with_a_line_feed(rt: HostRuntime) -> Result<(), Fail> {
-    let alloc = rt.alloc();
-    assert!(rt; lengths(&rt, alloc, b"")?.is_empty());
-    assert_eq!(rt; lengths(&rt, alloc, b"\n")?.as_slice(), [0].as_slice());
-    assert_eq!(rt;
-        lengths(&rt, alloc, b"ab\r\n\0\x7f\tz")?.as_slice(),
-        [3, 4].as_slice()
-    );
-    let mut text = vec![in alloc; b'x'; MAX_LINE]?;
-    assert_eq!(rt;
-        lengths(&rt, alloc, &text)?.as_slice(),
-        [MAX_LINE].as_slice()
-    );
-    text.push(b'\n')?;
-    assert_eq!(rt;
-        lengths(&rt, alloc, &text)?.as_slice(),
-        [MAX_LINE].as_slice()
-    );
+    for (text, expected) in LINES {
+        let found = lengths(&rt, rt.alloc(), text)?;
+        assert_eq!(rt; found.as_slice(), expected);
+    }
+    Ok(())
+}
+
+#[test]
+fn a_line_has_up_to_4096_bytes(rt: HostRuntime) -> Result<(), Fail> {
+    for end in [b"".as_slice(), b"\n".as_slice()] {
+        let mut text = vec![in rt.alloc(); b'x'; MAX_LINE]?;
+        text.extend_from_slice(end)?;
+        let found = lengths(&rt, rt.alloc(), &text)?;
+        assert_eq!(rt; found.as_slice(), [MAX_LINE].as_slice());
+    }
     let mut line = LineBuffer::new();
-    let long = vec![in alloc; b'x'; MAX_LINE + 9]?;
+    let long = vec![in rt.alloc(); b'x'; MAX_LINE + 9]?;
     assert!(rt; take_line(&mut Bytes::new(&long), &mut line)? == Taken::TooLong);
     assert_eq!(rt; line.len(), LINE_ROOM);
     Ok(())
@@ -203,22 +210,29 @@ fn a_sink_in_memory_keeps_5000_bytes(rt: HostRuntime) -> Result<(), Fail> {
     Ok(())
 }
 
+/// Texts with an invalid line, its number, and its error.
+const INVALID: [(&[u8], u64, LineFault); 3] = [
+    (b"a\n\nb c d\ne", 3, LineFault::BadNumber),
+    (b"a\nb  c\n", 2, LineFault::BadLine),
+    (b"a\n# \xff\n", 2, LineFault::BadLine),
+];
+
 #[test]
 fn replies_before_an_invalid_line_stand(rt: HostRuntime) -> Result<(), Fail> {
-    let mut long = vec![in rt.alloc(); b'#'; MAX_LINE]?;
-    assert!(rt; driven(rt.alloc(), &long)?.0 == Ok((2, Parrot)));
-    long.push(b'#')?;
-    assert!(rt; driven(rt.alloc(), &long)?.0 == Err(DriveFault::Line(1, LineFault::BadLine)));
-    let table = [
-        (b"a\n\nb c d\ne".as_slice(), 3, LineFault::BadNumber),
-        (b"a\nb  c\n".as_slice(), 2, LineFault::BadLine),
-        (b"a\n# \xff\n".as_slice(), 2, LineFault::BadLine),
-    ];
-    for (text, number, fault) in table {
+    for (text, number, fault) in INVALID {
         let (result, sink, _) = driven(rt.alloc(), text)?;
         assert!(rt; result == Err(DriveFault::Line(number, fault)), "{text:?}");
         assert_eq!(rt; sink.bytes(), b"ok\n".as_slice());
     }
+    Ok(())
+}
+
+#[test]
+fn a_comment_may_be_too_long(rt: HostRuntime) -> Result<(), Fail> {
+    let mut long = vec![in rt.alloc(); b'#'; MAX_LINE]?;
+    assert!(rt; driven(rt.alloc(), &long)?.0 == Ok((2, Parrot)));
+    long.push(b'#')?;
+    assert!(rt; driven(rt.alloc(), &long)?.0 == Err(DriveFault::Line(1, LineFault::BadLine)));
     Ok(())
 }
 

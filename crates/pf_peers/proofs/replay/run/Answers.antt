@@ -1,11 +1,11 @@
-use Rattle.std.proofs.Common.{◌≡◌, ◌++◌, List, [], ◌∷◌, append_assoc, refl, ap, subst, ◌∙◌, sym, arith, drop, length, ◌+◌, ℕ}
+use Rattle.std.proofs.Common.{◌≡◌, ◌++◌, List, append_assoc, refl, ap, subst, ◌∙◌, sym, arith, drop, length, ◌+◌}
 use Rattle.std.proofs.lemmas.List.{append-nil}
 use Rattle.std.proofs.lemmas.List.FromFn.{length-map-range_with_len}
 use Rattle.pf_shapes.specs.Scene.{Scene}
 use Rattle.pf_rollback.specs.Peer.{new_peer}
 use Rattle.pf_peers.specs.declared.event.Event.{Event}
 use Rattle.pf_peers.specs.declared.event.Reply.{Reply}
-use Rattle.pf_peers.specs.Session.{IsAmong, Session, answer, new_session, replies_to, reply_to, session_after}
+use Rattle.pf_peers.specs.Session.{IsAmong, Session, new_session, reply_to, session_after}
 use Rattle.pf_peers.proofs.Sessions.{replies_to-drop, replies_to-all, length-session_after}
 use Rattle.pf_peers.proofs.replay.run.Goals as goal
 

@@ -1,4 +1,4 @@
-use Rattle.std.proofs.Common.{◌≡◌, ℕ, ◌+◌, suc, Some, subst, slice_get, add-one}
+use Rattle.std.proofs.Common.{◌≡◌, suc, Some, slice_get, add-one}
 use Rattle.pf_step.specs.Simulation.{sim}
 use Rattle.pf_step.proofs.Stillness.{fell_asleep}
 use Rattle.pf_step.proofs.laws.sleepers_were_still.Goals as goal
