@@ -1,14 +1,13 @@
-//! Frames, maps of a few commands by hand and of thousands, and which commands a scene allows.
+//! Maps of a few commands by hand and of thousands. Frames stand in the stored run of `pf_answers`,
+//! and which commands a scene allows in that of `pf_runs`.
 
-ghost use Rattle.std.specs.Prelude.{◌≡◌, ◌<◌};
+ghost use Rattle.std.specs.Prelude.{◌<◌};
 
 use crate::scenes::scene_of;
-use pf_commands::{
-    CheckFault, Command, CommandMap, MAX_TICK, Name, Payload, Put, check, decode, encode,
-};
+use pf_commands::{CheckFault, Command, CommandMap, MAX_TICK, Name, Payload};
 use pf_num::Fx;
 use pf_shapes::PLAYERS;
-use std::alloc::Global;
+use std::alloc::{AllocError, Global};
 use std::test::Fail;
 
 /// Circles: one of player 0, a static one of player 1, and one of nobody.
@@ -19,7 +18,6 @@ const SCENE: &[u8] =
 fn command(tick: u32, player: u8, number: u16, payload: Payload) -> Command
     requires tick { tick < MAX_TICK }
     requires player { player < PLAYERS }
-    ensures { result.payload ≡ payload }
 {
     Command {
         name: Name::new(tick, player, number),
@@ -36,41 +34,18 @@ fn push(x: i64) -> Payload {
     }
 }
 
-#[test]
-fn a_frame_encodes_a_command(rt: HostRuntime) {
-    let stop = command(256, 0, 1, Payload::Stop { body: 0 });
-    let frame = encode(&stop);
-    assert!(rt; frame.starts_with(&[1, 0, 0, 1, 0, 0, 0, 1, 2]));
-    assert!(rt; decode(&frame) == Ok(stop));
-}
-
-/// How each of these commands is put into an empty map, and what the map has for the last name.
-fn puts(alloc: Global, commands: &[Command]) -> Result<(Vec<Put>, CommandMap), Fail> {
+/// The map of these commands.
+fn map_of(alloc: Global, commands: &[Command]) -> Result<CommandMap, AllocError> {
     let mut map = CommandMap::new(alloc);
-    let mut puts = Vec::new(alloc);
     for command in commands {
-        puts.push(map.put(command)?)?;
+        map.put(command)?;
     }
-    Ok((puts, map))
-}
-
-#[test]
-fn the_greater_payload_stays_in_either_order(rt: HostRuntime) -> Result<(), Fail> {
-    let right = command(5, 2, 7, push(1));
-    let left = command(5, 2, 7, push(-1));
-    assert!(rt; CommandMap::new(rt.alloc()).is_empty());
-    let (how, map) = puts(rt.alloc(), &[right, left])?;
-    assert!(rt; how.iter().eq(&[Put::New, Put::Greater]));
-    assert_eq!(rt; map.get(left.name), Some(push(-1)));
-    let (how, map) = puts(rt.alloc(), &[left, right, left])?;
-    assert!(rt; how.iter().eq(&[Put::New, Put::Lesser, Put::Same]));
-    assert!(rt; map.get(left.name) == Some(push(-1)) && map.len() == 1);
-    Ok(())
+    Ok(map)
 }
 
 #[test]
 fn a_tick_is_in_order_of_players_then_numbers(rt: HostRuntime) -> Result<(), Fail> {
-    let (_, map) = puts(
+    let map = map_of(
         rt.alloc(),
         &[
             command(4, 7, 65_535, push(0)),
@@ -87,28 +62,34 @@ fn a_tick_is_in_order_of_players_then_numbers(rt: HostRuntime) -> Result<(), Fai
     Ok(())
 }
 
+/// Two commands, and three that are merged into them: one has a lesser payload, one is new, and
+/// one has a greater payload.
+fn merged(alloc: Global) -> Result<(CommandMap, CommandMap), AllocError> {
+    let held = [command(9, 0, 0, push(1)), command(2, 0, 0, push(8))];
+    let others = [
+        command(2, 0, 0, push(7)),
+        command(8, 0, 0, push(1)),
+        command(9, 0, 0, push(-1)),
+    ];
+    Ok((map_of(alloc, &held)?, map_of(alloc, &others)?))
+}
+
 #[test]
-fn a_map_is_merged_once(rt: HostRuntime) -> Result<(), Fail> {
-    let (_, mut map) = puts(
-        rt.alloc(),
-        &[command(9, 0, 0, push(1)), command(2, 0, 0, push(8))],
-    )?;
-    let (_, other) = puts(
-        rt.alloc(),
-        &[
-            command(2, 0, 0, push(7)),
-            command(8, 0, 0, push(1)),
-            command(9, 0, 0, push(-1)),
-        ],
-    )?;
+fn greater_payloads_are_merged(rt: HostRuntime) -> Result<(), Fail> {
+    let (mut map, other) = merged(rt.alloc())?;
     let merged = map.merge(&other)?;
     assert!(rt; merged.count == 2 && merged.least == Some(8));
     assert_eq!(rt; map.get(Name::new(2, 0, 0)), Some(push(8)));
     assert_eq!(rt; map.get(Name::new(9, 0, 0)), Some(push(-1)));
-    let before = map.try_clone()?;
+    Ok(())
+}
+
+#[test]
+fn a_map_is_merged_once(rt: HostRuntime) -> Result<(), Fail> {
+    let (mut map, other) = merged(rt.alloc())?;
+    map.merge(&other)?;
     let again = map.merge(&other)?;
-    assert!(rt; again.count == 0 && again.least.is_none());
-    assert!(rt; map.len() == before.len() && map.iter().eq(before.iter()));
+    assert!(rt; again.count == 0 && again.least.is_none() && map.len() == 3);
     Ok(())
 }
 
@@ -125,41 +106,23 @@ fn many(alloc: Global, number: u16) -> Result<CommandMap, Fail> {
 
 #[test]
 fn maps_may_have_thousands_of_commands(rt: HostRuntime) -> Result<(), Fail> {
-    let mut map = many(rt.alloc(), 0)?;
-    assert_eq!(rt; map.len(), 3000);
-    let payloads = map.at_tick(rt.alloc(), MAX_TICK - 1)?;
-    assert!(rt; payloads.iter().copied().eq([push(1_048_575), push(1)]));
+    let map = many(rt.alloc(), 0)?;
     let copy = map.try_clone()?;
-    assert!(rt; copy.iter().eq(map.iter()));
+    assert!(rt; map.len() == 3000 && copy.iter().eq(map.iter()));
     assert!(rt;
         map.iter()
             .all(|(name, payload)| copy.get(*name) == Some(*payload))
     );
-    let merged = map.merge(&many(rt.alloc(), 1)?)?;
-    assert!(rt; merged.count == 3000 && merged.least == Some(1_045_577));
-    assert_eq!(rt; map.len(), 6000);
+    let payloads = map.at_tick(rt.alloc(), MAX_TICK - 1)?;
+    assert!(rt; payloads.iter().copied().eq([push(1_048_575), push(1)]));
     Ok(())
 }
 
 #[test]
-fn a_player_moves_its_own_bodies(rt: HostRuntime) -> Result<(), Fail> {
-    let scene = scene_of(rt.alloc(), SCENE)?;
-    let table = [
-        (0, 0, Ok(())),
-        (1, 0, Err(CheckFault::NotOwner)),
-        (1, 1, Err(CheckFault::StaticBody)),
-        (0, 1, Err(CheckFault::StaticBody)),
-        (0, 2, Err(CheckFault::NotOwner)),
-        (0, 3, Err(CheckFault::UnknownBody)),
-        (0, 65_535, Err(CheckFault::UnknownBody)),
-    ];
-    for (player, body, expected) in table {
-        let stop = command(3, player, 0, Payload::Stop { body });
-        assert!(rt;
-            check(&scene, &stop) == expected,
-            "player {player}, body {body}"
-        );
-    }
+fn thousands_of_commands_are_merged(rt: HostRuntime) -> Result<(), Fail> {
+    let mut map = many(rt.alloc(), 0)?;
+    let merged = map.merge(&many(rt.alloc(), 1)?)?;
+    assert!(rt; merged.count == 3000 && merged.least == Some(1_045_577) && map.len() == 6000);
     Ok(())
 }
 
@@ -167,6 +130,7 @@ fn a_player_moves_its_own_bodies(rt: HostRuntime) -> Result<(), Fail> {
 fn the_first_command_that_is_not_allowed_is_named(rt: HostRuntime) -> Result<(), Fail> {
     let scene = scene_of(rt.alloc(), SCENE)?;
     let mut map = CommandMap::new(rt.alloc());
+    assert!(rt; map.is_empty());
     map.put(&command(3, 0, 0, Payload::Stop { body: 0 }))?;
     assert!(rt; map.check_all(&scene).is_ok());
     map.put(&command(5, 0, 0, Payload::Stop { body: 9 }))?;

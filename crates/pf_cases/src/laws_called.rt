@@ -1,7 +1,11 @@
-//! Each law is called once. They compute nothing: their clauses are the statements.
+//! Each law is called once, and named limits are those of docs/FORMATS.md. Laws compute nothing:
+//! their clauses are the statements.
 
+use pf_commands::{MAX_TICK, NUMBERS};
 use pf_num::Fx;
 use pf_rot::{Rot, V2};
+use pf_shapes::PLAYERS;
+use pf_step::{STILL_SPEED, STILL_SPIN, STILL_TICKS};
 
 #[test]
 fn laws_of_numbers(rt: HostRuntime) {
@@ -72,8 +76,10 @@ fn laws_of_commands(_rt: HostRuntime) {
 }
 
 #[test]
-fn laws_of_steps(_rt: HostRuntime) {
+fn laws_of_steps(rt: HostRuntime) {
     use pf_step::laws;
+    assert!(rt; MAX_TICK == 1_048_576 && NUMBERS == 65_536 && PLAYERS == 8);
+    assert!(rt; STILL_SPEED == 262_144 && STILL_SPIN == 524_288 && STILL_TICKS == 32);
     laws::worlds_follow_earlier_commands();
     laws::commands_change_later_worlds();
     laws::sleepers_stay();

@@ -74,21 +74,28 @@ fn late() -> Command
 fn a_late_command_is_taken_once(rt: HostRuntime) -> Result<(), Fail> {
     let mut peer = peer_at(rt.alloc(), 10)?;
     let frame = encode(&late());
-    assert!(rt; taken(&mut peer, &frame)? == Ok(Put::New));
-    assert!(rt; taken(&mut peer, &frame)? == Ok(Put::Same));
-    assert!(rt; known(peer.put(&late()))? == Ok(Put::Same));
+    for put in [Put::New, Put::Same, Put::Same] {
+        assert!(rt; taken(&mut peer, &frame)? == Ok(put));
+    }
     assert!(rt; peer.commands().len() == 1 && peer.reached() == 10);
     assert!(rt; peer.player() == 2 && peer.scene().len() == 1);
     Ok(())
 }
 
+/// Ticks, and where the circle is then along x, with its push at tick 4.
+const PLACES: [(u32, Result<i64, Refusal>); 3] = [
+    (4, Ok(0)),
+    (10, Ok(1_572_864)),
+    (11, Err(Refusal::NotReached(10))),
+];
+
 #[test]
 fn a_late_command_changes_later_worlds(rt: HostRuntime) -> Result<(), Fail> {
     let mut peer = peer_at(rt.alloc(), 10)?;
     assert!(rt; known(peer.put(&late()))?.is_ok());
-    assert!(rt; x_at(rt.alloc(), &peer, 4)? == Ok(0));
-    assert!(rt; x_at(rt.alloc(), &peer, 10)? == Ok(1_572_864));
-    assert!(rt; x_at(rt.alloc(), &peer, 11)? == Err(Refusal::NotReached(10)));
+    for (tick, place) in PLACES {
+        assert!(rt; x_at(rt.alloc(), &peer, tick)? == place, "tick {tick}");
+    }
     Ok(())
 }
 

@@ -15,10 +15,8 @@ const SCENE: &[u8] =
     b"# two circles\n\ngravity 0 -167772160\ncircle 3 33554432 8388608 16777216 -5 7\n\
 circle - 0 0 1048576 0 0\nend\n# no more\n";
 
-/// A box that leans, and the same with another owner.
+/// A box that leans.
 const LEANING: &[u8] = b"gravity 0 0\nbox 4 33554432 67108864 16777216 8388608 5 -7 3 4\nend\n";
-
-const ANOTHERS: &[u8] = b"gravity 0 0\nbox 5 33554432 67108864 16777216 8388608 5 -7 3 4\nend\n";
 
 /// The scene of a text.
 pub fn scene_of(alloc: Global, text: &[u8]) -> Result<Scene, ReadError> {
@@ -55,12 +53,11 @@ fn is_at_rest(state: &BodyState) -> bool {
 }
 
 #[test]
-fn a_scene_is_read(rt: HostRuntime) -> Result<(), Fail> {
+fn a_ball_is_read(rt: HostRuntime) -> Result<(), Fail> {
     let scene = scene_of(rt.alloc(), SCENE)?;
     assert!(rt; scene.len() == 2 && !scene.is_empty());
-    let gravity = scene.gravity();
-    assert_eq!(rt; gravity.y.raw(), -167_772_160);
-    let ([ball, floor], [start, resting]) = (scene.fixtures(), scene.starts()) else {
+    assert_eq!(rt; scene.gravity().y.raw(), -167_772_160);
+    let ([ball, _], [start, _]) = (scene.fixtures(), scene.starts()) else {
         panic!(rt; "there are two bodies");
     };
     assert!(rt; matches!(ball.shape(), Shape::Circle { .. }) && ball.owner() == Some(3));
@@ -68,23 +65,17 @@ fn a_scene_is_read(rt: HostRuntime) -> Result<(), Fail> {
     assert_eq!(rt; numbers(ball), [8_388_608, 8_388_608, 16_777_216]);
     assert_eq!(rt; placement(start), [-5, 7, 16_777_216, 0]);
     assert!(rt; is_at_rest(start) && start.awake);
-    assert!(rt; floor.is_static() && floor.owner().is_none() && !resting.awake);
-    assert_eq!(rt; numbers(floor), [0; 3]);
     Ok(())
 }
 
 #[test]
-fn a_box_is_read(rt: HostRuntime) -> Result<(), Fail> {
-    let scene = scene_of(rt.alloc(), LEANING)?;
-    let ([fixture], [start]) = (scene.fixtures(), scene.starts()) else {
-        panic!(rt; "there is one body");
+fn a_static_body_is_read(rt: HostRuntime) -> Result<(), Fail> {
+    let scene = scene_of(rt.alloc(), SCENE)?;
+    let ([_, floor], [_, resting]) = (scene.fixtures(), scene.starts()) else {
+        panic!(rt; "there are two bodies");
     };
-    let Shape::Box { hx, hy } = fixture.shape() else {
-        panic!(rt; "a box");
-    };
-    assert_eq!(rt; (hx.raw(), hy.raw()), (16_777_216, 8_388_608));
-    assert_eq!(rt; placement(start), [5, -7, 10_066_330, 13_421_773]);
-    assert_eq!(rt; numbers(fixture), [67_108_864, 8_388_608, 20_132_658]);
+    assert!(rt; floor.is_static() && floor.owner().is_none() && !resting.awake);
+    assert_eq!(rt; numbers(floor), [0; 3]);
     Ok(())
 }
 
@@ -107,13 +98,7 @@ fn a_scene_is_built(rt: HostRuntime) -> Result<(), Fail> {
 fn copies_are_equal(rt: HostRuntime) -> Result<(), Fail> {
     let scene = scene_of(rt.alloc(), LEANING)?;
     assert!(rt; scene.try_clone()? == scene);
-    Ok(())
-}
-
-#[test]
-fn scenes_differ_by_an_owner(rt: HostRuntime) -> Result<(), Fail> {
-    let scene = scene_of(rt.alloc(), LEANING)?;
-    assert!(rt; scene_of(rt.alloc(), ANOTHERS)? != scene);
+    assert!(rt; scene_of(rt.alloc(), SCENE)? != scene);
     Ok(())
 }
 
@@ -151,18 +136,6 @@ fn no_more_bodies_are_refused_before_their_fields(rt: HostRuntime) -> Result<(),
     let circle = [b"circle".as_slice(), x, x, x, x, x, x];
     let refused = reader.take(rt.alloc(), &circle).err();
     assert!(rt; refused == Some(TakeRefusal::Fault(SceneFault::TooMany)));
-    Ok(())
-}
-
-#[test]
-fn no_fields_are_a_bad_line(rt: HostRuntime) {
-    let refused = SceneReader::new(0).take(rt.alloc(), &[]).err();
-    assert!(rt; refused == Some(TakeRefusal::Fault(SceneFault::BadLine)));
-}
-
-#[test]
-fn an_error_in_memory_has_its_text(rt: HostRuntime) -> Result<(), Fail> {
-    assert!(rt; ReadError::Memory.to_string(rt.alloc())?.as_str() == "out of memory");
     Ok(())
 }
 

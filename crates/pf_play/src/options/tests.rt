@@ -125,26 +125,30 @@ impl Env for Call<'_> {
 }
 
 #[test]
-fn all_words_are_read_whole_and_in_order(rt: HostRuntime) -> Result<(), Fail> {
+fn all_words_are_read_in_order(rt: HostRuntime) -> Result<(), Fail> {
+    let words = [b"pf_play".as_slice(), b"frame", b"", b"\xc3\xa4 \n\0"];
+    let found = words_of(&(Call { words: &words }, rt.alloc()))?;
+    assert_eq!(rt; found.len(), 4);
+    for (word, expected) in found.iter().zip(words.iter()) {
+        assert_eq!(rt; word.as_bytes(), *expected);
+    }
+    Ok(())
+}
+
+#[test]
+fn long_words_are_read_whole(rt: HostRuntime) -> Result<(), Fail> {
     let long = vec![in rt.alloc(); b'0'; 5000]?;
     let mut words = Vec::new(rt.alloc());
-    for word in [
-        b"pf_play".as_slice(),
-        b"frame",
-        b"",
-        b"\xc3\xa4 \n\0",
-        &long[..300],
-    ] {
-        words.push(word)?;
-    }
     for length in 1..100 {
         words.push(&long[..50 * length])?;
     }
     let found = words_of(&(Call { words: &words }, rt.alloc()))?;
-    assert_eq!(rt; found.len(), 104);
-    for (word, expected) in found.iter().zip(words.iter()) {
-        assert_eq!(rt; word.as_bytes(), *expected);
-    }
+    assert!(rt;
+        found
+            .iter()
+            .map(|word| word.as_bytes())
+            .eq(words.iter().copied())
+    );
     Ok(())
 }
 

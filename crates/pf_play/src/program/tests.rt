@@ -78,6 +78,11 @@ fn frames_are_printed(rt: HostRuntime) -> Result<(), Fail> {
         assert!(rt; errors.bytes().is_empty());
         assert!(rt; FRAME_HELP.contains(line.trim_end()));
     }
+    Ok(())
+}
+
+#[test]
+fn a_short_frame_is_reported(rt: HostRuntime) -> Result<(), Fail> {
     let (status, output, errors) = ended(rt.alloc(), &["pf_play", "frame", "01"], FALLING)?;
     assert_eq!(rt; status, ExitCode::from(1));
     assert_eq!(rt; errors.bytes(), b"pf_play: frame: Short\n".as_slice());
