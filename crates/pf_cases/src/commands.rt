@@ -4,7 +4,7 @@
 ghost use Rattle.std.specs.Prelude.{◌<◌};
 
 use crate::scenes::scene_of;
-use pf_commands::{CheckFault, Command, CommandMap, MAX_TICK, Name, Payload};
+use pf_commands::{CheckFault, Command, CommandMap, MAX_TICK, Name, Payload, Put};
 use pf_num::Fx;
 use pf_shapes::PLAYERS;
 use std::alloc::{AllocError, Global};
@@ -41,6 +41,24 @@ fn map_of(alloc: Global, commands: &[Command]) -> Result<CommandMap, AllocError>
         map.put(command)?;
     }
     Ok(map)
+}
+
+/// Two orders of the pushes by these numbers, under one name, and how each is put.
+const ORDERS: [([i64; 2], [Put; 2]); 2] = [
+    ([1, -1], [Put::New, Put::Greater]),
+    ([-1, 1], [Put::New, Put::Lesser]),
+];
+
+#[test]
+fn the_greater_payload_stays_in_either_order(rt: HostRuntime) -> Result<(), Fail> {
+    for (numbers, puts) in ORDERS {
+        let mut map = CommandMap::new(rt.alloc());
+        for (x, put) in numbers.into_iter().zip(puts) {
+            assert_eq!(rt; map.put(&command(5, 2, 7, push(x)))?, put);
+        }
+        assert!(rt; map.get(Name::new(5, 2, 7)) == Some(push(-1)) && map.len() == 1);
+    }
+    Ok(())
 }
 
 #[test]

@@ -15,6 +15,25 @@ circle - 16777216 0 16777216 33554434 16777216
 end
 ";
 
+/// The same with the circle a unit farther right.
+const APART: &[u8] = b"gravity 0 0
+box - 0 0 17179869184 16777216 0 -16777216 16777216 0
+box - 16777216 0 16777216 16777216 0 16777216 16777216 0
+circle - 16777216 0 16777216 33554435 16777216
+end
+";
+
+/// Six circles of radius 1 in a row, each as far from the next as their bounds reach.
+const ROW: &[u8] = b"gravity 0 0
+circle - 16777216 0 16777216 0 0
+circle - 16777216 0 16777216 33554434 0
+circle - 16777216 0 16777216 67108868 0
+circle - 16777216 0 16777216 100663302 0
+circle - 16777216 0 16777216 134217736 0
+circle - 16777216 0 16777216 167772170 0
+end
+";
+
 /// Three circles at one position, the first and the last of them static, and one whose bounds are
 /// a unit apart from theirs.
 const STACKED: &[u8] = b"gravity 0 0
@@ -58,6 +77,33 @@ fn bounds_that_touch_are_pairs(rt: HostRuntime) -> Result<(), Fail> {
             .map(key)
             .eq([(0, 1, 28), (0, 1, 29), (0, 2, 133)])
     );
+    Ok(())
+}
+
+#[test]
+fn bounds_a_unit_apart_are_no_pair(rt: HostRuntime) -> Result<(), Fail> {
+    let (pairs, touches) = found(rt.alloc(), APART)?;
+    assert!(rt;
+        pairs
+            .iter()
+            .map(|pair| (pair.a, pair.b))
+            .eq([(0, 1), (0, 2)])
+    );
+    assert!(rt;
+        touches
+            .iter()
+            .map(key)
+            .eq([(0, 1, 28), (0, 1, 29), (0, 2, 133)])
+    );
+    Ok(())
+}
+
+#[test]
+fn bodies_in_a_row_are_pairs_with_the_next(rt: HostRuntime) -> Result<(), Fail> {
+    let (pairs, touches) = found(rt.alloc(), ROW)?;
+    let all = [(0, 1), (1, 2), (2, 3), (3, 4), (4, 5)];
+    assert!(rt; pairs.iter().map(|pair| (pair.a, pair.b)).eq(all));
+    assert!(rt; touches.is_empty());
     Ok(())
 }
 
