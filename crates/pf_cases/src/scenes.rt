@@ -139,6 +139,12 @@ fn no_more_bodies_are_refused_before_their_fields(rt: HostRuntime) -> Result<(),
     Ok(())
 }
 
+#[test]
+fn no_fields_are_a_bad_line(rt: HostRuntime) {
+    let refused = SceneReader::new(0).take(rt.alloc(), &[]).err();
+    assert!(rt; refused == Some(TakeRefusal::Fault(SceneFault::BadLine)));
+}
+
 /// The ends of bounds: x and y of the low one, then of the high one.
 fn ends(bounds: &Bounds) -> [i64; 4] {
     let Bounds { low, high, .. } = *bounds;

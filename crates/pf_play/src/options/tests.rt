@@ -20,6 +20,31 @@ fn mistake(alloc: Global, words: &[&str]) -> Result<String, AllocError> {
 }
 
 #[test]
+fn runs(rt: HostRuntime) -> Result<(), Fail> {
+    assert!(rt; matches!(options(rt.alloc(), &["pf_play", "run"])?, Request::Run));
+    assert!(rt;
+        matches!(
+            options(rt.alloc(), &["./out/pf_play", "run", "--"])?,
+            Request::Run
+        )
+    );
+    Ok(())
+}
+
+#[test]
+fn takes_the_digits_of_a_frame(rt: HostRuntime) -> Result<(), Fail> {
+    for digits in ["01ff", "", "no digits"] {
+        let words = ["pf_play", "frame", digits];
+        let request = options(rt.alloc(), &words)?;
+        assert!(rt;
+            matches!(request, Request::Frame(found) if found == digits),
+            "{digits}"
+        );
+    }
+    Ok(())
+}
+
+#[test]
 fn tells_help_from_version(rt: HostRuntime) -> Result<(), Fail> {
     for word in ["--version", "-V"] {
         let words = ["pf_play", word];

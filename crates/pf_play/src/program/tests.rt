@@ -53,6 +53,27 @@ fn a_text_has_replies(rt: HostRuntime) -> Result<(), Fail> {
     Ok(())
 }
 
+#[test]
+fn an_invalid_line_is_reported(rt: HostRuntime) -> Result<(), Fail> {
+    let text = format!(in rt.alloc(); "{FALLING}advance 0 05\nshow 0 1\n")?;
+    let (status, output, errors) = ended(rt.alloc(), &["pf_play", "run"], text.as_str())?;
+    assert_eq!(rt; status, ExitCode::from(1));
+    assert_eq!(rt; output.bytes(), FALLEN.as_bytes());
+    assert_eq!(rt; errors.bytes(), b"pf_play: line 7: BadNumber\n".as_slice());
+    Ok(())
+}
+
+#[test]
+fn wrong_words_are_reported(rt: HostRuntime) -> Result<(), Fail> {
+    let (status, output, errors) = ended(rt.alloc(), &["pf_play", "fall"], FALLING)?;
+    let expected = "error: unrecognized subcommand 'fall'\n\n\
+Usage: pf_play <COMMAND>\n\nFor more information, try '--help'.\n";
+    assert_eq!(rt; status, ExitCode::from(2));
+    assert_eq!(rt; errors.bytes(), expected.as_bytes());
+    assert!(rt; output.bytes().is_empty());
+    Ok(())
+}
+
 /// Digits of frames, and what is written of them: the lines that the help of `frame` shows.
 const FRAMES: [(&str, &str); 3] = [
     (
