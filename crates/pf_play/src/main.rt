@@ -1,12 +1,8 @@
 //! The program: texts of scenes and events in, worlds out.
 #![tactic(auto)]
 
-mod options;
-mod program;
-
-use options::words_of;
+use pf_program::{program, words_of};
 use pf_text::{Input, Output};
-use program::program;
 use std::io::{Stderr, Stdin, Stdout};
 use std::process::ExitCode;
 
@@ -23,3 +19,6 @@ fn main(rt: HostRuntime) -> ExitCode {
         &mut errors,
     )
 }
+
+#[cfg(test)]
+mod tests;

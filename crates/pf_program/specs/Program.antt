@@ -6,7 +6,7 @@ use Rattle.pf_console.specs.declared.request.Request.{Request}
 use Rattle.pf_console.specs.declared.fault.PlayFault.{PlayFault}
 use Rattle.pf_console.specs.Report.{outcome_status, outcome_text}
 use Rattle.pf_console.specs.Request.{Performs}
-use Rattle.pf_play.specs.Options.{ParsesAs, command_line}
+use Rattle.pf_program.specs.Options.{ParsesAs, command_line}
 
 -- what the words of a call, with these texts, ask for; words that could not be read ask for nothing
 -- but their error

@@ -1,7 +1,10 @@
 //! What the words behind the program's name are parsed as, and words as the system has them.
 
-use super::*;
+use pf_console::{PlayFault, Request};
+use pf_program::{options, words_of};
+use std::alloc::{AllocError, Global};
 use std::env::FillError;
+use std::rt::Env;
 use std::test::Fail;
 
 const USAGE: &str = "\nUsage: pf_play <COMMAND>\n\nFor more information, try '--help'.\n";

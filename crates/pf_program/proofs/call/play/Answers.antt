@@ -1,6 +1,6 @@
 use Rattle.std.proofs.Common.{refl, Err}
 use Rattle.std.proofs.lemmas.Result.{err_from_is_err_and}
-use Rattle.pf_play.proofs.program.play.Goals as goal
+use Rattle.pf_program.proofs.call.play.Goals as goal
 
 pub returns-in_err-words-clause-plays : goal.returns-in_err-words-clause-plays
 returns-in_err-words-clause-plays g c =

@@ -1,11 +1,13 @@
 //! Calls from their words to their status, with what is written and what is reported.
 
-ghost use Rattle.pf_play.specs.Options.{FailsByWordsOrMemory};
+ghost use Rattle.pf_program.specs.Options.{FailsByWordsOrMemory};
 
-use super::*;
+use pf_console::PlayFault;
+use pf_program::program;
 use pf_text::{Bytes, Collected, Input, Output};
-use std::alloc::AllocError;
+use std::alloc::{AllocError, Global};
 use std::io::{Error, ErrorKind, Read, Write};
+use std::process::ExitCode;
 use std::test::Fail;
 
 const FALLING: &str =

@@ -1,9 +1,9 @@
 use Rattle.std.proofs.Common.{ap, subst, refl, true, ◌≡◌, ◌∙◌, [], map, Ok}
 use Rattle.clap.specs.Words.{App, HasKind, app_of, fault_of, is_simple, is_simple_and_free, subcommand_of}
-use Rattle.pf_play.specs.Options.{ParsesAs, AsksFor, command_line}
-use Rattle.pf_play.proofs.Entered.{request_parses}
-use Rattle.pf_play.proofs.Faults.{parses_among, run_alone}
-use Rattle.pf_play.proofs.options.options.Goals as goal
+use Rattle.pf_program.specs.Options.{ParsesAs, AsksFor, command_line}
+use Rattle.pf_program.proofs.Entered.{request_parses}
+use Rattle.pf_program.proofs.Faults.{parses_among, run_alone}
+use Rattle.pf_program.proofs.command_line.options.Goals as goal
 
 is_fit : is_simple_and_free command_line ≡ true
 is_fit = refl

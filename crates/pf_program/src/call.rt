@@ -4,10 +4,10 @@ ghost use Rattle.std.specs.Prelude.{◌≡◌, ◌+◌, ◌^◌, ◌<◌};
 ghost use Rattle.std.specs.Process.{exit_status};
 ghost use Rattle.pf_console.specs.Report.{Reports};
 ghost use Rattle.pf_console.specs.Text.{CountsReads, CountsWrites};
-ghost use Rattle.pf_play.specs.Options.{FailsByWordsOrMemory};
-ghost use Rattle.pf_play.specs.Program.{Ends, Plays};
+ghost use Rattle.pf_program.specs.Options.{FailsByWordsOrMemory};
+ghost use Rattle.pf_program.specs.Program.{Ends, Plays};
 
-use crate::options::options;
+use crate::command_line::options;
 use pf_console::{PlayFault, finish, perform};
 use pf_text::{Sink, Source};
 use std::alloc::Global;
@@ -70,6 +70,3 @@ pub fn program<S: AsStr + Drop, R: Source, W: Sink, E: Sink>(
 {
     ExitCode::from(finish(play(alloc, words, reader, writer), errors))
 }
-
-#[cfg(test)]
-mod tests;

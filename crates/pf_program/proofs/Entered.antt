@@ -4,7 +4,7 @@ use Rattle.std.specs.Prelude.{option_map, unwrap_or}
 use Rattle.clap.specs.Words.{Kinds, Row, Text, first_of, subcommand_name_of, subcommand_rows_of}
 use Rattle.clap.specs.declared.parser.matches.ArgMatches.{ArgMatches}
 use Rattle.clap.specs.declared.parser.matches.ArgMatches.TheViews.{out-ArgMatches}
-use Rattle.pf_play.specs.Options.{ParsesAs, AsksFor, digits_in}
+use Rattle.pf_program.specs.Options.{ParsesAs, AsksFor, digits_in}
 use Rattle.pf_console.specs.declared.request.Request.{Request}
 use Rattle.pf_console.specs.declared.request.Request.TheVariants.{Run, Frame, Help, Version}
 

@@ -4,7 +4,7 @@ ghost use Rattle.std.specs.Prelude.{◌≡◌, ℕ, List, [], ◌∷◌, None, f
 ghost use Rattle.clap.specs.Words.{app_of, fault_of, kind_of, shape_of, subcommand_of, subcommand_rows_of};
 ghost use Rattle.clap.specs.Simple.{new_shape};
 ghost use Rattle.clap.specs.declared.builder.command.Command.TheViews.{out-Command as fields_of};
-ghost use Rattle.pf_play.specs.Options.{ParsesAs, AsksFor, FailsByWordsOrMemory, RunsUnlessMemory, command_line, frame_words};
+ghost use Rattle.pf_program.specs.Options.{ParsesAs, AsksFor, FailsByWordsOrMemory, RunsUnlessMemory, command_line, frame_words, own_words};
 
 use clap::error::ErrorKind;
 use clap::{Arg, ArgMatches, Command, Error};
@@ -84,17 +84,26 @@ fn frame_command<'a>(alloc: Global) -> Result<Command<'a>, AllocError>
         .arg(Arg::new(alloc, DIGITS).required(true))
 }
 
+/// The program's own words: its flags, and that a subcommand has to be there.
+fn own_command<'a>(alloc: Global) -> Result<Command<'a>, AllocError>
+    ensures { IfOk result (λ command. app_of command ≡ own_words) }
+{
+    let command = Command::new(alloc, "pf_play").bin_name("pf_play")?;
+    Ok(
+        command
+            .version("0.1.0")
+            .about(ABOUT)
+            .after_help(RUN_HELP)
+            .disable_help_subcommand(true)
+            .subcommand_required(true),
+    )
+}
+
 /// The command line that the program takes.
 fn command<'a>(alloc: Global) -> Result<Command<'a>, AllocError>
     ensures { IfOk result (λ command. app_of command ≡ command_line) }
 {
-    Command::new(alloc, "pf_play")
-        .bin_name("pf_play")?
-        .version("0.1.0")
-        .about(ABOUT)
-        .after_help(RUN_HELP)
-        .disable_help_subcommand(true)
-        .subcommand_required(true)
+    own_command(alloc)?
         .subcommand(run_command(alloc))?
         .subcommand(frame_command(alloc)?)
 }
@@ -149,6 +158,3 @@ pub fn options<'a, S: AsStr>(alloc: Global, words: &'a [S]) -> Result<Request<'a
         Err(error) => request_of(alloc, &error),
     }
 }
-
-#[cfg(test)]
-mod tests;

@@ -1,8 +1,8 @@
 use Rattle.std.proofs.Common.{refl, ◌∙◌, ap, sym, codes, Some}
 use Rattle.clap.specs.Words.{found_of}
 use Rattle.clap.proofs.WalkLemmas.{first_value-rows}
-use Rattle.pf_play.proofs.Entered.{digits_found, unwrap_map}
-use Rattle.pf_play.proofs.options.request_for.Goals as goal
+use Rattle.pf_program.proofs.Entered.{digits_found, unwrap_map}
+use Rattle.pf_program.proofs.command_line.request_for.Goals as goal
 
 pub returns-in-Some : goal.returns-in-Some
 returns-in-Some c =

@@ -6,7 +6,7 @@ use Rattle.clap.specs.declared.error.kind.ErrorKind.{ErrorKind}
 use Rattle.clap.specs.declared.error.kind.ErrorKind.TheVariants as kind
 use Rattle.pf_console.specs.declared.fault.PlayFault.{PlayFault}
 use Rattle.pf_console.specs.declared.fault.PlayFault.TheVariants as faults
-use Rattle.pf_play.specs.Options.{ParsesAs, RunsUnlessMemory, command_line, digits_in}
+use Rattle.pf_program.specs.Options.{ParsesAs, RunsUnlessMemory, command_line, digits_in}
 use Rattle.pf_console.specs.declared.request.Request.{Request}
 use Rattle.pf_console.specs.declared.request.Request.TheVariants.{Run, Frame, Help, Version}
 

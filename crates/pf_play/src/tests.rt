@@ -1,0 +1,5 @@
+//! Tests of `pf_program` by its public calls. They stand here, so that a check of the library does
+//! not prove them.
+
+mod calls;
+mod words;
