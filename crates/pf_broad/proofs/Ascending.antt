@@ -4,8 +4,7 @@ use Rattle.std.proofs.lemmas.Bool.Decides.{nat_tests}
 use Rattle.std.specs.List.{range_with_len, filter, flat_map, AllByRecursion}
 use Rattle.pf_shapes.specs.Bounds.{Bounds}
 use Rattle.pf_broad.specs.Pairs.{is_pair, pair, pairs_of, pairs}
-use Rattle.pf_broad.specs.Laws.{is_before, IsAscending}
-use Rattle.pf_shapes.specs.Pair.{Pair}
+use Rattle.pf_shapes.specs.Pair.{IsAscending, Pair, is_before}
 use Rattle.pf_broad.proofs.Each.{append_each}
 
 -- ascending numbers, from low on

@@ -1,9 +1,9 @@
 -- Words of the laws of pairs.
-use Rattle.std.specs.Prelude.{◌≡◌, ℕ, Bool, true, ◌&&◌, ◌||◌, ◌==◌, List, [], ◌∷◌, length, nat_lt}
-use Rattle.std.specs.List.{list_any, AllByRecursion}
+use Rattle.std.specs.Prelude.{◌≡◌, ℕ, Bool, ◌&&◌, ◌==◌, List, length, nat_lt}
+use Rattle.std.specs.List.{list_any}
 use Rattle.pf_shapes.specs.Bounds.{Bounds}
-use Rattle.pf_broad.specs.Pairs.{bounds_at, may_touch, pairs}
 use Rattle.pf_shapes.specs.Pair.{Pair}
+use Rattle.pf_broad.specs.Pairs.{bounds_at, may_touch, pairs}
 
 -- a list of pairs has this one
 abbrev pub has_pair : List Pair → ℕ → ℕ → Bool
@@ -13,12 +13,3 @@ has_pair ps i j = list_any (λ p. (p.a == i) && (p.b == j)) ps
 abbrev pub IsExact : List Bounds → Type 0
 IsExact bs = (i j : ℕ) → has_pair (pairs bs) i j
     ≡ (nat_lt i j && (nat_lt j (length bs) && may_touch (bounds_at bs i) (bounds_at bs j)))
-
--- by the first body, and of two pairs with the same first body by the second
-abbrev pub is_before : Pair → Pair → Bool
-is_before p q = nat_lt p.a q.a || ((p.a == q.a) && nat_lt p.b q.b)
-
--- each pair is before all that follow it, so none occurs twice
-abbrev pub IsAscending : List Pair → Type 0
-IsAscending [] = Unit {0}
-IsAscending (p ∷ ps) = AllByRecursion (λ q. is_before p q ≡ true) ps × IsAscending ps

@@ -1,9 +1,8 @@
 //! Pairs of bodies whose bounds overlap, as Box2D's `b2BroadPhase::UpdatePairs` finds them.
 
 ghost use Rattle.std.specs.Prelude.{◌≡◌, ◌<◌, ◌++◌, [], length, All, IfOk, IsOk, OnOk};
-ghost use Rattle.pf_shapes.specs.Pair.{IsPairOf};
+ghost use Rattle.pf_shapes.specs.Pair.{IsAscending, IsPairOf};
 ghost use Rattle.pf_broad.specs.Pairs.{all_bounds, may_touch, pairs, pairs_of};
-ghost use Rattle.pf_broad.specs.Laws.{IsAscending};
 
 use pf_shapes::{BodyState, Bounds, Pair, Scene};
 use std::alloc::{AllocError, Global};

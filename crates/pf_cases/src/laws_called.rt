@@ -5,7 +5,7 @@ use pf_commands::{MAX_TICK, NUMBERS};
 use pf_num::Fx;
 use pf_rot::{Rot, V2};
 use pf_shapes::PLAYERS;
-use pf_step::{STILL_SPEED, STILL_SPIN, STILL_TICKS};
+use pf_solver::{BIAS_FACTOR, ROUNDS, SLOP, STILL_SPEED, STILL_SPIN, STILL_TICKS};
 
 #[test]
 fn laws_of_numbers(rt: HostRuntime) {
@@ -40,6 +40,7 @@ fn laws_of_shapes(_rt: HostRuntime) {
 #[test]
 fn laws_of_contact_points(_rt: HostRuntime) {
     use pf_manifold::laws;
+    laws::keys_are_in_order();
     laws::features_ascend();
     laws::best_axes_are_greatest();
     laws::incident_edges_face_the_reference();
@@ -51,6 +52,18 @@ fn laws_of_contact_points(_rt: HostRuntime) {
     laws::circles_touch_where_they_reach();
     laws::gaps_are_mirrored();
     laws::upright_boxes_meet_where_they_overlap();
+}
+
+#[test]
+fn laws_of_contacts(rt: HostRuntime) {
+    use pf_cache::laws as contacts;
+    use pf_solver::laws;
+    contacts::contacts_are_found();
+    contacts::updates_have_the_keys_of_points();
+    laws::rounds_keep_the_limits();
+    laws::named_limits();
+    assert!(rt; STILL_SPEED == 262_144 && STILL_SPIN == 524_288 && STILL_TICKS == 32);
+    assert!(rt; ROUNDS == 10 && BIAS_FACTOR == 214_748_352 && SLOP == 167_772);
 }
 
 #[test]
@@ -79,7 +92,6 @@ fn laws_of_commands(_rt: HostRuntime) {
 fn laws_of_steps(rt: HostRuntime) {
     use pf_step::laws;
     assert!(rt; MAX_TICK == 1_048_576 && NUMBERS == 65_536 && PLAYERS == 8);
-    assert!(rt; STILL_SPEED == 262_144 && STILL_SPIN == 524_288 && STILL_TICKS == 32);
     laws::worlds_follow_earlier_commands();
     laws::commands_change_later_worlds();
     laws::sleepers_stay();
@@ -88,7 +100,6 @@ fn laws_of_steps(rt: HostRuntime) {
     laws::timers_count_still_ticks();
     laws::sleepers_were_still();
     laws::rotations_stay_at_most_one();
-    laws::named_limits();
 }
 
 #[test]

@@ -1,11 +1,13 @@
-//! Worked cases of scenes, pairs, command maps, steps, peers and sessions, in a crate of their own
-//! so that those crates are proved without tests. Expected values are computed by hand from
-//! docs/FORMATS.md, or taken from an independent program. Cases in numbers stand in the stored runs
-//! of `pf_answers`, `pf_points` and `pf_runs`.
+//! Worked cases of scenes, pairs, contacts, command maps, steps, peers and sessions, in a crate of
+//! their own so that those crates are proved without tests. Expected values are computed by hand
+//! from docs/FORMATS.md, or taken from an independent program. Cases in numbers stand in the stored
+//! runs of `pf_answers`, `pf_points` and `pf_runs`.
 #![tactic(auto)]
 
 #[cfg(test)]
 mod commands;
+#[cfg(test)]
+mod contacts;
 #[cfg(test)]
 mod laws_called;
 #[cfg(test)]

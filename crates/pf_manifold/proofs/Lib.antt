@@ -15,3 +15,6 @@ pub mod IncidentEdge
 pub mod BestAxis
 pub mod Crossing
 pub mod FeatureRanges
+pub mod Rising
+pub mod KeyOrder
+pub mod Ranks

@@ -1,8 +1,9 @@
 -- Words of the laws of contact points.
-use Rattle.std.specs.Prelude.{◌≡◌, ℕ, pos, ◌≤ℤ◌, List, map, Some, slice_get}
+use Rattle.std.specs.Prelude.{◌≡◌, ◌<◌, ◌⊎◌, ℕ, pos, ◌≤ℤ◌, List, map, Some, slice_get}
 use Rattle.std.specs.List.Sorted.{IsStrictlyIncreasing}
 use Rattle.pf_rot.specs.Vector.{neg}
 use Rattle.pf_manifold.specs.ContactPoint.{ContactPoint}
+use Rattle.pf_manifold.specs.Key.{Key}
 
 -- each point has a greater feature than the one before it
 abbrev pub HaveAscendingFeatures : List ContactPoint → Type 0
@@ -22,3 +23,9 @@ pub record IsMirrored (points others : List ContactPoint) : Type 0 where
 -- the bodies overlap at the point, or just touch
 abbrev pub IsTouching : ContactPoint → Type 0
 IsTouching p = p.separation ≤ℤ pos 0
+
+-- by the first body; of two with the same first body by the second; of two of the same bodies by
+-- the feature
+abbrev pub IsBefore : Key → Key → Type 0
+IsBefore k l =
+    (k.a < l.a) ⊎ ((k.a ≡ l.a) × ((k.b < l.b) ⊎ ((k.b ≡ l.b) × (k.feature < l.feature))))

@@ -13,4 +13,6 @@ pub mod Boxes
 pub mod Collide
 pub mod Laws
 pub mod Touches
+pub mod Key
+pub mod SameKeys
 pub mod GeometryLaws

@@ -21,7 +21,8 @@ ghost use Rattle.pf_manifold.specs.Incident.{ClipVertex, Segment, inward_normal,
 ghost use Rattle.pf_manifold.specs.Clip.{crossing, clip_low, clip_high, clip};
 ghost use Rattle.pf_manifold.specs.Boxes.{collide_boxes};
 ghost use Rattle.pf_manifold.specs.Collide.{collide};
-ghost use Rattle.pf_manifold.specs.Laws.{HaveAscendingFeatures, HaveDifferentFeatures, IsMirrored, IsTouching};
+ghost use Rattle.pf_manifold.specs.Key.{IsKey, Key, rank};
+ghost use Rattle.pf_manifold.specs.Laws.{HaveAscendingFeatures, HaveDifferentFeatures, IsBefore, IsMirrored, IsTouching};
 ghost use Rattle.pf_manifold.specs.GeometryLaws.{IsClosest, HasEndsWithin, HasEndsBelow, HasEndsAbove, boxes_have_gap, UprightBoxesOverlap, boxes_separation, extent_along, boxes_best_axis, IsBetween, IsClipped, IsInnerVertex, IsNearLine, IsRegionFeature};
 
 use crate::incident::Mark;
@@ -169,4 +170,10 @@ pub fn upright_boxes_meet_where_they_overlap()
     ensures { (a b : OrientedBox) → a.rotation ≡ upright → b.rotation ≡ upright
         → HasSize (Box a.half.x a.half.y) → HasSize (Box b.half.x b.half.y)
         → ((boxes_have_gap a b ≡ false) ↔ UprightBoxesOverlap a b) }
+{}
+
+/// Ranks order keys by the first body, then the second, then the feature; no two keys have the same
+/// rank.
+pub fn keys_are_in_order()
+    ensures { (k l : Key) → IsKey k → IsKey l → (rank k < rank l) ↔ IsBefore k l }
 {}

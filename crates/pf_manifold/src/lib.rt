@@ -8,6 +8,7 @@ mod clip;
 mod contact_point;
 mod face;
 mod incident;
+mod key;
 pub mod laws;
 mod manifold;
 mod narrow_phase;
@@ -17,6 +18,7 @@ mod separation;
 mod touch;
 
 pub use contact_point::ContactPoint;
+pub use key::Key;
 pub use manifold::Manifold;
 pub use narrow_phase::collide;
 pub use placed_shape::PlacedShape;

@@ -1,7 +1,8 @@
 //! The contact points of a list of pairs of bodies, as Box2D 2.x's `b2ContactManager::Collide`.
 
 ghost use Rattle.std.specs.Prelude.{◌≡◌, ◌<◌, ◌++◌, [], All, length, map, Some, IfOk, OnOk, IsOk};
-ghost use Rattle.pf_shapes.specs.Pair.{IsPairOf};
+ghost use Rattle.pf_shapes.specs.Pair.{IsAscending, IsPairOf};
+ghost use Rattle.pf_manifold.specs.Key.{AreTouches};
 ghost use Rattle.pf_manifold.specs.Manifold.{points_of};
 ghost use Rattle.pf_manifold.specs.Touches.{Touch, placed_shape_at, touch_of, touches};
 
@@ -9,7 +10,7 @@ use crate::contact_point::ContactPoint;
 use crate::manifold::Manifold;
 use crate::narrow_phase::collide;
 use crate::placed_shape::PlacedShape;
-use pf_shapes::{BodyState, Pair, Scene};
+use pf_shapes::{BodyState, Fixture, Pair, Scene};
 use std::alloc::{AllocError, Global};
 use std::marker::Model;
 
@@ -33,14 +34,14 @@ impl Model for Touch {
 }
 
 /// The shape of the body of this number at its position and rotation.
-fn placed_shape<'a>(scene: &'a Scene, bodies: &[BodyState], number: usize) -> PlacedShape<'a>
-    requires bodies { length bodies.now ≡ length scene.now.fixtures }
+fn placed_shape<'a>(fixtures: &'a [Fixture], bodies: &[BodyState], number: usize) -> PlacedShape<'a>
+    requires bodies { length bodies.now ≡ length fixtures.now }
     requires number { number < length bodies.now }
-    ensures { placed_shape_at scene.now.fixtures bodies.now number ≡ Some result }
+    ensures { placed_shape_at fixtures.now bodies.now number ≡ Some result }
 {
     let body = &bodies[number];
     PlacedShape {
-        shape: scene.fixtures()[number].shape(),
+        shape: fixtures[number].shape(),
         position: body.position,
         rotation: body.rotation,
     }
@@ -69,7 +70,8 @@ fn push_points(touches: &mut Vec<Touch>, pair: &Pair, points: &Manifold) -> Resu
 }
 
 /// The contact points of these pairs of bodies, in the order of the pairs, and those of one pair in
-/// ascending order of their features. Where no pair touches it takes no memory, and can't fail.
+/// ascending order of their features. So those of ascending pairs are in the order of their keys.
+/// Where no pair touches it takes no memory, and can't fail.
 pub fn collide_list(
     alloc: Global,
     scene: &Scene,
@@ -80,12 +82,14 @@ pub fn collide_list(
     requires pairs { All (IsPairOf (length bodies.now)) pairs.now }
     ensures found { IfOk result
         (λ found. found.items ≡ touches scene.now.fixtures bodies.now pairs.now) }
+    ensures order { IsAscending pairs.now → IfOk result (λ found. AreTouches found.items) }
     ensures no_memory { touches scene.now.fixtures bodies.now pairs.now ≡ [] → IsOk result }
 {
+    let fixtures = scene.fixtures();
     let mut touches = Vec::new(alloc);
     for pair in pairs {
-        let a = placed_shape(scene, bodies, pair.a);
-        let b = placed_shape(scene, bodies, pair.b);
+        let a = placed_shape(fixtures, bodies, pair.a);
+        let b = placed_shape(fixtures, bodies, pair.b);
         push_points(&mut touches, pair, &collide(&a, &b))?;
     }
     Ok(touches)

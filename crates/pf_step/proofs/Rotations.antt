@@ -13,12 +13,13 @@ use Rattle.pf_commands.specs.declared.payload.Payload.{Payload}
 use Rattle.pf_commands.specs.declared.payload.Payload.TheVariants.{Push, Turn, Stop}
 use Rattle.pf_commands.specs.Payload.{body_of}
 use Rattle.pf_commands.specs.Merge.{CommandMap, payloads_at}
-use Rattle.pf_step.specs.Body.{gravity_per_tick, after_gravity, after_motion, after_timer, at_sleep, after_sleep, after_tick}
+use Rattle.pf_solver.specs.Bodies.{gravity_per_tick, after_gravity, after_motion, after_timer}
+use Rattle.pf_step.specs.Body.{at_sleep, after_sleep, after_tick}
 use Rattle.pf_step.specs.Commands.{after_payload, bodies_with, after_command, after_commands}
 use Rattle.pf_step.specs.Simulation.{sim}
 use Rattle.pf_step.specs.Step.{step}
 use Rattle.pf_step.specs.World.{World, start_of}
-use Rattle.pf_step.specs.declared.body.TheConstants.{STILL_TICKS}
+use Rattle.pf_solver.specs.declared.bodies.TheConstants.{STILL_TICKS}
 
 abbrev HasRotation : BodyState → Type 0
 HasRotation b = IsAtMostOne b.rotation

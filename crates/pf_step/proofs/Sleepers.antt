@@ -8,7 +8,8 @@ use Rattle.pf_shapes.specs.Scene.{Scene}
 use Rattle.pf_commands.specs.declared.payload.Payload.{Payload}
 use Rattle.pf_commands.specs.Payload.{body_of}
 use Rattle.pf_commands.specs.Merge.{CommandMap, payloads_at}
-use Rattle.pf_step.specs.Body.{gravity_per_tick, after_tick}
+use Rattle.pf_solver.specs.Bodies.{gravity_per_tick}
+use Rattle.pf_step.specs.Body.{after_tick}
 use Rattle.pf_step.specs.Commands.{after_payload, bodies_with, after_command, after_commands}
 use Rattle.pf_step.specs.Simulation.{sim}
 use Rattle.pf_step.specs.Step.{step}

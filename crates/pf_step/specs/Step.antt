@@ -2,7 +2,8 @@
 use Rattle.std.specs.Prelude.{List, map}
 use Rattle.pf_shapes.specs.Scene.{Scene}
 use Rattle.pf_commands.specs.declared.payload.Payload.{Payload}
-use Rattle.pf_step.specs.Body.{gravity_per_tick, after_tick}
+use Rattle.pf_solver.specs.Bodies.{gravity_per_tick}
+use Rattle.pf_step.specs.Body.{after_tick}
 use Rattle.pf_step.specs.Commands.{after_commands}
 use Rattle.pf_step.specs.World.{World}
 

@@ -11,13 +11,13 @@ ghost use Rattle.pf_commands.specs.declared.payload.Payload.TheVariants.{Stop};
 ghost use Rattle.pf_commands.specs.Payload.{body_of};
 ghost use Rattle.pf_commands.specs.Merge.{CommandMap, merge, payloads_at, singleton};
 ghost use Rattle.pf_commands.specs.Name.{Name};
-ghost use Rattle.pf_step.specs.Body.{after_gravity, after_motion, gravity_per_tick, is_still};
+ghost use Rattle.pf_solver.specs.Bodies.{after_gravity, after_motion, gravity_per_tick, is_still};
 ghost use Rattle.pf_step.specs.Commands.{apply};
 ghost use Rattle.pf_step.specs.Laws.{NoneFor};
 ghost use Rattle.pf_step.specs.World.{World};
 ghost use Rattle.pf_step.specs.Simulation.{sim};
 
-use crate::body::{STILL_SPEED, STILL_SPIN, STILL_TICKS};
+use pf_solver::STILL_TICKS;
 
 /// Commands that have the same payloads at each tick before `tick` make the same world at `tick`.
 pub fn worlds_follow_earlier_commands()
@@ -60,8 +60,7 @@ pub fn stops_leave_no_velocity()
         }) }
 {}
 
-/// A body's timer is for how many ticks it has been still: it was still at each of so many ticks,
-/// up to this one.
+/// A body with timer n was still at the end of each of the last n ticks.
 pub fn timers_count_still_ticks()
     ensures { (scene : Scene) (commands : CommandMap) (tick i : ℕ) (b : BodyState)
         → IsScene scene → slice_get (sim scene commands tick).bodies i ≡ Some b
@@ -70,7 +69,8 @@ pub fn timers_count_still_ticks()
         × (is_still c ≡ true) }
 {}
 
-/// A body that falls asleep was still at this tick and at each of the 31 ticks before it.
+/// A body that falls asleep had timer 31 and is still after this tick's motion. By the law before,
+/// it was still for 32 ticks.
 pub fn sleepers_were_still()
     ensures { (scene : Scene) (commands : CommandMap) (tick i : ℕ) (b c : BodyState)
         → IsScene scene
@@ -88,12 +88,4 @@ pub fn rotations_stay_at_most_one()
     ensures starts { (scene : Scene) (commands : CommandMap) (tick : ℕ)
         → All (λ b. IsAtMostOne b.rotation) scene.starts
         → All (λ b. IsAtMostOne b.rotation) (sim scene commands tick).bodies }
-{}
-
-/// A still body moves at most 1/64 of a length and turns by at most 1/32 of a radian a second, and
-/// sleeps after 32 such ticks.
-pub fn named_limits()
-    ensures speed { STILL_SPEED ≡ 2 ^ 18 }
-    ensures spin { STILL_SPIN ≡ 2 ^ 19 }
-    ensures ticks { STILL_TICKS ≡ 32 }
 {}

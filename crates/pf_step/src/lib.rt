@@ -10,7 +10,6 @@ pub mod laws;
 mod step;
 mod world;
 
-pub use body::{STILL_SPEED, STILL_SPIN, STILL_TICKS};
 pub use command::apply;
 pub use step::step_alone;
 pub use world::World;

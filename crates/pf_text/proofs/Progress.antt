@@ -113,7 +113,12 @@ module _ {S F : Type 0} {rules : Rules S F} {start : S} {input before : List ℕ
     state = state;
     valid = valid;
     after_is = p.after_is;
-    cause = inr (omega (arith, spent, p.number_is));
+    cause = inr (record {
+      rest = p.rest;
+      lines_are = p.lines_are;
+      left_is = p.left_is;
+      count_is = omega (arith, spent, p.number_is);
+    });
   }
 
   -- where the reader failed

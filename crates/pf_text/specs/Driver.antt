@@ -123,16 +123,22 @@ module _ {S F : Type 0} (rules : Rules S F) (start : S) (t : Transfer) where
     pub allocates : line_allocates rules state line ≡ true
     pub valid : IsOk (step rules state line)
 
+  -- so many lines were taken that no number is left for the next, and none behind them
+  pub record SpendsNumbers (lines : List (List ℕ)) : Type 0 where
+    pub rest : List ℕ
+    pub lines_are : AreLines t.input lines rest
+    pub left_is : t.left ≡ Some rest
+    pub count_is : length lines ≡ 2 ^ 64 - 2
+
   -- A machine ran out of memory at a valid line for which it may take memory, behind lines that are
-  -- valid, and whose output was written. A run of 2^64 - 2 valid lines ends so too, since no number
-  -- is left for the next.
+  -- valid, and whose output was written. A run of 2^64 - 2 valid lines ends so too.
   pub record StopsForMemory : Type 0 where
     pub lines : List (List ℕ)
     pub text : List ℕ
     pub state : S
     pub valid : LeadTo rules start lines text state
     pub after_is : t.after ≡ Some (t.before ++ text)
-    pub cause : StopsAtValidLine lines state ⊎ (length lines ≡ 2 ^ 64 - 2)
+    pub cause : StopsAtValidLine lines state ⊎ SpendsNumbers lines
 
   -- The reader failed behind valid lines, whose output was written, in a part of the next line.
   pub record StopsForRead : Type 0 where

@@ -3,7 +3,7 @@ use Rattle.std.proofs.lemmas.Result.{IfOk-weaker}
 use Rattle.std.specs.List.{All}
 use Rattle.pf_broad.specs.Pairs.{pairs}
 use Rattle.pf_shapes.specs.Pair.{IsPairOf}
-use Rattle.pf_broad.specs.Laws.{IsAscending}
+use Rattle.pf_shapes.specs.Pair.{IsAscending}
 use Rattle.pf_broad.proofs.Ascending.{ascending}
 use Rattle.pf_broad.proofs.Within.{pairs_within}
 use Rattle.pf_broad.proofs.Quiet.{few_bodies}

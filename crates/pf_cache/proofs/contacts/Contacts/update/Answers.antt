@@ -1,0 +1,21 @@
+use Rattle.std.proofs.Common.{rules, ◌∙◌, ap}
+use Rattle.pf_cache.specs.Contact.{updated}
+use Rattle.pf_cache.proofs.Kept.{finished, finished_are_contacts}
+use Rattle.pf_cache.proofs.Walk.{made_step, same_step}
+use Rattle.pf_cache.proofs.contacts.Contacts.update.Goals as goal
+
+pub invariant_of-result : goal.invariant_of-result
+invariant_of-result c =
+    finished_are_contacts c.self.inside.list.items c.args.touches.now _ _ c.loop-touch-test.false c.loop-touch.invariant.made c.requires
+
+pub returns-clause-value : goal.returns-clause-value
+returns-clause-value c =
+    finished c.self.inside.list.items c.args.touches.now _ _ c.loop-touch-test.false c.loop-touch.invariant.made
+    ∙ ap (λ old. updated old c.args.touches.now) c.self.view_is
+
+pub loop-touch-preserved : goal.loop-touch-preserved
+loop-touch-preserved c = record {
+  within = search rules;
+  made = made_step c.self.inside.list.items _ c.args.touches.now _ _ _ _ _ _ _ c.loop-touch-test.true c.touch-item.is c.of-key.ensures c.rank-rank.ensures c.deref.ensures.value c.first_from-place.ensures.same c.loop-touch.invariant.same _ _ _ _ c.deref-in-loop-touch.ensures.value c.impulses_from-impulses.ensures c.loop-touch.invariant.made c.in_ok-push.ensures.items;
+  same = same_step c.self.inside.list.items _ c.args.touches.now _ _ _ _ _ _ _ c.loop-touch-test.true c.touch-item.is c.of-key.ensures c.rank-rank.ensures c.deref.ensures.value c.first_from-place.ensures.same c.loop-touch.invariant.same c.requires.rising;
+}

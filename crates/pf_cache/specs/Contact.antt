@@ -1,0 +1,41 @@
+-- Contacts: what is kept of a contact point from tick to tick, as Box2D-Lite's Arbiter keeps Pn and
+-- Pt. The next tick starts warm with them.
+use Rattle.std.specs.Prelude.{ℕ, zero, suc, ◌==◌, ℤ, pos, List, [], ◌∷◌, map, All, if◌then◌else◌}
+use Rattle.pf_manifold.specs.Touches.{Touch}
+use Rattle.pf_manifold.specs.Key.{IsKey, IsRising, Key, key_of, rank}
+
+-- the accumulated impulses along the normal and along the tangent
+pub record Impulses : Type 0 where
+  pub normal : ℤ
+  pub tangent : ℤ
+
+abbrev pub no_impulses : Impulses
+no_impulses = record { normal = pos 0; tangent = pos 0 }
+
+pub record Contact : Type 0 where
+  pub key : Key
+  pub impulses : Impulses
+
+-- contacts in the order of their keys, each key once
+pub record AreContacts (contacts : List Contact) : Type 0 where
+  pub rising : IsRising 0 (map (λ c. rank c.key) contacts)
+  pub keys : All (λ c. IsKey c.key) contacts
+
+-- the accumulated impulses of the contact of this rank, none where there is no such contact
+abbrev pub impulses_at : ℕ → List Contact → Impulses
+impulses_at n [] = no_impulses
+impulses_at n (c ∷ contacts) = if rank c.key == n then c.impulses else impulses_at n contacts
+
+-- the contact of a point, with the accumulated impulses that its key had
+abbrev pub kept_contact : List Contact → Touch → Contact
+kept_contact old t = record { key = key_of t; impulses = impulses_at (rank (key_of t)) old }
+
+-- the contacts of these points: a key that is there keeps its impulses, a new one has none
+unfoldable pub updated : List Contact → List Touch → List Contact
+updated old touches = map (kept_contact old) touches
+
+-- the contacts where the one at a place has these impulses
+unfoldable pub with_impulses : List Contact → ℕ → Impulses → List Contact
+with_impulses [] place p = []
+with_impulses (c ∷ contacts) zero p = record c { impulses = p } ∷ contacts
+with_impulses (c ∷ contacts) (suc place) p = c ∷ with_impulses contacts place p

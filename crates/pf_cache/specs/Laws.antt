@@ -1,0 +1,12 @@
+-- Words of the laws of contacts.
+use Rattle.std.specs.Prelude.{◌≡◌, ◌≢◌, List, All}
+use Rattle.pf_manifold.specs.Key.{Key, rank}
+use Rattle.pf_cache.specs.Contact.{Contact, impulses_at}
+
+-- each contact is found by its key
+abbrev pub AreFound : List Contact → Type 0
+AreFound contacts = All (λ c. impulses_at (rank c.key) contacts ≡ c.impulses) contacts
+
+-- a key that no contact has
+abbrev pub IsNew : Key → List Contact → Type 0
+IsNew k contacts = All (λ c. rank c.key ≢ rank k) contacts

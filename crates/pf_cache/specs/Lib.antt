@@ -1,0 +1,7 @@
+-- What the contracts of this crate cite.
+pub mod Contact
+pub mod Same
+pub mod SameLaws
+pub mod Row
+pub mod Meter
+pub mod Laws

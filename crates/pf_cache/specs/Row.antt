@@ -1,0 +1,62 @@
+-- A contact of a tick as the solver takes it, as Box2D-Lite's Arbiter with its Contact: its point,
+-- its accumulated impulses, where its bodies stand, and what its pre-step found.
+use Rattle.std.specs.Prelude.{◌≢◌, ℕ, ◌<◌, ℤ, pos}
+use Rattle.pf_rot.specs.Vector.{V2}
+use Rattle.pf_manifold.specs.Touches.{Touch}
+use Rattle.pf_cache.specs.declared.row.Side.{Side}
+use Rattle.pf_cache.specs.declared.row.Side.TheVariants.{Static, Moving}
+use Rattle.pf_manifold.specs.Key.{key_of}
+use Rattle.pf_cache.specs.Contact.{Contact, Impulses}
+
+-- a contact point with its accumulated impulses, and where its bodies stand in a list of bodies
+pub record Entry : Type 0 where
+  pub touch : Touch
+  pub impulses : Impulses
+  pub first : Side
+  pub second : Side
+
+-- the contact that is kept of it
+abbrev pub contact_of : Entry → Contact
+contact_of e = record { key = key_of e.touch; impulses = e.impulses }
+
+-- how easily impulses move a body; both are 0 of a static one
+pub record Mass : Type 0 where
+  pub inverse_mass : ℤ
+  pub inverse_inertia : ℤ
+
+abbrev pub no_mass : Mass
+no_mass = record { inverse_mass = pos 0; inverse_inertia = pos 0 }
+
+-- what impulses at a contact depend on and no velocity changes
+pub record Constraint : Type 0 where
+  pub normal : V2
+  pub tangent : V2
+  pub first_arm : V2
+  pub second_arm : V2
+  pub normal_mass : ℤ
+  pub tangent_mass : ℤ
+  pub bias : ℤ
+  pub friction : ℤ
+
+-- an entry with the masses of its bodies and its constraint, as a pre-step left them
+pub record Row : Type 0 where
+  pub entry : Entry
+  pub first_mass : Mass
+  pub second_mass : Mass
+  pub constraint : Constraint
+
+-- a static body, or one of so many
+abbrev pub IsSide : ℕ → Side → Type 0
+IsSide bodies Static = Unit {0}
+IsSide bodies (Moving place) = place < bodies
+
+-- two bodies that move are different
+abbrev pub AreApart : Side → Side → Type 0
+AreApart (Moving first) (Moving second) = first ≢ second
+AreApart first second = Unit {0}
+
+-- both bodies of an entry stand in a list of so many, and are different
+pub record IsEntryOf (bodies : ℕ) (e : Entry) : Type 0 where
+  pub first : IsSide bodies e.first
+  pub second : IsSide bodies e.second
+  pub apart : AreApart e.first e.second

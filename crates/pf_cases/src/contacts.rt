@@ -1,0 +1,85 @@
+//! Contacts from tick to tick, by hand.
+
+use crate::scenes::scene_of;
+use pf_broad::pairs;
+use pf_cache::{Contacts, Impulses, Meter};
+use pf_manifold::collide_list;
+use pf_num::Fx;
+use std::alloc::Global;
+use std::test::Fail;
+
+/// A static box, and two boxes that stand on it.
+const BOTH_STAND: &[u8] = b"gravity 0 0
+box - 0 0 17179869184 16777216 0 -16777216 16777216 0
+box - 16777216 0 16777216 16777216 -67108864 16777216 16777216 0
+box - 16777216 0 16777216 16777216 67108864 16777216 16777216 0
+end
+";
+
+/// The same with the first of the two in the air.
+const ONE_STANDS: &[u8] = b"gravity 0 0
+box - 0 0 17179869184 16777216 0 -16777216 16777216 0
+box - 16777216 0 16777216 16777216 -67108864 67108864 16777216 0
+box - 16777216 0 16777216 16777216 67108864 16777216 16777216 0
+end
+";
+
+/// Impulses that a contact may have accumulated.
+const SOME: Impulses = Impulses {
+    normal: Fx::ONE,
+    tangent: Fx::TICK,
+};
+
+/// The contacts of a scene's bodies at their starts, after these.
+fn next(alloc: Global, contacts: &Contacts, text: &[u8]) -> Result<Contacts, Fail> {
+    let scene = scene_of(alloc, text)?;
+    let starts = scene.starts();
+    if scene.fixtures().len() != starts.len() {
+        return Err(Fail::from("each body has a start"));
+    }
+    let pairs = pairs(alloc, &scene, starts)?;
+    let touches = collide_list(alloc, &scene, starts, &pairs)?;
+    Ok(contacts.update(&touches)?)
+}
+
+#[test]
+fn contacts_keep_their_impulses(rt: HostRuntime) -> Result<(), Fail> {
+    let alloc = rt.alloc();
+    let mut contacts = next(alloc, &Contacts::new(alloc), BOTH_STAND)?;
+    if contacts.as_slice().len() != 4 {
+        return Err(Fail::from("four contacts"));
+    }
+    contacts.set_impulses(3, SOME);
+    let fewer = next(alloc, &contacts, ONE_STANDS)?;
+    let keys = fewer.as_slice().iter().map(|c| (c.key.a, c.key.b, c.key.feature));
+    assert!(rt; keys.eq([(0, 2, 28), (0, 2, 29)]));
+    let impulses = fewer.as_slice().iter().map(|c| c.impulses);
+    assert!(rt; impulses.eq([Impulses::NONE, SOME]));
+    Ok(())
+}
+
+#[test]
+fn contacts_come_back_without_impulses(rt: HostRuntime) -> Result<(), Fail> {
+    let alloc = rt.alloc();
+    let mut contacts = next(alloc, &Contacts::new(alloc), BOTH_STAND)?;
+    let first = contacts.try_clone()?;
+    if first.as_slice().is_empty() {
+        return Err(Fail::from("contacts"));
+    }
+    contacts.set_impulses(0, SOME);
+    assert!(rt; contacts != first);
+    let fewer = next(alloc, &contacts, ONE_STANDS)?;
+    assert!(rt; next(alloc, &fewer, BOTH_STAND)? == first);
+    Ok(())
+}
+
+#[test]
+fn counts_stay_at_their_greatest(rt: HostRuntime) -> Result<(), Fail> {
+    let mut meter = Meter::NONE;
+    meter.count_tick();
+    meter.count_collides(3);
+    assert_eq!(rt; (meter.ticks, meter.collides), (1, 3));
+    meter.count_collides(u64::MAX - 1);
+    assert_eq!(rt; meter.collides, u64::MAX);
+    Ok(())
+}

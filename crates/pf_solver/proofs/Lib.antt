@@ -1,0 +1,4 @@
+-- The lemmas of this crate.
+pub mod Passes
+pub mod Prepared
+pub mod Limits

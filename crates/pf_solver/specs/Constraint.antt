@@ -1,0 +1,64 @@
+-- What the impulses of a contact depend on and no velocity changes, as Box2D-Lite's
+-- Arbiter::PreStep: it is made once a tick, from the positions of both bodies.
+use Rattle.std.specs.Prelude.{ℤ, pos, neg_ℤ}
+use Rattle.std.specs.Int.{int_min, int_max}
+use Rattle.pf_num.specs.Fx.{one, sum, difference, product, quotient, root}
+use Rattle.pf_rot.specs.Vector.{V2, sub, dot}
+use Rattle.pf_manifold.specs.ContactPoint.{ContactPoint}
+use Rattle.pf_cache.specs.Row.{Constraint, Mass}
+use Rattle.pf_solver.specs.declared.constraint.TheConstants.{BIAS_FACTOR, SLOP}
+
+-- the tangent: the normal turned clockwise by a quarter
+abbrev pub tangent_of : V2 → V2
+tangent_of n = record { x = n.y; y = neg_ℤ n.x }
+
+-- how far from the centre an impulse along this direction acts, squared: the squared arm, less the
+-- square of its part along the direction, and not below 0 by roundings
+unfoldable pub lever : V2 → V2 → ℤ
+lever arm direction =
+    int_max (pos 0)
+    (difference (dot arm arm) (product (dot arm direction) (dot arm direction)))
+
+-- how much an impulse of 1 along this direction changes the speed at which the bodies part
+unfoldable pub mobility : Mass → Mass → V2 → V2 → V2 → ℤ
+mobility a b first_arm second_arm direction =
+    sum (sum a.inverse_mass b.inverse_mass)
+    (sum (product a.inverse_inertia (lever first_arm direction))
+    (product b.inverse_inertia (lever second_arm direction)))
+
+-- the effective mass along a direction
+abbrev pub effective_mass : Mass → Mass → V2 → V2 → V2 → ℤ
+effective_mass a b first_arm second_arm direction =
+    quotient one (mobility a b first_arm second_arm direction)
+
+-- Baumgarte's bias: the speed at which bodies part that overlap by more than the slop
+unfoldable pub bias_of : ℤ → ℤ
+bias_of separation =
+    neg_ℤ (product BIAS_FACTOR (int_min (pos 0) (sum separation SLOP)))
+
+-- the coefficient of friction of two bodies, from that of each
+unfoldable pub friction_of : ℤ → ℤ → ℤ
+friction_of first second = root (product first second)
+
+-- a body as the pre-step sees it
+pub record Anchor : Type 0 where
+  pub position : V2
+  pub mass : Mass
+  pub friction : ℤ
+
+-- the constraint of a contact point of two bodies
+unfoldable pub constraint_of : Anchor → Anchor → ContactPoint → Constraint
+constraint_of a b point =
+    let first_arm = sub point.position a.position in
+    let second_arm = sub point.position b.position in
+    let tangent = tangent_of point.normal in
+    record {
+      normal = point.normal;
+      tangent = tangent;
+      first_arm = first_arm;
+      second_arm = second_arm;
+      normal_mass = effective_mass a.mass b.mass first_arm second_arm point.normal;
+      tangent_mass = effective_mass a.mass b.mass first_arm second_arm tangent;
+      bias = bias_of point.separation;
+      friction = friction_of a.friction b.friction;
+    }

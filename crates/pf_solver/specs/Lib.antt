@@ -1,0 +1,6 @@
+-- What the contracts of this crate cite.
+pub mod Constraint
+pub mod Impulse
+pub mod Velocities
+pub mod Bodies
+pub mod Solve

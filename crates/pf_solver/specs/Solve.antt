@@ -1,0 +1,71 @@
+-- One tick of a list of bodies with the contacts between them, as Box2D-Lite's World::Step: Gravity,
+-- Pre-step, warm starting, Rounds, Positions; and for how long each body has been still.
+use Rattle.std.specs.Prelude.{ℕ, ◌<◌, pos, List, length, map, None, slice_index_or}
+use Rattle.pf_shapes.specs.declared.fixture.Shape.TheVariants.{Circle}
+use Rattle.pf_shapes.specs.Fixture.{Fixture, inverse_mass, inverse_inertia}
+use Rattle.pf_shapes.specs.Body.{BodyState}
+use Rattle.pf_shapes.specs.Scene.{Scene}
+use Rattle.pf_cache.specs.declared.row.Side.{Side}
+use Rattle.pf_cache.specs.declared.row.Side.TheVariants.{Static, Moving}
+use Rattle.pf_cache.specs.Row.{IsEntryOf, Mass, Row, no_mass}
+use Rattle.pf_solver.specs.declared.velocities.TheConstants.{ROUNDS}
+use Rattle.pf_solver.specs.Bodies.{after_gravity, after_motion, after_timer, gravity_per_tick}
+use Rattle.pf_solver.specs.Constraint.{Anchor, constraint_of}
+use Rattle.pf_solver.specs.Impulse.{after_round, after_warm_start}
+use Rattle.pf_solver.specs.Velocities.{Batch, no_state, pass, passes}
+
+-- how easily impulses move a body of this fixture
+abbrev pub mass_of : Fixture → Mass
+mass_of f = record { inverse_mass = inverse_mass f; inverse_inertia = inverse_inertia f }
+
+-- read where a scene has no such body, which no entry of the scene names
+abbrev pub no_fixture : Fixture
+no_fixture = record { shape = Circle (pos 0); mass = pos 0; friction = pos 0; owner = None }
+
+-- the fixture of a body
+abbrev pub fixture_at : Scene → ℕ → Fixture
+fixture_at s number = slice_index_or s.fixtures number no_fixture
+
+-- the body of a number as the pre-step sees it: a static one at its start, another at its place in
+-- the list
+unfoldable pub anchor_at : Scene → List BodyState → ℕ → Side → Anchor
+anchor_at s bodies number Static = record {
+  position = (slice_index_or s.starts number no_state).position;
+  mass = no_mass;
+  friction = (fixture_at s number).friction;
+}
+anchor_at s bodies number (Moving place) = record {
+  position = (slice_index_or bodies place no_state).position;
+  mass = mass_of (fixture_at s number);
+  friction = (fixture_at s number).friction;
+}
+
+-- a row of bodies of the scene, of which so many are solved
+pub record IsRowOf (s : Scene) (bodies : ℕ) (r : Row) : Type 0 where
+  pub first : r.entry.touch.a < length s.fixtures
+  pub second : r.entry.touch.b < length s.fixtures
+  pub sides : IsEntryOf bodies r.entry
+
+-- a row after the pre-step, by its entry alone
+unfoldable pub prepared_row : Scene → List BodyState → Row → Row
+prepared_row s bodies r =
+    let a = anchor_at s bodies r.entry.touch.a r.entry.first in
+    let b = anchor_at s bodies r.entry.touch.b r.entry.second in
+    record {
+      entry = r.entry;
+      first_mass = a.mass;
+      second_mass = b.mass;
+      constraint = constraint_of a b r.entry.touch.point;
+    }
+
+-- Velocities: gravity on all bodies, the pre-step, warm starting along the list, and ten rounds
+abbrev pub solved_velocities : Scene → List BodyState → List Row → Batch
+solved_velocities s bodies rows =
+    let fallen = map (after_gravity (gravity_per_tick s.gravity)) bodies in
+    passes ROUNDS after_round (pass after_warm_start fallen (map (prepared_row s fallen) rows))
+
+-- the bodies and rows after the tick
+unfoldable pub solved : Scene → List BodyState → List Row → Batch
+solved s bodies rows =
+    let after = solved_velocities s bodies rows in
+    record after { bodies = map (λ b. after_timer (after_motion b)) after.bodies }

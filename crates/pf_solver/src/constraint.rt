@@ -1,0 +1,123 @@
+//! The pre-step of a contact: what its impulses depend on and no velocity changes.
+
+ghost use Rattle.std.specs.Prelude.{◌≡◌};
+ghost use Rattle.pf_solver.specs.Constraint.{bias_of, constraint_of, effective_mass, friction_of, lever, mobility, tangent_of};
+
+use pf_cache::{Constraint, Mass};
+use pf_manifold::ContactPoint;
+use pf_num::Fx;
+use pf_rot::V2;
+use std::marker::Model;
+
+/// Baumgarte's factor, 0.2, for each tick of 1/64 s, in units of 2^-24: Box2D-Lite's `biasFactor`
+/// times `inv_dt`.
+pub const BIAS_FACTOR: i64 = 214_748_352;
+/// 0.01 of a length, Box2D-Lite's `allowedPenetration`, in units of 2^-24: how far bodies overlap
+/// before a bias parts them.
+pub const SLOP: i64 = 167_772;
+
+/// A body as the pre-step sees it.
+#[derive(Clone, Copy)]
+pub struct Anchor {
+    /// The centre.
+    pub position: V2,
+    /// How easily impulses move it.
+    pub mass: Mass,
+    /// Its coefficient of friction.
+    pub friction: Fx,
+}
+
+impl Model for Anchor {
+    ghost use Rattle.pf_solver.specs.Constraint.{Anchor};
+
+    ghost Value = { Anchor };
+
+    ghost view = { λ a. record { position = a.position; mass = a.mass; friction = a.friction } };
+
+    ghost inverse = { λ a. record {
+      position = a.position;
+      mass = a.mass;
+      friction = a.friction;
+    } };
+}
+
+/// The tangent: the normal turned clockwise by a quarter.
+#[inline]
+fn tangent_of(normal: V2) -> V2
+    ensures { result ≡ tangent_of normal }
+{
+    V2 {
+        x: normal.y,
+        y: normal.x.neg(),
+    }
+}
+
+/// How far from the centre an impulse along this direction acts, squared.
+#[inline]
+#[tactic(auto, unfolding(crate::specs::Constraint::lever))]
+fn lever(arm: V2, direction: V2) -> Fx
+    ensures { result ≡ lever arm direction }
+{
+    let along = arm.dot(direction);
+    Fx::ZERO.max(arm.dot(arm).sub(along.mul(along)))
+}
+
+/// How much an impulse of 1 along this direction changes the speed at which the bodies part.
+#[inline]
+#[tactic(auto, unfolding(crate::specs::Constraint::mobility))]
+fn mobility(a: &Mass, b: &Mass, first_arm: V2, second_arm: V2, direction: V2) -> Fx
+    ensures { result ≡ mobility a.now b.now first_arm second_arm direction }
+{
+    let first = a.inverse_inertia.mul(lever(first_arm, direction));
+    let second = b.inverse_inertia.mul(lever(second_arm, direction));
+    a.inverse_mass.add(b.inverse_mass).add(first.add(second))
+}
+
+/// The effective mass along a direction.
+#[inline]
+fn effective_mass(a: &Mass, b: &Mass, first_arm: V2, second_arm: V2, direction: V2) -> Fx
+    ensures { result ≡ effective_mass a.now b.now first_arm second_arm direction }
+{
+    Fx::ONE.div(mobility(a, b, first_arm, second_arm, direction))
+}
+
+/// Baumgarte's bias: the speed at which bodies part that overlap by more than the slop.
+#[inline]
+#[tactic(auto, unfolding(crate::specs::Constraint::bias_of))]
+fn bias_of(separation: Fx) -> Fx
+    ensures { result ≡ bias_of separation }
+{
+    let factor = Fx::from_raw(BIAS_FACTOR).unwrap();
+    let slop = Fx::from_raw(SLOP).unwrap();
+    factor.mul(Fx::ZERO.min(separation.add(slop))).neg()
+}
+
+/// The coefficient of friction of two bodies, from that of each.
+#[inline]
+#[tactic(auto, unfolding(crate::specs::Constraint::friction_of))]
+fn friction_of(first: Fx, second: Fx) -> Fx
+    ensures { result ≡ friction_of first second }
+{
+    first.mul(second).root()
+}
+
+/// The constraint of a contact point of two bodies.
+#[tactic(auto, unfolding(crate::specs::Constraint::constraint_of))]
+pub fn constraint_of(a: &Anchor, b: &Anchor, point: &ContactPoint) -> Constraint
+    ensures { result ≡ constraint_of a.now b.now point.now }
+{
+    let normal = point.normal;
+    let tangent = tangent_of(normal);
+    let first_arm = point.position.sub(a.position);
+    let second_arm = point.position.sub(b.position);
+    Constraint {
+        normal,
+        tangent,
+        first_arm,
+        second_arm,
+        normal_mass: effective_mass(&a.mass, &b.mass, first_arm, second_arm, normal),
+        tangent_mass: effective_mass(&a.mass, &b.mass, first_arm, second_arm, tangent),
+        bias: bias_of(point.separation),
+        friction: friction_of(a.friction, b.friction),
+    }
+}

@@ -1,0 +1,34 @@
+//! Laws of the solver. These functions compute nothing: their clauses are the statements.
+
+ghost use Rattle.std.specs.Prelude.{◌≡◌, ℕ, ◌+◌, ◌*◌, ◌^◌, ◌≤ℤ◌, pos, neg_ℤ, map};
+ghost use Rattle.pf_shapes.specs.Body.{BodyState};
+ghost use Rattle.pf_cache.specs.Row.{Constraint, Row};
+ghost use Rattle.pf_solver.specs.Impulse.{Meeting, after_round, friction_limit};
+ghost use Rattle.pf_solver.specs.Velocities.{Batch, Law, pass};
+
+use crate::bodies::{STILL_SPEED, STILL_SPIN, STILL_TICKS};
+use crate::constraint::{BIAS_FACTOR, SLOP};
+use crate::velocities::ROUNDS;
+
+/// After a round the accumulated normal impulse is not below 0, and the accumulated tangent impulse
+/// is within the limit of friction, where that is not below 0.
+pub fn rounds_keep_the_limits()
+    ensures normal { (c : Constraint) (m : Meeting)
+        → pos 0 ≤ℤ (after_round c m).impulses.normal }
+    ensures friction { (c : Constraint) (m : Meeting)
+        → let limit = friction_limit c (after_round c m).impulses in
+        pos 0 ≤ℤ limit → (neg_ℤ limit ≤ℤ (after_round c m).impulses.tangent)
+        × ((after_round c m).impulses.tangent ≤ℤ limit) }
+{}
+
+/// A still body moves at most 1/64 of a length and turns by at most 1/32 of a radian a second, and
+/// sleeps after 32 such ticks. A tick has ten rounds. Baumgarte's factor is 0.2 for each tick of
+/// 1/64 s, and the slop 0.01 of a length, in units of 2^-24.
+pub fn named_limits()
+    ensures speed { STILL_SPEED ≡ 2 ^ 18 }
+    ensures spin { STILL_SPIN ≡ 2 ^ 19 }
+    ensures ticks { STILL_TICKS ≡ 32 }
+    ensures rounds { ROUNDS ≡ 10 }
+    ensures bias { BIAS_FACTOR ≡ pos (3355443 * 64) }
+    ensures slop { SLOP ≡ pos 167772 }
+{}

@@ -1,0 +1,15 @@
+//! The solver: sequential impulses with accumulated clamps and warm starting, as Box2D-Lite's
+//! `Arbiter` and `World::Step` (Catto, GDC 2006).
+#![tactic(auto)]
+
+mod bodies;
+mod constraint;
+mod impulse;
+pub mod laws;
+mod solve;
+mod velocities;
+
+pub use bodies::{STILL_SPEED, STILL_SPIN, STILL_TICKS, after_gravity, after_motion, after_timer};
+pub use constraint::{BIAS_FACTOR, SLOP};
+pub use solve::solve_list;
+pub use velocities::ROUNDS;

@@ -1,0 +1,117 @@
+//! One tick of a list of bodies with the contacts between them.
+
+ghost use Rattle.std.specs.Prelude.{◌≡◌, ◌<◌, All, length, map};
+ghost use Rattle.pf_cache.specs.Row.{IsSide};
+ghost use Rattle.pf_solver.specs.Bodies.{after_gravity, after_motion, after_timer};
+ghost use Rattle.pf_solver.specs.Solve.{IsRowOf, anchor_at, mass_of, prepared_row, solved};
+
+use crate::bodies::{after_gravity, after_motion, after_timer};
+use crate::constraint::{Anchor, constraint_of};
+use crate::velocities::{rounds, warm_start};
+use pf_cache::{Mass, Row, Side};
+use pf_num::Fx;
+use pf_rot::V2;
+use pf_shapes::{BodyState, Fixture, Scene};
+
+/// How easily impulses move a body of this fixture.
+#[inline]
+fn mass_of(fixture: &Fixture) -> Mass
+    ensures { result ≡ mass_of fixture.now }
+{
+    Mass {
+        inverse_mass: fixture.inverse_mass(),
+        inverse_inertia: fixture.inverse_inertia(),
+    }
+}
+
+/// The body of a number as the pre-step sees it: a static one at its start, another at its place in
+/// the list.
+#[tactic(auto, unfolding(crate::specs::Solve::anchor_at))]
+fn anchor_at(scene: &Scene, bodies: &[BodyState], number: usize, side: Side) -> Anchor
+    requires number { number < length scene.now.fixtures }
+    requires side { IsSide (length bodies.now) side }
+    ensures { result ≡ anchor_at scene.now bodies.now number side }
+{
+    let fixture = &scene.fixtures()[number];
+    let friction = fixture.friction();
+    match side {
+        Side::Static => {
+            let start = &scene.starts()[number];
+            Anchor {
+                position: start.position,
+                mass: Mass::NONE,
+                friction,
+            }
+        }
+        Side::Moving(place) => {
+            let body = &bodies[place];
+            Anchor {
+                position: body.position,
+                mass: mass_of(fixture),
+                friction,
+            }
+        }
+    }
+}
+
+/// The pre-step of a row.
+#[tactic(auto, unfolding(crate::specs::Solve::prepared_row))]
+fn prepare(scene: &Scene, bodies: &[BodyState], row: &mut Row)
+    requires { IsRowOf scene.now (length bodies.now) row.old }
+    ensures { row.new ≡ prepared_row scene.now bodies.now row.old }
+{
+    let entry = row.entry;
+    let first = anchor_at(scene, bodies, entry.touch.a, entry.first);
+    let second = anchor_at(scene, bodies, entry.touch.b, entry.second);
+    *row = Row {
+        entry,
+        first_mass: first.mass,
+        second_mass: second.mass,
+        constraint: constraint_of(&first, &second, &entry.touch.point),
+    };
+}
+
+/// The pre-step of all rows.
+fn prepare_all(scene: &Scene, bodies: &[BodyState], rows: &mut [Row])
+    requires { All (IsRowOf scene.now (length bodies.now)) rows.old }
+    ensures { rows.new ≡ map (prepared_row scene.now bodies.now) rows.old }
+{
+    for row in rows.iter_mut() {
+        prepare(scene, bodies, row);
+    }
+}
+
+/// Gravity on all bodies. `pull` is what it adds to a velocity in a tick.
+#[tactic(auto, using(std::proofs::lemmas::List::Edits::map_over_more))]
+fn fall(pull: V2, bodies: &mut [BodyState])
+    ensures { bodies.new ≡ map (after_gravity pull) bodies.old }
+{
+    for body in bodies.iter_mut() {
+        *body = after_gravity(pull, *body);
+    }
+}
+
+/// Positions and timers of all bodies.
+#[tactic(auto, using(std::proofs::lemmas::List::Edits::map_over_more))]
+fn move_on(bodies: &mut [BodyState])
+    ensures { bodies.new ≡ map (λ b. after_timer (after_motion b)) bodies.old }
+{
+    for body in bodies.iter_mut() {
+        *body = after_timer(after_motion(*body));
+    }
+}
+
+/// One tick of these bodies, with the contacts between them in the order of their keys. What a row
+/// holds beside its entry is made anew. Takes no memory.
+#[tactic(auto, unfolding(crate::specs::Solve::solved))]
+pub fn solve_list(scene: &Scene, bodies: &mut [BodyState], rows: &mut [Row])
+    requires { All (IsRowOf scene.now (length bodies.old)) rows.old }
+    ensures { record { bodies = bodies.new; rows = rows.new }
+        ≡ solved scene.now bodies.old rows.old }
+{
+    fall(scene.gravity().scale(Fx::TICK), bodies);
+    prepare_all(scene, bodies, rows);
+    warm_start(bodies, rows);
+    rounds(bodies, rows);
+    move_on(bodies);
+}

@@ -1,0 +1,153 @@
+//! The velocity phase over one list of contacts, as Box2D-Lite's `World::Step`.
+
+ghost use Rattle.std.specs.Prelude.{◌≡◌, All, length};
+ghost use Rattle.pf_cache.specs.Row.{Constraint, IsEntryOf, IsSide};
+ghost use Rattle.pf_solver.specs.Impulse.{Meeting, after_round, after_warm_start};
+ghost use Rattle.pf_solver.specs.Velocities.{Batch, bodies_after, bodies_with, meeting_at, motion_at, pass, passes, row_after};
+
+use crate::impulse::{Meeting, Motion, after_round, after_warm_start};
+use pf_cache::{Constraint, Mass, Row, Side};
+use pf_num::Fx;
+use pf_rot::V2;
+use pf_shapes::BodyState;
+
+/// How many rounds there are in a tick, Box2D-Lite's `iterations`.
+pub const ROUNDS: usize = 10;
+
+/// What a contact does to its bodies and to its accumulated impulses.
+trait ContactLaw {
+    ghost law: { Constraint → Meeting → Meeting };
+
+    fn after(constraint: &Constraint, meeting: &Meeting) -> Meeting
+        ensures { result ≡ law constraint.now meeting.now };
+}
+
+/// Warm starting.
+struct WarmStart;
+
+impl ContactLaw for WarmStart {
+    ghost use Rattle.pf_solver.specs.Impulse.{after_warm_start};
+
+    ghost law = { after_warm_start };
+
+    #[inline]
+    fn after(constraint: &Constraint, meeting: &Meeting) -> Meeting {
+        after_warm_start(constraint, meeting)
+    }
+}
+
+/// One round.
+struct Round;
+
+impl ContactLaw for Round {
+    ghost use Rattle.pf_solver.specs.Impulse.{after_round};
+
+    ghost law = { after_round };
+
+    #[inline]
+    fn after(constraint: &Constraint, meeting: &Meeting) -> Meeting {
+        after_round(constraint, meeting)
+    }
+}
+
+/// The motion of the body on a side.
+#[inline]
+#[tactic(auto, unfolding(crate::specs::Velocities::motion_at))]
+fn motion_at(bodies: &[BodyState], mass: Mass, side: Side) -> Motion
+    requires { IsSide (length bodies.now) side }
+    ensures { result ≡ motion_at bodies.now mass side }
+{
+    match side {
+        Side::Static => Motion {
+            velocity: V2::ZERO,
+            spin: Fx::ZERO,
+            mass: Mass::NONE,
+        },
+        Side::Moving(place) => {
+            let body = &bodies[place];
+            Motion {
+                velocity: body.velocity,
+                spin: body.spin,
+                mass,
+            }
+        }
+    }
+}
+
+/// Gives the body on a side this motion.
+#[inline]
+#[tactic(auto, unfolding(crate::specs::Velocities::bodies_with))]
+fn set_motion(bodies: &mut [BodyState], side: Side, motion: &Motion)
+    requires { IsSide (length bodies.old) side }
+    ensures { bodies.new ≡ bodies_with bodies.old side motion.now }
+{
+    if let Side::Moving(place) = side {
+        let body = bodies[place];
+        bodies[place] = BodyState {
+            velocity: motion.velocity,
+            spin: motion.spin,
+            ..body
+        };
+    }
+}
+
+/// The bodies of a row, and its accumulated impulses.
+#[inline]
+#[tactic(auto, unfolding(crate::specs::Velocities::meeting_at))]
+fn meeting_at(bodies: &[BodyState], row: &Row) -> Meeting
+    requires { IsEntryOf (length bodies.now) row.now.entry }
+    ensures { result ≡ meeting_at bodies.now row.now }
+{
+    let entry = &row.entry;
+    Meeting {
+        first: motion_at(bodies, row.first_mass, entry.first),
+        second: motion_at(bodies, row.second_mass, entry.second),
+        impulses: entry.impulses,
+    }
+}
+
+/// The law of one row.
+#[inline]
+#[tactic(auto, unfolding(crate::specs::Velocities::bodies_after, crate::specs::Velocities::row_after))]
+fn solve_row<L: ContactLaw>(bodies: &mut [BodyState], row: &mut Row)
+    requires { IsEntryOf (length bodies.old) row.old.entry }
+    ensures bodies { bodies.new ≡ bodies_after L.law bodies.old row.old }
+    ensures row { row.new ≡ row_after L.law bodies.old row.old }
+{
+    let after = L::after(&row.constraint, &meeting_at(bodies, row));
+    set_motion(bodies, row.entry.first, &after.first);
+    set_motion(bodies, row.entry.second, &after.second);
+    row.entry.impulses = after.impulses;
+}
+
+/// The law of each row, by the bodies that the row before it left.
+fn pass<L: ContactLaw>(bodies: &mut [BodyState], rows: &mut [Row])
+    requires { All (λ r. IsEntryOf (length bodies.old) r.entry) rows.old }
+    ensures value { record { bodies = bodies.new; rows = rows.new } ≡ pass L.law bodies.old rows.old }
+    ensures rows { All (λ r. IsEntryOf (length bodies.new) r.entry) rows.new }
+{
+    for row in rows.iter_mut() {
+        solve_row::<L>(bodies, row);
+    }
+}
+
+/// Warm starting along the rows.
+pub(crate) fn warm_start(bodies: &mut [BodyState], rows: &mut [Row])
+    requires { All (λ r. IsEntryOf (length bodies.old) r.entry) rows.old }
+    ensures value { record { bodies = bodies.new; rows = rows.new }
+        ≡ pass after_warm_start bodies.old rows.old }
+    ensures rows { All (λ r. IsEntryOf (length bodies.new) r.entry) rows.new }
+{
+    pass::<WarmStart>(bodies, rows);
+}
+
+/// All rounds.
+pub(crate) fn rounds(bodies: &mut [BodyState], rows: &mut [Row])
+    requires { All (λ r. IsEntryOf (length bodies.old) r.entry) rows.old }
+    ensures { record { bodies = bodies.new; rows = rows.new }
+        ≡ passes ROUNDS after_round (record { bodies = bodies.old; rows = rows.old }) }
+{
+    for _ in 0..ROUNDS {
+        pass::<Round>(bodies, rows);
+    }
+}
