@@ -1,7 +1,7 @@
 -- A contact of a tick as the solver takes it, as Box2D-Lite's Arbiter with its Contact: its point,
 -- its accumulated impulses, where its bodies stand, and what its pre-step found.
 use Rattle.std.specs.Prelude.{◌≢◌, ℕ, ◌<◌, ℤ, pos}
-use Rattle.pf_rot.specs.Vector.{V2}
+use Rattle.pf_rot.specs.Vector.{V2, zero_vector}
 use Rattle.pf_manifold.specs.Touches.{Touch}
 use Rattle.pf_cache.specs.declared.row.Side.{Side}
 use Rattle.pf_cache.specs.declared.row.Side.TheVariants.{Static, Moving}
@@ -38,12 +38,33 @@ pub record Constraint : Type 0 where
   pub bias : ℤ
   pub friction : ℤ
 
+abbrev pub no_constraint : Constraint
+no_constraint = record {
+  normal = zero_vector;
+  tangent = zero_vector;
+  first_arm = zero_vector;
+  second_arm = zero_vector;
+  normal_mass = pos 0;
+  tangent_mass = pos 0;
+  bias = pos 0;
+  friction = pos 0;
+}
+
 -- an entry with the masses of its bodies and its constraint, as a pre-step left them
 pub record Row : Type 0 where
   pub entry : Entry
   pub first_mass : Mass
   pub second_mass : Mass
   pub constraint : Constraint
+
+-- an entry before its pre-step
+abbrev pub new_row : Entry → Row
+new_row e = record {
+  entry = e;
+  first_mass = no_mass;
+  second_mass = no_mass;
+  constraint = no_constraint;
+}
 
 -- a static body, or one of so many
 abbrev pub IsSide : ℕ → Side → Type 0

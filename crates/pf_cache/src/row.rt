@@ -1,7 +1,7 @@
 //! Rows: contacts as the solver takes them, as Box2D-Lite's `Arbiter` with its `Contact`.
 
 ghost use Rattle.std.specs.Prelude.{◌≡◌};
-ghost use Rattle.pf_cache.specs.Row.{contact_of, no_mass};
+ghost use Rattle.pf_cache.specs.Row.{contact_of, new_row};
 
 use crate::contact::{Contact, Impulses};
 use pf_manifold::{Key, Touch};
@@ -147,6 +147,20 @@ impl Model for Constraint {
     } };
 }
 
+impl Constraint {
+    /// That of a row before its pre-step.
+    const NONE: Constraint = Constraint {
+        normal: V2::ZERO,
+        tangent: V2::ZERO,
+        first_arm: V2::ZERO,
+        second_arm: V2::ZERO,
+        normal_mass: Fx::ZERO,
+        tangent_mass: Fx::ZERO,
+        bias: Fx::ZERO,
+        friction: Fx::ZERO,
+    };
+}
+
 /// An entry with the masses of its bodies and its constraint, as a pre-step left them.
 #[derive(Clone, Copy, Debug)]
 pub struct Row {
@@ -178,4 +192,18 @@ impl Model for Row {
       second_mass = r.second_mass;
       constraint = r.constraint;
     } };
+}
+
+impl Row {
+    /// An entry before its pre-step.
+    pub fn new(entry: Entry) -> Row
+        ensures { result ≡ new_row entry }
+    {
+        Row {
+            entry,
+            first_mass: Mass::NONE,
+            second_mass: Mass::NONE,
+            constraint: Constraint::NONE,
+        }
+    }
 }

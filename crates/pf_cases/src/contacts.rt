@@ -51,7 +51,10 @@ fn contacts_keep_their_impulses(rt: HostRuntime) -> Result<(), Fail> {
     }
     contacts.set_impulses(3, SOME);
     let fewer = next(alloc, &contacts, ONE_STANDS)?;
-    let keys = fewer.as_slice().iter().map(|c| (c.key.a, c.key.b, c.key.feature));
+    let keys = fewer
+        .as_slice()
+        .iter()
+        .map(|c| (c.key.a, c.key.b, c.key.feature));
     assert!(rt; keys.eq([(0, 2, 28), (0, 2, 29)]));
     let impulses = fewer.as_slice().iter().map(|c| c.impulses);
     assert!(rt; impulses.eq([Impulses::NONE, SOME]));

@@ -19,4 +19,6 @@ mod scenes;
 #[cfg(test)]
 mod sessions;
 #[cfg(test)]
+mod solving;
+#[cfg(test)]
 mod steps;

@@ -9,10 +9,10 @@ use Rattle.pf_cache.specs.declared.row.Side.TheVariants.{Static, Moving}
 use Rattle.pf_cache.specs.Contact.{Impulses}
 use Rattle.pf_cache.specs.Row.{IsEntryOf, Row}
 use Rattle.pf_solver.specs.Impulse.{Motion}
-use Rattle.pf_solver.specs.Velocities.{Batch, Law, bodies_after, bodies_with, pass, passes, row_after}
+use Rattle.pf_solver.specs.Velocities.{Batch, Law, bodies_after, with_motion, pass, passes, row_after}
 
-with_length : (bodies : List BodyState) (side : Side) (m : Motion) → length (bodies_with bodies side m) ≡ length bodies
-unfolding bodies_with
+with_length : (bodies : List BodyState) (side : Side) (m : Motion) → length (with_motion bodies side m) ≡ length bodies
+unfolding with_motion
 with_length bodies Static m = refl
 with_length bodies (Moving place) m = length-set bodies place _
 

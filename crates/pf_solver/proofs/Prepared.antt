@@ -1,5 +1,5 @@
 -- Rows after the pre-step.
-use Rattle.std.proofs.Common.{◌≡◌, ℕ, List, length, map, subst, sym}
+use Rattle.std.proofs.Common.{◌≡◌, ℕ, List, map, subst, sym}
 use Rattle.std.proofs.lemmas.List.Elements.{All-map, All-weaker}
 use Rattle.std.specs.Prelude.{All}
 use Rattle.pf_shapes.specs.Body.{BodyState}

@@ -7,8 +7,8 @@ use Rattle.pf_rot.specs.Rotation.{upright}
 use Rattle.pf_shapes.specs.Body.{BodyState}
 use Rattle.pf_cache.specs.declared.row.Side.{Side}
 use Rattle.pf_cache.specs.declared.row.Side.TheVariants.{Static, Moving}
-use Rattle.pf_cache.specs.Row.{Constraint, Entry, Mass, Row, no_mass}
-use Rattle.pf_solver.specs.Impulse.{Meeting, Motion, after_round, after_warm_start}
+use Rattle.pf_cache.specs.Row.{Constraint, Mass, Row, no_mass}
+use Rattle.pf_solver.specs.Impulse.{Meeting, Motion}
 
 -- a static body at a contact: it does not move, and no impulse moves it
 abbrev pub static_motion : Motion
@@ -39,9 +39,9 @@ motion_at bodies mass Static = static_motion
 motion_at bodies mass (Moving place) = motion_of mass (slice_index_or bodies place no_state)
 
 -- the bodies where the one on a side has this motion
-unfoldable pub bodies_with : List BodyState → Side → Motion → List BodyState
-bodies_with bodies Static m = bodies
-bodies_with bodies (Moving place) m =
+unfoldable pub with_motion : List BodyState → Side → Motion → List BodyState
+with_motion bodies Static m = bodies
+with_motion bodies (Moving place) m =
     slice_set bodies place (body_with m (slice_index_or bodies place no_state))
 
 -- the bodies of a row, and its accumulated impulses
@@ -60,7 +60,7 @@ Law = Constraint → Meeting → Meeting
 unfoldable pub bodies_after : Law → List BodyState → Row → List BodyState
 bodies_after law bodies r =
     let m = law r.constraint (meeting_at bodies r) in
-    bodies_with (bodies_with bodies r.entry.first m.first) r.entry.second m.second
+    with_motion (with_motion bodies r.entry.first m.first) r.entry.second m.second
 
 -- the row after its law
 unfoldable pub row_after : Law → List BodyState → Row → Row

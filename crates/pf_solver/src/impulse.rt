@@ -98,8 +98,12 @@ fn relative_velocity(constraint: &Constraint, meeting: &Meeting) -> V2
     ensures { result ≡ relative_velocity constraint.now meeting.now }
 {
     let (first, second) = (&meeting.first, &meeting.second);
-    let of_first = first.velocity.add(cross_sv(first.spin, constraint.first_arm));
-    let of_second = second.velocity.add(cross_sv(second.spin, constraint.second_arm));
+    let of_first = first
+        .velocity
+        .add(cross_sv(first.spin, constraint.first_arm));
+    let of_second = second
+        .velocity
+        .add(cross_sv(second.spin, constraint.second_arm));
     of_second.sub(of_first)
 }
 

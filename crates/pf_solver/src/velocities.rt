@@ -3,7 +3,7 @@
 ghost use Rattle.std.specs.Prelude.{◌≡◌, All, length};
 ghost use Rattle.pf_cache.specs.Row.{Constraint, IsEntryOf, IsSide};
 ghost use Rattle.pf_solver.specs.Impulse.{Meeting, after_round, after_warm_start};
-ghost use Rattle.pf_solver.specs.Velocities.{Batch, bodies_after, bodies_with, meeting_at, motion_at, pass, passes, row_after};
+ghost use Rattle.pf_solver.specs.Velocities.{Batch, bodies_after, with_motion, meeting_at, motion_at, pass, passes, row_after};
 
 use crate::impulse::{Meeting, Motion, after_round, after_warm_start};
 use pf_cache::{Constraint, Mass, Row, Side};
@@ -76,10 +76,10 @@ fn motion_at(bodies: &[BodyState], mass: Mass, side: Side) -> Motion
 
 /// Gives the body on a side this motion.
 #[inline]
-#[tactic(auto, unfolding(crate::specs::Velocities::bodies_with))]
+#[tactic(auto, unfolding(crate::specs::Velocities::with_motion))]
 fn set_motion(bodies: &mut [BodyState], side: Side, motion: &Motion)
     requires { IsSide (length bodies.old) side }
-    ensures { bodies.new ≡ bodies_with bodies.old side motion.now }
+    ensures { bodies.new ≡ with_motion bodies.old side motion.now }
 {
     if let Side::Moving(place) = side {
         let body = bodies[place];

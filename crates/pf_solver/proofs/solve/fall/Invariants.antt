@@ -1,5 +1,5 @@
 use Rattle.std.proofs.Common.{◌≡◌, map, take, drop, ◌++◌}
-use Rattle.pf_solver.specs.Bodies.{after_gravity, after_motion, after_timer}
+use Rattle.pf_solver.specs.Bodies.{after_gravity}
 use Rattle.pf_solver.proofs.solve.fall.Given as goal
 
 abbrev pub invariant-loop-body : goal.invariant-loop-body
