@@ -19,7 +19,7 @@ pub record Entry : Type 0 where
 abbrev pub contact_of : Entry → Contact
 contact_of e = record { key = key_of e.touch; impulses = e.impulses }
 
--- how easily impulses move a body; both are 0 of a static one
+-- how easily impulses move a body; both are 0 for a static body
 pub record Mass : Type 0 where
   pub inverse_mass : ℤ
   pub inverse_inertia : ℤ
@@ -27,7 +27,7 @@ pub record Mass : Type 0 where
 abbrev pub no_mass : Mass
 no_mass = record { inverse_mass = pos 0; inverse_inertia = pos 0 }
 
--- what impulses at a contact depend on and no velocity changes
+-- the part of a contact that stays fixed during the rounds
 pub record Constraint : Type 0 where
   pub normal : V2
   pub tangent : V2
@@ -66,7 +66,7 @@ new_row e = record {
   constraint = no_constraint;
 }
 
--- a static body, or one of so many
+-- a static body, or one of n bodies
 abbrev pub IsSide : ℕ → Side → Type 0
 IsSide bodies Static = Unit {0}
 IsSide bodies (Moving place) = place < bodies
@@ -76,7 +76,7 @@ abbrev pub AreApart : Side → Side → Type 0
 AreApart (Moving first) (Moving second) = first ≢ second
 AreApart first second = Unit {0}
 
--- both bodies of an entry stand in a list of so many, and are different
+-- both bodies of an entry stand in a list of n bodies, and are different
 pub record IsEntryOf (bodies : ℕ) (e : Entry) : Type 0 where
   pub first : IsSide bodies e.first
   pub second : IsSide bodies e.second

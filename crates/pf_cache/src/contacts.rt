@@ -90,8 +90,8 @@ impl Contacts {
         self.list.as_slice()
     }
 
-    /// The contacts of these points, as Box2D-Lite's `Arbiter::Update`: a contact whose key is
-    /// there keeps its impulses, a new one has none, and a contact without a point is gone. The
+    /// The contacts of these points, as Box2D-Lite's `Arbiter::Update`: a key of the old contacts
+    /// keeps its impulses, a new key has none, and a contact without a point is gone. The
     /// points are in the order of their keys. Takes no memory where there are none.
     pub fn update(&self, touches: &[Touch]) -> Result<Contacts, AllocError>
         requires { AreTouches touches.now }

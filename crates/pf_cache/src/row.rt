@@ -12,7 +12,7 @@ use std::marker::Model;
 /// Where a body of a contact stands.
 #[derive(Clone, Copy, Debug, PartialEq, Eq)]
 pub enum Side {
-    /// In no list: impulses do not move the body.
+    /// It is static, so it stands in no list, and impulses do not move it.
     Static,
     /// At this place in the list of bodies that are solved.
     Moving(usize),
@@ -97,8 +97,8 @@ impl Mass {
     };
 }
 
-/// What the impulses of a contact depend on and no velocity changes, as what Box2D-Lite's
-/// `Arbiter::PreStep` leaves in a `Contact`. In units of 2^-24.
+/// The part of a contact that stays fixed during the rounds, which Box2D-Lite's `Arbiter::PreStep`
+/// leaves in a `Contact`. In units of 2^-24.
 #[derive(Clone, Copy, Debug)]
 pub struct Constraint {
     /// The normal, from the first body to the second.

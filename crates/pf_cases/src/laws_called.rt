@@ -60,6 +60,7 @@ fn laws_of_contacts(rt: HostRuntime) {
     use pf_solver::laws;
     contacts::contacts_are_found();
     contacts::updates_have_the_keys_of_points();
+    contacts::named_values();
     laws::rounds_keep_the_limits();
     laws::named_limits();
     assert!(rt; STILL_SPEED == 262_144 && STILL_SPIN == 524_288 && STILL_TICKS == 32);

@@ -1,5 +1,5 @@
--- What the impulses of a contact depend on and no velocity changes, as Box2D-Lite's
--- Arbiter::PreStep: it is made once a tick, from the positions of both bodies.
+-- The part of a contact that stays fixed during the rounds, as Box2D-Lite's Arbiter::PreStep: it is
+-- made once a tick, from the positions of both bodies.
 use Rattle.std.specs.Prelude.{ℤ, pos, neg_ℤ}
 use Rattle.std.specs.Int.{int_min, int_max}
 use Rattle.pf_num.specs.Fx.{one, sum, difference, product, quotient, root}
@@ -19,7 +19,8 @@ lever arm direction =
     int_max (pos 0)
     (difference (dot arm arm) (product (dot arm direction) (dot arm direction)))
 
--- how much an impulse of 1 along this direction changes the speed at which the bodies part
+-- the inverse of the effective mass along a direction, Box2D-Lite's kNormal and kTangent: by how
+-- much an impulse of 1 changes the relative speed
 unfoldable pub mobility : Mass → Mass → V2 → V2 → V2 → ℤ
 mobility a b first_arm second_arm direction =
     sum (sum a.inverse_mass b.inverse_mass)
@@ -31,7 +32,7 @@ abbrev pub effective_mass : Mass → Mass → V2 → V2 → V2 → ℤ
 effective_mass a b first_arm second_arm direction =
     quotient one (mobility a b first_arm second_arm direction)
 
--- Baumgarte's bias: the speed at which bodies part that overlap by more than the slop
+-- Baumgarte's bias: the speed at which bodies part, where they overlap by more than the slop
 unfoldable pub bias_of : ℤ → ℤ
 bias_of separation =
     neg_ℤ (product BIAS_FACTOR (int_min (pos 0) (sum separation SLOP)))

@@ -40,13 +40,13 @@ after_impulse c impulse m = record m {
   second = second_after c.second_arm impulse m.second;
 }
 
--- the velocity of the contact point of the second body, as seen from that of the first
+-- the relative velocity at the contact: of the second body's point, as seen from the first's
 unfoldable pub relative_velocity : Constraint → Meeting → V2
 relative_velocity c m =
     sub (add m.second.velocity (cross_sv m.second.spin c.second_arm))
     (add m.first.velocity (cross_sv m.first.spin c.first_arm))
 
--- warm starting: the impulses of the last tick are given again
+-- warm starting: the impulses of the last tick are applied again
 unfoldable pub after_warm_start : Constraint → Meeting → Meeting
 after_warm_start c m =
     after_impulse c (add (scale m.impulses.normal c.normal) (scale m.impulses.tangent c.tangent)) m
@@ -71,14 +71,14 @@ tangent_impulse c m =
     (sum m.impulses.tangent
     (product c.tangent_mass (neg_ℤ (dot (relative_velocity c m) c.tangent)))))
 
--- the normal impulse is accumulated, and what was added is given
+-- the normal impulse is accumulated, and what was added is applied
 unfoldable pub after_normal_step : Constraint → Meeting → Meeting
 after_normal_step c m =
     let total = normal_impulse c m in
     let after = after_impulse c (scale (difference total m.impulses.normal) c.normal) m in
     record after { impulses = record m.impulses { normal = total } }
 
--- the same of the tangent impulse
+-- the same for the tangent impulse
 unfoldable pub after_friction_step : Constraint → Meeting → Meeting
 after_friction_step c m =
     let total = tangent_impulse c m in

@@ -1,4 +1,4 @@
-//! The pre-step of a contact: what its impulses depend on and no velocity changes.
+//! The pre-step of a contact: the part of it that stays fixed during the rounds.
 
 ghost use Rattle.std.specs.Prelude.{◌≡◌};
 ghost use Rattle.pf_solver.specs.Constraint.{bias_of, constraint_of, effective_mass, friction_of, lever, mobility, tangent_of};
@@ -62,7 +62,8 @@ fn lever(arm: V2, direction: V2) -> Fx
     Fx::ZERO.max(arm.dot(arm).sub(along.mul(along)))
 }
 
-/// How much an impulse of 1 along this direction changes the speed at which the bodies part.
+/// The inverse of the effective mass along a direction, Box2D-Lite's `kNormal` and `kTangent`: by how
+/// much an impulse of 1 changes the relative speed.
 #[inline]
 #[tactic(auto, unfolding(crate::specs::Constraint::mobility))]
 fn mobility(a: &Mass, b: &Mass, first_arm: V2, second_arm: V2, direction: V2) -> Fx
@@ -81,7 +82,7 @@ fn effective_mass(a: &Mass, b: &Mass, first_arm: V2, second_arm: V2, direction: 
     Fx::ONE.div(mobility(a, b, first_arm, second_arm, direction))
 }
 
-/// Baumgarte's bias: the speed at which bodies part that overlap by more than the slop.
+/// Baumgarte's bias: the speed at which bodies part, where they overlap by more than the slop.
 #[inline]
 #[tactic(auto, unfolding(crate::specs::Constraint::bias_of))]
 fn bias_of(separation: Fx) -> Fx

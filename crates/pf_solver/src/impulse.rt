@@ -91,7 +91,7 @@ fn after_impulse(constraint: &Constraint, impulse: V2, meeting: &Meeting) -> Mee
     }
 }
 
-/// The velocity of the contact point of the second body, as seen from that of the first.
+/// The relative velocity at the contact: of the second body's point, as seen from the first's.
 #[inline]
 #[tactic(auto, unfolding(crate::specs::Impulse::relative_velocity))]
 fn relative_velocity(constraint: &Constraint, meeting: &Meeting) -> V2
@@ -107,7 +107,7 @@ fn relative_velocity(constraint: &Constraint, meeting: &Meeting) -> V2
     of_second.sub(of_first)
 }
 
-/// Warm starting: the impulses of the last tick are given again.
+/// Warm starting: the impulses of the last tick are applied again.
 #[inline]
 #[tactic(auto, unfolding(crate::specs::Impulse::after_warm_start))]
 pub fn after_warm_start(constraint: &Constraint, meeting: &Meeting) -> Meeting
@@ -153,7 +153,7 @@ fn tangent_impulse(constraint: &Constraint, meeting: &Meeting) -> Fx
     limit.neg().max(limit.min(total))
 }
 
-/// The normal impulse is accumulated, and what was added is given.
+/// The normal impulse is accumulated, and what was added is applied.
 #[inline]
 #[tactic(auto, unfolding(crate::specs::Impulse::after_normal_step))]
 fn after_normal_step(constraint: &Constraint, meeting: &Meeting) -> Meeting
@@ -169,7 +169,7 @@ fn after_normal_step(constraint: &Constraint, meeting: &Meeting) -> Meeting
     Meeting { impulses, ..after }
 }
 
-/// The same of the tangent impulse.
+/// The same for the tangent impulse.
 #[inline]
 #[tactic(auto, unfolding(crate::specs::Impulse::after_friction_step))]
 fn after_friction_step(constraint: &Constraint, meeting: &Meeting) -> Meeting
