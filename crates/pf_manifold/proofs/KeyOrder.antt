@@ -14,7 +14,7 @@ use Rattle.pf_shapes.specs.Pair.{IsAscending, IsPairOf, Pair, is_before}
 use Rattle.pf_manifold.specs.ContactPoint.{ContactPoint}
 use Rattle.pf_manifold.specs.PlacedShape.{PlacedShape}
 use Rattle.pf_manifold.specs.Collide.{collide}
-use Rattle.pf_manifold.specs.Touches.{Touch, placed_shape_at, touch_of, touches, touches_between, touches_of}
+use Rattle.pf_manifold.specs.Touches.{IsTouchOf, Touch, placed_shape_at, touch_of, touches, touches_between, touches_of}
 use Rattle.pf_manifold.specs.Key.{AreTouches, IsKey, IsRising, key_of, rank}
 use Rattle.pf_manifold.proofs.Features.{AreAscending, bodies_ascend}
 use Rattle.pf_manifold.proofs.FeatureRanges.{box_and_circle_features, boxes_features, circles_features}
@@ -78,6 +78,14 @@ between_keys n p (Some a) (Some b) few is =
 between_keys n p (Some a) None few is = All-nil (λ t. IsKey (key_of t))
 between_keys n p None b few is = All-nil (λ t. IsKey (key_of t))
 
+between_bodies : (n : ℕ) (p : Pair) (a b : Option PlacedShape) → IsPairOf n p
+    → All (IsTouchOf n) (touches_between p a b)
+between_bodies n p (Some a) (Some b) is =
+    All-map (IsTouchOf n) (touch_of p) (collide a b)
+    (All-weaker HasFeature (λ x. IsTouchOf n (touch_of p x)) (λ x small. is) (collide a b) (has_features a b))
+between_bodies n p (Some a) None is = All-nil (IsTouchOf n)
+between_bodies n p None b is = All-nil (IsTouchOf n)
+
 -- ---- all pairs
 
 -- a pair that comes before another has lower ranks
@@ -120,6 +128,11 @@ module _ (fixtures : List Fixture) (bodies : List BodyState) where
   pair_keys n p few is =
       between_keys n p (placed_shape_at fixtures bodies p.a) (placed_shape_at fixtures bodies p.b) few is
 
+  pair_bodies : (n : ℕ) (p : Pair) → IsPairOf n p → All (IsTouchOf n) (touches_of fixtures bodies p)
+  unfolding touches_of
+  pair_bodies n p is =
+      between_bodies n p (placed_shape_at fixtures bodies p.a) (placed_shape_at fixtures bodies p.b) is
+
   touches_rise : (n least : ℕ) (pairs : List Pair) → n ≤ MAX_BODIES → IsAscending pairs → All (IsPairOf n) pairs
       → AreFrom least pairs → IsRising least (map touch_rank (touches fixtures bodies pairs))
   touches_rise n least [] few up are from = tt
@@ -145,3 +158,11 @@ module _ (fixtures : List Fixture) (bodies : List BodyState) where
     rising = touches_rise n 0 pairs few up are (from_zero pairs);
     keys = touch_keys n pairs few are;
   }
+
+  pub touches_of_bodies : (n : ℕ) (pairs : List Pair) → All (IsPairOf n) pairs
+      → All (IsTouchOf n) (touches fixtures bodies pairs)
+  touches_of_bodies n [] are = All-nil (IsTouchOf n)
+  touches_of_bodies n (p ∷ pairs) are =
+      All-append (IsTouchOf n) (touches_of fixtures bodies p) (touches fixtures bodies pairs)
+      (pair_bodies n p (All-head (IsPairOf n) p pairs are))
+      (touches_of_bodies n pairs (All-tail (IsPairOf n) p pairs are))

@@ -4,7 +4,7 @@ use Rattle.std.specs.Prelude.{ℕ, List, [], map, Option, Some, None, slice_get}
 use Rattle.std.specs.List.{flat_map}
 use Rattle.pf_shapes.specs.Fixture.{Fixture}
 use Rattle.pf_shapes.specs.Body.{BodyState}
-use Rattle.pf_shapes.specs.Pair.{Pair}
+use Rattle.pf_shapes.specs.Pair.{IsPairOf, Pair}
 use Rattle.pf_manifold.specs.ContactPoint.{ContactPoint}
 use Rattle.pf_manifold.specs.PlacedShape.{PlacedShape}
 use Rattle.pf_manifold.specs.Collide.{collide}
@@ -18,6 +18,10 @@ pub record Touch : Type 0 where
 -- the contact point of a pair
 abbrev pub touch_of : Pair → ContactPoint → Touch
 touch_of p point = record { a = p.a; b = p.b; point = point }
+
+-- a contact point of two of n bodies, the lesser number first
+abbrev pub IsTouchOf : ℕ → Touch → Type 0
+IsTouchOf n t = IsPairOf n (record { a = t.a; b = t.b })
 
 -- the shape of a body, if there is one
 abbrev pub placed_shape : Option Fixture → Option BodyState → Option PlacedShape

@@ -4,7 +4,7 @@ ghost use Rattle.std.specs.Prelude.{◌≡◌, ◌<◌, ◌++◌, [], All, lengt
 ghost use Rattle.pf_shapes.specs.Pair.{IsAscending, IsPairOf};
 ghost use Rattle.pf_manifold.specs.Key.{AreTouches};
 ghost use Rattle.pf_manifold.specs.Manifold.{points_of};
-ghost use Rattle.pf_manifold.specs.Touches.{Touch, placed_shape_at, touch_of, touches};
+ghost use Rattle.pf_manifold.specs.Touches.{IsTouchOf, Touch, placed_shape_at, touch_of, touches};
 
 use crate::contact_point::ContactPoint;
 use crate::manifold::Manifold;
@@ -83,6 +83,7 @@ pub fn collide_list(
     ensures found { IfOk result
         (λ found. found.items ≡ touches scene.now.fixtures bodies.now pairs.now) }
     ensures order { IsAscending pairs.now → IfOk result (λ found. AreTouches found.items) }
+    ensures bodies { IfOk result (λ found. All (IsTouchOf (length bodies.now)) found.items) }
     ensures no_memory { touches scene.now.fixtures bodies.now pairs.now ≡ [] → IsOk result }
 {
     let fixtures = scene.fixtures();

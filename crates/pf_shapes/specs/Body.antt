@@ -24,3 +24,7 @@ start_of f position rotation = record {
   timer = 0;
   awake = not (is_static f);
 }
+
+-- without velocity and spin
+abbrev pub at_rest : BodyState → BodyState
+at_rest b = record b { velocity = zero_vector; spin = pos 0 }

@@ -1,9 +1,10 @@
 -- Scenes: what a simulation starts from.
-use Rattle.std.specs.Prelude.{◌≡◌, ◌≤◌, neg_ℤ, List, [], ◌∷◌, ◌++◌, length}
+use Rattle.std.specs.Prelude.{◌≡◌, ◌≤◌, ℕ, pos, neg_ℤ, Bool, List, [], ◌∷◌, ◌++◌, length, None, slice_index_or}
 use Rattle.pf_rot.specs.Vector.{V2}
 use Rattle.pf_rot.specs.Rotation.{Rot}
 use Rattle.pf_rot.specs.Laws.{IsAtMostOne}
-use Rattle.pf_shapes.specs.Fixture.{Fixture, IsWithin}
+use Rattle.pf_shapes.specs.declared.fixture.Shape.TheVariants.{Circle}
+use Rattle.pf_shapes.specs.Fixture.{Fixture, IsWithin, is_static}
 use Rattle.pf_shapes.specs.Body.{BodyState, start_of}
 use Rattle.pf_shapes.specs.declared.scene.TheConstants.{MAX_BODIES, MAX_GRAVITY, MAX_POSITION}
 
@@ -12,6 +13,18 @@ pub record Scene : Type 0 where
   pub gravity : V2
   pub fixtures : List Fixture
   pub starts : List BodyState
+
+-- read where a scene has no such body
+abbrev pub no_fixture : Fixture
+no_fixture = record { shape = Circle (pos 0); mass = pos 0; friction = pos 0; owner = None }
+
+-- the fixture of the body of a number
+abbrev pub fixture_at : Scene → ℕ → Fixture
+fixture_at s number = slice_index_or s.fixtures number no_fixture
+
+-- the body of a number is static
+abbrev pub is_static_at : Scene → ℕ → Bool
+is_static_at s number = is_static (fixture_at s number)
 
 -- a scene without bodies
 abbrev pub empty_scene : V2 → Scene

@@ -1,13 +1,14 @@
+use Rattle.std.specs.Prelude.{All}
 use Rattle.std.proofs.Common.{◌≤◌, ◌++◌, List, length, map, take_all, ap, subst, sym, ◌∙◌, arith}
 use Rattle.pf_shapes.specs.Fixture.{Fixture}
 use Rattle.pf_shapes.specs.Pair.{Pair}
 use Rattle.pf_shapes.specs.declared.scene.TheConstants.{MAX_BODIES}
 use Rattle.pf_manifold.specs.Manifold.{points_of}
-use Rattle.pf_manifold.specs.Touches.{touch_of, placed_shape_at, touches}
+use Rattle.pf_manifold.specs.Touches.{IsTouchOf, touch_of, placed_shape_at, touches}
 use Rattle.pf_manifold.specs.Key.{AreTouches}
 use Rattle.pf_manifold.proofs.Pairs.{touches_more}
 use Rattle.pf_manifold.proofs.Apart.{pair_apart}
-use Rattle.pf_manifold.proofs.KeyOrder.{touches_in_order}
+use Rattle.pf_manifold.proofs.KeyOrder.{touches_in_order, touches_of_bodies}
 use Rattle.pf_manifold.proofs.touch.collide_list.Goals as goal
 
 pub loop-pair-preserved : goal.loop-pair-preserved
@@ -46,3 +47,11 @@ returns-clause-order c = λ up.
     let whole = take_all c.loop-pair.pair-index c.args.pairs.now c.loop-pair-test.false in
     subst AreTouches (sym (c.loop-pair.invariant ∙ ap (touches fixtures c.args.bodies.now) whole))
     (touches_in_order fixtures c.args.bodies.now (length c.args.bodies.now) c.args.pairs.now few up c.requires.pairs)
+
+pub returns-clause-bodies : goal.returns-clause-bodies
+returns-clause-bodies c =
+    let fixtures = c.args.scene.now.fixtures in
+    let whole = take_all c.loop-pair.pair-index c.args.pairs.now c.loop-pair-test.false in
+    subst (All (IsTouchOf (length c.args.bodies.now)))
+    (sym (c.loop-pair.invariant ∙ ap (touches fixtures c.args.bodies.now) whole))
+    (touches_of_bodies fixtures c.args.bodies.now (length c.args.bodies.now) c.args.pairs.now c.requires.pairs)

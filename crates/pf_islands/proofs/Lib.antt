@@ -1,0 +1,9 @@
+-- The lemmas of this crate.
+pub mod Roots
+pub mod Linked
+pub mod Noted
+pub mod Named
+pub mod Starting
+pub mod Chains
+pub mod Looked
+pub mod Sleeping

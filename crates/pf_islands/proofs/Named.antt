@@ -1,0 +1,107 @@
+-- Changes of bodies that each have the name of a group.
+use Rattle.std.proofs.Common.{◌≡◌, ◌∙◌, ℕ, ◌+◌, ◌<◌, ◌≤◌, ◌&&◌, Bool, false, List, [], ◌∷◌, ◌++◌, length, map, take, drop, get_or, set, length-take, append_assoc, append-nil, take_all, refl, sym, ap, ap₂, arith}
+use Rattle.std.proofs.lemmas.List.{drop_all, drop_more, get_or_at, length-map, map_more, set_at, take_at}
+use Rattle.std.proofs.lemmas.List.Elements.{All-head, All-tail}
+use Rattle.std.proofs.lemmas.List.FromFn.{get_or-map-range_with_len}
+use Rattle.std.proofs.lemmas.Slice.Zip.{get_or-zip, length-zip}
+use Rattle.std.specs.List.{range_with_len, zip}
+use Rattle.std.specs.Prelude.{All, if◌then◌else◌}
+use Rattle.pf_shapes.specs.Body.{BodyState}
+use Rattle.pf_islands.specs.Marks.{each_named, rested_body, woken_body}
+use Rattle.pf_islands.specs.Sleep.{at_sleep, is_active, is_resting, rested, woken}
+
+-- the first i bodies are changed, each by its name
+module _ {X : Type 0} (change : ℕ × X → X) (names : List ℕ) (bodies now : List X) (i : ℕ)
+    (paired : length bodies ≡ length names)
+    (now_is : now ≡ map change (take i (zip names bodies)) ++ drop i bodies) where
+  abbrev front : List X
+  front = map change (take i (zip names bodies))
+
+  -- each body has a name
+  zip_long : length (zip names bodies) ≡ length bodies
+  zip_long = length-zip names bodies ∙ omega (arith, paired)
+
+  -- there is a next body
+  module _ (within : i < length bodies) where
+    -- as many bodies stand in front
+    front_long : length front ≡ i
+    front_long =
+        length-map (take i (zip names bodies)) change ∙ length-take i (zip names bodies)
+        ∙ omega (arith, zip_long, within)
+
+    -- what stands in front of the next body, that body, and what stands behind
+    parts : (d : X) → now ≡ front ++ get_or bodies i d ∷ drop (i + 1) bodies
+    parts d = now_is ∙ ap (λ rest. front ++ rest) (drop_more bodies i d within)
+
+    -- the next body is still as it was
+    pub body_is : (d : X) → get_or now i d ≡ get_or bodies i d
+    body_is d = ap (λ rest. get_or rest i d) (parts d) ∙ get_or_at front _ _ d i front_long
+
+    -- its change leads to one body more
+    pub changed_more : (d after : X) → after ≡ change (get_or names i 0, get_or bodies i d)
+        → set now i after ≡ map change (take (i + 1) (zip names bodies)) ++ drop (i + 1) bodies
+    changed_more d after is =
+        let pair = get_or-zip names bodies i (0, d) (omega (arith, paired, within)) within in
+        ap (λ rest. set rest i after) (parts d) ∙ set_at front _ _ after i front_long
+        ∙ ap (λ y. front ++ y ∷ drop (i + 1) bodies) (is ∙ sym (ap change pair))
+        ∙ sym (append_assoc front (change (get_or (zip names bodies) i (0, d)) ∷ []) _)
+        ∙ ap (λ rest. rest ++ drop (i + 1) bodies)
+        (sym (map_more change (zip names bodies) i (0, d) (omega (arith, zip_long, within))))
+
+  -- all bodies are changed
+  pub changed_all : length bodies ≤ i → now ≡ map change (zip names bodies)
+  changed_all over =
+      now_is
+      ∙ ap₂ (λ ms rest. map change ms ++ rest) (take_all i (zip names bodies) (omega (arith, zip_long, over)))
+      (drop_all i bodies over)
+      ∙ append-nil _
+
+-- changes that agree at the names of the bodies
+pub changes_agree : {X : Type 0} (f g : ℕ × X → X) (n : ℕ) → ((name : ℕ) (b : X) → name < n → f (name, b) ≡ g (name, b))
+    → (names : List ℕ) (bodies : List X) → All (λ name. name < n) names
+    → map f (zip names bodies) ≡ map g (zip names bodies)
+changes_agree f g n agree [] bodies named = refl
+changes_agree f g n agree (name ∷ names) [] named = refl
+changes_agree f g n agree (name ∷ names) (b ∷ bodies) named =
+    ap₂ (λ x xs. x ∷ xs) (agree name b (All-head (λ x. x < n) name names named))
+    (changes_agree f g n agree names bodies (All-tail (λ x. x < n) name names named))
+
+-- the marks are those of the groups
+module _ (names : List ℕ) (marks : List Bool) (bodies : List BodyState) (named : All (λ name. name < length names) names) where
+  -- what stands at a name
+  mark_is : (noted : ℕ → Bool) → marks ≡ map noted (range_with_len 0 (length names)) → (name : ℕ) → name < length names
+      → get_or marks name false ≡ noted name
+  mark_is noted are name small =
+      ap (λ ms. get_or ms name false) are
+      ∙ get_or-map-range_with_len noted 0 (length names) name name false small (omega arith)
+
+  -- bodies that are woken by these marks are woken
+  pub woken_is : marks ≡ map (is_active names bodies) (range_with_len 0 (length names))
+      → each_named (woken_body marks) names bodies ≡ woken names bodies
+  unfolding woken
+  woken_is are =
+      changes_agree (woken_body marks) (λ m. record m.1 { awake = is_active names bodies m.0 }) (length names)
+      (λ name b small. ap (λ mark. record b { awake = mark }) (mark_is (is_active names bodies) are name small))
+      names bodies named
+
+  -- bodies that rest by these marks rest
+  pub rested_is : (full : ℕ) → marks ≡ map (is_resting full names bodies) (range_with_len 0 (length names))
+      → each_named (rested_body marks) names bodies ≡ rested full names bodies
+  unfolding rested
+  rested_is full are =
+      changes_agree (rested_body marks) (λ m. if m.1.awake && is_resting full names bodies m.0 then at_sleep m.1 else m.1)
+      (length names)
+      (λ name b small.
+      ap (λ mark. if b.awake && mark then at_sleep b else b) (mark_is (is_resting full names bodies) are name small))
+      names bodies named
+
+-- a change of bodies by marks that were noted, written back and lent again, as the names were lent twice
+pub changed_through : (change : List Bool → ℕ × BodyState → BodyState) (noted : List ℕ → ℕ → Bool)
+    (names first second : List ℕ) (marks lent behind : List Bool) (len : ℕ) (bodies after : List BodyState)
+    → first ≡ names → second ≡ names → marks ≡ map (noted first) (range_with_len 0 (length first))
+    → length marks ≡ len → lent ≡ take len (marks ++ behind) → after ≡ each_named (change lent) second bodies
+    → (after ≡ each_named (change marks) names bodies) × (marks ≡ map (noted names) (range_with_len 0 (length names)))
+changed_through change noted names first second marks lent behind len bodies after one two are long back changed = (
+  changed ∙ ap₂ (λ ms ns. each_named (change ms) ns bodies) (back ∙ take_at marks behind len long) two,
+  are ∙ ap (λ ns. map (noted ns) (range_with_len 0 (length ns))) one,
+)

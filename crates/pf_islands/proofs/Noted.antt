@@ -1,0 +1,119 @@
+-- What is noted of groups, by their names, along the bodies.
+use Rattle.std.proofs.Common.{◌≡◌, ◌∙◌, ℕ, ◌+◌, ◌<◌, ◌≤◌, ◌==◌, ⊎_elim, Bool, true, false, cond, not, ◌&&◌, ◌||◌, List, length, take, get_or, set, take_all, refl, sym, ap, arith}
+use Rattle.std.proofs.lemmas.Bool.{cases_eq, cond-true, cond-false, eq-eqb, ne_eqb}
+use Rattle.std.proofs.lemmas.List.{get_or-set_same, get_or-set_other}
+use Rattle.std.proofs.lemmas.List.Folds.{list_any_more, list_all_more}
+use Rattle.std.proofs.lemmas.Slice.Zip.{get_or-zip, length-zip}
+use Rattle.std.specs.List.{list_all, list_any, zip}
+use Rattle.pf_shapes.specs.Body.{BodyState}
+
+-- the marks of so many groups are these
+abbrev pub AreNoted : ℕ → List Bool → (ℕ → Bool) → Type 0
+AreNoted n marks noted = (name : ℕ) → name < n → get_or marks name false ≡ noted name
+
+-- a mark of one group is written
+pub noted_set : (n : ℕ) (marks : List Bool) (before after : ℕ → Bool) (x : ℕ) (v : Bool) → length marks ≡ n → x < n
+    → ((name : ℕ) → after name ≡ cond (x == name) v (before name))
+    → AreNoted n marks before → AreNoted n (set marks x v) after
+noted_set n marks before after x v long within step noted name small =
+    ⊎_elim
+    (λ e.
+    ap (λ y. get_or (set marks x v) y false) e ∙ get_or-set_same marks x v false (omega (arith, long, within))
+    ∙ sym (step name ∙ cond-true _ _ _ (eq-eqb x name (sym e))))
+    (λ apart.
+    get_or-set_other marks x name v false apart ∙ noted name small
+    ∙ sym (step name ∙ cond-false _ _ _ (ne_eqb x name (λ e. apart (sym e)))))
+    (cases_eq name x)
+
+-- nothing is written
+pub noted_same : (n : ℕ) (marks : List Bool) (before after : ℕ → Bool) → ((name : ℕ) → after name ≡ before name)
+    → AreNoted n marks before → AreNoted n marks after
+noted_same n marks before after step noted name small = noted name small ∙ sym (step name)
+
+-- a test that passes decides at the name e, and one that fails changes nothing
+any_step : (e b r : Bool) → b ≡ true → (r || (e && b)) ≡ cond e true r
+any_step true true true h = refl
+any_step true true false h = refl
+any_step true false true h = refl
+any_step true false false h = h
+any_step false b true h = refl
+any_step false b false h = refl
+
+any_none : (e b r : Bool) → b ≡ false → (r || (e && b)) ≡ r
+any_none e b true h = refl
+any_none true b false h = h
+any_none false b false h = refl
+
+-- a test that fails decides at the name e, and one that passes changes nothing
+all_step : (e b r : Bool) → b ≡ false → (r && (not e || b)) ≡ cond e false r
+all_step true b true h = h
+all_step true b false h = refl
+all_step false b true h = refl
+all_step false b false h = refl
+
+all_none : (e b r : Bool) → b ≡ true → (r && (not e || b)) ≡ r
+all_none true b true h = h
+all_none false b true h = refl
+all_none e b false h = refl
+
+module _ (test : BodyState → Bool) (names : List ℕ) (bodies : List BodyState) where
+  -- one of the first bodies of the group passes the test
+  abbrev pub any_of : ℕ → ℕ → Bool
+  any_of i name = list_any (λ (m : ℕ × BodyState). (m.0 == name) && test m.1) (take i (zip names bodies))
+
+  -- all of the first bodies of the group pass the test
+  abbrev pub all_of : ℕ → ℕ → Bool
+  all_of i name = list_all (λ (m : ℕ × BodyState). not (m.0 == name) || test m.1) (take i (zip names bodies))
+
+  -- all bodies are passed
+  zip_all : (i : ℕ) → length bodies ≤ i → take i (zip names bodies) ≡ zip names bodies
+  zip_all i over = take_all i (zip names bodies) (omega (arith, length-zip names bodies, over))
+
+  -- one of all bodies of the group passes
+  pub any_all : (i : ℕ) → length bodies ≤ i → (name : ℕ)
+      → any_of i name ≡ list_any (λ (m : ℕ × BodyState). (m.0 == name) && test m.1) (zip names bodies)
+  any_all i over name = ap (list_any (λ (m : ℕ × BodyState). (m.0 == name) && test m.1)) (zip_all i over)
+
+  -- all of all bodies of the group pass
+  pub all_all : (i : ℕ) → length bodies ≤ i → (name : ℕ)
+      → all_of i name ≡ list_all (λ (m : ℕ × BodyState). not (m.0 == name) || test m.1) (zip names bodies)
+  all_all i over name = ap (list_all (λ (m : ℕ × BodyState). not (m.0 == name) || test m.1)) (zip_all i over)
+
+  -- the next body
+  module _ (i : ℕ) (d : BodyState) (paired : length bodies ≡ length names) (within : i < length bodies) where
+    -- it stands in the list of pairs
+    within_both : i < length (zip names bodies)
+    within_both = omega (arith, length-zip names bodies, paired, within)
+
+    pair : get_or (zip names bodies) i (0, d) ≡ (get_or names i 0, get_or bodies i d)
+    pair = get_or-zip names bodies i (0, d) (omega (arith, paired, within)) within
+
+    -- what it adds
+    any_more : (name : ℕ) → any_of (i + 1) name ≡ (any_of i name || ((get_or names i 0 == name) && test (get_or bodies i d)))
+    any_more name =
+        list_any_more (λ (m : ℕ × BodyState). (m.0 == name) && test m.1) (zip names bodies) i (0, d) within_both
+        ∙ ap (λ (m : ℕ × BodyState). any_of i name || ((m.0 == name) && test m.1)) pair
+
+    -- what it leaves
+    all_more : (name : ℕ) → all_of (i + 1) name ≡ (all_of i name && (not (get_or names i 0 == name) || test (get_or bodies i d)))
+    all_more name =
+        list_all_more (λ (m : ℕ × BodyState). not (m.0 == name) || test m.1) (zip names bodies) i (0, d) within_both
+        ∙ ap (λ (m : ℕ × BodyState). all_of i name && (not (m.0 == name) || test m.1)) pair
+
+    -- it passes
+    pub any_passed : test (get_or bodies i d) ≡ true → (name : ℕ)
+        → any_of (i + 1) name ≡ cond (get_or names i 0 == name) true (any_of i name)
+    any_passed passes name = any_more name ∙ any_step (get_or names i 0 == name) _ (any_of i name) passes
+
+    -- it fails
+    pub any_failed : test (get_or bodies i d) ≡ false → (name : ℕ) → any_of (i + 1) name ≡ any_of i name
+    any_failed fails name = any_more name ∙ any_none (get_or names i 0 == name) _ (any_of i name) fails
+
+    -- it passes
+    pub all_passed : test (get_or bodies i d) ≡ true → (name : ℕ) → all_of (i + 1) name ≡ all_of i name
+    all_passed passes name = all_more name ∙ all_none (get_or names i 0 == name) _ (all_of i name) passes
+
+    -- it fails
+    pub all_failed : test (get_or bodies i d) ≡ false → (name : ℕ)
+        → all_of (i + 1) name ≡ cond (get_or names i 0 == name) false (all_of i name)
+    all_failed fails name = all_more name ∙ all_step (get_or names i 0 == name) _ (all_of i name) fails

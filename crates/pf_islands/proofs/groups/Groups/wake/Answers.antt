@@ -1,0 +1,16 @@
+use Rattle.std.proofs.Common.{◌∙◌, ap}
+use Rattle.pf_islands.specs.Marks.{woken_body}
+use Rattle.pf_islands.specs.Sleep.{is_active, woken}
+use Rattle.pf_islands.proofs.Named.{changed_through, woken_is}
+use Rattle.pf_islands.proofs.groups.Groups.wake.Goals as goal
+
+pub returns-clause-bodies : goal.returns-clause-bodies
+returns-clause-bodies c =
+    let names = c.self.inside.names.items in
+    let bodies = c.args.bodies.now in
+    let through = changed_through woken_body (λ ns. is_active ns bodies) names c.deref.result.now c.deref-3.result.now
+    c.mark_active.new.marks c.deref-2.result.now _ c.self.inside.marks.len bodies c.wake_marked.new.bodies
+    c.deref.ensures.value c.deref-3.ensures.value c.mark_active.ensures
+    (c.mark_active.auto.marks ∙ c.deref_mut.ensures.len) c.deref-2.ensures.value c.wake_marked.ensures in
+    through.0 ∙ woken_is names c.mark_active.new.marks bodies c.self.invariant.named through.1
+    ∙ ap (λ ns. woken ns bodies) c.self.view_is

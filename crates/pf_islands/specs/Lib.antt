@@ -1,0 +1,6 @@
+-- What the contracts of this crate cite.
+pub mod Reach
+pub mod Group
+pub mod Sleep
+pub mod Forest
+pub mod Marks

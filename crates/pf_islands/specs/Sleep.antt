@@ -1,0 +1,29 @@
+-- Which groups are simulated, and which go to sleep, as Box2D 2.x's b2World::Solve and
+-- b2Island::Solve: groups wake and sleep as wholes.
+use Rattle.std.specs.Prelude.{ℕ, ◌==◌, Bool, false, not, ◌&&◌, ◌||◌, List, map, if◌then◌else◌}
+use Rattle.std.specs.List.{list_all, list_any, zip}
+use Rattle.pf_shapes.specs.Body.{BodyState, at_rest}
+
+-- a body of the group of this name is awake
+abbrev pub is_active : List ℕ → List BodyState → ℕ → Bool
+is_active names bodies name = list_any (λ m. (m.0 == name) && m.1.awake) (zip names bodies)
+
+-- Activity: the bodies of a group are awake where one of them is
+unfoldable pub woken : List ℕ → List BodyState → List BodyState
+woken names bodies = map (λ m. record m.1 { awake = is_active names bodies m.0 }) (zip names bodies)
+
+-- each body of the group of this name has this timer
+abbrev pub is_resting : ℕ → List ℕ → List BodyState → ℕ → Bool
+is_resting full names bodies name =
+    list_all (λ m. not (m.0 == name) || (m.1.timer == full)) (zip names bodies)
+
+-- at rest, and asleep
+abbrev pub at_sleep : BodyState → BodyState
+at_sleep b = record (at_rest b) { timer = 0; awake = false }
+
+-- Sleep: the awake bodies of a group stop and sleep where each of its bodies has a full timer
+unfoldable pub rested : ℕ → List ℕ → List BodyState → List BodyState
+rested full names bodies =
+    map
+    (λ m. if m.1.awake && is_resting full names bodies m.0 then at_sleep m.1 else m.1)
+    (zip names bodies)

@@ -1,0 +1,97 @@
+//! A union-find over bodies: each body has a parent, and the bodies of a group have one root, which
+//! is the least of them.
+
+ghost use Rattle.std.specs.Prelude.{◌≡◌, ◌≤◌, ◌<◌, ℕ, All, IfOk, IsOk, length, map};
+ghost use Rattle.std.specs.List.{range_with_len};
+ghost use Rattle.pf_manifold.specs.Touches.{IsTouchOf};
+ghost use Rattle.pf_islands.specs.Forest.{IsDownward, IsForest};
+ghost use Rattle.pf_islands.specs.Group.{group, merged};
+ghost use Rattle.pf_islands.specs.Reach.{connects};
+
+use pf_manifold::Touch;
+use pf_shapes::Scene;
+use std::alloc::{AllocError, Global};
+
+/// Each body is its own parent.
+pub fn singles(alloc: Global, len: usize) -> Result<Vec<usize>, AllocError>
+    ensures value { IfOk result (λ parents. parents.items ≡ range_with_len 0 len) }
+    ensures no_memory { len ≡ 0 → IsOk result }
+{
+    let mut parents = Vec::with_capacity(alloc, len)?;
+    for body in 0..len {
+        parents.push_reserved(body);
+    }
+    Ok(parents)
+}
+
+/// Whether a contact point connects its bodies, as it does where both are dynamic.
+fn connects(scene: &Scene, touch: &Touch) -> bool
+    requires { IsTouchOf (length scene.now.fixtures) touch.now }
+    ensures { result ≡ connects scene.now touch.now }
+{
+    let fixtures = scene.fixtures();
+    let first = &fixtures[touch.a];
+    let second = &fixtures[touch.b];
+    !first.is_static() && !second.is_static()
+}
+
+/// The root of a body. Each second body on the way up gets the parent of its parent, so that later
+/// ways are shorter.
+fn find(parents: &mut [usize], body: usize) -> usize
+    requires body { body < length parents.old }
+    requires down { IsDownward parents.old }
+    ensures root { (root : ℕ → ℕ) → IsForest root parents.old → result ≡ root body }
+    ensures own { (root : ℕ → ℕ) → IsForest root parents.old → root result ≡ result }
+    ensures kept { (root : ℕ → ℕ) → IsForest root parents.old → IsForest root parents.new }
+    ensures down { IsDownward parents.new }
+    ensures within { result ≤ body }
+{
+    let mut place = body;
+    while parents[place] != place {
+        let above = parents[parents[place]];
+        parents[place] = above;
+        place = above;
+    }
+    place
+}
+
+/// Links the greater root of two bodies to the lesser.
+fn link(parents: &mut [usize], a: usize, b: usize)
+    requires first { a < length parents.old }
+    requires second { b < length parents.old }
+    requires down { IsDownward parents.old }
+    ensures roots { (root : ℕ → ℕ) → IsForest root parents.old
+        → IsForest (λ i. merged (root a) (root b) (root i)) parents.new }
+    ensures down { IsDownward parents.new }
+{
+    let first = find(parents, a);
+    let second = find(parents, b);
+    parents[first.max(second)] = first.min(second);
+}
+
+/// Links the bodies of each contact point that connects them.
+pub fn link_all(parents: &mut [usize], scene: &Scene, touches: &[Touch])
+    requires touches { All (IsTouchOf (length scene.now.fixtures)) touches.now }
+    requires count { length parents.old ≡ length scene.now.fixtures }
+    requires down { IsDownward parents.old }
+    requires single { IsForest (λ i. i) parents.old }
+    ensures roots { IsForest (group scene.now touches.now) parents.new }
+    ensures down { IsDownward parents.new }
+{
+    for touch in touches.iter().rev() {
+        if connects(scene, touch) {
+            link(parents, touch.a, touch.b);
+        }
+    }
+}
+
+/// Puts the root of each body in place of its parent.
+pub fn flatten(parents: &mut [usize])
+    requires { IsDownward parents.old }
+    ensures { (root : ℕ → ℕ) → IsForest root parents.old
+        → parents.new ≡ map root (range_with_len 0 (length parents.old)) }
+{
+    for body in 0..parents.len() {
+        parents[body] = parents[parents[body]];
+    }
+}

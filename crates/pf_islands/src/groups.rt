@@ -1,0 +1,71 @@
+//! Groups of bodies that contacts connect.
+
+use crate::forest::{flatten, link_all, singles};
+use crate::marks::{mark_active, mark_resting, rest_marked, unmarked, wake_marked};
+use pf_manifold::Touch;
+use pf_shapes::{BodyState, Scene};
+use std::alloc::{AllocError, Global};
+use std::marker::Model;
+
+/// The groups of a scene's bodies that contacts connect, never through a static body. Contracts see
+/// the name of each body's group, which is the least body of the group.
+#[derive(Drop)]
+pub struct Groups {
+    names: Vec<usize>,
+    /// What `wake` and `rest` note of each group, by its name.
+    marks: Vec<bool>,
+}
+
+impl Model for Groups {
+    ghost use Rattle.std.specs.Prelude.{List, ℕ};
+    ghost use Rattle.pf_islands.specs.Group.{IsGroups};
+
+    ghost Value = { List ℕ };
+
+    ghost view = { λ g. g.names.items };
+
+    ghost invariant = { λ g. IsGroups g.names.items g.marks.items };
+}
+
+impl Groups {
+    ghost use Rattle.std.specs.Prelude.{◌≡◌, [], length, All, IfOk, IsOk};
+    ghost use Rattle.pf_manifold.specs.Touches.{IsTouchOf};
+    ghost use Rattle.pf_islands.specs.Group.{groups};
+    ghost use Rattle.pf_islands.specs.Sleep.{rested, woken};
+
+    /// The groups of the scene's bodies that these contact points connect. Takes memory for two
+    /// lists as long as the list of bodies, and none where there are no bodies.
+    pub fn new(alloc: Global, scene: &Scene, touches: &[Touch]) -> Result<Groups, AllocError>
+        requires { All (IsTouchOf (length scene.now.fixtures)) touches.now }
+        ensures value { IfOk result (λ found. found ≡ groups scene.now touches.now) }
+        ensures no_memory { scene.now.fixtures ≡ [] → IsOk result }
+    {
+        let len = scene.len();
+        let mut names = singles(alloc, len)?;
+        let marks = unmarked(alloc, len)?;
+        link_all(&mut names, scene, touches);
+        flatten(&mut names);
+        Ok(Groups { names, marks })
+    }
+
+    /// The phase Activity: wakes the bodies of each group that has an awake one. Takes no memory.
+    pub fn wake(&mut self, bodies: &mut [BodyState])
+        requires { length bodies.old ≡ length self.old }
+        ensures bodies { bodies.new ≡ woken self.old bodies.old }
+        ensures groups { self.new ≡ self.old }
+    {
+        mark_active(&mut self.marks, &self.names, bodies);
+        wake_marked(&self.marks, &self.names, bodies);
+    }
+
+    /// The phase Sleep: the bodies of each awake group go to sleep where all of them have this
+    /// timer. Takes no memory.
+    pub fn rest(&mut self, bodies: &mut [BodyState], full: u8)
+        requires { length bodies.old ≡ length self.old }
+        ensures bodies { bodies.new ≡ rested full self.old bodies.old }
+        ensures groups { self.new ≡ self.old }
+    {
+        mark_resting(&mut self.marks, &self.names, bodies, full);
+        rest_marked(&self.marks, &self.names, bodies);
+    }
+}

@@ -1,0 +1,9 @@
+//! Groups of bodies that contacts connect: which of them are simulated, and which go to sleep.
+#![tactic(auto)]
+
+mod forest;
+mod groups;
+pub mod laws;
+mod marks;
+
+pub use groups::Groups;
