@@ -1,6 +1,8 @@
 -- The lemmas of this crate.
+pub mod Ranked
 pub mod Places
+pub mod RowPlaces
 pub mod Walk
 pub mod Kept
+pub mod Stored
 pub mod Found
-pub mod Changed

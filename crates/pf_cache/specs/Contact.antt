@@ -1,6 +1,6 @@
 -- Contacts: what is kept of a contact point from tick to tick, as Box2D-Lite's Arbiter keeps Pn and
 -- Pt. The next tick starts warm with them.
-use Rattle.std.specs.Prelude.{ℕ, zero, suc, ◌==◌, ℤ, pos, List, [], ◌∷◌, map, All, if◌then◌else◌}
+use Rattle.std.specs.Prelude.{ℕ, ◌==◌, ℤ, pos, List, [], ◌∷◌, map, All, if◌then◌else◌}
 use Rattle.pf_manifold.specs.Touches.{Touch}
 use Rattle.pf_manifold.specs.Key.{IsKey, IsRising, Key, key_of, rank}
 
@@ -33,9 +33,3 @@ kept_contact old t = record { key = key_of t; impulses = impulses_at (rank (key_
 -- the contacts of these points: a key that is there keeps its impulses, a new one has none
 unfoldable pub updated : List Contact → List Touch → List Contact
 updated old touches = map (kept_contact old) touches
-
--- the contacts where the one at a place has these impulses
-unfoldable pub with_impulses : List Contact → ℕ → Impulses → List Contact
-with_impulses [] place p = []
-with_impulses (c ∷ contacts) zero p = record c { impulses = p } ∷ contacts
-with_impulses (c ∷ contacts) (suc place) p = c ∷ with_impulses contacts place p

@@ -9,3 +9,16 @@ pub record Meter : Type 0 where
 -- a count that rises by this many, and stays at the greatest number of 64 bits
 abbrev pub risen : ℕ → ℕ → ℕ
 risen count by = min (count + by) (2 ^ 64 - 1)
+
+-- what steps leave to the next one beside the world
+pub record Work : Type 0 where
+  pub meter : Meter
+
+abbrev pub no_work : Work
+no_work = record { meter = record { ticks = 0; collides = 0 } }
+
+-- after a tick, for which so many pairs were given to the narrow phase
+abbrev pub counted : ℕ → Work → Work
+counted pairs w = record {
+  meter = record { ticks = risen w.meter.ticks 1; collides = risen w.meter.collides pairs };
+}

@@ -1,10 +1,12 @@
 //! The contacts of a world, in the order of their keys.
 
-ghost use Rattle.std.specs.Prelude.{◌≡◌, ◌≤◌, ◌<◌, ℕ, All, drop, length, map};
-ghost use Rattle.pf_manifold.specs.Key.{rank};
-ghost use Rattle.pf_cache.specs.Contact.{AreContacts, impulses_at};
+ghost use Rattle.std.specs.Prelude.{◌≡◌, ◌≤◌, ℕ, All, drop, length};
+ghost use Rattle.pf_manifold.specs.Key.{key_of, rank};
+ghost use Rattle.pf_cache.specs.Contact.{AreContacts, Impulses, impulses_at};
+ghost use Rattle.pf_cache.specs.Row.{AreRows, impulses_or, with_rows};
 
 use crate::contact::{Contact, Impulses};
+use crate::row::Row;
 use pf_manifold::{Key, Touch};
 use std::alloc::{AllocError, Global};
 use std::marker::Model;
@@ -67,10 +69,69 @@ fn impulses_from(contacts: &[Contact], place: usize, wanted: usize) -> Impulses
     }
 }
 
+/// The place of the first row from this place on whose rank is at least this.
+#[tactic(auto, using(crate::proofs::RowPlaces::passed, crate::proofs::RowPlaces::all_reached, crate::proofs::RowPlaces::none_left))]
+fn first_row_from(rows: &[Row], start: usize, least: usize) -> usize
+    requires start { start ≤ length rows.now }
+    requires rows { AreRows rows.now }
+    ensures within { result ≤ length rows.now }
+    ensures same { (p : Impulses) (n : ℕ) → least ≤ n
+        → impulses_or p n (drop result rows.now) ≡ impulses_or p n (drop start rows.now) }
+    ensures reached { All (λ r. least ≤ rank (key_of r.entry.touch)) (drop result rows.now) }
+{
+    let mut place = start;
+    while place < rows.len() {
+        let row = &rows[place];
+        let entry = &row.entry;
+        if Key::of(&entry.touch).rank() >= least {
+            return place;
+        }
+        place += 1;
+    }
+    place
+}
+
+/// The accumulated impulses of the row of this rank, where the rows from this place on are those
+/// that do not come before it; without such a row, the contact's own.
+#[tactic(auto, using(crate::proofs::RowPlaces::found_here, crate::proofs::RowPlaces::found_other, crate::proofs::RowPlaces::found_nowhere))]
+fn impulses_or_own(rows: &[Row], place: usize, wanted: usize, own: Impulses) -> Impulses
+    requires rows { AreRows rows.now }
+    requires reached { All (λ r. wanted ≤ rank (key_of r.entry.touch)) (drop place rows.now) }
+    ensures { result ≡ impulses_or own wanted (drop place rows.now) }
+{
+    if place >= rows.len() {
+        return own;
+    }
+    let row = &rows[place];
+    let entry = &row.entry;
+    if Key::of(&entry.touch).rank() == wanted {
+        entry.impulses
+    } else {
+        own
+    }
+}
+
+/// Gives each contact that has a row the accumulated impulses of its row. One walk along both
+/// lists, which are in the order of the keys.
+fn store_all(contacts: &mut [Contact], rows: &[Row])
+    requires contacts { AreContacts contacts.old }
+    requires rows { AreRows rows.now }
+    ensures value { contacts.new ≡ with_rows contacts.old rows.now }
+    ensures contacts { AreContacts contacts.new }
+{
+    let mut place = 0;
+    for contact in contacts.iter_mut() {
+        let rank = contact.key.rank();
+        place = first_row_from(rows, place, rank);
+        contact.impulses = impulses_or_own(rows, place, rank, contact.impulses);
+    }
+}
+
 impl Contacts {
-    ghost use Rattle.std.specs.Prelude.{◌≡◌, ◌<◌, [], IfOk, IsOk, length};
+    ghost use Rattle.std.specs.Prelude.{◌≡◌, [], IfOk, IsOk};
     ghost use Rattle.pf_manifold.specs.Key.{AreTouches};
-    ghost use Rattle.pf_cache.specs.Contact.{updated, with_impulses};
+    ghost use Rattle.pf_cache.specs.Contact.{updated};
+    ghost use Rattle.pf_cache.specs.Row.{AreRows, with_rows};
     ghost use Rattle.pf_cache.specs.Same.{same_contacts};
 
     /// No contacts. Takes no memory.
@@ -110,13 +171,14 @@ impl Contacts {
         Ok(Contacts { list })
     }
 
-    /// Keeps these impulses for the contact at a place.
-    pub fn set_impulses(&mut self, place: usize, impulses: Impulses)
-        requires { place < length self.old }
-        ensures { self.new ≡ with_impulses self.old place impulses }
+    /// Keeps the accumulated impulses of these rows, as Box2D's `b2ContactSolver::StoreImpulses`:
+    /// a contact that has a row gets those of its row, another keeps its own. The rows are in the
+    /// order of their keys. Takes no memory.
+    pub fn store_impulses(&mut self, rows: &[Row])
+        requires { AreRows rows.now }
+        ensures { self.new ≡ with_rows self.old rows.now }
     {
-        let contact = &mut self.list[place];
-        contact.impulses = impulses;
+        store_all(&mut self.list, rows);
     }
 
     /// A copy. Takes no memory where there are no contacts.

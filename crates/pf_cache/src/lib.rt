@@ -7,8 +7,10 @@ mod contacts;
 pub mod laws;
 mod meter;
 mod row;
+mod work;
 
 pub use contact::{Contact, Impulses};
 pub use contacts::Contacts;
 pub use meter::Meter;
 pub use row::{Constraint, Entry, Mass, Row, Side};
+pub use work::Work;

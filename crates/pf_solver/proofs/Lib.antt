@@ -2,3 +2,5 @@
 pub mod Passes
 pub mod Prepared
 pub mod Limits
+pub mod Solved
+pub mod OneList

@@ -52,7 +52,7 @@ module _ (law : Law) where
   pass_more bodies rows i d within =
       ap (pass law bodies) (take_more rows i d within) ∙ pass_append bodies (take i rows) (get_or rows i d)
 
-  rows_length : (bodies : List BodyState) (rows : List Row) → length (pass law bodies rows).rows ≡ length rows
+  pub rows_length : (bodies : List BodyState) (rows : List Row) → length (pass law bodies rows).rows ≡ length rows
   unfolding pass
   rows_length bodies [] = refl
   rows_length bodies (r ∷ rows) = ap suc (rows_length (bodies_after law bodies r) rows)

@@ -1,7 +1,7 @@
 -- What one body goes through in a tick apart from its contacts, as Box2D-Lite's World::Step: gravity,
 -- and positions by semi-implicit Euler; and for how long it has been still, as Box2D 2.x's
 -- b2Island::Solve.
-use Rattle.std.specs.Prelude.{◌+◌, ◌*◌, Bool, ◌&&◌, min, nat_le, if◌then◌else◌}
+use Rattle.std.specs.Prelude.{◌+◌, ◌*◌, Bool, ◌&&◌, List, map, min, nat_le, if◌then◌else◌}
 use Rattle.std.specs.Int.RustNames.{unsigned_abs}
 use Rattle.pf_num.specs.Fx.{tick}
 use Rattle.pf_rot.specs.Vector.{V2, add, scale}
@@ -37,3 +37,7 @@ is_still b = is_slow b.velocity && nat_le (unsigned_abs b.spin) STILL_SPIN
 -- Timers: for how many ticks a body has been still, up to 32
 unfoldable pub after_timer : BodyState → BodyState
 after_timer b = record b { timer = if is_still b then min (b.timer + 1) STILL_TICKS else 0 }
+
+-- a phase of the awake bodies; the others stay as they are
+abbrev pub each_awake : (BodyState → BodyState) → List BodyState → List BodyState
+each_awake phase bodies = map (λ b. if b.awake then phase b else b) bodies

@@ -4,3 +4,4 @@ pub mod Impulse
 pub mod Velocities
 pub mod Bodies
 pub mod Solve
+pub mod Laws

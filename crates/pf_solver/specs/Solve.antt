@@ -1,15 +1,15 @@
--- One tick of a list of bodies with the contacts between them, as Box2D-Lite's World::Step: Gravity,
--- Pre-step, warm starting, Rounds, Positions; and for how long each body has been still.
-use Rattle.std.specs.Prelude.{ℕ, ◌<◌, pos, List, length, map, None, slice_index_or}
-use Rattle.pf_shapes.specs.declared.fixture.Shape.TheVariants.{Circle}
+-- The phases Gravity to Timers of a list of bodies with the contacts between them, as Box2D-Lite's
+-- World::Step: Gravity, Pre-step, warm starting, Rounds, Positions; and for how long each body has
+-- been still. Bodies that are not awake take part in no phase.
+use Rattle.std.specs.Prelude.{ℕ, ◌<◌, List, length, map, slice_index_or}
 use Rattle.pf_shapes.specs.Fixture.{Fixture, inverse_mass, inverse_inertia}
 use Rattle.pf_shapes.specs.Body.{BodyState}
-use Rattle.pf_shapes.specs.Scene.{Scene}
+use Rattle.pf_shapes.specs.Scene.{Scene, fixture_at}
 use Rattle.pf_cache.specs.declared.row.Side.{Side}
 use Rattle.pf_cache.specs.declared.row.Side.TheVariants.{Static, Moving}
 use Rattle.pf_cache.specs.Row.{IsEntryOf, Mass, Row, no_mass}
 use Rattle.pf_solver.specs.declared.velocities.TheConstants.{ROUNDS}
-use Rattle.pf_solver.specs.Bodies.{after_gravity, after_motion, after_timer, gravity_per_tick}
+use Rattle.pf_solver.specs.Bodies.{after_gravity, after_motion, after_timer, each_awake, gravity_per_tick}
 use Rattle.pf_solver.specs.Constraint.{Anchor, constraint_of}
 use Rattle.pf_solver.specs.Impulse.{after_round, after_warm_start}
 use Rattle.pf_solver.specs.Velocities.{Batch, no_state, pass, passes}
@@ -17,14 +17,6 @@ use Rattle.pf_solver.specs.Velocities.{Batch, no_state, pass, passes}
 -- how easily impulses move a body of this fixture
 abbrev pub mass_of : Fixture → Mass
 mass_of f = record { inverse_mass = inverse_mass f; inverse_inertia = inverse_inertia f }
-
--- read where a scene has no such body, which no entry of the scene names
-abbrev pub no_fixture : Fixture
-no_fixture = record { shape = Circle (pos 0); mass = pos 0; friction = pos 0; owner = None }
-
--- the fixture of a body
-abbrev pub fixture_at : Scene → ℕ → Fixture
-fixture_at s number = slice_index_or s.fixtures number no_fixture
 
 -- the body of a number as the pre-step sees it: a static one at its start, another at its place in
 -- the list
@@ -58,14 +50,14 @@ prepared_row s bodies r =
       constraint = constraint_of a b r.entry.touch.point;
     }
 
--- Velocities: gravity on all bodies, the pre-step, warm starting along the list, and ten rounds
+-- Velocities: gravity, the pre-step, warm starting along the list, and the rounds
 abbrev pub solved_velocities : Scene → List BodyState → List Row → Batch
 solved_velocities s bodies rows =
-    let fallen = map (after_gravity (gravity_per_tick s.gravity)) bodies in
+    let fallen = each_awake (after_gravity (gravity_per_tick s.gravity)) bodies in
     passes ROUNDS after_round (pass after_warm_start fallen (map (prepared_row s fallen) rows))
 
--- the bodies and rows after the tick
+-- the bodies and rows after the phases Gravity to Timers
 unfoldable pub solved : Scene → List BodyState → List Row → Batch
 solved s bodies rows =
     let after = solved_velocities s bodies rows in
-    record after { bodies = map (λ b. after_timer (after_motion b)) after.bodies }
+    record after { bodies = each_awake (λ b. after_timer (after_motion b)) after.bodies }

@@ -62,8 +62,8 @@ fn lever(arm: V2, direction: V2) -> Fx
     Fx::ZERO.max(arm.dot(arm).sub(along.mul(along)))
 }
 
-/// The inverse of the effective mass along a direction, Box2D-Lite's `kNormal` and `kTangent`: by how
-/// much an impulse of 1 changes the relative speed.
+/// The inverse of the effective mass along a direction, Box2D-Lite's `kNormal` and `kTangent`: by
+/// how much an impulse of 1 changes the relative speed.
 #[inline]
 #[tactic(auto, unfolding(crate::specs::Constraint::mobility))]
 fn mobility(a: &Mass, b: &Mass, first_arm: V2, second_arm: V2, direction: V2) -> Fx

@@ -1,10 +1,10 @@
 //! Laws of the solver. These functions compute nothing: their clauses are the statements.
 
-ghost use Rattle.std.specs.Prelude.{◌≡◌, ℕ, ◌+◌, ◌*◌, ◌^◌, ◌≤ℤ◌, pos, neg_ℤ, map};
-ghost use Rattle.pf_shapes.specs.Body.{BodyState};
-ghost use Rattle.pf_cache.specs.Row.{Constraint, Row};
+ghost use Rattle.std.specs.Prelude.{◌≡◌, ℕ, ◌+◌, ◌*◌, ◌^◌, ◌≤ℤ◌, pos, neg_ℤ, fold, length};
+ghost use Rattle.pf_cache.specs.Row.{Constraint};
 ghost use Rattle.pf_solver.specs.Impulse.{Meeting, after_round, friction_limit};
-ghost use Rattle.pf_solver.specs.Velocities.{Batch, Law, pass};
+ghost use Rattle.pf_solver.specs.Laws.{places_written, solved_at};
+ghost use Rattle.pf_solver.specs.Velocities.{Batch, Law, passes};
 
 use crate::bodies::{STILL_SPEED, STILL_SPIN, STILL_TICKS};
 use crate::constraint::{BIAS_FACTOR, SLOP};
@@ -19,6 +19,13 @@ pub fn rounds_keep_the_limits()
         → let limit = friction_limit c (after_round c m).impulses in
         pos 0 ≤ℤ limit → (neg_ℤ limit ≤ℤ (after_round c m).impulses.tangent)
         × ((after_round c m).impulses.tangent ≤ℤ limit) }
+{}
+
+/// So many rounds are one list of contacts, written as many times: each contact is solved by the
+/// bodies and the accumulated impulses that the one before it in this list left.
+pub fn rounds_are_one_list()
+    ensures { (n : ℕ) (law : Law) (b : Batch)
+        → passes n law b ≡ fold (solved_at law) b (places_written n (length b.rows)) }
 {}
 
 /// A still body moves at most 1/64 of a length and turns by at most 1/32 of a radian a second, and

@@ -1,8 +1,8 @@
-//! One tick of a list of bodies with the contacts between them.
+//! The phases Gravity to Timers of a list of bodies with the contacts between them.
 
-ghost use Rattle.std.specs.Prelude.{◌≡◌, ◌<◌, All, length, map};
+ghost use Rattle.std.specs.Prelude.{◌≡◌, ◌<◌, All, if◌then◌else◌, length, map};
 ghost use Rattle.pf_cache.specs.Row.{IsSide};
-ghost use Rattle.pf_solver.specs.Bodies.{after_gravity, after_motion, after_timer};
+ghost use Rattle.pf_solver.specs.Bodies.{after_gravity, after_motion, after_timer, each_awake};
 ghost use Rattle.pf_solver.specs.Solve.{IsRowOf, anchor_at, mass_of, prepared_row, solved};
 
 use crate::bodies::{after_gravity, after_motion, after_timer};
@@ -81,28 +81,50 @@ fn prepare_all(scene: &Scene, bodies: &[BodyState], rows: &mut [Row])
     }
 }
 
-/// Gravity on all bodies. `pull` is what it adds to a velocity in a tick.
-#[tactic(auto, using(std::proofs::lemmas::List::Edits::map_over_more))]
+/// Gravity on a body, where it is awake.
+#[inline]
+fn fallen(pull: V2, body: BodyState) -> BodyState
+    ensures { result ≡ (if body.awake then after_gravity pull body else body) }
+{
+    if body.awake {
+        after_gravity(pull, body)
+    } else {
+        body
+    }
+}
+
+/// Gravity on the awake bodies. `pull` is what it adds to a velocity in a tick.
 fn fall(pull: V2, bodies: &mut [BodyState])
-    ensures { bodies.new ≡ map (after_gravity pull) bodies.old }
+    ensures { bodies.new ≡ each_awake (after_gravity pull) bodies.old }
 {
     for body in bodies.iter_mut() {
-        *body = after_gravity(pull, *body);
+        *body = fallen(pull, *body);
     }
 }
 
-/// Positions and timers of all bodies.
-#[tactic(auto, using(std::proofs::lemmas::List::Edits::map_over_more))]
+/// Position and timer of a body, where it is awake.
+#[inline]
+fn moved(body: BodyState) -> BodyState
+    ensures { result ≡ (if body.awake then after_timer (after_motion body) else body) }
+{
+    if body.awake {
+        after_timer(after_motion(body))
+    } else {
+        body
+    }
+}
+
+/// Positions and timers of the awake bodies.
 fn move_on(bodies: &mut [BodyState])
-    ensures { bodies.new ≡ map (λ b. after_timer (after_motion b)) bodies.old }
+    ensures { bodies.new ≡ each_awake (λ b. after_timer (after_motion b)) bodies.old }
 {
     for body in bodies.iter_mut() {
-        *body = after_timer(after_motion(*body));
+        *body = moved(*body);
     }
 }
 
-/// One tick of these bodies, with the contacts between them in the order of their keys. What a row
-/// holds beside its entry is made anew. Takes no memory.
+/// The phases Gravity to Timers of the awake bodies, with the contacts between them in the order of
+/// the rows. All of a row but its entry is computed anew. Takes no memory.
 #[tactic(auto, unfolding(crate::specs::Solve::solved))]
 pub fn solve_list(scene: &Scene, bodies: &mut [BodyState], rows: &mut [Row])
     requires { All (IsRowOf scene.now (length bodies.old)) rows.old }
