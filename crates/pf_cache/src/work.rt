@@ -7,7 +7,7 @@ use crate::meter::Meter;
 use std::marker::Model;
 
 /// What one step of a simulation leaves to the next beside the world: how much work was done.
-#[derive(Debug)]
+#[derive(Debug, Drop)]
 pub struct Work {
     meter: Meter,
 }

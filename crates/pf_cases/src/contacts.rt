@@ -2,9 +2,8 @@
 
 use crate::scenes::scene_of;
 use pf_broad::pairs;
-use pf_cache::{Contacts, Impulses, Meter};
+use pf_cache::{Contacts, Impulses, Meter, Work};
 use pf_manifold::collide_list;
-use pf_num::Fx;
 use std::alloc::Global;
 use std::test::Fail;
 
@@ -24,12 +23,6 @@ box - 16777216 0 16777216 16777216 67108864 16777216 16777216 0
 end
 ";
 
-/// Impulses that a contact may have accumulated.
-const SOME: Impulses = Impulses {
-    normal: Fx::ONE,
-    tangent: Fx::TICK,
-};
-
 /// The contacts of a scene's bodies at their starts, after these.
 fn next(alloc: Global, contacts: &Contacts, text: &[u8]) -> Result<Contacts, Fail> {
     let scene = scene_of(alloc, text)?;
@@ -43,46 +36,32 @@ fn next(alloc: Global, contacts: &Contacts, text: &[u8]) -> Result<Contacts, Fai
 }
 
 #[test]
-fn contacts_keep_their_impulses(rt: HostRuntime) -> Result<(), Fail> {
+fn contacts_are_those_of_the_points(rt: HostRuntime) -> Result<(), Fail> {
     let alloc = rt.alloc();
-    let mut contacts = next(alloc, &Contacts::new(alloc), BOTH_STAND)?;
-    if contacts.as_slice().len() != 4 {
-        return Err(Fail::from("four contacts"));
-    }
-    contacts.set_impulses(3, SOME);
-    let fewer = next(alloc, &contacts, ONE_STANDS)?;
+    let both = next(alloc, &Contacts::new(alloc), BOTH_STAND)?;
+    assert!(rt; both.as_slice().len() == 4 && both.try_clone()? == both);
+    let fewer = next(alloc, &both, ONE_STANDS)?;
+    assert!(rt; fewer != both);
     let keys = fewer
         .as_slice()
         .iter()
         .map(|c| (c.key.a, c.key.b, c.key.feature));
     assert!(rt; keys.eq([(0, 2, 28), (0, 2, 29)]));
     let impulses = fewer.as_slice().iter().map(|c| c.impulses);
-    assert!(rt; impulses.eq([Impulses::NONE, SOME]));
-    Ok(())
-}
-
-#[test]
-fn contacts_come_back_without_impulses(rt: HostRuntime) -> Result<(), Fail> {
-    let alloc = rt.alloc();
-    let mut contacts = next(alloc, &Contacts::new(alloc), BOTH_STAND)?;
-    let first = contacts.try_clone()?;
-    if first.as_slice().is_empty() {
-        return Err(Fail::from("contacts"));
-    }
-    contacts.set_impulses(0, SOME);
-    assert!(rt; contacts != first);
-    let fewer = next(alloc, &contacts, ONE_STANDS)?;
-    assert!(rt; next(alloc, &fewer, BOTH_STAND)? == first);
+    assert!(rt; impulses.eq([Impulses::NONE, Impulses::NONE]));
+    assert!(rt; next(alloc, &fewer, BOTH_STAND)? == both);
     Ok(())
 }
 
 #[test]
 fn counts_stay_at_their_greatest(rt: HostRuntime) -> Result<(), Fail> {
-    let mut meter = Meter::NONE;
-    meter.count_tick();
-    meter.count_collides(3);
+    let mut work = Work::new();
+    assert!(rt; work.meter() == Meter::NONE);
+    work.count(3);
+    let mut meter = work.meter();
     assert_eq!(rt; (meter.ticks, meter.collides), (1, 3));
+    meter.count_tick();
     meter.count_collides(u64::MAX - 1);
-    assert_eq!(rt; meter.collides, u64::MAX);
+    assert_eq!(rt; (meter.ticks, meter.collides), (2, u64::MAX));
     Ok(())
 }

@@ -57,12 +57,17 @@ fn laws_of_contact_points(_rt: HostRuntime) {
 #[test]
 fn laws_of_contacts(rt: HostRuntime) {
     use pf_cache::laws as contacts;
+    use pf_islands::laws as groups;
     use pf_solver::laws;
     contacts::contacts_are_found();
     contacts::updates_have_the_keys_of_points();
     contacts::named_values();
     laws::rounds_keep_the_limits();
+    laws::rounds_are_one_list();
     laws::named_limits();
+    groups::groups_are_connected();
+    groups::active_bodies_reach_awake_ones();
+    groups::groups_sleep_as_wholes();
     assert!(rt; STILL_SPEED == 262_144 && STILL_SPIN == 524_288 && STILL_TICKS == 32);
     assert!(rt; ROUNDS == 10 && BIAS_FACTOR == 214_748_352 && SLOP == 167_772);
 }
@@ -96,6 +101,10 @@ fn laws_of_steps(rt: HostRuntime) {
     laws::worlds_follow_earlier_commands();
     laws::commands_change_later_worlds();
     laws::sleepers_stay();
+    laws::contacts_of_sleepers_keep_their_impulses();
+    laws::static_bodies_never_move();
+    laws::contacts_are_those_of_touching_keys();
+    laws::impulses_are_within_friction();
     laws::commands_change_one_body();
     laws::stops_leave_no_velocity();
     laws::timers_count_still_ticks();

@@ -1,7 +1,7 @@
-//! One tick after the other of a body, and a command. Many more stand in the stored run of
-//! `pf_runs`.
+//! One tick after the other, and a command. Many more stand in the stored run of `pf_runs`.
 
 use crate::scenes::scene_of;
+use pf_cache::Work;
 use pf_commands::Payload;
 use pf_num::Fx;
 use pf_rot::V2;
@@ -15,9 +15,10 @@ const FALLING: &[u8] = b"gravity 0 -167772160\ncircle 0 16777216 0 16777216 0 0\
 
 /// The world of a scene so many ticks after its start, without commands.
 fn world_at(alloc: Global, scene: &Scene, tick: u32) -> Result<World, Fail> {
+    let mut work = Work::new();
     let mut world = World::start(alloc, scene)?;
     for _ in 0..tick {
-        world = step_alone(alloc, scene, &world, &[])?;
+        world = step_alone(alloc, scene, &world, &[], &mut work)?;
     }
     Ok(world)
 }
@@ -51,5 +52,57 @@ fn a_command_is_applied(rt: HostRuntime) -> Result<(), Fail> {
     apply(&mut world, &scene, Payload::Stop { body: 0 });
     let stopped = body(&world)?;
     assert!(rt; stopped.velocity == V2::ZERO && stopped.spin == Fx::ZERO);
+    Ok(())
+}
+
+/// A circle that rests on a static floor.
+const RESTING: &[u8] = b"gravity 0 -167772160
+box - 0 8388608 167772160 16777216 0 -16777216 16777216 0
+circle 0 16777216 8388608 16777216 0 16777216
+end
+";
+
+#[test]
+fn a_contact_carries_a_circle(rt: HostRuntime) -> Result<(), Fail> {
+    let alloc = rt.alloc();
+    let scene = scene_of(alloc, RESTING)?;
+    let mut work = Work::new();
+    let start = World::start(alloc, &scene)?;
+    let world = step_alone(alloc, &scene, &start, &[], &mut work)?;
+    let [contact] = world.contacts().as_slice() else {
+        return Err(Fail::from("there is one contact"));
+    };
+    let key = contact.key;
+    assert_eq!(rt; (key.a, key.b, key.feature), (0, 1, 133));
+    let impulses = contact.impulses;
+    assert_eq!(rt;
+        (impulses.normal.raw(), impulses.tangent.raw()),
+        (2_621_440, 0)
+    );
+    let meter = work.meter();
+    assert_eq!(rt; (meter.ticks, meter.collides), (1, 1));
+    assert!(rt; world.try_clone()? == world && world != start);
+    Ok(())
+}
+
+/// A scene of 1,024 circles in rows, each of which touches its neighbours.
+fn grid(alloc: Global) -> Result<Scene, Fail> {
+    let mut text = Vec::from_slice(alloc, b"gravity 0 0\n")?;
+    for number in 0..1024 {
+        let x = number % 32 * 33_554_432;
+        let y = number / 32 * 33_554_432;
+        let line = format!(in alloc; "circle - 16777216 0 16777216 {x} {y}\n")?;
+        text.extend_from_slice(line.as_bytes())?;
+    }
+    text.extend_from_slice(b"end\n")?;
+    scene_of(alloc, &text)
+}
+
+#[test]
+fn many_contacts_find_memory(rt: HostRuntime) -> Result<(), Fail> {
+    let scene = grid(rt.alloc())?;
+    let world = world_at(rt.alloc(), &scene, 2)?;
+    assert_eq!(rt; world.contacts().as_slice().len(), 1984);
+    assert!(rt; world.try_clone()? == world);
     Ok(())
 }

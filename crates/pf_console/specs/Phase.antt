@@ -9,6 +9,7 @@ use Rattle.pf_shapes.specs.declared.fault.SceneFault.{SceneFault}
 use Rattle.pf_shapes.specs.declared.fault.SceneFault.TheVariants.{BadLine}
 use Rattle.pf_shapes.specs.declared.reader.Progress.{Progress}
 use Rattle.pf_shapes.specs.declared.reader.Progress.TheVariants.{More, Ended}
+use Rattle.pf_shapes.specs.declared.scene.TheConstants.{MAX_BODIES}
 use Rattle.pf_shapes.specs.Fault.{scene_fault_of}
 use Rattle.pf_shapes.specs.Scene.{Scene}
 use Rattle.pf_shapes.specs.SceneText.{is_body_line, line_of}
@@ -16,7 +17,7 @@ use Rattle.pf_peers.specs.declared.event.Event.{Event}
 use Rattle.pf_peers.specs.Session.{Session, new_session, reply_to, session_after}
 use Rattle.pf_console.specs.declared.phase.Phase.{Phase}
 use Rattle.pf_console.specs.declared.phase.Phase.TheVariants.{Reading, Seating, Playing}
-use Rattle.pf_console.specs.declared.phase.TheConstants.{MAX_TEXT_BODIES, MAX_TEXT_PEERS}
+use Rattle.pf_console.specs.declared.phase.TheConstants.{MAX_TEXT_PEERS}
 use Rattle.pf_console.specs.Grammar.{event_of}
 use Rattle.pf_console.specs.Print.{reply_text}
 
@@ -71,4 +72,4 @@ text_rules =
 
 -- a text begins with a scene
 abbrev pub first_phase : Phase
-first_phase = Reading (record { max_bodies = MAX_TEXT_BODIES; scene = None })
+first_phase = Reading (record { max_bodies = MAX_BODIES; scene = None })

@@ -1,5 +1,6 @@
 -- The texts of replies.
 use Rattle.std.specs.Prelude.{ℕ, ◌+◌, ℤ, pos, Bool, true, false, List, [], ◌∷◌, ◌++◌, codes, if◌then◌else◌}
+use Rattle.std.specs.List.{flat_map}
 use Rattle.hex.specs.Hex.{encode_lower}
 use Rattle.pf_text.specs.Words.{words_text, line_text}
 use Rattle.pf_shapes.specs.Fixture.{Fixture, is_static}
@@ -7,6 +8,7 @@ use Rattle.pf_shapes.specs.Body.{BodyState}
 use Rattle.pf_commands.specs.declared.payload.Command.{Command}
 use Rattle.pf_commands.specs.declared.payload.Payload.{Payload}
 use Rattle.pf_commands.specs.declared.payload.Payload.TheVariants.{Push, Turn, Stop}
+use Rattle.pf_cache.specs.Contact.{Contact}
 use Rattle.pf_peers.specs.declared.event.Reply.{Reply}
 use Rattle.pf_peers.specs.declared.event.Reply.TheVariants.{Issued, Took, Advanced, Shown, Refused}
 use Rattle.pf_step.specs.World.{World}
@@ -51,11 +53,19 @@ bodies_text i (f ∷ fixtures) (b ∷ bodies) =
     dynamic_body_text i f b ++ bodies_text (i + 1) fixtures bodies
 bodies_text i fixtures bodies = []
 
--- the block of a world
+-- the numbers of a contact's line: I J F PN PT
+abbrev pub contact_numbers : Contact → List ℤ
+contact_numbers c =
+    pos c.key.a ∷ pos c.key.b ∷ pos c.key.feature ∷ c.impulses.normal ∷ c.impulses.tangent ∷ []
+
+abbrev pub contact_text : Contact → List ℕ
+contact_text c = line_text (codes "contact") (contact_numbers c)
+
+-- the block of a world: its bodies that move, and its contacts
 unfoldable pub block_text : List Fixture → ℕ → ℕ → World → List ℕ
 block_text fixtures peer tick w =
     line_text (codes "show") (pos peer ∷ pos tick ∷ []) ++ bodies_text 0 fixtures w.bodies
-    ++ line_text (codes "end") []
+    ++ flat_map contact_text w.contacts ++ line_text (codes "end") []
 
 -- a word, a peer, and its reply
 abbrev pub reply_line : List ℕ → ℕ → List ℕ → List ℕ

@@ -13,7 +13,7 @@ ghost use Rattle.pf_console.specs.EventEncoding.{event_line, IsEncodable};
 ghost use Rattle.pf_console.specs.Laws.{AreLinesOf, IsLineOf, session_output};
 ghost use Rattle.pf_console.specs.Phase.{text_rules};
 
-use crate::phase::{MAX_TEXT_BODIES, MAX_TEXT_PEERS};
+use crate::phase::MAX_TEXT_PEERS;
 use pf_shapes::PLAYERS;
 
 /// Lines that each encode an event have the printed replies of the abstract session, and no error;
@@ -41,8 +41,7 @@ pub fn printed_frames_are_parsed()
         → frame_of (encode_lower (encoding c)) ≡ Ok (Ok c) }
 {}
 
-/// How many bodies and peers a text may have.
+/// How many peers a text may have.
 pub fn named_limits()
-    ensures bodies { MAX_TEXT_BODIES ≡ 1 }
-    ensures peers { MAX_TEXT_PEERS ≡ 1 }
+    ensures { MAX_TEXT_PEERS ≡ 1 }
 {}

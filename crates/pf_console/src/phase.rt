@@ -9,12 +9,9 @@ ghost use Rattle.pf_console.specs.Phase.{after_event, after_scene_line, peer_cou
 use crate::grammar::event;
 use crate::print::reply_text;
 use pf_peers::{Event, Session};
-use pf_shapes::{Progress, Scene, SceneFault, SceneReader};
+use pf_shapes::{MAX_BODIES, Progress, Scene, SceneFault, SceneReader};
 use pf_text::{LineFault, Machine, TakeRefusal, integer};
 use std::alloc::Global;
-
-/// How many bodies a text's scene may have.
-pub const MAX_TEXT_BODIES: usize = 1;
 
 /// How many peers a text may have.
 pub const MAX_TEXT_PEERS: u8 = 1;
@@ -38,7 +35,7 @@ impl Phase {
     pub fn first() -> Phase
         ensures { result ≡ first_phase }
     {
-        Phase::Reading(SceneReader::new(MAX_TEXT_BODIES))
+        Phase::Reading(SceneReader::new(MAX_BODIES))
     }
 }
 

@@ -1,10 +1,13 @@
 //! The texts of replies.
 
-ghost use Rattle.std.specs.Prelude.{◌≡◌, ◌++◌, ◌<◌, ◌^◌, OnOk, IfOk};
+ghost use Rattle.std.specs.Prelude.{◌≡◌, ◌++◌, ◌<◌, ◌^◌, All, OnOk, IfOk};
+ghost use Rattle.std.specs.List.{flat_map};
 ghost use Rattle.std.specs.String.{string_bytes};
-ghost use Rattle.pf_console.specs.Print.{payload_text, command_line, body_numbers, dynamic_body_text, bodies_text, block_text, reply_line, refusal_line, refusal_text, reply_text};
+ghost use Rattle.pf_manifold.specs.Key.{IsKey};
+ghost use Rattle.pf_console.specs.Print.{payload_text, command_line, body_numbers, dynamic_body_text, bodies_text, contact_numbers, contact_text, block_text, reply_line, refusal_line, refusal_text, reply_text};
 
 use crate::names::{check_fault_name, frame_fault_name, put_name};
+use pf_cache::Contact;
 use pf_commands::{Command, Payload};
 use pf_peers::Reply;
 use pf_rollback::Refusal;
@@ -94,6 +97,34 @@ fn push_bodies(
     Ok(())
 }
 
+/// The numbers of a contact's line.
+fn contact_numbers(contact: &Contact) -> [i64; 5]
+    requires { IsKey contact.now.key }
+    ensures { result ≡ contact_numbers contact.now }
+{
+    let key = &contact.key;
+    let impulses = &contact.impulses;
+    [
+        key.a as i64,
+        key.b as i64,
+        i64::from(key.feature),
+        impulses.normal.raw(),
+        impulses.tangent.raw(),
+    ]
+}
+
+/// Adds a line for each contact.
+fn push_contacts(text: &mut String, contacts: &[Contact]) -> Result<(), AllocError>
+    requires { All (λ c. IsKey c.key) contacts.now }
+    ensures { OnOk result (string_bytes text.new
+        ≡ string_bytes text.old ++ flat_map contact_text contacts.now) }
+{
+    for contact in contacts {
+        push_line(text, "contact", &contact_numbers(contact))?;
+    }
+    Ok(())
+}
+
 /// Adds a line: a word, a peer, and its reply.
 fn push_reply(text: &mut String, word: &str, peer: u8, answer: &str) -> Result<(), AllocError>
     ensures { OnOk result (string_bytes text.new
@@ -130,7 +161,7 @@ fn push_refusal(text: &mut String, refusal: Refusal) -> Result<(), AllocError>
     }
 }
 
-/// Adds the block of a world.
+/// Adds the block of a world: its bodies that move, and its contacts.
 #[tactic(auto, unfolding(crate::specs::Print::block_text))]
 fn push_block(
     text: &mut String,
@@ -144,6 +175,7 @@ fn push_block(
 {
     push_line(text, "show", &[i64::from(peer), i64::from(tick)])?;
     push_bodies(text, fixtures, world.bodies())?;
+    push_contacts(text, world.contacts().as_slice())?;
     push_line(text, "end", &[])
 }
 

@@ -21,6 +21,13 @@ const FIRST_REPLY: usize = 12;
 
 const SECOND_REPLY: usize = 69;
 
+/// A circle that lies on a box, shown once.
+const RESTING: &[u8] =
+    b"gravity 0 -167772160\nbox - 0 8388608 167772160 16777216 0 -16777216 16777216 0\ncircle 0 16777216 8388608 16777216 0 16777216\nend\npeers 1\nadvance 0 3\nshow 0 3\n";
+
+const RESTED: &[u8] =
+    b"advance 0 3\nshow 0 3\nbody 1 0 16777216 16777216 0 0 0 0 3 1\ncontact 0 1 133 2621440 0\nend\n";
+
 /// What the program writes, its report of an error, and its status. A `Collected` fails only where
 /// it is out of memory.
 type Ended = (Collected, Collected, u8);
@@ -54,6 +61,14 @@ fn played(alloc: Global, text: &[u8]) -> Result<Ended, AllocError> {
 fn a_text_is_run(rt: HostRuntime) -> Result<(), Fail> {
     let (output, said, status) = played(rt.alloc(), FALLING)?;
     assert_eq!(rt; output.bytes(), FALLEN);
+    assert!(rt; said.bytes().is_empty() && status == 0);
+    Ok(())
+}
+
+#[test]
+fn contacts_are_shown(rt: HostRuntime) -> Result<(), Fail> {
+    let (output, said, status) = played(rt.alloc(), RESTING)?;
+    assert_eq!(rt; output.bytes(), RESTED);
     assert!(rt; said.bytes().is_empty() && status == 0);
     Ok(())
 }

@@ -2,6 +2,7 @@
 //! reached.
 
 use crate::fault::{Fault, Refusal};
+use pf_cache::Work;
 use pf_commands::{
     Command, CommandMap, FRAME_LEN, MAX_TICK, Name, Payload, Put, check, decode, encode,
 };
@@ -206,9 +207,10 @@ impl PeerCore {
             IsEmptyBefore core.scene core.peer.commands ticks → IsOk result }
     {
         let mut world = World::start(alloc, &self.scene)?;
+        let mut work = Work::new();
         for tick in 0..ticks {
             let payloads = self.commands.at_tick(alloc, tick)?;
-            world = step_alone(alloc, &self.scene, &world, &payloads)?;
+            world = step_alone(alloc, &self.scene, &world, &payloads, &mut work)?;
         }
         Ok(world)
     }

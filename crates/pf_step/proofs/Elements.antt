@@ -1,5 +1,8 @@
--- Elements of a list of which one is replaced.
-use Rattle.std.proofs.Common.{◌≡◌, ◌≢◌, ℕ, zero, suc, List, [], ◌∷◌, Some, refl, ap, slice_get, slice_set, map}
+-- Elements of lists by their places.
+use Rattle.std.proofs.Common.{◌≡◌, ◌≢◌, ℕ, zero, suc, List, [], ◌∷◌, Option, Some, length, refl, ap, ap₂, subst, slice_get, slice_set, map, get_or, arith}
+use Rattle.std.proofs.lemmas.Option.{get_or_from_slice_get, slice_get-get_or, slice_get_within}
+use Rattle.std.specs.List.{zip}
+use Rattle.std.specs.Prelude.{All}
 
 -- an element at another index
 pub set_other : {X : Type 0} (xs : List X) (i j : ℕ) (x : X) → i ≢ j → slice_get (slice_set xs i x) j ≡ slice_get xs j
@@ -15,6 +18,22 @@ set_same [] i x y here = absurd cc
 set_same (z ∷ zs) zero x y here = refl
 set_same (z ∷ zs) (suc i) x y here = set_same zs i x y here
 
+pub set_length : {X : Type 0} (xs : List X) (i : ℕ) (x : X) → length (slice_set xs i x) ≡ length xs
+set_length [] i x = refl
+set_length (y ∷ ys) zero x = refl
+set_length (y ∷ ys) (suc i) x = ap suc (set_length ys i x)
+
+-- an element of which there is one is one element
+pub same_element : {X : Type 0} (x y : X) → ◌≡◌ {A = Option X} (Some x) (Some y) → x ≡ y
+same_element x y e = cc
+
+-- what holds of all elements holds of the one at a place, and the other way round
+pub all_at : {X : Type 0} (P : X → Type 0) (xs : List X) (i : ℕ) (x : X) → All P xs → slice_get xs i ≡ Some x → P x
+all_at P xs i x all here = subst P (get_or_from_slice_get xs i x x here) (all i x (slice_get_within xs i x here))
+
+pub all_from : {X : Type 0} (P : X → Type 0) (xs : List X) → ((i : ℕ) (x : X) → slice_get xs i ≡ Some x → P x) → All P xs
+all_from P xs each = λ i d within. each i (get_or xs i d) (slice_get-get_or xs i d within)
+
 -- the element of a mapped list comes from one of the list
 pub record IsMapped {X Y : Type 0} (f : X → Y) (xs : List X) (i : ℕ) (y : Y) : Type 0 where
   pub from : X
@@ -26,3 +45,27 @@ mapped f [] i y here = absurd cc
 mapped f (x ∷ xs) zero y here = record { from = x; is_there = refl; value = cc }
 mapped f (x ∷ xs) (suc i) y here =
     let rest = mapped f xs i y here in record { from = rest.from; is_there = rest.is_there; value = rest.value }
+
+-- a pair of a zipped list has an element of each
+pub zipped : {X Y : Type 0} (xs : List X) (ys : List Y) (i : ℕ) (m : X × Y) → slice_get (zip xs ys) i ≡ Some m
+    → (slice_get xs i ≡ Some m.0) × (slice_get ys i ≡ Some m.1)
+zipped [] ys i m here = absurd cc
+zipped (x ∷ xs) [] i m here = absurd cc
+zipped {X = X} {Y = Y} (x ∷ xs) (y ∷ ys) zero m here =
+    let is : (x, y) ≡ m = same_element (x, y) m here in (ap (λ (p : X × Y). Some p.0) is, ap (λ (p : X × Y). Some p.1) is)
+zipped (x ∷ xs) (y ∷ ys) (suc i) m here = zipped xs ys i m here
+
+-- where both lists have an element, the zipped one has the pair
+pub zip_at : {X Y : Type 0} (xs : List X) (ys : List Y) (i : ℕ) (x : X) (y : Y) → slice_get xs i ≡ Some x
+    → slice_get ys i ≡ Some y → slice_get (zip xs ys) i ≡ Some (x, y)
+zip_at [] ys i x y here there = absurd cc
+zip_at (a ∷ xs) [] i x y here there = absurd cc
+zip_at (a ∷ xs) (b ∷ ys) zero x y here there =
+    ap₂ (λ p q. Some (p, q)) (same_element a x here) (same_element b y there)
+zip_at (a ∷ xs) (b ∷ ys) (suc i) x y here there = zip_at xs ys i x y here there
+
+pub zip_length : {X Y : Type 0} (xs : List X) (ys : List Y) → length xs ≡ length ys → length (zip xs ys) ≡ length ys
+zip_length [] [] same = refl
+zip_length [] (y ∷ ys) same = absurd (omega (arith, same))
+zip_length (x ∷ xs) [] same = absurd (omega (arith, same))
+zip_length (x ∷ xs) (y ∷ ys) same = ap suc (zip_length xs ys (omega (arith, same)))

@@ -1,15 +1,19 @@
 -- Worlds of scenes without bodies.
-use Rattle.std.proofs.Common.{◌≡◌, ℕ, zero, suc, List, [], ◌∷◌, Option, Some, None, refl, slice_get}
+use Rattle.std.proofs.Common.{◌≡◌, ℕ, zero, suc, List, [], ◌∷◌, Option, Some, None, length, refl, ap, ◌∙◌, slice_get, arith}
 use Rattle.pf_shapes.specs.Fixture.{Fixture}
 use Rattle.pf_shapes.specs.Body.{BodyState}
 use Rattle.pf_shapes.specs.Scene.{Scene}
 use Rattle.pf_commands.specs.Merge.{CommandMap, payloads_at}
 use Rattle.pf_commands.specs.Payload.{body_of}
 use Rattle.pf_commands.specs.declared.payload.Payload.{Payload}
+use Rattle.pf_cache.specs.Row.{Row}
+use Rattle.pf_islands.specs.Sleep.{rested, woken}
+use Rattle.pf_solver.specs.Solve.{solved}
+use Rattle.pf_solver.proofs.Solved.{solved_length}
 use Rattle.pf_step.specs.Commands.{bodies_with, after_command, after_commands}
 use Rattle.pf_step.specs.Simulation.{sim}
 use Rattle.pf_step.specs.Step.{step}
-use Rattle.pf_step.specs.World.{start_of}
+use Rattle.pf_step.specs.World.{World, start_of}
 
 abbrev no_bodies : List BodyState
 no_bodies = []
@@ -33,9 +37,32 @@ after_commands-empty fixtures [] = refl
 after_commands-empty fixtures (p ∷ payloads) =
     rw (after_command-empty fixtures p) (after_commands-empty fixtures payloads)
 
+none_long : {X : Type 0} (xs : List X) → length xs ≡ 0 → xs ≡ []
+none_long [] none = refl
+none_long (x ∷ xs) none = absurd (omega (arith, none))
+
+woken-empty : (names : List ℕ) → woken names [] ≡ []
+unfolding woken
+woken-empty [] = refl
+woken-empty (name ∷ names) = refl
+
+rested-empty : (full : ℕ) (names : List ℕ) → rested full names [] ≡ []
+unfolding rested
+rested-empty full [] = refl
+rested-empty full (name ∷ names) = refl
+
+solved-empty : (s : Scene) (bodies : List BodyState) (rows : List Row) → bodies ≡ [] → (solved s bodies rows).bodies ≡ []
+solved-empty s bodies rows none = none_long (solved s bodies rows).bodies (solved_length s bodies rows ∙ ap length none)
+
+pub step_empty : (s : Scene) (w : World) (payloads : List Payload) → w.bodies ≡ [] → (step s w payloads).bodies ≡ []
+unfolding step
+step_empty s w payloads none =
+    let commanded : after_commands s.fixtures w.bodies payloads ≡ [] =
+    ap (λ bodies. after_commands s.fixtures bodies payloads) none ∙ after_commands-empty s.fixtures payloads in
+    ap (rested _ _) (solved-empty s _ _ (ap (woken _) commanded ∙ woken-empty _)) ∙ rested-empty _ _
+
 -- a scene without bodies has worlds without bodies
 pub sim_empty : (s : Scene) (m : CommandMap) (tick : ℕ) → s.starts ≡ [] → (sim s m tick).bodies ≡ []
-unfolding sim step start_of
+unfolding sim start_of
 sim_empty s m zero none = none
-sim_empty s m (suc tick) none =
-    rw (sim_empty s m tick none, after_commands-empty s.fixtures (payloads_at m tick)) refl
+sim_empty s m (suc tick) none = step_empty s (sim s m tick) (payloads_at m tick) (sim_empty s m tick none)

@@ -1,9 +1,16 @@
 -- The lemmas of this crate.
 pub mod Ticks
-pub mod Empty
 pub mod Orders
-pub mod Sleepers
-pub mod Rotations
 pub mod Elements
-pub mod Stillness
 pub mod Commanding
+pub mod ActiveRows
+pub mod Lengths
+pub mod Ticked
+pub mod Empty
+pub mod TickCases
+pub mod Stillness
+pub mod Rotations
+pub mod Touching
+pub mod Undisturbed
+pub mod Contacts
+pub mod KeptImpulses

@@ -1,15 +1,14 @@
 -- The phase Commands: what players' commands do to bodies, as b2Body's ApplyLinearImpulse and
 -- ApplyAngularImpulse, and a stop.
-use Rattle.std.specs.Prelude.{true, List, [], ◌∷◌, Option, Some, slice_get, slice_set}
+use Rattle.std.specs.Prelude.{true, List, [], ◌∷◌, Option, Some, slice_get, slice_set, if◌then◌else◌}
 use Rattle.pf_num.specs.Fx.{sum, product}
 use Rattle.pf_rot.specs.Vector.{V2, add, scale}
-use Rattle.pf_shapes.specs.Fixture.{Fixture, inverse_mass, inverse_inertia}
-use Rattle.pf_shapes.specs.Body.{BodyState}
+use Rattle.pf_shapes.specs.Fixture.{Fixture, inverse_mass, inverse_inertia, is_static}
+use Rattle.pf_shapes.specs.Body.{BodyState, at_rest}
 use Rattle.pf_shapes.specs.Scene.{Scene}
 use Rattle.pf_commands.specs.declared.payload.Payload.{Payload}
 use Rattle.pf_commands.specs.declared.payload.Payload.TheVariants.{Push, Turn, Stop}
 use Rattle.pf_commands.specs.Payload.{body_of}
-use Rattle.pf_step.specs.Body.{at_rest}
 use Rattle.pf_step.specs.World.{World}
 
 -- awake, and still for no tick
@@ -25,10 +24,11 @@ after_payload f (Turn body x) b =
     record (woken_body b) { spin = sum b.spin (product (inverse_inertia f) x) }
 after_payload f (Stop body) b = at_rest (woken_body b)
 
--- the bodies where the commanded one, if there is one, has its new state
+-- the bodies where the commanded one, if there is one and it is dynamic, has its new state
 abbrev pub bodies_with
     : List BodyState → Payload → Option Fixture → Option BodyState → List BodyState
-bodies_with bodies p (Some f) (Some b) = slice_set bodies (body_of p) (after_payload f p b)
+bodies_with bodies p (Some f) (Some b) =
+    if is_static f then bodies else slice_set bodies (body_of p) (after_payload f p b)
 bodies_with bodies p fixture body = bodies
 
 -- the bodies after one command

@@ -1,9 +1,47 @@
 -- What laws of simulations speak of.
-use Rattle.std.specs.Prelude.{◌≢◌, ℕ, List, [], ◌∷◌}
+use Rattle.std.specs.Prelude.{◌≡◌, ℕ, pos, neg_ℤ, ◌≤ℤ◌, false, List, Some, slice_get}
+use Rattle.pf_num.specs.Fx.{product}
+use Rattle.pf_shapes.specs.Body.{BodyState}
+use Rattle.pf_shapes.specs.Scene.{Scene, fixture_at}
+use Rattle.pf_manifold.specs.Key.{Key}
 use Rattle.pf_commands.specs.declared.payload.Payload.{Payload}
-use Rattle.pf_commands.specs.Payload.{body_of}
+use Rattle.pf_commands.specs.Merge.{CommandMap, payloads_at}
+use Rattle.pf_cache.specs.Contact.{Impulses, updated}
+use Rattle.pf_islands.specs.Group.{groups}
+use Rattle.pf_islands.specs.Reach.{Reaches}
+use Rattle.pf_islands.specs.Sleep.{woken}
+use Rattle.pf_solver.specs.Constraint.{friction_of}
+use Rattle.pf_solver.specs.Solve.{solved}
+use Rattle.pf_step.specs.Commands.{after_commands}
+use Rattle.pf_step.specs.Rows.{active_rows}
+use Rattle.pf_step.specs.Simulation.{sim}
+use Rattle.pf_step.specs.Step.{touching}
+use Rattle.pf_step.specs.World.{World}
 
--- none of these payloads is for the body of this number
-abbrev pub NoneFor : ℕ → List Payload → Type 0
-NoneFor i [] = Unit {0}
-NoneFor i (p ∷ payloads) = (body_of p ≢ i) × NoneFor i payloads
+-- the bodies of the simulation after the commands of a tick
+abbrev pub commanded_bodies : Scene → CommandMap → ℕ → List BodyState
+commanded_bodies s commands tick =
+    after_commands s.fixtures (sim s commands tick).bodies (payloads_at commands tick)
+
+-- no chain of contacts leads from the body of this number to an awake body
+abbrev pub IsUndisturbed : Scene → List BodyState → ℕ → Type 0
+IsUndisturbed s bodies i =
+    (j : ℕ) (b : BodyState) → slice_get bodies j ≡ Some b → Reaches s (touching s bodies) i j
+    → b.awake ≡ false
+
+-- the bodies of a tick when the phase Sleep comes
+abbrev pub bodies_before_sleep : Scene → World → List Payload → List BodyState
+bodies_before_sleep s w payloads =
+    let commanded = after_commands s.fixtures w.bodies payloads in
+    let points = touching s commanded in
+    let awake = woken (groups s points) commanded in
+    (solved s awake (active_rows s awake points (updated w.contacts points))).bodies
+
+-- the accumulated impulses are within their limits: the normal impulse is not below 0, and the
+-- tangent impulse is within the limit of friction, by the coefficient of friction of both bodies
+pub record IsWithinFriction (s : Scene) (k : Key) (p : Impulses) : Type 0 where
+  pub normal : pos 0 ≤ℤ p.normal
+  pub friction :
+      let coefficient = friction_of (fixture_at s k.a).friction (fixture_at s k.b).friction in
+      let limit = product coefficient p.normal in
+      (neg_ℤ limit ≤ℤ p.tangent) × (p.tangent ≤ℤ limit)

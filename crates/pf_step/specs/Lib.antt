@@ -1,8 +1,8 @@
 -- What the contracts of this crate cite.
 pub mod World
 pub mod WorldLaws
-pub mod Body
 pub mod Commands
+pub mod Rows
 pub mod Step
 pub mod Simulation
 pub mod Laws

@@ -1,15 +1,41 @@
--- The tick on one screen: from the world at a tick to the world one tick later.
-use Rattle.std.specs.Prelude.{List, map}
+-- The tick on one screen: from the world at a tick to the world one tick later, as Box2D-Lite's
+-- World::Step, with the groups and the sleep of Box2D 2.x.
+use Rattle.std.specs.Prelude.{List}
+use Rattle.pf_shapes.specs.Body.{BodyState}
+use Rattle.pf_shapes.specs.Pair.{Pair}
 use Rattle.pf_shapes.specs.Scene.{Scene}
+use Rattle.pf_broad.specs.Pairs.{all_bounds, pairs}
+use Rattle.pf_manifold.specs.Touches.{Touch, touches}
 use Rattle.pf_commands.specs.declared.payload.Payload.{Payload}
-use Rattle.pf_solver.specs.Bodies.{gravity_per_tick}
-use Rattle.pf_step.specs.Body.{after_tick}
+use Rattle.pf_cache.specs.Contact.{updated}
+use Rattle.pf_cache.specs.Row.{with_rows}
+use Rattle.pf_islands.specs.Group.{groups}
+use Rattle.pf_islands.specs.Sleep.{rested, woken}
+use Rattle.pf_solver.specs.declared.bodies.TheConstants.{STILL_TICKS}
+use Rattle.pf_solver.specs.Solve.{solved}
 use Rattle.pf_step.specs.Commands.{after_commands}
+use Rattle.pf_step.specs.Rows.{active_rows}
 use Rattle.pf_step.specs.World.{World}
 
--- the commands of the tick, and then Gravity, Positions, Timers and Sleep of each awake body
+-- the contact points of all pairs of bodies
+abbrev pub touching : Scene → List BodyState → List Touch
+touching s bodies = touches s.fixtures bodies (pairs (all_bounds s.fixtures bodies))
+
+-- the pairs of bodies that a tick gives to the narrow phase
+abbrev pub pairs_of_tick : Scene → World → List Payload → List Pair
+pairs_of_tick s w payloads =
+    pairs (all_bounds s.fixtures (after_commands s.fixtures w.bodies payloads))
+
+-- Commands, Points, Activity, then Gravity, Pre-step, Rounds, Positions and Timers, and Sleep
 unfoldable pub step : Scene → World → List Payload → World
-step s w payloads = record w {
-  bodies =
-      map (after_tick (gravity_per_tick s.gravity)) (after_commands s.fixtures w.bodies payloads);
-}
+step s w payloads =
+    let commanded = after_commands s.fixtures w.bodies payloads in
+    let points = touching s commanded in
+    let contacts = updated w.contacts points in
+    let names = groups s points in
+    let awake = woken names commanded in
+    let after = solved s awake (active_rows s awake points contacts) in
+    record {
+      bodies = rested STILL_TICKS names after.bodies;
+      contacts = with_rows contacts after.rows;
+    }

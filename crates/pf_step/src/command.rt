@@ -1,19 +1,20 @@
 //! The phase Commands: what players' commands do to bodies.
 
-ghost use Rattle.std.specs.Prelude.{◌≡◌};
+ghost use Rattle.std.specs.Prelude.{◌≡◌, length};
 ghost use Rattle.pf_step.specs.Commands.{after_payload, after_command, after_commands, apply};
 
-use crate::body::at_rest;
 use crate::world::World;
 use pf_commands::Payload;
+use pf_num::Fx;
 use pf_rot::V2;
 use pf_shapes::{BodyState, Fixture, Scene};
 
-/// Applies one command to a world of the scene. A command for a body that the scene lacks changes
-/// nothing. Takes no memory.
+/// Applies one command to a world of the scene. A command for a static body, or for one that the
+/// scene lacks, changes nothing. Takes no memory.
 #[tactic(auto, unfolding(crate::specs::Commands::apply))]
 pub fn apply(world: &mut World, scene: &Scene, payload: Payload)
-    ensures { world.new ≡ apply scene.now world.old payload }
+    ensures value { world.new ≡ apply scene.now world.old payload }
+    ensures bodies { length world.new.bodies ≡ length world.old.bodies }
 {
     apply_one(scene.fixtures(), &mut world.bodies, &payload);
 }
@@ -36,7 +37,9 @@ fn apply_one(fixtures: &[Fixture], bodies: &mut [BodyState], payload: &Payload)
 {
     let body = usize::from(payload.body());
     if let (Some(fixture), Some(state)) = (fixtures.get(body), bodies.get(body)) {
-        bodies[body] = after_payload(fixture, payload, *state);
+        if !fixture.is_static() {
+            bodies[body] = after_payload(fixture, payload, *state);
+        }
     }
 }
 
@@ -59,6 +62,10 @@ fn after_payload(fixture: &Fixture, payload: &Payload, body: BodyState) -> BodyS
             spin: body.spin.add(fixture.inverse_inertia().mul(x)),
             ..woken
         },
-        Payload::Stop { .. } => at_rest(woken),
+        Payload::Stop { .. } => BodyState {
+            velocity: V2::ZERO,
+            spin: Fx::ZERO,
+            ..woken
+        },
     }
 }

@@ -1,21 +1,25 @@
 //! Laws of simulations. Their functions do nothing: their clauses are what they are for.
 
-ghost use Rattle.std.specs.Prelude.{◌≡◌, ◌≢◌, ℕ, ◌+◌, ◌-◌, ◌^◌, ◌≤◌, ◌<◌, pos, true, false, Some, All, slice_get};
+ghost use Rattle.std.specs.Prelude.{◌≡◌, ◌≢◌, ◌⊎◌, ℕ, ◌+◌, ◌-◌, ◌≤◌, ◌<◌, pos, true, false, Some, All, map, slice_get};
 ghost use Rattle.pf_rot.specs.Vector.{zero_vector};
 ghost use Rattle.pf_rot.specs.Laws.{IsAtMostOne};
 ghost use Rattle.pf_shapes.specs.Body.{BodyState};
-ghost use Rattle.pf_shapes.specs.Fixture.{Fixture};
-ghost use Rattle.pf_shapes.specs.Scene.{IsScene, Scene};
+ghost use Rattle.pf_shapes.specs.Fixture.{Fixture, is_static};
+ghost use Rattle.pf_shapes.specs.Scene.{IsScene, Scene, is_static_at};
+ghost use Rattle.pf_manifold.specs.Key.{key_of, rank};
+ghost use Rattle.pf_manifold.specs.Touches.{Touch};
 ghost use Rattle.pf_commands.specs.declared.payload.Payload.{Payload};
 ghost use Rattle.pf_commands.specs.declared.payload.Payload.TheVariants.{Stop};
 ghost use Rattle.pf_commands.specs.Payload.{body_of};
 ghost use Rattle.pf_commands.specs.Merge.{CommandMap, merge, payloads_at, singleton};
 ghost use Rattle.pf_commands.specs.Name.{Name};
-ghost use Rattle.pf_solver.specs.Bodies.{after_gravity, after_motion, gravity_per_tick, is_still};
+ghost use Rattle.pf_cache.specs.Contact.{AreContacts, impulses_at};
+ghost use Rattle.pf_solver.specs.Bodies.{is_still};
 ghost use Rattle.pf_step.specs.Commands.{apply};
-ghost use Rattle.pf_step.specs.Laws.{NoneFor};
-ghost use Rattle.pf_step.specs.World.{World};
+ghost use Rattle.pf_step.specs.Laws.{IsUndisturbed, IsWithinFriction, bodies_before_sleep, commanded_bodies};
 ghost use Rattle.pf_step.specs.Simulation.{sim};
+ghost use Rattle.pf_step.specs.Step.{touching};
+ghost use Rattle.pf_step.specs.World.{World};
 
 use pf_solver::STILL_TICKS;
 
@@ -33,13 +37,51 @@ pub fn commands_change_later_worlds()
         → sim scene (merge commands (singleton name payload)) tick ≡ sim scene commands tick }
 {}
 
-/// A body that sleeps stays as it is at every later tick, up to a command for it. This is of bodies
-/// that touch nothing, as all do today.
+/// A body stays as it is at every later tick as long as no chain of contacts leads from it to an
+/// awake body. A command wakes its body.
 pub fn sleepers_stay()
     ensures { (scene : Scene) (commands : CommandMap) (tick later i : ℕ) (body : BodyState)
-        → slice_get (sim scene commands tick).bodies i ≡ Some body → body.awake ≡ false
-        → ((t : ℕ) → tick ≤ t → t < tick + later → NoneFor i (payloads_at commands t))
+        → IsScene scene → slice_get (sim scene commands tick).bodies i ≡ Some body
+        → ((t : ℕ) → tick ≤ t → t < tick + later
+        → IsUndisturbed scene (commanded_bodies scene commands t) i)
         → slice_get (sim scene commands (tick + later)).bodies i ≡ Some body }
+{}
+
+/// So do the accumulated impulses of the contacts of a dynamic body: at a tick at which no chain
+/// leads from it to an awake body, each contact point of it keeps what its key has accumulated.
+pub fn contacts_of_sleepers_keep_their_impulses()
+    ensures { (scene : Scene) (commands : CommandMap) (tick i place : ℕ) (body : BodyState)
+        (t : Touch) → IsScene scene → is_static_at scene i ≡ false
+        → let bodies = commanded_bodies scene commands tick in
+        slice_get bodies i ≡ Some body → IsUndisturbed scene bodies i
+        → slice_get (touching scene bodies) place ≡ Some t → (t.a ≡ i) ⊎ (t.b ≡ i)
+        → impulses_at (rank (key_of t)) (sim scene commands (tick + 1)).contacts
+        ≡ impulses_at (rank (key_of t)) (sim scene commands tick).contacts }
+{}
+
+/// A static body is at its start at each tick.
+pub fn static_bodies_never_move()
+    ensures { (scene : Scene) (commands : CommandMap) (tick i : ℕ) (body : BodyState)
+        → IsScene scene → is_static_at scene i ≡ true
+        → slice_get (sim scene commands tick).bodies i ≡ Some body
+        → slice_get scene.starts i ≡ Some body }
+{}
+
+/// The contacts of a world are in the order of their keys, each key once. At each tick but the
+/// first their keys are those of the contact points of the bodies after the tick's commands.
+pub fn contacts_are_those_of_touching_keys()
+    ensures order { (scene : Scene) (commands : CommandMap) (tick : ℕ) → IsScene scene
+        → AreContacts (sim scene commands tick).contacts }
+    ensures keys { (scene : Scene) (commands : CommandMap) (tick : ℕ)
+        → map (λ c. c.key) (sim scene commands (tick + 1)).contacts
+        ≡ map key_of (touching scene (commanded_bodies scene commands tick)) }
+{}
+
+/// In each world the accumulated normal impulse of a contact is not below 0, and its accumulated
+/// tangent impulse is within the limit of friction.
+pub fn impulses_are_within_friction()
+    ensures { (scene : Scene) (commands : CommandMap) (tick : ℕ) → IsScene scene
+        → All (λ c. IsWithinFriction scene c.key c.impulses) (sim scene commands tick).contacts }
 {}
 
 /// A command changes its body alone.
@@ -48,10 +90,12 @@ pub fn commands_change_one_body()
         → slice_get (apply scene w p).bodies i ≡ slice_get w.bodies i }
 {}
 
-/// A stop leaves its body where it is, awake and without velocity and spin.
+/// A stop leaves its body where it is, awake and without velocity and spin. The body is dynamic:
+/// commands do not move static ones.
 pub fn stops_leave_no_velocity()
     ensures { (scene : Scene) (w : World) (i : ℕ) (f : Fixture) (b : BodyState)
-        → slice_get scene.fixtures i ≡ Some f → slice_get w.bodies i ≡ Some b
+        → slice_get scene.fixtures i ≡ Some f → is_static f ≡ false
+        → slice_get w.bodies i ≡ Some b
         → slice_get (apply scene w (Stop i)).bodies i ≡ Some (record b {
           velocity = zero_vector;
           spin = pos 0;
@@ -69,15 +113,19 @@ pub fn timers_count_still_ticks()
         × (is_still c ≡ true) }
 {}
 
-/// A body that falls asleep had timer 31 and is still after this tick's motion. By the law before,
-/// it was still for 32 ticks.
+/// A body that falls asleep had a timer of 31 or 32, so by the law before it was still at the end
+/// of each of the last 31 ticks; and it is still in this one, when the phase Sleep comes.
 pub fn sleepers_were_still()
-    ensures { (scene : Scene) (commands : CommandMap) (tick i : ℕ) (b c : BodyState)
-        → IsScene scene
+    ensures timer { (scene : Scene) (commands : CommandMap) (tick i : ℕ) (b c : BodyState)
         → slice_get (sim scene commands tick).bodies i ≡ Some b → b.awake ≡ true
         → slice_get (sim scene commands (tick + 1)).bodies i ≡ Some c → c.awake ≡ false
-        → (b.timer + 1 ≡ STILL_TICKS)
-        × (is_still (after_motion (after_gravity (gravity_per_tick scene.gravity) b)) ≡ true) }
+        → STILL_TICKS ≤ b.timer + 1 }
+    ensures still { (scene : Scene) (commands : CommandMap) (tick i : ℕ) (b c d : BodyState)
+        → slice_get (sim scene commands tick).bodies i ≡ Some b → b.awake ≡ true
+        → slice_get (sim scene commands (tick + 1)).bodies i ≡ Some c → c.awake ≡ false
+        → let before = bodies_before_sleep scene (sim scene commands tick)
+        (payloads_at commands tick) in
+        slice_get before i ≡ Some d → is_still d ≡ true }
 {}
 
 /// No rotation of a world of a scene has a part above 1: what the bounds of a box ask for to

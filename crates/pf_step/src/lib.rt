@@ -1,12 +1,12 @@
 //! One tick: from the world of a scene to the next world.
 //!
-//! Today bodies touch nothing. The phases of a tick are those of Box2D-Lite's `World::Step` that a
-//! body goes through alone, and the sleep of Box2D 2.x.
+//! The phases of a tick are those of Box2D-Lite's `World::Step`; groups of bodies wake and sleep as
+//! those of Box2D 2.x.
 #![tactic(auto)]
 
-mod body;
 mod command;
 pub mod laws;
+mod rows;
 mod step;
 mod world;
 

@@ -1,42 +1,75 @@
-//! One tick of a world, on one thread.
+//! The tick on one screen: from a world to the world one tick later, on one thread.
 
-ghost use Rattle.std.specs.Prelude.{◌≡◌, map, [], IfOk, IsOk};
-ghost use Rattle.pf_step.specs.Body.{after_tick};
-ghost use Rattle.pf_step.specs.Step.{step};
+ghost use Rattle.std.specs.Prelude.{◌≡◌, [], All, length, IfOk, IsOk, OnOk, OnErr};
+ghost use Rattle.pf_cache.specs.Meter.{counted};
+ghost use Rattle.pf_cache.specs.Row.{AreRows, with_rows};
+ghost use Rattle.pf_islands.specs.Sleep.{rested};
+ghost use Rattle.pf_solver.specs.Solve.{IsRowOf, solved};
+ghost use Rattle.pf_step.specs.Step.{pairs_of_tick, step};
 
-use crate::body::after_tick;
 use crate::command::apply_all;
+use crate::rows::active_rows;
 use crate::world::{World, copy_of};
+use pf_broad::pairs;
+use pf_cache::{Contacts, Row, Work};
 use pf_commands::Payload;
-use pf_num::Fx;
-use pf_rot::V2;
+use pf_islands::Groups;
+use pf_manifold::collide_list;
 use pf_shapes::{BodyState, Scene};
+use pf_solver::{STILL_TICKS, solve_list};
 use std::alloc::{AllocError, Global};
 
+/// The phases Gravity to Sleep, with the rows of the active contacts: what these accumulate is kept.
+#[tactic(auto, using(pf_solver::proofs::Solved::solved_length, crate::proofs::Ticked::solved_in_order))]
+fn solve_active(
+    scene: &Scene,
+    groups: &mut Groups,
+    bodies: &mut [BodyState],
+    rows: &mut [Row],
+    contacts: &mut Contacts,
+)
+    requires groups { length bodies.old ≡ length groups.old }
+    requires rows { All (IsRowOf scene.now (length bodies.old)) rows.old }
+    requires order { AreRows rows.old }
+    ensures bodies { bodies.new
+        ≡ rested STILL_TICKS groups.old (solved scene.now bodies.old rows.old).bodies }
+    ensures contacts { contacts.new
+        ≡ with_rows contacts.old (solved scene.now bodies.old rows.old).rows }
+{
+    solve_list(scene, bodies, rows);
+    contacts.store_impulses(rows);
+    groups.rest(bodies, STILL_TICKS);
+}
+
 /// The world one tick of 1/64 s later, with the payloads of the tick's commands in order of player,
-/// then number. Takes no memory where there are no bodies.
-#[tactic(auto, unfolding(crate::specs::Step::step))]
+/// then number. The world has one state for each body of the scene. Counts the tick and the pairs
+/// of bodies that were given to the narrow phase; an error counts nothing. Takes no memory where
+/// there are no bodies.
+#[tactic(auto, unfolding(crate::specs::Step::step), using(pf_islands::proofs::Starting::groups_long, crate::proofs::Lengths::woken_length, crate::proofs::Ticked::updated_length, crate::proofs::Ticked::ticked, pf_solver::proofs::Solved::solved_length))]
 pub fn step_alone(
     alloc: Global,
     scene: &Scene,
     world: &World,
     payloads: &[Payload],
+    work: &mut Work,
 ) -> Result<World, AllocError>
+    requires { length world.now.bodies ≡ length scene.now.fixtures }
     ensures value { IfOk result (λ next. next ≡ step scene.now world.now payloads.now) }
+    ensures bodies { IfOk result (λ next. length next.bodies ≡ length scene.now.fixtures) }
+    ensures counted { OnOk result (work.new
+        ≡ counted (length (pairs_of_tick scene.now world.now payloads.now)) work.old) }
+    ensures not_counted { OnErr result (work.new ≡ work.old) }
     ensures no_memory { world.now.bodies ≡ [] → IsOk result }
 {
     let mut bodies = copy_of(alloc, world.bodies())?;
     apply_all(scene.fixtures(), &mut bodies, payloads);
-    step_bodies(scene.gravity().scale(Fx::TICK), &mut bodies);
-    Ok(World { bodies })
-}
-
-/// One tick of each body, after the commands. `pull` is what gravity adds to a velocity in a tick.
-#[tactic(auto, using(std::proofs::lemmas::List::Edits::map_over_more))]
-fn step_bodies(pull: V2, bodies: &mut [BodyState])
-    ensures { bodies.new ≡ map (after_tick pull) bodies.old }
-{
-    for body in bodies.iter_mut() {
-        *body = after_tick(pull, *body);
-    }
+    let pairs = pairs(alloc, scene, &bodies)?;
+    let touches = collide_list(alloc, scene, &bodies, &pairs)?;
+    let mut contacts = world.contacts().update(&touches)?;
+    let mut groups = Groups::new(alloc, scene, &touches)?;
+    groups.wake(&mut bodies);
+    let mut rows = active_rows(alloc, scene, &bodies, &touches, contacts.as_slice())?;
+    solve_active(scene, &mut groups, &mut bodies, &mut rows, &mut contacts);
+    work.count(pairs.len() as u64);
+    Ok(World { bodies, contacts })
 }

@@ -1,16 +1,18 @@
-//! Worlds: the state of all bodies of a scene at one tick.
+//! Worlds: the state of all bodies of a scene at one tick, and their contacts.
 
 ghost use Rattle.std.specs.Prelude.{◌≡◌, [], IfOk, IsOk};
 
+use pf_cache::Contacts;
 use pf_shapes::{BodyState, Scene};
 use std::alloc::{AllocError, Global};
 use std::marker::Model;
 
 /// The state of each body of a scene at one tick, static bodies among them, in order of their
-/// numbers.
+/// numbers; and the contacts of the last tick with their accumulated impulses.
 #[derive(Debug, Drop)]
 pub struct World {
     pub(crate) bodies: Vec<BodyState>,
+    pub(crate) contacts: Contacts,
 }
 
 impl Model for World {
@@ -18,7 +20,7 @@ impl Model for World {
 
     ghost Value = { World };
 
-    ghost view = { λ w. record { bodies = w.bodies.items } };
+    ghost view = { λ w. record { bodies = w.bodies.items; contacts = w.contacts } };
 }
 
 /// A copy of bodies. Takes no memory where there are none.
@@ -33,17 +35,20 @@ pub(crate) fn copy_of(alloc: Global, bodies: &[BodyState]) -> Result<Vec<BodySta
 }
 
 impl World {
-    ghost use Rattle.std.specs.Prelude.{◌≡◌, [], IfOk, IsOk};
+    ghost use Rattle.std.specs.Prelude.{◌≡◌, [], length, IfOk, IsOk};
     ghost use Rattle.pf_step.specs.World.{start_of, same_world};
 
-    /// The world at tick 0: each body at its start. Takes no memory where the scene has no bodies.
+    /// The world at tick 0: each body at its start, and no contacts. Takes no memory where the scene
+    /// has no bodies.
     #[tactic(auto, unfolding(crate::specs::World::start_of))]
     pub fn start(alloc: Global, scene: &Scene) -> Result<World, AllocError>
         ensures value { IfOk result (λ world. world ≡ start_of scene.now) }
+        ensures bodies { IfOk result (λ world. length world.bodies ≡ length scene.now.fixtures) }
         ensures no_memory { scene.now.starts ≡ [] → IsOk result }
     {
         let bodies = copy_of(alloc, scene.starts())?;
-        Ok(World { bodies })
+        let contacts = Contacts::new(alloc);
+        Ok(World { bodies, contacts })
     }
 
     /// The bodies in order of their numbers, static ones among them.
@@ -53,20 +58,29 @@ impl World {
         self.bodies.as_slice()
     }
 
-    /// A copy. Takes time and memory for all bodies, and no memory where there are none.
-    pub fn try_clone(&self) -> Result<World, AllocError>
-        ensures value { IfOk result (λ copy. copy ≡ self.now) }
-        ensures no_memory { self.now.bodies ≡ [] → IsOk result }
+    /// The contacts of the last tick, in the order of their keys.
+    pub fn contacts(&self) -> &Contacts
+        ensures { result.now ≡ self.now.contacts }
     {
-        let bodies = copy_of(*self.bodies.allocator(), self.bodies.as_slice())?;
-        Ok(World { bodies })
+        &self.contacts
     }
 
-    /// Whether the bodies are equal, part by part.
+    /// A copy. Takes time and memory for all bodies and contacts, and no memory where there are
+    /// none.
+    pub fn try_clone(&self) -> Result<World, AllocError>
+        ensures value { IfOk result (λ copy. copy ≡ self.now) }
+        ensures no_memory { self.now.bodies ≡ [] → self.now.contacts ≡ [] → IsOk result }
+    {
+        let bodies = copy_of(*self.bodies.allocator(), self.bodies.as_slice())?;
+        let contacts = self.contacts.try_clone()?;
+        Ok(World { bodies, contacts })
+    }
+
+    /// Whether the bodies and the contacts are equal, part by part.
     fn is_same(&self, other: &World) -> bool
         ensures { result ≡ same_world self.now other.now }
     {
-        self.bodies.as_slice() == other.bodies.as_slice()
+        self.bodies.as_slice() == other.bodies.as_slice() && self.contacts == other.contacts
     }
 }
 

@@ -1,0 +1,58 @@
+-- How long the lists of a tick are.
+use Rattle.std.proofs.Common.{◌≡◌, ℕ, zero, suc, List, length, sym, ◌∙◌}
+use Rattle.std.proofs.lemmas.List.{length-map}
+use Rattle.std.specs.List.{zip}
+use Rattle.pf_shapes.specs.Body.{BodyState}
+use Rattle.pf_shapes.specs.Scene.{IsScene, Scene}
+use Rattle.pf_manifold.specs.Touches.{Touch}
+use Rattle.pf_commands.specs.declared.payload.Payload.{Payload}
+use Rattle.pf_commands.specs.Merge.{CommandMap, payloads_at}
+use Rattle.pf_cache.specs.Contact.{updated}
+use Rattle.pf_islands.specs.Group.{groups}
+use Rattle.pf_islands.specs.Sleep.{rested, woken}
+use Rattle.pf_islands.proofs.Starting.{groups_long}
+use Rattle.pf_solver.specs.declared.bodies.TheConstants.{STILL_TICKS}
+use Rattle.pf_solver.specs.Solve.{solved}
+use Rattle.pf_solver.proofs.Solved.{solved_length}
+use Rattle.pf_step.specs.Commands.{after_commands}
+use Rattle.pf_step.specs.Rows.{active_rows}
+use Rattle.pf_step.specs.Simulation.{sim}
+use Rattle.pf_step.specs.Step.{step, touching}
+use Rattle.pf_step.specs.World.{World, start_of}
+use Rattle.pf_step.proofs.Commanding.{commands_length}
+use Rattle.pf_step.proofs.Elements.{zip_length}
+
+pub woken_length : (names : List ℕ) (bodies : List BodyState) → length names ≡ length bodies
+    → length (woken names bodies) ≡ length bodies
+unfolding woken
+woken_length names bodies same = length-map (zip names bodies) _ ∙ zip_length names bodies same
+
+pub rested_length : (full : ℕ) (names : List ℕ) (bodies : List BodyState) → length names ≡ length bodies
+    → length (rested full names bodies) ≡ length bodies
+unfolding rested
+rested_length full names bodies same = length-map (zip names bodies) _ ∙ zip_length names bodies same
+
+-- each body has a name
+pub named : (s : Scene) (points : List Touch) (bodies : List BodyState) → length bodies ≡ length s.fixtures
+    → length (groups s points) ≡ length bodies
+named s points bodies paired = groups_long s points ∙ sym paired
+
+-- a world has one state for each body of the scene
+pub step_length : (s : Scene) (w : World) (payloads : List Payload) → length w.bodies ≡ length s.fixtures
+    → length (step s w payloads).bodies ≡ length s.fixtures
+unfolding step
+step_length s w payloads paired =
+    let commanded = after_commands s.fixtures w.bodies payloads in
+    let points = touching s commanded in
+    let names = groups s points in
+    let awake = woken names commanded in
+    let rows = active_rows s awake points (updated w.contacts points) in
+    let kept : length commanded ≡ length s.fixtures = commands_length s.fixtures w.bodies payloads ∙ paired in
+    let woke : length awake ≡ length commanded = woken_length names commanded (named s points commanded kept) in
+    let moved : length (solved s awake rows).bodies ≡ length s.fixtures = solved_length s awake rows ∙ woke ∙ kept in
+    rested_length STILL_TICKS names (solved s awake rows).bodies (named s points (solved s awake rows).bodies moved) ∙ moved
+
+pub sim_length : (s : Scene) (m : CommandMap) (tick : ℕ) → IsScene s → length (sim s m tick).bodies ≡ length s.fixtures
+unfolding sim start_of
+sim_length s m zero scene = scene.paired
+sim_length s m (suc tick) scene = step_length s (sim s m tick) (payloads_at m tick) (sim_length s m tick scene)
