@@ -95,7 +95,7 @@ fn grid(alloc: Global) -> Result<Scene, Fail> {
         text.extend_from_slice(line.as_bytes())?;
     }
     text.extend_from_slice(b"end\n")?;
-    scene_of(alloc, &text)
+    Ok(scene_of(alloc, &text)?)
 }
 
 #[test]
