@@ -88,7 +88,7 @@ fn a_contact_carries_a_circle(rt: HostRuntime) -> Result<(), Fail> {
 /// A scene of 1,024 circles in rows, each of which touches its neighbours.
 fn grid(alloc: Global) -> Result<Scene, Fail> {
     let mut text = Vec::from_slice(alloc, b"gravity 0 0\n")?;
-    for number in 0..1024 {
+    for number in 0..1024_usize {
         let x = number % 32 * 33_554_432;
         let y = number / 32 * 33_554_432;
         let line = format!(in alloc; "circle - 16777216 0 16777216 {x} {y}\n")?;
