@@ -113,8 +113,8 @@ pub fn timers_count_still_ticks()
         × (is_still c ≡ true) }
 {}
 
-/// A body that falls asleep had a timer of at least 31, so by the law before it was still at the end
-/// of each of the last 31 ticks; and it is still in this one, when the phase Sleep comes.
+/// A body that falls asleep had a timer of at least 31, so by the law before it was still at the
+/// end of each of the last 31 ticks; and it is still in this one, when the phase Sleep comes.
 pub fn sleepers_were_still()
     ensures timer { (scene : Scene) (commands : CommandMap) (tick i : ℕ) (b c : BodyState)
         → slice_get (sim scene commands tick).bodies i ≡ Some b → b.awake ≡ true
