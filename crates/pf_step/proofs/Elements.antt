@@ -46,15 +46,6 @@ mapped f (x ∷ xs) zero y here = record { from = x; is_there = refl; value = cc
 mapped f (x ∷ xs) (suc i) y here =
     let rest = mapped f xs i y here in record { from = rest.from; is_there = rest.is_there; value = rest.value }
 
--- a pair of a zipped list has an element of each
-pub zipped : {X Y : Type 0} (xs : List X) (ys : List Y) (i : ℕ) (m : X × Y) → slice_get (zip xs ys) i ≡ Some m
-    → (slice_get xs i ≡ Some m.0) × (slice_get ys i ≡ Some m.1)
-zipped [] ys i m here = absurd cc
-zipped (x ∷ xs) [] i m here = absurd cc
-zipped {X = X} {Y = Y} (x ∷ xs) (y ∷ ys) zero m here =
-    let is : (x, y) ≡ m = same_element (x, y) m here in (ap (λ (p : X × Y). Some p.0) is, ap (λ (p : X × Y). Some p.1) is)
-zipped (x ∷ xs) (y ∷ ys) (suc i) m here = zipped xs ys i m here
-
 -- where both lists have an element, the zipped one has the pair
 pub zip_at : {X Y : Type 0} (xs : List X) (ys : List Y) (i : ℕ) (x : X) (y : Y) → slice_get xs i ≡ Some x
     → slice_get ys i ≡ Some y → slice_get (zip xs ys) i ≡ Some (x, y)
