@@ -3,5 +3,6 @@ pub mod Contact
 pub mod Same
 pub mod SameLaws
 pub mod Row
+pub mod Small
 pub mod Meter
 pub mod Laws

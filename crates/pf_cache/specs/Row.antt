@@ -50,6 +50,13 @@ no_constraint = record {
   friction = pos 0;
 }
 
+-- what the rounds need of a contact beside its impulses: the inverse masses of its bodies, and its
+-- constraint
+pub record Prepared : Type 0 where
+  pub first_mass : Mass
+  pub second_mass : Mass
+  pub constraint : Constraint
+
 -- an entry with the masses of its bodies and its constraint, as a pre-step left them
 pub record Row : Type 0 where
   pub entry : Entry

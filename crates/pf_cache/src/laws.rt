@@ -7,9 +7,9 @@ ghost use Rattle.pf_cache.specs.Contact.{AreContacts, Contact, impulses_at, no_i
 ghost use Rattle.pf_cache.specs.Laws.{AreFound, IsNew};
 ghost use Rattle.pf_cache.specs.Row.{no_mass};
 
+use crate::constraint::Mass;
 use crate::contact::Impulses;
 use crate::meter::Meter;
-use crate::row::Mass;
 
 /// Each contact of a list in the order of keys is found by its key, and a key that no contact has
 /// has no impulses.

@@ -2,6 +2,7 @@
 //! key, with which the next tick starts warm; and the meter of the work done.
 #![tactic(auto)]
 
+mod constraint;
 mod contact;
 mod contacts;
 pub mod laws;
@@ -9,8 +10,9 @@ mod meter;
 mod row;
 mod work;
 
+pub use constraint::{Constraint, Mass, Prepared};
 pub use contact::{Contact, Impulses};
 pub use contacts::Contacts;
 pub use meter::Meter;
-pub use row::{Constraint, Entry, Mass, Row, Side};
+pub use row::{Entry, Row, Side};
 pub use work::Work;

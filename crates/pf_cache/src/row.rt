@@ -3,10 +3,9 @@
 ghost use Rattle.std.specs.Prelude.{◌≡◌};
 ghost use Rattle.pf_cache.specs.Row.{contact_of, new_row};
 
+use crate::constraint::{Constraint, Mass, Prepared};
 use crate::contact::{Contact, Impulses};
 use pf_manifold::{Key, Touch};
-use pf_num::Fx;
-use pf_rot::V2;
 use std::marker::Model;
 
 /// Where a body of a contact stands.
@@ -64,114 +63,13 @@ impl Entry {
     }
 }
 
-/// How easily impulses move a body, as Box2D-Lite's `invMass` and `invI`. In units of 2^-24.
-#[derive(Clone, Copy, Debug)]
-pub struct Mass {
-    /// 1 / mass.
-    pub inverse_mass: Fx,
-    /// 1 / inertia.
-    pub inverse_inertia: Fx,
-}
-
-impl Model for Mass {
-    ghost use Rattle.pf_cache.specs.Row.{Mass};
-
-    ghost Value = { Mass };
-
-    ghost view = { λ m. record {
-      inverse_mass = m.inverse_mass;
-      inverse_inertia = m.inverse_inertia;
-    } };
-
-    ghost inverse = { λ m. record {
-      inverse_mass = m.inverse_mass;
-      inverse_inertia = m.inverse_inertia;
-    } };
-}
-
-impl Mass {
-    /// That of a static body.
-    pub const NONE: Mass = Mass {
-        inverse_mass: Fx::ZERO,
-        inverse_inertia: Fx::ZERO,
-    };
-}
-
-/// The part of a contact that stays fixed during the rounds, which Box2D-Lite's `Arbiter::PreStep`
-/// leaves in a `Contact`. In units of 2^-24.
-#[derive(Clone, Copy, Debug)]
-pub struct Constraint {
-    /// The normal, from the first body to the second.
-    pub normal: V2,
-    /// The normal turned clockwise by a quarter.
-    pub tangent: V2,
-    /// From the centre of the first body to the contact point.
-    pub first_arm: V2,
-    /// From the centre of the second body to the contact point.
-    pub second_arm: V2,
-    /// The effective mass along the normal.
-    pub normal_mass: Fx,
-    /// The effective mass along the tangent.
-    pub tangent_mass: Fx,
-    /// The speed at which bodies part that overlap.
-    pub bias: Fx,
-    /// The coefficient of friction.
-    pub friction: Fx,
-}
-
-impl Model for Constraint {
-    ghost use Rattle.pf_cache.specs.Row.{Constraint};
-
-    ghost Value = { Constraint };
-
-    ghost view = { λ c. record {
-      normal = c.normal;
-      tangent = c.tangent;
-      first_arm = c.first_arm;
-      second_arm = c.second_arm;
-      normal_mass = c.normal_mass;
-      tangent_mass = c.tangent_mass;
-      bias = c.bias;
-      friction = c.friction;
-    } };
-
-    ghost inverse = { λ c. record {
-      normal = c.normal;
-      tangent = c.tangent;
-      first_arm = c.first_arm;
-      second_arm = c.second_arm;
-      normal_mass = c.normal_mass;
-      tangent_mass = c.tangent_mass;
-      bias = c.bias;
-      friction = c.friction;
-    } };
-}
-
-impl Constraint {
-    /// That of a row before its pre-step.
-    const NONE: Constraint = Constraint {
-        normal: V2::ZERO,
-        tangent: V2::ZERO,
-        first_arm: V2::ZERO,
-        second_arm: V2::ZERO,
-        normal_mass: Fx::ZERO,
-        tangent_mass: Fx::ZERO,
-        bias: Fx::ZERO,
-        friction: Fx::ZERO,
-    };
-}
-
-/// An entry with the masses of its bodies and its constraint, as a pre-step left them.
-#[derive(Clone, Copy, Debug)]
+/// An entry, and what a pre-step made of it.
+#[derive(Debug, Drop)]
 pub struct Row {
     /// The entry.
     pub entry: Entry,
-    /// How easily impulses move the first body.
-    pub first_mass: Mass,
-    /// How easily impulses move the second body.
-    pub second_mass: Mass,
-    /// What its impulses depend on.
-    pub constraint: Constraint,
+    /// What the rounds need of it beside its impulses.
+    pub prepared: Prepared,
 }
 
 impl Model for Row {
@@ -181,16 +79,9 @@ impl Model for Row {
 
     ghost view = { λ r. record {
       entry = r.entry;
-      first_mass = r.first_mass;
-      second_mass = r.second_mass;
-      constraint = r.constraint;
-    } };
-
-    ghost inverse = { λ r. record {
-      entry = r.entry;
-      first_mass = r.first_mass;
-      second_mass = r.second_mass;
-      constraint = r.constraint;
+      first_mass = r.prepared.first_mass;
+      second_mass = r.prepared.second_mass;
+      constraint = r.prepared.constraint;
     } };
 }
 
@@ -201,9 +92,7 @@ impl Row {
     {
         Row {
             entry,
-            first_mass: Mass::NONE,
-            second_mass: Mass::NONE,
-            constraint: Constraint::NONE,
+            prepared: Prepared::new(Mass::NONE, Mass::NONE, Constraint::NONE),
         }
     }
 }

@@ -1,11 +1,12 @@
 -- A quotient by a number that is at least as great in magnitude is at most 1 in magnitude.
-use Rattle.std.proofs.Common.{◌≡◌, ℕ, zero, suc, ◌+◌, ◌*◌, ◌<◌, ◌≤◌, ℤ, Bool, true, false, refl, sym, ap, ◌∙◌, ⊎_elim, arith, min}
+use Rattle.std.proofs.Common.{◌≡◌, ℕ, ◌+◌, ◌*◌, ◌<◌, ◌≤◌, ℤ, refl, sym, ap, ◌∙◌, ⊎_elim, arith, min}
 use Rattle.std.proofs.lemmas.Bool.{cases_lt}
 use Rattle.std.proofs.Math.Nat.{mul-le-mul_right}
 use Rattle.std.specs.Int.RustNames.{unsigned_abs}
-use Rattle.pf_num.specs.Round.{nearest, with_sign, is_opposite}
+use Rattle.pf_num.specs.Round.{nearest, is_opposite}
 use Rattle.pf_num.specs.Fx.{quotient}
 use Rattle.pf_num.proofs.Nearest.{nearest-meets}
+use Rattle.pf_num.proofs.Range.{abs-with_sign}
 use Rattle.pf_num.proofs.Signs.{quotient_is}
 
 pub at_most : (a b n : ℕ) → a ≤ b → 0 < b → 2 * (n * b) ≤ 2 * (a * 16777216) + b → n ≤ 16777216
@@ -14,11 +15,6 @@ at_most a b n h some high =
     (λ (above : 16777216 < n). let far : (16777216 + 1) * b ≤ n * b = mul-le-mul_right b (omega arith) in absurd (omega (arith, far)))
     (λ (g : n ≤ 16777216). g)
     (cases_lt 16777216 n)
-
-abs-with_sign : (sign : Bool) (n : ℕ) → unsigned_abs (with_sign sign n) ≡ n
-abs-with_sign true zero = refl
-abs-with_sign true (suc n) = refl
-abs-with_sign false n = refl
 
 pub quotient_at_most_one : (a b : ℤ) → unsigned_abs a ≤ unsigned_abs b → 0 < unsigned_abs b → unsigned_abs (quotient a b) ≤ 16777216
 quotient_at_most_one a b h some =

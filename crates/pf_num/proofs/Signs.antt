@@ -101,12 +101,18 @@ pub product_in_range : (a b : ℤ) → unsigned_abs (near (a *ℤ b) (pos 167772
 unfolding product saturate
 product_in_range a b h = omega (arith, ints, clamps)
 
--- a product of short numbers is within 2^62, and fits a machine's number
-pub short-product : (a b : ℤ) → unsigned_abs a ≤ 2147483648 → unsigned_abs b ≤ 2147483648 → unsigned_abs (a *ℤ b) ≤ 4611686018427387904
-short-product a b ha hb = rw (unsigned_abs-mul a b) (mul-le-mul ha hb)
+-- the product of two magnitudes of short numbers is within 2^62
+pub short_times : (m n : ℕ) → m ≤ 2147483648 → n ≤ 2147483648 → m * n ≤ 4611686018427387904
+short_times m n hm hn = mul-le-mul hm hn
+
+-- a product whose magnitudes' product is within 2^62 is within it, and fits a machine's number
+pub product_magnitude : (a b : ℤ) → unsigned_abs a * unsigned_abs b ≤ 4611686018427387904
+    → unsigned_abs (a *ℤ b) ≤ 4611686018427387904
+product_magnitude a b h = rw (unsigned_abs-mul a b) h
 
 small_fits : (z : ℤ) → unsigned_abs z ≤ 4611686018427387904 → FitsSigned w64 z
 small_fits z h = omega (arith, ints)
 
-pub short_fits : (a b : ℤ) → unsigned_abs a ≤ 2147483648 → unsigned_abs b ≤ 2147483648 → FitsSigned w64 (a *ℤ b)
-short_fits a b ha hb = small_fits (a *ℤ b) (short-product a b ha hb)
+pub product_fits : (a b : ℤ) → unsigned_abs a * unsigned_abs b ≤ 4611686018427387904
+    → FitsSigned w64 (a *ℤ b)
+product_fits a b h = small_fits (a *ℤ b) (product_magnitude a b h)

@@ -1,11 +1,11 @@
 //! Fixed-point numbers.
 
-ghost use Rattle.std.specs.Prelude.{◌≡◌, ◌↔◌, ℤ, pos, neg_ℤ, IsSome, IfSome};
-ghost use Rattle.std.specs.Int.{int_min, int_max};
+ghost use Rattle.std.specs.Prelude.{◌≡◌, ◌↔◌, ◌≤◌, ◌+◌, ◌*◌, ◌^◌, ℤ, pos, neg_ℤ, if◌then◌else◌, IsSome, IfSome};
+ghost use Rattle.std.specs.Int.{int_min, int_max, is_negative};
 ghost use Rattle.std.specs.Int.RustNames.{unsigned_abs};
-ghost use Rattle.pf_num.specs.Fx.{IsRaw, sum, difference, product, quotient, root};
+ghost use Rattle.pf_num.specs.Fx.{IsRaw, max_raw, saturate, sum, difference, product, quotient, root};
 
-use crate::quotient::{rounded_product, rounded_quotient};
+use crate::quotient::{rounded_product, rounded_quotient, short_product};
 use crate::root::raw_root;
 use std::marker::Model;
 
@@ -29,6 +29,29 @@ impl Model for Fx {
     ghost invariant = { λ x. IsRaw x.raw };
 
     ghost inverse = { λ z. record { raw = z } };
+}
+
+/// A whole number saturated at the ends of the range.
+#[inline(always)]
+#[tactic(auto, unfolding(crate::specs::Fx::saturate))]
+fn saturate(n: i64) -> i64
+    ensures value { result ≡ saturate n }
+    ensures range { IsRaw result }
+{
+    if n >= -MAX_RAW && n <= MAX_RAW {
+        n
+    } else {
+        nearest_end(n)
+    }
+}
+
+/// The end of the range on this side of 0.
+#[cold]
+#[inline(never)]
+fn nearest_end(n: i64) -> i64
+    ensures { result ≡ (if is_negative n then neg_ℤ max_raw else max_raw) }
+{
+    if n < 0 { -MAX_RAW } else { MAX_RAW }
 }
 
 impl Fx {
@@ -67,34 +90,76 @@ impl Fx {
     }
 
     /// The sum, saturated.
-    #[inline]
-    #[tactic(auto, unfolding(crate::specs::Fx::sum, crate::specs::Fx::saturate))]
+    #[inline(always)]
+    #[tactic(auto, unfolding(crate::specs::Fx::sum))]
     pub fn add(self, other: Fx) -> Fx
         ensures { result ≡ sum self other }
     {
         Fx {
-            raw: (self.raw + other.raw).clamp(-MAX_RAW, MAX_RAW),
+            raw: saturate(self.raw + other.raw),
         }
     }
 
     /// The difference, saturated.
-    #[inline]
-    #[tactic(auto, unfolding(crate::specs::Fx::difference, crate::specs::Fx::saturate))]
+    #[inline(always)]
+    #[tactic(auto, unfolding(crate::specs::Fx::difference))]
     pub fn sub(self, other: Fx) -> Fx
         ensures { result ≡ difference self other }
     {
         Fx {
-            raw: (self.raw - other.raw).clamp(-MAX_RAW, MAX_RAW),
+            raw: saturate(self.raw - other.raw),
         }
     }
 
     /// The product, rounded to the nearest even and saturated.
-    #[inline]
+    #[inline(always)]
     pub fn mul(self, other: Fx) -> Fx
         ensures { result ≡ product self other }
     {
         Fx {
             raw: rounded_product(self.raw, other.raw),
+        }
+    }
+
+    /// The sum of numbers that are too small to saturate.
+    #[inline(always)]
+    #[tactic(auto, unfolding(crate::specs::Fx::sum, crate::specs::Fx::saturate))]
+    pub fn unchecked_add(self, other: Fx) -> Fx
+        requires left { unsigned_abs self ≤ 2 ^ 53 }
+        requires right { unsigned_abs other ≤ 2 ^ 53 }
+        ensures value { result ≡ sum self other }
+        ensures bound { unsigned_abs result ≤ unsigned_abs self + unsigned_abs other }
+    {
+        Fx {
+            raw: self.raw + other.raw,
+        }
+    }
+
+    /// The difference of numbers that are too small to saturate.
+    #[inline(always)]
+    #[tactic(auto, unfolding(crate::specs::Fx::difference, crate::specs::Fx::saturate))]
+    pub fn unchecked_sub(self, other: Fx) -> Fx
+        requires left { unsigned_abs self ≤ 2 ^ 53 }
+        requires right { unsigned_abs other ≤ 2 ^ 53 }
+        ensures value { result ≡ difference self other }
+        ensures bound { unsigned_abs result ≤ unsigned_abs self + unsigned_abs other }
+    {
+        Fx {
+            raw: self.raw - other.raw,
+        }
+    }
+
+    /// The product, rounded to the nearest even, of numbers whose raw product fits 64 bits with
+    /// room to round it. It is at most half a unit off.
+    #[inline(always)]
+    pub fn unchecked_mul(self, other: Fx) -> Fx
+        requires { unsigned_abs self * unsigned_abs other ≤ 2 ^ 62 }
+        ensures value { result ≡ product self other }
+        ensures bound { unsigned_abs result * 2 ^ 25
+            ≤ unsigned_abs self * unsigned_abs other * 2 + 2 ^ 24 }
+    {
+        Fx {
+            raw: short_product(self.raw, other.raw),
         }
     }
 

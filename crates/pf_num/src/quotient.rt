@@ -1,7 +1,7 @@
 //! Rounded quotients: a short path in 64 bits for the usual operands, and an exact path in 128
 //! bits.
 
-ghost use Rattle.std.specs.Prelude.{◌≡◌, ◌≢◌, ◌≤◌, ◌<◌, IsTrue, ◌^◌, ◌*◌, ◌%◌, pos, min};
+ghost use Rattle.std.specs.Prelude.{◌≡◌, ◌≢◌, ◌≤◌, ◌<◌, IsTrue, ◌^◌, ◌+◌, ◌*◌, ◌%◌, pos, min};
 ghost use Rattle.std.specs.Int.RustNames.{unsigned_abs};
 ghost use Rattle.pf_num.specs.Round.{carry, nearest, with_sign, near};
 ghost use Rattle.pf_num.specs.Fx.{IsRaw, product, quotient};
@@ -98,6 +98,18 @@ fn is_short(a: i64) -> bool
     a >= -(1 << 31) && a < 1 << 31
 }
 
+/// The product of two raw numbers, rounded to the nearest even, where the exact product is at most
+/// 2^62 in magnitude.
+#[inline]
+pub fn short_product(a: i64, b: i64) -> i64
+    requires { unsigned_abs a * unsigned_abs b ≤ 2 ^ 62 }
+    ensures value { result ≡ product a b }
+    ensures range { IsRaw result }
+    ensures bound { unsigned_abs result * 2 ^ 25 ≤ unsigned_abs a * unsigned_abs b * 2 + 2 ^ 24 }
+{
+    rounded_shift(a * b)
+}
+
 /// The product of two raw numbers, rounded to the nearest even and saturated.
 #[inline]
 pub fn rounded_product(a: i64, b: i64) -> i64
@@ -107,7 +119,7 @@ pub fn rounded_product(a: i64, b: i64) -> i64
     ensures range { IsRaw result }
 {
     if is_short(a) && is_short(b) {
-        rounded_shift(a * b)
+        short_product(a, b)
     } else {
         long_product(a, b)
     }

@@ -3,4 +3,6 @@ pub mod Passes
 pub mod Prepared
 pub mod Limits
 pub mod Solved
+pub mod Sizes
+pub mod StaticArms
 pub mod OneList

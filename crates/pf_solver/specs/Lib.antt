@@ -1,6 +1,7 @@
 -- What the contracts of this crate cite.
 pub mod Constraint
 pub mod Impulse
+pub mod FastPath
 pub mod Velocities
 pub mod Bodies
 pub mod Solve

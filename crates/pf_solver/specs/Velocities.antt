@@ -56,16 +56,22 @@ meeting_at bodies r = record {
 abbrev pub Law : Type 0
 Law = Constraint → Meeting → Meeting
 
+-- the bodies with the motions that a row leaves
+abbrev pub bodies_with : Meeting → List BodyState → Row → List BodyState
+bodies_with m bodies r =
+    with_motion (with_motion bodies r.entry.first m.first) r.entry.second m.second
+
+-- the row with the impulses that it has accumulated
+abbrev pub row_with : Meeting → Row → Row
+row_with m r = record r { entry = record r.entry { impulses = m.impulses } }
+
 -- the bodies after the law of one row
 unfoldable pub bodies_after : Law → List BodyState → Row → List BodyState
-bodies_after law bodies r =
-    let m = law r.constraint (meeting_at bodies r) in
-    with_motion (with_motion bodies r.entry.first m.first) r.entry.second m.second
+bodies_after law bodies r = bodies_with (law r.constraint (meeting_at bodies r)) bodies r
 
 -- the row after its law
 unfoldable pub row_after : Law → List BodyState → Row → Row
-row_after law bodies r =
-    record r { entry = record r.entry { impulses = (law r.constraint (meeting_at bodies r)).impulses } }
+row_after law bodies r = row_with (law r.constraint (meeting_at bodies r)) r
 
 -- bodies, and the rows of their contacts in the order of the keys
 pub record Batch : Type 0 where

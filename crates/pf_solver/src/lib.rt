@@ -4,6 +4,7 @@
 
 mod bodies;
 mod constraint;
+mod fast_path;
 mod impulse;
 pub mod laws;
 mod solve;

@@ -8,7 +8,7 @@ ghost use Rattle.pf_solver.specs.Solve.{IsRowOf, anchor_at, mass_of, prepared_ro
 use crate::bodies::{after_gravity, after_motion, after_timer};
 use crate::constraint::{Anchor, constraint_of};
 use crate::velocities::{rounds, warm_start};
-use pf_cache::{Mass, Row, Side};
+use pf_cache::{Mass, Prepared, Row, Side};
 use pf_num::Fx;
 use pf_rot::V2;
 use pf_shapes::{BodyState, Fixture, Scene};
@@ -63,12 +63,8 @@ fn prepare(scene: &Scene, bodies: &[BodyState], row: &mut Row)
     let entry = row.entry;
     let first = anchor_at(scene, bodies, entry.touch.a, entry.first);
     let second = anchor_at(scene, bodies, entry.touch.b, entry.second);
-    *row = Row {
-        entry,
-        first_mass: first.mass,
-        second_mass: second.mass,
-        constraint: constraint_of(&first, &second, &entry.touch.point),
-    };
+    let constraint = constraint_of(&first, &second, &entry.touch.point);
+    row.prepared = Prepared::new(first.mass, second.mass, constraint);
 }
 
 /// The pre-step of all rows.

@@ -1,12 +1,14 @@
 //! The velocity phase over one list of contacts, as Box2D-Lite's `World::Step`.
 
-ghost use Rattle.std.specs.Prelude.{◌≡◌, All, length};
+ghost use Rattle.std.specs.Prelude.{◌≡◌, All, length, IfSome};
 ghost use Rattle.pf_cache.specs.Row.{Constraint, IsEntryOf, IsSide};
 ghost use Rattle.pf_solver.specs.Impulse.{Meeting, after_round, after_warm_start};
-ghost use Rattle.pf_solver.specs.Velocities.{Batch, bodies_after, with_motion, meeting_at, motion_at, pass, passes, row_after};
+ghost use Rattle.pf_solver.specs.FastPath.{IsMassOf};
+ghost use Rattle.pf_solver.specs.Velocities.{Batch, bodies_after, bodies_with, with_motion, meeting_at, motion_at, pass, passes, row_after, row_with};
 
+use crate::fast_path::fast_round;
 use crate::impulse::{Meeting, Motion, after_round, after_warm_start};
-use pf_cache::{Constraint, Mass, Row, Side};
+use pf_cache::{Constraint, Mass, Prepared, Row, Side};
 use pf_num::Fx;
 use pf_rot::V2;
 use pf_shapes::BodyState;
@@ -18,8 +20,15 @@ pub const ROUNDS: usize = 10;
 trait ContactLaw {
     ghost law: { Constraint → Meeting → Meeting };
 
+    /// The law.
     fn after(constraint: &Constraint, meeting: &Meeting) -> Meeting
         ensures { result ≡ law constraint.now meeting.now };
+
+    /// The law where all numbers are small; elsewhere there may be no result.
+    fn fast_after(prepared: &Prepared, meeting: &Meeting) -> Option<Meeting>
+        requires first { IsMassOf prepared.now.first_mass meeting.now.first.mass }
+        requires second { IsMassOf prepared.now.second_mass meeting.now.second.mass }
+        ensures { IfSome result (λ after. after ≡ law prepared.now.constraint meeting.now) };
 }
 
 /// Warm starting.
@@ -33,6 +42,11 @@ impl ContactLaw for WarmStart {
     #[inline]
     fn after(constraint: &Constraint, meeting: &Meeting) -> Meeting {
         after_warm_start(constraint, meeting)
+    }
+
+    #[inline]
+    fn fast_after(prepared: &Prepared, meeting: &Meeting) -> Option<Meeting> {
+        Some(after_warm_start(prepared.constraint(), meeting))
     }
 }
 
@@ -48,6 +62,11 @@ impl ContactLaw for Round {
     fn after(constraint: &Constraint, meeting: &Meeting) -> Meeting {
         after_round(constraint, meeting)
     }
+
+    #[inline]
+    fn fast_after(prepared: &Prepared, meeting: &Meeting) -> Option<Meeting> {
+        fast_round(prepared, meeting)
+    }
 }
 
 /// The motion of the body on a side.
@@ -55,7 +74,8 @@ impl ContactLaw for Round {
 #[tactic(auto, unfolding(crate::specs::Velocities::motion_at))]
 fn motion_at(bodies: &[BodyState], mass: Mass, side: Side) -> Motion
     requires { IsSide (length bodies.now) side }
-    ensures { result ≡ motion_at bodies.now mass side }
+    ensures value { result ≡ motion_at bodies.now mass side }
+    ensures mass { IsMassOf mass result.mass }
 {
     match side {
         Side::Static => Motion {
@@ -82,12 +102,9 @@ fn set_motion(bodies: &mut [BodyState], side: Side, motion: &Motion)
     ensures { bodies.new ≡ with_motion bodies.old side motion.now }
 {
     if let Side::Moving(place) = side {
-        let body = bodies[place];
-        bodies[place] = BodyState {
-            velocity: motion.velocity,
-            spin: motion.spin,
-            ..body
-        };
+        let body = &mut bodies[place];
+        body.velocity = motion.velocity;
+        body.spin = motion.spin;
     }
 }
 
@@ -96,28 +113,55 @@ fn set_motion(bodies: &mut [BodyState], side: Side, motion: &Motion)
 #[tactic(auto, unfolding(crate::specs::Velocities::meeting_at))]
 fn meeting_at(bodies: &[BodyState], row: &Row) -> Meeting
     requires { IsEntryOf (length bodies.now) row.now.entry }
-    ensures { result ≡ meeting_at bodies.now row.now }
+    ensures value { result ≡ meeting_at bodies.now row.now }
+    ensures first { IsMassOf row.now.first_mass result.first.mass }
+    ensures second { IsMassOf row.now.second_mass result.second.mass }
 {
     let entry = &row.entry;
     Meeting {
-        first: motion_at(bodies, row.first_mass, entry.first),
-        second: motion_at(bodies, row.second_mass, entry.second),
+        first: motion_at(bodies, row.prepared.first_mass(), entry.first),
+        second: motion_at(bodies, row.prepared.second_mass(), entry.second),
         impulses: entry.impulses,
     }
 }
 
-/// The law of one row.
+/// Keeps what the law of a row gave.
 #[inline]
+fn store(bodies: &mut [BodyState], row: &mut Row, after: &Meeting)
+    requires { IsEntryOf (length bodies.old) row.old.entry }
+    ensures bodies { bodies.new ≡ bodies_with after.now bodies.old row.old }
+    ensures row { row.new ≡ row_with after.now row.old }
+{
+    set_motion(bodies, row.entry.first, &after.first);
+    set_motion(bodies, row.entry.second, &after.second);
+    row.entry.impulses = after.impulses;
+}
+
+/// The law of one row by the general path.
+#[cold]
+#[inline(never)]
+#[tactic(auto, unfolding(crate::specs::Velocities::bodies_after, crate::specs::Velocities::row_after))]
+fn solve_general_row<L: ContactLaw>(bodies: &mut [BodyState], row: &mut Row)
+    requires { IsEntryOf (length bodies.old) row.old.entry }
+    ensures bodies { bodies.new ≡ bodies_after L.law bodies.old row.old }
+    ensures row { row.new ≡ row_after L.law bodies.old row.old }
+{
+    let after = L::after(row.prepared.constraint(), &meeting_at(bodies, row));
+    store(bodies, row, &after);
+}
+
+/// The law of one row. On the fast path bodies stay in registers.
+#[inline(always)]
 #[tactic(auto, unfolding(crate::specs::Velocities::bodies_after, crate::specs::Velocities::row_after))]
 fn solve_row<L: ContactLaw>(bodies: &mut [BodyState], row: &mut Row)
     requires { IsEntryOf (length bodies.old) row.old.entry }
     ensures bodies { bodies.new ≡ bodies_after L.law bodies.old row.old }
     ensures row { row.new ≡ row_after L.law bodies.old row.old }
 {
-    let after = L::after(&row.constraint, &meeting_at(bodies, row));
-    set_motion(bodies, row.entry.first, &after.first);
-    set_motion(bodies, row.entry.second, &after.second);
-    row.entry.impulses = after.impulses;
+    match L::fast_after(&row.prepared, &meeting_at(bodies, row)) {
+        Some(after) => store(bodies, row, &after),
+        None => solve_general_row::<L>(bodies, row),
+    }
 }
 
 /// The law of each row, by the bodies that the row before it left.

@@ -139,7 +139,9 @@ and run it by
   pf_play run < scene.txt
 
 An answer begins with the word of its event, or with `refused`. The line `body`
-shows number, place, pair of rotation, velocity, spin, ticks at rest, and 1 if awake:
+shows number, place, pair of rotation, velocity, spin, ticks at rest, and 1 if awake.
+A line `contact` shows two bodies, the feature at which they touch, and the impulses
+that it has accumulated along its normal and its tangent. Here the answers are:
 
   advance 0 2
   show 0 2

@@ -1,0 +1,57 @@
+-- When what a pre-step leaves is small enough for the fast path of a round, on which no sum
+-- saturates and each product fits 64 bits. In units of 2^-24.
+use Rattle.std.specs.Prelude.{ℕ, ◌*◌, ◌≤◌, ◌↔◌, Bool, IsTrue}
+use Rattle.std.specs.Int.RustNames.{unsigned_abs}
+use Rattle.pf_rot.specs.Vector.{V2}
+use Rattle.pf_cache.specs.declared.constraint.TheConstants.{ARM_LIMIT, DIRECTION_LIMIT, INVERSE_INERTIA_LIMIT, INVERSE_MASS_LIMIT, PART_LIMIT, TURN_LIMIT}
+use Rattle.pf_cache.specs.Row.{Constraint, Mass, Prepared}
+
+-- both parts of a vector are at most this in magnitude
+pub record IsShort (limit : ℕ) (v : V2) : Type 0 where
+  pub x : unsigned_abs v.x ≤ limit
+  pub y : unsigned_abs v.y ≤ limit
+
+-- impulses move a body of this mass slowly
+pub record IsHeavy (m : Mass) : Type 0 where
+  pub inverse_mass : unsigned_abs m.inverse_mass ≤ INVERSE_MASS_LIMIT
+  pub inverse_inertia : unsigned_abs m.inverse_inertia ≤ INVERSE_INERTIA_LIMIT
+
+-- the arm is short, and impulses at it turn a body of this mass slowly
+pub record IsSmallArm (m : Mass) (arm : V2) : Type 0 where
+  pub short : IsShort ARM_LIMIT arm
+  pub turn_x : unsigned_abs m.inverse_inertia * unsigned_abs arm.x ≤ TURN_LIMIT
+  pub turn_y : unsigned_abs m.inverse_inertia * unsigned_abs arm.y ≤ TURN_LIMIT
+
+-- the normal and the tangent are short
+pub record HasShortDirections (c : Constraint) : Type 0 where
+  pub normal : IsShort DIRECTION_LIMIT c.normal
+  pub tangent : IsShort DIRECTION_LIMIT c.tangent
+
+-- the numbers of a constraint are small
+pub record HasSmallNumbers (c : Constraint) : Type 0 where
+  pub normal_mass : unsigned_abs c.normal_mass ≤ PART_LIMIT
+  pub tangent_mass : unsigned_abs c.tangent_mass ≤ PART_LIMIT
+  pub bias : unsigned_abs c.bias ≤ PART_LIMIT
+  pub friction : unsigned_abs c.friction ≤ PART_LIMIT
+
+-- all of it but the arms is small
+pub record IsSmall (p : Prepared) : Type 0 where
+  pub first_mass : IsHeavy p.first_mass
+  pub second_mass : IsHeavy p.second_mass
+  pub directions : HasShortDirections p.constraint
+  pub numbers : HasSmallNumbers p.constraint
+
+-- and so is an arm
+pub record HasSmallFirstArm (p : Prepared) : Type 0 where
+  pub rest : IsSmall p
+  pub arm : IsSmallArm p.first_mass p.constraint.first_arm
+
+pub record HasSmallSecondArm (p : Prepared) : Type 0 where
+  pub rest : IsSmall p
+  pub arm : IsSmallArm p.second_mass p.constraint.second_arm
+
+-- what is known of it: whether all but the arms is small, and whether each arm is too
+pub record IsKnown (small first second : Bool) (p : Prepared) : Type 0 where
+  pub rest : IsTrue small ↔ IsSmall p
+  pub first_arm : IsTrue first ↔ HasSmallFirstArm p
+  pub second_arm : IsTrue second ↔ HasSmallSecondArm p

@@ -1,0 +1,291 @@
+//! What a pre-step leaves to the rounds, as Box2D-Lite's `Arbiter::PreStep`.
+
+ghost use Rattle.std.specs.Prelude.{◌≡◌, ◌*◌, ◌≤◌, ◌↔◌, IsTrue};
+ghost use Rattle.std.specs.Int.RustNames.{unsigned_abs};
+ghost use Rattle.pf_cache.specs.Small.{HasShortDirections, HasSmallNumbers, IsHeavy, IsShort, IsSmallArm};
+
+use pf_num::Fx;
+use pf_rot::V2;
+use std::marker::Model;
+
+/// The greatest part of a normal or a tangent on the fast path of a round: 2 lengths.
+const DIRECTION_LIMIT: u64 = 1 << 25;
+/// The greatest part of an arm on the fast path: 16 lengths.
+const ARM_LIMIT: u64 = 1 << 28;
+/// The greatest inverse mass on the fast path: 64.
+const INVERSE_MASS_LIMIT: u64 = 1 << 30;
+/// The greatest inverse inertia on the fast path: 2,048.
+const INVERSE_INERTIA_LIMIT: u64 = 1 << 35;
+/// The greatest product of an inverse inertia and a part of an arm on the fast path: 256, exact.
+const TURN_LIMIT: u64 = 1 << 56;
+/// The greatest effective mass, bias and friction on the fast path: 128.
+const PART_LIMIT: u64 = 1 << 31;
+
+/// How easily impulses move a body, as Box2D-Lite's `invMass` and `invI`. In units of 2^-24.
+#[derive(Clone, Copy, Debug)]
+pub struct Mass {
+    /// 1 / mass.
+    pub inverse_mass: Fx,
+    /// 1 / inertia.
+    pub inverse_inertia: Fx,
+}
+
+impl Model for Mass {
+    ghost use Rattle.pf_cache.specs.Row.{Mass};
+
+    ghost Value = { Mass };
+
+    ghost view = { λ m. record {
+      inverse_mass = m.inverse_mass;
+      inverse_inertia = m.inverse_inertia;
+    } };
+
+    ghost inverse = { λ m. record {
+      inverse_mass = m.inverse_mass;
+      inverse_inertia = m.inverse_inertia;
+    } };
+}
+
+impl Mass {
+    /// That of a static body.
+    pub const NONE: Mass = Mass {
+        inverse_mass: Fx::ZERO,
+        inverse_inertia: Fx::ZERO,
+    };
+}
+
+/// The part of a contact that stays fixed during the rounds, which Box2D-Lite's `Arbiter::PreStep`
+/// leaves in a `Contact`. In units of 2^-24.
+#[derive(Clone, Copy, Debug)]
+pub struct Constraint {
+    /// The normal, from the first body to the second.
+    pub normal: V2,
+    /// The normal turned clockwise by a quarter.
+    pub tangent: V2,
+    /// From the centre of the first body to the contact point.
+    pub first_arm: V2,
+    /// From the centre of the second body to the contact point.
+    pub second_arm: V2,
+    /// The effective mass along the normal.
+    pub normal_mass: Fx,
+    /// The effective mass along the tangent.
+    pub tangent_mass: Fx,
+    /// The speed at which bodies part that overlap.
+    pub bias: Fx,
+    /// The coefficient of friction.
+    pub friction: Fx,
+}
+
+impl Model for Constraint {
+    ghost use Rattle.pf_cache.specs.Row.{Constraint};
+
+    ghost Value = { Constraint };
+
+    ghost view = { λ c. record {
+      normal = c.normal;
+      tangent = c.tangent;
+      first_arm = c.first_arm;
+      second_arm = c.second_arm;
+      normal_mass = c.normal_mass;
+      tangent_mass = c.tangent_mass;
+      bias = c.bias;
+      friction = c.friction;
+    } };
+
+    ghost inverse = { λ c. record {
+      normal = c.normal;
+      tangent = c.tangent;
+      first_arm = c.first_arm;
+      second_arm = c.second_arm;
+      normal_mass = c.normal_mass;
+      tangent_mass = c.tangent_mass;
+      bias = c.bias;
+      friction = c.friction;
+    } };
+}
+
+impl Constraint {
+    /// That of a row before its pre-step.
+    pub const NONE: Constraint = Constraint {
+        normal: V2::ZERO,
+        tangent: V2::ZERO,
+        first_arm: V2::ZERO,
+        second_arm: V2::ZERO,
+        normal_mass: Fx::ZERO,
+        tangent_mass: Fx::ZERO,
+        bias: Fx::ZERO,
+        friction: Fx::ZERO,
+    };
+}
+
+/// What the rounds need of a contact beside its impulses: the inverse masses of its bodies, and its
+/// constraint. It is known whether it is small, as a round of small numbers asks for.
+#[derive(Debug, Drop)]
+pub struct Prepared {
+    first_mass: Mass,
+    second_mass: Mass,
+    constraint: Constraint,
+    is_small: bool,
+    has_small_first_arm: bool,
+    has_small_second_arm: bool,
+}
+
+impl Model for Prepared {
+    ghost use Rattle.pf_cache.specs.Row.{Prepared};
+    ghost use Rattle.pf_cache.specs.Small.{IsKnown};
+
+    ghost Value = { Prepared };
+
+    ghost view = { λ p. record {
+      first_mass = p.first_mass;
+      second_mass = p.second_mass;
+      constraint = p.constraint;
+    } };
+
+    ghost invariant = { λ p. IsKnown p.is_small p.has_small_first_arm p.has_small_second_arm
+        (record {
+          first_mass = p.first_mass;
+          second_mass = p.second_mass;
+          constraint = p.constraint;
+        }) };
+}
+
+/// Whether a number is at most this in magnitude.
+#[inline]
+fn is_within(x: Fx, limit: u64) -> bool
+    ensures { IsTrue result ↔ (unsigned_abs x ≤ limit) }
+{
+    x.raw().unsigned_abs() <= limit
+}
+
+/// Whether both parts of a vector are at most this in magnitude.
+#[inline]
+fn is_short(v: V2, limit: u64) -> bool
+    ensures { IsTrue result ↔ IsShort limit v }
+{
+    is_within(v.x, limit) && is_within(v.y, limit)
+}
+
+/// Whether a body of this mass is heavy enough for the fast path.
+#[inline]
+fn is_heavy(mass: &Mass) -> bool
+    ensures { IsTrue result ↔ IsHeavy mass.now }
+{
+    is_within(mass.inverse_mass, INVERSE_MASS_LIMIT)
+        && is_within(mass.inverse_inertia, INVERSE_INERTIA_LIMIT)
+}
+
+/// Whether the exact product of an inverse inertia and a part of an arm is small.
+#[inline]
+fn turns_slowly(inverse_inertia: Fx, part: Fx) -> bool
+    requires inertia { unsigned_abs inverse_inertia ≤ INVERSE_INERTIA_LIMIT }
+    requires part { unsigned_abs part ≤ ARM_LIMIT }
+    ensures { IsTrue result ↔ (unsigned_abs inverse_inertia * unsigned_abs part ≤ TURN_LIMIT) }
+{
+    inverse_inertia.raw().unsigned_abs() * part.raw().unsigned_abs() <= TURN_LIMIT
+}
+
+/// Whether an arm is short, and impulses at it turn a body of this mass slowly.
+#[inline]
+fn is_small_arm(mass: &Mass, arm: V2) -> bool
+    requires { IsHeavy mass.now }
+    ensures { IsTrue result ↔ IsSmallArm mass.now arm }
+{
+    is_short(arm, ARM_LIMIT)
+        && turns_slowly(mass.inverse_inertia, arm.x)
+        && turns_slowly(mass.inverse_inertia, arm.y)
+}
+
+/// Whether the normal and the tangent of a constraint are short.
+#[inline]
+fn has_short_directions(c: &Constraint) -> bool
+    ensures { IsTrue result ↔ HasShortDirections c.now }
+{
+    is_short(c.normal, DIRECTION_LIMIT) && is_short(c.tangent, DIRECTION_LIMIT)
+}
+
+/// Whether the numbers of a constraint are small.
+#[inline]
+fn has_small_numbers(c: &Constraint) -> bool
+    ensures { IsTrue result ↔ HasSmallNumbers c.now }
+{
+    is_within(c.normal_mass, PART_LIMIT)
+        && is_within(c.tangent_mass, PART_LIMIT)
+        && is_within(c.bias, PART_LIMIT)
+        && is_within(c.friction, PART_LIMIT)
+}
+
+impl Prepared {
+    ghost use Rattle.std.specs.Prelude.{◌≡◌, ◌↔◌, IsTrue};
+    ghost use Rattle.pf_cache.specs.Small.{HasSmallFirstArm, HasSmallSecondArm, IsSmall};
+
+    /// Of bodies of these masses, and this constraint.
+    pub fn new(first_mass: Mass, second_mass: Mass, constraint: Constraint) -> Prepared
+        ensures { result ≡ record {
+          first_mass = first_mass;
+          second_mass = second_mass;
+          constraint = constraint;
+        } }
+    {
+        let is_small = is_heavy(&first_mass)
+            && is_heavy(&second_mass)
+            && has_short_directions(&constraint)
+            && has_small_numbers(&constraint);
+        Prepared {
+            first_mass,
+            second_mass,
+            constraint,
+            is_small,
+            has_small_first_arm: is_small && is_small_arm(&first_mass, constraint.first_arm),
+            has_small_second_arm: is_small && is_small_arm(&second_mass, constraint.second_arm),
+        }
+    }
+
+    /// How easily impulses move the first body.
+    #[inline]
+    pub fn first_mass(&self) -> Mass
+        ensures { result ≡ self.now.first_mass }
+    {
+        self.first_mass
+    }
+
+    /// How easily impulses move the second body.
+    #[inline]
+    pub fn second_mass(&self) -> Mass
+        ensures { result ≡ self.now.second_mass }
+    {
+        self.second_mass
+    }
+
+    /// What the impulses depend on.
+    #[inline]
+    pub fn constraint(&self) -> &Constraint
+        ensures { result.now ≡ self.now.constraint }
+    {
+        &self.constraint
+    }
+
+    /// Whether all of it but the arms is small.
+    #[inline]
+    pub fn is_small(&self) -> bool
+        ensures { IsTrue result ↔ IsSmall self.now }
+    {
+        self.is_small
+    }
+
+    /// Whether that is so, and the first arm is small.
+    #[inline]
+    pub fn has_small_first_arm(&self) -> bool
+        ensures { IsTrue result ↔ HasSmallFirstArm self.now }
+    {
+        self.has_small_first_arm
+    }
+
+    /// Whether that is so, and the second arm is small.
+    #[inline]
+    pub fn has_small_second_arm(&self) -> bool
+        ensures { IsTrue result ↔ HasSmallSecondArm self.now }
+    {
+        self.has_small_second_arm
+    }
+}
