@@ -31,7 +31,7 @@ module _ {X V : Type 0} (ranked : X → ℕ) (value : X → V) where
       (sym (other_rank v n (get_or xs place d) (drop (place + 1) xs) (omega (arith, low))))
 
   -- the first element has this rank
-  first_alone : (v : V) (n : ℕ) (x : X) (xs : List X) → ranked x ≡ n → value_or v n (x ∷ xs) ≡ value x
+  pub first_alone : (v : V) (n : ℕ) (x : X) (xs : List X) → ranked x ≡ n → value_or v n (x ∷ xs) ≡ value x
   first_alone v n x xs same = by (ranked x == n) ((Decides-eqb (ranked x) n).1 same)
     where
       by : (t : Bool) → t ≡ true → (if t then value x else value_or v n xs) ≡ value x

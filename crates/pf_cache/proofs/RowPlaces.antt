@@ -1,8 +1,11 @@
 -- Rows from a place on.
-use Rattle.std.proofs.Common.{◌≡◌, ℕ, suc, ◌+◌, ◌≤◌, ◌<◌, List, [], ◌∷◌, length, map, subst, arith}
+use Rattle.std.proofs.Common.{◌≡◌, ◌≢◌, ◌==◌, ◌∙◌, ℕ, suc, ◌+◌, ◌≤◌, ◌<◌, Bool, true, false, List, [], ◌∷◌, length, map, refl, subst, arith}
+use Rattle.std.proofs.lemmas.Bool.Decides.{Decides-eqb}
 use Rattle.std.proofs.lemmas.List.{get_or-map, length-map}
-use Rattle.std.specs.Prelude.{All, drop, get_or}
-use Rattle.pf_manifold.specs.Key.{IsKey, IsRising, key_of, rank}
+use Rattle.std.proofs.lemmas.List.Elements.{All-cons, All-head, All-nil, All-tail}
+use Rattle.std.specs.Prelude.{All, drop, get_or, if◌then◌else◌}
+use Rattle.pf_manifold.specs.Key.{IsKey, IsRising, Key, key_of, rank}
+use Rattle.pf_manifold.proofs.Rising.{rising-all}
 use Rattle.pf_manifold.specs.Touches.{Touch}
 use Rattle.pf_cache.specs.Contact.{Impulses}
 use Rattle.pf_cache.specs.Row.{AreRows, Row, impulses_or}
@@ -68,3 +71,29 @@ found_nowhere = ranked.found_nowhere row_rank impulses_of
 pub none_left : (rows : List Row) (place least : ℕ) → length rows ≤ place
     → All (λ r. least ≤ rank (key_of r.entry.touch)) (drop place rows)
 none_left = ranked.none_left row_rank
+
+-- each row is found by its key
+pub all_found : (p : Impulses) (least : ℕ) (rows : List Row) → IsRising least (map row_rank rows)
+    → All (λ r. impulses_or p (row_rank r) rows ≡ r.entry.impulses) rows
+all_found p least [] h = All-nil (λ r. impulses_or p (row_rank r) [] ≡ r.entry.impulses)
+all_found p least (r ∷ rows) h =
+    let above = rising-all row_rank (suc (row_rank r)) rows h.1 in
+    let behind = all_found p (suc (row_rank r)) rows h.1 in
+    All-cons (λ x. impulses_or p (row_rank x) (r ∷ rows) ≡ x.entry.impulses) r rows
+    (ranked.first_alone row_rank impulses_of p (row_rank r) r rows refl)
+    (λ k d w.
+    let high = above k d w in
+    ranked.other_rank row_rank impulses_of p (row_rank (get_or rows k d)) r rows (omega (arith, high)) ∙ behind k d w)
+
+-- where no row has a key, the other impulses are taken
+pub none_found : (p : Impulses) (k : Key) (rows : List Row) → All (λ r. row_rank r ≢ rank k) rows
+    → impulses_or p (rank k) rows ≡ p
+none_found p k [] h = refl
+none_found p k (r ∷ rows) h =
+    by (row_rank r == rank k) refl (none_found p k rows (All-tail (λ x. row_rank x ≢ rank k) r rows h))
+  where
+    by : (t : Bool) → (row_rank r == rank k) ≡ t → impulses_or p (rank k) rows ≡ p
+        → (if t then r.entry.impulses else impulses_or p (rank k) rows) ≡ p
+    by true e behind =
+        absurd (All-head (λ x. row_rank x ≢ rank k) r rows h ((Decides-eqb (row_rank r) (rank k)).0 e))
+    by false e behind = behind

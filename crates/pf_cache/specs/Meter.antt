@@ -6,9 +6,9 @@ pub record Meter : Type 0 where
   pub ticks : ℕ
   pub collides : ℕ
 
--- a count that rises by this many, and stays at the greatest number of 64 bits
-abbrev pub risen : ℕ → ℕ → ℕ
-risen count by = min (count + by) (2 ^ 64 - 1)
+-- the sum of a count and this many, saturated at 2^64 - 1
+abbrev pub saturating_sum : ℕ → ℕ → ℕ
+saturating_sum count by = min (count + by) (2 ^ 64 - 1)
 
 -- what steps leave to the next one beside the world
 pub record Work : Type 0 where
@@ -20,5 +20,5 @@ no_work = record { meter = record { ticks = 0; collides = 0 } }
 -- after a tick, for which so many pairs were given to the narrow phase
 abbrev pub counted : ℕ → Work → Work
 counted pairs w = record {
-  meter = record { ticks = risen w.meter.ticks 1; collides = risen w.meter.collides pairs };
+  meter = record { ticks = saturating_sum w.meter.ticks 1; collides = saturating_sum w.meter.collides pairs };
 }

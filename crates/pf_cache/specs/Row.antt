@@ -4,7 +4,7 @@ use Rattle.std.specs.Prelude.{◌≢◌, ℕ, ◌<◌, ◌==◌, ℤ, pos, List,
 use Rattle.pf_rot.specs.Vector.{V2, zero_vector}
 use Rattle.pf_manifold.specs.Touches.{Touch}
 use Rattle.pf_cache.specs.declared.row.Side.{Side}
-use Rattle.pf_cache.specs.declared.row.Side.TheVariants.{Static, Moving}
+use Rattle.pf_cache.specs.declared.row.Side.TheVariants.{Static, Dynamic}
 use Rattle.pf_manifold.specs.Key.{AreTouches, key_of, rank}
 use Rattle.pf_cache.specs.Contact.{Contact, Impulses}
 
@@ -15,16 +15,12 @@ pub record Entry : Type 0 where
   pub first : Side
   pub second : Side
 
--- the contact that is kept of it
-abbrev pub contact_of : Entry → Contact
-contact_of e = record { key = key_of e.touch; impulses = e.impulses }
-
 -- how easily impulses move a body; both are 0 for a static body
-pub record Mass : Type 0 where
+pub record InverseMass : Type 0 where
   pub inverse_mass : ℤ
   pub inverse_inertia : ℤ
 
-abbrev pub no_mass : Mass
+abbrev pub no_mass : InverseMass
 no_mass = record { inverse_mass = pos 0; inverse_inertia = pos 0 }
 
 -- the part of a contact that stays fixed during the rounds
@@ -53,15 +49,15 @@ no_constraint = record {
 -- what the rounds need of a contact beside its impulses: the inverse masses of its bodies, and its
 -- constraint
 pub record Prepared : Type 0 where
-  pub first_mass : Mass
-  pub second_mass : Mass
+  pub first_mass : InverseMass
+  pub second_mass : InverseMass
   pub constraint : Constraint
 
 -- an entry with the masses of its bodies and its constraint, as a pre-step left them
 pub record Row : Type 0 where
   pub entry : Entry
-  pub first_mass : Mass
-  pub second_mass : Mass
+  pub first_mass : InverseMass
+  pub second_mass : InverseMass
   pub constraint : Constraint
 
 -- an entry before its pre-step
@@ -73,17 +69,17 @@ new_row e = record {
   constraint = no_constraint;
 }
 
--- a static body, or one of n bodies
+-- static, or a place below `bodies`
 abbrev pub IsSide : ℕ → Side → Type 0
 IsSide bodies Static = Unit {0}
-IsSide bodies (Moving place) = place < bodies
+IsSide bodies (Dynamic place) = place < bodies
 
--- two bodies that move are different
+-- two places are different
 abbrev pub AreApart : Side → Side → Type 0
-AreApart (Moving first) (Moving second) = first ≢ second
+AreApart (Dynamic first) (Dynamic second) = first ≢ second
 AreApart first second = Unit {0}
 
--- both bodies of an entry stand in a list of n bodies, and are different
+-- each body of an entry is static or has a place in a list of n bodies; two places are different
 pub record IsEntryOf (bodies : ℕ) (e : Entry) : Type 0 where
   pub first : IsSide bodies e.first
   pub second : IsSide bodies e.second

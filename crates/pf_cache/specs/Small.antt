@@ -4,7 +4,7 @@ use Rattle.std.specs.Prelude.{ℕ, ◌*◌, ◌≤◌, ◌↔◌, Bool, IsTrue}
 use Rattle.std.specs.Int.RustNames.{unsigned_abs}
 use Rattle.pf_rot.specs.Vector.{V2}
 use Rattle.pf_cache.specs.declared.constraint.TheConstants.{ARM_LIMIT, DIRECTION_LIMIT, INVERSE_INERTIA_LIMIT, INVERSE_MASS_LIMIT, PART_LIMIT, TURN_LIMIT}
-use Rattle.pf_cache.specs.Row.{Constraint, Mass, Prepared}
+use Rattle.pf_cache.specs.Row.{Constraint, InverseMass, Prepared}
 
 -- both parts of a vector are at most this in magnitude
 pub record IsShort (limit : ℕ) (v : V2) : Type 0 where
@@ -12,12 +12,12 @@ pub record IsShort (limit : ℕ) (v : V2) : Type 0 where
   pub y : unsigned_abs v.y ≤ limit
 
 -- impulses move a body of this mass slowly
-pub record IsHeavy (m : Mass) : Type 0 where
+pub record IsHeavy (m : InverseMass) : Type 0 where
   pub inverse_mass : unsigned_abs m.inverse_mass ≤ INVERSE_MASS_LIMIT
   pub inverse_inertia : unsigned_abs m.inverse_inertia ≤ INVERSE_INERTIA_LIMIT
 
 -- the arm is short, and impulses at it turn a body of this mass slowly
-pub record IsSmallArm (m : Mass) (arm : V2) : Type 0 where
+pub record IsSmallArm (m : InverseMass) (arm : V2) : Type 0 where
   pub short : IsShort ARM_LIMIT arm
   pub turn_x : unsigned_abs m.inverse_inertia * unsigned_abs arm.x ≤ TURN_LIMIT
   pub turn_y : unsigned_abs m.inverse_inertia * unsigned_abs arm.y ≤ TURN_LIMIT

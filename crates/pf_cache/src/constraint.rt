@@ -23,17 +23,17 @@ const PART_LIMIT: u64 = 1 << 31;
 
 /// How easily impulses move a body, as Box2D-Lite's `invMass` and `invI`. In units of 2^-24.
 #[derive(Clone, Copy, Debug)]
-pub struct Mass {
+pub struct InverseMass {
     /// 1 / mass.
     pub inverse_mass: Fx,
     /// 1 / inertia.
     pub inverse_inertia: Fx,
 }
 
-impl Model for Mass {
-    ghost use Rattle.pf_cache.specs.Row.{Mass};
+impl Model for InverseMass {
+    ghost use Rattle.pf_cache.specs.Row.{InverseMass};
 
-    ghost Value = { Mass };
+    ghost Value = { InverseMass };
 
     ghost view = { λ m. record {
       inverse_mass = m.inverse_mass;
@@ -46,9 +46,9 @@ impl Model for Mass {
     } };
 }
 
-impl Mass {
+impl InverseMass {
     /// That of a static body.
-    pub const NONE: Mass = Mass {
+    pub const NONE: InverseMass = InverseMass {
         inverse_mass: Fx::ZERO,
         inverse_inertia: Fx::ZERO,
     };
@@ -60,7 +60,7 @@ impl Mass {
 pub struct Constraint {
     /// The normal, from the first body to the second.
     pub normal: V2,
-    /// The normal turned clockwise by a quarter.
+    /// The normal, a quarter turn clockwise.
     pub tangent: V2,
     /// From the centre of the first body to the contact point.
     pub first_arm: V2,
@@ -70,7 +70,7 @@ pub struct Constraint {
     pub normal_mass: Fx,
     /// The effective mass along the tangent.
     pub tangent_mass: Fx,
-    /// The speed at which bodies part that overlap.
+    /// The separating speed aimed at where bodies overlap.
     pub bias: Fx,
     /// The coefficient of friction.
     pub friction: Fx,
@@ -119,11 +119,11 @@ impl Constraint {
 }
 
 /// What the rounds need of a contact beside its impulses: the inverse masses of its bodies, and its
-/// constraint. It is known whether it is small, as a round of small numbers asks for.
+/// constraint. It is known whether it is small enough for the fast path of a round.
 #[derive(Debug, Drop)]
 pub struct Prepared {
-    first_mass: Mass,
-    second_mass: Mass,
+    first_mass: InverseMass,
+    second_mass: InverseMass,
     constraint: Constraint,
     is_small: bool,
     has_small_first_arm: bool,
@@ -168,7 +168,7 @@ fn is_short(v: V2, limit: u64) -> bool
 
 /// Whether a body of this mass is heavy enough for the fast path.
 #[inline]
-fn is_heavy(mass: &Mass) -> bool
+fn is_heavy(mass: &InverseMass) -> bool
     ensures { IsTrue result ↔ IsHeavy mass.now }
 {
     is_within(mass.inverse_mass, INVERSE_MASS_LIMIT)
@@ -187,7 +187,7 @@ fn turns_slowly(inverse_inertia: Fx, part: Fx) -> bool
 
 /// Whether an arm is short, and impulses at it turn a body of this mass slowly.
 #[inline]
-fn is_small_arm(mass: &Mass, arm: V2) -> bool
+fn is_small_arm(mass: &InverseMass, arm: V2) -> bool
     requires { IsHeavy mass.now }
     ensures { IsTrue result ↔ IsSmallArm mass.now arm }
 {
@@ -220,7 +220,11 @@ impl Prepared {
     ghost use Rattle.pf_cache.specs.Small.{HasSmallFirstArm, HasSmallSecondArm, IsSmall};
 
     /// Of bodies of these masses, and this constraint.
-    pub fn new(first_mass: Mass, second_mass: Mass, constraint: Constraint) -> Prepared
+    pub fn new(
+        first_mass: InverseMass,
+        second_mass: InverseMass,
+        constraint: Constraint,
+    ) -> Prepared
         ensures { result ≡ record {
           first_mass = first_mass;
           second_mass = second_mass;
@@ -243,7 +247,7 @@ impl Prepared {
 
     /// How easily impulses move the first body.
     #[inline]
-    pub fn first_mass(&self) -> Mass
+    pub fn first_mass(&self) -> InverseMass
         ensures { result ≡ self.now.first_mass }
     {
         self.first_mass
@@ -251,7 +255,7 @@ impl Prepared {
 
     /// How easily impulses move the second body.
     #[inline]
-    pub fn second_mass(&self) -> Mass
+    pub fn second_mass(&self) -> InverseMass
         ensures { result ≡ self.now.second_mass }
     {
         self.second_mass

@@ -29,7 +29,8 @@ impl Model for Contacts {
     ghost invariant = { λ c. AreContacts c.list.items };
 }
 
-/// The place of the first contact from this place on whose rank is at least this.
+/// A place from `start` on: from it no rank is below `least`, and look-ups of ranks from `least` on
+/// find what they did.
 #[tactic(auto, using(crate::proofs::Places::passed, crate::proofs::Places::all_reached, crate::proofs::Places::none_left))]
 fn first_from(contacts: &[Contact], start: usize, least: usize) -> usize
     requires start { start ≤ length contacts.now }
@@ -50,8 +51,8 @@ fn first_from(contacts: &[Contact], start: usize, least: usize) -> usize
     place
 }
 
-/// The accumulated impulses of the contact of this rank, where the contacts from this place on are
-/// those that do not come before it.
+/// The accumulated impulses of the contact of rank `wanted`, or none. No contact from `place` on is
+/// below that rank, so one look is enough.
 #[tactic(auto, using(crate::proofs::Places::found_here, crate::proofs::Places::found_other, crate::proofs::Places::found_nowhere))]
 fn impulses_from(contacts: &[Contact], place: usize, wanted: usize) -> Impulses
     requires contacts { AreContacts contacts.now }
@@ -69,7 +70,8 @@ fn impulses_from(contacts: &[Contact], place: usize, wanted: usize) -> Impulses
     }
 }
 
-/// The place of the first row from this place on whose rank is at least this.
+/// A place from `start` on: from it no rank is below `least`, and look-ups of ranks from `least` on
+/// find what they did.
 #[tactic(auto, using(crate::proofs::RowPlaces::passed, crate::proofs::RowPlaces::all_reached, crate::proofs::RowPlaces::none_left))]
 fn first_row_from(rows: &[Row], start: usize, least: usize) -> usize
     requires start { start ≤ length rows.now }
@@ -91,8 +93,8 @@ fn first_row_from(rows: &[Row], start: usize, least: usize) -> usize
     place
 }
 
-/// The accumulated impulses of the row of this rank, where the rows from this place on are those
-/// that do not come before it; without such a row, the contact's own.
+/// The accumulated impulses of the row of rank `wanted`, or `own`. No row from `place` on is below
+/// that rank, so one look is enough.
 #[tactic(auto, using(crate::proofs::RowPlaces::found_here, crate::proofs::RowPlaces::found_other, crate::proofs::RowPlaces::found_nowhere))]
 fn impulses_or_own(rows: &[Row], place: usize, wanted: usize, own: Impulses) -> Impulses
     requires rows { AreRows rows.now }

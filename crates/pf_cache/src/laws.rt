@@ -1,13 +1,13 @@
 //! Laws of contacts. These functions compute nothing: their clauses are the statements.
 
-ghost use Rattle.std.specs.Prelude.{◌≡◌, List, map};
+ghost use Rattle.std.specs.Prelude.{◌≡◌, ◌≢◌, All, List, map};
 ghost use Rattle.pf_manifold.specs.Touches.{Touch};
 ghost use Rattle.pf_manifold.specs.Key.{Key, key_of, rank};
-ghost use Rattle.pf_cache.specs.Contact.{AreContacts, Contact, impulses_at, no_impulses, updated};
+ghost use Rattle.pf_cache.specs.Contact.{AreContacts, Contact, Impulses, impulses_at, no_impulses, updated};
 ghost use Rattle.pf_cache.specs.Laws.{AreFound, IsNew};
-ghost use Rattle.pf_cache.specs.Row.{no_mass};
+ghost use Rattle.pf_cache.specs.Row.{AreRows, Row, impulses_or, no_mass};
 
-use crate::constraint::Mass;
+use crate::constraint::InverseMass;
 use crate::contact::Impulses;
 use crate::meter::Meter;
 
@@ -19,6 +19,16 @@ pub fn contacts_are_found()
         → impulses_at (rank k) contacts ≡ no_impulses }
 {}
 
+/// A contact takes the impulses of the row of its key, whatever it had before; where no row has its
+/// key, it keeps its own.
+pub fn rows_are_found()
+    ensures found { (own : Impulses) (rows : List Row) → AreRows rows
+        → All (λ r. impulses_or own (rank (key_of r.entry.touch)) rows ≡ r.entry.impulses) rows }
+    ensures none { (own : Impulses) (k : Key) (rows : List Row)
+        → All (λ r. rank (key_of r.entry.touch) ≢ rank k) rows
+        → impulses_or own (rank k) rows ≡ own }
+{}
+
 /// An update leaves exactly the keys of the points, in their order.
 pub fn updates_have_the_keys_of_points()
     ensures { (old : List Contact) (touches : List Touch)
@@ -26,8 +36,8 @@ pub fn updates_have_the_keys_of_points()
 {}
 
 /// The impulses of a new contact, the mass of a static body and the meter of no work are zeros.
-pub fn named_values() -> (Impulses, Mass, Meter)
+pub fn named_values() -> (Impulses, InverseMass, Meter)
     ensures { result ≡ (no_impulses, no_mass, record { ticks = 0; collides = 0 }) }
 {
-    (Impulses::NONE, Mass::NONE, Meter::NONE)
+    (Impulses::NONE, InverseMass::NONE, Meter::NONE)
 }

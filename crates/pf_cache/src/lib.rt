@@ -1,5 +1,5 @@
-//! What a world keeps of its contacts from tick to tick: the accumulated impulses of each, by its
-//! key, with which the next tick starts warm; and the meter of the work done.
+//! Contacts from tick to tick: the accumulated impulses that a world keeps of each, by its key; the
+//! rows that the solver makes of them; and the meter of the work done.
 #![tactic(auto)]
 
 mod constraint;
@@ -10,7 +10,7 @@ mod meter;
 mod row;
 mod work;
 
-pub use constraint::{Constraint, Mass, Prepared};
+pub use constraint::{Constraint, InverseMass, Prepared};
 pub use contact::{Contact, Impulses};
 pub use contacts::Contacts;
 pub use meter::Meter;

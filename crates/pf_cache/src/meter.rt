@@ -1,11 +1,11 @@
 //! The meter of the work that steps have done.
 
 ghost use Rattle.std.specs.Prelude.{◌≡◌};
-ghost use Rattle.pf_cache.specs.Meter.{risen};
+ghost use Rattle.pf_cache.specs.Meter.{saturating_sum};
 
 use std::marker::Model;
 
-/// How much work steps have done. A count stays at the greatest number that it can have.
+/// How much work steps have done. Counts saturate at 2^64 - 1.
 #[derive(Clone, Copy, Debug, PartialEq, Eq)]
 pub struct Meter {
     /// How many ticks were simulated.
@@ -33,14 +33,14 @@ impl Meter {
 
     /// Counts a tick.
     pub fn count_tick(&mut self)
-        ensures { self.new ≡ record self.old { ticks = risen self.old.ticks 1 } }
+        ensures { self.new ≡ record self.old { ticks = saturating_sum self.old.ticks 1 } }
     {
         self.ticks = self.ticks.saturating_add(1);
     }
 
     /// Counts so many pairs that were given to the narrow phase.
     pub fn count_collides(&mut self, pairs: u64)
-        ensures { self.new ≡ record self.old { collides = risen self.old.collides pairs } }
+        ensures { self.new ≡ record self.old { collides = saturating_sum self.old.collides pairs } }
     {
         self.collides = self.collides.saturating_add(pairs);
     }

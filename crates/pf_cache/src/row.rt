@@ -1,20 +1,20 @@
 //! Rows: contacts as the solver takes them, as Box2D-Lite's `Arbiter` with its `Contact`.
 
 ghost use Rattle.std.specs.Prelude.{◌≡◌};
-ghost use Rattle.pf_cache.specs.Row.{contact_of, new_row};
+ghost use Rattle.pf_cache.specs.Row.{new_row};
 
-use crate::constraint::{Constraint, Mass, Prepared};
-use crate::contact::{Contact, Impulses};
-use pf_manifold::{Key, Touch};
+use crate::constraint::{Constraint, InverseMass, Prepared};
+use crate::contact::Impulses;
+use pf_manifold::Touch;
 use std::marker::Model;
 
-/// Where a body of a contact stands.
+/// One side of a contact: static, or a place in the list that is solved.
 #[derive(Clone, Copy, Debug, PartialEq, Eq)]
 pub enum Side {
     /// It is static, so it stands in no list, and impulses do not move it.
     Static,
     /// At this place in the list of bodies that are solved.
-    Moving(usize),
+    Dynamic(usize),
 }
 
 /// A contact of a tick: its point, its accumulated impulses, and where its bodies stand.
@@ -50,19 +50,6 @@ impl Model for Entry {
     } };
 }
 
-impl Entry {
-    /// The contact that is kept of it for the next tick.
-    #[inline]
-    pub fn contact(&self) -> Contact
-        ensures { result ≡ contact_of self.now }
-    {
-        Contact {
-            key: Key::of(&self.touch),
-            impulses: self.impulses,
-        }
-    }
-}
-
 /// An entry, and what a pre-step made of it.
 #[derive(Debug, Drop)]
 pub struct Row {
@@ -92,7 +79,7 @@ impl Row {
     {
         Row {
             entry,
-            prepared: Prepared::new(Mass::NONE, Mass::NONE, Constraint::NONE),
+            prepared: Prepared::new(InverseMass::NONE, InverseMass::NONE, Constraint::NONE),
         }
     }
 }

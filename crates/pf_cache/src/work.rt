@@ -23,7 +23,7 @@ impl Model for Work {
 }
 
 impl Work {
-    /// Of no steps. Takes no memory.
+    /// With nothing counted. Takes no memory.
     pub fn new() -> Work
         ensures { result ≡ no_work }
     {

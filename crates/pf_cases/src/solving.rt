@@ -41,7 +41,7 @@ fn tick(
         touch: *touch,
         impulses: kept,
         first: Side::Static,
-        second: Side::Moving(0),
+        second: Side::Dynamic(0),
     })];
     solve_list(scene, &mut bodies, &mut rows);
     let solved = &rows[..];

@@ -1,7 +1,7 @@
 -- A union-find: each body has a parent, and the root of a tree is its own parent.
 use Rattle.std.specs.Prelude.{◌≡◌, ℕ, ◌<◌, ◌≤◌, List, length, slice_index}
 
--- no parent is greater than its body, so the way up ends
+-- no parent is greater than its body, so following parents ends
 abbrev pub IsDownward : List ℕ → Type 0
 IsDownward parents = (i : ℕ) → i < length parents → slice_index parents i ≤ i
 

@@ -6,11 +6,12 @@ use Rattle.pf_shapes.specs.Scene.{Scene}
 use Rattle.pf_manifold.specs.Touches.{Touch}
 use Rattle.pf_islands.specs.Reach.{connects}
 
--- the name of a group after the groups of two names were merged
+-- the name of a group after the groups of two names became one: the greater became the lesser
 abbrev pub merged : ℕ → ℕ → ℕ → ℕ
 merged a b name = if name == max a b then min a b else name
 
--- the name of a body's group: each body is alone at first, and each contact merges two groups
+-- the name of a body's group: each body is alone at first, and each contact of two dynamic bodies
+-- merges their groups
 unfoldable pub group : Scene → List Touch → ℕ → ℕ
 group s [] i = i
 group s (t ∷ touches) i =

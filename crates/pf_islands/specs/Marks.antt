@@ -12,6 +12,6 @@ woken_body marks m = record m.1 { awake = slice_index_or marks m.0 false }
 abbrev pub rested_body : List Bool → ℕ × BodyState → BodyState
 rested_body marks m = if m.1.awake && slice_index_or marks m.0 false then at_sleep m.1 else m.1
 
--- these bodies, each with the name of its group, were changed so
+-- the bodies, each changed by its state and the name of its group
 abbrev pub each_named : (ℕ × BodyState → BodyState) → List ℕ → List BodyState → List BodyState
 each_named change names bodies = map change (zip names bodies)

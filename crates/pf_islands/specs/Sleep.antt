@@ -4,7 +4,7 @@ use Rattle.std.specs.Prelude.{ℕ, ◌==◌, Bool, false, not, ◌&&◌, ◌||�
 use Rattle.std.specs.List.{list_all, list_any, zip}
 use Rattle.pf_shapes.specs.Body.{BodyState, at_rest}
 
--- a body of the group of this name is awake
+-- some body of the group of this name is awake
 abbrev pub is_active : List ℕ → List BodyState → ℕ → Bool
 is_active names bodies name = list_any (λ m. (m.0 == name) && m.1.awake) (zip names bodies)
 
@@ -17,7 +17,7 @@ abbrev pub is_resting : ℕ → List ℕ → List BodyState → ℕ → Bool
 is_resting full names bodies name =
     list_all (λ m. not (m.0 == name) || (m.1.timer == full)) (zip names bodies)
 
--- at rest, and asleep
+-- asleep: at rest, with timer 0
 abbrev pub at_sleep : BodyState → BodyState
 at_sleep b = record (at_rest b) { timer = 0; awake = false }
 

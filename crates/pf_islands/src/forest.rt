@@ -35,8 +35,7 @@ fn connects(scene: &Scene, touch: &Touch) -> bool
     !first.is_static() && !second.is_static()
 }
 
-/// The root of a body. Each second body on the way up gets the parent of its parent, so that later
-/// ways are shorter.
+/// The root of a body, with path halving: each second body on the way gets the parent of its parent.
 fn find(parents: &mut [usize], body: usize) -> usize
     requires body { body < length parents.old }
     requires down { IsDownward parents.old }

@@ -12,7 +12,7 @@ use std::marker::Model;
 #[derive(Drop)]
 pub struct Groups {
     names: Vec<usize>,
-    /// What `wake` and `rest` note of each group, by its name.
+    /// Scratch space of `wake` and `rest`: a mark for each group, at its name.
     marks: Vec<bool>,
 }
 
@@ -33,8 +33,8 @@ impl Groups {
     ghost use Rattle.pf_islands.specs.Group.{groups};
     ghost use Rattle.pf_islands.specs.Sleep.{rested, woken};
 
-    /// The groups of the scene's bodies that these contact points connect. Takes memory for two
-    /// lists as long as the list of bodies, and none where there are no bodies.
+    /// The groups of the scene's bodies that these contact points connect. Takes no memory where there
+    /// are no bodies.
     pub fn new(alloc: Global, scene: &Scene, touches: &[Touch]) -> Result<Groups, AllocError>
         requires { All (IsTouchOf (length scene.now.fixtures)) touches.now }
         ensures value { IfOk result (λ found. found ≡ groups scene.now touches.now) }

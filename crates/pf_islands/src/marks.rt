@@ -10,7 +10,7 @@ use pf_rot::V2;
 use pf_shapes::BodyState;
 use std::alloc::{AllocError, Global};
 
-/// Room for so many marks.
+/// So many marks, of any value.
 pub fn unmarked(alloc: Global, len: usize) -> Result<Vec<bool>, AllocError>
     ensures value { IfOk result (λ marks. length marks.items ≡ len) }
     ensures no_memory { len ≡ 0 → IsOk result }
@@ -52,7 +52,7 @@ pub fn mark_resting(marks: &mut [bool], names: &[usize], bodies: &[BodyState], f
     }
 }
 
-/// Wakes the bodies of the groups that have a mark, and no others.
+/// A body is awake afterwards exactly where its group has a mark.
 pub fn wake_marked(marks: &[bool], names: &[usize], bodies: &mut [BodyState])
     requires marks { length marks.now ≡ length names.now }
     requires bodies { length bodies.old ≡ length names.now }

@@ -5,7 +5,7 @@ use Rattle.std.specs.Int.{int_min, int_max}
 use Rattle.pf_num.specs.Fx.{product, sum}
 use Rattle.pf_rot.specs.Vector.{dot}
 use Rattle.pf_cache.specs.Row.{Constraint}
-use Rattle.pf_solver.specs.Impulse.{Meeting, after_friction_step, after_normal_step, after_round, friction_limit, normal_impulse, relative_velocity, tangent_impulse}
+use Rattle.pf_solver.specs.Impulse.{ContactState, after_friction_step, after_normal_step, after_round, friction_limit, normal_impulse, relative_velocity, tangent_impulse}
 
 above-max : (a b : ℤ) → a ≤ℤ int_max a b
 above-max a b = omega (arith, ints, clamps)
@@ -16,13 +16,13 @@ above-clamp limit x = omega (arith, ints, clamps)
 below-clamp : (limit x : ℤ) → pos 0 ≤ℤ limit → int_max (neg_ℤ limit) (int_min limit x) ≤ℤ limit
 below-clamp limit x h = omega (arith, ints, clamps, h)
 
-pub never_pulls : (c : Constraint) (m : Meeting) → pos 0 ≤ℤ (after_round c m).impulses.normal
+pub never_pulls : (c : Constraint) (m : ContactState) → pos 0 ≤ℤ (after_round c m).impulses.normal
 unfolding after_round after_friction_step after_normal_step normal_impulse
 never_pulls c m =
     above-max (pos 0)
     (sum m.impulses.normal (product c.normal_mass (sum (neg_ℤ (dot (relative_velocity c m) c.normal)) c.bias)))
 
-pub within_friction : (c : Constraint) (m : Meeting) → pos 0 ≤ℤ friction_limit c (after_round c m).impulses
+pub within_friction : (c : Constraint) (m : ContactState) → pos 0 ≤ℤ friction_limit c (after_round c m).impulses
     → (neg_ℤ (friction_limit c (after_round c m).impulses) ≤ℤ (after_round c m).impulses.tangent)
     × ((after_round c m).impulses.tangent ≤ℤ friction_limit c (after_round c m).impulses)
 unfolding after_round after_friction_step tangent_impulse friction_limit

@@ -5,7 +5,7 @@ use Rattle.std.proofs.Math.Nat.{mul-le-mul, mul-le-mul_left}
 use Rattle.std.specs.Int.{int_max, int_min}
 use Rattle.std.specs.Int.RustNames.{unsigned_abs}
 use Rattle.pf_rot.specs.Vector.{V2, zero_vector}
-use Rattle.pf_cache.specs.Row.{Mass, no_mass}
+use Rattle.pf_cache.specs.Row.{InverseMass, no_mass}
 use Rattle.pf_cache.specs.Small.{IsHeavy, IsShort, IsSmallArm}
 use Rattle.pf_solver.specs.FastPath.{IsMassOf}
 
@@ -45,7 +45,7 @@ turn_within j x y p q r s t light turn_x turn_y short_p short_q first second sum
     omega (arith, one, two, most, parts)
 
 -- the same of the parts of a mass, an arm and an impulse
-pub turn_of : (own m : Mass) (arm a impulse p : V2) (r s t : ℕ) → m ≡ own → a ≡ arm → p ≡ impulse
+pub turn_of : (own m : InverseMass) (arm a impulse p : V2) (r s t : ℕ) → m ≡ own → a ≡ arm → p ≡ impulse
     → IsHeavy own → IsSmallArm own arm → IsShort 268435456 impulse
     → r * 33554432 ≤ unsigned_abs a.x * unsigned_abs p.y * 2 + 16777216
     → s * 33554432 ≤ unsigned_abs a.y * unsigned_abs p.x * 2 + 16777216
@@ -59,14 +59,14 @@ turn_of own m arm a impulse p r s t same_m same_a same_p heavy small short first
     short_p.x short_p.y first second sum
 
 -- what holds of a body's own mass, and of none, holds of the mass that it has at a contact
-pub heavy : (own given : Mass) → IsMassOf own given → IsHeavy own → IsHeavy given
+pub heavy : (own given : InverseMass) → IsMassOf own given → IsHeavy own → IsHeavy given
 heavy own given is h =
     ⊎_elim (λ (e : given ≡ own). subst IsHeavy (sym e) h)
     (λ (e : given ≡ no_mass).
     subst IsHeavy (sym e) (record { inverse_mass = omega arith; inverse_inertia = omega arith }))
     is
 
-pub arm_for_mass : (own given : Mass) (arm : V2) → IsMassOf own given → IsSmallArm own arm → IsSmallArm given arm
+pub arm_for_mass : (own given : InverseMass) (arm : V2) → IsMassOf own given → IsSmallArm own arm → IsSmallArm given arm
 arm_for_mass own given arm is h =
     ⊎_elim (λ (e : given ≡ own). subst (λ m. IsSmallArm m arm) (sym e) h)
     (λ (e : given ≡ no_mass).
@@ -75,7 +75,7 @@ arm_for_mass own given arm is h =
     is
 
 -- an arm of no length is small
-pub no_arm : (given : Mass) → IsSmallArm given zero_vector
+pub no_arm : (given : InverseMass) → IsSmallArm given zero_vector
 no_arm given = record {
   short = record { x = omega arith; y = omega arith };
   turn_x = omega arith;

@@ -11,15 +11,15 @@ use Rattle.pf_rot.specs.Vector.{V2}
 use Rattle.pf_shapes.specs.Body.{BodyState, at_rest}
 use Rattle.pf_shapes.specs.Scene.{Scene, fixture_at}
 use Rattle.pf_cache.specs.declared.row.Side.{Side}
-use Rattle.pf_cache.specs.declared.row.Side.TheVariants.{Static, Moving}
+use Rattle.pf_cache.specs.declared.row.Side.TheVariants.{Static, Dynamic}
 use Rattle.pf_cache.specs.Contact.{no_impulses}
 use Rattle.pf_cache.specs.Row.{Row}
 use Rattle.pf_solver.specs.declared.velocities.TheConstants.{ROUNDS}
 use Rattle.pf_solver.specs.Bodies.{after_gravity, after_motion, after_timer, each_awake, gravity_per_tick}
 use Rattle.pf_solver.specs.Constraint.{constraint_of, friction_of}
 use Rattle.pf_solver.specs.Impulse.{Motion, after_round, after_warm_start, friction_limit}
-use Rattle.pf_solver.specs.Solve.{anchor_at, prepared_row, solved}
-use Rattle.pf_solver.specs.Velocities.{Batch, Law, bodies_after, body_with, no_state, pass, passes, row_after, with_motion}
+use Rattle.pf_solver.specs.Solve.{pre_step_body, prepared_row, solved}
+use Rattle.pf_solver.specs.Velocities.{Batch, Step, bodies_after, body_with, no_state, pass, passes, row_after, with_motion}
 use Rattle.pf_solver.proofs.Limits.{never_pulls, within_friction}
 
 -- a row without its accumulated impulses, the only part of it that a pass changes
@@ -42,7 +42,7 @@ pub record IsSolvedAt (bodies : List BodyState) (place : ℕ) (c : BodyState) : 
 
 -- a row that does not touch the body at this place
 abbrev pub IsAway : ℕ → Row → Type 0
-IsAway place r = (r.entry.first ≢ Moving place) × (r.entry.second ≢ Moving place)
+IsAway place r = (r.entry.first ≢ Dynamic place) × (r.entry.second ≢ Dynamic place)
 
 -- the accumulated impulses of a row are within their limits
 pub record IsLimited (r : Row) : Type 0 where
@@ -97,70 +97,70 @@ motion_rest : (bodies : List BodyState) (side : Side) (m : Motion)
     → map at_rest (with_motion bodies side m) ≡ map at_rest bodies
 unfolding with_motion
 motion_rest bodies Static m = refl
-motion_rest bodies (Moving place) m = set_rest bodies place m
+motion_rest bodies (Dynamic place) m = set_rest bodies place m
 
 -- a motion of the body on a side leaves a body that does not stand there
-motion_away : (i : ℕ) (bodies : List BodyState) (side : Side) (m : Motion) → side ≢ Moving i
+motion_away : (i : ℕ) (bodies : List BodyState) (side : Side) (m : Motion) → side ≢ Dynamic i
     → slice_get (with_motion bodies side m) i ≡ slice_get bodies i
 unfolding with_motion
 motion_away i bodies Static m away = refl
-motion_away i bodies (Moving place) m away = set_elsewhere bodies place i _ (λ e. away (ap Moving e))
+motion_away i bodies (Dynamic place) m away = set_elsewhere bodies place i _ (λ e. away (ap Dynamic e))
 
 -- what passes keep
-module _ (law : Law) where
+module _ (step : Step) where
   -- a pass changes accumulated impulses alone of the rows
   pass_rows : (bodies : List BodyState) (rows : List Row)
-      → map unloaded (pass law bodies rows).rows ≡ map unloaded rows
+      → map unloaded (pass step bodies rows).rows ≡ map unloaded rows
   unfolding pass row_after
   pass_rows bodies [] = refl
-  pass_rows bodies (r ∷ rows) = ap (λ rest. unloaded r ∷ rest) (pass_rows (bodies_after law bodies r) rows)
+  pass_rows bodies (r ∷ rows) = ap (λ rest. unloaded r ∷ rest) (pass_rows (bodies_after step bodies r) rows)
 
-  -- the law of a row changes velocities and spins alone of the bodies
-  after_rest : (bodies : List BodyState) (r : Row) → map at_rest (bodies_after law bodies r) ≡ map at_rest bodies
+  -- the step of a row changes velocities and spins alone of the bodies
+  after_rest : (bodies : List BodyState) (r : Row) → map at_rest (bodies_after step bodies r) ≡ map at_rest bodies
   unfolding bodies_after
   after_rest bodies r = motion_rest _ r.entry.second _ ∙ motion_rest bodies r.entry.first _
 
   -- and so does a pass
   pass_bodies : (bodies : List BodyState) (rows : List Row)
-      → map at_rest (pass law bodies rows).bodies ≡ map at_rest bodies
+      → map at_rest (pass step bodies rows).bodies ≡ map at_rest bodies
   unfolding pass
   pass_bodies bodies [] = refl
-  pass_bodies bodies (r ∷ rows) = pass_bodies (bodies_after law bodies r) rows ∙ after_rest bodies r
+  pass_bodies bodies (r ∷ rows) = pass_bodies (bodies_after step bodies r) rows ∙ after_rest bodies r
 
-  -- the law of a row leaves a body that the row does not touch
+  -- the step of a row leaves a body that the row does not touch
   after_away : (i : ℕ) (bodies : List BodyState) (r : Row) → IsAway i r
-      → slice_get (bodies_after law bodies r) i ≡ slice_get bodies i
+      → slice_get (bodies_after step bodies r) i ≡ slice_get bodies i
   unfolding bodies_after
   after_away i bodies r away =
       motion_away i _ r.entry.second _ away.1 ∙ motion_away i bodies r.entry.first _ away.0
 
   -- a pass leaves a body that no row touches
   pass_away : (i : ℕ) (bodies : List BodyState) (rows : List Row) → All (IsAway i) rows
-      → slice_get (pass law bodies rows).bodies i ≡ slice_get bodies i
+      → slice_get (pass step bodies rows).bodies i ≡ slice_get bodies i
   unfolding pass
   pass_away i bodies [] away = refl
   pass_away i bodies (r ∷ rows) away =
-      pass_away i (bodies_after law bodies r) rows (All-tail (IsAway i) r rows away)
+      pass_away i (bodies_after step bodies r) rows (All-tail (IsAway i) r rows away)
       ∙ after_away i bodies r (All-head (IsAway i) r rows away)
 
   -- the same three of several passes
-  passes_rows : (n : ℕ) (b : Batch) → map unloaded (passes n law b).rows ≡ map unloaded b.rows
+  passes_rows : (n : ℕ) (b : Batch) → map unloaded (passes n step b).rows ≡ map unloaded b.rows
   unfolding passes
   passes_rows zero b = refl
-  passes_rows (suc n) b = pass_rows (passes n law b).bodies (passes n law b).rows ∙ passes_rows n b
+  passes_rows (suc n) b = pass_rows (passes n step b).bodies (passes n step b).rows ∙ passes_rows n b
 
-  passes_bodies : (n : ℕ) (b : Batch) → map at_rest (passes n law b).bodies ≡ map at_rest b.bodies
+  passes_bodies : (n : ℕ) (b : Batch) → map at_rest (passes n step b).bodies ≡ map at_rest b.bodies
   unfolding passes
   passes_bodies zero b = refl
-  passes_bodies (suc n) b = pass_bodies (passes n law b).bodies (passes n law b).rows ∙ passes_bodies n b
+  passes_bodies (suc n) b = pass_bodies (passes n step b).bodies (passes n step b).rows ∙ passes_bodies n b
 
   passes_away : (i n : ℕ) (b : Batch) → All (IsAway i) b.rows
-      → slice_get (passes n law b).bodies i ≡ slice_get b.bodies i
+      → slice_get (passes n step b).bodies i ≡ slice_get b.bodies i
   unfolding passes
   passes_away i zero b away = refl
   passes_away i (suc n) b away =
-      pass_away i (passes n law b).bodies (passes n law b).rows
-      (still (IsAway i) b.rows (passes n law b).rows (passes_rows n b) away)
+      pass_away i (passes n step b).bodies (passes n step b).rows
+      (still (IsAway i) b.rows (passes n step b).rows (passes_rows n b) away)
       ∙ passes_away i n b away
 
 -- after a round along all rows, all are within their limits
@@ -227,10 +227,10 @@ prepared_away s bodies i rows away = All-map (IsAway i) (prepared_row s bodies) 
 
 -- on either side a body has the friction of its fixture
 anchored : (s : Scene) (bodies : List BodyState) (number : ℕ) (side : Side)
-    → (anchor_at s bodies number side).friction ≡ (fixture_at s number).friction
-unfolding anchor_at
+    → (pre_step_body s bodies number side).friction ≡ (fixture_at s number).friction
+unfolding pre_step_body
 anchored s bodies number Static = refl
-anchored s bodies number (Moving place) = refl
+anchored s bodies number (Dynamic place) = refl
 
 -- the pre-step gives a row the friction of its two bodies
 prepared_friction : (s : Scene) (bodies : List BodyState) (r : Row) → HasFriction s (prepared_row s bodies r)

@@ -5,7 +5,7 @@ use Rattle.pf_num.specs.Fx.{difference, product, saturate, sum}
 use Rattle.pf_num.proofs.Operations.{product-zero}
 use Rattle.pf_rot.specs.Vector.{V2, add, cross, cross_sv, dot, scale, sub, zero_vector}
 use Rattle.pf_cache.specs.Row.{Constraint}
-use Rattle.pf_solver.specs.Impulse.{Meeting, Motion, after_friction_step, after_impulse, after_normal_step, after_round, first_after, friction_limit, normal_impulse, relative_velocity, second_after, tangent_impulse}
+use Rattle.pf_solver.specs.Impulse.{ContactState, Motion, after_friction_step, after_impulse, after_normal_step, after_round, first_after, friction_limit, normal_impulse, relative_velocity, second_after, tangent_impulse}
 use Rattle.pf_solver.specs.FastPath.{IsArmFor}
 use Rattle.pf_solver.specs.Velocities.{static_motion}
 
@@ -70,7 +70,7 @@ module _ (c : Constraint) (a b : V2) where
   abbrev other : Constraint
   other = record c { first_arm = a; second_arm = b }
 
-  module _ (m : Meeting) (first : IsArmFor m.first c.first_arm a) (second : IsArmFor m.second c.second_arm b) where
+  module _ (m : ContactState) (first : IsArmFor m.first c.first_arm a) (second : IsArmFor m.second c.second_arm b) where
     relative_same : relative_velocity other m ≡ relative_velocity c m
     unfolding relative_velocity
     relative_same =
@@ -92,7 +92,7 @@ module _ (c : Constraint) (a b : V2) where
         let after = after_impulse other (scale (difference total m.impulses.normal) c.normal) m in
         record after { impulses = record m.impulses { normal = total } })
         relative_same
-        ∙ ap (λ (after : Meeting). record after { impulses = record m.impulses { normal = normal_impulse c m } })
+        ∙ ap (λ (after : ContactState). record after { impulses = record m.impulses { normal = normal_impulse c m } })
         (impulse_same _)
 
     friction_same : after_friction_step other m ≡ after_friction_step c m
@@ -105,11 +105,11 @@ module _ (c : Constraint) (a b : V2) where
         let after = after_impulse other (scale (difference total m.impulses.tangent) c.tangent) m in
         record after { impulses = record m.impulses { tangent = total } })
         relative_same
-        ∙ ap (λ (after : Meeting). record after { impulses = record m.impulses { tangent = tangent_impulse c m } })
+        ∙ ap (λ (after : ContactState). record after { impulses = record m.impulses { tangent = tangent_impulse c m } })
         (impulse_same _)
 
   -- one round
-  pub round_same : (m : Meeting) → IsArmFor m.first c.first_arm a → IsArmFor m.second c.second_arm b
+  pub round_same : (m : ContactState) → IsArmFor m.first c.first_arm a → IsArmFor m.second c.second_arm b
       → after_round other m ≡ after_round c m
   unfolding after_round after_normal_step after_impulse
   round_same m first second =

@@ -3,13 +3,13 @@
 use Rattle.std.specs.Prelude.{◌≡◌, ◌⊎◌, ℕ, ◌+◌, ◌^◌, ◌≤◌}
 use Rattle.std.specs.Int.RustNames.{unsigned_abs}
 use Rattle.pf_rot.specs.Vector.{V2}
-use Rattle.pf_cache.specs.Row.{Constraint, Mass, no_mass}
+use Rattle.pf_cache.specs.Row.{Constraint, InverseMass, no_mass}
 use Rattle.pf_cache.specs.Small.{IsHeavy, IsShort, IsSmallArm}
-use Rattle.pf_solver.specs.Impulse.{Meeting, Motion}
+use Rattle.pf_solver.specs.Impulse.{ContactState, Motion}
 use Rattle.pf_solver.specs.Velocities.{static_motion}
 
 -- the mass that a body has at a contact: its own, or none where it is static
-abbrev pub IsMassOf : Mass → Mass → Type 0
+abbrev pub IsMassOf : InverseMass → InverseMass → Type 0
 IsMassOf own given = (given ≡ own) ⊎ (given ≡ no_mass)
 
 -- an arm that can stand for that of a body in a round: any one can, where the body is static
@@ -23,7 +23,7 @@ pub record IsWithin (speed turning : ℕ) (m : Motion) : Type 0 where
   pub mass : IsHeavy m.mass
 
 -- both bodies of a contact are
-pub record AreWithin (speed turning : ℕ) (m : Meeting) : Type 0 where
+pub record AreWithin (speed turning : ℕ) (m : ContactState) : Type 0 where
   pub first : IsWithin speed turning m.first
   pub second : IsWithin speed turning m.second
 
@@ -31,18 +31,18 @@ pub record AreWithin (speed turning : ℕ) (m : Meeting) : Type 0 where
 abbrev pub IsSlow : Motion → Type 0
 IsSlow m = IsWithin (2 ^ 29) (2 ^ 29) m
 
-abbrev pub AreSlow : Meeting → Type 0
+abbrev pub AreSlow : ContactState → Type 0
 AreSlow m = AreWithin (2 ^ 29) (2 ^ 29) m
 
 -- between its two steps
 abbrev pub IsPushed : Motion → Type 0
 IsPushed m = IsWithin (2 ^ 35) (2 ^ 31) m
 
-abbrev pub ArePushed : Meeting → Type 0
+abbrev pub ArePushed : ContactState → Type 0
 ArePushed m = AreWithin (2 ^ 35) (2 ^ 31) m
 
 -- both arms are small, for the masses that the bodies have
-pub record HasSmallArms (c : Constraint) (m : Meeting) : Type 0 where
+pub record HasSmallArms (c : Constraint) (m : ContactState) : Type 0 where
   pub first : IsSmallArm m.first.mass c.first_arm
   pub second : IsSmallArm m.second.mass c.second_arm
 
@@ -54,6 +54,6 @@ pub record IsNudged (before after : Motion) : Type 0 where
   pub mass : after.mass ≡ before.mass
 
 -- both bodies of a contact
-pub record AreNudged (before after : Meeting) : Type 0 where
+pub record AreNudged (before after : ContactState) : Type 0 where
   pub first : IsNudged before.first after.first
   pub second : IsNudged before.second after.second

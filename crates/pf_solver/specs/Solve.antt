@@ -1,48 +1,49 @@
 -- The phases Gravity to Timers of a list of bodies with the contacts between them, as Box2D-Lite's
 -- World::Step: Gravity, Pre-step, warm starting, Rounds, Positions; and for how long each body has
--- been still. Bodies that are not awake take part in no phase.
+-- been still. Gravity, Positions and Timers are of awake bodies alone. The velocities of every body
+-- that a row names change, so rows are to name awake and static bodies.
 use Rattle.std.specs.Prelude.{ℕ, ◌<◌, List, length, map, slice_index_or}
 use Rattle.pf_shapes.specs.Fixture.{Fixture, inverse_mass, inverse_inertia}
 use Rattle.pf_shapes.specs.Body.{BodyState}
 use Rattle.pf_shapes.specs.Scene.{Scene, fixture_at}
 use Rattle.pf_cache.specs.declared.row.Side.{Side}
-use Rattle.pf_cache.specs.declared.row.Side.TheVariants.{Static, Moving}
-use Rattle.pf_cache.specs.Row.{IsEntryOf, Mass, Row, no_mass}
+use Rattle.pf_cache.specs.declared.row.Side.TheVariants.{Static, Dynamic}
+use Rattle.pf_cache.specs.Row.{IsEntryOf, InverseMass, Row, no_mass}
 use Rattle.pf_solver.specs.declared.velocities.TheConstants.{ROUNDS}
 use Rattle.pf_solver.specs.Bodies.{after_gravity, after_motion, after_timer, each_awake, gravity_per_tick}
-use Rattle.pf_solver.specs.Constraint.{Anchor, constraint_of}
+use Rattle.pf_solver.specs.Constraint.{PreStepBody, constraint_of}
 use Rattle.pf_solver.specs.Impulse.{after_round, after_warm_start}
 use Rattle.pf_solver.specs.Velocities.{Batch, no_state, pass, passes}
 
 -- how easily impulses move a body of this fixture
-abbrev pub mass_of : Fixture → Mass
+abbrev pub mass_of : Fixture → InverseMass
 mass_of f = record { inverse_mass = inverse_mass f; inverse_inertia = inverse_inertia f }
 
 -- the body of a number as the pre-step sees it: a static one at its start, another at its place in
 -- the list
-unfoldable pub anchor_at : Scene → List BodyState → ℕ → Side → Anchor
-anchor_at s bodies number Static = record {
+unfoldable pub pre_step_body : Scene → List BodyState → ℕ → Side → PreStepBody
+pre_step_body s bodies number Static = record {
   position = (slice_index_or s.starts number no_state).position;
   mass = no_mass;
   friction = (fixture_at s number).friction;
 }
-anchor_at s bodies number (Moving place) = record {
+pre_step_body s bodies number (Dynamic place) = record {
   position = (slice_index_or bodies place no_state).position;
   mass = mass_of (fixture_at s number);
   friction = (fixture_at s number).friction;
 }
 
--- a row of bodies of the scene, of which so many are solved
+-- a row of two bodies of the scene, whose sides are static or different places below `bodies`
 pub record IsRowOf (s : Scene) (bodies : ℕ) (r : Row) : Type 0 where
   pub first : r.entry.touch.a < length s.fixtures
   pub second : r.entry.touch.b < length s.fixtures
   pub sides : IsEntryOf bodies r.entry
 
--- a row after the pre-step, by its entry alone
+-- a row after the pre-step; its old masses and constraint are not read
 unfoldable pub prepared_row : Scene → List BodyState → Row → Row
 prepared_row s bodies r =
-    let a = anchor_at s bodies r.entry.touch.a r.entry.first in
-    let b = anchor_at s bodies r.entry.touch.b r.entry.second in
+    let a = pre_step_body s bodies r.entry.touch.a r.entry.first in
+    let b = pre_step_body s bodies r.entry.touch.b r.entry.second in
     record {
       entry = r.entry;
       first_mass = a.mass;

@@ -1,16 +1,16 @@
 //! The pre-step of a contact: the part of it that stays fixed during the rounds.
 
 ghost use Rattle.std.specs.Prelude.{◌≡◌};
-ghost use Rattle.pf_solver.specs.Constraint.{bias_of, constraint_of, effective_mass, friction_of, lever, mobility, tangent_of};
+ghost use Rattle.pf_solver.specs.Constraint.{bias_of, constraint_of, effective_mass, friction_of, squared_lever_arm, mobility, tangent_of};
 
-use pf_cache::{Constraint, Mass};
+use pf_cache::{Constraint, InverseMass};
 use pf_manifold::ContactPoint;
 use pf_num::Fx;
 use pf_rot::V2;
 use std::marker::Model;
 
-/// Baumgarte's factor, 0.2, for each tick of 1/64 s, in units of 2^-24: Box2D-Lite's `biasFactor`
-/// times `inv_dt`.
+/// Baumgarte's factor a second, in units of 2^-24: 0.2 times 64 ticks, which is 12.8. Box2D-Lite's
+/// `biasFactor` times `inv_dt`.
 pub const BIAS_FACTOR: i64 = 214_748_352;
 /// 0.01 of a length, Box2D-Lite's `allowedPenetration`, in units of 2^-24: how far bodies overlap
 /// before a bias parts them.
@@ -18,19 +18,19 @@ pub const SLOP: i64 = 167_772;
 
 /// A body as the pre-step sees it.
 #[derive(Clone, Copy)]
-pub struct Anchor {
+pub struct PreStepBody {
     /// The centre.
     pub position: V2,
     /// How easily impulses move it.
-    pub mass: Mass,
+    pub mass: InverseMass,
     /// Its coefficient of friction.
     pub friction: Fx,
 }
 
-impl Model for Anchor {
-    ghost use Rattle.pf_solver.specs.Constraint.{Anchor};
+impl Model for PreStepBody {
+    ghost use Rattle.pf_solver.specs.Constraint.{PreStepBody};
 
-    ghost Value = { Anchor };
+    ghost Value = { PreStepBody };
 
     ghost view = { λ a. record { position = a.position; mass = a.mass; friction = a.friction } };
 
@@ -41,7 +41,7 @@ impl Model for Anchor {
     } };
 }
 
-/// The tangent: the normal turned clockwise by a quarter.
+/// The tangent: the normal, a quarter turn clockwise.
 #[inline]
 fn tangent_of(normal: V2) -> V2
     ensures { result ≡ tangent_of normal }
@@ -54,35 +54,46 @@ fn tangent_of(normal: V2) -> V2
 
 /// How far from the centre an impulse along this direction acts, squared.
 #[inline]
-#[tactic(auto, unfolding(crate::specs::Constraint::lever))]
-fn lever(arm: V2, direction: V2) -> Fx
-    ensures { result ≡ lever arm direction }
+#[tactic(auto, unfolding(crate::specs::Constraint::squared_lever_arm))]
+fn squared_lever_arm(arm: V2, direction: V2) -> Fx
+    ensures { result ≡ squared_lever_arm arm direction }
 {
     let along = arm.dot(direction);
     Fx::ZERO.max(arm.dot(arm).sub(along.mul(along)))
 }
 
-/// The inverse of the effective mass along a direction, Box2D-Lite's `kNormal` and `kTangent`: by
-/// how much an impulse of 1 changes the relative speed.
+/// The inverse of the effective mass along a unit direction, Box2D-Lite's `kNormal` and `kTangent`:
+/// by how much an impulse of 1 along it changes the relative speed along it.
 #[inline]
 #[tactic(auto, unfolding(crate::specs::Constraint::mobility))]
-fn mobility(a: &Mass, b: &Mass, first_arm: V2, second_arm: V2, direction: V2) -> Fx
+fn mobility(a: &InverseMass, b: &InverseMass, first_arm: V2, second_arm: V2, direction: V2) -> Fx
     ensures { result ≡ mobility a.now b.now first_arm second_arm direction }
 {
-    let first = a.inverse_inertia.mul(lever(first_arm, direction));
-    let second = b.inverse_inertia.mul(lever(second_arm, direction));
+    let first = a
+        .inverse_inertia
+        .mul(squared_lever_arm(first_arm, direction));
+    let second = b
+        .inverse_inertia
+        .mul(squared_lever_arm(second_arm, direction));
     a.inverse_mass.add(b.inverse_mass).add(first.add(second))
 }
 
 /// The effective mass along a direction.
 #[inline]
-fn effective_mass(a: &Mass, b: &Mass, first_arm: V2, second_arm: V2, direction: V2) -> Fx
+fn effective_mass(
+    a: &InverseMass,
+    b: &InverseMass,
+    first_arm: V2,
+    second_arm: V2,
+    direction: V2,
+) -> Fx
     ensures { result ≡ effective_mass a.now b.now first_arm second_arm direction }
 {
     Fx::ONE.div(mobility(a, b, first_arm, second_arm, direction))
 }
 
-/// Baumgarte's bias: the speed at which bodies part, where they overlap by more than the slop.
+/// Baumgarte's bias: the separating speed aimed at, `BIAS_FACTOR` times the overlap beyond the slop,
+/// and 0 within it.
 #[inline]
 #[tactic(auto, unfolding(crate::specs::Constraint::bias_of))]
 fn bias_of(separation: Fx) -> Fx
@@ -93,7 +104,7 @@ fn bias_of(separation: Fx) -> Fx
     factor.mul(Fx::ZERO.min(separation.add(slop))).neg()
 }
 
-/// The coefficient of friction of two bodies, from that of each.
+/// The coefficient of friction of two bodies: the geometric mean of both, as Box2D mixes them.
 #[inline]
 #[tactic(auto, unfolding(crate::specs::Constraint::friction_of))]
 fn friction_of(first: Fx, second: Fx) -> Fx
@@ -104,7 +115,7 @@ fn friction_of(first: Fx, second: Fx) -> Fx
 
 /// The constraint of a contact point of two bodies.
 #[tactic(auto, unfolding(crate::specs::Constraint::constraint_of))]
-pub fn constraint_of(a: &Anchor, b: &Anchor, point: &ContactPoint) -> Constraint
+pub fn constraint_of(a: &PreStepBody, b: &PreStepBody, point: &ContactPoint) -> Constraint
     ensures { result ≡ constraint_of a.now b.now point.now }
 {
     let normal = point.normal;

@@ -10,8 +10,8 @@ ghost use Rattle.pf_solver.specs.Impulse.{after_friction_step, after_impulse, af
 ghost use Rattle.pf_solver.specs.Velocities.{static_motion};
 ghost use Rattle.pf_solver.specs.FastPath.{AreNudged, ArePushed, AreSlow, HasSmallArms, IsArmFor, IsMassOf, IsNudged, IsPushed, IsSlow};
 
-use crate::impulse::{Meeting, Motion};
-use pf_cache::{Constraint, Impulses, Mass, Prepared};
+use crate::impulse::{ContactState, Motion};
+use pf_cache::{Constraint, Impulses, InverseMass, Prepared};
 use pf_num::Fx;
 use pf_rot::V2;
 
@@ -129,14 +129,14 @@ fn velocity_at(body: &Motion, arm: V2) -> V2
 /// The relative velocity at the contact.
 #[inline]
 #[tactic(auto, unfolding(crate::specs::Impulse::relative_velocity, pf_rot::specs::Vector::sub))]
-fn relative_velocity(constraint: &Constraint, meeting: &Meeting) -> V2
-    requires arms { HasSmallArms constraint.now meeting.now }
-    requires bodies { ArePushed meeting.now }
-    ensures value { result ≡ relative_velocity constraint.now meeting.now }
+fn relative_velocity(constraint: &Constraint, state: &ContactState) -> V2
+    requires arms { HasSmallArms constraint.now state.now }
+    requires bodies { ArePushed state.now }
+    ensures value { result ≡ relative_velocity constraint.now state.now }
     ensures size { IsShort (2 ^ 37) result }
 {
-    let of_first = velocity_at(&meeting.first, constraint.first_arm);
-    let of_second = velocity_at(&meeting.second, constraint.second_arm);
+    let of_first = velocity_at(&state.first, constraint.first_arm);
+    let of_second = velocity_at(&state.second, constraint.second_arm);
     V2 {
         x: of_second.x.unchecked_sub(of_first.x),
         y: of_second.y.unchecked_sub(of_first.y),
@@ -174,7 +174,7 @@ fn impulse_along(impulse: Fx, direction: V2) -> V2
 /// How an impulse at this arm changes the spin of a body.
 #[inline]
 #[tactic(auto, unfolding(pf_rot::specs::Vector::cross), using(crate::proofs::Sizes::turn_within))]
-fn spin_change(mass: &Mass, arm: V2, impulse: V2) -> Fx
+fn spin_change(mass: &InverseMass, arm: V2, impulse: V2) -> Fx
     requires mass { IsHeavy mass.now }
     requires arm { IsSmallArm mass.now arm }
     requires impulse { IsShort (2 ^ 28) impulse }
@@ -186,7 +186,7 @@ fn spin_change(mass: &Mass, arm: V2, impulse: V2) -> Fx
     inertia_by_turn(mass.inverse_inertia, first.unchecked_sub(second))
 }
 
-/// The first body after an impulse, which acts on it against its direction.
+/// The first body after the reaction to an impulse.
 #[inline]
 #[tactic(auto, unfolding(crate::specs::Impulse::first_after, pf_rot::specs::Vector::scale, pf_rot::specs::Vector::sub))]
 fn first_after(arm: V2, impulse: V2, body: &Motion) -> Motion
@@ -243,17 +243,17 @@ fn second_after(arm: V2, impulse: V2, body: &Motion) -> Motion
 /// Both bodies after an impulse at the contact point.
 #[inline]
 #[tactic(auto, unfolding(crate::specs::Impulse::after_impulse))]
-fn after_impulse(constraint: &Constraint, impulse: V2, meeting: &Meeting) -> Meeting
-    requires arms { HasSmallArms constraint.now meeting.now }
+fn after_impulse(constraint: &Constraint, impulse: V2, state: &ContactState) -> ContactState
+    requires arms { HasSmallArms constraint.now state.now }
     requires impulse { IsShort (2 ^ 28) impulse }
-    requires bodies { ArePushed meeting.now }
-    ensures value { result ≡ after_impulse constraint.now impulse meeting.now }
-    ensures size { AreNudged meeting.now result }
+    requires bodies { ArePushed state.now }
+    ensures value { result ≡ after_impulse constraint.now impulse state.now }
+    ensures size { AreNudged state.now result }
 {
-    Meeting {
-        first: first_after(constraint.first_arm, impulse, &meeting.first),
-        second: second_after(constraint.second_arm, impulse, &meeting.second),
-        impulses: meeting.impulses,
+    ContactState {
+        first: first_after(constraint.first_arm, impulse, &state.first),
+        second: second_after(constraint.second_arm, impulse, &state.second),
+        impulses: state.impulses,
     }
 }
 
@@ -269,22 +269,22 @@ fn is_within(x: Fx, limit: i64) -> bool
 /// The accumulated normal impulse after the step.
 #[inline(always)]
 #[tactic(auto, unfolding(crate::specs::Impulse::normal_impulse))]
-fn normal_impulse(constraint: &Constraint, meeting: &Meeting) -> Option<Fx>
+fn normal_impulse(constraint: &Constraint, state: &ContactState) -> Option<Fx>
     requires directions { HasShortDirections constraint.now }
     requires numbers { HasSmallNumbers constraint.now }
-    requires arms { HasSmallArms constraint.now meeting.now }
-    requires bodies { AreSlow meeting.now }
-    requires impulse { unsigned_abs meeting.now.impulses.normal ≤ 2 ^ 40 }
-    ensures value { IfSome result (λ total. total ≡ normal_impulse constraint.now meeting.now) }
+    requires arms { HasSmallArms constraint.now state.now }
+    requires bodies { AreSlow state.now }
+    requires impulse { unsigned_abs state.now.impulses.normal ≤ 2 ^ 40 }
+    ensures value { IfSome result (λ total. total ≡ normal_impulse constraint.now state.now) }
     ensures size { IfSome result (λ total. unsigned_abs total ≤ 2 ^ 31) }
 {
-    let speed = speed_along(relative_velocity(constraint, meeting), constraint.normal);
+    let speed = speed_along(relative_velocity(constraint, state), constraint.normal);
     let wanted = speed.neg().unchecked_add(constraint.bias);
     if !is_within(wanted, PART_LIMIT) {
         return None;
     }
     let change = part_by_number(constraint.normal_mass, wanted);
-    let total = Fx::ZERO.max(meeting.impulses.normal.unchecked_add(change));
+    let total = Fx::ZERO.max(state.impulses.normal.unchecked_add(change));
     if is_within(total, PART_LIMIT) {
         Some(total)
     } else {
@@ -294,94 +294,94 @@ fn normal_impulse(constraint: &Constraint, meeting: &Meeting) -> Option<Fx>
 
 /// Whether both bodies spin slowly enough for the next step.
 #[inline]
-fn spin_slowly(meeting: &Meeting) -> bool
-    ensures { IsTrue result → (unsigned_abs meeting.now.first.spin ≤ 2 ^ 31)
-        × (unsigned_abs meeting.now.second.spin ≤ 2 ^ 31) }
+fn spin_slowly(state: &ContactState) -> bool
+    ensures { IsTrue result → (unsigned_abs state.now.first.spin ≤ 2 ^ 31)
+        × (unsigned_abs state.now.second.spin ≤ 2 ^ 31) }
 {
-    let (first, second) = (&meeting.first, &meeting.second);
+    let (first, second) = (&state.first, &state.second);
     is_within(first.spin, PART_LIMIT) && is_within(second.spin, PART_LIMIT)
 }
 
 /// The step of the normal.
 #[inline(always)]
 #[tactic(auto, unfolding(crate::specs::Impulse::after_normal_step))]
-fn after_normal_step(constraint: &Constraint, meeting: &Meeting) -> Option<Meeting>
+fn after_normal_step(constraint: &Constraint, state: &ContactState) -> Option<ContactState>
     requires directions { HasShortDirections constraint.now }
     requires numbers { HasSmallNumbers constraint.now }
-    requires arms { HasSmallArms constraint.now meeting.now }
-    requires bodies { AreSlow meeting.now }
-    requires impulse { unsigned_abs meeting.now.impulses.normal ≤ 2 ^ 40 }
-    ensures value { IfSome result (λ after. after ≡ after_normal_step constraint.now meeting.now) }
+    requires arms { HasSmallArms constraint.now state.now }
+    requires bodies { AreSlow state.now }
+    requires impulse { unsigned_abs state.now.impulses.normal ≤ 2 ^ 40 }
+    ensures value { IfSome result (λ after. after ≡ after_normal_step constraint.now state.now) }
     ensures bodies { IfSome result (λ after. ArePushed after) }
     ensures normal { IfSome result (λ after. unsigned_abs after.impulses.normal ≤ 2 ^ 31) }
     ensures tangent { IfSome result
-        (λ after. after.impulses.tangent ≡ meeting.now.impulses.tangent) }
+        (λ after. after.impulses.tangent ≡ state.now.impulses.tangent) }
     ensures arms { IfSome result (λ after. HasSmallArms constraint.now after) }
 {
-    let normal = normal_impulse(constraint, meeting)?;
-    let added = normal.unchecked_sub(meeting.impulses.normal);
+    let normal = normal_impulse(constraint, state)?;
+    let added = normal.unchecked_sub(state.impulses.normal);
     if !is_within(added, STEP_LIMIT) {
         return None;
     }
     let impulse = impulse_along(added, constraint.normal);
-    let after = after_impulse(constraint, impulse, meeting);
+    let after = after_impulse(constraint, impulse, state);
     if !spin_slowly(&after) {
         return None;
     }
     let impulses = Impulses {
         normal,
-        ..meeting.impulses
+        ..state.impulses
     };
-    Some(Meeting { impulses, ..after })
+    Some(ContactState { impulses, ..after })
 }
 
 /// The accumulated tangent impulse after the step.
 #[inline(always)]
 #[tactic(auto, unfolding(crate::specs::Impulse::tangent_impulse, crate::specs::Impulse::friction_limit), using(crate::proofs::Sizes::clamped_within))]
-fn tangent_impulse(constraint: &Constraint, meeting: &Meeting) -> Option<Fx>
+fn tangent_impulse(constraint: &Constraint, state: &ContactState) -> Option<Fx>
     requires directions { HasShortDirections constraint.now }
     requires numbers { HasSmallNumbers constraint.now }
-    requires arms { HasSmallArms constraint.now meeting.now }
-    requires bodies { ArePushed meeting.now }
-    requires normal { unsigned_abs meeting.now.impulses.normal ≤ 2 ^ 31 }
-    requires tangent { unsigned_abs meeting.now.impulses.tangent ≤ 2 ^ 40 }
-    ensures value { IfSome result (λ total. total ≡ tangent_impulse constraint.now meeting.now) }
+    requires arms { HasSmallArms constraint.now state.now }
+    requires bodies { ArePushed state.now }
+    requires normal { unsigned_abs state.now.impulses.normal ≤ 2 ^ 31 }
+    requires tangent { unsigned_abs state.now.impulses.tangent ≤ 2 ^ 40 }
+    ensures value { IfSome result (λ total. total ≡ tangent_impulse constraint.now state.now) }
     ensures size { IfSome result (λ total. unsigned_abs total ≤ 2 ^ 38) }
 {
-    let speed = speed_along(relative_velocity(constraint, meeting), constraint.tangent);
+    let speed = speed_along(relative_velocity(constraint, state), constraint.tangent);
     if !is_within(speed, PART_LIMIT) {
         return None;
     }
     let change = part_by_number(constraint.tangent_mass, speed.neg());
-    let limit = part_by_number(constraint.friction, meeting.impulses.normal);
-    let total = meeting.impulses.tangent.unchecked_add(change);
+    let limit = part_by_number(constraint.friction, state.impulses.normal);
+    let total = state.impulses.tangent.unchecked_add(change);
     Some(limit.neg().max(limit.min(total)))
 }
 
 /// The step of friction.
 #[inline(always)]
 #[tactic(auto, unfolding(crate::specs::Impulse::after_friction_step))]
-fn after_friction_step(constraint: &Constraint, meeting: &Meeting) -> Option<Meeting>
+fn after_friction_step(constraint: &Constraint, state: &ContactState) -> Option<ContactState>
     requires directions { HasShortDirections constraint.now }
     requires numbers { HasSmallNumbers constraint.now }
-    requires arms { HasSmallArms constraint.now meeting.now }
-    requires bodies { ArePushed meeting.now }
-    requires normal { unsigned_abs meeting.now.impulses.normal ≤ 2 ^ 31 }
-    requires tangent { unsigned_abs meeting.now.impulses.tangent ≤ 2 ^ 40 }
-    ensures { IfSome result (λ after. after ≡ after_friction_step constraint.now meeting.now) }
+    requires arms { HasSmallArms constraint.now state.now }
+    requires bodies { ArePushed state.now }
+    requires normal { unsigned_abs state.now.impulses.normal ≤ 2 ^ 31 }
+    requires tangent { unsigned_abs state.now.impulses.tangent ≤ 2 ^ 40 }
+    ensures { IfSome result (λ after. after ≡ after_friction_step constraint.now state.now) }
 {
-    let tangent = tangent_impulse(constraint, meeting)?;
-    let added = tangent.unchecked_sub(meeting.impulses.tangent);
+    let tangent = tangent_impulse(constraint, state)?;
+    let added = tangent.unchecked_sub(state.impulses.tangent);
     if !is_within(added, STEP_LIMIT) {
         return None;
     }
     let impulse = impulse_along(added, constraint.tangent);
-    let after = after_impulse(constraint, impulse, meeting);
+    let after = after_impulse(constraint, impulse, state);
     let impulses = Impulses {
         tangent,
-        ..meeting.impulses
+        ..state.impulses
     };
-    Some(Meeting { impulses, ..after })
+    Some(ContactState { impulses, ..after })
 }
 
 /// Whether a body is slow enough for a round of small numbers.
@@ -409,18 +409,18 @@ fn are_small(impulses: &Impulses) -> bool
 /// One round of small numbers, where the arms are short.
 #[inline(always)]
 #[tactic(auto, unfolding(crate::specs::Impulse::after_round))]
-fn after_round(constraint: &Constraint, meeting: &Meeting) -> Option<Meeting>
+fn after_round(constraint: &Constraint, state: &ContactState) -> Option<ContactState>
     requires directions { HasShortDirections constraint.now }
     requires numbers { HasSmallNumbers constraint.now }
-    requires arms { HasSmallArms constraint.now meeting.now }
-    requires first { IsHeavy meeting.now.first.mass }
-    requires second { IsHeavy meeting.now.second.mass }
-    ensures { IfSome result (λ after. after ≡ after_round constraint.now meeting.now) }
+    requires arms { HasSmallArms constraint.now state.now }
+    requires first { IsHeavy state.now.first.mass }
+    requires second { IsHeavy state.now.second.mass }
+    ensures { IfSome result (λ after. after ≡ after_round constraint.now state.now) }
 {
-    if !is_slow(&meeting.first) || !is_slow(&meeting.second) || !are_small(&meeting.impulses) {
+    if !is_slow(&state.first) || !is_slow(&state.second) || !are_small(&state.impulses) {
         return None;
     }
-    let after = after_normal_step(constraint, meeting)?;
+    let after = after_normal_step(constraint, state)?;
     after_friction_step(constraint, &after)
 }
 
@@ -440,7 +440,7 @@ fn is_static(body: &Motion) -> bool
 /// An arm that is small and can stand for that of a body of this mass.
 #[inline(always)]
 #[tactic(auto, using(crate::proofs::Sizes::arm_for_mass, crate::proofs::Sizes::no_arm))]
-fn small_arm(own: &Mass, arm: V2, is_small: bool, body: &Motion) -> Option<V2>
+fn small_arm(own: &InverseMass, arm: V2, is_small: bool, body: &Motion) -> Option<V2>
     requires mass { IsMassOf own.now body.now.mass }
     requires small { IsTrue is_small → IsSmallArm own.now arm }
     ensures arm { IfSome result (λ given. IsArmFor body.now arm given) }
@@ -458,16 +458,16 @@ fn small_arm(own: &Mass, arm: V2, is_small: bool, body: &Motion) -> Option<V2>
 /// One contact in one round, where no number on the way is great: `None` where one is.
 #[inline]
 #[tactic(auto, using(crate::proofs::Sizes::heavy, crate::proofs::StaticArms::round_same))]
-pub fn fast_round(prepared: &Prepared, meeting: &Meeting) -> Option<Meeting>
-    requires first { IsMassOf prepared.now.first_mass meeting.now.first.mass }
-    requires second { IsMassOf prepared.now.second_mass meeting.now.second.mass }
-    ensures { IfSome result (λ after. after ≡ after_round prepared.now.constraint meeting.now) }
+pub fn fast_round(prepared: &Prepared, state: &ContactState) -> Option<ContactState>
+    requires first { IsMassOf prepared.now.first_mass state.now.first.mass }
+    requires second { IsMassOf prepared.now.second_mass state.now.second.mass }
+    ensures { IfSome result (λ after. after ≡ after_round prepared.now.constraint state.now) }
 {
     if !prepared.is_small() {
         return None;
     }
     let own = prepared.constraint();
-    let (first, second) = (&meeting.first, &meeting.second);
+    let (first, second) = (&state.first, &state.second);
     let first_small = prepared.has_small_first_arm();
     let second_small = prepared.has_small_second_arm();
     let first_arm = small_arm(&prepared.first_mass(), own.first_arm, first_small, first)?;
@@ -482,5 +482,5 @@ pub fn fast_round(prepared: &Prepared, meeting: &Meeting) -> Option<Meeting>
         second_arm,
         ..*own
     };
-    after_round(&constraint, meeting)
+    after_round(&constraint, state)
 }

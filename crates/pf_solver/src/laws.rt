@@ -2,9 +2,9 @@
 
 ghost use Rattle.std.specs.Prelude.{◌≡◌, ℕ, ◌+◌, ◌*◌, ◌^◌, ◌≤ℤ◌, pos, neg_ℤ, fold, length};
 ghost use Rattle.pf_cache.specs.Row.{Constraint};
-ghost use Rattle.pf_solver.specs.Impulse.{Meeting, after_round, friction_limit};
+ghost use Rattle.pf_solver.specs.Impulse.{ContactState, after_round, friction_limit};
 ghost use Rattle.pf_solver.specs.Laws.{places_written, solved_at};
-ghost use Rattle.pf_solver.specs.Velocities.{Batch, Law, passes};
+ghost use Rattle.pf_solver.specs.Velocities.{Batch, Step, passes};
 
 use crate::bodies::{STILL_SPEED, STILL_SPIN, STILL_TICKS};
 use crate::constraint::{BIAS_FACTOR, SLOP};
@@ -13,9 +13,9 @@ use crate::velocities::ROUNDS;
 /// After a round the accumulated normal impulse is not below 0, and the accumulated tangent impulse
 /// is within the limit of friction, where that is not below 0.
 pub fn rounds_keep_the_limits()
-    ensures normal { (c : Constraint) (m : Meeting)
+    ensures normal { (c : Constraint) (m : ContactState)
         → pos 0 ≤ℤ (after_round c m).impulses.normal }
-    ensures friction { (c : Constraint) (m : Meeting)
+    ensures friction { (c : Constraint) (m : ContactState)
         → let limit = friction_limit c (after_round c m).impulses in
         pos 0 ≤ℤ limit → (neg_ℤ limit ≤ℤ (after_round c m).impulses.tangent)
         × ((after_round c m).impulses.tangent ≤ℤ limit) }
@@ -24,13 +24,13 @@ pub fn rounds_keep_the_limits()
 /// So many rounds are one list of contacts, written as many times: each contact is solved by the
 /// bodies and the accumulated impulses that the one before it in this list left.
 pub fn rounds_are_one_list()
-    ensures { (n : ℕ) (law : Law) (b : Batch)
-        → passes n law b ≡ fold (solved_at law) b (places_written n (length b.rows)) }
+    ensures { (n : ℕ) (step : Step) (b : Batch)
+        → passes n step b ≡ fold (solved_at step) b (places_written n (length b.rows)) }
 {}
 
-/// A still body moves at most 1/64 of a length and turns by at most 1/32 of a radian a second, and
-/// sleeps after 32 such ticks. A tick has ten rounds. Baumgarte's factor is 0.2 for each tick of
-/// 1/64 s, and the slop 0.01 of a length, in units of 2^-24.
+/// A still body moves at most 1/64 of a length and turns by at most 1/32 of a radian a second; a full
+/// timer is 32 ticks. A tick has ten rounds. Baumgarte's factor is 12.8 a second, and the slop 0.01
+/// of a length, in units of 2^-24.
 pub fn named_limits()
     ensures speed { STILL_SPEED ≡ 2 ^ 18 }
     ensures spin { STILL_SPIN ≡ 2 ^ 19 }

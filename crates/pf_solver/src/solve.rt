@@ -3,22 +3,22 @@
 ghost use Rattle.std.specs.Prelude.{◌≡◌, ◌<◌, All, if◌then◌else◌, length, map};
 ghost use Rattle.pf_cache.specs.Row.{IsSide};
 ghost use Rattle.pf_solver.specs.Bodies.{after_gravity, after_motion, after_timer, each_awake};
-ghost use Rattle.pf_solver.specs.Solve.{IsRowOf, anchor_at, mass_of, prepared_row, solved};
+ghost use Rattle.pf_solver.specs.Solve.{IsRowOf, pre_step_body, mass_of, prepared_row, solved};
 
 use crate::bodies::{after_gravity, after_motion, after_timer};
-use crate::constraint::{Anchor, constraint_of};
+use crate::constraint::{PreStepBody, constraint_of};
 use crate::velocities::{rounds, warm_start};
-use pf_cache::{Mass, Prepared, Row, Side};
+use pf_cache::{InverseMass, Prepared, Row, Side};
 use pf_num::Fx;
 use pf_rot::V2;
 use pf_shapes::{BodyState, Fixture, Scene};
 
 /// How easily impulses move a body of this fixture.
 #[inline]
-fn mass_of(fixture: &Fixture) -> Mass
+fn mass_of(fixture: &Fixture) -> InverseMass
     ensures { result ≡ mass_of fixture.now }
 {
-    Mass {
+    InverseMass {
         inverse_mass: fixture.inverse_mass(),
         inverse_inertia: fixture.inverse_inertia(),
     }
@@ -26,26 +26,26 @@ fn mass_of(fixture: &Fixture) -> Mass
 
 /// The body of a number as the pre-step sees it: a static one at its start, another at its place in
 /// the list.
-#[tactic(auto, unfolding(crate::specs::Solve::anchor_at))]
-fn anchor_at(scene: &Scene, bodies: &[BodyState], number: usize, side: Side) -> Anchor
+#[tactic(auto, unfolding(crate::specs::Solve::pre_step_body))]
+fn pre_step_body(scene: &Scene, bodies: &[BodyState], number: usize, side: Side) -> PreStepBody
     requires number { number < length scene.now.fixtures }
     requires side { IsSide (length bodies.now) side }
-    ensures { result ≡ anchor_at scene.now bodies.now number side }
+    ensures { result ≡ pre_step_body scene.now bodies.now number side }
 {
     let fixture = &scene.fixtures()[number];
     let friction = fixture.friction();
     match side {
         Side::Static => {
             let start = &scene.starts()[number];
-            Anchor {
+            PreStepBody {
                 position: start.position,
-                mass: Mass::NONE,
+                mass: InverseMass::NONE,
                 friction,
             }
         }
-        Side::Moving(place) => {
+        Side::Dynamic(place) => {
             let body = &bodies[place];
-            Anchor {
+            PreStepBody {
                 position: body.position,
                 mass: mass_of(fixture),
                 friction,
@@ -61,8 +61,8 @@ fn prepare(scene: &Scene, bodies: &[BodyState], row: &mut Row)
     ensures { row.new ≡ prepared_row scene.now bodies.now row.old }
 {
     let entry = row.entry;
-    let first = anchor_at(scene, bodies, entry.touch.a, entry.first);
-    let second = anchor_at(scene, bodies, entry.touch.b, entry.second);
+    let first = pre_step_body(scene, bodies, entry.touch.a, entry.first);
+    let second = pre_step_body(scene, bodies, entry.touch.b, entry.second);
     let constraint = constraint_of(&first, &second, &entry.touch.point);
     row.prepared = Prepared::new(first.mass, second.mass, constraint);
 }
@@ -119,8 +119,9 @@ fn move_on(bodies: &mut [BodyState])
     }
 }
 
-/// The phases Gravity to Timers of the awake bodies, with the contacts between them in the order of
-/// the rows. All of a row but its entry is computed anew. Takes no memory.
+/// The phases Gravity to Timers: Gravity, Positions and Timers of the awake bodies, and Velocities of
+/// all bodies that rows name, in the order of the rows. All of a row but its entry is computed anew.
+/// Takes no memory.
 #[tactic(auto, unfolding(crate::specs::Solve::solved))]
 pub fn solve_list(scene: &Scene, bodies: &mut [BodyState], rows: &mut [Row])
     requires { All (IsRowOf scene.now (length bodies.old)) rows.old }

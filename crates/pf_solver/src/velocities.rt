@@ -2,13 +2,13 @@
 
 ghost use Rattle.std.specs.Prelude.{◌≡◌, All, length, IfSome};
 ghost use Rattle.pf_cache.specs.Row.{Constraint, IsEntryOf, IsSide};
-ghost use Rattle.pf_solver.specs.Impulse.{Meeting, after_round, after_warm_start};
+ghost use Rattle.pf_solver.specs.Impulse.{ContactState, after_round, after_warm_start};
 ghost use Rattle.pf_solver.specs.FastPath.{IsMassOf};
-ghost use Rattle.pf_solver.specs.Velocities.{Batch, bodies_after, bodies_with, with_motion, meeting_at, motion_at, pass, passes, row_after, row_with};
+ghost use Rattle.pf_solver.specs.Velocities.{Batch, bodies_after, bodies_with, with_motion, contact_state, motion_at, pass, passes, row_after, row_with};
 
 use crate::fast_path::fast_round;
-use crate::impulse::{Meeting, Motion, after_round, after_warm_start};
-use pf_cache::{Constraint, Mass, Prepared, Row, Side};
+use crate::impulse::{ContactState, Motion, after_round, after_warm_start};
+use pf_cache::{Constraint, InverseMass, Prepared, Row, Side};
 use pf_num::Fx;
 use pf_rot::V2;
 use pf_shapes::BodyState;
@@ -16,63 +16,63 @@ use pf_shapes::BodyState;
 /// How many rounds there are in a tick, Box2D-Lite's `iterations`.
 pub const ROUNDS: usize = 10;
 
-/// What a contact does to its bodies and to its accumulated impulses.
-trait ContactLaw {
-    ghost law: { Constraint → Meeting → Meeting };
+/// What a contact does in one pass: a warm start, or one round.
+trait ContactStep {
+    ghost step: { Constraint → ContactState → ContactState };
 
-    /// The law.
-    fn after(constraint: &Constraint, meeting: &Meeting) -> Meeting
-        ensures { result ≡ law constraint.now meeting.now };
+    /// What the contact does to its bodies and to its accumulated impulses.
+    fn after(constraint: &Constraint, state: &ContactState) -> ContactState
+        ensures { result ≡ step constraint.now state.now };
 
-    /// The law where all numbers are small; elsewhere there may be no result.
-    fn fast_after(prepared: &Prepared, meeting: &Meeting) -> Option<Meeting>
-        requires first { IsMassOf prepared.now.first_mass meeting.now.first.mass }
-        requires second { IsMassOf prepared.now.second_mass meeting.now.second.mass }
-        ensures { IfSome result (λ after. after ≡ law prepared.now.constraint meeting.now) };
+    /// The same where all numbers are small; elsewhere there may be no result.
+    fn fast_after(prepared: &Prepared, state: &ContactState) -> Option<ContactState>
+        requires first { IsMassOf prepared.now.first_mass state.now.first.mass }
+        requires second { IsMassOf prepared.now.second_mass state.now.second.mass }
+        ensures { IfSome result (λ after. after ≡ step prepared.now.constraint state.now) };
 }
 
 /// Warm starting.
 struct WarmStart;
 
-impl ContactLaw for WarmStart {
+impl ContactStep for WarmStart {
     ghost use Rattle.pf_solver.specs.Impulse.{after_warm_start};
 
-    ghost law = { after_warm_start };
+    ghost step = { after_warm_start };
 
     #[inline]
-    fn after(constraint: &Constraint, meeting: &Meeting) -> Meeting {
-        after_warm_start(constraint, meeting)
+    fn after(constraint: &Constraint, state: &ContactState) -> ContactState {
+        after_warm_start(constraint, state)
     }
 
     #[inline]
-    fn fast_after(prepared: &Prepared, meeting: &Meeting) -> Option<Meeting> {
-        Some(after_warm_start(prepared.constraint(), meeting))
+    fn fast_after(prepared: &Prepared, state: &ContactState) -> Option<ContactState> {
+        Some(after_warm_start(prepared.constraint(), state))
     }
 }
 
 /// One round.
 struct Round;
 
-impl ContactLaw for Round {
+impl ContactStep for Round {
     ghost use Rattle.pf_solver.specs.Impulse.{after_round};
 
-    ghost law = { after_round };
+    ghost step = { after_round };
 
     #[inline]
-    fn after(constraint: &Constraint, meeting: &Meeting) -> Meeting {
-        after_round(constraint, meeting)
+    fn after(constraint: &Constraint, state: &ContactState) -> ContactState {
+        after_round(constraint, state)
     }
 
     #[inline]
-    fn fast_after(prepared: &Prepared, meeting: &Meeting) -> Option<Meeting> {
-        fast_round(prepared, meeting)
+    fn fast_after(prepared: &Prepared, state: &ContactState) -> Option<ContactState> {
+        fast_round(prepared, state)
     }
 }
 
 /// The motion of the body on a side.
 #[inline]
 #[tactic(auto, unfolding(crate::specs::Velocities::motion_at))]
-fn motion_at(bodies: &[BodyState], mass: Mass, side: Side) -> Motion
+fn motion_at(bodies: &[BodyState], mass: InverseMass, side: Side) -> Motion
     requires { IsSide (length bodies.now) side }
     ensures value { result ≡ motion_at bodies.now mass side }
     ensures mass { IsMassOf mass result.mass }
@@ -81,9 +81,9 @@ fn motion_at(bodies: &[BodyState], mass: Mass, side: Side) -> Motion
         Side::Static => Motion {
             velocity: V2::ZERO,
             spin: Fx::ZERO,
-            mass: Mass::NONE,
+            mass: InverseMass::NONE,
         },
-        Side::Moving(place) => {
+        Side::Dynamic(place) => {
             let body = &bodies[place];
             Motion {
                 velocity: body.velocity,
@@ -101,7 +101,7 @@ fn set_motion(bodies: &mut [BodyState], side: Side, motion: &Motion)
     requires { IsSide (length bodies.old) side }
     ensures { bodies.new ≡ with_motion bodies.old side motion.now }
 {
-    if let Side::Moving(place) = side {
+    if let Side::Dynamic(place) = side {
         let body = &mut bodies[place];
         body.velocity = motion.velocity;
         body.spin = motion.spin;
@@ -110,24 +110,24 @@ fn set_motion(bodies: &mut [BodyState], side: Side, motion: &Motion)
 
 /// The bodies of a row, and its accumulated impulses.
 #[inline]
-#[tactic(auto, unfolding(crate::specs::Velocities::meeting_at))]
-fn meeting_at(bodies: &[BodyState], row: &Row) -> Meeting
+#[tactic(auto, unfolding(crate::specs::Velocities::contact_state))]
+fn contact_state(bodies: &[BodyState], row: &Row) -> ContactState
     requires { IsEntryOf (length bodies.now) row.now.entry }
-    ensures value { result ≡ meeting_at bodies.now row.now }
+    ensures value { result ≡ contact_state bodies.now row.now }
     ensures first { IsMassOf row.now.first_mass result.first.mass }
     ensures second { IsMassOf row.now.second_mass result.second.mass }
 {
     let entry = &row.entry;
-    Meeting {
+    ContactState {
         first: motion_at(bodies, row.prepared.first_mass(), entry.first),
         second: motion_at(bodies, row.prepared.second_mass(), entry.second),
         impulses: entry.impulses,
     }
 }
 
-/// Keeps what the law of a row gave.
+/// Writes the velocities and the accumulated impulses back.
 #[inline]
-fn store(bodies: &mut [BodyState], row: &mut Row, after: &Meeting)
+fn store(bodies: &mut [BodyState], row: &mut Row, after: &ContactState)
     requires { IsEntryOf (length bodies.old) row.old.entry }
     ensures bodies { bodies.new ≡ bodies_with after.now bodies.old row.old }
     ensures row { row.new ≡ row_with after.now row.old }
@@ -137,37 +137,37 @@ fn store(bodies: &mut [BodyState], row: &mut Row, after: &Meeting)
     row.entry.impulses = after.impulses;
 }
 
-/// The law of one row by the general path.
+/// The step of one row by the general path.
 #[cold]
 #[inline(never)]
 #[tactic(auto, unfolding(crate::specs::Velocities::bodies_after, crate::specs::Velocities::row_after))]
-fn solve_general_row<L: ContactLaw>(bodies: &mut [BodyState], row: &mut Row)
+fn solve_general_row<L: ContactStep>(bodies: &mut [BodyState], row: &mut Row)
     requires { IsEntryOf (length bodies.old) row.old.entry }
-    ensures bodies { bodies.new ≡ bodies_after L.law bodies.old row.old }
-    ensures row { row.new ≡ row_after L.law bodies.old row.old }
+    ensures bodies { bodies.new ≡ bodies_after L.step bodies.old row.old }
+    ensures row { row.new ≡ row_after L.step bodies.old row.old }
 {
-    let after = L::after(row.prepared.constraint(), &meeting_at(bodies, row));
+    let after = L::after(row.prepared.constraint(), &contact_state(bodies, row));
     store(bodies, row, &after);
 }
 
-/// The law of one row. On the fast path bodies stay in registers.
+/// The step of one row. On the fast path bodies stay in registers.
 #[inline(always)]
 #[tactic(auto, unfolding(crate::specs::Velocities::bodies_after, crate::specs::Velocities::row_after))]
-fn solve_row<L: ContactLaw>(bodies: &mut [BodyState], row: &mut Row)
+fn solve_row<L: ContactStep>(bodies: &mut [BodyState], row: &mut Row)
     requires { IsEntryOf (length bodies.old) row.old.entry }
-    ensures bodies { bodies.new ≡ bodies_after L.law bodies.old row.old }
-    ensures row { row.new ≡ row_after L.law bodies.old row.old }
+    ensures bodies { bodies.new ≡ bodies_after L.step bodies.old row.old }
+    ensures row { row.new ≡ row_after L.step bodies.old row.old }
 {
-    match L::fast_after(&row.prepared, &meeting_at(bodies, row)) {
+    match L::fast_after(&row.prepared, &contact_state(bodies, row)) {
         Some(after) => store(bodies, row, &after),
         None => solve_general_row::<L>(bodies, row),
     }
 }
 
-/// The law of each row, by the bodies that the row before it left.
-fn pass<L: ContactLaw>(bodies: &mut [BodyState], rows: &mut [Row])
+/// The step of each row, with the velocities that the row before it left.
+fn pass<L: ContactStep>(bodies: &mut [BodyState], rows: &mut [Row])
     requires { All (λ r. IsEntryOf (length bodies.old) r.entry) rows.old }
-    ensures value { record { bodies = bodies.new; rows = rows.new } ≡ pass L.law bodies.old rows.old }
+    ensures value { record { bodies = bodies.new; rows = rows.new } ≡ pass L.step bodies.old rows.old }
     ensures rows { All (λ r. IsEntryOf (length bodies.new) r.entry) rows.new }
 {
     for row in rows.iter_mut() {

@@ -10,7 +10,7 @@ use Rattle.pf_shapes.specs.Scene.{Scene, is_static_at}
 use Rattle.pf_manifold.specs.Key.{AreTouches, IsKey, IsRising, key_of, rank}
 use Rattle.pf_manifold.specs.Touches.{IsTouchOf, Touch}
 use Rattle.pf_manifold.proofs.Rising.{rising-weaken}
-use Rattle.pf_cache.specs.declared.row.Side.TheVariants.{Static, Moving}
+use Rattle.pf_cache.specs.declared.row.Side.TheVariants.{Static, Dynamic}
 use Rattle.pf_cache.specs.Contact.{Contact, no_impulses}
 use Rattle.pf_cache.specs.Row.{AreApart, AreRows, IsSide, Row}
 use Rattle.pf_solver.specs.Solve.{IsRowOf}
@@ -153,14 +153,14 @@ module _ (s : Scene) (bodies : List BodyState) where
   side_is : (n number : ℕ) → number < n → IsSide n (side_of s number)
   side_is n number within = by (is_static_at s number)
     where
-      by : (e : Bool) → IsSide n (if e then Static else Moving number)
+      by : (e : Bool) → IsSide n (if e then Static else Dynamic number)
       by true = tt
       by false = within
 
   sides_apart : (a b : ℕ) → a < b → AreApart (side_of s a) (side_of s b)
   sides_apart a b less = by (is_static_at s a) (is_static_at s b)
     where
-      by : (d e : Bool) → AreApart (if d then Static else Moving a) (if e then Static else Moving b)
+      by : (d e : Bool) → AreApart (if d then Static else Dynamic a) (if e then Static else Dynamic b)
       by true e = tt
       by false true = tt
       by false false = λ same. omega (arith, same, less)

@@ -82,6 +82,12 @@ static_stays fixtures bodies (p ∷ payloads) i f here static =
     by false test =
         leaves bodies p (slice_get fixtures (body_of p)) (slice_get bodies (body_of p)) i (λ same. grind (arith, nat_tests))
 
+pub static_body : (scene : Scene) (w : World) (p : Payload) (i : ℕ) (f : Fixture)
+    → slice_get scene.fixtures i ≡ Some f → is_static f ≡ true
+    → slice_get (apply scene w p).bodies i ≡ slice_get w.bodies i
+unfolding apply after_commands
+static_body scene w p i f = static_stays scene.fixtures w.bodies (p ∷ []) i f
+
 -- what the commands of a tick make of a body: it is as it was, or it was commanded and is awake
 pub data Commanded (b c : BodyState) : Type 0 where
   same : c ≡ b → Commanded b c

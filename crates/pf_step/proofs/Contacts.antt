@@ -10,11 +10,12 @@ use Rattle.pf_num.specs.Fx.{product, root}
 use Rattle.pf_num.proofs.Monotone.{product-monotone}
 use Rattle.pf_num.proofs.Operations.{product-zero, product_comm}
 use Rattle.pf_shapes.specs.Body.{BodyState}
+use Rattle.pf_shapes.specs.Pair.{IsPairOf}
 use Rattle.pf_shapes.specs.Scene.{IsScene, Scene, fixture_at}
 use Rattle.pf_commands.specs.declared.payload.Payload.{Payload}
 use Rattle.pf_commands.specs.Merge.{CommandMap, payloads_at}
 use Rattle.pf_manifold.specs.Key.{AreTouches, IsKey, IsRising, Key, key_of, rank}
-use Rattle.pf_manifold.specs.Touches.{Touch}
+use Rattle.pf_manifold.specs.Touches.{IsTouchOf, Touch}
 use Rattle.pf_cache.specs.Contact.{AreContacts, Contact, Impulses, impulses_at, no_impulses, updated}
 use Rattle.pf_cache.specs.Row.{AreRows, Row, impulses_or, with_rows}
 use Rattle.pf_cache.proofs.Kept.{same_keys}
@@ -33,7 +34,7 @@ use Rattle.pf_step.specs.World.{World, start_of}
 use Rattle.pf_step.proofs.ActiveRows.{rows_in_order}
 use Rattle.pf_step.proofs.Commanding.{commands_length}
 use Rattle.pf_step.proofs.Lengths.{sim_length}
-use Rattle.pf_step.proofs.Touching.{points_in_order}
+use Rattle.pf_step.proofs.Touching.{points_in_order, points_of_bodies}
 
 -- ---- numbers
 
@@ -228,6 +229,21 @@ module _ (s : Scene) (scene : IsScene s) where
   unfolding sim start_of
   sim_order m zero = record { rising = tt; keys = All-nil (λ c. IsKey c.key) }
   sim_order m (suc tick) = step_order (sim s m tick) (payloads_at m tick) (sim_length s m tick scene)
+
+  -- their keys are those of two bodies of the scene
+  pub sim_pairs : (m : CommandMap) (tick : ℕ)
+      → All (λ c. IsPairOf (length s.fixtures) (record { a = c.key.a; b = c.key.b })) (sim s m (suc tick)).contacts
+  unfolding sim
+  sim_pairs m tick =
+      let w = sim s m tick in
+      let bodies = after_commands s.fixtures w.bodies (payloads_at m tick) in
+      let count : length bodies ≡ length s.fixtures =
+      commands_length s.fixtures w.bodies (payloads_at m tick) ∙ sim_length s m tick scene in
+      let P : Key → Type 0 = λ k. IsPairOf (length s.fixtures) (record { a = k.a; b = k.b }) in
+      let points : All (λ t. P (key_of t)) (touching s bodies) =
+      subst (λ n. All (IsTouchOf n) (touching s bodies)) count (points_of_bodies s bodies count) in
+      all_unmapped P (λ (c : Contact). c.key) (step s w (payloads_at m tick)).contacts
+      (subst (All P) (sym (step_keys s w (payloads_at m tick))) (All-map P key_of (touching s bodies) points))
 
   pub sim_limited : (m : CommandMap) (tick : ℕ) → All (Limited s) (sim s m tick).contacts
   unfolding sim start_of

@@ -24,6 +24,7 @@ pub record IsStillAt (s : Scene) (m : CommandMap) (tick i : ℕ) : Type 0 where
 record IsCounted (s : Scene) (m : CommandMap) (tick i : ℕ) (b : BodyState) : Type 0 where
   asleep : b.awake ≡ false → b.timer ≡ 0
   still : (k : ℕ) → k < b.timer → IsStillAt s m (tick - k) i
+  within : b.timer ≤ tick
 
 timer_of_start : (fixtures : List Fixture) (starts : List BodyState) (i : ℕ) (b : BodyState) → AreStarts fixtures starts
     → slice_get starts i ≡ Some b → b.timer ≡ 0
@@ -39,6 +40,7 @@ none_counted : (s : Scene) (m : CommandMap) (tick i : ℕ) (b : BodyState) → b
 none_counted s m tick i b zero_timer = record {
   asleep = λ _. zero_timer;
   still = λ k below. absurd (omega (arith, zero_timer));
+  within = omega (arith, zero_timer);
 }
 
 -- one tick more: of a body that was there, or that was commanded in this tick
@@ -55,8 +57,16 @@ counted_more s m tick i was from b here counted commanded (falls_asleep full tim
 counted_more s m tick i was from b here counted commanded (rests still timer awake) = record {
   asleep = λ asleep. absurd (true≢false (sym awake ∙ asleep));
   still = stilled;
+  within = longer commanded;
 }
   where
+    longer : Commanded was from → b.timer ≤ suc tick
+    longer (same is) =
+        let same_timer : from.timer ≡ was.timer = ap (λ (x : BodyState). x.timer) is in
+        let before = counted.within in
+        omega (arith, timer, same_timer, before)
+    longer (woken none waking rotation) = omega (arith, none, timer)
+
     earlier : (k : ℕ) → suc k < b.timer → Commanded was from → IsStillAt s m (tick - k) i
     earlier k below (same is) =
         let same_timer : from.timer ≡ was.timer = ap (λ (x : BodyState). x.timer) is in
@@ -86,6 +96,10 @@ pub still_ticks : (s : Scene) (m : CommandMap) (tick i : ℕ) (b : BodyState) �
 still_ticks s m tick i b scene here k below =
     let at = (counted s m tick i b scene here).still k below in
     (at.body, at.is_there, at.still)
+
+pub timer_within : (s : Scene) (m : CommandMap) (tick i : ℕ) (b : BodyState) → IsScene s
+    → slice_get (sim s m tick).bodies i ≡ Some b → b.timer ≤ tick
+timer_within s m tick i b scene here = (counted s m tick i b scene here).within
 
 fell_case : (was from b c : BodyState) → Commanded was from → TickCase from c → was ≡ b → b.awake ≡ true → c.awake ≡ false
     → STILL_TICKS ≤ b.timer + 1

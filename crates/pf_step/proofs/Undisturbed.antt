@@ -10,7 +10,7 @@ use Rattle.pf_shapes.specs.Scene.{AreStarts, IsScene, Scene, fixture_at, is_stat
 use Rattle.pf_manifold.specs.Touches.{IsTouchOf, Touch}
 use Rattle.pf_commands.specs.declared.payload.Payload.{Payload}
 use Rattle.pf_commands.specs.Merge.{CommandMap, payloads_at}
-use Rattle.pf_cache.specs.declared.row.Side.TheVariants.{Static, Moving}
+use Rattle.pf_cache.specs.declared.row.Side.TheVariants.{Static, Dynamic}
 use Rattle.pf_cache.specs.Contact.{Contact, updated}
 use Rattle.pf_cache.specs.Row.{Row}
 use Rattle.pf_islands.specs.Group.{group, groups}
@@ -65,14 +65,14 @@ abbrev pub StaticsSleep : Scene → List BodyState → Type 0
 StaticsSleep s bodies = (j : ℕ) (b : BodyState) → is_static_at s j ≡ true → slice_get bodies j ≡ Some b → b.awake ≡ false
 
 -- a moving side names its body
-side_place : (s : Scene) (number i : ℕ) → side_of s number ≡ Moving i → number ≡ i
+side_place : (s : Scene) (number i : ℕ) → side_of s number ≡ Dynamic i → number ≡ i
 side_place s number i = by (is_static_at s number)
   where
-    by : (e : Bool) → (if e then Static else Moving number) ≡ Moving i → number ≡ i
+    by : (e : Bool) → (if e then Static else Dynamic number) ≡ Dynamic i → number ≡ i
     by true same = absurd cc
     by false same = cc
 
-same_place : (m n : ℕ) → Moving m ≡ Moving n → m ≡ n
+same_place : (m n : ℕ) → Dynamic m ≡ Dynamic n → m ≡ n
 same_place m n e = cc
 
 -- ---- a tick
@@ -170,12 +170,12 @@ module _ (s : Scene) (old : List Contact) (commanded : List BodyState) (count : 
         all_rows s awake (IsAway i) points (updated old points)
         (all_from (HoldsWhere s awake (IsAway i)) points away_at)
       where
-        first_away : (k : ℕ) (t : Touch) → slice_get points k ≡ Some t → is_active_contact awake t ≡ true → side_of s t.a ≢ Moving i
+        first_away : (k : ℕ) (t : Touch) → slice_get points k ≡ Some t → is_active_contact awake t ≡ true → side_of s t.a ≢ Dynamic i
         first_away k t stands active same =
             let of = all_at (IsTouchOf (length commanded)) points k t (points_of_bodies s commanded count) stands in
             true≢false (sym active ∙ contact_inactive k t stands (omega (arith, of.0, of.1)) of.1 (inl (side_place s t.a i same)))
 
-        second_away : (k : ℕ) (t : Touch) → slice_get points k ≡ Some t → is_active_contact awake t ≡ true → side_of s t.b ≢ Moving i
+        second_away : (k : ℕ) (t : Touch) → slice_get points k ≡ Some t → is_active_contact awake t ≡ true → side_of s t.b ≢ Dynamic i
         second_away k t stands active same =
             let of = all_at (IsTouchOf (length commanded)) points k t (points_of_bodies s commanded count) stands in
             true≢false (sym active ∙ contact_inactive k t stands (omega (arith, of.0, of.1)) of.1 (inr (side_place s t.b i same)))
@@ -184,10 +184,10 @@ module _ (s : Scene) (old : List Contact) (commanded : List BodyState) (count : 
         away_at k t stands active c = (first_away k t stands active, second_away k t stands active)
 
   -- a static body is on no moving side
-  static_side : (i number : ℕ) → is_static_at s i ≡ true → side_of s number ≢ Moving i
+  static_side : (i number : ℕ) → is_static_at s i ≡ true → side_of s number ≢ Dynamic i
   static_side i number static = by (is_static_at s number) refl
     where
-      by : (e : Bool) → is_static_at s number ≡ e → (if e then Static else Moving number) ≢ Moving i
+      by : (e : Bool) → is_static_at s number ≡ e → (if e then Static else Dynamic number) ≢ Dynamic i
       by true e same = absurd cc
       by false e same =
           let at : number ≡ i = same_place number i same in

@@ -11,7 +11,7 @@ use Rattle.pf_commands.specs.declared.payload.Payload.TheVariants.{Push, Turn, S
 use Rattle.pf_commands.specs.Payload.{body_of}
 use Rattle.pf_step.specs.World.{World}
 
--- awake, and still for no tick
+-- awake, with timer 0
 abbrev pub woken_body : BodyState → BodyState
 woken_body b = record b { timer = 0; awake = true }
 

@@ -29,7 +29,7 @@ IsUndisturbed s bodies i =
     (j : ℕ) (b : BodyState) → slice_get bodies j ≡ Some b → Reaches s (touching s bodies) i j
     → b.awake ≡ false
 
--- the bodies of a tick when the phase Sleep comes
+-- the bodies just before the phase Sleep
 abbrev pub bodies_before_sleep : Scene → World → List Payload → List BodyState
 bodies_before_sleep s w payloads =
     let commanded = after_commands s.fixtures w.bodies payloads in

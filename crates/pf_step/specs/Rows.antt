@@ -5,14 +5,14 @@ use Rattle.pf_shapes.specs.Body.{BodyState}
 use Rattle.pf_shapes.specs.Scene.{Scene, is_static_at}
 use Rattle.pf_manifold.specs.Touches.{Touch}
 use Rattle.pf_cache.specs.declared.row.Side.{Side}
-use Rattle.pf_cache.specs.declared.row.Side.TheVariants.{Static, Moving}
+use Rattle.pf_cache.specs.declared.row.Side.TheVariants.{Static, Dynamic}
 use Rattle.pf_cache.specs.Contact.{Contact}
 use Rattle.pf_cache.specs.Row.{Row, new_row}
 use Rattle.pf_solver.specs.Velocities.{no_state}
 
 -- where the body of a number stands for the solver: at its number, unless it is static
 abbrev pub side_of : Scene → ℕ → Side
-side_of s number = if is_static_at s number then Static else Moving number
+side_of s number = if is_static_at s number then Static else Dynamic number
 
 -- the row of a contact point and its contact
 unfoldable pub row_of : Scene → Touch → Contact → Row

@@ -1,5 +1,5 @@
--- The simulation: a scene's world at each tick, by the commands of all ticks before it. What a step
--- computes is shut here: no law of simulations opens `step`.
+-- The simulation: a scene's world at each tick, by the commands of all ticks before it. No crate
+-- above this one opens `step`; the laws of this crate do.
 use Rattle.std.specs.Prelude.{ℕ, zero, suc}
 use Rattle.pf_shapes.specs.Scene.{Scene}
 use Rattle.pf_commands.specs.Merge.{CommandMap, payloads_at}

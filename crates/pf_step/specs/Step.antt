@@ -17,7 +17,7 @@ use Rattle.pf_step.specs.Commands.{after_commands}
 use Rattle.pf_step.specs.Rows.{active_rows}
 use Rattle.pf_step.specs.World.{World}
 
--- the contact points of all pairs of bodies
+-- the contact points of all pairs of bodies whose bounds overlap
 abbrev pub touching : Scene → List BodyState → List Touch
 touching s bodies = touches s.fixtures bodies (pairs (all_bounds s.fixtures bodies))
 

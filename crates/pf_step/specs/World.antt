@@ -1,5 +1,5 @@
--- Worlds: what a tick changes. The bodies as b2World keeps them, by their numbers, and the contacts
--- as Box2D-Lite's World::arbiters.
+-- Worlds: what a tick changes. The bodies as Box2D-Lite's World::bodies, by their numbers, and the
+-- contacts as its World::arbiters.
 use Rattle.std.specs.Prelude.{Bool, ◌&&◌, List, []}
 use Rattle.std.specs.Cmp.Lexicographic.{pointwise}
 use Rattle.pf_shapes.specs.Body.{BodyState}

@@ -1,10 +1,11 @@
-//! Laws of simulations. Their functions do nothing: their clauses are what they are for.
+//! Laws of simulations. These functions compute nothing: their clauses are the statements.
 
-ghost use Rattle.std.specs.Prelude.{◌≡◌, ◌≢◌, ◌⊎◌, ℕ, ◌+◌, ◌-◌, ◌≤◌, ◌<◌, pos, true, false, Some, All, map, slice_get};
+ghost use Rattle.std.specs.Prelude.{◌≡◌, ◌≢◌, ◌⊎◌, ℕ, ◌+◌, ◌-◌, ◌≤◌, ◌<◌, pos, true, false, Some, All, length, map, slice_get};
 ghost use Rattle.pf_rot.specs.Vector.{zero_vector};
 ghost use Rattle.pf_rot.specs.Laws.{IsAtMostOne};
 ghost use Rattle.pf_shapes.specs.Body.{BodyState};
 ghost use Rattle.pf_shapes.specs.Fixture.{Fixture, is_static};
+ghost use Rattle.pf_shapes.specs.Pair.{IsPairOf};
 ghost use Rattle.pf_shapes.specs.Scene.{IsScene, Scene, is_static_at};
 ghost use Rattle.pf_manifold.specs.Key.{key_of, rank};
 ghost use Rattle.pf_manifold.specs.Touches.{Touch};
@@ -38,7 +39,7 @@ pub fn commands_change_later_worlds()
 {}
 
 /// A body stays as it is at every later tick as long as no chain of contacts leads from it to an
-/// awake body. A command wakes its body.
+/// awake body.
 pub fn sleepers_stay()
     ensures { (scene : Scene) (commands : CommandMap) (tick later i : ℕ) (body : BodyState)
         → IsScene scene → slice_get (sim scene commands tick).bodies i ≡ Some body
@@ -47,8 +48,8 @@ pub fn sleepers_stay()
         → slice_get (sim scene commands (tick + later)).bodies i ≡ Some body }
 {}
 
-/// So do the accumulated impulses of the contacts of a dynamic body: at a tick at which no chain
-/// leads from it to an awake body, each contact point of it keeps what its key has accumulated.
+/// The contacts of an undisturbed dynamic body keep their impulses: at a tick at which no chain leads
+/// from it to an awake body, each contact point of it keeps what its key has accumulated.
 pub fn contacts_of_sleepers_keep_their_impulses()
     ensures { (scene : Scene) (commands : CommandMap) (tick i place : ℕ) (body : BodyState)
         (t : Touch) → IsScene scene → is_static_at scene i ≡ false
@@ -68,13 +69,17 @@ pub fn static_bodies_never_move()
 {}
 
 /// The contacts of a world are in the order of their keys, each key once. At each tick but the
-/// first their keys are those of the contact points of the bodies after the tick's commands.
+/// first their keys are those of the contact points of the bodies after the commands of the tick
+/// before it, and so of two bodies of the scene, the lesser first.
 pub fn contacts_are_those_of_touching_keys()
     ensures order { (scene : Scene) (commands : CommandMap) (tick : ℕ) → IsScene scene
         → AreContacts (sim scene commands tick).contacts }
     ensures keys { (scene : Scene) (commands : CommandMap) (tick : ℕ)
         → map (λ c. c.key) (sim scene commands (tick + 1)).contacts
         ≡ map key_of (touching scene (commanded_bodies scene commands tick)) }
+    ensures bodies { (scene : Scene) (commands : CommandMap) (tick : ℕ) → IsScene scene
+        → All (λ c. IsPairOf (length scene.fixtures) (record { a = c.key.a; b = c.key.b }))
+        (sim scene commands (tick + 1)).contacts }
 {}
 
 /// In each world the accumulated normal impulse of a contact is not below 0, and its accumulated
@@ -84,9 +89,12 @@ pub fn impulses_are_within_friction()
         → All (λ c. IsWithinFriction scene c.key c.impulses) (sim scene commands tick).contacts }
 {}
 
-/// A command changes its body alone.
+/// A command changes its body alone, and no static body.
 pub fn commands_change_one_body()
-    ensures { (scene : Scene) (w : World) (p : Payload) (i : ℕ) → body_of p ≢ i
+    ensures unmoved { (scene : Scene) (w : World) (p : Payload) (i : ℕ) (f : Fixture)
+        → slice_get scene.fixtures i ≡ Some f → is_static f ≡ true
+        → slice_get (apply scene w p).bodies i ≡ slice_get w.bodies i }
+    ensures others { (scene : Scene) (w : World) (p : Payload) (i : ℕ) → body_of p ≢ i
         → slice_get (apply scene w p).bodies i ≡ slice_get w.bodies i }
 {}
 
@@ -104,17 +112,19 @@ pub fn stops_leave_no_velocity()
         }) }
 {}
 
-/// A body with timer n was still at the end of each of the last n ticks.
+/// A body with timer n was still at the end of each of the last n ticks, and there were so many.
 pub fn timers_count_still_ticks()
-    ensures { (scene : Scene) (commands : CommandMap) (tick i : ℕ) (b : BodyState)
+    ensures ticks { (scene : Scene) (commands : CommandMap) (tick i : ℕ) (b : BodyState)
+        → IsScene scene → slice_get (sim scene commands tick).bodies i ≡ Some b → b.timer ≤ tick }
+    ensures still { (scene : Scene) (commands : CommandMap) (tick i : ℕ) (b : BodyState)
         → IsScene scene → slice_get (sim scene commands tick).bodies i ≡ Some b
         → (k : ℕ) → k < b.timer
         → (c : BodyState) × (slice_get (sim scene commands (tick - k)).bodies i ≡ Some c)
         × (is_still c ≡ true) }
 {}
 
-/// A body that falls asleep had a timer of at least 31, so by the law before it was still at the
-/// end of each of the last 31 ticks; and it is still in this one, when the phase Sleep comes.
+/// A body that falls asleep was still for 32 ticks: its timer was at least 31, and it is still just
+/// before the phase Sleep.
 pub fn sleepers_were_still()
     ensures timer { (scene : Scene) (commands : CommandMap) (tick i : ℕ) (b c : BodyState)
         → slice_get (sim scene commands tick).bodies i ≡ Some b → b.awake ≡ true
@@ -128,8 +138,8 @@ pub fn sleepers_were_still()
         slice_get before i ≡ Some d → is_still d ≡ true }
 {}
 
-/// No rotation of a world of a scene has a part above 1: what the bounds of a box ask for to
-/// contain it in exact numbers. More: where no start has one, no later world has.
+/// No rotation of a world has a part above 1, which the exact bounds of boxes rely on; nor has one
+/// of worlds from starts that have none.
 pub fn rotations_stay_at_most_one()
     ensures scenes { (scene : Scene) (commands : CommandMap) (tick : ℕ) → IsScene scene
         → All (λ b. IsAtMostOne b.rotation) (sim scene commands tick).bodies }

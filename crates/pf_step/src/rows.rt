@@ -21,7 +21,7 @@ fn side_of(scene: &Scene, number: usize) -> Side
     if fixture.is_static() {
         Side::Static
     } else {
-        Side::Moving(number)
+        Side::Dynamic(number)
     }
 }
 
@@ -50,7 +50,7 @@ fn is_active_contact(bodies: &[BodyState], touch: &Touch) -> bool
     first.awake || second.awake
 }
 
-/// The rows of the contacts that are simulated. Takes no memory where there are none.
+/// The rows of the contacts that are simulated. Takes no memory where there are no contact points.
 pub(crate) fn active_rows(
     alloc: Global,
     scene: &Scene,

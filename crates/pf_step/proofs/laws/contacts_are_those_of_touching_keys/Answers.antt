@@ -1,7 +1,7 @@
 use Rattle.std.proofs.Common.{add-one}
 use Rattle.pf_commands.specs.Merge.{payloads_at}
 use Rattle.pf_step.specs.Simulation.{sim}
-use Rattle.pf_step.proofs.Contacts.{sim_order, step_keys}
+use Rattle.pf_step.proofs.Contacts.{sim_order, sim_pairs, step_keys}
 use Rattle.pf_step.proofs.laws.contacts_are_those_of_touching_keys.Goals as goal
 
 pub returns-clause-order : goal.returns-clause-order
@@ -11,3 +11,6 @@ pub returns-clause-keys : goal.returns-clause-keys
 unfolding sim
 returns-clause-keys c = λ scene commands tick.
     rw add-one (step_keys scene (sim scene commands tick) (payloads_at commands tick))
+
+pub returns-clause-bodies : goal.returns-clause-bodies
+returns-clause-bodies c = λ scene commands tick limits. rw add-one (sim_pairs scene limits commands tick)
