@@ -20,5 +20,8 @@ no_work = record { meter = record { ticks = 0; collides = 0 } }
 -- after a tick, for which so many pairs were given to the narrow phase
 abbrev pub counted : ℕ → Work → Work
 counted pairs w = record {
-  meter = record { ticks = saturating_sum w.meter.ticks 1; collides = saturating_sum w.meter.collides pairs };
+  meter = record {
+    ticks = saturating_sum w.meter.ticks 1;
+    collides = saturating_sum w.meter.collides pairs;
+  };
 }

@@ -4,8 +4,8 @@ use pf_manifold::Key;
 use pf_num::Fx;
 use std::marker::Model;
 
-/// The accumulated impulses of a contact, Box2D-Lite's `Pn` and `Pt`: what it applies in a tick, with
-/// which the next tick starts warm. In units of 2^-24.
+/// The accumulated impulses of a contact, Box2D-Lite's `Pn` and `Pt`: what it applies in a tick,
+/// with which the next tick starts warm. In units of 2^-24.
 #[derive(Clone, Copy, Debug)]
 pub struct Impulses {
     /// Along the normal.

@@ -33,8 +33,8 @@ impl Groups {
     ghost use Rattle.pf_islands.specs.Group.{groups};
     ghost use Rattle.pf_islands.specs.Sleep.{rested, woken};
 
-    /// The groups of the scene's bodies that these contact points connect. Takes no memory where there
-    /// are no bodies.
+    /// The groups of the scene's bodies that these contact points connect. Takes no memory where
+    /// there are no bodies.
     pub fn new(alloc: Global, scene: &Scene, touches: &[Touch]) -> Result<Groups, AllocError>
         requires { All (IsTouchOf (length scene.now.fixtures)) touches.now }
         ensures value { IfOk result (λ found. found ≡ groups scene.now touches.now) }

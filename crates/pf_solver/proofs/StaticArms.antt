@@ -5,8 +5,8 @@ use Rattle.pf_num.specs.Fx.{difference, product, saturate, sum}
 use Rattle.pf_num.proofs.Operations.{product-zero}
 use Rattle.pf_rot.specs.Vector.{V2, add, cross, cross_sv, dot, scale, sub, zero_vector}
 use Rattle.pf_cache.specs.Row.{Constraint}
-use Rattle.pf_solver.specs.Impulse.{ContactState, Motion, after_friction_step, after_impulse, after_normal_step, after_round, first_after, friction_limit, normal_impulse, relative_velocity, second_after, tangent_impulse}
-use Rattle.pf_solver.specs.FastPath.{IsArmFor}
+use Rattle.pf_solver.specs.Impulse.{ContactState, Motion, after_friction_step, after_impulse, after_normal_step, after_round, after_warm_start, first_after, friction_limit, normal_impulse, relative_velocity, second_after, tangent_impulse}
+use Rattle.pf_solver.specs.FastPath.{IsArmFor, StandsFor}
 use Rattle.pf_solver.specs.Velocities.{static_motion}
 
 -- no spin moves no point
@@ -108,11 +108,29 @@ module _ (c : Constraint) (a b : V2) where
         ∙ ap (λ (after : ContactState). record after { impulses = record m.impulses { tangent = tangent_impulse c m } })
         (impulse_same _)
 
+  -- one warm start
+  warm_start_same : (m : ContactState) → IsArmFor m.first c.first_arm a → IsArmFor m.second c.second_arm b
+      → after_warm_start other m ≡ after_warm_start c m
+  unfolding after_warm_start
+  warm_start_same m first second = impulse_same m first second _
+
   -- one round
-  pub round_same : (m : ContactState) → IsArmFor m.first c.first_arm a → IsArmFor m.second c.second_arm b
+  round_same : (m : ContactState) → IsArmFor m.first c.first_arm a → IsArmFor m.second c.second_arm b
       → after_round other m ≡ after_round c m
   unfolding after_round after_normal_step after_impulse
   round_same m first second =
       ap (after_friction_step other) (normal_same m first second)
       ∙ friction_same (after_normal_step c m)
       (first_fits a c.first_arm m.first first _) (second_fits b c.second_arm m.second second _)
+
+-- a constraint that stands for another gives the same
+pub warm_start_for : (own c : Constraint) (m : ContactState) → StandsFor own m c
+    → after_warm_start c m ≡ after_warm_start own m
+warm_start_for own c m stands =
+    ap (λ (x : Constraint). after_warm_start x m) stands.same
+    ∙ warm_start_same own c.first_arm c.second_arm m stands.first_arm stands.second_arm
+
+pub round_for : (own c : Constraint) (m : ContactState) → StandsFor own m c → after_round c m ≡ after_round own m
+round_for own c m stands =
+    ap (λ (x : Constraint). after_round x m) stands.same
+    ∙ round_same own c.first_arm c.second_arm m stands.first_arm stands.second_arm

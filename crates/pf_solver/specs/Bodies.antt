@@ -1,5 +1,5 @@
--- What one body goes through in a tick apart from its contacts, as Box2D-Lite's World::Step: gravity,
--- and positions by semi-implicit Euler; and for how long it has been still, as Box2D 2.x's
+-- What one body goes through in a tick apart from its contacts, as Box2D-Lite's World::Step:
+-- gravity, and positions by semi-implicit Euler; and for how long it has been still, as Box2D 2.x's
 -- b2Island::Solve.
 use Rattle.std.specs.Prelude.{◌+◌, ◌*◌, Bool, ◌&&◌, List, map, min, nat_le, if◌then◌else◌}
 use Rattle.std.specs.Int.RustNames.{unsigned_abs}

@@ -4,7 +4,7 @@ use Rattle.std.specs.Prelude.{◌≡◌, ◌⊎◌, ℕ, ◌+◌, ◌^◌, ◌�
 use Rattle.std.specs.Int.RustNames.{unsigned_abs}
 use Rattle.pf_rot.specs.Vector.{V2}
 use Rattle.pf_cache.specs.Row.{Constraint, InverseMass, no_mass}
-use Rattle.pf_cache.specs.Small.{IsHeavy, IsShort, IsSmallArm}
+use Rattle.pf_cache.specs.Small.{HasShortDirections, HasSmallNumbers, IsHeavy, IsShort, IsSmallArm}
 use Rattle.pf_solver.specs.Impulse.{ContactState, Motion}
 use Rattle.pf_solver.specs.Velocities.{static_motion}
 
@@ -45,6 +45,17 @@ ArePushed m = AreWithin (2 ^ 35) (2 ^ 31) m
 pub record HasSmallArms (c : Constraint) (m : ContactState) : Type 0 where
   pub first : IsSmallArm m.first.mass c.first_arm
   pub second : IsSmallArm m.second.mass c.second_arm
+
+-- a small constraint that can stand for a contact's own: no impulse depends on what differs
+pub record StandsFor (own : Constraint) (m : ContactState) (c : Constraint) : Type 0 where
+  pub same : c ≡ record own { first_arm = c.first_arm; second_arm = c.second_arm }
+  pub first_arm : IsArmFor m.first own.first_arm c.first_arm
+  pub second_arm : IsArmFor m.second own.second_arm c.second_arm
+  pub directions : HasShortDirections c
+  pub numbers : HasSmallNumbers c
+  pub arms : HasSmallArms c m
+  pub first_mass : IsHeavy m.first.mass
+  pub second_mass : IsHeavy m.second.mass
 
 -- a body before and after one impulse of a round
 pub record IsNudged (before after : Motion) : Type 0 where

@@ -92,8 +92,8 @@ fn effective_mass(
     Fx::ONE.div(mobility(a, b, first_arm, second_arm, direction))
 }
 
-/// Baumgarte's bias: the separating speed aimed at, `BIAS_FACTOR` times the overlap beyond the slop,
-/// and 0 within it.
+/// Baumgarte's bias: the separating speed aimed at, `BIAS_FACTOR` times the overlap beyond the
+/// slop, and 0 within it.
 #[inline]
 #[tactic(auto, unfolding(crate::specs::Constraint::bias_of))]
 fn bias_of(separation: Fx) -> Fx

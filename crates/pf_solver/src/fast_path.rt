@@ -6,9 +6,9 @@ ghost use Rattle.std.specs.Int.RustNames.{unsigned_abs};
 ghost use Rattle.pf_num.specs.Fx.{product};
 ghost use Rattle.pf_rot.specs.Vector.{add, cross, cross_sv, dot, scale};
 ghost use Rattle.pf_cache.specs.Small.{HasShortDirections, HasSmallNumbers, IsHeavy, IsShort, IsSmallArm};
-ghost use Rattle.pf_solver.specs.Impulse.{after_friction_step, after_impulse, after_normal_step, after_round, first_after, friction_limit, normal_impulse, relative_velocity, second_after, tangent_impulse};
+ghost use Rattle.pf_solver.specs.Impulse.{after_friction_step, after_impulse, after_normal_step, after_round, after_warm_start, first_after, friction_limit, normal_impulse, relative_velocity, second_after, tangent_impulse};
 ghost use Rattle.pf_solver.specs.Velocities.{static_motion};
-ghost use Rattle.pf_solver.specs.FastPath.{AreNudged, ArePushed, AreSlow, HasSmallArms, IsArmFor, IsMassOf, IsNudged, IsPushed, IsSlow};
+ghost use Rattle.pf_solver.specs.FastPath.{AreNudged, ArePushed, AreSlow, HasSmallArms, IsArmFor, IsMassOf, IsNudged, IsPushed, IsSlow, StandsFor};
 
 use crate::impulse::{ContactState, Motion};
 use pf_cache::{Constraint, Impulses, InverseMass, Prepared};
@@ -19,8 +19,8 @@ use pf_rot::V2;
 const SPEED_LIMIT: i64 = 1 << 29;
 /// The greatest spin between the steps, speed at a contact, and accumulated normal impulse: 128.
 const PART_LIMIT: i64 = 1 << 31;
-/// The greatest impulse of a step: 8.
-const STEP_LIMIT: i64 = 1 << 27;
+/// The greatest impulse of a step, and of a warm start along each direction: 4.
+const STEP_LIMIT: i64 = 1 << 26;
 /// The greatest accumulated impulse at which a round begins: 65,536.
 const IMPULSE_LIMIT: i64 = 1 << 40;
 
@@ -64,10 +64,10 @@ fn part_by_number(part: Fx, number: Fx) -> Fx
 #[inline]
 #[tactic(auto, using(crate::proofs::Sizes::times_within))]
 fn impulse_by_direction(impulse: Fx, direction: Fx) -> Fx
-    requires impulse { unsigned_abs impulse ≤ 2 ^ 27 }
+    requires impulse { unsigned_abs impulse ≤ 2 ^ 26 }
     requires direction { unsigned_abs direction ≤ 2 ^ 25 }
     ensures value { result ≡ product impulse direction }
-    ensures size { unsigned_abs result ≤ 2 ^ 28 }
+    ensures size { unsigned_abs result ≤ 2 ^ 27 }
 {
     impulse.unchecked_mul(direction)
 }
@@ -160,10 +160,10 @@ fn speed_along(velocity: V2, direction: V2) -> Fx
 #[inline]
 #[tactic(auto, unfolding(pf_rot::specs::Vector::scale))]
 fn impulse_along(impulse: Fx, direction: V2) -> V2
-    requires impulse { unsigned_abs impulse ≤ 2 ^ 27 }
+    requires impulse { unsigned_abs impulse ≤ 2 ^ 26 }
     requires direction { IsShort (2 ^ 25) direction }
     ensures value { result ≡ scale impulse direction }
-    ensures size { IsShort (2 ^ 28) result }
+    ensures size { IsShort (2 ^ 27) result }
 {
     V2 {
         x: impulse_by_direction(impulse, direction.x),
@@ -406,7 +406,40 @@ fn are_small(impulses: &Impulses) -> bool
     is_within(impulses.normal, IMPULSE_LIMIT) && is_within(impulses.tangent, IMPULSE_LIMIT)
 }
 
-/// One round of small numbers, where the arms are short.
+/// Whether accumulated impulses are small enough for warm starting.
+#[inline]
+fn are_small_for_warm_start(impulses: &Impulses) -> bool
+    ensures { IsTrue result → (unsigned_abs impulses.now.normal ≤ 2 ^ 26)
+        × (unsigned_abs impulses.now.tangent ≤ 2 ^ 26) }
+{
+    is_within(impulses.normal, STEP_LIMIT) && is_within(impulses.tangent, STEP_LIMIT)
+}
+
+/// Warm starting.
+#[inline(always)]
+#[tactic(auto, unfolding(crate::specs::Impulse::after_warm_start, pf_rot::specs::Vector::add))]
+fn after_warm_start(constraint: &Constraint, state: &ContactState) -> Option<ContactState>
+    requires directions { HasShortDirections constraint.now }
+    requires arms { HasSmallArms constraint.now state.now }
+    requires first { IsHeavy state.now.first.mass }
+    requires second { IsHeavy state.now.second.mass }
+    ensures { IfSome result (λ after. after ≡ after_warm_start constraint.now state.now) }
+{
+    let impulses = &state.impulses;
+    let slow = is_slow(&state.first) && is_slow(&state.second);
+    if !slow || !are_small_for_warm_start(impulses) {
+        return None;
+    }
+    let along_normal = impulse_along(impulses.normal, constraint.normal);
+    let along_tangent = impulse_along(impulses.tangent, constraint.tangent);
+    let impulse = V2 {
+        x: along_normal.x.unchecked_add(along_tangent.x),
+        y: along_normal.y.unchecked_add(along_tangent.y),
+    };
+    Some(after_impulse(constraint, impulse, state))
+}
+
+/// One contact in one round.
 #[inline(always)]
 #[tactic(auto, unfolding(crate::specs::Impulse::after_round))]
 fn after_round(constraint: &Constraint, state: &ContactState) -> Option<ContactState>
@@ -455,32 +488,51 @@ fn small_arm(own: &InverseMass, arm: V2, is_small: bool, body: &Motion) -> Optio
     }
 }
 
-/// One contact in one round, where no number on the way is great: `None` where one is.
-#[inline]
-#[tactic(auto, using(crate::proofs::Sizes::heavy, crate::proofs::StaticArms::round_same))]
-pub fn fast_round(prepared: &Prepared, state: &ContactState) -> Option<ContactState>
+/// The constraint, with no arms in place of great ones of static bodies, where all of it is small.
+#[inline(always)]
+#[tactic(auto, using(crate::proofs::Sizes::heavy))]
+fn small_constraint(prepared: &Prepared, state: &ContactState) -> Option<Constraint>
     requires first { IsMassOf prepared.now.first_mass state.now.first.mass }
     requires second { IsMassOf prepared.now.second_mass state.now.second.mass }
-    ensures { IfSome result (λ after. after ≡ after_round prepared.now.constraint state.now) }
+    ensures { IfSome result (λ c. StandsFor prepared.now.constraint state.now c) }
 {
     if !prepared.is_small() {
         return None;
     }
     let own = prepared.constraint();
     let (first, second) = (&state.first, &state.second);
-    let first_small = prepared.has_small_first_arm();
-    let second_small = prepared.has_small_second_arm();
-    let first_arm = small_arm(&prepared.first_mass(), own.first_arm, first_small, first)?;
-    let second_arm = small_arm(
-        &prepared.second_mass(),
-        own.second_arm,
-        second_small,
-        second,
-    )?;
-    let constraint = Constraint {
+    let is_small = prepared.has_small_first_arm();
+    let first_arm = small_arm(&prepared.first_mass(), own.first_arm, is_small, first)?;
+    let is_small = prepared.has_small_second_arm();
+    let second_arm = small_arm(&prepared.second_mass(), own.second_arm, is_small, second)?;
+    Some(Constraint {
         first_arm,
         second_arm,
         ..*own
-    };
+    })
+}
+
+/// Warm starting, where all numbers are small.
+#[inline]
+#[tactic(auto, using(crate::proofs::StaticArms::warm_start_for))]
+pub fn fast_warm_start(prepared: &Prepared, state: &ContactState) -> Option<ContactState>
+    requires first { IsMassOf prepared.now.first_mass state.now.first.mass }
+    requires second { IsMassOf prepared.now.second_mass state.now.second.mass }
+    ensures { IfSome result
+        (λ after. after ≡ after_warm_start prepared.now.constraint state.now) }
+{
+    let constraint = small_constraint(prepared, state)?;
+    after_warm_start(&constraint, state)
+}
+
+/// One contact in one round, where all numbers are small.
+#[inline]
+#[tactic(auto, using(crate::proofs::StaticArms::round_for))]
+pub fn fast_round(prepared: &Prepared, state: &ContactState) -> Option<ContactState>
+    requires first { IsMassOf prepared.now.first_mass state.now.first.mass }
+    requires second { IsMassOf prepared.now.second_mass state.now.second.mass }
+    ensures { IfSome result (λ after. after ≡ after_round prepared.now.constraint state.now) }
+{
+    let constraint = small_constraint(prepared, state)?;
     after_round(&constraint, state)
 }

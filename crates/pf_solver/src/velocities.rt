@@ -6,7 +6,7 @@ ghost use Rattle.pf_solver.specs.Impulse.{ContactState, after_round, after_warm_
 ghost use Rattle.pf_solver.specs.FastPath.{IsMassOf};
 ghost use Rattle.pf_solver.specs.Velocities.{Batch, bodies_after, bodies_with, with_motion, contact_state, motion_at, pass, passes, row_after, row_with};
 
-use crate::fast_path::fast_round;
+use crate::fast_path::{fast_round, fast_warm_start};
 use crate::impulse::{ContactState, Motion, after_round, after_warm_start};
 use pf_cache::{Constraint, InverseMass, Prepared, Row, Side};
 use pf_num::Fx;
@@ -46,7 +46,7 @@ impl ContactStep for WarmStart {
 
     #[inline]
     fn fast_after(prepared: &Prepared, state: &ContactState) -> Option<ContactState> {
-        Some(after_warm_start(prepared.constraint(), state))
+        fast_warm_start(prepared, state)
     }
 }
 
@@ -167,7 +167,8 @@ fn solve_row<L: ContactStep>(bodies: &mut [BodyState], row: &mut Row)
 /// The step of each row, with the velocities that the row before it left.
 fn pass<L: ContactStep>(bodies: &mut [BodyState], rows: &mut [Row])
     requires { All (λ r. IsEntryOf (length bodies.old) r.entry) rows.old }
-    ensures value { record { bodies = bodies.new; rows = rows.new } ≡ pass L.step bodies.old rows.old }
+    ensures value { record { bodies = bodies.new; rows = rows.new }
+        ≡ pass L.step bodies.old rows.old }
     ensures rows { All (λ r. IsEntryOf (length bodies.new) r.entry) rows.new }
 {
     for row in rows.iter_mut() {

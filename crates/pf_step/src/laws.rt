@@ -48,8 +48,8 @@ pub fn sleepers_stay()
         → slice_get (sim scene commands (tick + later)).bodies i ≡ Some body }
 {}
 
-/// The contacts of an undisturbed dynamic body keep their impulses: at a tick at which no chain leads
-/// from it to an awake body, each contact point of it keeps what its key has accumulated.
+/// The contacts of an undisturbed dynamic body keep their impulses: at a tick at which no chain
+/// leads from it to an awake body, each contact point of it keeps what its key has accumulated.
 pub fn contacts_of_sleepers_keep_their_impulses()
     ensures { (scene : Scene) (commands : CommandMap) (tick i place : ℕ) (body : BodyState)
         (t : Touch) → IsScene scene → is_static_at scene i ≡ false

@@ -38,8 +38,8 @@ impl World {
     ghost use Rattle.std.specs.Prelude.{◌≡◌, [], length, IfOk, IsOk};
     ghost use Rattle.pf_step.specs.World.{start_of, same_world};
 
-    /// The world at tick 0: each body at its start, and no contacts. Takes no memory where the scene
-    /// has no bodies.
+    /// The world at tick 0: each body at its start, and no contacts. Takes no memory where the
+    /// scene has no bodies.
     #[tactic(auto, unfolding(crate::specs::World::start_of))]
     pub fn start(alloc: Global, scene: &Scene) -> Result<World, AllocError>
         ensures value { IfOk result (λ world. world ≡ start_of scene.now) }
