@@ -1,5 +1,5 @@
--- When what a pre-step leaves is small enough for the fast path of a round, on which no sum
--- saturates and each product fits 64 bits. In units of 2^-24.
+-- When what a pre-step leaves is small enough for the fast path of warm starting and of rounds, on
+-- which no sum saturates and each product fits 64 bits. In units of 2^-24.
 use Rattle.std.specs.Prelude.{ℕ, ◌*◌, ◌≤◌, ◌↔◌, Bool, IsTrue}
 use Rattle.std.specs.Int.RustNames.{unsigned_abs}
 use Rattle.pf_rot.specs.Vector.{V2}
@@ -11,7 +11,7 @@ pub record IsShort (limit : ℕ) (v : V2) : Type 0 where
   pub x : unsigned_abs v.x ≤ limit
   pub y : unsigned_abs v.y ≤ limit
 
--- impulses move a body of this mass slowly
+-- the inverse mass and the inverse inertia are small
 pub record IsHeavy (m : InverseMass) : Type 0 where
   pub inverse_mass : unsigned_abs m.inverse_mass ≤ INVERSE_MASS_LIMIT
   pub inverse_inertia : unsigned_abs m.inverse_inertia ≤ INVERSE_INERTIA_LIMIT
@@ -41,7 +41,7 @@ pub record IsSmall (p : Prepared) : Type 0 where
   pub directions : HasShortDirections p.constraint
   pub numbers : HasSmallNumbers p.constraint
 
--- and so is an arm
+-- and so is the first arm; the second
 pub record HasSmallFirstArm (p : Prepared) : Type 0 where
   pub rest : IsSmall p
   pub arm : IsSmallArm p.first_mass p.constraint.first_arm

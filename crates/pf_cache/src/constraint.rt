@@ -8,7 +8,7 @@ use pf_num::Fx;
 use pf_rot::V2;
 use std::marker::Model;
 
-/// The greatest part of a normal or a tangent on the fast path of a round: 2 lengths.
+/// The greatest part of a normal or a tangent on the fast path: 2 lengths.
 const DIRECTION_LIMIT: u64 = 1 << 25;
 /// The greatest part of an arm on the fast path: 16 lengths.
 const ARM_LIMIT: u64 = 1 << 28;
@@ -16,7 +16,7 @@ const ARM_LIMIT: u64 = 1 << 28;
 const INVERSE_MASS_LIMIT: u64 = 1 << 30;
 /// The greatest inverse inertia on the fast path: 2,048.
 const INVERSE_INERTIA_LIMIT: u64 = 1 << 35;
-/// The greatest product of an inverse inertia and a part of an arm on the fast path: 256, exact.
+/// The greatest exact product of an inverse inertia and a part of an arm on the fast path: 256.
 const TURN_LIMIT: u64 = 1 << 56;
 /// The greatest effective mass, bias and friction on the fast path: 128.
 const PART_LIMIT: u64 = 1 << 31;
@@ -119,7 +119,7 @@ impl Constraint {
 }
 
 /// What the rounds need of a contact beside its impulses: the inverse masses of its bodies, and its
-/// constraint. It is known whether it is small enough for the fast path of a round.
+/// constraint. With it stands whether all of that is small enough for the fast path.
 #[derive(Debug, Drop)]
 pub struct Prepared {
     first_mass: InverseMass,
@@ -277,7 +277,7 @@ impl Prepared {
         self.is_small
     }
 
-    /// Whether that is so, and the first arm is small.
+    /// Whether all of it but the second arm is small.
     #[inline]
     pub fn has_small_first_arm(&self) -> bool
         ensures { IsTrue result ↔ HasSmallFirstArm self.now }
@@ -285,7 +285,7 @@ impl Prepared {
         self.has_small_first_arm
     }
 
-    /// Whether that is so, and the second arm is small.
+    /// Whether all of it but the first arm is small.
     #[inline]
     pub fn has_small_second_arm(&self) -> bool
         ensures { IsTrue result ↔ HasSmallSecondArm self.now }

@@ -45,7 +45,7 @@ fn saturate(n: i64) -> i64
     }
 }
 
-/// The end of the range on this side of 0.
+/// The lower end of the range for a negative number, else the upper one.
 #[cold]
 #[inline(never)]
 fn nearest_end(n: i64) -> i64
@@ -121,7 +121,7 @@ impl Fx {
         }
     }
 
-    /// The sum of numbers that are too small to saturate.
+    /// The sum of numbers up to 2^53 units, which cannot saturate.
     #[inline(always)]
     #[tactic(auto, unfolding(crate::specs::Fx::sum, crate::specs::Fx::saturate))]
     pub fn unchecked_add(self, other: Fx) -> Fx
@@ -135,7 +135,7 @@ impl Fx {
         }
     }
 
-    /// The difference of numbers that are too small to saturate.
+    /// The difference of numbers up to 2^53 units, which cannot saturate.
     #[inline(always)]
     #[tactic(auto, unfolding(crate::specs::Fx::difference, crate::specs::Fx::saturate))]
     pub fn unchecked_sub(self, other: Fx) -> Fx
@@ -149,8 +149,8 @@ impl Fx {
         }
     }
 
-    /// The product, rounded to the nearest even, of numbers whose raw product fits 64 bits with
-    /// room to round it. It is at most half a unit off.
+    /// The product, rounded to the nearest even, where the exact raw product is at most 2^62 in
+    /// magnitude. It exceeds the exact one by at most half a unit in magnitude.
     #[inline(always)]
     pub fn unchecked_mul(self, other: Fx) -> Fx
         requires { unsigned_abs self * unsigned_abs other ≤ 2 ^ 62 }

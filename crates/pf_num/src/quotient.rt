@@ -1,5 +1,4 @@
-//! Rounded quotients: a short path in 64 bits for the usual operands, and an exact path in 128
-//! bits.
+//! Rounded products and quotients: in 64 bits for the usual operands, in 128 bits for others.
 
 ghost use Rattle.std.specs.Prelude.{◌≡◌, ◌≢◌, ◌≤◌, ◌<◌, IsTrue, ◌^◌, ◌+◌, ◌*◌, ◌%◌, pos, min};
 ghost use Rattle.std.specs.Int.RustNames.{unsigned_abs};
@@ -140,7 +139,7 @@ fn long_product(a: i64, b: i64) -> i64
     }
 }
 
-/// `rounded_product` in 128 bits, where the exact product is above 2^62 in magnitude.
+/// `rounded_product` in 128 bits, as is needed where the exact product is above 2^62 in magnitude.
 #[cold]
 #[inline(never)]
 fn wide_product(a: i64, b: i64) -> i64

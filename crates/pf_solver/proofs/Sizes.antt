@@ -13,7 +13,7 @@ use Rattle.pf_solver.specs.FastPath.{IsMassOf}
 pub times_within : (a b m n : ℕ) → a ≤ m → b ≤ n → a * b ≤ m * n
 times_within a b m n ha hb = mul-le-mul ha hb
 
--- a rounded product of which the exact one is at most 2^62
+-- a rounded product is at most 2^38 where the exact one is at most 2^62
 pub shifted_within : (p r : ℕ) → p ≤ 4611686018427387904 → r * 33554432 ≤ p * 2 + 16777216 → r ≤ 274877906944
 shifted_within p r exact rounded = omega (arith, exact, rounded)
 
@@ -22,7 +22,7 @@ pub clamped_within : (limit z : ℤ) (n : ℕ) → unsigned_abs limit ≤ n
     → unsigned_abs (int_max (neg_ℤ limit) (int_min limit z)) ≤ n
 clamped_within limit z n h = omega (arith, ints, clamps)
 
--- an inverse inertia j by one product of an arm and an impulse
+-- an inverse inertia j times a rounded product of an arm and an impulse is at most 2^60 + 2^39
 half_turn : (j arm impulse r : ℕ) → j ≤ 34359738368 → j * arm ≤ 72057594037927936
     → impulse ≤ 268435456 → r * 33554432 ≤ arm * impulse * 2 + 16777216 → j * r ≤ 1152921521786716160
 half_turn j arm impulse r light turn short rounded =
@@ -32,7 +32,7 @@ half_turn j arm impulse r light turn short rounded =
     let sums : j * (arm * impulse * 2 + 16777216) ≡ ((j * arm) * impulse) * 2 + j * 16777216 = grind arith in
     omega (arith, scaled, exact, parts, sums, light)
 
--- and by their difference
+-- and times a difference of two such products it is at most 2^62
 pub turn_within : (j x y p q r s t : ℕ) → j ≤ 34359738368 → j * x ≤ 72057594037927936
     → j * y ≤ 72057594037927936 → p ≤ 268435456 → q ≤ 268435456
     → r * 33554432 ≤ x * q * 2 + 16777216 → s * 33554432 ≤ y * p * 2 + 16777216

@@ -9,7 +9,7 @@ use Rattle.pf_solver.specs.Impulse.{ContactState, Motion, after_friction_step, a
 use Rattle.pf_solver.specs.FastPath.{IsArmFor, StandsFor}
 use Rattle.pf_solver.specs.Velocities.{static_motion}
 
--- no spin moves no point
+-- a spin of 0 moves no point
 still_point : (arm : V2) → cross_sv (pos 0) arm ≡ zero_vector
 unfolding cross_sv
 still_point arm = ap₂ (λ x y. record { x = neg_ℤ x; y = y }) (product-zero arm.y) (product-zero arm.x)
@@ -25,7 +25,7 @@ unfolding second_after scale add sum saturate
 still_second arm impulse =
     rw (product-zero impulse.x, product-zero impulse.y, product-zero (cross arm impulse)) refl
 
--- two arms for a body: its point has one velocity, and an impulse moves it in one way
+-- with either of two arms that fit, the point has one velocity and an impulse one effect
 module _ (a b : V2) (body : Motion) (fits : IsArmFor body b a) where
   point_same : add body.velocity (cross_sv body.spin a) ≡ add body.velocity (cross_sv body.spin b)
   point_same =
@@ -52,7 +52,7 @@ module _ (a b : V2) (body : Motion) (fits : IsArmFor body b a) where
       ∙ sym (ap (second_after b impulse) still ∙ still_second b impulse))
       fits
 
-  -- and both are arms for the body after it
+  -- and the arm still fits after the impulse
   first_fits : (impulse : V2) → IsArmFor (first_after b impulse body) b a
   first_fits impulse =
       ⊎_elim (λ (same : a ≡ b). inl same)

@@ -1,5 +1,5 @@
--- The fast path of a round: motions at which no sum saturates and each product fits 64 bits. In
--- units of 2^-24.
+-- The fast path of warm starting and of rounds: motions at which no sum saturates and each product
+-- fits 64 bits. In units of 2^-24.
 use Rattle.std.specs.Prelude.{◌≡◌, ◌⊎◌, ℕ, ◌+◌, ◌^◌, ◌≤◌}
 use Rattle.std.specs.Int.RustNames.{unsigned_abs}
 use Rattle.pf_rot.specs.Vector.{V2}
@@ -8,7 +8,7 @@ use Rattle.pf_cache.specs.Small.{HasShortDirections, HasSmallNumbers, IsHeavy, I
 use Rattle.pf_solver.specs.Impulse.{ContactState, Motion}
 use Rattle.pf_solver.specs.Velocities.{static_motion}
 
--- the mass that a body has at a contact: its own, or none where it is static
+-- the mass of a body at a contact: its own, or none
 abbrev pub IsMassOf : InverseMass → InverseMass → Type 0
 IsMassOf own given = (given ≡ own) ⊎ (given ≡ no_mass)
 
@@ -22,12 +22,12 @@ pub record IsWithin (speed turning : ℕ) (m : Motion) : Type 0 where
   pub spin : unsigned_abs m.spin ≤ turning
   pub mass : IsHeavy m.mass
 
--- both bodies of a contact are
+-- both bodies of a contact are so
 pub record AreWithin (speed turning : ℕ) (m : ContactState) : Type 0 where
   pub first : IsWithin speed turning m.first
   pub second : IsWithin speed turning m.second
 
--- at the beginning of a round
+-- before a warm start or a round
 abbrev pub IsSlow : Motion → Type 0
 IsSlow m = IsWithin (2 ^ 29) (2 ^ 29) m
 
@@ -46,7 +46,7 @@ pub record HasSmallArms (c : Constraint) (m : ContactState) : Type 0 where
   pub first : IsSmallArm m.first.mass c.first_arm
   pub second : IsSmallArm m.second.mass c.second_arm
 
--- a small constraint that can stand for a contact's own: no impulse depends on what differs
+-- a small constraint, for heavy bodies, that is a contact's own but for the arms of static bodies
 pub record StandsFor (own : Constraint) (m : ContactState) (c : Constraint) : Type 0 where
   pub same : c ≡ record own { first_arm = c.first_arm; second_arm = c.second_arm }
   pub first_arm : IsArmFor m.first own.first_arm c.first_arm
@@ -57,7 +57,7 @@ pub record StandsFor (own : Constraint) (m : ContactState) (c : Constraint) : Ty
   pub first_mass : IsHeavy m.first.mass
   pub second_mass : IsHeavy m.second.mass
 
--- a body before and after one impulse of a round
+-- how much one impulse can change a body
 pub record IsNudged (before after : Motion) : Type 0 where
   pub x : unsigned_abs after.velocity.x ≤ unsigned_abs before.velocity.x + 2 ^ 34
   pub y : unsigned_abs after.velocity.y ≤ unsigned_abs before.velocity.y + 2 ^ 34

@@ -1,5 +1,5 @@
-//! The fast path of a round: where all numbers are small, the same result with no test of a sum or
-//! a product. Where one is not, there is no result, and the general path is taken.
+//! The fast path of warm starting and of rounds: the general path's results without a test of each
+//! sum and product. `None` where a number is too great for that.
 
 ghost use Rattle.std.specs.Prelude.{◌≡◌, ◌+◌, ◌*◌, ◌≤◌, ◌^◌, IfSome, IsTrue};
 ghost use Rattle.std.specs.Int.RustNames.{unsigned_abs};
@@ -15,16 +15,18 @@ use pf_cache::{Constraint, Impulses, InverseMass, Prepared};
 use pf_num::Fx;
 use pf_rot::V2;
 
-/// The greatest speed and spin at which a round begins: 32 lengths and 32 radians a second.
+/// The greatest part of a velocity, and the greatest spin, at which the fast path begins: 32
+/// lengths and 32 radians a second.
 const SPEED_LIMIT: i64 = 1 << 29;
-/// The greatest spin between the steps, speed at a contact, and accumulated normal impulse: 128.
+/// The greatest spin between the steps, change of speed that a step aims at, and accumulated normal
+/// impulse: 128.
 const PART_LIMIT: i64 = 1 << 31;
 /// The greatest impulse of a step, and of a warm start along each direction: 4.
 const STEP_LIMIT: i64 = 1 << 26;
-/// The greatest accumulated impulse at which a round begins: 65,536.
+/// The greatest accumulated impulse at which a round begins on the fast path: 65,536.
 const IMPULSE_LIMIT: i64 = 1 << 40;
 
-/// A spin by a part of an arm.
+/// A spin times a part of an arm.
 #[inline]
 #[tactic(auto, using(crate::proofs::Sizes::times_within))]
 fn spin_by_arm(spin: Fx, arm: Fx) -> Fx
@@ -36,7 +38,7 @@ fn spin_by_arm(spin: Fx, arm: Fx) -> Fx
     spin.unchecked_mul(arm)
 }
 
-/// A speed by a part of a direction.
+/// A speed times a part of a direction.
 #[inline]
 #[tactic(auto, using(crate::proofs::Sizes::times_within))]
 fn speed_by_direction(speed: Fx, direction: Fx) -> Fx
@@ -48,7 +50,7 @@ fn speed_by_direction(speed: Fx, direction: Fx) -> Fx
     speed.unchecked_mul(direction)
 }
 
-/// A part of a constraint by a speed or an impulse.
+/// A part of a constraint times a speed or an impulse.
 #[inline]
 #[tactic(auto, using(crate::proofs::Sizes::times_within))]
 fn part_by_number(part: Fx, number: Fx) -> Fx
@@ -72,7 +74,7 @@ fn impulse_by_direction(impulse: Fx, direction: Fx) -> Fx
     impulse.unchecked_mul(direction)
 }
 
-/// What an impulse changes of a velocity, one part of it.
+/// How much an impulse changes a part of a velocity.
 #[inline]
 #[tactic(auto, using(crate::proofs::Sizes::times_within))]
 fn mass_by_impulse(inverse_mass: Fx, impulse: Fx) -> Fx
@@ -84,7 +86,7 @@ fn mass_by_impulse(inverse_mass: Fx, impulse: Fx) -> Fx
     inverse_mass.unchecked_mul(impulse)
 }
 
-/// A part of an arm by a part of an impulse.
+/// A part of an arm times a part of an impulse.
 #[inline]
 #[tactic(auto, using(crate::proofs::Sizes::times_within))]
 fn arm_by_impulse(arm: Fx, impulse: Fx) -> Fx
@@ -98,7 +100,7 @@ fn arm_by_impulse(arm: Fx, impulse: Fx) -> Fx
     arm.unchecked_mul(impulse)
 }
 
-/// What an angular impulse changes of a spin.
+/// How much an angular impulse changes a spin.
 #[inline]
 #[tactic(auto, using(crate::proofs::Sizes::shifted_within))]
 fn inertia_by_turn(inverse_inertia: Fx, turn: Fx) -> Fx
@@ -266,7 +268,7 @@ fn is_within(x: Fx, limit: i64) -> bool
     raw <= limit && -limit <= raw
 }
 
-/// The accumulated normal impulse after the step.
+/// The accumulated normal impulse after the step, or `None`.
 #[inline(always)]
 #[tactic(auto, unfolding(crate::specs::Impulse::normal_impulse))]
 fn normal_impulse(constraint: &Constraint, state: &ContactState) -> Option<Fx>
@@ -302,7 +304,7 @@ fn spin_slowly(state: &ContactState) -> bool
     is_within(first.spin, PART_LIMIT) && is_within(second.spin, PART_LIMIT)
 }
 
-/// The step of the normal.
+/// The step of the normal, or `None`.
 #[inline(always)]
 #[tactic(auto, unfolding(crate::specs::Impulse::after_normal_step))]
 fn after_normal_step(constraint: &Constraint, state: &ContactState) -> Option<ContactState>
@@ -335,7 +337,7 @@ fn after_normal_step(constraint: &Constraint, state: &ContactState) -> Option<Co
     Some(ContactState { impulses, ..after })
 }
 
-/// The accumulated tangent impulse after the step.
+/// The accumulated tangent impulse after the step, or `None`.
 #[inline(always)]
 #[tactic(auto, unfolding(crate::specs::Impulse::tangent_impulse, crate::specs::Impulse::friction_limit), using(crate::proofs::Sizes::clamped_within))]
 fn tangent_impulse(constraint: &Constraint, state: &ContactState) -> Option<Fx>
@@ -358,7 +360,7 @@ fn tangent_impulse(constraint: &Constraint, state: &ContactState) -> Option<Fx>
     Some(limit.neg().max(limit.min(total)))
 }
 
-/// The step of friction.
+/// The step of friction, or `None`.
 #[inline(always)]
 #[tactic(auto, unfolding(crate::specs::Impulse::after_friction_step))]
 fn after_friction_step(constraint: &Constraint, state: &ContactState) -> Option<ContactState>
@@ -384,9 +386,9 @@ fn after_friction_step(constraint: &Constraint, state: &ContactState) -> Option<
     Some(ContactState { impulses, ..after })
 }
 
-/// Whether a body is slow enough for a round of small numbers.
+/// Whether a body is slow enough for the fast path.
 #[inline]
-fn is_slow(body: &Motion) -> bool
+fn is_slow_enough(body: &Motion) -> bool
     requires { IsHeavy body.now.mass }
     ensures { IsTrue result → IsSlow body.now }
 {
@@ -397,7 +399,7 @@ fn is_slow(body: &Motion) -> bool
         && is_within(spin, SPEED_LIMIT)
 }
 
-/// Whether accumulated impulses are small enough for a round of small numbers.
+/// Whether accumulated impulses are small enough for the fast path of a round.
 #[inline]
 fn are_small(impulses: &Impulses) -> bool
     ensures { IsTrue result → (unsigned_abs impulses.now.normal ≤ 2 ^ 40)
@@ -415,7 +417,7 @@ fn are_small_for_warm_start(impulses: &Impulses) -> bool
     is_within(impulses.normal, STEP_LIMIT) && is_within(impulses.tangent, STEP_LIMIT)
 }
 
-/// Warm starting.
+/// Warm starting, or `None`.
 #[inline(always)]
 #[tactic(auto, unfolding(crate::specs::Impulse::after_warm_start, pf_rot::specs::Vector::add))]
 fn after_warm_start(constraint: &Constraint, state: &ContactState) -> Option<ContactState>
@@ -426,7 +428,7 @@ fn after_warm_start(constraint: &Constraint, state: &ContactState) -> Option<Con
     ensures { IfSome result (λ after. after ≡ after_warm_start constraint.now state.now) }
 {
     let impulses = &state.impulses;
-    let slow = is_slow(&state.first) && is_slow(&state.second);
+    let slow = is_slow_enough(&state.first) && is_slow_enough(&state.second);
     if !slow || !are_small_for_warm_start(impulses) {
         return None;
     }
@@ -439,7 +441,7 @@ fn after_warm_start(constraint: &Constraint, state: &ContactState) -> Option<Con
     Some(after_impulse(constraint, impulse, state))
 }
 
-/// One contact in one round.
+/// One contact in one round, or `None`.
 #[inline(always)]
 #[tactic(auto, unfolding(crate::specs::Impulse::after_round))]
 fn after_round(constraint: &Constraint, state: &ContactState) -> Option<ContactState>
@@ -450,7 +452,8 @@ fn after_round(constraint: &Constraint, state: &ContactState) -> Option<ContactS
     requires second { IsHeavy state.now.second.mass }
     ensures { IfSome result (λ after. after ≡ after_round constraint.now state.now) }
 {
-    if !is_slow(&state.first) || !is_slow(&state.second) || !are_small(&state.impulses) {
+    let slow = is_slow_enough(&state.first) && is_slow_enough(&state.second);
+    if !slow || !are_small(&state.impulses) {
         return None;
     }
     let after = after_normal_step(constraint, state)?;
@@ -470,7 +473,7 @@ fn is_static(body: &Motion) -> bool
         && spin == Fx::ZERO
 }
 
-/// An arm that is small and can stand for that of a body of this mass.
+/// A small arm for this one: itself where it is small, zero where the body is static.
 #[inline(always)]
 #[tactic(auto, using(crate::proofs::Sizes::arm_for_mass, crate::proofs::Sizes::no_arm))]
 fn small_arm(own: &InverseMass, arm: V2, is_small: bool, body: &Motion) -> Option<V2>
@@ -488,7 +491,8 @@ fn small_arm(own: &InverseMass, arm: V2, is_small: bool, body: &Motion) -> Optio
     }
 }
 
-/// The constraint, with no arms in place of great ones of static bodies, where all of it is small.
+/// The constraint with a great arm of a static body replaced by zero; `None` where it is still not
+/// small.
 #[inline(always)]
 #[tactic(auto, using(crate::proofs::Sizes::heavy))]
 fn small_constraint(prepared: &Prepared, state: &ContactState) -> Option<Constraint>
@@ -512,7 +516,7 @@ fn small_constraint(prepared: &Prepared, state: &ContactState) -> Option<Constra
     })
 }
 
-/// Warm starting, where all numbers are small.
+/// Warm starting by the fast path, or `None`.
 #[inline]
 #[tactic(auto, using(crate::proofs::StaticArms::warm_start_for))]
 pub fn fast_warm_start(prepared: &Prepared, state: &ContactState) -> Option<ContactState>
@@ -525,7 +529,7 @@ pub fn fast_warm_start(prepared: &Prepared, state: &ContactState) -> Option<Cont
     after_warm_start(&constraint, state)
 }
 
-/// One contact in one round, where all numbers are small.
+/// One contact in one round by the fast path, or `None`.
 #[inline]
 #[tactic(auto, using(crate::proofs::StaticArms::round_for))]
 pub fn fast_round(prepared: &Prepared, state: &ContactState) -> Option<ContactState>

@@ -29,8 +29,8 @@ pub fn rounds_are_one_list()
 {}
 
 /// A still body moves at most 1/64 of a length and turns by at most 1/32 of a radian a second; a
-/// full timer is 32 ticks. A tick has ten rounds. Baumgarte's factor is 12.8 a second, and the slop 0.01
-/// of a length, in units of 2^-24.
+/// full timer is 32 ticks. A tick has ten rounds. Baumgarte's factor is 12.8 a second, and the slop
+/// 0.01 of a length, in units of 2^-24.
 pub fn named_limits()
     ensures speed { STILL_SPEED ≡ 2 ^ 18 }
     ensures spin { STILL_SPIN ≡ 2 ^ 19 }

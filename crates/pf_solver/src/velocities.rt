@@ -24,7 +24,7 @@ trait ContactStep {
     fn after(constraint: &Constraint, state: &ContactState) -> ContactState
         ensures { result ≡ step constraint.now state.now };
 
-    /// The same where all numbers are small; elsewhere there may be no result.
+    /// The same by a fast path, or `None`.
     fn fast_after(prepared: &Prepared, state: &ContactState) -> Option<ContactState>
         requires first { IsMassOf prepared.now.first_mass state.now.first.mass }
         requires second { IsMassOf prepared.now.second_mass state.now.second.mass }
@@ -150,7 +150,7 @@ fn solve_general_row<L: ContactStep>(bodies: &mut [BodyState], row: &mut Row)
     store(bodies, row, &after);
 }
 
-/// The step of one row. On the fast path bodies stay in registers.
+/// The step of one row: by the fast path where that has a result.
 #[inline(always)]
 #[tactic(auto, unfolding(crate::specs::Velocities::bodies_after, crate::specs::Velocities::row_after))]
 fn solve_row<L: ContactStep>(bodies: &mut [BodyState], row: &mut Row)

@@ -19,8 +19,8 @@ use pf_shapes::{BodyState, Scene};
 use pf_solver::{STILL_TICKS, solve_list};
 use std::alloc::{AllocError, Global};
 
-/// The phases Gravity to Sleep, with the rows of the active contacts; what these have accumulated is
-/// kept.
+/// The phases Gravity to Sleep, with the rows of the active contacts; what these have accumulated
+/// is kept.
 #[tactic(auto, using(pf_solver::proofs::Solved::solved_length, crate::proofs::Ticked::solved_in_order))]
 fn solve_active(
     scene: &Scene,
