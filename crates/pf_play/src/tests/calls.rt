@@ -224,7 +224,7 @@ fn set_in(alloc: Global, after: &str, before: &str) -> Result<String, AllocError
 #[test]
 fn the_scene_of_the_help_has_its_answer(rt: HostRuntime) -> Result<(), Fail> {
     let scene = set_in(rt.alloc(), "gravity 10:\n\n", "\n\nand run it")?;
-    let answer = set_in(rt.alloc(), "1 if awake:\n\n", "\n\n")?;
+    let answer = set_in(rt.alloc(), "the answers are:\n\n", "\n\n")?;
     assert_eq!(rt; scene.as_str(), FALLING);
     let (status, output, errors) = ended(rt.alloc(), &["pf_play", "run"], scene.as_str())?;
     assert_eq!(rt; status, ExitCode::from(0));
