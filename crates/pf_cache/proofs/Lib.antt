@@ -6,3 +6,8 @@ pub mod Walk
 pub mod Kept
 pub mod Stored
 pub mod Found
+pub mod SpanPlaces
+pub mod Spanned
+pub mod Unmoved
+pub mod Updating
+pub mod Gathering

@@ -5,4 +5,7 @@ pub mod SameLaws
 pub mod Row
 pub mod Small
 pub mod Meter
+pub mod Manifolds
+pub mod Spans
+pub mod Gathered
 pub mod Laws

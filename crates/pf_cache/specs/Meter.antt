@@ -1,7 +1,8 @@
 -- The meter of the work that steps have done.
 use Rattle.std.specs.Prelude.{ℕ, ◌+◌, ◌-◌, ◌^◌, min}
+use Rattle.pf_cache.specs.Manifolds.{Manifolds, NarrowPhase, no_manifolds}
 
--- how many ticks were simulated, and how many pairs were given to the narrow phase
+-- how many ticks were simulated, and how many pairs could not reuse kept contact points
 pub record Meter : Type 0 where
   pub ticks : ℕ
   pub collides : ℕ
@@ -13,15 +14,18 @@ saturating_sum count by = min (count + by) (2 ^ 64 - 1)
 -- what steps leave to the next one beside the world
 pub record Work : Type 0 where
   pub meter : Meter
+  pub manifolds : Manifolds
 
 abbrev pub no_work : Work
-no_work = record { meter = record { ticks = 0; collides = 0 } }
+no_work =
+    record { meter = record { ticks = 0; collides = 0 }; manifolds = no_manifolds }
 
--- after a tick, for which so many pairs were given to the narrow phase
-abbrev pub counted : ℕ → Work → Work
-counted pairs w = record {
+-- the work after a tick with this narrow phase
+abbrev pub counted : NarrowPhase → Work → Work
+counted found w = record {
   meter = record {
     ticks = saturating_sum w.meter.ticks 1;
-    collides = saturating_sum w.meter.collides pairs;
+    collides = saturating_sum w.meter.collides found.computed;
   };
+  manifolds = found.manifolds;
 }

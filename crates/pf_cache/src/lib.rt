@@ -1,18 +1,24 @@
 //! Contacts from tick to tick: the accumulated impulses that a world keeps of each, by its key; the
-//! rows that the solver makes of them; and the meter of the work done.
+//! rows that the solver makes of them; the contact points that are kept for reuse; and the meter of
+//! the work done.
 #![tactic(auto)]
 
 mod constraint;
 mod contact;
 mod contacts;
+mod gathered;
+mod kept_shape;
 pub mod laws;
+mod manifolds;
 mod meter;
 mod row;
+mod spans;
 mod work;
 
 pub use constraint::{Constraint, InverseMass, Prepared};
 pub use contact::{Contact, Impulses};
 pub use contacts::Contacts;
+pub use manifolds::{Manifolds, NarrowPhase};
 pub use meter::Meter;
 pub use row::{Entry, Row, Side};
 pub use work::Work;

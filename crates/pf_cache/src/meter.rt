@@ -10,7 +10,7 @@ use std::marker::Model;
 pub struct Meter {
     /// How many ticks were simulated.
     pub ticks: u64,
-    /// How many pairs of bodies were given to the narrow phase.
+    /// How many pairs of bodies could not reuse kept contact points.
     pub collides: u64,
 }
 
@@ -38,7 +38,7 @@ impl Meter {
         self.ticks = self.ticks.saturating_add(1);
     }
 
-    /// Counts so many pairs that were given to the narrow phase.
+    /// Counts so many pairs that could not reuse kept contact points.
     pub fn count_collides(&mut self, pairs: u64)
         ensures { self.new ≡ record self.old { collides = saturating_sum self.old.collides pairs } }
     {

@@ -3,13 +3,17 @@
 ghost use Rattle.std.specs.Prelude.{◌≡◌};
 ghost use Rattle.pf_cache.specs.Meter.{counted, no_work};
 
+use crate::manifolds::{Manifolds, NarrowPhase};
 use crate::meter::Meter;
+use std::alloc::Global;
 use std::marker::Model;
 
-/// What one step of a simulation leaves to the next beside the world: how much work was done.
+/// What one step of a simulation leaves to the next beside the world: how much work was done, and
+/// the contact points of the last tick, for reuse.
 #[derive(Debug, Drop)]
 pub struct Work {
     meter: Meter,
+    manifolds: Manifolds,
 }
 
 impl Model for Work {
@@ -17,17 +21,18 @@ impl Model for Work {
 
     ghost Value = { Work };
 
-    ghost view = { λ w. record { meter = w.meter } };
-
-    ghost inverse = { λ w. record { meter = w.meter } };
+    ghost view = { λ w. record { meter = w.meter; manifolds = w.manifolds } };
 }
 
 impl Work {
-    /// With nothing counted. Takes no memory.
-    pub fn new() -> Work
+    /// With nothing counted and nothing kept. Takes no memory.
+    pub fn new(alloc: Global) -> Work
         ensures { result ≡ no_work }
     {
-        Work { meter: Meter::NONE }
+        Work {
+            meter: Meter::NONE,
+            manifolds: Manifolds::new(alloc),
+        }
     }
 
     /// How much work was done.
@@ -37,11 +42,20 @@ impl Work {
         self.meter
     }
 
-    /// Counts a tick, for which so many pairs were given to the narrow phase.
-    pub fn count(&mut self, pairs: u64)
-        ensures { self.new ≡ counted pairs self.old }
+    /// The contact points of the last tick, none before the first.
+    pub fn manifolds(&self) -> &Manifolds
+        ensures { result.now ≡ self.now.manifolds }
+    {
+        &self.manifolds
+    }
+
+    /// Counts a tick and its pairs that could not reuse kept points, and keeps the contact points of
+    /// its pairs.
+    pub fn end_tick(&mut self, found: NarrowPhase)
+        ensures { self.new ≡ counted found self.old }
     {
         self.meter.count_tick();
-        self.meter.count_collides(pairs);
+        self.meter.count_collides(found.computed as u64);
+        self.manifolds = found.manifolds;
     }
 }

@@ -2,7 +2,7 @@
 
 use crate::scenes::scene_of;
 use pf_broad::pairs;
-use pf_cache::{Contacts, Impulses, Meter, Work};
+use pf_cache::{Contacts, Impulses, Manifolds, Meter, NarrowPhase, Work};
 use pf_manifold::collide_list;
 use std::alloc::Global;
 use std::test::Fail;
@@ -55,9 +55,12 @@ fn contacts_are_those_of_the_points(rt: HostRuntime) -> Result<(), Fail> {
 
 #[test]
 fn counts_stay_at_their_greatest(rt: HostRuntime) -> Result<(), Fail> {
-    let mut work = Work::new();
+    let mut work = Work::new(rt.alloc());
     assert!(rt; work.meter() == Meter::NONE);
-    work.count(3);
+    work.end_tick(NarrowPhase {
+        manifolds: Manifolds::new(rt.alloc()),
+        computed: 3,
+    });
     let mut meter = work.meter();
     assert_eq!(rt; (meter.ticks, meter.collides), (1, 3));
     meter.count_tick();

@@ -15,7 +15,7 @@ const FALLING: &[u8] = b"gravity 0 -167772160\ncircle 0 16777216 0 16777216 0 0\
 
 /// The world of a scene so many ticks after its start, without commands.
 fn world_at(alloc: Global, scene: &Scene, tick: u32) -> Result<World, Fail> {
-    let mut work = Work::new();
+    let mut work = Work::new(alloc);
     let mut world = World::start(alloc, scene)?;
     for _ in 0..tick {
         world = step_alone(alloc, scene, &world, &[], &mut work)?;
@@ -66,7 +66,7 @@ end
 fn a_contact_carries_a_circle(rt: HostRuntime) -> Result<(), Fail> {
     let alloc = rt.alloc();
     let scene = scene_of(alloc, RESTING)?;
-    let mut work = Work::new();
+    let mut work = Work::new(alloc);
     let start = World::start(alloc, &scene)?;
     let world = step_alone(alloc, &scene, &start, &[], &mut work)?;
     let [contact] = world.contacts().as_slice() else {
@@ -82,6 +82,32 @@ fn a_contact_carries_a_circle(rt: HostRuntime) -> Result<(), Fail> {
     let meter = work.meter();
     assert_eq!(rt; (meter.ticks, meter.collides), (1, 1));
     assert!(rt; world.try_clone()? == world && world != start);
+    Ok(())
+}
+
+/// How many pairs could not reuse kept points in so many ticks, with a push at tick 40.
+fn collides_after(alloc: Global, scene: &Scene, ticks: u32) -> Result<u64, Fail> {
+    let push = [Payload::Push {
+        body: 1,
+        x: Fx::ONE,
+        y: Fx::ZERO,
+    }];
+    let mut work = Work::new(alloc);
+    let mut world = World::start(alloc, scene)?;
+    for tick in 0..ticks {
+        let payloads: &[Payload] = if tick == 40 { &push } else { &[] };
+        world = step_alone(alloc, scene, &world, payloads, &mut work)?;
+    }
+    let meter = work.meter();
+    Ok(meter.collides)
+}
+
+#[test]
+fn points_of_still_bodies_are_kept(rt: HostRuntime) -> Result<(), Fail> {
+    let scene = scene_of(rt.alloc(), RESTING)?;
+    assert_eq!(rt; collides_after(rt.alloc(), &scene, 40)?, 1);
+    assert_eq!(rt; collides_after(rt.alloc(), &scene, 41)?, 1);
+    assert_eq!(rt; collides_after(rt.alloc(), &scene, 42)?, 2);
     Ok(())
 }
 

@@ -64,20 +64,16 @@ pub fn wake_marked(marks: &[bool], names: &[usize], bodies: &mut [BodyState])
     }
 }
 
-/// A body of a group that has or hasn't a mark: an awake one with a mark stops and sleeps.
-fn rested(body: BodyState, is_marked: bool) -> BodyState
-    ensures { result ≡ (if body.awake && is_marked then at_sleep body else body) }
+/// Stops a body and puts it to sleep, where it is awake and its group has a mark.
+#[inline]
+fn rest(body: &mut BodyState, is_marked: bool)
+    ensures { body.new ≡ (if body.old.awake && is_marked then at_sleep body.old else body.old) }
 {
     if body.awake && is_marked {
-        BodyState {
-            velocity: V2::ZERO,
-            spin: Fx::ZERO,
-            timer: 0,
-            awake: false,
-            ..body
-        }
-    } else {
-        body
+        body.velocity = V2::ZERO;
+        body.spin = Fx::ZERO;
+        body.timer = 0;
+        body.awake = false;
     }
 }
 
@@ -89,6 +85,6 @@ pub fn rest_marked(marks: &[bool], names: &[usize], bodies: &mut [BodyState])
     ensures { bodies.new ≡ each_named (rested_body marks.now) names.now bodies.old }
 {
     for (number, body) in bodies.iter_mut().enumerate() {
-        *body = rested(*body, marks[names[number]]);
+        rest(body, marks[names[number]]);
     }
 }

@@ -56,7 +56,7 @@ fn region_of(h: Fx, z: Fx) -> Region
 
 /// 0 to 2.
 #[inline]
-fn region_number(region: Region) -> u8
+fn region_number(region: Region) -> u32
     ensures value { result ≡ region_number region }
     ensures bound { result < 3 }
 {
@@ -71,7 +71,7 @@ fn region_number(region: Region) -> u8
 /// on both axes.
 #[inline]
 #[tactic(auto, unfolding(crate::specs::BoxCircle::region_feature))]
-fn region_feature(half: V2, d: V2) -> u8
+fn region_feature(half: V2, d: V2) -> u32
     ensures { result ≡ region_feature half d }
 {
     let x = region_number(region_of(half.x, d.x));

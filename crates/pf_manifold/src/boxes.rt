@@ -50,7 +50,7 @@ fn reference_normal(r: &Reference) -> V2
 
 /// The number of the first face of this box: 0 for `a`, 4 for `b`.
 #[inline]
-fn first_face_number(owner: Owner) -> u8
+fn first_face_number(owner: Owner) -> u32
     ensures value { result ≡ first_face_number owner }
     ensures bound { result < 5 }
 {
@@ -64,7 +64,7 @@ fn first_face_number(owner: Owner) -> u8
 /// incident edge and the mark.
 #[inline]
 #[tactic(auto, unfolding(crate::specs::Boxes::vertex_feature))]
-fn vertex_feature(r: &Reference, edge: Face, mark: Mark) -> u8
+fn vertex_feature(r: &Reference, edge: Face, mark: Mark) -> u32
     ensures { result ≡ vertex_feature r.now edge mark }
 {
     let face = first_face_number(r.owner) + r.face.number();

@@ -11,7 +11,7 @@ use std::marker::Model;
 pub struct ContactPoint {
     /// The feature that makes the point, as Box2D-Lite's `FeaturePair`: the same number at the next
     /// tick is the same point.
-    pub feature: u8,
+    pub feature: u32,
     /// The position.
     pub position: V2,
     /// The normal from the first body to the second. Its length is 1 up to rounding, and up to 1.42

@@ -21,7 +21,7 @@ impl Face {
 
     /// 0 to 3.
     #[inline]
-    pub fn number(self) -> u8
+    pub fn number(self) -> u32
         ensures value { result ≡ face_number self }
         ensures bound { result < 4 }
     {

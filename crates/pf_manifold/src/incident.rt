@@ -57,7 +57,7 @@ impl Model for Segment {
 
 /// 0 to 3.
 #[inline]
-pub fn mark_number(mark: Mark) -> u8
+pub fn mark_number(mark: Mark) -> u32
     ensures value { result ≡ mark_number mark }
     ensures bound { result < 4 }
 {

@@ -15,7 +15,7 @@ pub struct Key {
     /// The number of the second body, which is the greater.
     pub b: usize,
     /// The feature of the contact point.
-    pub feature: u8,
+    pub feature: u32,
 }
 
 impl Model for Key {
@@ -67,6 +67,6 @@ impl Key {
         requires { IsKey self.now }
         ensures { result ≡ rank self.now }
     {
-        self.a * (1 << 24) + (self.b * (1 << 8) + usize::from(self.feature))
+        self.a * (1 << 24) + (self.b * (1 << 8) + self.feature as usize)
     }
 }

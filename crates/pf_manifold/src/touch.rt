@@ -47,8 +47,13 @@ fn placed_shape<'a>(fixtures: &'a [Fixture], bodies: &[BodyState], number: usize
     }
 }
 
-/// Adds the contact points of a pair. Where there is none it takes no memory.
-fn push_points(touches: &mut Vec<Touch>, pair: &Pair, points: &Manifold) -> Result<(), AllocError>
+/// Adds the contact points of a pair. Where there is none it takes no memory. After an error some
+/// of the points may have been added.
+pub fn push_points(
+    touches: &mut Vec<Touch>,
+    pair: &Pair,
+    points: &Manifold,
+) -> Result<(), AllocError>
     ensures added { OnOk result (touches.new.items
         ≡ touches.old.items ++ map (touch_of pair.now) (points_of points.now)) }
     ensures no_memory { points_of points.now ≡ [] → IsOk result }

@@ -207,7 +207,7 @@ impl PeerCore {
             IsEmptyBefore core.scene core.peer.commands ticks → IsOk result }
     {
         let mut world = World::start(alloc, &self.scene)?;
-        let mut work = Work::new();
+        let mut work = Work::new(alloc);
         for tick in 0..ticks {
             let payloads = self.commands.at_tick(alloc, tick)?;
             world = step_alone(alloc, &self.scene, &world, &payloads, &mut work)?;

@@ -79,13 +79,11 @@ fn prepare_all(scene: &Scene, bodies: &[BodyState], rows: &mut [Row])
 
 /// Gravity on a body, where it is awake.
 #[inline]
-fn fallen(pull: V2, body: BodyState) -> BodyState
-    ensures { result ≡ (if body.awake then after_gravity pull body else body) }
+fn fall_if_awake(pull: V2, body: &mut BodyState)
+    ensures { body.new ≡ (if body.old.awake then after_gravity pull body.old else body.old) }
 {
     if body.awake {
-        after_gravity(pull, body)
-    } else {
-        body
+        *body = after_gravity(pull, *body);
     }
 }
 
@@ -94,19 +92,18 @@ fn fall(pull: V2, bodies: &mut [BodyState])
     ensures { bodies.new ≡ each_awake (after_gravity pull) bodies.old }
 {
     for body in bodies.iter_mut() {
-        *body = fallen(pull, *body);
+        fall_if_awake(pull, body);
     }
 }
 
 /// Position and timer of a body, where it is awake.
 #[inline]
-fn moved(body: BodyState) -> BodyState
-    ensures { result ≡ (if body.awake then after_timer (after_motion body) else body) }
+fn move_if_awake(body: &mut BodyState)
+    ensures { body.new
+        ≡ (if body.old.awake then after_timer (after_motion body.old) else body.old) }
 {
     if body.awake {
-        after_timer(after_motion(body))
-    } else {
-        body
+        *body = after_timer(after_motion(*body));
     }
 }
 
@@ -115,7 +112,7 @@ fn move_on(bodies: &mut [BodyState])
     ensures { bodies.new ≡ each_awake (λ b. after_timer (after_motion b)) bodies.old }
 {
     for body in bodies.iter_mut() {
-        *body = moved(*body);
+        move_if_awake(body);
     }
 }
 

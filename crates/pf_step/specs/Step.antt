@@ -1,13 +1,14 @@
 -- The tick on one screen: from the world at a tick to the world one tick later, as Box2D-Lite's
 -- World::Step, with the groups and the sleep of Box2D 2.x.
 use Rattle.std.specs.Prelude.{List}
+use Rattle.pf_shapes.specs.Fixture.{Fixture}
 use Rattle.pf_shapes.specs.Body.{BodyState}
-use Rattle.pf_shapes.specs.Pair.{Pair}
 use Rattle.pf_shapes.specs.Scene.{Scene}
 use Rattle.pf_broad.specs.Pairs.{all_bounds, pairs}
 use Rattle.pf_manifold.specs.Touches.{Touch, touches}
 use Rattle.pf_commands.specs.declared.payload.Payload.{Payload}
 use Rattle.pf_cache.specs.Contact.{updated}
+use Rattle.pf_cache.specs.Manifolds.{Manifolds, NarrowPhase, computed_count, manifolds_of, placed_shapes}
 use Rattle.pf_cache.specs.Row.{with_rows}
 use Rattle.pf_islands.specs.Group.{groups}
 use Rattle.pf_islands.specs.Sleep.{rested, woken}
@@ -21,10 +22,19 @@ use Rattle.pf_step.specs.World.{World}
 abbrev pub touching : Scene → List BodyState → List Touch
 touching s bodies = touches s.fixtures bodies (pairs (all_bounds s.fixtures bodies))
 
--- the pairs of bodies that a tick gives to the narrow phase
-abbrev pub pairs_of_tick : Scene → World → List Payload → List Pair
-pairs_of_tick s w payloads =
-    pairs (all_bounds s.fixtures (after_commands s.fixtures w.bodies payloads))
+-- the result of the narrow phase for these bodies, with these points kept
+abbrev pub narrow_phase : List Fixture → List BodyState → Manifolds → NarrowPhase
+narrow_phase fixtures bodies kept =
+    let found = pairs (all_bounds fixtures bodies) in
+    record {
+      manifolds = manifolds_of fixtures bodies found;
+      computed = computed_count kept (placed_shapes fixtures bodies) found;
+    }
+
+-- and what it finds in a tick
+abbrev pub narrow_phase_of_tick : Scene → World → List Payload → Manifolds → NarrowPhase
+narrow_phase_of_tick s w payloads kept =
+    narrow_phase s.fixtures (after_commands s.fixtures w.bodies payloads) kept
 
 -- Commands, Points, Activity, then Gravity, Pre-step, Rounds, Positions and Timers, and Sleep
 unfoldable pub step : Scene → World → List Payload → World

@@ -1,20 +1,21 @@
 //! The tick on one screen: from a world to the world one tick later, on one thread.
 
 ghost use Rattle.std.specs.Prelude.{◌≡◌, [], All, length, IfOk, IsOk, OnOk, OnErr};
+ghost use Rattle.pf_manifold.specs.Touches.{IsTouchOf};
+ghost use Rattle.pf_cache.specs.Manifolds.{kept_touches};
 ghost use Rattle.pf_cache.specs.Meter.{counted};
 ghost use Rattle.pf_cache.specs.Row.{AreRows, with_rows};
 ghost use Rattle.pf_islands.specs.Sleep.{rested};
 ghost use Rattle.pf_solver.specs.Solve.{IsRowOf, solved};
-ghost use Rattle.pf_step.specs.Step.{pairs_of_tick, step};
+ghost use Rattle.pf_step.specs.Step.{narrow_phase, narrow_phase_of_tick, step, touching};
 
 use crate::command::apply_all;
 use crate::rows::active_rows;
 use crate::world::{World, copy_of};
 use pf_broad::pairs;
-use pf_cache::{Contacts, Row, Work};
+use pf_cache::{Contacts, Manifolds, NarrowPhase, Row, Work};
 use pf_commands::Payload;
 use pf_islands::Groups;
-use pf_manifold::collide_list;
 use pf_shapes::{BodyState, Scene};
 use pf_solver::{STILL_TICKS, solve_list};
 use std::alloc::{AllocError, Global};
@@ -42,10 +43,31 @@ fn solve_active(
     groups.rest(bodies, STILL_TICKS);
 }
 
+/// The contact points of the bodies of a scene as they stand; those that are kept are taken.
+#[tactic(auto, using(pf_cache::proofs::Unmoved::kept_points, pf_manifold::proofs::KeyOrder::touches_of_bodies))]
+fn narrow_phase(
+    alloc: Global,
+    scene: &Scene,
+    bodies: &[BodyState],
+    kept: &Manifolds,
+) -> Result<NarrowPhase, AllocError>
+    requires { length bodies.now ≡ length scene.now.fixtures }
+    ensures value { IfOk result
+        (λ found. found ≡ narrow_phase scene.now.fixtures bodies.now kept.now) }
+    ensures touches { IfOk result
+        (λ found. kept_touches found.manifolds ≡ touching scene.now bodies.now) }
+    ensures bodies { IfOk result
+        (λ found. All (IsTouchOf (length bodies.now)) (kept_touches found.manifolds)) }
+    ensures no_memory { bodies.now ≡ [] → IsOk result }
+{
+    let pairs = pairs(alloc, scene, bodies)?;
+    kept.update(alloc, scene, bodies, &pairs)
+}
+
 /// The world one tick of 1/64 s later, with the payloads of the tick's commands in order of player,
 /// then number. The world has one state for each body of the scene. Counts the tick and the pairs
-/// of bodies that were given to the narrow phase; an error counts nothing. Takes no memory where
-/// there are no bodies.
+/// whose contact points were computed, and keeps the points; an error changes nothing. Takes no
+/// memory where there are no bodies.
 #[tactic(auto, unfolding(crate::specs::Step::step), using(pf_islands::proofs::Starting::groups_long, crate::proofs::Lengths::woken_length, crate::proofs::Ticked::updated_length, crate::proofs::Ticked::ticked, pf_solver::proofs::Solved::solved_length))]
 pub fn step_alone(
     alloc: Global,
@@ -58,19 +80,19 @@ pub fn step_alone(
     ensures value { IfOk result (λ next. next ≡ step scene.now world.now payloads.now) }
     ensures bodies { IfOk result (λ next. length next.bodies ≡ length scene.now.fixtures) }
     ensures counted { OnOk result (work.new
-        ≡ counted (length (pairs_of_tick scene.now world.now payloads.now)) work.old) }
+        ≡ counted (narrow_phase_of_tick scene.now world.now payloads.now work.old.manifolds) work.old) }
     ensures not_counted { OnErr result (work.new ≡ work.old) }
     ensures no_memory { world.now.bodies ≡ [] → IsOk result }
 {
     let mut bodies = copy_of(alloc, world.bodies())?;
     apply_all(scene.fixtures(), &mut bodies, payloads);
-    let pairs = pairs(alloc, scene, &bodies)?;
-    let touches = collide_list(alloc, scene, &bodies, &pairs)?;
-    let mut contacts = world.contacts().update(&touches)?;
-    let mut groups = Groups::new(alloc, scene, &touches)?;
+    let found = narrow_phase(alloc, scene, &bodies, work.manifolds())?;
+    let touches = found.manifolds.touches();
+    let mut contacts = world.contacts().update(touches)?;
+    let mut groups = Groups::new(alloc, scene, touches)?;
     groups.wake(&mut bodies);
-    let mut rows = active_rows(alloc, scene, &bodies, &touches, contacts.as_slice())?;
+    let mut rows = active_rows(alloc, scene, &bodies, touches, contacts.as_slice())?;
     solve_active(scene, &mut groups, &mut bodies, &mut rows, &mut contacts);
-    work.count(pairs.len() as u64);
+    work.end_tick(found);
     Ok(World { bodies, contacts })
 }

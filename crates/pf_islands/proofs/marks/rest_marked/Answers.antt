@@ -14,7 +14,7 @@ loop-number-preserved c =
     let within : i < length bodies = omega arith in
     let is = body_is (rested_body marks) names bodies c.loop-number.bodies i c.requires.bodies c.loop-number.invariant within d in
     changed_more (rested_body marks) names bodies c.loop-number.bodies i c.requires.bodies c.loop-number.invariant within d _
-    (c.rested.ensures ∙ ap (λ (b : BodyState). rested_body marks (get_or names i 0, b)) is)
+    (c.rest.ensures ∙ ap (λ (b : BodyState). rested_body marks (get_or names i 0, b)) is)
 
 pub returns : goal.returns
 returns c =

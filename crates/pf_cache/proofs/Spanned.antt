@@ -1,0 +1,162 @@
+-- Pairs and their spans.
+use Rattle.std.proofs.Common.{◌≡◌, ℕ, suc, ◌+◌, ◌*◌, ◌^◌, ◌-◌, ◌≤◌, ◌<◌, ◌==◌, ◌⊎◌, ⊎_elim, inl, inr, Bool, true, false, ◌&&◌, ◌||◌, Option, Some, None, List, [], ◌∷◌, ◌++◌, length, map, take, refl, sym, ap, ap₂, subst, ◌∙◌, true≢false, ltb-true, eqb-true, arith}
+use Rattle.std.specs.List.{AllByRecursion, flat_map, list_any}
+use Rattle.std.specs.Prelude.{All, drop, get_or, is_some, unwrap_or, if◌then◌else◌}
+use Rattle.std.proofs.lemmas.Bool.{and_parts, cases_order, or_cases}
+use Rattle.std.proofs.lemmas.Bool.Decides.{Decides-eqb}
+use Rattle.std.proofs.lemmas.List.{drop-append-le, length-append, length-drop, take-append-le}
+use Rattle.std.proofs.Math.Seq.{drop-append_seam, take-length}
+use Rattle.std.proofs.lemmas.List.Elements.{All-head, All-tail}
+use Rattle.pf_shapes.specs.Pair.{IsAscending, IsPairOf, Pair, is_before}
+use Rattle.pf_shapes.specs.declared.scene.TheConstants.{MAX_BODIES}
+use Rattle.pf_manifold.specs.Key.{IsRising}
+use Rattle.pf_manifold.specs.PlacedShape.{PlacedShape}
+use Rattle.pf_manifold.specs.Touches.{Touch}
+use Rattle.pf_manifold.proofs.Rising.{rising-weaken}
+use Rattle.pf_cache.specs.Manifolds.{has_pair, points_of_pair}
+use Rattle.pf_cache.specs.Spans.{IsSpan, Span, pair_rank, span_at, span_points}
+
+-- ---- ranks
+
+-- a pair that comes before another has the lower rank
+lower : (p q : Pair) → p.b < MAX_BODIES → is_before p q ≡ true → pair_rank p < pair_rank q
+lower p q small e =
+    ⊎_elim
+    (λ x. let less = ltb-true p.a q.a x in omega (arith, less, small))
+    (λ y.
+    let both = and_parts _ _ y in
+    let same = eqb-true p.a q.a both.0 in
+    let less = ltb-true p.b q.b both.1 in
+    omega (arith, same, less))
+    (or_cases _ _ e)
+
+-- no pair is below this rank
+abbrev AreFrom : ℕ → List Pair → Type 0
+AreFrom least pairs = AllByRecursion (λ p. least ≤ pair_rank p) pairs
+
+behind_from : (p : Pair) (pairs : List Pair) → p.b < MAX_BODIES → AllByRecursion (λ q. is_before p q ≡ true) pairs
+    → AreFrom (suc (pair_rank p)) pairs
+behind_from p [] small h = tt
+behind_from p (q ∷ pairs) small h = (lower p q small h.0, behind_from p pairs small h.1)
+
+rise_from : (least : ℕ) (pairs : List Pair) → IsAscending pairs → All (IsPairOf MAX_BODIES) pairs
+    → AreFrom least pairs → IsRising least (map pair_rank pairs)
+rise_from least [] up are from = tt
+rise_from least (p ∷ pairs) up are from =
+    let first = All-head (IsPairOf MAX_BODIES) p pairs are in (
+      from.0,
+      rise_from (suc (pair_rank p)) pairs up.1 (All-tail (IsPairOf MAX_BODIES) p pairs are)
+          (behind_from p pairs first.1 up.0),
+    )
+
+from_zero : (pairs : List Pair) → AreFrom 0 pairs
+from_zero [] = tt
+from_zero (p ∷ pairs) = (omega arith, from_zero pairs)
+
+-- ascending pairs are in the order of their ranks
+pub pairs_rise : (pairs : List Pair) → IsAscending pairs → All (IsPairOf MAX_BODIES) pairs
+    → IsRising 0 (map pair_rank pairs)
+pairs_rise pairs up are = rise_from 0 pairs up are (from_zero pairs)
+
+-- two pairs of one rank are one pair
+pub same_rank : (p q : Pair) → IsPairOf MAX_BODIES p → IsPairOf MAX_BODIES q → pair_rank p ≡ pair_rank q → p ≡ q
+same_rank p q hp hq e = by (cases_order p.a q.a)
+  where
+    by : (p.a ≡ q.a) ⊎ ((p.a < q.a) ⊎ (q.a < p.a)) → p ≡ q
+    by (inl same) =
+        let seconds : p.b ≡ q.b = omega (arith, e, same) in
+        λ i. record {
+          a = same i;
+          b = seconds i;
+        }
+    by (inr (inl less)) = absurd (omega (arith, e, less, hp.1, hq.1))
+    by (inr (inr less)) = absurd (omega (arith, e, less, hp.1, hq.1))
+
+-- ---- looking up
+
+-- what is found is one of the spans, and of this rank
+pub found_span : (P : Span → Type 0) (n : ℕ) (spans : List Span) (s : Span) → All P spans
+    → span_at n spans ≡ Some s → P s × (pair_rank s.pair ≡ n)
+found_span P n [] s all e = absurd (true≢false (sym (ap is_some e)))
+found_span P n (x ∷ spans) s all e =
+    by (pair_rank x.pair == n) refl e (found_span P n spans s (All-tail P x spans all))
+  where
+    by : (t : Bool) → (pair_rank x.pair == n) ≡ t → (if t then Some x else span_at n spans) ≡ Some s
+        → (span_at n spans ≡ Some s → P s × (pair_rank s.pair ≡ n)) → P s × (pair_rank s.pair ≡ n)
+    by true here found behind =
+        let same : x ≡ s = ap (λ o. unwrap_or o s) found in
+        (subst P same (All-head P x spans all), ap (λ (y : Span). pair_rank y.pair) (sym same) ∙ (Decides-eqb _ _).0 here)
+    by false other found behind = behind found
+
+-- the test of a pair is the test of its rank
+same_test : (q p : Pair) → IsPairOf MAX_BODIES q → IsPairOf MAX_BODIES p
+    → ((q.a == p.a) && (q.b == p.b)) ≡ (pair_rank q == pair_rank p)
+same_test q p hq hp = by (pair_rank q == pair_rank p) refl
+  where
+    both : q ≡ p → ((q.a == p.a) && (q.b == p.b)) ≡ true
+    both e =
+        rw ((Decides-eqb q.a p.a).1 (ap (λ (r : Pair). r.a) e), (Decides-eqb q.b p.b).1 (ap (λ (r : Pair). r.b) e)) refl
+
+    neither : (t : Bool) → ((q.a == p.a) && (q.b == p.b)) ≡ t → (pair_rank q == pair_rank p) ≡ false → t ≡ false
+    neither false e apart = refl
+    neither true e apart =
+        let parts = and_parts _ _ e in
+        let first = eqb-true q.a p.a parts.0 in
+        let second = eqb-true q.b p.b parts.1 in
+        let ranks : pair_rank q ≡ pair_rank p = omega (arith, first, second) in
+        absurd (true≢false (sym ((Decides-eqb _ _).1 ranks) ∙ apart))
+
+    by : (t : Bool) → (pair_rank q == pair_rank p) ≡ t → ((q.a == p.a) && (q.b == p.b)) ≡ t
+    by true e = both (same_rank q p hq hp ((Decides-eqb _ _).0 e))
+    by false e = neither ((q.a == p.a) && (q.b == p.b)) refl e
+
+-- a pair has a span exactly where it is one of the spans' pairs
+pub has_span : (p : Pair) (spans : List Span) → IsPairOf MAX_BODIES p → All (λ s. IsPairOf MAX_BODIES s.pair) spans
+    → is_some (span_at (pair_rank p) spans) ≡ has_pair (map (λ s. s.pair) spans) p
+has_span p [] hp all = refl
+has_span p (s ∷ spans) hp all =
+    by (pair_rank s.pair == pair_rank p) refl
+    (has_span p spans hp (All-tail (λ x. IsPairOf MAX_BODIES x.pair) s spans all))
+  where
+    test : ((s.pair.a == p.a) && (s.pair.b == p.b)) ≡ (pair_rank s.pair == pair_rank p)
+    test = same_test s.pair p (All-head (λ x. IsPairOf MAX_BODIES x.pair) s spans all) hp
+
+    by : (t : Bool) → (pair_rank s.pair == pair_rank p) ≡ t
+        → is_some (span_at (pair_rank p) spans) ≡ has_pair (map (λ x. x.pair) spans) p
+        → is_some (if t then Some s else span_at (pair_rank p) spans)
+        ≡ (((s.pair.a == p.a) && (s.pair.b == p.b)) || has_pair (map (λ x. x.pair) spans) p)
+    by true e behind = rw (test ∙ e) refl
+    by false e behind = rw (test ∙ e) behind
+
+-- ---- spans of a list that grows
+
+module _ (shapes : List PlacedShape) where
+  points_stay : (touches more : List Touch) (s : Span) → s.start + s.len ≤ length touches
+      → span_points (touches ++ more) s ≡ span_points touches s
+  points_stay touches more s within =
+      let left = length-drop s.start touches in
+      ap (take s.len) (drop-append-le s.start touches more (omega (arith, within)))
+      ∙ take-append-le s.len (drop s.start touches) more (omega (arith, within, left))
+
+  pub span_stays : (touches more : List Touch) (s : Span) → IsSpan shapes touches s
+      → IsSpan shapes (touches ++ more) s
+  span_stays touches more s h =
+      let longer = length-append touches more in
+      record {
+        bodies = h.bodies;
+        within = omega (arith, h.within, longer);
+        points = points_stay touches more s h.within ∙ h.points;
+      }
+
+  -- the span of the points that were added last
+  pub span_of_last : (touches : List Touch) (p : Pair) (len : ℕ) → IsPairOf MAX_BODIES p
+      → len ≡ length (points_of_pair shapes p)
+      → IsSpan shapes (touches ++ points_of_pair shapes p) (record { pair = p; start = length touches; len = len })
+  span_of_last touches p len hp e =
+      let longer = length-append touches (points_of_pair shapes p) in
+      record {
+        bodies = hp;
+        within = omega (arith, e, longer);
+        points = ap (take len) (drop-append_seam touches (points_of_pair shapes p))
+            ∙ (ap (λ n. take n (points_of_pair shapes p)) e ∙ take-length (points_of_pair shapes p));
+      }

@@ -1,0 +1,123 @@
+-- Bodies that stand as they stood have the contact points that they had.
+use Rattle.std.proofs.Common.{◌≡◌, ℕ, zero, suc, Bool, true, false, ◌&&◌, ◌++◌, Option, Some, None, List, [], ◌∷◌, ◌+◌, ◌-◌, ◌<◌, length, map, take, refl, sym, ap, ap₂, ◌∙◌, true≢false, arith}
+use Rattle.std.specs.Bool.{Decides}
+use Rattle.std.specs.List.{flat_map, zip}
+use Rattle.std.specs.Ordering.{int_eq}
+use Rattle.std.specs.Prelude.{drop, get_or, slice_get}
+use Rattle.std.proofs.lemmas.Option.{slice_get_read}
+use Rattle.std.proofs.lemmas.Bool.{and_parts}
+use Rattle.std.proofs.lemmas.Bool.Decides.{Decides-int_eq, Decides-and, Decides-like}
+use Rattle.pf_rot.specs.Vector.{V2}
+use Rattle.pf_rot.specs.Rotation.{Rot}
+use Rattle.pf_shapes.specs.Fixture.{Fixture}
+use Rattle.pf_shapes.specs.Body.{BodyState}
+use Rattle.pf_shapes.specs.Pair.{Pair}
+use Rattle.pf_shapes.specs.Same.{same_rotation, same_vector}
+use Rattle.pf_shapes.specs.SameLaws.{Decides-shape}
+use Rattle.pf_manifold.specs.Collide.{collide}
+use Rattle.pf_manifold.specs.ContactPoint.{ContactPoint}
+use Rattle.pf_manifold.specs.PlacedShape.{PlacedShape}
+use Rattle.pf_manifold.specs.Touches.{Touch, placed_shape, placed_shape_at, touch_of, touches, touches_between, touches_of}
+use Rattle.pf_cache.specs.Manifolds.{is_unmoved, kept_touches, manifolds_of, placed, placed_shapes, points_of_pair, same_if_any, same_placed_shape}
+use Rattle.pf_cache.specs.Spans.{IsSpan, Span, unmoved_bodies}
+
+Decides-vector : (u v : V2) → Decides (same_vector u v) (u ≡ v)
+Decides-vector u v =
+    Decides-like (same_vector u v) (λ e i. record {
+      x = e.0 i;
+      y = e.1 i;
+    })
+    (λ e. (ap (λ (w : V2). w.x) e, ap (λ (w : V2). w.y) e))
+    (Decides-and _ _ (Decides-int_eq u.x v.x) (Decides-int_eq u.y v.y))
+
+Decides-rotation : (p q : Rot) → Decides (same_rotation p q) (p ≡ q)
+Decides-rotation p q =
+    Decides-like (same_rotation p q) (λ e i. record {
+      c = e.0 i;
+      s = e.1 i;
+    })
+    (λ e. (ap (λ (w : Rot). w.c) e, ap (λ (w : Rot). w.s) e))
+    (Decides-and _ _ (Decides-int_eq p.c q.c) (Decides-int_eq p.s q.s))
+
+Decides-placed : (a b : PlacedShape) → Decides (same_placed_shape a b) (a ≡ b)
+unfolding same_placed_shape
+Decides-placed a b =
+    Decides-like (same_placed_shape a b) (λ e i. record {
+      shape = e.0 i;
+      position = e.1.0 i;
+      rotation = e.1.1 i;
+    })
+    (λ e. (
+      ap (λ (s : PlacedShape). s.shape) e,
+      (ap (λ (s : PlacedShape). s.position) e, ap (λ (s : PlacedShape). s.rotation) e),
+    ))
+    (Decides-and _ _ (Decides-shape a.shape b.shape)
+    (Decides-and _ _ (Decides-vector a.position b.position) (Decides-rotation a.rotation b.rotation)))
+
+same_here : (o m : Option PlacedShape) → same_if_any o m ≡ true → o ≡ m
+same_here (Some a) (Some b) e = ap Some ((Decides-placed a b).0 e)
+same_here (Some a) None e = absurd (true≢false (sym e))
+same_here None m e = absurd (true≢false (sym e))
+
+-- of two bodies that stand as they stood
+pub unmoved_points : (old shapes : List PlacedShape) (p : Pair)
+    → (is_unmoved old shapes p.a && is_unmoved old shapes p.b) ≡ true
+    → points_of_pair old p ≡ points_of_pair shapes p
+unmoved_points old shapes p e =
+    let both = and_parts _ _ e in
+    ap₂ (touches_between p) (same_here _ _ both.0) (same_here _ _ both.1)
+
+-- the points of the narrow phase, of two shapes that were read
+pub points_here : (shapes : List PlacedShape) (p : Pair) (a b : PlacedShape) (points : List ContactPoint)
+    → p.a < length shapes → p.b < length shapes → a ≡ get_or shapes p.a a → b ≡ get_or shapes p.b b
+    → points ≡ collide a b → map (touch_of p) points ≡ points_of_pair shapes p
+points_here shapes p a b points first second a_is b_is are =
+    let one = slice_get_read shapes (length shapes) p.a a refl first a_is in
+    let two = slice_get_read shapes (length shapes) p.b b refl second b_is in
+    ap (map (touch_of p)) are ∙ sym (ap₂ (touches_between p) one two)
+
+-- whether a body stands as it stood, read from the list of all bodies
+no_shape : (o : Option PlacedShape) → false ≡ same_if_any o None
+no_shape None = refl
+no_shape (Some a) = refl
+
+pub flag_at : (old shapes : List PlacedShape) (i : ℕ) → get_or (unmoved_bodies old shapes) i false ≡ is_unmoved old shapes i
+flag_at [] shapes i = refl
+flag_at (a ∷ old) [] i = no_shape (slice_get (a ∷ old) i)
+flag_at (a ∷ old) (b ∷ shapes) zero = refl
+flag_at (a ∷ old) (b ∷ shapes) (suc i) = flag_at old shapes i
+
+-- the span of a pair whose bodies stand as they stood
+pub span_of_unmoved : (old shapes : List PlacedShape) (kept : List Touch) (s : Span) (p : Pair) → IsSpan old kept s
+    → s.pair ≡ p → (is_unmoved old shapes p.a && is_unmoved old shapes p.b) ≡ true → IsSpan shapes kept s
+span_of_unmoved old shapes kept s p h same unmoved = record {
+  bodies = h.bodies;
+  within = h.within;
+  points = h.points ∙ ap (points_of_pair old) same ∙ unmoved_points old shapes p unmoved
+      ∙ sym (ap (points_of_pair shapes) same);
+}
+
+-- the shapes of the bodies, number by number
+no_body : (o : Option Fixture) → None ≡ placed_shape o None
+no_body None = refl
+no_body (Some f) = refl
+
+shape_at : (fixtures : List Fixture) (bodies : List BodyState) (i : ℕ)
+    → slice_get (placed_shapes fixtures bodies) i ≡ placed_shape_at fixtures bodies i
+shape_at [] bodies i = refl
+shape_at (f ∷ fixtures) [] i = no_body (slice_get (f ∷ fixtures) i)
+shape_at (f ∷ fixtures) (b ∷ bodies) zero = refl
+shape_at (f ∷ fixtures) (b ∷ bodies) (suc i) = shape_at fixtures bodies i
+
+pub points_of_bodies : (fixtures : List Fixture) (bodies : List BodyState) (p : Pair)
+    → points_of_pair (placed_shapes fixtures bodies) p ≡ touches_of fixtures bodies p
+unfolding touches_of
+points_of_bodies fixtures bodies p =
+    ap₂ (touches_between p) (shape_at fixtures bodies p.a) (shape_at fixtures bodies p.b)
+
+-- the kept points of these pairs are the contact points of these pairs
+pub kept_points : (fixtures : List Fixture) (bodies : List BodyState) (pairs : List Pair)
+    → kept_touches (manifolds_of fixtures bodies pairs) ≡ touches fixtures bodies pairs
+kept_points fixtures bodies [] = refl
+kept_points fixtures bodies (p ∷ pairs) =
+    ap₂ (λ xs ys. xs ++ ys) (points_of_bodies fixtures bodies p) (kept_points fixtures bodies pairs)

@@ -1,0 +1,115 @@
+//! The shapes of bodies as they stood.
+
+ghost use Rattle.std.specs.Prelude.{◌≡◌, IfOk, false, get_or};
+ghost use Rattle.pf_cache.specs.Manifolds.{placed_shapes};
+ghost use Rattle.pf_cache.specs.Spans.{unmoved_bodies};
+
+use pf_manifold::PlacedShape;
+use pf_rot::{Rot, V2};
+use pf_shapes::{BodyState, Fixture, Shape};
+use std::alloc::{AllocError, Global};
+use std::marker::Model;
+
+/// The shape of a body at the position and rotation that the body had.
+#[derive(Debug, Drop)]
+pub struct KeptShape {
+    shape: Shape,
+    position: V2,
+    rotation: Rot,
+}
+
+impl Model for KeptShape {
+    ghost use Rattle.pf_manifold.specs.PlacedShape.{PlacedShape};
+
+    ghost Value = { PlacedShape };
+
+    ghost view = { λ k. record { shape = k.shape; position = k.position; rotation = k.rotation } };
+}
+
+/// A copy of a shape.
+#[inline]
+fn copy_of(shape: &Shape) -> Shape
+    ensures { result ≡ shape.now }
+{
+    match shape {
+        Shape::Circle { r } => Shape::Circle { r: *r },
+        Shape::Box { hx, hy } => Shape::Box { hx: *hx, hy: *hy },
+    }
+}
+
+impl KeptShape {
+    ghost use Rattle.std.specs.Prelude.{◌≡◌};
+    ghost use Rattle.pf_cache.specs.Manifolds.{placed, same_placed_shape};
+
+    /// The shape of a body as it stands.
+    #[inline]
+    fn of(fixture: &Fixture, body: &BodyState) -> KeptShape
+        ensures { result ≡ placed fixture.now body.now }
+    {
+        KeptShape {
+            shape: copy_of(fixture.shape()),
+            position: body.position,
+            rotation: body.rotation,
+        }
+    }
+
+    /// The same shape, for the narrow phase.
+    #[inline]
+    pub fn placed(&self) -> PlacedShape<'_>
+        ensures { result ≡ self.now }
+    {
+        PlacedShape {
+            shape: &self.shape,
+            position: self.position,
+            rotation: self.rotation,
+        }
+    }
+
+    /// Whether both are the same shape at the same position and rotation.
+    #[inline]
+    #[tactic(auto, unfolding(crate::specs::Manifolds::same_placed_shape))]
+    fn is_same(&self, other: &KeptShape) -> bool
+        ensures { result ≡ same_placed_shape self.now other.now }
+    {
+        self.shape == other.shape
+            && self.position == other.position
+            && self.rotation == other.rotation
+    }
+}
+
+/// The shapes of all bodies as they stand.
+pub fn placed_shapes(
+    alloc: Global,
+    fixtures: &[Fixture],
+    bodies: &[BodyState],
+) -> Result<Vec<KeptShape>, AllocError>
+    ensures { IfOk result (λ shapes. shapes.items ≡ placed_shapes fixtures.now bodies.now) }
+{
+    fixtures
+        .iter()
+        .zip(bodies)
+        .map(|(fixture, body)| KeptShape::of(fixture, body))
+        .collect(alloc)
+}
+
+/// For each number in both lists, whether the body is unmoved.
+pub fn unmoved_bodies(
+    alloc: Global,
+    old: &[KeptShape],
+    shapes: &[KeptShape],
+) -> Result<Vec<bool>, AllocError>
+    ensures { IfOk result (λ flags. flags.items ≡ unmoved_bodies old.now shapes.now) }
+{
+    old.iter()
+        .zip(shapes)
+        .map(|(before, shape)| before.is_same(shape))
+        .collect(alloc)
+}
+
+/// Whether the body with this number is unmoved; one beyond the list is not.
+#[inline]
+pub fn is_unmoved(unmoved: &[bool], number: usize) -> bool
+    ensures { result ≡ get_or unmoved.now number false }
+{
+    number < unmoved.len() && unmoved[number]
+}

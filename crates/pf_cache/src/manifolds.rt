@@ -1,0 +1,137 @@
+//! Contact points that are kept from tick to tick.
+
+ghost use Rattle.std.specs.Prelude.{◌≡◌};
+
+use crate::gathered::GatheredPoints;
+use crate::kept_shape::{KeptShape, placed_shapes, unmoved_bodies};
+use crate::spans::{Span, first_span_from, kept_span, rank_of};
+use pf_manifold::Touch;
+use pf_shapes::{BodyState, Pair, Scene};
+use std::alloc::{AllocError, Global};
+use std::marker::Model;
+
+/// The contact points of pairs of bodies as the bodies stood in the last narrow phase, as a
+/// `b2Contact` of Box2D 2.x keeps its manifold. They are sound for every scene and world, since they
+/// are kept with the shapes, positions and rotations that they were computed from.
+#[derive(Debug, Drop)]
+pub struct Manifolds {
+    shapes: Vec<KeptShape>,
+    spans: Vec<Span>,
+    touches: Vec<Touch>,
+}
+
+impl Model for Manifolds {
+    ghost use Rattle.std.specs.Prelude.{map};
+    ghost use Rattle.pf_cache.specs.Manifolds.{Manifolds};
+    ghost use Rattle.pf_cache.specs.Spans.{AreSpans};
+
+    ghost Value = { Manifolds };
+
+    ghost view = { λ m. record {
+      shapes = m.shapes.items;
+      pairs = map (λ s. s.pair) m.spans.items;
+    } };
+
+    ghost invariant = { λ m. AreSpans m.shapes.items m.spans.items m.touches.items };
+}
+
+/// What the narrow phase of a tick found.
+#[derive(Debug, Drop)]
+pub struct NarrowPhase {
+    /// The contact points of the tick's pairs.
+    pub manifolds: Manifolds,
+    /// How many pairs could not reuse kept points.
+    pub computed: usize,
+}
+
+impl Model for NarrowPhase {
+    ghost use Rattle.pf_cache.specs.Manifolds.{NarrowPhase};
+
+    ghost Value = { NarrowPhase };
+
+    ghost view = { λ n. record { manifolds = n.manifolds; computed = n.computed } };
+}
+
+impl Manifolds {
+    ghost use Rattle.std.specs.Prelude.{◌≡◌, [], All, length, IfOk, IsOk};
+    ghost use Rattle.pf_shapes.specs.Pair.{IsAscending, IsPairOf};
+    ghost use Rattle.pf_manifold.specs.Key.{AreTouches};
+    ghost use Rattle.pf_cache.specs.Manifolds.{computed_count, kept_touches, manifolds_of, no_manifolds, placed_shapes};
+
+    /// Nothing kept. Takes no memory.
+    pub fn new(alloc: Global) -> Manifolds
+        ensures { result ≡ no_manifolds }
+    {
+        Manifolds {
+            shapes: Vec::new(alloc),
+            spans: Vec::new(alloc),
+            touches: Vec::new(alloc),
+        }
+    }
+
+    /// The contact points, pair by pair, and those of one pair in ascending order of their features.
+    pub fn touches(&self) -> &[Touch]
+        ensures value { result.now ≡ kept_touches self.now }
+        ensures order { AreTouches result.now }
+    {
+        self.touches.as_slice()
+    }
+
+    /// The contact points of these pairs of bodies. Where a pair has kept points, and both bodies
+    /// have the same shape, position and rotation, these are reused; the points of the other pairs
+    /// are computed, and these pairs are counted. Takes no memory where there are no bodies.
+    pub fn update(
+        &self,
+        alloc: Global,
+        scene: &Scene,
+        bodies: &[BodyState],
+        pairs: &[Pair],
+    ) -> Result<NarrowPhase, AllocError>
+        requires bodies { length bodies.now ≡ length scene.now.fixtures }
+        requires pairs { All (IsPairOf (length bodies.now)) pairs.now }
+        requires ascending { IsAscending pairs.now }
+        ensures manifolds { IfOk result (λ found.
+            found.manifolds ≡ manifolds_of scene.now.fixtures bodies.now pairs.now) }
+        ensures computed { IfOk result (λ found. found.computed
+            ≡ computed_count self.now (placed_shapes scene.now.fixtures bodies.now) pairs.now) }
+        ensures no_memory { bodies.now ≡ [] → IsOk result }
+    {
+        if bodies.is_empty() {
+            return Ok(NarrowPhase {
+                manifolds: Manifolds::new(alloc),
+                computed: 0,
+            });
+        }
+        let shapes = placed_shapes(alloc, scene.fixtures(), bodies)?;
+        let unmoved = unmoved_bodies(alloc, &self.shapes, &shapes)?;
+        let mut spans = Vec::with_capacity(alloc, pairs.len())?;
+        let mut points = GatheredPoints::new(alloc, &self.touches)?;
+        let mut computed = 0;
+        let mut place = 0;
+        for pair in pairs {
+            let rank = rank_of(pair);
+            place = first_span_from(&self.spans, place, rank);
+            let span = kept_span(&self.spans, place, rank, pair, &unmoved);
+            let start = points.len()?;
+            if span.is_none() {
+                computed += 1;
+            }
+            points.add(span, pair, &shapes)?;
+            spans.push(Span {
+                pair: *pair,
+                start,
+                len: points.len()? - start,
+            })?;
+        }
+        let touches = points.into_touches()?;
+        let manifolds = Manifolds {
+            shapes,
+            spans,
+            touches,
+        };
+        Ok(NarrowPhase {
+            manifolds,
+            computed,
+        })
+    }
+}

@@ -1,0 +1,113 @@
+//! Where the contact points of kept pairs stand.
+
+ghost use Rattle.std.specs.Prelude.{◌≡◌, ◌≤◌, ◌&&◌, ℕ, All, drop, false, get_or, length, map};
+ghost use Rattle.pf_shapes.specs.Pair.{IsPairOf};
+ghost use Rattle.pf_shapes.specs.declared.scene.TheConstants.{MAX_BODIES};
+ghost use Rattle.pf_manifold.specs.Key.{IsRising};
+ghost use Rattle.pf_cache.specs.Spans.{pair_rank, span_at, span_if};
+
+use crate::kept_shape::is_unmoved;
+use pf_manifold::Key;
+use pf_shapes::Pair;
+use std::marker::Model;
+
+/// A pair of bodies, and where its contact points stand in a list of them.
+#[derive(Clone, Copy, Debug)]
+pub struct Span {
+    /// The pair.
+    pub pair: Pair,
+    /// The place of its first point.
+    pub start: usize,
+    /// The number of its points.
+    pub len: usize,
+}
+
+impl Model for Span {
+    ghost use Rattle.pf_cache.specs.Spans.{Span};
+
+    ghost Value = { Span };
+
+    ghost view = { λ s. record { pair = s.pair; start = s.start; len = s.len } };
+
+    ghost inverse = { λ s. record { pair = s.pair; start = s.start; len = s.len } };
+}
+
+/// Pairs are in the order of their ranks: by the first body, then the second.
+#[inline]
+pub fn rank_of(pair: &Pair) -> usize
+    requires { IsPairOf MAX_BODIES pair.now }
+    ensures { result ≡ pair_rank pair.now }
+{
+    let key = Key {
+        a: pair.a,
+        b: pair.b,
+        feature: 0,
+    };
+    key.rank()
+}
+
+/// The first place from `start` on whose pair has a rank of at least `least`, or the end. Look-ups
+/// of such ranks from there find what they find from `start`.
+#[tactic(auto, using(crate::proofs::SpanPlaces::passed, crate::proofs::SpanPlaces::all_reached, crate::proofs::SpanPlaces::none_left, crate::proofs::SpanPlaces::span_bodies))]
+pub fn first_span_from(spans: &[Span], start: usize, least: usize) -> usize
+    requires start { start ≤ length spans.now }
+    requires rising { IsRising 0 (map (λ s. pair_rank s.pair) spans.now) }
+    requires bodies { All (λ s. IsPairOf MAX_BODIES s.pair) spans.now }
+    ensures within { result ≤ length spans.now }
+    ensures same { (n : ℕ) → least ≤ n
+        → span_at n (drop result spans.now) ≡ span_at n (drop start spans.now) }
+    ensures reached { All (λ s. least ≤ pair_rank s.pair) (drop result spans.now) }
+{
+    let mut place = start;
+    while place < spans.len() {
+        let span = spans[place];
+        if rank_of(&span.pair) >= least {
+            return place;
+        }
+        place += 1;
+    }
+    place
+}
+
+/// The span of the pair of rank `wanted`, if there is one. From `place` on no rank is below it, so
+/// only the span at `place` can be the one.
+#[tactic(auto, using(crate::proofs::SpanPlaces::found_here, crate::proofs::SpanPlaces::found_other, crate::proofs::SpanPlaces::found_nowhere, crate::proofs::SpanPlaces::span_bodies))]
+fn span_from(spans: &[Span], place: usize, wanted: usize) -> Option<Span>
+    requires rising { IsRising 0 (map (λ s. pair_rank s.pair) spans.now) }
+    requires bodies { All (λ s. IsPairOf MAX_BODIES s.pair) spans.now }
+    requires reached { All (λ s. wanted ≤ pair_rank s.pair) (drop place spans.now) }
+    ensures { result ≡ span_at wanted (drop place spans.now) }
+{
+    if place >= spans.len() {
+        return None;
+    }
+    let span = spans[place];
+    if rank_of(&span.pair) == wanted {
+        Some(span)
+    } else {
+        None
+    }
+}
+
+/// The span of a pair, if it has one and both bodies are unmoved. From `place` on no rank is below
+/// the pair's.
+pub fn kept_span(
+    spans: &[Span],
+    place: usize,
+    wanted: usize,
+    pair: &Pair,
+    unmoved: &[bool],
+) -> Option<Span>
+    requires rising { IsRising 0 (map (λ s. pair_rank s.pair) spans.now) }
+    requires bodies { All (λ s. IsPairOf MAX_BODIES s.pair) spans.now }
+    requires reached { All (λ s. wanted ≤ pair_rank s.pair) (drop place spans.now) }
+    ensures { result ≡ span_if
+        (get_or unmoved.now pair.now.a false && get_or unmoved.now pair.now.b false)
+        (span_at wanted (drop place spans.now)) }
+{
+    if is_unmoved(unmoved, pair.a) && is_unmoved(unmoved, pair.b) {
+        span_from(spans, place, wanted)
+    } else {
+        None
+    }
+}

@@ -1,0 +1,21 @@
+use Rattle.std.proofs.Common.{rules, ◌≡◌, ◌∙◌, ◌++◌, ℕ, List, ap, ap₂, length, take}
+use Rattle.std.proofs.Math.Seq.{take-append_seam}
+use Rattle.pf_cache.specs.Meter.{counted}
+use Rattle.pf_step.specs.Commands.{after_commands}
+use Rattle.pf_step.specs.Step.{narrow_phase}
+use Rattle.pf_step.proofs.step.step_alone.Goals as goal
+
+taken : {X : Type 0} (n : ℕ) (xs ys : List X) → n ≡ length xs → take n (xs ++ ys) ≡ xs
+taken n xs ys e = ap (λ k. take k (xs ++ ys)) e ∙ take-append_seam xs ys
+
+pub returns-clause-counted : goal.returns-clause-counted
+returns-clause-counted c =
+    let fixtures = c.args.scene.now.fixtures in
+    let len_is : c.in_ok-bodies.bodies.len ≡ length c.apply_all.new.bodies = search rules in
+    let commanded : c.deref.result.now ≡ after_commands fixtures c.args.world.now.bodies c.args.payloads.now =
+    c.deref.ensures.value ∙ taken c.in_ok-bodies.bodies.len c.apply_all.new.bodies _ len_is ∙ c.apply_all.ensures
+    ∙ ap₂ (λ fs bs. after_commands fs bs c.args.payloads.now) c.fixtures.ensures.value
+    (c.deref_mut.ensures.value ∙ c.in_ok-bodies.ensures.items ∙ c.bodies.ensures) in
+    c.end_tick.ensures
+    ∙ ap (λ found. counted found c.args.work.now)
+    (c.in_ok-found.ensures.value ∙ ap₂ (λ bodies kept. narrow_phase fixtures bodies kept) commanded c.manifolds.ensures)
