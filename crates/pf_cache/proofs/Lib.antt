@@ -9,5 +9,6 @@ pub mod Found
 pub mod SpanPlaces
 pub mod Spanned
 pub mod Unmoved
+pub mod Reusable
 pub mod Updating
 pub mod Gathering

@@ -18,8 +18,8 @@ use Rattle.pf_manifold.specs.Collide.{collide}
 use Rattle.pf_manifold.specs.ContactPoint.{ContactPoint}
 use Rattle.pf_manifold.specs.PlacedShape.{PlacedShape}
 use Rattle.pf_manifold.specs.Touches.{Touch, placed_shape, placed_shape_at, touch_of, touches, touches_between, touches_of}
-use Rattle.pf_cache.specs.Manifolds.{is_unmoved, kept_touches, manifolds_of, placed, placed_shapes, points_of_pair, same_if_any, same_placed_shape}
-use Rattle.pf_cache.specs.Spans.{IsSpan, Span, unmoved_bodies}
+use Rattle.pf_cache.specs.Manifolds.{is_unmoved, kept_touches, manifolds_of, placed_shapes, points_of_pair, are_same_shapes, same_placed_shape}
+use Rattle.pf_cache.specs.Spans.{IsSpan, Span, unmoved_flags}
 
 Decides-vector : (u v : V2) → Decides (same_vector u v) (u ≡ v)
 Decides-vector u v =
@@ -39,7 +39,7 @@ Decides-rotation p q =
     (λ e. (ap (λ (w : Rot). w.c) e, ap (λ (w : Rot). w.s) e))
     (Decides-and _ _ (Decides-int_eq p.c q.c) (Decides-int_eq p.s q.s))
 
-Decides-placed : (a b : PlacedShape) → Decides (same_placed_shape a b) (a ≡ b)
+pub Decides-placed : (a b : PlacedShape) → Decides (same_placed_shape a b) (a ≡ b)
 unfolding same_placed_shape
 Decides-placed a b =
     Decides-like (same_placed_shape a b) (λ e i. record {
@@ -54,7 +54,7 @@ Decides-placed a b =
     (Decides-and _ _ (Decides-shape a.shape b.shape)
     (Decides-and _ _ (Decides-vector a.position b.position) (Decides-rotation a.rotation b.rotation)))
 
-same_here : (o m : Option PlacedShape) → same_if_any o m ≡ true → o ≡ m
+same_here : (o m : Option PlacedShape) → are_same_shapes o m ≡ true → o ≡ m
 same_here (Some a) (Some b) e = ap Some ((Decides-placed a b).0 e)
 same_here (Some a) None e = absurd (true≢false (sym e))
 same_here None m e = absurd (true≢false (sym e))
@@ -77,11 +77,11 @@ points_here shapes p a b points first second a_is b_is are =
     ap (map (touch_of p)) are ∙ sym (ap₂ (touches_between p) one two)
 
 -- whether a body stands as it stood, read from the list of all bodies
-no_shape : (o : Option PlacedShape) → false ≡ same_if_any o None
+no_shape : (o : Option PlacedShape) → false ≡ are_same_shapes o None
 no_shape None = refl
 no_shape (Some a) = refl
 
-pub flag_at : (old shapes : List PlacedShape) (i : ℕ) → get_or (unmoved_bodies old shapes) i false ≡ is_unmoved old shapes i
+pub flag_at : (old shapes : List PlacedShape) (i : ℕ) → get_or (unmoved_flags old shapes) i false ≡ is_unmoved old shapes i
 flag_at [] shapes i = refl
 flag_at (a ∷ old) [] i = no_shape (slice_get (a ∷ old) i)
 flag_at (a ∷ old) (b ∷ shapes) zero = refl

@@ -18,7 +18,7 @@ use Rattle.pf_manifold.specs.PlacedShape.{PlacedShape}
 use Rattle.pf_manifold.specs.Touches.{Touch}
 use Rattle.pf_manifold.specs.Touches as found
 use Rattle.pf_manifold.proofs.KeyOrder.{touches_in_order}
-use Rattle.pf_cache.specs.Manifolds.{Manifolds, computed_count, has_pair, is_kept, is_unmoved, manifolds_of, no_manifolds, placed_shapes, points_of_pair}
+use Rattle.pf_cache.specs.Manifolds.{Manifolds, computed_count, has_pair, is_reusable, is_unmoved, manifolds_of, no_manifolds, placed_shapes, points_of_pair}
 use Rattle.pf_cache.specs.Spans.{AreSpans, IsSpan, Span, pair_rank, span_at, span_if}
 use Rattle.pf_cache.proofs.Spanned.{found_span, has_span, pairs_rise, same_rank, span_of_last, span_stays}
 use Rattle.pf_cache.proofs.Unmoved.{kept_points, span_of_unmoved}
@@ -94,7 +94,7 @@ module _ (old shapes : List PlacedShape) (kept : List Touch) (spans : List Span)
           (span_of_unmoved old shapes kept s p found.0 same unmoved, same)
 
   -- so its points are kept
-  pub kept_test : is_some (span_if both looked) ≡ is_kept (kept_of old spans) shapes p
+  pub kept_test : is_some (span_if both looked) ≡ is_reusable (kept_of old spans) shapes p
   kept_test =
       by both looked ∙ ap (λ t. t && both) (ap is_some e ∙ has_span p spans hp (bodies_of old kept spans all))
     where
@@ -142,18 +142,18 @@ module _ (shapes : List PlacedShape) (pairs : List Pair) (i : ℕ) (d p : Pair) 
       (All-cons (IsSpan shapes (touches ++ more)) _ [] last (All-nil (IsSpan shapes (touches ++ more)))))
 
   pub computed_more : (m : Manifolds) (count : ℕ) → count ≡ computed_count m shapes (take i pairs)
-      → not (is_kept m shapes p) ≡ true → count + 1 ≡ computed_count m shapes (take (i + 1) pairs)
+      → not (is_reusable m shapes p) ≡ true → count + 1 ≡ computed_count m shapes (take (i + 1) pairs)
   computed_more m count done missing =
       ap (λ n. n + 1) done
-      ∙ sym (count_by_more_yes (λ q. not (is_kept m shapes q)) pairs i d within
-      (ap (λ q. not (is_kept m shapes q)) (sym p_is) ∙ missing))
+      ∙ sym (count_by_more_yes (λ q. not (is_reusable m shapes q)) pairs i d within
+      (ap (λ q. not (is_reusable m shapes q)) (sym p_is) ∙ missing))
 
   pub computed_same : (m : Manifolds) (count : ℕ) → count ≡ computed_count m shapes (take i pairs)
-      → not (is_kept m shapes p) ≡ false → count ≡ computed_count m shapes (take (i + 1) pairs)
+      → not (is_reusable m shapes p) ≡ false → count ≡ computed_count m shapes (take (i + 1) pairs)
   computed_same m count done there =
       done
-      ∙ sym (count_by_more_no (λ q. not (is_kept m shapes q)) pairs i d within
-      (ap (λ q. not (is_kept m shapes q)) (sym p_is) ∙ there))
+      ∙ sym (count_by_more_no (λ q. not (is_reusable m shapes q)) pairs i d within
+      (ap (λ q. not (is_reusable m shapes q)) (sym p_is) ∙ there))
 
 -- where there are no bodies, there are no pairs
 pub no_pairs : {X : Type 0} (bodies : List X) (pairs : List Pair) → bodies ≡ [] → All (IsPairOf (length bodies)) pairs

@@ -26,12 +26,12 @@ abbrev pub no_manifolds : Manifolds
 no_manifolds = record { shapes = []; pairs = [] }
 
 -- the shape of a body at its position and rotation
-abbrev pub placed : Fixture → BodyState → PlacedShape
-placed f b = record { shape = f.shape; position = b.position; rotation = b.rotation }
+abbrev pub shape_of_body : Fixture → BodyState → PlacedShape
+shape_of_body f b = record { shape = f.shape; position = b.position; rotation = b.rotation }
 
 -- the shapes of all bodies
 abbrev pub placed_shapes : List Fixture → List BodyState → List PlacedShape
-placed_shapes fixtures bodies = map (λ body. placed body.0 body.1) (zip fixtures bodies)
+placed_shapes fixtures bodies = map (λ body. shape_of_body body.0 body.1) (zip fixtures bodies)
 
 -- what is kept of these pairs: their points, as the bodies stand
 abbrev pub manifolds_of : List Fixture → List BodyState → List Pair → Manifolds
@@ -52,23 +52,23 @@ same_placed_shape a b =
     same_shape a.shape b.shape
     && (same_vector a.position b.position && same_rotation a.rotation b.rotation)
 
-abbrev pub same_if_any : Option PlacedShape → Option PlacedShape → Bool
-same_if_any (Some a) (Some b) = same_placed_shape a b
-same_if_any a b = false
+abbrev pub are_same_shapes : Option PlacedShape → Option PlacedShape → Bool
+are_same_shapes (Some a) (Some b) = same_placed_shape a b
+are_same_shapes a b = false
 
 -- the body with this number has the same shape, position and rotation in both lists
 abbrev pub is_unmoved : List PlacedShape → List PlacedShape → ℕ → Bool
-is_unmoved old shapes i = same_if_any (slice_get old i) (slice_get shapes i)
+is_unmoved old shapes i = are_same_shapes (slice_get old i) (slice_get shapes i)
 
 -- a list of pairs has this one
 abbrev pub has_pair : List Pair → Pair → Bool
 has_pair pairs p = list_any (λ q. (q.a == p.a) && (q.b == p.b)) pairs
 
 -- the points of a pair are kept, and can be reused: both bodies are unmoved
-abbrev pub is_kept : Manifolds → List PlacedShape → Pair → Bool
-is_kept m shapes p =
+abbrev pub is_reusable : Manifolds → List PlacedShape → Pair → Bool
+is_reusable m shapes p =
     has_pair m.pairs p && (is_unmoved m.shapes shapes p.a && is_unmoved m.shapes shapes p.b)
 
 -- how many of these pairs cannot reuse kept points
 abbrev pub computed_count : Manifolds → List PlacedShape → List Pair → ℕ
-computed_count m shapes pairs = count_by (λ p. not (is_kept m shapes p)) pairs
+computed_count m shapes pairs = count_by (λ p. not (is_reusable m shapes p)) pairs

@@ -21,8 +21,8 @@ no_work =
     record { meter = record { ticks = 0; collides = 0 }; manifolds = no_manifolds }
 
 -- the work after a tick with this narrow phase
-abbrev pub counted : NarrowPhase → Work → Work
-counted found w = record {
+abbrev pub work_after_tick : NarrowPhase → Work → Work
+work_after_tick found w = record {
   meter = record {
     ticks = saturating_sum w.meter.ticks 1;
     collides = saturating_sum w.meter.collides found.computed;

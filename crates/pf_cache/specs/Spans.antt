@@ -33,8 +33,8 @@ abbrev pub span_if : Bool → Option Span → Option Span
 span_if b o = if b then o else None
 
 -- for each number in both lists, whether the body is unmoved
-abbrev pub unmoved_bodies : List PlacedShape → List PlacedShape → List Bool
-unmoved_bodies old shapes = map (λ both. same_placed_shape both.0 both.1) (zip old shapes)
+abbrev pub unmoved_flags : List PlacedShape → List PlacedShape → List Bool
+unmoved_flags old shapes = map (λ both. same_placed_shape both.0 both.1) (zip old shapes)
 
 -- a span of a pair of bodies, which holds the points of these shapes
 pub record IsSpan (shapes : List PlacedShape) (touches : List Touch) (s : Span) : Type 0 where

@@ -2,7 +2,7 @@
 
 ghost use Rattle.std.specs.Prelude.{◌≡◌, IfOk, false, get_or};
 ghost use Rattle.pf_cache.specs.Manifolds.{placed_shapes};
-ghost use Rattle.pf_cache.specs.Spans.{unmoved_bodies};
+ghost use Rattle.pf_cache.specs.Spans.{unmoved_flags};
 
 use pf_manifold::PlacedShape;
 use pf_rot::{Rot, V2};
@@ -39,12 +39,12 @@ fn copy_of(shape: &Shape) -> Shape
 
 impl KeptShape {
     ghost use Rattle.std.specs.Prelude.{◌≡◌};
-    ghost use Rattle.pf_cache.specs.Manifolds.{placed, same_placed_shape};
+    ghost use Rattle.pf_cache.specs.Manifolds.{shape_of_body, same_placed_shape};
 
     /// The shape of a body as it stands.
     #[inline]
     fn of(fixture: &Fixture, body: &BodyState) -> KeptShape
-        ensures { result ≡ placed fixture.now body.now }
+        ensures { result ≡ shape_of_body fixture.now body.now }
     {
         KeptShape {
             shape: copy_of(fixture.shape()),
@@ -93,12 +93,12 @@ pub fn placed_shapes(
 }
 
 /// For each number in both lists, whether the body is unmoved.
-pub fn unmoved_bodies(
+pub fn unmoved_flags(
     alloc: Global,
     old: &[KeptShape],
     shapes: &[KeptShape],
 ) -> Result<Vec<bool>, AllocError>
-    ensures { IfOk result (λ flags. flags.items ≡ unmoved_bodies old.now shapes.now) }
+    ensures { IfOk result (λ flags. flags.items ≡ unmoved_flags old.now shapes.now) }
 {
     old.iter()
         .zip(shapes)

@@ -1,10 +1,14 @@
 //! Laws of contacts. These functions compute nothing: their clauses are the statements.
 
-ghost use Rattle.std.specs.Prelude.{◌≡◌, ◌≢◌, All, List, map};
+ghost use Rattle.std.specs.Prelude.{◌≡◌, ◌≢◌, ◌↔◌, All, IsTrue, List, map};
+ghost use Rattle.std.specs.List.{Contains};
+ghost use Rattle.pf_shapes.specs.Pair.{Pair};
+ghost use Rattle.pf_manifold.specs.PlacedShape.{PlacedShape};
 ghost use Rattle.pf_manifold.specs.Touches.{Touch};
 ghost use Rattle.pf_manifold.specs.Key.{Key, key_of, rank};
 ghost use Rattle.pf_cache.specs.Contact.{AreContacts, Contact, Impulses, impulses_at, no_impulses, updated};
-ghost use Rattle.pf_cache.specs.Laws.{AreFound, IsNew};
+ghost use Rattle.pf_cache.specs.Laws.{AreFound, IsNew, IsUnmoved};
+ghost use Rattle.pf_cache.specs.Manifolds.{Manifolds, is_reusable, points_of_pair};
 ghost use Rattle.pf_cache.specs.Row.{AreRows, Row, impulses_or, no_mass};
 
 use crate::constraint::InverseMass;
@@ -33,6 +37,16 @@ pub fn rows_are_found()
 pub fn updates_have_the_keys_of_points()
     ensures { (old : List Contact) (touches : List Touch)
         → map (λ c. c.key) (updated old touches) ≡ map key_of touches }
+{}
+
+/// The contact points of a pair are reused exactly where the pair is one of those that are kept, and
+/// each of its bodies has the same shape, position and rotation as then. They are its points now.
+pub fn points_of_unmoved_bodies_are_reused()
+    ensures reused { (m : Manifolds) (shapes : List PlacedShape) (p : Pair)
+        → IsTrue (is_reusable m shapes p) ↔ (Contains m.pairs p
+        × IsUnmoved m.shapes shapes p.a × IsUnmoved m.shapes shapes p.b) }
+    ensures points { (m : Manifolds) (shapes : List PlacedShape) (p : Pair)
+        → IsTrue (is_reusable m shapes p) → points_of_pair m.shapes p ≡ points_of_pair shapes p }
 {}
 
 /// The impulses of a new contact, the mass of a static body and the meter of no work are zeros.

@@ -3,7 +3,7 @@
 ghost use Rattle.std.specs.Prelude.{◌≡◌};
 
 use crate::gathered::GatheredPoints;
-use crate::kept_shape::{KeptShape, placed_shapes, unmoved_bodies};
+use crate::kept_shape::{KeptShape, placed_shapes, unmoved_flags};
 use crate::spans::{Span, first_span_from, kept_span, rank_of};
 use pf_manifold::Touch;
 use pf_shapes::{BodyState, Pair, Scene};
@@ -103,7 +103,7 @@ impl Manifolds {
             });
         }
         let shapes = placed_shapes(alloc, scene.fixtures(), bodies)?;
-        let unmoved = unmoved_bodies(alloc, &self.shapes, &shapes)?;
+        let unmoved = unmoved_flags(alloc, &self.shapes, &shapes)?;
         let mut spans = Vec::with_capacity(alloc, pairs.len())?;
         let mut points = GatheredPoints::new(alloc, &self.touches)?;
         let mut computed = 0;

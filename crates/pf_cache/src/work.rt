@@ -1,7 +1,7 @@
 //! What steps of one simulation share.
 
 ghost use Rattle.std.specs.Prelude.{◌≡◌};
-ghost use Rattle.pf_cache.specs.Meter.{counted, no_work};
+ghost use Rattle.pf_cache.specs.Meter.{work_after_tick, no_work};
 
 use crate::manifolds::{Manifolds, NarrowPhase};
 use crate::meter::Meter;
@@ -52,7 +52,7 @@ impl Work {
     /// Counts a tick and its pairs that could not reuse kept points, and keeps the contact points of
     /// its pairs.
     pub fn end_tick(&mut self, found: NarrowPhase)
-        ensures { self.new ≡ counted found self.old }
+        ensures { self.new ≡ work_after_tick found self.old }
     {
         self.meter.count_tick();
         self.meter.count_collides(found.computed as u64);

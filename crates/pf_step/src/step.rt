@@ -3,7 +3,7 @@
 ghost use Rattle.std.specs.Prelude.{◌≡◌, [], All, length, IfOk, IsOk, OnOk, OnErr};
 ghost use Rattle.pf_manifold.specs.Touches.{IsTouchOf};
 ghost use Rattle.pf_cache.specs.Manifolds.{kept_touches};
-ghost use Rattle.pf_cache.specs.Meter.{counted};
+ghost use Rattle.pf_cache.specs.Meter.{work_after_tick};
 ghost use Rattle.pf_cache.specs.Row.{AreRows, with_rows};
 ghost use Rattle.pf_islands.specs.Sleep.{rested};
 ghost use Rattle.pf_solver.specs.Solve.{IsRowOf, solved};
@@ -80,7 +80,7 @@ pub fn step_alone(
     ensures value { IfOk result (λ next. next ≡ step scene.now world.now payloads.now) }
     ensures bodies { IfOk result (λ next. length next.bodies ≡ length scene.now.fixtures) }
     ensures counted { OnOk result (work.new
-        ≡ counted (narrow_phase_of_tick scene.now world.now payloads.now work.old.manifolds) work.old) }
+        ≡ work_after_tick (narrow_phase_of_tick scene.now world.now payloads.now work.old.manifolds) work.old) }
     ensures not_counted { OnErr result (work.new ≡ work.old) }
     ensures no_memory { world.now.bodies ≡ [] → IsOk result }
 {

@@ -1,6 +1,6 @@
 use Rattle.std.proofs.Common.{rules, ◌≡◌, ◌∙◌, ◌++◌, ℕ, List, ap, ap₂, length, take}
 use Rattle.std.proofs.Math.Seq.{take-append_seam}
-use Rattle.pf_cache.specs.Meter.{counted}
+use Rattle.pf_cache.specs.Meter.{work_after_tick}
 use Rattle.pf_step.specs.Commands.{after_commands}
 use Rattle.pf_step.specs.Step.{narrow_phase}
 use Rattle.pf_step.proofs.step.step_alone.Goals as goal
@@ -17,5 +17,5 @@ returns-clause-counted c =
     ∙ ap₂ (λ fs bs. after_commands fs bs c.args.payloads.now) c.fixtures.ensures.value
     (c.deref_mut.ensures.value ∙ c.in_ok-bodies.ensures.items ∙ c.bodies.ensures) in
     c.end_tick.ensures
-    ∙ ap (λ found. counted found c.args.work.now)
+    ∙ ap (λ found. work_after_tick found c.args.work.now)
     (c.in_ok-found.ensures.value ∙ ap₂ (λ bodies kept. narrow_phase fixtures bodies kept) commanded c.manifolds.ensures)

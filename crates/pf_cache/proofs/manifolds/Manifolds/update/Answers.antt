@@ -4,8 +4,8 @@ use Rattle.pf_cache.specs.Gathered.{GatheredPoints}
 use Rattle.pf_cache.proofs.Unmoved.{flag_at}
 use Rattle.pf_shapes.specs.Pair.{IsPairOf, Pair}
 use Rattle.pf_shapes.specs.declared.scene.TheConstants.{MAX_BODIES}
-use Rattle.pf_cache.specs.Manifolds.{Manifolds, computed_count, is_kept, is_unmoved, manifolds_of, placed_shapes, points_of_pair}
-use Rattle.pf_cache.specs.Spans.{Span, span_at, span_if, unmoved_bodies}
+use Rattle.pf_cache.specs.Manifolds.{Manifolds, computed_count, is_reusable, is_unmoved, manifolds_of, placed_shapes, points_of_pair}
+use Rattle.pf_cache.specs.Spans.{Span, span_at, span_if, unmoved_flags}
 use Rattle.pf_cache.proofs.Updating.{computed_more, computed_same, is_span, kept_test, listed_more, looked_up, no_bodies, no_pairs, nothing_of, opposite, pair_of_bodies, pair_of_shapes, pairs_of_scene, same_after, spans_done, spans_more, whole_more}
 use Rattle.pf_cache.proofs.Spanned.{pairs_rise}
 use Rattle.pf_cache.proofs.manifolds.Manifolds.update.Goals.{then-is_none, else-is_none}
@@ -46,8 +46,8 @@ add-requires-clause-span c =
     c.rank_of-rank.result p p within c.pair-item.is c.rank_of-rank.ensures c.deref-in-loop-pair.ensures.value
     c.first_span_from-place.ensures.same c.loop-pair.invariant.same c.deref-in-loop-pair-2.result.now looked
     c.deref-in-loop-pair-2.ensures.value refl in
-    let flags : c.deref-in-loop-pair-3.result.now ≡ unmoved_bodies old shapes =
-    c.deref-in-loop-pair-3.ensures.value ∙ c.in_ok-unmoved.ensures ∙ ap₂ unmoved_bodies c.deref.ensures.value c.deref-2.ensures.value in
+    let flags : c.deref-in-loop-pair-3.result.now ≡ unmoved_flags old shapes =
+    c.deref-in-loop-pair-3.ensures.value ∙ c.in_ok-unmoved.ensures ∙ ap₂ unmoved_flags c.deref.ensures.value c.deref-2.ensures.value in
     let first = ap (λ fs. get_or fs p.a false) flags ∙ flag_at old shapes p.a in
     let second = ap (λ fs. get_or fs p.b false) flags ∙ flag_at old shapes p.b in
     let span_is : c.kept_span-span.result ≡ span_if (is_unmoved old shapes p.a && is_unmoved old shapes p.b) looked =
@@ -72,8 +72,8 @@ loop-pair-preserved c =
     c.rank_of-rank.result p p within c.pair-item.is c.rank_of-rank.ensures c.deref-in-loop-pair.ensures.value
     c.first_span_from-place.ensures.same c.loop-pair.invariant.same c.deref-in-loop-pair-2.result.now looked
     c.deref-in-loop-pair-2.ensures.value refl in
-    let flags : c.deref-in-loop-pair-3.result.now ≡ unmoved_bodies old shapes =
-    c.deref-in-loop-pair-3.ensures.value ∙ c.in_ok-unmoved.ensures ∙ ap₂ unmoved_bodies c.deref.ensures.value c.deref-2.ensures.value in
+    let flags : c.deref-in-loop-pair-3.result.now ≡ unmoved_flags old shapes =
+    c.deref-in-loop-pair-3.ensures.value ∙ c.in_ok-unmoved.ensures ∙ ap₂ unmoved_flags c.deref.ensures.value c.deref-2.ensures.value in
     let first = ap (λ fs. get_or fs p.a false) flags ∙ flag_at old shapes p.a in
     let second = ap (λ fs. get_or fs p.b false) flags ∙ flag_at old shapes p.b in
     let span_is : c.kept_span-span.result ≡ span_if (is_unmoved old shapes p.a && is_unmoved old shapes p.b) looked =
@@ -82,7 +82,7 @@ loop-pair-preserved c =
     let added : c.add.new.self.added ≡ c.loop-pair.points.added ++ points_of_pair shapes p =
     ap (λ (g : GatheredPoints). g.added) c.in_ok-add.ensures
     ∙ ap (λ ss. c.loop-pair.points.added ++ points_of_pair ss p) c.deref-in-loop-pair-4.ensures.value in
-    let test : c.is_none.result ≡ not (is_kept own_manifolds shapes p) =
+    let test : c.is_none.result ≡ not (is_reusable own_manifolds shapes p) =
     opposite _ _ c.is_none.ensures ∙ ap (λ o. not (is_some o)) span_is
     ∙ ap not (kept_test old shapes kept own p looked c.self.invariant.spans bodies found) in
     let start_is = c.in_ok-start.ensures in
