@@ -26,6 +26,7 @@ pub fn pairs(alloc: Global, scene: &Scene, bodies: &[BodyState]) -> Result<Vec<P
 }
 
 /// The bounds of each body.
+#[inline(never)]
 fn all_bounds(alloc: Global, scene: &Scene, bodies: &[BodyState]) -> Result<Vec<Bounds>, AllocError>
     ensures { IfOk result (λ all. all.items ≡ all_bounds scene.now.fixtures bodies.now) }
 {
@@ -50,6 +51,7 @@ fn all_pairs(alloc: Global, bounds: &[Bounds]) -> Result<Vec<Pair>, AllocError>
 }
 
 /// Adds the pairs of one body with later ones. Where there is none it takes no memory.
+#[inline(never)]
 fn add_pairs_of(found: &mut Vec<Pair>, bounds: &[Bounds], i: usize) -> Result<(), AllocError>
     requires { i < length bounds.now }
     ensures value { OnOk result (found.new.items ≡ found.old.items ++ pairs_of bounds.now i) }

@@ -23,16 +23,17 @@ Decides-pair q p =
 -- a pair is listed exactly where the test finds it
 found : (pairs : List Pair) (p : Pair) → has_pair pairs p ≡ true → Contains pairs p
 found [] p e = absurd (true≢false (sym e))
-found (q ∷ pairs) p e = by _ refl e
+found (q ∷ pairs) p e = by _ refl e (found pairs p)
   where
-    by : (t : Bool) → ((q.a == p.a) && (q.b == p.b)) ≡ t → (t || has_pair pairs p) ≡ true → Contains (q ∷ pairs) p
-    by true same here = (0, omega arith, (Decides-pair q p).0 same)
-    by false other behind =
-        let at = found pairs p behind in
-        (suc at.0, omega (arith, at.1.0), at.1.1)
+    by : (t : Bool) → ((q.a == p.a) && (q.b == p.b)) ≡ t → (t || has_pair pairs p) ≡ true
+        → (has_pair pairs p ≡ true → Contains pairs p) → Contains (q ∷ pairs) p
+    by true same here behind = (0, omega arith, (Decides-pair q p).0 same)
+    by false other there behind =
+        let at = behind there in
+        (suc at.0, omega (arith, at.1), at.2)
 
 listed : (pairs : List Pair) (p : Pair) → Contains pairs p → has_pair pairs p ≡ true
-listed pairs p at = by pairs at.0 at.1.0 at.1.1
+listed pairs p at = by pairs at.0 at.1 at.2
   where
     any : (t : Bool) → (t || true) ≡ true
     any true = refl
@@ -57,7 +58,7 @@ pub unmoved_is : (old shapes : List PlacedShape) (i : ℕ) → is_unmoved old sh
 unmoved_is old shapes i e = same_shapes _ _ e
 
 pub is_unmoved_where : (old shapes : List PlacedShape) (i : ℕ) → IsUnmoved old shapes i → is_unmoved old shapes i ≡ true
-is_unmoved_where old shapes i h = shapes_same _ _ h.0 h.1.0 h.1.1
+is_unmoved_where old shapes i h = shapes_same _ _ h.0 h.1 h.2
 
 pub reused : (m : Manifolds) (shapes : List PlacedShape) (p : Pair) → is_reusable m shapes p ≡ true
     → Contains m.pairs p × IsUnmoved m.shapes shapes p.a × IsUnmoved m.shapes shapes p.b
@@ -71,4 +72,4 @@ pub reusable : (m : Manifolds) (shapes : List PlacedShape) (p : Pair)
     → is_reusable m shapes p ≡ true
 reusable m shapes p h =
     ap₂ (λ s t. s && t) (listed m.pairs p h.0)
-    (ap₂ (λ s t. s && t) (is_unmoved_where m.shapes shapes p.a h.1.0) (is_unmoved_where m.shapes shapes p.b h.1.1))
+    (ap₂ (λ s t. s && t) (is_unmoved_where m.shapes shapes p.a h.1) (is_unmoved_where m.shapes shapes p.b h.2))

@@ -115,6 +115,7 @@ fn impulses_or_own(rows: &[Row], place: usize, wanted: usize, own: Impulses) -> 
 
 /// Gives each contact that has a row the accumulated impulses of its row. One walk along both
 /// lists, which are in the order of the keys.
+#[inline(never)]
 fn store_all(contacts: &mut [Contact], rows: &[Row])
     requires contacts { AreContacts contacts.old }
     requires rows { AreRows rows.now }
@@ -156,6 +157,7 @@ impl Contacts {
     /// The contacts of these points, as Box2D-Lite's `Arbiter::Update`: a key of the old contacts
     /// keeps its impulses, a new key has none, and a contact without a point is gone. The
     /// points are in the order of their keys. Takes no memory where there are none.
+    #[inline(never)]
     pub fn update(&self, touches: &[Touch]) -> Result<Contacts, AllocError>
         requires { AreTouches touches.now }
         ensures value { IfOk result (λ contacts. contacts ≡ updated self.now touches.now) }
@@ -168,7 +170,7 @@ impl Contacts {
             let rank = key.rank();
             place = first_from(&self.list, place, rank);
             let impulses = impulses_from(&self.list, place, rank);
-            list.push(Contact { key, impulses })?;
+            list.push_reserved(Contact { key, impulses });
         }
         Ok(Contacts { list })
     }

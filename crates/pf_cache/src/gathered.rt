@@ -16,8 +16,8 @@ use std::marker::Model;
 pub struct GatheredPoints<'a> {
     touches: Vec<Touch>,
     /// The points of the last tick.
-    kept: &'a [Touch],
-    /// The run that is to be copied behind `touches`: its start and its end in `kept`.
+    source: &'a [Touch],
+    /// The run that is to be copied behind `touches`: its start and its end in `source`.
     start: usize,
     end: usize,
 }
@@ -29,26 +29,26 @@ impl<'a> Model for GatheredPoints<'a> {
     ghost Value = { GatheredPoints };
 
     ghost view = { λ g. record {
-      kept = g.kept.now;
-      added = g.touches.items ++ take (g.end - g.start) (drop g.start g.kept.now);
+      source = g.source.now;
+      points = g.touches.items ++ take (g.end - g.start) (drop g.start g.source.now);
     } };
 
-    ghost invariant = { λ g. (g.start ≤ g.end) × (g.end ≤ length g.kept.now) };
+    ghost invariant = { λ g. (g.start ≤ g.end) × (g.end ≤ length g.source.now) };
 }
 
-/// Appends the points of `kept` from `start` up to `end`.
+/// Appends the points of `source` from `start` up to `end`.
 fn copy_run(
     touches: &mut Vec<Touch>,
-    kept: &[Touch],
+    source: &[Touch],
     start: usize,
     end: usize,
 ) -> Result<(), AllocError>
     requires order { start ≤ end }
-    requires within { end ≤ length kept.now }
+    requires within { end ≤ length source.now }
     ensures { OnOk result
-        (touches.new.items ≡ touches.old.items ++ take (end - start) (drop start kept.now)) }
+        (touches.new.items ≡ touches.old.items ++ take (end - start) (drop start source.now)) }
 {
-    touches.extend_from_slice(&kept[start..end])
+    touches.extend_from_slice(&source[start..end])
 }
 
 impl<'a> GatheredPoints<'a> {
@@ -59,13 +59,13 @@ impl<'a> GatheredPoints<'a> {
     ghost use Rattle.pf_cache.specs.Spans.{IsSpan};
 
     /// No points, with capacity for as many as are kept.
-    pub fn new(alloc: Global, kept: &'a [Touch]) -> Result<GatheredPoints<'a>, AllocError>
-        ensures { IfOk result (λ g. g ≡ record { kept = kept.now; added = [] }) }
+    pub fn new(alloc: Global, source: &'a [Touch]) -> Result<GatheredPoints<'a>, AllocError>
+        ensures { IfOk result (λ g. g ≡ record { source = source.now; points = [] }) }
     {
-        let touches = Vec::with_capacity(alloc, kept.len())?;
+        let touches = Vec::with_capacity(alloc, source.len())?;
         Ok(GatheredPoints {
             touches,
-            kept,
+            source,
             start: 0,
             end: 0,
         })
@@ -74,7 +74,7 @@ impl<'a> GatheredPoints<'a> {
     /// How many points there are. Out of memory if the number exceeds a `usize`.
     #[inline]
     pub fn len(&self) -> Result<usize, AllocError>
-        ensures { IfOk result (λ len. len ≡ length self.now.added) }
+        ensures { IfOk result (λ len. len ≡ length self.now.points) }
     {
         let run = self.end - self.start;
         self.touches.len().checked_add(run).ok_or(AllocError)
@@ -83,13 +83,13 @@ impl<'a> GatheredPoints<'a> {
     /// Adds kept points.
     #[inline]
     fn add_kept(&mut self, start: usize, len: usize) -> Result<(), AllocError>
-        requires { start + len ≤ length self.old.kept }
+        requires { start + len ≤ length self.old.source }
         ensures { OnOk result (self.new ≡ record self.old {
-          added = self.old.added ++ take len (drop start self.old.kept);
+          points = self.old.points ++ take len (drop start self.old.source);
         }) }
     {
         if start != self.end {
-            copy_run(&mut self.touches, self.kept, self.start, self.end)?;
+            copy_run(&mut self.touches, self.source, self.start, self.end)?;
             self.start = start;
         }
         self.end = start + len;
@@ -100,10 +100,10 @@ impl<'a> GatheredPoints<'a> {
     fn add_computed(&mut self, pair: &Pair, shapes: &[KeptShape]) -> Result<(), AllocError>
         requires { IsPairOf (length shapes.now) pair.now }
         ensures { OnOk result (self.new ≡ record self.old {
-          added = self.old.added ++ points_of_pair shapes.now pair.now;
+          points = self.old.points ++ points_of_pair shapes.now pair.now;
         }) }
     {
-        copy_run(&mut self.touches, self.kept, self.start, self.end)?;
+        copy_run(&mut self.touches, self.source, self.start, self.end)?;
         self.start = self.end;
         let a = &shapes[pair.a];
         let b = &shapes[pair.b];
@@ -119,9 +119,9 @@ impl<'a> GatheredPoints<'a> {
     ) -> Result<(), AllocError>
         requires pair { IsPairOf (length shapes.now) pair.now }
         requires span { IfSome span
-            (λ s. IsSpan shapes.now self.old.kept s × (s.pair ≡ pair.now)) }
+            (λ s. IsSpan shapes.now self.old.source s × (s.pair ≡ pair.now)) }
         ensures { OnOk result (self.new ≡ record self.old {
-          added = self.old.added ++ points_of_pair shapes.now pair.now;
+          points = self.old.points ++ points_of_pair shapes.now pair.now;
         }) }
     {
         match span {
@@ -132,10 +132,10 @@ impl<'a> GatheredPoints<'a> {
 
     /// All points in one list.
     pub fn into_touches(self) -> Result<Vec<Touch>, AllocError>
-        ensures { IfOk result (λ touches. touches.items ≡ self.entry.added) }
+        ensures { IfOk result (λ touches. touches.items ≡ self.entry.points) }
     {
         let mut touches = self.touches;
-        copy_run(&mut touches, self.kept, self.start, self.end)?;
+        copy_run(&mut touches, self.source, self.start, self.end)?;
         Ok(touches)
     }
 }

@@ -78,6 +78,7 @@ impl KeptShape {
 }
 
 /// The shapes of all bodies as they stand.
+#[inline(never)]
 pub fn placed_shapes(
     alloc: Global,
     fixtures: &[Fixture],
@@ -93,6 +94,7 @@ pub fn placed_shapes(
 }
 
 /// For each number in both lists, whether the body is unmoved.
+#[inline(never)]
 pub fn unmoved_flags(
     alloc: Global,
     old: &[KeptShape],

@@ -80,6 +80,7 @@ impl Manifolds {
     /// The contact points of these pairs of bodies. Where a pair has kept points, and both bodies
     /// have the same shape, position and rotation, these are reused; the points of the other pairs
     /// are computed, and these pairs are counted. Takes no memory where there are no bodies.
+    #[inline(never)]
     pub fn update(
         &self,
         alloc: Global,
@@ -117,11 +118,11 @@ impl Manifolds {
                 computed += 1;
             }
             points.add(span, pair, &shapes)?;
-            spans.push(Span {
+            spans.push_reserved(Span {
                 pair: *pair,
                 start,
                 len: points.len()? - start,
-            })?;
+            });
         }
         let touches = points.into_touches()?;
         let manifolds = Manifolds {

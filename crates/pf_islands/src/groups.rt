@@ -35,6 +35,7 @@ impl Groups {
 
     /// The groups of the scene's bodies that these contact points connect. Takes no memory where
     /// there are no bodies.
+    #[inline(never)]
     pub fn new(alloc: Global, scene: &Scene, touches: &[Touch]) -> Result<Groups, AllocError>
         requires { All (IsTouchOf (length scene.now.fixtures)) touches.now }
         ensures value { IfOk result (λ found. found ≡ groups scene.now touches.now) }
@@ -49,6 +50,7 @@ impl Groups {
     }
 
     /// The phase Activity: wakes the bodies of each group that has an awake one. Takes no memory.
+    #[inline(never)]
     pub fn wake(&mut self, bodies: &mut [BodyState])
         requires { length bodies.old ≡ length self.old }
         ensures bodies { bodies.new ≡ woken self.old bodies.old }
@@ -60,6 +62,7 @@ impl Groups {
 
     /// The phase Sleep: the bodies of each awake group go to sleep where all of them have this
     /// timer. Takes no memory.
+    #[inline(never)]
     pub fn rest(&mut self, bodies: &mut [BodyState], full: u8)
         requires { length bodies.old ≡ length self.old }
         ensures bodies { bodies.new ≡ rested full self.old bodies.old }

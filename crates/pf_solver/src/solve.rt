@@ -119,6 +119,7 @@ fn move_on(bodies: &mut [BodyState])
 /// The phases Gravity to Timers: Gravity, Positions and Timers of the awake bodies, and Velocities
 /// of all bodies that rows name, in the order of the rows. All of a row but its entry is computed
 /// anew. Takes no memory.
+#[inline(never)]
 #[tactic(auto, unfolding(crate::specs::Solve::solved))]
 pub fn solve_list(scene: &Scene, bodies: &mut [BodyState], rows: &mut [Row])
     requires { All (IsRowOf scene.now (length bodies.old)) rows.old }

@@ -1,6 +1,6 @@
 //! The rows of a tick: the contacts that are simulated, as the solver takes them.
 
-ghost use Rattle.std.specs.Prelude.{◌≡◌, ◌<◌, [], All, length, IfOk, IsOk};
+ghost use Rattle.std.specs.Prelude.{◌≡◌, ◌<◌, [], All, count_by, length, IfOk, IsOk};
 ghost use Rattle.pf_manifold.specs.Key.{AreTouches};
 ghost use Rattle.pf_manifold.specs.Touches.{IsTouchOf};
 ghost use Rattle.pf_cache.specs.Row.{AreRows};
@@ -50,7 +50,19 @@ fn is_active_contact(bodies: &[BodyState], touch: &Touch) -> bool
     first.awake || second.awake
 }
 
+/// How many contacts are simulated.
+fn active_count(bodies: &[BodyState], touches: &[Touch]) -> usize
+    requires { All (IsTouchOf (length bodies.now)) touches.now }
+    ensures { result ≡ count_by (is_active_contact bodies.now) touches.now }
+{
+    touches
+        .iter()
+        .filter(|touch| is_active_contact(bodies, touch))
+        .count()
+}
+
 /// The rows of the contacts that are simulated. Takes no memory where there are no contact points.
+#[inline(never)]
 pub(crate) fn active_rows(
     alloc: Global,
     scene: &Scene,
@@ -67,7 +79,7 @@ pub(crate) fn active_rows(
     ensures order { AreTouches touches.now → IfOk result (λ rows. AreRows rows.items) }
     ensures no_memory { touches.now ≡ [] → IsOk result }
 {
-    let mut rows = Vec::with_capacity(alloc, touches.len())?;
+    let mut rows = Vec::with_capacity(alloc, active_count(bodies, touches))?;
     for (place, touch) in touches.iter().enumerate() {
         if is_active_contact(bodies, touch) {
             rows.push(row_of(scene, touch, &contacts[place]))?;

@@ -1,4 +1,4 @@
-use Rattle.std.proofs.Common.{◌≡◌, ◌≤◌, length, map, All}
+use Rattle.std.proofs.Common.{◌≡◌, ◌≤◌, length, map, All, vec_len, vec_capacity}
 use Rattle.std.specs.Prelude.{drop, take}
 use Rattle.pf_cache.specs.Contact.{kept_contact}
 use Rattle.pf_cache.proofs.Walk.{SameFrom}
@@ -8,5 +8,7 @@ abbrev pub invariant-loop-touch : goal.invariant-loop-touch
 invariant-loop-touch l = record {
   within : l.place ≤ length l.self-inside.list.items;
   made : l.list.items ≡ map (kept_contact l.self-inside.list.items) (take l.touch-index l.touches);
+  count : vec_len l.list ≡ l.touch-index;
+  room : length l.touches ≤ vec_capacity l.list;
   same : All (SameFrom l.self-inside.list.items l.place) (drop l.touch-index l.touches);
 }

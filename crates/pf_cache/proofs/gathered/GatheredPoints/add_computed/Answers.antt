@@ -18,10 +18,10 @@ returns c =
     let b_is = c.index-shapes-pair-2.is ∙ ap (λ (q : Pair). get_or shapes q.b c.index-shapes-pair-2.result) c.pair.view_is in
     let points = points_here shapes p c.index-shapes-pair.result c.index-shapes-pair-2.result _ first c.requires.1 a_is b_is
     (c.collide.ensures ∙ ap₂ collide c.placed.ensures c.placed-2.ensures) in
-    let before = c.in_ok-copy_run.ensures ∙ ap (λ (g : GatheredPoints). g.added) c.self.view_is in
+    let before = c.in_ok-copy_run.ensures ∙ ap (λ (g : GatheredPoints). g.points) c.self.view_is in
     on_ok_weaker c.push_points.result
     (λ e i. record {
-      kept = ap (λ (g : GatheredPoints). g.kept) c.self.view_is i;
-      added = (empty_run c.push_points.new.touches.items c.self.inside.kept.now c.self.inside.end ∙ e ∙ ap₂ (λ xs ys. xs ++ ys) before points) i;
+      source = ap (λ (g : GatheredPoints). g.source) c.self.view_is i;
+      points = (empty_run c.push_points.new.touches.items c.self.inside.source.now c.self.inside.end ∙ e ∙ ap₂ (λ xs ys. xs ++ ys) before points) i;
     })
     c.push_points.ensures.added

@@ -52,7 +52,7 @@ add-requires-clause-span c =
     let second = ap (λ fs. get_or fs p.b false) flags ∙ flag_at old shapes p.b in
     let span_is : c.kept_span-span.result ≡ span_if (is_unmoved old shapes p.a && is_unmoved old shapes p.b) looked =
     c.kept_span-span.ensures ∙ ap₂ (λ a b. span_if (a && b) looked) first second in
-    rw (c.deref-in-loop-pair-4.ensures.value, c.loop-pair.invariant.kept, span_is)
+    rw (c.deref-in-loop-pair-4.ensures.value, c.loop-pair.invariant.source, span_is)
     (is_span old shapes kept own p looked c.self.invariant.spans bodies found)
 
 pub loop-pair-preserved : goal.loop-pair-preserved
@@ -79,9 +79,9 @@ loop-pair-preserved c =
     let span_is : c.kept_span-span.result ≡ span_if (is_unmoved old shapes p.a && is_unmoved old shapes p.b) looked =
     c.kept_span-span.ensures ∙ ap₂ (λ a b. span_if (a && b) looked) first second in
     let own_manifolds : Manifolds = record { shapes = old; pairs = map (λ (s : Span). s.pair) own } in
-    let added : c.add.new.self.added ≡ c.loop-pair.points.added ++ points_of_pair shapes p =
-    ap (λ (g : GatheredPoints). g.added) c.in_ok-add.ensures
-    ∙ ap (λ ss. c.loop-pair.points.added ++ points_of_pair ss p) c.deref-in-loop-pair-4.ensures.value in
+    let added : c.add.new.self.points ≡ c.loop-pair.points.points ++ points_of_pair shapes p =
+    ap (λ (g : GatheredPoints). g.points) c.in_ok-add.ensures
+    ∙ ap (λ ss. c.loop-pair.points.points ++ points_of_pair ss p) c.deref-in-loop-pair-4.ensures.value in
     let test : c.is_none.result ≡ not (is_reusable own_manifolds shapes p) =
     opposite _ _ c.is_none.ensures ∙ ap (λ o. not (is_some o)) span_is
     ∙ ap not (kept_test old shapes kept own p looked c.self.invariant.spans bodies found) in
@@ -92,16 +92,18 @@ loop-pair-preserved c =
           c.rank_of-rank.result p p within c.pair-item.is c.rank_of-rank.ensures c.deref-in-loop-pair.ensures.value
           c.first_span_from-place.ensures.same c.loop-pair.invariant.same
           (pairs_rise pairs c.requires.ascending (pairs_of_scene (length c.args.bodies.now) pairs few c.requires.pairs));
-      listed = listed_more shapes pairs i p p within c.pair-item.is c.loop-pair.spans.items c.push.new.self.items _
-          c.loop-pair.invariant.listed c.in_ok-push.ensures.items refl;
-      kept = ap (λ (g : GatheredPoints). g.kept) c.in_ok-add.ensures ∙ c.loop-pair.invariant.kept;
-      spans = spans_more shapes pairs i p p within c.pair-item.is c.loop-pair.points.added c.add.new.self.added
-          c.loop-pair.spans.items c.push.new.self.items
-          (length c.add.new.self.added - length c.loop-pair.points.added) c.loop-pair.invariant.spans added bodies refl
-          (c.in_ok-push.ensures.items ∙ ap₂ (λ n m. c.loop-pair.spans.items ++ record { pair = p; start = n; len = m } ∷ [])
+      listed = listed_more shapes pairs i p p within c.pair-item.is c.loop-pair.spans.items c.push_reserved.new.self.items _
+          c.loop-pair.invariant.listed c.push_reserved.ensures.items refl;
+      source = ap (λ (g : GatheredPoints). g.source) c.in_ok-add.ensures ∙ c.loop-pair.invariant.source;
+      spans = spans_more shapes pairs i p p within c.pair-item.is c.loop-pair.points.points c.add.new.self.points
+          c.loop-pair.spans.items c.push_reserved.new.self.items
+          (length c.add.new.self.points - length c.loop-pair.points.points) c.loop-pair.invariant.spans added bodies refl
+          (c.push_reserved.ensures.items ∙ ap₂ (λ n m. c.loop-pair.spans.items ++ record { pair = p; start = n; len = m } ∷ [])
           start_is (ap₂ (λ a b. a - b) c.in_ok-len.ensures start_is));
-      whole = whole_more shapes pairs i p p within c.pair-item.is c.loop-pair.points.added c.add.new.self.added
+      whole = whole_more shapes pairs i p p within c.pair-item.is c.loop-pair.points.points c.add.new.self.points
           c.loop-pair.invariant.whole added;
+      count = search rules;
+      room = search rules;
       few = elim c.if-is_none.branch [
         | then-is_none w ↦ omega (arith, w.computed-is, c.loop-pair.invariant.few)
         | else-is_none w ↦ omega (arith, w.computed-is, c.loop-pair.invariant.few)
@@ -121,6 +123,6 @@ invariant_of-manifolds c =
     let few : length c.args.bodies.now ≤ MAX_BODIES = omega (arith, c.requires.bodies, c.fixtures.ensures.scene.few) in
     rw c.in_ok-touches.ensures
     (spans_done c.args.scene.now.fixtures c.args.bodies.now c.args.pairs.now c.in_ok-shapes.shapes.items c.loop-pair.spans.items
-    c.loop-pair.points.added c.loop-pair.pair-index few c.requires.pairs c.requires.ascending c.loop-pair-test.false
+    c.loop-pair.points.points c.loop-pair.pair-index few c.requires.pairs c.requires.ascending c.loop-pair-test.false
     (c.in_ok-shapes.ensures ∙ ap (λ fs. placed_shapes fs c.args.bodies.now) c.fixtures.ensures.value)
     c.loop-pair.invariant.listed c.loop-pair.invariant.spans c.loop-pair.invariant.whole)
