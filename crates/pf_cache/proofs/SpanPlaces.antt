@@ -1,5 +1,5 @@
 -- Spans from a place on.
-use Rattle.std.proofs.Common.{◌≡◌, ℕ, ◌+◌, ◌≤◌, ◌<◌, List, ◌∷◌, Option, Some, None, length, map}
+use Rattle.std.proofs.Common.{◌≡◌, ℕ, ◌+◌, ◌≤◌, ◌<◌, List, ◌∷◌, Some, None, length, map}
 use Rattle.std.specs.Prelude.{All, drop, get_or}
 use Rattle.pf_shapes.specs.Pair.{IsPairOf}
 use Rattle.pf_shapes.specs.declared.scene.TheConstants.{MAX_BODIES}

@@ -99,4 +99,5 @@ module _ (contacts now : List Contact) (rows : List Row) (i : ℕ) (c : Contact)
 
     -- the contacts behind it find theirs from the next place on
     pub same_step : IsRising 0 (map (λ x. rank x.key) contacts) → All (SameRows rows next) (drop (i + 1) contacts)
-    same_step rising = reads_behind rank_of (of_contact rows) contacts i place next c within above same rising
+    same_step rising =
+        reads_behind rank_of (of_contact rows) contacts i place next c within (λ x high. above x (omega (arith, high))) same rising

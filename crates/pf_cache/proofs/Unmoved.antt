@@ -1,9 +1,7 @@
 -- Bodies that stand as they stood have the contact points that they had.
-use Rattle.std.proofs.Common.{◌≡◌, ℕ, zero, suc, Bool, true, false, ◌&&◌, ◌++◌, Option, Some, None, List, [], ◌∷◌, ◌+◌, ◌-◌, ◌<◌, length, map, take, refl, sym, ap, ap₂, ◌∙◌, true≢false, arith}
+use Rattle.std.proofs.Common.{◌≡◌, ℕ, zero, suc, true, false, ◌&&◌, ◌++◌, Option, Some, None, List, [], ◌∷◌, ◌<◌, length, map, refl, sym, ap, ap₂, ◌∙◌, true≢false}
 use Rattle.std.specs.Bool.{Decides}
-use Rattle.std.specs.List.{flat_map, zip}
-use Rattle.std.specs.Ordering.{int_eq}
-use Rattle.std.specs.Prelude.{drop, get_or, slice_get}
+use Rattle.std.specs.Prelude.{get_or, slice_get}
 use Rattle.std.proofs.lemmas.Option.{slice_get_read}
 use Rattle.std.proofs.lemmas.Bool.{and_parts}
 use Rattle.std.proofs.lemmas.Bool.Decides.{Decides-int_eq, Decides-and, Decides-like}

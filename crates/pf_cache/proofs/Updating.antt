@@ -1,8 +1,8 @@
 -- The walk along the kept spans and the pairs of a tick.
-use Rattle.std.proofs.Common.{◌≡◌, ℕ, ◌+◌, ◌-◌, ◌≤◌, ◌<◌, ◌==◌, Bool, true, false, ◌&&◌, Option, Some, None, List, [], ◌∷◌, ◌++◌, length, map, take, take_all, refl, sym, ap, ap₂, subst, ◌∙◌, true≢false, arith}
+use Rattle.std.proofs.Common.{◌≡◌, ℕ, ◌+◌, ◌-◌, ◌≤◌, ◌<◌, ◌==◌, Bool, true, false, ◌&&◌, Option, Some, None, List, [], ◌∷◌, ◌++◌, length, map, take, take_all, refl, sym, ap, ap₂, subst, ◌∙◌, arith}
 use Rattle.std.specs.List.{flat_map, zip}
 use Rattle.std.proofs.lemmas.Bool.Decides.{Decides-eqb}
-use Rattle.std.specs.Prelude.{All, IfSome, count_by, drop, get_or, is_some, not, if◌then◌else◌}
+use Rattle.std.specs.Prelude.{All, IfSome, drop, get_or, is_some, not}
 use Rattle.std.proofs.lemmas.List.{append-nil, length-append, length-map, map-append, take_more}
 use Rattle.std.proofs.lemmas.Simd.{map-map}
 use Rattle.std.proofs.lemmas.Slice.Zip.{length-zip}
@@ -18,7 +18,7 @@ use Rattle.pf_manifold.specs.PlacedShape.{PlacedShape}
 use Rattle.pf_manifold.specs.Touches.{Touch}
 use Rattle.pf_manifold.specs.Touches as found
 use Rattle.pf_manifold.proofs.KeyOrder.{touches_in_order}
-use Rattle.pf_cache.specs.Manifolds.{Manifolds, computed_count, has_pair, is_reusable, is_unmoved, manifolds_of, no_manifolds, placed_shapes, points_of_pair}
+use Rattle.pf_cache.specs.Manifolds.{Manifolds, computed_count, is_reusable, is_unmoved, manifolds_of, no_manifolds, placed_shapes, points_of_pair}
 use Rattle.pf_cache.specs.Spans.{AreSpans, IsSpan, Span, pair_rank, span_at, span_if}
 use Rattle.pf_cache.proofs.Spanned.{found_span, has_span, pairs_rise, same_rank, span_of_last, span_stays}
 use Rattle.pf_cache.proofs.Unmoved.{kept_points, span_of_unmoved}
@@ -49,31 +49,24 @@ abbrev bodies_of : (old : List PlacedShape) (kept : List Touch) (spans : List Sp
 bodies_of old kept spans all =
     All-weaker (IsSpan old kept) (λ s. IsPairOf MAX_BODIES s.pair) (λ s h. h.bodies) spans all
 
--- a step of the walk: the pair p at i, whose rank is n, leads from a place to the next one. Both
--- lent lists are the spans.
-module _ (spans first : List Span) (pairs : List Pair) (i place next n : ℕ) (d p : Pair)
-    (within : i < length pairs) (p_is : p ≡ get_or pairs i d) (n_is : n ≡ pair_rank p) (first_is : first ≡ spans)
-    (further : (k : ℕ) → n ≤ k → span_at k (drop next first) ≡ span_at k (drop place first))
-    (same : All (SameSpanFrom spans place) (drop i pairs)) where
-  rank_is : n ≡ pair_rank (get_or pairs i d)
-  rank_is = n_is ∙ ap pair_rank p_is
-
-  on_spans : (k : ℕ) → n ≤ k → span_at k (drop next spans) ≡ span_at k (drop place spans)
-  on_spans = subst (λ ss. (k : ℕ) → n ≤ k → span_at k (drop next ss) ≡ span_at k (drop place ss)) first_is further
-
-  above : (q : Pair) → pair_rank (get_or pairs i d) ≤ pair_rank q → of_pair spans q next ≡ of_pair spans q place
-  above q high = on_spans (pair_rank q) (subst (λ k. k ≤ pair_rank q) (sym rank_is) high)
-
+-- a step of the walk: the pair p at i. The lent list is the spans.
+module _ (spans lent : List Span) (pairs : List Pair) (i place : ℕ) (d p : Pair) (within : i < length pairs)
+    (p_is : p ≡ get_or pairs i d) (lent_is : lent ≡ spans) (same : All (SameSpanFrom spans place) (drop i pairs)) where
   -- what was looked up is the pair's span, if there is one
-  pub looked_up : (second : List Span) (o : Option Span) → second ≡ spans → o ≡ span_at n (drop next second)
-      → o ≡ span_at (pair_rank p) spans
-  looked_up second o second_is e =
-      e ∙ ap₂ (λ k ss. span_at k (drop next ss)) rank_is second_is
-      ∙ reads_here pair_rank (of_pair spans) pairs i place next d within above same
+  pub looked_up : (o : Option Span) → o ≡ span_at (pair_rank p) (drop place lent) → o ≡ span_at (pair_rank p) spans
+  looked_up o e =
+      e ∙ ap₂ (λ q ss. span_at (pair_rank q) (drop place ss)) p_is lent_is
+      ∙ reads_here pair_rank (of_pair spans) pairs i place place d within (λ q high. refl) same
       ∙ ap (λ q. span_at (pair_rank q) spans) (sym p_is)
 
-  pub same_after : IsRising 0 (map pair_rank pairs) → All (SameSpanFrom spans next) (drop (i + 1) pairs)
-  same_after rising = reads_behind pair_rank (of_pair spans) pairs i place next d within above same rising
+  -- and a place from which all higher ranks have the span that they have from this one
+  pub same_after : (last : ℕ)
+      → ((n : ℕ) → pair_rank p < n → span_at n (drop last lent) ≡ span_at n (drop place lent))
+      → IsRising 0 (map pair_rank pairs) → All (SameSpanFrom spans last) (drop (i + 1) pairs)
+  same_after last later rising =
+      let past = subst (λ ss. (n : ℕ) → pair_rank p < n → span_at n (drop last ss) ≡ span_at n (drop place ss)) lent_is later in
+      reads_behind pair_rank (of_pair spans) pairs i place last d within
+      (λ q high. past (pair_rank q) (subst (λ x. pair_rank x < pair_rank q) (sym p_is) high)) same rising
 
 -- what is looked up, where the bodies of the pair stand as they stood, holds its points
 module _ (old shapes : List PlacedShape) (kept : List Touch) (spans : List Span) (p : Pair) (looked : Option Span)

@@ -1,5 +1,5 @@
 -- The walk along contacts and contact points, both in the order of their keys.
-use Rattle.std.proofs.Common.{◌≡◌, ℕ, suc, ◌+◌, ◌≤◌, ◌<◌, List, [], ◌∷◌, ◌++◌, take, length, map, sym, ◌∙◌, ap, ap₂, subst, arith}
+use Rattle.std.proofs.Common.{◌≡◌, ℕ, suc, ◌+◌, ◌≤◌, ◌<◌, List, [], ◌∷◌, ◌++◌, take, length, map, refl, sym, ◌∙◌, ap, ap₂, subst, arith}
 use Rattle.std.proofs.lemmas.List.{drop_more, map_more}
 use Rattle.std.proofs.lemmas.List.Elements.{All-head, All-tail}
 use Rattle.std.specs.Prelude.{All, drop, get_or}
@@ -26,18 +26,20 @@ module _ {T V : Type 0} (ranked : T → ℕ) (read : T → ℕ → V) where
         let all = subst (All (ReadsFrom place)) (drop_more ts i d within) same in
         further here (omega arith) ∙ All-head (ReadsFrom place) here (drop (i + 1) ts) all
 
-    -- and so do the elements behind it
-    pub reads_behind : IsRising 0 (map ranked ts) → All (ReadsFrom next) (drop (i + 1) ts)
-    reads_behind rising =
-        let split = drop_more ts i d within in
-        let here = get_or ts i d in
-        let behind = drop (i + 1) ts in
-        let from = subst (λ xs. IsRising 0 (map ranked xs)) split (rising-drop ranked i ts rising) in
-        let above = rising-all ranked (suc (ranked here)) behind from.1 in
-        let kept = All-tail (ReadsFrom place) here behind (subst (All (ReadsFrom place)) split same) in
-        λ k e w.
-        let high = above k e w in
-        further (get_or behind k e) (omega (arith, high)) ∙ kept k e w
+  -- where the next place is the same for all above the element at i, they read the same from it
+  pub reads_behind : (ts : List T) (i place next : ℕ) (d : T) → i < length ts
+      → ((t : T) → ranked (get_or ts i d) < ranked t → read t next ≡ read t place)
+      → All (ReadsFrom place) (drop i ts) → IsRising 0 (map ranked ts) → All (ReadsFrom next) (drop (i + 1) ts)
+  reads_behind ts i place next d within further same rising =
+      let split = drop_more ts i d within in
+      let here = get_or ts i d in
+      let behind = drop (i + 1) ts in
+      let from = subst (λ xs. IsRising 0 (map ranked xs)) split (rising-drop ranked i ts rising) in
+      let above = rising-all ranked (suc (ranked here)) behind from.1 in
+      let kept = All-tail (ReadsFrom place) here behind (subst (All (ReadsFrom place)) split same) in
+      λ k e w.
+      let high = above k e w in
+      further (get_or behind k e) (omega (arith, high)) ∙ kept k e w
 
 -- what a point's key has from a place of the contacts on
 abbrev of_point : List Contact → Touch → ℕ → Impulses
@@ -48,55 +50,33 @@ abbrev pub SameFrom : List Contact → ℕ → Touch → Type 0
 SameFrom contacts place t =
     impulses_at (rank (key_of t)) (drop place contacts) ≡ impulses_at (rank (key_of t)) contacts
 
--- what the next place has is the same for this rank and all above it
-abbrev pub SameAbove : List Contact → ℕ → ℕ → ℕ → Type 0
-SameAbove contacts least place next =
-    (n : ℕ) → least ≤ n → impulses_at n (drop next contacts) ≡ impulses_at n (drop place contacts)
-
--- the contact of one more point
-pub made_more : (contacts : List Contact) (touches : List Touch) (i place next : ℕ) (d : Touch)
-    (made : List Contact) (p : Impulses) → i < length touches
-    → SameAbove contacts (rank (key_of (get_or touches i d))) place next
-    → All (SameFrom contacts place) (drop i touches)
-    → made ≡ map (kept_contact contacts) (take i touches)
-    → p ≡ impulses_at (rank (key_of (get_or touches i d))) (drop next contacts)
-    → made ++ record { key = key_of (get_or touches i d); impulses = p } ∷ []
-    ≡ map (kept_contact contacts) (take (i + 1) touches)
-made_more contacts touches i place next d made p within further same done found =
-    let here = get_or touches i d in
-    let kept : p ≡ impulses_at (rank (key_of here)) contacts =
-    found ∙ reads_here (λ t. rank (key_of t)) (of_point contacts) touches i place next d within
-    (λ t. further (rank (key_of t))) same in
-    rw (done, kept) (sym (map_more (kept_contact contacts) touches i d within))
-
--- a step of the walk: the point t of the key k, whose rank is n, leads from a place to the next
--- one. Both lent lists are those of the contacts.
-module _ (contacts first : List Contact) (touches : List Touch) (i place next n : ℕ) (d t : Touch) (k : Key)
-    (within : i < length touches) (t_is : t ≡ get_or touches i d) (k_is : k ≡ key_of t) (n_is : n ≡ rank k)
-    (first_is : first ≡ contacts)
-    (further : (m : ℕ) → n ≤ m → impulses_at m (drop next first) ≡ impulses_at m (drop place first))
+-- a step of the walk: the point t at i, whose key is k. The lent list is that of the contacts.
+module _ (contacts lent : List Contact) (touches : List Touch) (i place : ℕ) (d t : Touch) (k : Key)
+    (within : i < length touches) (t_is : t ≡ get_or touches i d) (k_is : k ≡ key_of t) (lent_is : lent ≡ contacts)
     (same : All (SameFrom contacts place) (drop i touches)) where
   key_is : k ≡ key_of (get_or touches i d)
   key_is = k_is ∙ ap key_of t_is
 
-  rank_is : n ≡ rank (key_of (get_or touches i d))
-  rank_is = n_is ∙ ap rank key_is
-
-  above : SameAbove contacts (rank (key_of (get_or touches i d))) place next
-  above =
-      subst (λ m. SameAbove contacts m place next) rank_is (subst (λ cs. SameAbove cs n place next) first_is further)
-
-  pub made_step : (second made after : List Contact) (p : Impulses) → second ≡ contacts
-      → p ≡ impulses_at n (drop next second) → made ≡ map (kept_contact contacts) (take i touches)
+  -- the contact of the point
+  pub made_step : (made after : List Contact) (p : Impulses) → p ≡ impulses_at (rank k) (drop place lent)
+      → made ≡ map (kept_contact contacts) (take i touches)
       → after ≡ made ++ record { key = k; impulses = p } ∷ []
       → after ≡ map (kept_contact contacts) (take (i + 1) touches)
-  made_step second made after p second_is found done pushed =
-      pushed ∙ ap (λ x. made ++ record { key = x; impulses = p } ∷ []) key_is
-      ∙ made_more contacts touches i place next d made p within above same done
-      (found ∙ ap₂ (λ m cs. impulses_at m (drop next cs)) rank_is second_is)
+  made_step made after p found done pushed =
+      let here = get_or touches i d in
+      let own : p ≡ impulses_at (rank (key_of here)) contacts =
+      found ∙ ap₂ (λ x cs. impulses_at (rank x) (drop place cs)) key_is lent_is
+      ∙ reads_here (λ x. rank (key_of x)) (of_point contacts) touches i place place d within (λ x high. refl) same in
+      pushed ∙ ap₂ (λ xs x. xs ++ record { key = x; impulses = p } ∷ []) done key_is
+      ∙ ap (λ q. map (kept_contact contacts) (take i touches) ++ record { key = key_of here; impulses = q } ∷ []) own
+      ∙ sym (map_more (kept_contact contacts) touches i d within)
 
-  pub same_step : IsRising 0 (map (λ x. rank (key_of x)) touches)
-      → All (SameFrom contacts next) (drop (i + 1) touches)
-  same_step rising =
-      reads_behind (λ t. rank (key_of t)) (of_point contacts) touches i place next d within
-      (λ x. above (rank (key_of x))) same rising
+  -- and a place from which all higher ranks have what they have from this one
+  pub same_step : (last : ℕ)
+      → ((n : ℕ) → rank k < n → impulses_at n (drop last lent) ≡ impulses_at n (drop place lent))
+      → IsRising 0 (map (λ x. rank (key_of x)) touches)
+      → All (SameFrom contacts last) (drop (i + 1) touches)
+  same_step last later rising =
+      let past = subst (λ cs. (n : ℕ) → rank k < n → impulses_at n (drop last cs) ≡ impulses_at n (drop place cs)) lent_is later in
+      reads_behind (λ x. rank (key_of x)) (of_point contacts) touches i place last d within
+      (λ x high. past (rank (key_of x)) (subst (λ y. rank y < rank (key_of x)) (sym key_is) high)) same rising

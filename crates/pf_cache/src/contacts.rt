@@ -1,7 +1,7 @@
 //! The contacts of a world, in the order of their keys.
 
-ghost use Rattle.std.specs.Prelude.{◌≡◌, ◌≤◌, ℕ, All, drop, length};
-ghost use Rattle.pf_manifold.specs.Key.{key_of, rank};
+ghost use Rattle.std.specs.Prelude.{◌≡◌, ◌≤◌, ◌<◌, ℕ, All, drop, length};
+ghost use Rattle.pf_manifold.specs.Key.{IsKey, key_of, rank};
 ghost use Rattle.pf_cache.specs.Contact.{AreContacts, Impulses, impulses_at};
 ghost use Rattle.pf_cache.specs.Row.{AreRows, impulses_or, with_rows};
 
@@ -51,23 +51,67 @@ fn first_from(contacts: &[Contact], start: usize, least: usize) -> usize
     place
 }
 
-/// The accumulated impulses of the contact of rank `wanted`, or none. No contact from `place` on is
-/// below that rank, so one look is enough.
-#[tactic(auto, using(crate::proofs::Places::found_here, crate::proofs::Places::found_other, crate::proofs::Places::found_nowhere))]
-fn impulses_from(contacts: &[Contact], place: usize, wanted: usize) -> Impulses
+/// The accumulated impulses of the contact of rank `wanted`, or none; and the place behind it, or
+/// `place`. No contact from `place` on is below that rank, so one look is enough. Look-ups of higher
+/// ranks find from the returned place what they find from `place`.
+#[inline]
+#[tactic(auto, using(crate::proofs::Places::found_here, crate::proofs::Places::found_other, crate::proofs::Places::found_nowhere, crate::proofs::Places::passed))]
+fn impulses_from(contacts: &[Contact], place: usize, wanted: usize) -> (Impulses, usize)
+    requires place { place ≤ length contacts.now }
     requires contacts { AreContacts contacts.now }
     requires reached { All (λ c. wanted ≤ rank c.key) (drop place contacts.now) }
-    ensures { result ≡ impulses_at wanted (drop place contacts.now) }
+    ensures impulses { result.0 ≡ impulses_at wanted (drop place contacts.now) }
+    ensures within { result.1 ≤ length contacts.now }
+    ensures later { (n : ℕ) → wanted < n
+        → impulses_at n (drop result.1 contacts.now) ≡ impulses_at n (drop place contacts.now) }
 {
     if place >= contacts.len() {
-        return Impulses::NONE;
+        return (Impulses::NONE, place);
     }
     let contact = &contacts[place];
     if contact.key.rank() == wanted {
-        contact.impulses
+        (contact.impulses, place + 1)
     } else {
-        Impulses::NONE
+        (Impulses::NONE, place)
     }
+}
+
+/// The accumulated impulses of the contact of rank `wanted` from `start` on, or none; and a place
+/// from which look-ups of higher ranks find what they find from `start`.
+#[inline(never)]
+fn impulses_further(contacts: &[Contact], start: usize, wanted: usize) -> (Impulses, usize)
+    requires start { start ≤ length contacts.now }
+    requires contacts { AreContacts contacts.now }
+    ensures impulses { result.0 ≡ impulses_at wanted (drop start contacts.now) }
+    ensures within { result.1 ≤ length contacts.now }
+    ensures later { (n : ℕ) → wanted < n
+        → impulses_at n (drop result.1 contacts.now) ≡ impulses_at n (drop start contacts.now) }
+{
+    let place = first_from(contacts, start, wanted);
+    impulses_from(contacts, place, wanted)
+}
+
+/// The accumulated impulses of the contact of this key from `start` on, or none; and a place from
+/// which look-ups of higher ranks find what they find from `start`. In most ticks the contact stands
+/// at `start`.
+#[inline]
+#[tactic(auto, using(crate::proofs::Places::found_here, crate::proofs::Places::passed))]
+fn impulses_of(contacts: &[Contact], start: usize, key: &Key) -> (Impulses, usize)
+    requires start { start ≤ length contacts.now }
+    requires contacts { AreContacts contacts.now }
+    requires key { IsKey key.now }
+    ensures impulses { result.0 ≡ impulses_at (rank key.now) (drop start contacts.now) }
+    ensures within { result.1 ≤ length contacts.now }
+    ensures later { (n : ℕ) → rank key.now < n
+        → impulses_at n (drop result.1 contacts.now) ≡ impulses_at n (drop start contacts.now) }
+{
+    if start < contacts.len() {
+        let contact = &contacts[start];
+        if contact.key == *key {
+            return (contact.impulses, start + 1);
+        }
+    }
+    impulses_further(contacts, start, key.rank())
 }
 
 /// A place from `start` on: from it no rank is below `least`, and look-ups of ranks from `least` on
@@ -167,9 +211,8 @@ impl Contacts {
         let mut place = 0;
         for touch in touches {
             let key = Key::of(touch);
-            let rank = key.rank();
-            place = first_from(&self.list, place, rank);
-            let impulses = impulses_from(&self.list, place, rank);
+            let (impulses, behind) = impulses_of(&self.list, place, &key);
+            place = behind;
             list.push_reserved(Contact { key, impulses });
         }
         Ok(Contacts { list })

@@ -37,6 +37,7 @@ impl<'a> Model for GatheredPoints<'a> {
 }
 
 /// Appends the points of `source` from `start` up to `end`.
+#[inline(never)]
 fn copy_run(
     touches: &mut Vec<Touch>,
     source: &[Touch],
@@ -97,6 +98,7 @@ impl<'a> GatheredPoints<'a> {
     }
 
     /// Adds the contact points of a pair as the narrow phase computes them.
+    #[inline(never)]
     fn add_computed(&mut self, pair: &Pair, shapes: &[KeptShape]) -> Result<(), AllocError>
         requires { IsPairOf (length shapes.now) pair.now }
         ensures { OnOk result (self.new ≡ record self.old {
@@ -111,6 +113,7 @@ impl<'a> GatheredPoints<'a> {
     }
 
     /// Adds the contact points of a pair: those of its span, if it has one, and else computed ones.
+    #[inline]
     pub fn add(
         &mut self,
         span: Option<Span>,

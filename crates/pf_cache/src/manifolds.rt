@@ -4,7 +4,7 @@ ghost use Rattle.std.specs.Prelude.{◌≡◌};
 
 use crate::gathered::GatheredPoints;
 use crate::kept_shape::{KeptShape, placed_shapes, unmoved_flags};
-use crate::spans::{Span, first_span_from, kept_span, rank_of};
+use crate::spans::{Span, span_of, unmoved_span};
 use pf_manifold::Touch;
 use pf_shapes::{BodyState, Pair, Scene};
 use std::alloc::{AllocError, Global};
@@ -110,9 +110,9 @@ impl Manifolds {
         let mut computed = 0;
         let mut place = 0;
         for pair in pairs {
-            let rank = rank_of(pair);
-            place = first_span_from(&self.spans, place, rank);
-            let span = kept_span(&self.spans, place, rank, pair, &unmoved);
+            let (found, behind) = span_of(&self.spans, place, pair);
+            place = behind;
+            let span = unmoved_span(found, pair, &unmoved);
             let start = points.len()?;
             if span.is_none() {
                 computed += 1;

@@ -1,6 +1,6 @@
 //! Where the contact points of kept pairs stand.
 
-ghost use Rattle.std.specs.Prelude.{◌≡◌, ◌≤◌, ◌&&◌, ℕ, All, drop, false, get_or, length, map};
+ghost use Rattle.std.specs.Prelude.{◌≡◌, ◌≤◌, ◌<◌, ◌&&◌, ℕ, All, drop, false, get_or, length, map};
 ghost use Rattle.pf_shapes.specs.Pair.{IsPairOf};
 ghost use Rattle.pf_shapes.specs.declared.scene.TheConstants.{MAX_BODIES};
 ghost use Rattle.pf_manifold.specs.Key.{IsRising};
@@ -69,44 +69,79 @@ pub fn first_span_from(spans: &[Span], start: usize, least: usize) -> usize
     place
 }
 
-/// The span of the pair of rank `wanted`, if there is one. From `place` on no rank is below it, so
-/// only the span at `place` can be the one.
-#[tactic(auto, using(crate::proofs::SpanPlaces::found_here, crate::proofs::SpanPlaces::found_other, crate::proofs::SpanPlaces::found_nowhere, crate::proofs::SpanPlaces::span_bodies))]
-fn span_from(spans: &[Span], place: usize, wanted: usize) -> Option<Span>
+/// The span of the pair of rank `wanted`, if there is one, and the place behind it, or `place`. From
+/// `place` on no rank is below it, so one look is enough. Look-ups of higher ranks find from the
+/// returned place what they find from `place`.
+#[inline]
+#[tactic(auto, using(crate::proofs::SpanPlaces::found_here, crate::proofs::SpanPlaces::found_other, crate::proofs::SpanPlaces::found_nowhere, crate::proofs::SpanPlaces::passed, crate::proofs::SpanPlaces::span_bodies))]
+fn span_from(spans: &[Span], place: usize, wanted: usize) -> (Option<Span>, usize)
+    requires place { place ≤ length spans.now }
     requires rising { IsRising 0 (map (λ s. pair_rank s.pair) spans.now) }
     requires bodies { All (λ s. IsPairOf MAX_BODIES s.pair) spans.now }
     requires reached { All (λ s. wanted ≤ pair_rank s.pair) (drop place spans.now) }
-    ensures { result ≡ span_at wanted (drop place spans.now) }
+    ensures span { result.0 ≡ span_at wanted (drop place spans.now) }
+    ensures within { result.1 ≤ length spans.now }
+    ensures later { (n : ℕ) → wanted < n
+        → span_at n (drop result.1 spans.now) ≡ span_at n (drop place spans.now) }
 {
     if place >= spans.len() {
-        return None;
+        return (None, place);
     }
     let span = spans[place];
     if rank_of(&span.pair) == wanted {
-        Some(span)
+        (Some(span), place + 1)
     } else {
-        None
+        (None, place)
     }
 }
 
-/// The span of a pair, if it has one and both bodies are unmoved. From `place` on no rank is below
-/// the pair's.
-pub fn kept_span(
-    spans: &[Span],
-    place: usize,
-    wanted: usize,
-    pair: &Pair,
-    unmoved: &[bool],
-) -> Option<Span>
+/// The span of the pair of rank `wanted` from `start` on, if there is one; and a place from which
+/// look-ups of higher ranks find what they find from `start`.
+#[inline(never)]
+fn span_further(spans: &[Span], start: usize, wanted: usize) -> (Option<Span>, usize)
+    requires start { start ≤ length spans.now }
     requires rising { IsRising 0 (map (λ s. pair_rank s.pair) spans.now) }
     requires bodies { All (λ s. IsPairOf MAX_BODIES s.pair) spans.now }
-    requires reached { All (λ s. wanted ≤ pair_rank s.pair) (drop place spans.now) }
+    ensures span { result.0 ≡ span_at wanted (drop start spans.now) }
+    ensures within { result.1 ≤ length spans.now }
+    ensures later { (n : ℕ) → wanted < n
+        → span_at n (drop result.1 spans.now) ≡ span_at n (drop start spans.now) }
+{
+    let place = first_span_from(spans, start, wanted);
+    span_from(spans, place, wanted)
+}
+
+/// The span of a pair from `start` on, if there is one; and a place from which look-ups of higher
+/// ranks find what they find from `start`. In most ticks the span stands at `start`.
+#[inline]
+#[tactic(auto, using(crate::proofs::SpanPlaces::found_here, crate::proofs::SpanPlaces::passed))]
+pub fn span_of(spans: &[Span], start: usize, pair: &Pair) -> (Option<Span>, usize)
+    requires start { start ≤ length spans.now }
+    requires rising { IsRising 0 (map (λ s. pair_rank s.pair) spans.now) }
+    requires bodies { All (λ s. IsPairOf MAX_BODIES s.pair) spans.now }
+    requires pair { IsPairOf MAX_BODIES pair.now }
+    ensures span { result.0 ≡ span_at (pair_rank pair.now) (drop start spans.now) }
+    ensures within { result.1 ≤ length spans.now }
+    ensures later { (n : ℕ) → pair_rank pair.now < n
+        → span_at n (drop result.1 spans.now) ≡ span_at n (drop start spans.now) }
+{
+    if start < spans.len() {
+        let span = spans[start];
+        if span.pair.a == pair.a && span.pair.b == pair.b {
+            return (Some(span), start + 1);
+        }
+    }
+    span_further(spans, start, rank_of(pair))
+}
+
+/// The span of a pair, where both bodies are unmoved.
+#[inline]
+pub fn unmoved_span(span: Option<Span>, pair: &Pair, unmoved: &[bool]) -> Option<Span>
     ensures { result ≡ span_if
-        (get_or unmoved.now pair.now.a false && get_or unmoved.now pair.now.b false)
-        (span_at wanted (drop place spans.now)) }
+        (get_or unmoved.now pair.now.a false && get_or unmoved.now pair.now.b false) span }
 {
     if is_unmoved(unmoved, pair.a) && is_unmoved(unmoved, pair.b) {
-        span_from(spans, place, wanted)
+        span
     } else {
         None
     }

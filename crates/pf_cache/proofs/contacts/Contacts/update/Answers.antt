@@ -16,8 +16,8 @@ returns-clause-value c =
 pub loop-touch-preserved : goal.loop-touch-preserved
 loop-touch-preserved c = record {
   within = search rules;
-  made = made_step c.self.inside.list.items _ c.args.touches.now _ _ _ _ _ _ _ c.loop-touch-test.true c.touch-item.is c.of-key.ensures c.rank-rank.ensures c.deref.ensures.value c.first_from-place.ensures.same c.loop-touch.invariant.same _ _ _ _ c.deref-in-loop-touch.ensures.value c.impulses_from-impulses.ensures c.loop-touch.invariant.made c.push_reserved.ensures.items;
+  made = made_step c.self.inside.list.items _ c.args.touches.now _ _ _ _ _ c.loop-touch-test.true c.touch-item.is c.of-key.ensures c.deref.ensures.value c.loop-touch.invariant.same _ _ _ c.impulses_of-impulses.ensures.impulses c.loop-touch.invariant.made c.push_reserved.ensures.items;
   count = search rules;
   room = search rules;
-  same = same_step c.self.inside.list.items _ c.args.touches.now _ _ _ _ _ _ _ c.loop-touch-test.true c.touch-item.is c.of-key.ensures c.rank-rank.ensures c.deref.ensures.value c.first_from-place.ensures.same c.loop-touch.invariant.same c.requires.rising;
+  same = same_step c.self.inside.list.items _ c.args.touches.now _ _ _ _ _ c.loop-touch-test.true c.touch-item.is c.of-key.ensures c.deref.ensures.value c.loop-touch.invariant.same _ c.impulses_of-impulses.ensures.later c.requires.rising;
 }

@@ -1,10 +1,9 @@
-use Rattle.std.proofs.Common.{rules, ◌≡◌, ◌<◌, ◌++◌, ◌∙◌, ap, ap₂, sym, arith}
+use Rattle.std.proofs.Common.{◌<◌, ◌++◌, ◌∙◌, ap, ap₂, arith}
 use Rattle.std.specs.Prelude.{get_or, length}
 use Rattle.std.proofs.lemmas.Result.{on_ok_weaker}
 use Rattle.pf_shapes.specs.Pair.{Pair}
 use Rattle.pf_manifold.specs.Collide.{collide}
 use Rattle.pf_cache.specs.Gathered.{GatheredPoints}
-use Rattle.pf_cache.specs.Manifolds.{points_of_pair}
 use Rattle.pf_cache.proofs.Gathering.{empty_run}
 use Rattle.pf_cache.proofs.Unmoved.{points_here}
 use Rattle.pf_cache.proofs.gathered.GatheredPoints.add_computed.Goals as goal

@@ -1,4 +1,4 @@
-use Rattle.std.proofs.Common.{rules, ◌≡◌, ◌+◌, ◌-◌, ◌++◌, ◌∙◌, ap, ap₂, sym, take}
+use Rattle.std.proofs.Common.{◌+◌, ◌-◌, ◌++◌, ◌∙◌, ap, ap₂, sym, take}
 use Rattle.std.specs.Prelude.{drop}
 use Rattle.pf_cache.specs.Gathered.{GatheredPoints}
 use Rattle.pf_cache.proofs.Gathering.{longer_run, new_run}
