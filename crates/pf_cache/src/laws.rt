@@ -39,10 +39,10 @@ pub fn updates_have_the_keys_of_points()
         → map (λ c. c.key) (updated old touches) ≡ map key_of touches }
 {}
 
-/// The contact points of a pair are reused exactly where the pair is one of those that are kept, and
-/// each of its bodies has the same shape, position and rotation as then. They are its points now.
-pub fn points_of_unmoved_bodies_are_reused()
-    ensures reused { (m : Manifolds) (shapes : List PlacedShape) (p : Pair)
+/// The contact points of a pair can be reused exactly where the pair is one of those that are kept,
+/// and each of its bodies has the same shape, position and rotation as then. They are its points now.
+pub fn reusable_points_are_of_unmoved_bodies()
+    ensures reusable { (m : Manifolds) (shapes : List PlacedShape) (p : Pair)
         → IsTrue (is_reusable m shapes p) ↔ (Contains m.pairs p
         × IsUnmoved m.shapes shapes p.a × IsUnmoved m.shapes shapes p.b) }
     ensures points { (m : Manifolds) (shapes : List PlacedShape) (p : Pair)
