@@ -10,5 +10,8 @@ pub mod SpanPlaces
 pub mod Spanned
 pub mod Unmoved
 pub mod Reusable
+pub mod Placing
+pub mod Refreshing
 pub mod Updating
+pub mod Keeping
 pub mod Gathering

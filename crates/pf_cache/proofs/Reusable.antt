@@ -10,7 +10,7 @@ use Rattle.pf_cache.specs.Laws.{IsUnmoved}
 use Rattle.pf_cache.specs.Manifolds.{Manifolds, are_same_shapes, has_pair, is_reusable, is_unmoved}
 use Rattle.pf_cache.proofs.Unmoved.{Decides-placed}
 
-Decides-pair : (q p : Pair) → Decides ((q.a == p.a) && (q.b == p.b)) (q ≡ p)
+pub Decides-pair : (q p : Pair) → Decides ((q.a == p.a) && (q.b == p.b)) (q ≡ p)
 Decides-pair q p =
     Decides-like ((q.a == p.a) && (q.b == p.b)) (λ e i. record {
       a = e.0 i;

@@ -1,5 +1,5 @@
 -- The walk along the kept spans and the pairs of a tick.
-use Rattle.std.proofs.Common.{◌≡◌, ℕ, ◌+◌, ◌-◌, ◌≤◌, ◌<◌, ◌==◌, Bool, true, false, ◌&&◌, Option, Some, None, List, [], ◌∷◌, ◌++◌, length, map, take, take_all, refl, sym, ap, ap₂, subst, ◌∙◌, arith}
+use Rattle.std.proofs.Common.{◌≡◌, ℕ, zero, suc, ◌+◌, ◌-◌, ◌≤◌, ◌<◌, ◌==◌, Bool, true, false, ◌&&◌, Option, Some, None, List, [], ◌∷◌, ◌++◌, length, map, take, take_all, refl, sym, ap, ap₂, subst, ◌∙◌, arith}
 use Rattle.std.specs.List.{flat_map, zip}
 use Rattle.std.proofs.lemmas.Bool.Decides.{Decides-eqb}
 use Rattle.std.specs.Prelude.{All, IfSome, drop, get_or, is_some, not}
@@ -7,8 +7,7 @@ use Rattle.std.proofs.lemmas.List.{append-nil, length-append, length-map, map-ap
 use Rattle.std.proofs.lemmas.Simd.{map-map}
 use Rattle.std.proofs.lemmas.Slice.Zip.{length-zip}
 use Rattle.std.proofs.lemmas.List.Concat.{flat_map-append}
-use Rattle.std.proofs.lemmas.List.Elements.{All-append, All-cons, All-head, All-nil, All-weaker}
-use Rattle.std.proofs.lemmas.List.Sums.{count_by_more_no, count_by_more_yes}
+use Rattle.std.proofs.lemmas.List.Elements.{All-cons, All-drop, All-head, All-nil, All-tail, All-weaker}
 use Rattle.pf_shapes.specs.Fixture.{Fixture}
 use Rattle.pf_shapes.specs.Body.{BodyState}
 use Rattle.pf_shapes.specs.Pair.{IsAscending, IsPairOf, Pair}
@@ -18,10 +17,12 @@ use Rattle.pf_manifold.specs.PlacedShape.{PlacedShape}
 use Rattle.pf_manifold.specs.Touches.{Touch}
 use Rattle.pf_manifold.specs.Touches as found
 use Rattle.pf_manifold.proofs.KeyOrder.{touches_in_order}
-use Rattle.pf_cache.specs.Manifolds.{Manifolds, computed_count, is_reusable, is_unmoved, manifolds_of, no_manifolds, placed_shapes, points_of_pair}
-use Rattle.pf_cache.specs.Spans.{AreSpans, IsSpan, Span, pair_rank, span_at, span_if}
-use Rattle.pf_cache.proofs.Spanned.{found_span, has_span, pairs_rise, same_rank, span_of_last, span_stays}
-use Rattle.pf_cache.proofs.Unmoved.{kept_points, span_of_unmoved}
+use Rattle.pf_cache.specs.Manifolds.{has_pair, manifolds_of, no_manifolds, placed_shapes, points_of_pair}
+use Rattle.pf_cache.specs.Spans.{AreSpans, IsKeptSpan, IsSpan, Span, are_unmoved, pair_rank, span_at, span_if, spans_from}
+use Rattle.pf_cache.proofs.Refreshing.{pairs_of_spans, spans_more}
+use Rattle.pf_cache.proofs.SpanPlaces.{other_rank}
+use Rattle.pf_manifold.proofs.Rising.{rising-all}
+use Rattle.pf_cache.proofs.Spanned.{found_span, has_span, pairs_rise, same_rank}
 use Rattle.pf_cache.proofs.Walk.{reads_behind, reads_here}
 
 -- the span of a pair from a place of the spans on
@@ -39,15 +40,6 @@ same_at_start spans pairs = λ k d within. refl
 -- the pairs that the spans are of
 abbrev pairs_of : List Span → List Pair
 pairs_of spans = map (λ s. s.pair) spans
-
--- what is kept, by its parts
-abbrev kept_of : List PlacedShape → List Span → Manifolds
-kept_of old spans = record { shapes = old; pairs = pairs_of spans }
-
-abbrev bodies_of : (old : List PlacedShape) (kept : List Touch) (spans : List Span) → All (IsSpan old kept) spans
-    → All (λ s. IsPairOf MAX_BODIES s.pair) spans
-bodies_of old kept spans all =
-    All-weaker (IsSpan old kept) (λ s. IsPairOf MAX_BODIES s.pair) (λ s h. h.bodies) spans all
 
 -- a step of the walk: the pair p at i. The lent list is the spans.
 module _ (spans lent : List Span) (pairs : List Pair) (i place : ℕ) (d p : Pair) (within : i < length pairs)
@@ -68,29 +60,38 @@ module _ (spans lent : List Span) (pairs : List Pair) (i place : ℕ) (d p : Pai
       reads_behind pair_rank (of_pair spans) pairs i place last d within
       (λ q high. past (pair_rank q) (subst (λ x. pair_rank x < pair_rank q) (sym p_is) high)) same rising
 
--- what is looked up, where the bodies of the pair stand as they stood, holds its points
-module _ (old shapes : List PlacedShape) (kept : List Touch) (spans : List Span) (p : Pair) (looked : Option Span)
-    (all : All (IsSpan old kept) spans) (hp : IsPairOf MAX_BODIES p) (e : looked ≡ span_at (pair_rank p) spans) where
-  abbrev pub both : Bool
-  both = is_unmoved old shapes p.a && is_unmoved old shapes p.b
-
-  pub is_span : IfSome (span_if both looked) (λ s. IsSpan shapes kept s × (s.pair ≡ p))
-  is_span = by both looked refl (sym e)
+-- what is looked up, where both bodies of the pair are unmoved, holds its points
+module _ (shapes : List PlacedShape) (unmoved : List Bool) (kept : List Touch) (spans : List Span) (p : Pair)
+    (looked : Option Span) (all : All (IsKeptSpan shapes unmoved kept) spans) (hp : IsPairOf MAX_BODIES p)
+    (e : looked ≡ span_at (pair_rank p) spans) where
+  pub is_span : IfSome (span_if (are_unmoved unmoved p) looked) (λ s. IsSpan shapes kept s × (s.pair ≡ p))
+  is_span = by (are_unmoved unmoved p) looked refl (sym e)
     where
-      by : (b : Bool) (o : Option Span) → both ≡ b → span_at (pair_rank p) spans ≡ o
+      by : (b : Bool) (o : Option Span) → are_unmoved unmoved p ≡ b → span_at (pair_rank p) spans ≡ o
           → IfSome (span_if b o) (λ s. IsSpan shapes kept s × (s.pair ≡ p))
       by false o moved is = tt
-      by true None unmoved is = tt
-      by true (Some s) unmoved is =
-          let found = found_span (IsSpan old kept) (pair_rank p) spans s all is in
+      by true None stand is = tt
+      by true (Some s) stand is =
+          let found = found_span (IsKeptSpan shapes unmoved kept) (pair_rank p) spans s all is in
           let same = same_rank s.pair p found.0.bodies hp found.1 in
-          (span_of_unmoved old shapes kept s p found.0 same unmoved, same)
+          (
+            record {
+              bodies = found.0.bodies;
+              within = found.0.within;
+              points = found.0.points (ap (are_unmoved unmoved) same ∙ stand);
+            },
+            same,
+          )
 
-  -- so its points are kept
-  pub kept_test : is_some (span_if both looked) ≡ is_reusable (kept_of old spans) shapes p
+  -- so its points are there
+  pub kept_test : is_some (span_if (are_unmoved unmoved p) looked) ≡ (has_pair (pairs_of spans) p && are_unmoved unmoved p)
   kept_test =
-      by both looked ∙ ap (λ t. t && both) (ap is_some e ∙ has_span p spans hp (bodies_of old kept spans all))
+      by (are_unmoved unmoved p) looked ∙ ap (λ t. t && are_unmoved unmoved p) (ap is_some e ∙ has_span p spans hp bodies)
     where
+      bodies : All (λ s. IsPairOf MAX_BODIES s.pair) spans
+      bodies =
+          All-weaker (IsKeptSpan shapes unmoved kept) (λ s. IsPairOf MAX_BODIES s.pair) (λ s h. h.bodies) spans all
+
       by : (b : Bool) (o : Option Span) → is_some (span_if b o) ≡ (is_some o && b)
       by true None = refl
       by true (Some s) = refl
@@ -114,39 +115,24 @@ module _ (shapes : List PlacedShape) (pairs : List Pair) (i : ℕ) (d p : Pair) 
       ∙ sym (ap (flat_map (points_of_pair shapes)) (take_more pairs i d within)
       ∙ flat_map-append (points_of_pair shapes) (take i pairs) (get_or pairs i d ∷ []))
 
-  pub listed_more : (spans after : List Span) (s : Span) → pairs_of spans ≡ take i pairs → after ≡ spans ++ s ∷ []
-      → s.pair ≡ p → pairs_of after ≡ take (i + 1) pairs
-  listed_more spans after s done pushed same =
-      ap pairs_of pushed ∙ map-append (λ (x : Span). x.pair) spans (s ∷ [])
-      ∙ ap₂ (λ xs q. xs ++ q ∷ []) done (same ∙ p_is) ∙ sym (take_more pairs i d within)
-
-  pub spans_more : (touches after : List Touch) (spans longer : List Span) (len : ℕ) → All (IsSpan shapes touches) spans
-      → after ≡ touches ++ points_of_pair shapes p → IsPairOf MAX_BODIES p → len ≡ length after - length touches
+  pub listed_more : (touches after : List Touch) (spans longer : List Span) (len : ℕ)
+      → spans ≡ spans_from 0 shapes (take i pairs) → touches ≡ flat_map (points_of_pair shapes) (take i pairs)
+      → after ≡ touches ++ points_of_pair shapes p → len ≡ length after - length touches
       → longer ≡ spans ++ record { pair = p; start = length touches; len = len } ∷ []
-      → All (IsSpan shapes after) longer
-  spans_more touches after spans longer len all added hp len_is pushed =
+      → longer ≡ spans_from 0 shapes (take (i + 1) pairs)
+  listed_more touches after spans longer len listed done added len_is pushed =
       let more = points_of_pair shapes p in
+      let front = flat_map (points_of_pair shapes) (take i pairs) in
       let long = ap length added ∙ length-append touches more in
       let count : len ≡ length more = omega (arith, len_is, long) in
-      let kept = All-weaker (IsSpan shapes touches) (IsSpan shapes (touches ++ more)) (span_stays shapes touches more) spans all in
-      let last = span_of_last shapes touches p len hp count in
-      rw (pushed, added)
-      (All-append (IsSpan shapes (touches ++ more)) spans _ kept
-      (All-cons (IsSpan shapes (touches ++ more)) _ [] last (All-nil (IsSpan shapes (touches ++ more)))))
-
-  pub computed_more : (m : Manifolds) (count : ℕ) → count ≡ computed_count m shapes (take i pairs)
-      → not (is_reusable m shapes p) ≡ true → count + 1 ≡ computed_count m shapes (take (i + 1) pairs)
-  computed_more m count done missing =
-      ap (λ n. n + 1) done
-      ∙ sym (count_by_more_yes (λ q. not (is_reusable m shapes q)) pairs i d within
-      (ap (λ q. not (is_reusable m shapes q)) (sym p_is) ∙ missing))
-
-  pub computed_same : (m : Manifolds) (count : ℕ) → count ≡ computed_count m shapes (take i pairs)
-      → not (is_reusable m shapes p) ≡ false → count ≡ computed_count m shapes (take (i + 1) pairs)
-  computed_same m count done there =
-      done
-      ∙ sym (count_by_more_no (λ q. not (is_reusable m shapes q)) pairs i d within
-      (ap (λ q. not (is_reusable m shapes q)) (sym p_is) ∙ there))
+      let size = ap length done in
+      let place : length touches ≡ 0 + length front = omega (arith, size) in
+      let pairs_are : take (i + 1) pairs ≡ take i pairs ++ p ∷ [] =
+      take_more pairs i d within ∙ ap (λ x. take i pairs ++ x ∷ []) (sym p_is) in
+      pushed
+      ∙ ap₂ (λ n m. spans ++ record { pair = p; start = n; len = m } ∷ []) place count
+      ∙ ap (λ ss. ss ++ record { pair = p; start = 0 + length front; len = length more } ∷ []) listed
+      ∙ sym (ap (spans_from 0 shapes) pairs_are ∙ spans_more shapes 0 (take i pairs) p)
 
 -- where there are no bodies, there are no pairs
 pub no_pairs : {X : Type 0} (bodies : List X) (pairs : List Pair) → bodies ≡ [] → All (IsPairOf (length bodies)) pairs
@@ -196,22 +182,68 @@ pub pairs_of_scene : (n : ℕ) (pairs : List Pair) → n ≤ MAX_BODIES → All 
 pairs_of_scene n pairs few are =
     All-weaker (IsPairOf n) (IsPairOf MAX_BODIES) (λ p h. (h.0, omega (arith, h.1, few))) pairs are
 
+-- the spans that are passed by have lower ranks
+skipped : (k : ℕ) (spans : List Span) (n : ℕ) → All (λ s. pair_rank s.pair < n) (take k spans)
+    → span_at n (drop k spans) ≡ span_at n spans
+skipped zero spans n low = refl
+skipped (suc k) [] n low = refl
+skipped (suc k) (s ∷ spans) n low =
+    skipped k spans n (All-tail (λ x. pair_rank x.pair < n) s (take k spans) low)
+    ∙ sym (other_rank n s spans (All-head (λ x. pair_rank x.pair < n) s (take k spans) low))
+
+lower_before : (k : ℕ) (pairs : List Pair) (least j : ℕ) (d : Pair) → IsRising least (map pair_rank pairs)
+    → j < length (drop k pairs) → All (λ p. pair_rank p < pair_rank (get_or (drop k pairs) j d)) (take k pairs)
+lower_before zero pairs least j d rising within = All-nil (λ p. pair_rank p < pair_rank (get_or pairs j d))
+lower_before (suc k) [] least j d rising within = All-nil (λ p. pair_rank p < pair_rank d)
+lower_before (suc k) (p ∷ pairs) least j d rising within =
+    All-cons (λ q. pair_rank q < pair_rank (get_or (drop k pairs) j d)) p (take k pairs)
+    (All-drop (λ q. suc (pair_rank p) ≤ pair_rank q) k pairs (rising-all pair_rank (suc (pair_rank p)) pairs rising.1) j d within)
+    (lower_before k pairs (suc (pair_rank p)) j d rising.1 within)
+
+-- behind the first pairs, which are those of the first spans, nothing is passed by
+pub same_behind : (shapes : List PlacedShape) (spans : List Span) (pairs : List Pair) (k : ℕ)
+    → take k spans ≡ spans_from 0 shapes (take k pairs) → IsAscending pairs → All (IsPairOf MAX_BODIES) pairs
+    → All (SameSpanFrom spans k) (drop k pairs)
+same_behind shapes spans pairs k listed up are = λ j d within.
+    let q = get_or (drop k pairs) j d in
+    let own : take k pairs ≡ pairs_of (take k spans) = sym (ap pairs_of listed ∙ pairs_of_spans shapes 0 (take k pairs)) in
+    skipped k spans (pair_rank q)
+    (All-unmap (take k spans) (subst (All (λ p. pair_rank p < pair_rank q)) own
+    (lower_before k pairs 0 j d (pairs_rise pairs up are) within)))
+  where
+    All-unmap : {n : ℕ} (ss : List Span) → All (λ p. pair_rank p < n) (pairs_of ss) → All (λ s. pair_rank s.pair < n) ss
+    All-unmap {n} [] all = All-nil (λ s. pair_rank s.pair < n)
+    All-unmap {n} (s ∷ ss) all =
+        All-cons (λ x. pair_rank x.pair < n) s ss (All-head (λ p. pair_rank p < n) s.pair (pairs_of ss) all)
+        (All-unmap ss (All-tail (λ p. pair_rank p < n) s.pair (pairs_of ss) all))
+
 -- all pairs have their spans
-pub spans_done : (fixtures : List Fixture) (bodies : List BodyState) (pairs : List Pair) (shapes : List PlacedShape)
-    (spans : List Span) (touches : List Touch) (i : ℕ) → length bodies ≤ MAX_BODIES → All (IsPairOf (length bodies)) pairs
-    → IsAscending pairs → length pairs ≤ i → shapes ≡ placed_shapes fixtures bodies → pairs_of spans ≡ take i pairs
-    → All (IsSpan shapes touches) spans → touches ≡ flat_map (points_of_pair shapes) (take i pairs)
-    → AreSpans shapes spans touches
-spans_done fixtures bodies pairs shapes spans touches i few are up over shapes_are listed all whole =
-    let pairs_are : pairs_of spans ≡ pairs = listed ∙ take_all i pairs over in
-    let listed_points = whole ∙ ap (flat_map (points_of_pair shapes)) (take_all i pairs over) in
+pub spans_done : (shapes : List PlacedShape) (pairs : List Pair) (spans : List Span) (touches : List Touch) (i : ℕ)
+    → length shapes ≤ MAX_BODIES → All (IsPairOf (length shapes)) pairs → IsAscending pairs
+    → AreTouches (flat_map (points_of_pair shapes) pairs) → length pairs ≤ i
+    → spans ≡ spans_from 0 shapes (take i pairs) → touches ≡ flat_map (points_of_pair shapes) (take i pairs)
+    → AreSpans shapes spans touches × (pairs_of spans ≡ pairs)
+spans_done shapes pairs spans touches i few are up order over listed whole =
+    let all : take i pairs ≡ pairs = take_all i pairs over in
+    let placed : spans ≡ spans_from 0 shapes pairs = listed ∙ ap (spans_from 0 shapes) all in
+    let pairs_are : pairs_of spans ≡ pairs = ap pairs_of placed ∙ pairs_of_spans shapes 0 pairs in
+    let points = whole ∙ ap (flat_map (points_of_pair shapes)) all in
     let ranks : map (λ s. pair_rank s.pair) spans ≡ map pair_rank pairs =
     sym (map-map pair_rank (λ (s : Span). s.pair) spans) ∙ ap (map pair_rank) pairs_are in
-    let touching : touches ≡ found.touches fixtures bodies pairs =
-    listed_points ∙ ap (λ ss. flat_map (points_of_pair ss) pairs) shapes_are ∙ kept_points fixtures bodies pairs in
-    record {
-      rising = subst (IsRising 0) (sym ranks) (pairs_rise pairs up (pairs_of_scene (length bodies) pairs few are));
-      spans = all;
-      whole = listed_points ∙ ap (flat_map (points_of_pair shapes)) (sym pairs_are);
-      order = subst AreTouches (sym touching) (touches_in_order fixtures bodies (length bodies) pairs few up are);
-    }
+    let bodies = pairs_of_scene (length shapes) pairs few are in
+    (
+      record {
+        rising = subst (IsRising 0) (sym ranks) (pairs_rise pairs up bodies);
+        bodies = bodies_of spans (subst (All (IsPairOf MAX_BODIES)) (sym pairs_are) bodies);
+        placed = placed ∙ ap (spans_from 0 shapes) (sym pairs_are);
+        whole = points ∙ ap (flat_map (points_of_pair shapes)) (sym pairs_are);
+        order = subst AreTouches (sym points) order;
+      },
+      pairs_are,
+    )
+  where
+    bodies_of : (ss : List Span) → All (IsPairOf MAX_BODIES) (pairs_of ss) → All (λ s. IsPairOf MAX_BODIES s.pair) ss
+    bodies_of [] all = All-nil (λ s. IsPairOf MAX_BODIES s.pair)
+    bodies_of (s ∷ ss) all =
+        All-cons (λ x. IsPairOf MAX_BODIES x.pair) s ss (All-head (IsPairOf MAX_BODIES) s.pair (pairs_of ss) all)
+        (bodies_of ss (All-tail (IsPairOf MAX_BODIES) s.pair (pairs_of ss) all))

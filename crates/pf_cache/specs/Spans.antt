@@ -1,13 +1,13 @@
 -- How kept contact points are stored: those of all pairs in one list, and for each pair where its
 -- points stand in that list.
-use Rattle.std.specs.Prelude.{◌≡◌, ℕ, ◌+◌, ◌≤◌, ◌==◌, Bool, Option, Some, None, List, [], ◌∷◌, length, map, All, take, drop, if◌then◌else◌}
+use Rattle.std.specs.Prelude.{◌≡◌, ℕ, ◌+◌, ◌≤◌, ◌==◌, Bool, true, false, not, ◌&&◌, Option, Some, None, List, [], ◌∷◌, length, map, All, count_by, get_or, take, drop, if◌then◌else◌}
 use Rattle.std.specs.List.{flat_map, zip}
 use Rattle.pf_shapes.specs.Pair.{IsPairOf, Pair}
 use Rattle.pf_shapes.specs.declared.scene.TheConstants.{MAX_BODIES}
 use Rattle.pf_manifold.specs.Key.{AreTouches, IsRising, rank}
 use Rattle.pf_manifold.specs.PlacedShape.{PlacedShape}
 use Rattle.pf_manifold.specs.Touches.{Touch}
-use Rattle.pf_cache.specs.Manifolds.{points_of_pair, same_placed_shape}
+use Rattle.pf_cache.specs.Manifolds.{has_pair, points_of_pair, same_placed_shape}
 
 -- a pair, and where its points stand
 pub record Span : Type 0 where
@@ -36,15 +36,52 @@ span_if b o = if b then o else None
 abbrev pub unmoved_flags : List PlacedShape → List PlacedShape → List Bool
 unmoved_flags old shapes = map (λ both. same_placed_shape both.0 both.1) (zip old shapes)
 
+-- whether both bodies of a pair are unmoved
+abbrev pub are_unmoved : List Bool → Pair → Bool
+are_unmoved unmoved p = get_or unmoved p.a false && get_or unmoved p.b false
+
+-- how many of these pairs are none of the kept ones, or have a body that moved
+abbrev pub missing_count : List Pair → List Bool → List Pair → ℕ
+missing_count kept unmoved pairs = count_by (λ p. not (has_pair kept p && are_unmoved unmoved p)) pairs
+
+-- the spans of pairs whose points stand one after the other, from a start on
+abbrev pub spans_from : ℕ → List PlacedShape → List Pair → List Span
+spans_from start shapes [] = []
+spans_from start shapes (p ∷ pairs) =
+    let len = length (points_of_pair shapes p) in
+    record { pair = p; start = start; len = len } ∷ spans_from (start + len) shapes pairs
+
+-- spans that stand one after the other, from a start to an end
+abbrev pub ArePlaced : ℕ → List Span → ℕ → Type 0
+ArePlaced start [] end = start ≡ end
+ArePlaced start (s ∷ spans) end = (s.start ≡ start) × ArePlaced (start + s.len) spans end
+
 -- a span of a pair of bodies, which holds the points of these shapes
 pub record IsSpan (shapes : List PlacedShape) (touches : List Touch) (s : Span) : Type 0 where
   pub bodies : IsPairOf MAX_BODIES s.pair
   pub within : s.start + s.len ≤ length touches
   pub points : span_points touches s ≡ points_of_pair shapes s.pair
 
+-- a span of a pair of bodies, which holds the points of these shapes if both bodies are unmoved
+pub record IsKeptSpan (shapes : List PlacedShape) (unmoved : List Bool) (touches : List Touch) (s : Span)
+    : Type 0 where
+  pub bodies : IsPairOf MAX_BODIES s.pair
+  pub within : s.start + s.len ≤ length touches
+  pub points : are_unmoved unmoved s.pair ≡ true → span_points touches s ≡ points_of_pair shapes s.pair
+
 -- spans in the order of their pairs, each pair once, and their points one after the other
 pub record AreSpans (shapes : List PlacedShape) (list : List Span) (touches : List Touch) : Type 0 where
   pub rising : IsRising 0 (map (λ s. pair_rank s.pair) list)
-  pub spans : All (IsSpan shapes touches) list
+  pub bodies : All (λ s. IsPairOf MAX_BODIES s.pair) list
+  pub placed : list ≡ spans_from 0 shapes (map (λ s. s.pair) list)
   pub whole : touches ≡ flat_map (points_of_pair shapes) (map (λ s. s.pair) list)
   pub order : AreTouches touches
+
+-- the first pairs, so many, are those of the first spans, and their points, so many, stand first
+pub record AreRefreshed (shapes : List PlacedShape) (spans : List Span) (touches : List Touch)
+    (pairs : List Pair) (count points : ℕ) : Type 0 where
+  pub within : count ≤ length pairs
+  pub spanned : count ≤ length spans
+  pub listed : take count spans ≡ spans_from 0 shapes (take count pairs)
+  pub stored : take points touches ≡ flat_map (points_of_pair shapes) (take count pairs)
+  pub rest : ArePlaced points (drop count spans) (length touches)

@@ -1,9 +1,17 @@
 //! The contact points of a tick, as they are gathered pair by pair.
 
-ghost use Rattle.std.specs.Prelude.{◌≡◌, ◌-◌, ◌≤◌, ◌++◌, OnOk, drop, length, take};
+ghost use Rattle.std.specs.Prelude.{◌≡◌, ◌-◌, ◌≤◌, ◌++◌, All, IfOk, OnOk, drop, length, map, take};
+ghost use Rattle.std.specs.List.{flat_map};
+ghost use Rattle.pf_shapes.specs.Pair.{IsAscending, IsPairOf};
+ghost use Rattle.pf_shapes.specs.declared.scene.TheConstants.{MAX_BODIES};
+ghost use Rattle.pf_manifold.specs.Key.{AreTouches, IsRising};
+ghost use Rattle.pf_cache.specs.Manifolds.{points_of_pair};
+ghost use Rattle.pf_cache.specs.Spans.{AreRefreshed, IsKeptSpan, missing_count, pair_rank};
 
 use crate::kept_shape::KeptShape;
-use crate::spans::Span;
+use crate::manifolds::{Manifolds, NarrowPhase};
+use crate::refresh::Progress;
+use crate::spans::{Span, span_of, unmoved_span};
 use pf_manifold::{Touch, collide, push_points};
 use pf_shapes::Pair;
 use std::alloc::{AllocError, Global};
@@ -59,16 +67,22 @@ impl<'a> GatheredPoints<'a> {
     ghost use Rattle.pf_cache.specs.Gathered.{GatheredPoints};
     ghost use Rattle.pf_cache.specs.Spans.{IsSpan};
 
-    /// No points, with capacity for as many as are kept.
-    pub fn new(alloc: Global, source: &'a [Touch]) -> Result<GatheredPoints<'a>, AllocError>
-        ensures { IfOk result (λ g. g ≡ record { source = source.now; points = [] }) }
+    /// The first points of `source`, up to `end`, with capacity for as many as are kept.
+    pub fn new(
+        alloc: Global,
+        source: &'a [Touch],
+        end: usize,
+    ) -> Result<GatheredPoints<'a>, AllocError>
+        requires { end ≤ length source.now }
+        ensures { IfOk result
+            (λ g. g ≡ record { source = source.now; points = take end source.now }) }
     {
         let touches = Vec::with_capacity(alloc, source.len())?;
         Ok(GatheredPoints {
             touches,
             source,
             start: 0,
-            end: 0,
+            end,
         })
     }
 
@@ -141,4 +155,73 @@ impl<'a> GatheredPoints<'a> {
         copy_run(&mut touches, self.source, self.start, self.end)?;
         Ok(touches)
     }
+}
+
+/// The contact points of the last tick, brought up to date as far as they could be where they stand.
+#[derive(Drop)]
+pub struct KeptPoints<'a> {
+    /// Where the points of each pair stand.
+    pub spans: &'a [Span],
+    /// The points.
+    pub touches: &'a [Touch],
+    /// For each body whether it is unmoved.
+    pub unmoved: &'a [bool],
+}
+
+/// The contact points of these pairs in a new list: those of the pairs that are done, then those of
+/// the other pairs, of which those of unmoved bodies are copied.
+#[inline(never)]
+pub fn gather(
+    alloc: Global,
+    kept: &KeptPoints,
+    done: &Progress,
+    shapes: Vec<KeptShape>,
+    pairs: &[Pair],
+) -> Result<NarrowPhase, AllocError>
+    requires few { length shapes.items ≤ MAX_BODIES }
+    requires pairs { All (IsPairOf (length shapes.items)) pairs.now }
+    requires ascending { IsAscending pairs.now }
+    requires order { AreTouches (flat_map (points_of_pair shapes.items) pairs.now) }
+    requires rising { IsRising 0 (map (λ s. pair_rank s.pair) kept.now.spans.now) }
+    requires kept { All (IsKeptSpan shapes.items kept.now.unmoved.now kept.now.touches.now)
+        kept.now.spans.now }
+    requires done { AreRefreshed shapes.items kept.now.spans.now kept.now.touches.now pairs.now
+        done.now.pairs done.now.points }
+    requires computed { done.now.computed ≡ missing_count (map (λ s. s.pair) kept.now.spans.now)
+        kept.now.unmoved.now (take done.now.pairs pairs.now) }
+    ensures manifolds { IfOk result
+        (λ found. found.manifolds ≡ record { shapes = shapes.items; pairs = pairs.now }) }
+    ensures computed { IfOk result
+        (λ found. found.computed ≡ missing_count (map (λ s. s.pair) kept.now.spans.now)
+        kept.now.unmoved.now pairs.now) }
+{
+    let mut spans = Vec::with_capacity(alloc, pairs.len())?;
+    spans.extend_from_slice(&kept.spans[..done.pairs])?;
+    let mut points = GatheredPoints::new(alloc, kept.touches, done.points)?;
+    let mut computed = done.computed;
+    let mut place = done.pairs;
+    for index in done.pairs..pairs.len() {
+        let pair = &pairs[index];
+        let (found, behind) = span_of(kept.spans, place, pair);
+        place = behind;
+        let span = unmoved_span(found, pair, kept.unmoved);
+        let start = points.len()?;
+        if span.is_none() {
+            computed += 1;
+        }
+        points.add(span, pair, &shapes)?;
+        let len = points.len()? - start;
+        let pair = *pair;
+        spans.push(Span { pair, start, len })?;
+    }
+    let touches = points.into_touches()?;
+    let manifolds = Manifolds {
+        shapes,
+        spans,
+        touches,
+    };
+    Ok(NarrowPhase {
+        manifolds,
+        computed,
+    })
 }

@@ -1,12 +1,12 @@
 //! The shapes of bodies as they stood.
 
-ghost use Rattle.std.specs.Prelude.{◌≡◌, IfOk, false, get_or};
+ghost use Rattle.std.specs.Prelude.{◌≡◌, IfOk, false, get_or, length};
 ghost use Rattle.pf_cache.specs.Manifolds.{placed_shapes};
-ghost use Rattle.pf_cache.specs.Spans.{unmoved_flags};
+ghost use Rattle.pf_cache.specs.Spans.{are_unmoved, unmoved_flags};
 
 use pf_manifold::PlacedShape;
 use pf_rot::{Rot, V2};
-use pf_shapes::{BodyState, Fixture, Shape};
+use pf_shapes::{BodyState, Fixture, Pair, Shape};
 use std::alloc::{AllocError, Global};
 use std::marker::Model;
 
@@ -108,10 +108,69 @@ pub fn unmoved_flags(
         .collect(alloc)
 }
 
+/// The shapes of bodies as they stand now, of which those that stood otherwise are written; and for
+/// each number whether the body is unmoved.
+#[inline(never)]
+fn refresh_all(
+    shapes: &mut [KeptShape],
+    unmoved: &mut [bool],
+    fixtures: &[Fixture],
+    bodies: &[BodyState],
+)
+    requires fixtures { length fixtures.now ≡ length shapes.old }
+    requires bodies { length bodies.now ≡ length shapes.old }
+    requires unmoved { length unmoved.old ≡ length shapes.old }
+    ensures shapes { shapes.new ≡ placed_shapes fixtures.now bodies.now }
+    ensures unmoved { unmoved.new
+        ≡ unmoved_flags shapes.old (placed_shapes fixtures.now bodies.now) }
+{
+    for number in 0..shapes.len() {
+        let shape = KeptShape::of(&fixtures[number], &bodies[number]);
+        let is_same = shapes[number].is_same(&shape);
+        unmoved[number] = is_same;
+        if !is_same {
+            shapes[number] = shape;
+        }
+    }
+}
+
+/// The shapes of all bodies as they stand, in the list of the old ones where these are as many; and
+/// for each number in both lists whether the body is unmoved.
+pub fn refreshed_shapes(
+    alloc: Global,
+    old: Vec<KeptShape>,
+    fixtures: &[Fixture],
+    bodies: &[BodyState],
+) -> Result<(Vec<KeptShape>, Vec<bool>), AllocError>
+    requires { length bodies.now ≡ length fixtures.now }
+    ensures shapes { IfOk result (λ found. found.0.items ≡ placed_shapes fixtures.now bodies.now) }
+    ensures unmoved { IfOk result (λ found. found.1.items
+        ≡ unmoved_flags old.items (placed_shapes fixtures.now bodies.now)) }
+{
+    let mut shapes = old;
+    if shapes.len() != bodies.len() {
+        let placed = placed_shapes(alloc, fixtures, bodies)?;
+        let unmoved = unmoved_flags(alloc, &shapes, &placed)?;
+        return Ok((placed, unmoved));
+    }
+    let mut unmoved = Vec::with_capacity(alloc, bodies.len())?;
+    unmoved.resize(bodies.len(), false)?;
+    refresh_all(&mut shapes, &mut unmoved, fixtures, bodies);
+    Ok((shapes, unmoved))
+}
+
 /// Whether the body with this number is unmoved; one beyond the list is not.
 #[inline]
-pub fn is_unmoved(unmoved: &[bool], number: usize) -> bool
+fn is_unmoved(unmoved: &[bool], number: usize) -> bool
     ensures { result ≡ get_or unmoved.now number false }
 {
     number < unmoved.len() && unmoved[number]
+}
+
+/// Whether both bodies of a pair are unmoved.
+#[inline]
+pub fn are_unmoved(unmoved: &[bool], pair: &Pair) -> bool
+    ensures { result ≡ are_unmoved unmoved.now pair.now }
+{
+    is_unmoved(unmoved, pair.a) && is_unmoved(unmoved, pair.b)
 }

@@ -11,6 +11,7 @@ mod kept_shape;
 pub mod laws;
 mod manifolds;
 mod meter;
+mod refresh;
 mod row;
 mod spans;
 mod work;

@@ -2,9 +2,10 @@
 
 ghost use Rattle.std.specs.Prelude.{◌≡◌};
 
-use crate::gathered::GatheredPoints;
-use crate::kept_shape::{KeptShape, placed_shapes, unmoved_flags};
-use crate::spans::{Span, span_of, unmoved_span};
+use crate::gathered::{KeptPoints, gather};
+use crate::kept_shape::{KeptShape, refreshed_shapes};
+use crate::refresh::refresh;
+use crate::spans::Span;
 use pf_manifold::Touch;
 use pf_shapes::{BodyState, Pair, Scene};
 use std::alloc::{AllocError, Global};
@@ -15,9 +16,9 @@ use std::marker::Model;
 /// are kept with the shapes, positions and rotations that they were computed from.
 #[derive(Debug, Drop)]
 pub struct Manifolds {
-    shapes: Vec<KeptShape>,
-    spans: Vec<Span>,
-    touches: Vec<Touch>,
+    pub(crate) shapes: Vec<KeptShape>,
+    pub(crate) spans: Vec<Span>,
+    pub(crate) touches: Vec<Touch>,
 }
 
 impl Model for Manifolds {
@@ -82,7 +83,7 @@ impl Manifolds {
     /// are computed, and these pairs are counted. Takes no memory where there are no bodies.
     #[inline(never)]
     pub fn update(
-        &self,
+        self,
         alloc: Global,
         scene: &Scene,
         bodies: &[BodyState],
@@ -94,7 +95,7 @@ impl Manifolds {
         ensures manifolds { IfOk result (λ found.
             found.manifolds ≡ manifolds_of scene.now.fixtures bodies.now pairs.now) }
         ensures computed { IfOk result (λ found. found.computed
-            ≡ computed_count self.now (placed_shapes scene.now.fixtures bodies.now) pairs.now) }
+            ≡ computed_count self (placed_shapes scene.now.fixtures bodies.now) pairs.now) }
         ensures no_memory { bodies.now ≡ [] → IsOk result }
     {
         if bodies.is_empty() {
@@ -103,36 +104,26 @@ impl Manifolds {
                 computed: 0,
             });
         }
-        let shapes = placed_shapes(alloc, scene.fixtures(), bodies)?;
-        let unmoved = unmoved_flags(alloc, &self.shapes, &shapes)?;
-        let mut spans = Vec::with_capacity(alloc, pairs.len())?;
-        let mut points = GatheredPoints::new(alloc, &self.touches)?;
-        let mut computed = 0;
-        let mut place = 0;
-        for pair in pairs {
-            let (found, behind) = span_of(&self.spans, place, pair);
-            place = behind;
-            let span = unmoved_span(found, pair, &unmoved);
-            let start = points.len()?;
-            if span.is_none() {
-                computed += 1;
-            }
-            points.add(span, pair, &shapes)?;
-            spans.push_reserved(Span {
-                pair: *pair,
-                start,
-                len: points.len()? - start,
+        let (shapes, unmoved) = refreshed_shapes(alloc, self.shapes, scene.fixtures(), bodies)?;
+        let spans = self.spans;
+        let mut touches = self.touches;
+        let done = refresh(&mut touches, &spans, pairs, &unmoved, &shapes);
+        if done.pairs == pairs.len() && done.pairs == spans.len() {
+            let manifolds = Manifolds {
+                shapes,
+                spans,
+                touches,
+            };
+            return Ok(NarrowPhase {
+                manifolds,
+                computed: done.computed,
             });
         }
-        let touches = points.into_touches()?;
-        let manifolds = Manifolds {
-            shapes,
-            spans,
-            touches,
+        let kept = KeptPoints {
+            spans: &spans,
+            touches: &touches,
+            unmoved: &unmoved,
         };
-        Ok(NarrowPhase {
-            manifolds,
-            computed,
-        })
+        gather(alloc, &kept, &done, shapes, pairs)
     }
 }

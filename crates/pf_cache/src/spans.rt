@@ -1,12 +1,12 @@
 //! Where the contact points of kept pairs stand.
 
-ghost use Rattle.std.specs.Prelude.{◌≡◌, ◌≤◌, ◌<◌, ◌&&◌, ℕ, All, drop, false, get_or, length, map};
+ghost use Rattle.std.specs.Prelude.{◌≡◌, ◌≤◌, ◌<◌, ℕ, All, drop, length, map};
 ghost use Rattle.pf_shapes.specs.Pair.{IsPairOf};
 ghost use Rattle.pf_shapes.specs.declared.scene.TheConstants.{MAX_BODIES};
 ghost use Rattle.pf_manifold.specs.Key.{IsRising};
-ghost use Rattle.pf_cache.specs.Spans.{pair_rank, span_at, span_if};
+ghost use Rattle.pf_cache.specs.Spans.{are_unmoved, pair_rank, span_at, span_if};
 
-use crate::kept_shape::is_unmoved;
+use crate::kept_shape::are_unmoved;
 use pf_manifold::Key;
 use pf_shapes::Pair;
 use std::marker::Model;
@@ -30,6 +30,18 @@ impl Model for Span {
     ghost view = { λ s. record { pair = s.pair; start = s.start; len = s.len } };
 
     ghost inverse = { λ s. record { pair = s.pair; start = s.start; len = s.len } };
+}
+
+impl Span {
+    ghost use Rattle.std.specs.Prelude.{◌≡◌, ◌↔◌, IsTrue};
+
+    /// Whether it is of this pair.
+    #[inline]
+    pub fn is_of(&self, pair: &Pair) -> bool
+        ensures { IsTrue result ↔ (self.now.pair ≡ pair.now) }
+    {
+        self.pair.a == pair.a && self.pair.b == pair.b
+    }
 }
 
 /// Pairs are in the order of their ranks: by the first body, then the second.
@@ -127,7 +139,7 @@ pub fn span_of(spans: &[Span], start: usize, pair: &Pair) -> (Option<Span>, usiz
 {
     if start < spans.len() {
         let span = spans[start];
-        if span.pair.a == pair.a && span.pair.b == pair.b {
+        if span.is_of(pair) {
             return (Some(span), start + 1);
         }
     }
@@ -137,10 +149,9 @@ pub fn span_of(spans: &[Span], start: usize, pair: &Pair) -> (Option<Span>, usiz
 /// The span of a pair, where both bodies are unmoved.
 #[inline]
 pub fn unmoved_span(span: Option<Span>, pair: &Pair, unmoved: &[bool]) -> Option<Span>
-    ensures { result ≡ span_if
-        (get_or unmoved.now pair.now.a false && get_or unmoved.now pair.now.b false) span }
+    ensures { result ≡ span_if (are_unmoved unmoved.now pair.now) span }
 {
-    if is_unmoved(unmoved, pair.a) && is_unmoved(unmoved, pair.b) {
+    if are_unmoved(unmoved, pair) {
         span
     } else {
         None

@@ -1,12 +1,14 @@
 //! What steps of one simulation share.
 
 ghost use Rattle.std.specs.Prelude.{◌≡◌};
+ghost use Rattle.pf_cache.specs.Manifolds.{no_manifolds};
 ghost use Rattle.pf_cache.specs.Meter.{work_after_tick, no_work};
 
 use crate::manifolds::{Manifolds, NarrowPhase};
 use crate::meter::Meter;
 use std::alloc::Global;
 use std::marker::Model;
+use std::mem;
 
 /// What one step of a simulation leaves to the next beside the world: how much work was done, and
 /// the contact points of the last tick, for reuse.
@@ -47,6 +49,15 @@ impl Work {
         ensures { result.now ≡ self.now.manifolds }
     {
         &self.manifolds
+    }
+
+    /// Takes the contact points of the last tick, so that those of the next can stand in their
+    /// memory. None are kept from then on.
+    pub fn take_manifolds(&mut self, alloc: Global) -> Manifolds
+        ensures taken { result ≡ self.old.manifolds }
+        ensures rest { self.new ≡ record self.old { manifolds = no_manifolds } }
+    {
+        mem::replace(&mut self.manifolds, Manifolds::new(alloc))
     }
 
     /// Counts a tick and its pairs that could not reuse kept points, and keeps the contact points of

@@ -18,3 +18,4 @@ pub mod FeatureRanges
 pub mod Rising
 pub mod KeyOrder
 pub mod Ranks
+pub mod Replaced

@@ -22,4 +22,4 @@ pub use key::Key;
 pub use manifold::Manifold;
 pub use narrow_phase::collide;
 pub use placed_shape::PlacedShape;
-pub use touch::{Touch, collide_list, push_points};
+pub use touch::{Touch, collide_list, push_points, replace_points};

@@ -1,6 +1,6 @@
 //! The contact points of a list of pairs of bodies, as Box2D 2.x's `b2ContactManager::Collide`.
 
-ghost use Rattle.std.specs.Prelude.{◌≡◌, ◌<◌, ◌++◌, [], All, length, map, Some, IfOk, OnOk, IsOk};
+ghost use Rattle.std.specs.Prelude.{◌≡◌, ◌+◌, ◌<◌, ◌≤◌, ◌++◌, [], All, drop, length, map, take, Some, IfOk, OnOk, IsOk};
 ghost use Rattle.pf_shapes.specs.Pair.{IsAscending, IsPairOf};
 ghost use Rattle.pf_manifold.specs.Key.{AreTouches};
 ghost use Rattle.pf_manifold.specs.Manifold.{points_of};
@@ -47,6 +47,18 @@ fn placed_shape<'a>(fixtures: &'a [Fixture], bodies: &[BodyState], number: usize
     }
 }
 
+/// A contact point of a pair.
+#[inline]
+fn touch_of(pair: &Pair, point: ContactPoint) -> Touch
+    ensures { result ≡ touch_of pair.now point }
+{
+    Touch {
+        a: pair.a,
+        b: pair.b,
+        point,
+    }
+}
+
 /// Adds the contact points of a pair. Where there is none it takes no memory. After an error some
 /// of the points may have been added.
 pub fn push_points(
@@ -58,20 +70,32 @@ pub fn push_points(
         ≡ touches.old.items ++ map (touch_of pair.now) (points_of points.now)) }
     ensures no_memory { points_of points.now ≡ [] → IsOk result }
 {
-    let touch = |point: ContactPoint| Touch {
-        a: pair.a,
-        b: pair.b,
-        point,
-    };
     match *points {
         Manifold::Apart => {}
-        Manifold::One(point) => touches.push(touch(point))?,
+        Manifold::One(point) => touches.push(touch_of(pair, point))?,
         Manifold::Two(first, second) => {
-            touches.push(touch(first))?;
-            touches.push(touch(second))?;
+            touches.push(touch_of(pair, first))?;
+            touches.push(touch_of(pair, second))?;
         }
     }
     Ok(())
+}
+
+/// Writes the contact points of a pair over as many others, from `start` on.
+pub fn replace_points(touches: &mut [Touch], start: usize, pair: &Pair, points: &Manifold)
+    requires { start + length (points_of points.now) ≤ length touches.old }
+    ensures { touches.new
+        ≡ take start touches.old ++ (map (touch_of pair.now) (points_of points.now)
+        ++ drop (start + length (points_of points.now)) touches.old) }
+{
+    match *points {
+        Manifold::Apart => (),
+        Manifold::One(point) => touches[start] = touch_of(pair, point),
+        Manifold::Two(first, second) => {
+            touches[start] = touch_of(pair, first);
+            touches[start + 1] = touch_of(pair, second);
+        }
+    }
 }
 
 /// The contact points of these pairs of bodies, in the order of the pairs, and those of one pair in

@@ -2,7 +2,7 @@
 
 ghost use Rattle.std.specs.Prelude.{◌≡◌, [], All, length, IfOk, IsOk, OnOk, OnErr};
 ghost use Rattle.pf_manifold.specs.Touches.{IsTouchOf};
-ghost use Rattle.pf_cache.specs.Manifolds.{kept_touches};
+ghost use Rattle.pf_cache.specs.Manifolds.{kept_touches, no_manifolds};
 ghost use Rattle.pf_cache.specs.Meter.{work_after_tick};
 ghost use Rattle.pf_cache.specs.Row.{AreRows, with_rows};
 ghost use Rattle.pf_islands.specs.Sleep.{rested};
@@ -43,17 +43,17 @@ fn solve_active(
     groups.rest(bodies, STILL_TICKS);
 }
 
-/// The contact points of the bodies of a scene as they stand; those that are kept are taken.
+/// The contact points of the bodies of a scene as they stand; kept ones are reused.
 #[tactic(auto, using(pf_cache::proofs::Unmoved::kept_points, pf_manifold::proofs::KeyOrder::touches_of_bodies))]
 fn narrow_phase(
     alloc: Global,
     scene: &Scene,
     bodies: &[BodyState],
-    kept: &Manifolds,
+    kept: Manifolds,
 ) -> Result<NarrowPhase, AllocError>
     requires { length bodies.now ≡ length scene.now.fixtures }
     ensures value { IfOk result
-        (λ found. found ≡ narrow_phase scene.now.fixtures bodies.now kept.now) }
+        (λ found. found ≡ narrow_phase scene.now.fixtures bodies.now kept) }
     ensures touches { IfOk result
         (λ found. kept_touches found.manifolds ≡ touching scene.now bodies.now) }
     ensures bodies { IfOk result
@@ -66,8 +66,8 @@ fn narrow_phase(
 
 /// The world one tick of 1/64 s later, with the payloads of the tick's commands in order of player,
 /// then number. The world has one state for each body of the scene. Counts the tick and the pairs
-/// whose contact points were computed, and keeps the points; an error changes nothing. Takes no
-/// memory where there are no bodies.
+/// whose contact points were computed, and keeps the points; after an error none are kept, and
+/// nothing is counted. Takes no memory where there are no bodies.
 #[tactic(auto, unfolding(crate::specs::Step::step), using(pf_islands::proofs::Starting::groups_long, crate::proofs::Lengths::woken_length, crate::proofs::Ticked::updated_length, crate::proofs::Ticked::ticked, pf_solver::proofs::Solved::solved_length))]
 pub fn step_alone(
     alloc: Global,
@@ -81,12 +81,13 @@ pub fn step_alone(
     ensures bodies { IfOk result (λ next. length next.bodies ≡ length scene.now.fixtures) }
     ensures counted { OnOk result (work.new
         ≡ work_after_tick (narrow_phase_of_tick scene.now world.now payloads.now work.old.manifolds) work.old) }
-    ensures not_counted { OnErr result (work.new ≡ work.old) }
+    ensures not_counted { OnErr result (work.new ≡ record work.old { manifolds = no_manifolds }) }
     ensures no_memory { world.now.bodies ≡ [] → IsOk result }
 {
+    let kept = work.take_manifolds(alloc);
     let mut bodies = copy_of(alloc, world.bodies())?;
     apply_all(scene.fixtures(), &mut bodies, payloads);
-    let found = narrow_phase(alloc, scene, &bodies, work.manifolds())?;
+    let found = narrow_phase(alloc, scene, &bodies, kept)?;
     let touches = found.manifolds.touches();
     let mut contacts = world.contacts().update(touches)?;
     let mut groups = Groups::new(alloc, scene, touches)?;

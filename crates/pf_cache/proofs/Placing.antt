@@ -1,0 +1,64 @@
+-- A list whose first elements are those of a new list, and the others those of an old one.
+use Rattle.std.proofs.Common.{◌≡◌, ℕ, zero, suc, ◌+◌, ◌≤◌, ◌<◌, List, [], ◌∷◌, ◌++◌, length, map, take, set, refl, sym, ap, ap₂, ◌∙◌, arith}
+use Rattle.std.specs.List.{zip}
+use Rattle.std.specs.Prelude.{drop, get_or}
+use Rattle.std.proofs.lemmas.List.{append-nil, drop_all, take_all}
+
+module _ {X : Type 0} where
+  -- the first n of the new list, then the others of the old one
+  abbrev pub joined : List X → List X → ℕ → List X
+  joined new old n = take n new ++ drop n old
+
+  -- the element at n is still the old one
+  pub joined_at : (new old : List X) (n : ℕ) (d : X) → length new ≡ length old → n < length old
+      → get_or (joined new old n) n d ≡ get_or old n d
+  joined_at new [] n d long within = absurd (omega (arith, within))
+  joined_at [] (y ∷ old) n d long within = absurd (omega (arith, long))
+  joined_at (x ∷ new) (y ∷ old) zero d long within = refl
+  joined_at (x ∷ new) (y ∷ old) (suc n) d long within =
+      joined_at new old n d (omega (arith, long)) (omega (arith, within))
+
+  put : (new old : List X) (n : ℕ) (x : X) → length new ≡ length old → n < length old → x ≡ get_or new n x
+      → set (joined new old n) n x ≡ joined new old (suc n)
+  put new [] n x long within is = absurd (omega (arith, within))
+  put [] (y ∷ old) n x long within is = absurd (omega (arith, long))
+  put (z ∷ new) (y ∷ old) zero x long within is = ap (λ w. w ∷ old) is
+  put (z ∷ new) (y ∷ old) (suc n) x long within is =
+      ap (λ ws. z ∷ ws) (put new old n x (omega (arith, long)) (omega (arith, within)) is)
+
+  -- the new element is put at n
+  pub joined_put : (new old now : List X) (n : ℕ) (x : X) → now ≡ joined new old n → length new ≡ length old
+      → n < length old → x ≡ get_or new n x → set now n x ≡ joined new old (n + 1)
+  joined_put new old now n x now_is long within is =
+      let next : suc n ≡ n + 1 = omega arith in
+      ap (λ xs. set xs n x) now_is ∙ put new old n x long within is ∙ ap (joined new old) next
+
+  left : (new old : List X) (n : ℕ) (x : X) → length new ≡ length old → n < length old → x ≡ get_or new n x
+      → x ≡ get_or old n x → joined new old n ≡ joined new old (suc n)
+  left new [] n x long within is was = absurd (omega (arith, within))
+  left [] (y ∷ old) n x long within is was = absurd (omega (arith, long))
+  left (z ∷ new) (y ∷ old) zero x long within is was = ap (λ w. w ∷ old) (sym was ∙ is)
+  left (z ∷ new) (y ∷ old) (suc n) x long within is was =
+      ap (λ ws. z ∷ ws) (left new old n x (omega (arith, long)) (omega (arith, within)) is was)
+
+  -- the element at n is left, since both lists have the same
+  pub joined_left : (new old : List X) (n : ℕ) (x : X) → length new ≡ length old → n < length old
+      → x ≡ get_or new n x → x ≡ get_or old n x → joined new old n ≡ joined new old (n + 1)
+  joined_left new old n x long within is was =
+      let next : suc n ≡ n + 1 = omega arith in
+      left new old n x long within is was ∙ ap (joined new old) next
+
+  -- all are new
+  pub joined_all : (new old : List X) (n : ℕ) → length new ≡ length old → length old ≤ n → joined new old n ≡ new
+  joined_all new old n long over =
+      ap₂ (λ xs ys. xs ++ ys) (take_all n new (omega (arith, long, over))) (drop_all n old over) ∙ append-nil new
+
+-- an element of two lists side by side
+pub zip_at : {X Y Z : Type 0} (f : X × Y → Z) (xs : List X) (ys : List Y) (n : ℕ) (x : X) (y : Y) (d : Z)
+    → n < length xs → n < length ys → x ≡ get_or xs n x → y ≡ get_or ys n y
+    → f (x, y) ≡ get_or (map f (zip xs ys)) n d
+zip_at f [] ys n x y d first second x_is y_is = absurd (omega (arith, first))
+zip_at f (a ∷ xs) [] n x y d first second x_is y_is = absurd (omega (arith, second))
+zip_at f (a ∷ xs) (b ∷ ys) zero x y d first second x_is y_is = ap₂ (λ v w. f (v, w)) x_is y_is
+zip_at f (a ∷ xs) (b ∷ ys) (suc n) x y d first second x_is y_is =
+    zip_at f xs ys n x y d (omega (arith, first)) (omega (arith, second)) x_is y_is

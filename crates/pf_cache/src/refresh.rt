@@ -1,0 +1,91 @@
+//! Contact points that are brought up to date where they stand.
+
+ghost use Rattle.std.specs.Prelude.{◌≡◌, ◌+◌, ◌≤◌, ◌++◌, All, IsTrue, drop, false, length, map, take};
+ghost use Rattle.pf_shapes.specs.Pair.{IsPairOf};
+ghost use Rattle.pf_cache.specs.Manifolds.{points_of_pair};
+ghost use Rattle.pf_cache.specs.Spans.{ArePlaced, AreRefreshed, IsKeptSpan, missing_count};
+
+use crate::kept_shape::{KeptShape, are_unmoved};
+use crate::spans::Span;
+use pf_manifold::{Touch, collide, replace_points};
+use pf_shapes::Pair;
+
+/// How far points could be brought up to date where they stand.
+#[derive(Drop)]
+pub struct Progress {
+    /// For how many pairs.
+    pub pairs: usize,
+    /// How many points these pairs have.
+    pub points: usize,
+    /// For how many of these pairs the points were computed.
+    pub computed: usize,
+}
+
+/// Computes the contact points of a span's pair, and writes them over the old ones if they are as
+/// many. Whether they are.
+#[inline(never)]
+fn refresh_span(touches: &mut [Touch], span: &Span, shapes: &[KeptShape]) -> bool
+    requires pair { IsPairOf (length shapes.now) span.now.pair }
+    requires within { span.now.start + span.now.len ≤ length touches.old }
+    ensures as_many { IsTrue result
+        → length (points_of_pair shapes.now span.now.pair) ≡ span.now.len }
+    ensures written { IsTrue result → touches.new
+        ≡ take span.now.start touches.old ++ (points_of_pair shapes.now span.now.pair
+        ++ drop (span.now.start + span.now.len) touches.old) }
+    ensures others { result ≡ false → touches.new ≡ touches.old }
+{
+    let a = &shapes[span.pair.a];
+    let b = &shapes[span.pair.b];
+    let manifold = collide(&a.placed(), &b.placed());
+    if manifold.count() != span.len {
+        return false;
+    }
+    replace_points(touches, span.start, &span.pair, &manifold);
+    true
+}
+
+/// Brings the contact points of pairs up to date where they stand: those of unmoved bodies are left,
+/// the others are computed and written over the old ones. It ends before the first pair that has no
+/// span at its place, or another number of points than before.
+#[inline(never)]
+#[tactic(auto, using(crate::proofs::Refreshing::kept_after))]
+pub fn refresh(
+    touches: &mut [Touch],
+    spans: &[Span],
+    pairs: &[Pair],
+    unmoved: &[bool],
+    shapes: &[KeptShape],
+) -> Progress
+    requires pairs { All (IsPairOf (length shapes.now)) pairs.now }
+    requires placed { ArePlaced 0 spans.now (length touches.old) }
+    requires kept { All (IsKeptSpan shapes.now unmoved.now touches.old) spans.now }
+    ensures refreshed { AreRefreshed shapes.now spans.now touches.new pairs.now
+        result.pairs result.points }
+    ensures kept { All (IsKeptSpan shapes.now unmoved.now touches.new) spans.now }
+    ensures computed { result.computed
+        ≡ missing_count (map (λ s. s.pair) spans.now) unmoved.now (take result.pairs pairs.now) }
+{
+    let mut place = 0;
+    let mut points = 0;
+    let mut computed = 0;
+    while place < pairs.len() && place < spans.len() {
+        let pair = &pairs[place];
+        let span = &spans[place];
+        if !span.is_of(pair) {
+            break;
+        }
+        if !are_unmoved(unmoved, pair) {
+            if !refresh_span(touches, span, shapes) {
+                break;
+            }
+            computed += 1;
+        }
+        points = span.start + span.len;
+        place += 1;
+    }
+    Progress {
+        pairs: place,
+        points,
+        computed,
+    }
+}
