@@ -1,9 +1,9 @@
 -- The lemmas of this crate.
 pub mod Ranked
 pub mod Places
-pub mod RowPlaces
 pub mod Walk
 pub mod Kept
+pub mod FoundRows
 pub mod Stored
 pub mod Found
 pub mod SpanPlaces

@@ -1,5 +1,5 @@
 -- Elements in the order of their ranks, read from a place on. Contacts and rows are such elements.
-use Rattle.std.proofs.Common.{◌≡◌, ℕ, suc, ◌+◌, ◌≤◌, ◌<◌, ◌==◌, Bool, true, false, List, [], ◌∷◌, length, map, refl, sym, subst, true≢false, arith}
+use Rattle.std.proofs.Common.{◌≡◌, ◌≢◌, ℕ, zero, suc, ◌+◌, ◌≤◌, ◌<◌, ◌==◌, Bool, true, false, List, [], ◌∷◌, length, map, set, refl, sym, ap, ap₂, subst, true≢false, arith}
 use Rattle.std.proofs.lemmas.Bool.Decides.{Decides-eqb}
 use Rattle.std.proofs.lemmas.List.{drop_more, drop_all}
 use Rattle.std.proofs.lemmas.List.Elements.{All-nil, All-cons, All-head}
@@ -90,3 +90,23 @@ module _ {X : Type 0} (ranked : X → ℕ) where
   -- behind the last element, all are
   pub none_left : (xs : List X) (place least : ℕ) → length xs ≤ place → All (λ x. least ≤ ranked x) (drop place xs)
   none_left xs place least over = rw (drop_all place xs over) (All-nil (λ x. least ≤ ranked x))
+
+  -- functions that differ at elements of one rank alone are the same above it
+  map_above : (f g : X → X) (n : ℕ) (xs : List X) → IsRising (suc n) (map ranked xs)
+      → ((x : X) → ranked x ≢ n → f x ≡ g x) → map f xs ≡ map g xs
+  map_above f g n [] h other = refl
+  map_above f g n (x ∷ xs) h other =
+      ap₂ (λ y ys. y ∷ ys) (other x (λ e. omega (arith, e, h.0)))
+      (map_above f g n xs (rising-weaken (suc n) (suc (ranked x)) (map ranked xs) (omega (arith, h.0)) h.1) other)
+
+  -- functions that differ at elements of one rank alone: the one element of this rank is set
+  pub set_one : (f g : X → X) (least : ℕ) (xs : List X) (place : ℕ) (d : X) → place < length xs
+      → IsRising least (map ranked xs) → ((x : X) → ranked x ≢ ranked (get_or xs place d) → f x ≡ g x)
+      → set (map f xs) place (g (get_or xs place d)) ≡ map g xs
+  set_one f g least [] place d within h other = absurd (omega (arith, within))
+  set_one f g least (x ∷ xs) zero d within h other = ap (λ ys. g x ∷ ys) (map_above f g (ranked x) xs h.1 other)
+  set_one f g least (x ∷ xs) (suc place) d within h other =
+      let inside : place < length xs = omega (arith, within) in
+      let above = rising-all ranked (suc (ranked x)) xs h.1 place d inside in
+      ap₂ (λ y ys. y ∷ ys) (other x (λ e. omega (arith, e, above)))
+      (set_one f g (suc (ranked x)) xs place d inside h.1 other)

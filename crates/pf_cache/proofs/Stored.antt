@@ -1,29 +1,22 @@
--- The walk along contacts and rows, both in the order of their keys, that stores impulses.
-use Rattle.std.proofs.Common.{◌≡◌, ◌∙◌, ℕ, suc, ◌+◌, ◌≤◌, ◌<◌, List, [], ◌∷◌, ◌++◌, take, take_all, set, length, length-take, map, sym, ap, ap₂, subst, arith}
-use Rattle.std.proofs.lemmas.List.{append-nil, drop_all, drop_more, get_or_at, length-map}
-use Rattle.std.proofs.lemmas.List.Edits.{map_over_more}
+-- Contacts with the impulses of rows.
+use Rattle.std.proofs.Common.{◌≡◌, ◌≢◌, ◌∙◌, ℕ, zero, suc, ◌+◌, ◌≤◌, ◌<◌, ◌==◌, Bool, true, false, List, [], ◌∷◌, take, take_all, set, length, map, refl, sym, ap, ap₂, arith}
+use Rattle.std.proofs.lemmas.Bool.Decides.{Decides-eqb}
+use Rattle.std.proofs.lemmas.List.{get_or-map, length-map, map-id}
 use Rattle.std.proofs.lemmas.List.Elements.{All-nil, All-cons, All-head, All-tail}
-use Rattle.std.specs.Prelude.{All, drop, get_or}
-use Rattle.pf_manifold.specs.Key.{IsKey, IsRising, rank}
-use Rattle.pf_cache.specs.Contact.{AreContacts, Contact, Impulses}
-use Rattle.pf_cache.specs.Row.{Row, impulses_or, with_rows}
-use Rattle.pf_cache.proofs.Walk.{reads_here, reads_behind}
+use Rattle.std.specs.Prelude.{All, get_or, if◌then◌else◌}
+use Rattle.pf_manifold.specs.Key.{IsKey, IsRising, Key, key_of, rank}
+use Rattle.pf_manifold.proofs.Rising.{rising-all}
+use Rattle.pf_cache.specs.Contact.{AreContacts, Contact, Impulses, no_contact}
+use Rattle.pf_cache.specs.Row.{AreRowsAt, Row, impulses_or, with_rows}
+use Rattle.pf_cache.proofs.FoundRows.{impulses_of, row_rank, rows_rise}
+use Rattle.pf_cache.proofs.Ranked as ranked
 
 abbrev rank_of : Contact → ℕ
 rank_of c = rank c.key
 
 -- a contact with the impulses of its row
-abbrev pub stored : List Row → Contact → Contact
+abbrev stored : List Row → Contact → Contact
 stored rows c = record c { impulses = impulses_or c.impulses (rank c.key) rows }
-
--- what a contact has from a place of the rows on
-abbrev of_contact : List Row → Contact → ℕ → Impulses
-of_contact rows c place = impulses_or c.impulses (rank c.key) (drop place rows)
-
--- the rows from a place on have the impulses of this contact's key
-abbrev pub SameRows : List Row → ℕ → Contact → Type 0
-SameRows rows place c =
-    impulses_or c.impulses (rank c.key) (drop place rows) ≡ impulses_or c.impulses (rank c.key) rows
 
 -- their ranks ascend as before
 rising_stored : (rows : List Row) (least : ℕ) (contacts : List Contact) → IsRising least (map rank_of contacts)
@@ -48,56 +41,92 @@ stored_are_contacts contacts rows order = record {
   keys = keys_stored rows contacts order.keys;
 }
 
--- all contacts have their impulses
-pub finished : (contacts : List Contact) (rows : List Row) (i : ℕ) (now : List Contact) → length contacts ≤ i
-    → now ≡ map (stored rows) (take i contacts) ++ drop i contacts → now ≡ with_rows contacts rows
+-- with no rows, contacts stay as they are
+pub none_stored : (contacts : List Contact) → with_rows contacts [] ≡ contacts
 unfolding with_rows
-finished contacts rows i now over done =
-    done ∙ ap₂ (λ front rest. map (stored rows) front ++ rest) (take_all i contacts over) (drop_all i contacts over)
-    ∙ append-nil _
+none_stored contacts = map-id contacts
 
--- and are then in the order of their keys
-pub finished_are_contacts : (contacts : List Contact) (rows : List Row) (i : ℕ) (now : List Contact)
-    → length contacts ≤ i → now ≡ map (stored rows) (take i contacts) ++ drop i contacts → AreContacts contacts
-    → AreContacts now
-finished_are_contacts contacts rows i now over done order =
-    subst AreContacts (sym (finished contacts rows i now over done)) (stored_are_contacts contacts rows order)
+-- rows up to one: its rank has its impulses
+last_found : (p : Impulses) (least : ℕ) (rows : List Row) (k : ℕ) (d : Row) → k < length rows
+    → IsRising least (map row_rank rows)
+    → impulses_or p (row_rank (get_or rows k d)) (take (suc k) rows) ≡ (get_or rows k d).entry.impulses
+last_found p least [] k d within h = absurd (omega (arith, within))
+last_found p least (r ∷ rows) zero d within h =
+    ranked.first_alone row_rank impulses_of p (row_rank r) r [] refl
+last_found p least (r ∷ rows) (suc k) d within h =
+    let inside : k < length rows = omega (arith, within) in
+    let above = rising-all row_rank (suc (row_rank r)) rows h.1 k d inside in
+    ranked.other_rank row_rank impulses_of p (row_rank (get_or rows k d)) r (take (suc k) rows) (omega (arith, above))
+    ∙ last_found p (suc (row_rank r)) rows k d inside h.1
 
--- a step of the walk: the contact c at i, whose rank is n, leads from a place of the rows to the
--- next one
-module _ (contacts now : List Contact) (rows : List Row) (i : ℕ) (c : Contact) (within : i < length contacts)
-    (c_is : c ≡ get_or now i c) (now_is : now ≡ map (stored rows) (take i contacts) ++ drop i contacts) where
-  -- the contact that is read is still as it was
-  item_is : c ≡ get_or contacts i c
-  item_is =
-      let front = map (stored rows) (take i contacts) in
-      let long : length front ≡ i = length-map (take i contacts) (stored rows) ∙ omega (arith, length-take i contacts, within) in
-      c_is ∙ ap (λ cs. get_or cs i c) (now_is ∙ ap (λ rest. front ++ rest) (drop_more contacts i c within))
-      ∙ get_or_at front (get_or contacts i c) (drop (i + 1) contacts) c i long
+-- and another rank has what it had without that row
+other_found : (p : Impulses) (n : ℕ) (rows : List Row) (k : ℕ) (d : Row) → k < length rows
+    → n ≢ row_rank (get_or rows k d) → impulses_or p n (take (suc k) rows) ≡ impulses_or p n (take k rows)
+other_found p n [] k d within other = absurd (omega (arith, within))
+other_found p n (r ∷ rows) zero d within other = by (row_rank r == n) refl
+  where
+    by : (t : Bool) → (row_rank r == n) ≡ t → (if t then r.entry.impulses else p) ≡ p
+    by true e = absurd (other (sym ((Decides-eqb (row_rank r) n).0 e)))
+    by false e = refl
+other_found p n (r ∷ rows) (suc k) d within other =
+    ap (λ q. if row_rank r == n then r.entry.impulses else q) (other_found p n rows k d (omega (arith, within)) other)
 
-  module _ (place next n : ℕ) (n_is : n ≡ rank c.key)
-      (further : (p : Impulses) (m : ℕ) → n ≤ m
-      → impulses_or p m (drop next rows) ≡ impulses_or p m (drop place rows))
-      (same : All (SameRows rows place) (drop i contacts)) where
-    -- what a contact of its rank or above has is the same from the next place on
-    above : (t : Contact) → rank (get_or contacts i c).key ≤ rank t.key
-        → of_contact rows t next ≡ of_contact rows t place
-    above t low =
-        let here : n ≡ rank (get_or contacts i c).key = n_is ∙ ap rank_of item_is in
-        further t.impulses (rank t.key) (omega (arith, here, low))
+-- rows beside the places of their contacts
+module _ (contacts : List Contact) (places : List ℕ) (rows : List Row) (beside : AreRowsAt contacts places rows) where
+  -- they are as many
+  as_many : length places ≡ length rows
+  as_many =
+      sym (length-map places (λ (place : ℕ). (get_or contacts place no_contact).key)) ∙ sym (ap length beside.keys)
+      ∙ length-map rows (λ (r : Row). key_of r.entry.touch)
 
-    -- one contact more has the impulses of its row
-    pub stored_step : (p : Impulses) → p ≡ impulses_or c.impulses n (drop next rows)
-        → set now i (record c { impulses = p }) ≡ map (stored rows) (take (i + 1) contacts) ++ drop (i + 1) contacts
-    stored_step p found =
-        let here = reads_here rank_of (of_contact rows) contacts i place next c within above same in
-        let own : impulses_or c.impulses (rank c.key) (drop next rows) ≡ impulses_or c.impulses (rank c.key) rows =
-        subst (SameRows rows next) (sym item_is) here in
-        let value = found ∙ ap (λ m. impulses_or c.impulses m (drop next rows)) n_is ∙ own in
-        ap (λ (q : Impulses). set now i (record c { impulses = q })) value
-        ∙ map_over_more (stored rows) contacts now i c within now_is c_is
+  -- one row more, at k
+  module _ (k : ℕ) (d : Row) (inside : k < length rows) where
+    abbrev row : Row
+    row = get_or rows k d
 
-    -- the contacts behind it find theirs from the next place on
-    pub same_step : IsRising 0 (map (λ x. rank x.key) contacts) → All (SameRows rows next) (drop (i + 1) contacts)
-    same_step rising =
-        reads_behind rank_of (of_contact rows) contacts i place next c within (λ x high. above x (omega (arith, high))) same rising
+    abbrev here : Contact
+    here = get_or contacts (get_or places k 0) no_contact
+
+    -- its place is that of a contact
+    within : get_or places k 0 < length contacts
+    within = beside.within k 0 (omega (arith, inside, as_many))
+
+    -- which has its key
+    same_key : key_of row.entry.touch ≡ here.key
+    same_key =
+        let row_key : Row → Key = λ r. key_of r.entry.touch in
+        let contact_key : ℕ → Key = λ place. (get_or contacts place no_contact).key in
+        sym (get_or-map row_key rows k d no_contact.key inside) ∙ ap (λ keys. get_or keys k no_contact.key) beside.keys
+        ∙ get_or-map contact_key places k 0 no_contact.key (omega (arith, inside, as_many))
+
+    -- up to it, the contact has its impulses
+    found : impulses_or here.impulses (rank here.key) (take (suc k) rows) ≡ row.entry.impulses
+    found =
+        ap (λ n. impulses_or here.impulses n (take (suc k) rows)) (sym (ap rank same_key))
+        ∙ last_found here.impulses 0 rows k d inside (rows_rise rows beside.order)
+
+    -- the contact at its place takes its impulses, and the others keep theirs
+    pub stored_more : (now : List Contact) (c e : Contact) (p : Impulses) → AreContacts contacts
+        → now ≡ with_rows contacts (take k rows) → c ≡ get_or now (get_or places k 0) e → p ≡ row.entry.impulses
+        → set now (get_or places k 0) (record c { impulses = p }) ≡ with_rows contacts (take (k + 1) rows)
+    unfolding with_rows
+    stored_more now c e p order now_is c_is p_is =
+        let place = get_or places k 0 in
+        let before = stored (take k rows) in
+        let after = stored (take (suc k) rows) in
+        let key_is : c.key ≡ here.key =
+        ap (λ (x : Contact). x.key)
+        (c_is ∙ ap (λ xs. get_or xs place e) now_is ∙ get_or-map before contacts place no_contact e within) in
+        let next : k + 1 ≡ suc k = omega arith in
+        ap₂ (λ (q : Key) (i : Impulses). set now place (record { key = q; impulses = i })) key_is (p_is ∙ sym found)
+        ∙ ap (λ xs. set xs place (after here)) now_is
+        ∙ ranked.set_one rank_of before after 0 contacts place no_contact within order.rising
+        (λ x apart.
+        let other : rank x.key ≢ row_rank row = λ e. apart (e ∙ ap rank same_key) in
+        ap (λ i. record x { impulses = i }) (sym (other_found x.impulses (rank x.key) rows k d inside other)))
+        ∙ ap (λ n. map (stored (take n rows)) contacts) (sym next)
+
+-- all rows are stored
+pub all_stored : (contacts : List Contact) (rows : List Row) (k : ℕ) → length rows ≤ k
+    → with_rows contacts (take k rows) ≡ with_rows contacts rows
+all_stored contacts rows k over = ap (with_rows contacts) (take_all k rows over)

@@ -16,6 +16,10 @@ pub record Contact : Type 0 where
   pub key : Key
   pub impulses : Impulses
 
+-- what is read where there is no contact
+abbrev pub no_contact : Contact
+no_contact = record { key = record { a = 0; b = 0; feature = 0 }; impulses = no_impulses }
+
 -- contacts in the order of their keys, each key once
 pub record AreContacts (contacts : List Contact) : Type 0 where
   pub rising : IsRising 0 (map (λ c. rank c.key) contacts)

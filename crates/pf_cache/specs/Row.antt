@@ -1,12 +1,12 @@
 -- A contact of a tick as the solver takes it, as Box2D-Lite's Arbiter with its Contact: its point,
 -- its accumulated impulses, where its bodies stand, and what its pre-step found.
-use Rattle.std.specs.Prelude.{◌≢◌, ℕ, ◌<◌, ◌==◌, ℤ, pos, List, [], ◌∷◌, map, if◌then◌else◌}
+use Rattle.std.specs.Prelude.{◌≡◌, ◌≢◌, ℕ, ◌<◌, ◌==◌, ℤ, pos, List, [], ◌∷◌, All, length, map, slice_index_or, if◌then◌else◌}
 use Rattle.pf_rot.specs.Vector.{V2, zero_vector}
 use Rattle.pf_manifold.specs.Touches.{Touch}
 use Rattle.pf_cache.specs.declared.row.Side.{Side}
 use Rattle.pf_cache.specs.declared.row.Side.TheVariants.{Static, Dynamic}
 use Rattle.pf_manifold.specs.Key.{AreTouches, key_of, rank}
-use Rattle.pf_cache.specs.Contact.{Contact, Impulses}
+use Rattle.pf_cache.specs.Contact.{Contact, Impulses, no_contact}
 
 -- a contact point with its accumulated impulses, and where its bodies stand in a list of bodies
 pub record Entry : Type 0 where
@@ -88,6 +88,14 @@ pub record IsEntryOf (bodies : ℕ) (e : Entry) : Type 0 where
 -- rows in the order of their keys, each key once
 abbrev pub AreRows : List Row → Type 0
 AreRows rows = AreTouches (map (λ r. r.entry.touch) rows)
+
+-- rows in the order of their keys; each has the key of the contact at the place beside it
+pub record AreRowsAt (contacts : List Contact) (places : List ℕ) (rows : List Row) : Type 0 where
+  pub order : AreRows rows
+  pub within : All (λ place. place < length contacts) places
+  pub keys :
+      map (λ r. key_of r.entry.touch) rows
+      ≡ map (λ place. (slice_index_or contacts place no_contact).key) places
 
 -- the accumulated impulses of the row of this rank, or these where there is no such row
 abbrev pub impulses_or : Impulses → ℕ → List Row → Impulses

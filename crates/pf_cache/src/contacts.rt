@@ -1,9 +1,9 @@
 //! The contacts of a world, in the order of their keys.
 
 ghost use Rattle.std.specs.Prelude.{◌≡◌, ◌≤◌, ◌<◌, ℕ, All, drop, length};
-ghost use Rattle.pf_manifold.specs.Key.{IsKey, key_of, rank};
-ghost use Rattle.pf_cache.specs.Contact.{AreContacts, Impulses, impulses_at};
-ghost use Rattle.pf_cache.specs.Row.{AreRows, impulses_or, with_rows};
+ghost use Rattle.pf_manifold.specs.Key.{IsKey, rank};
+ghost use Rattle.pf_cache.specs.Contact.{AreContacts, impulses_at};
+ghost use Rattle.pf_cache.specs.Row.{AreRowsAt, with_rows};
 
 use crate::contact::{Contact, Impulses};
 use crate::row::Row;
@@ -114,63 +114,18 @@ fn impulses_of(contacts: &[Contact], start: usize, key: &Key) -> (Impulses, usiz
     impulses_further(contacts, start, key.rank())
 }
 
-/// A place from `start` on: from it no rank is below `least`, and look-ups of ranks from `least` on
-/// find what they did.
-#[tactic(auto, using(crate::proofs::RowPlaces::passed, crate::proofs::RowPlaces::all_reached, crate::proofs::RowPlaces::none_left))]
-fn first_row_from(rows: &[Row], start: usize, least: usize) -> usize
-    requires start { start ≤ length rows.now }
-    requires rows { AreRows rows.now }
-    ensures within { result ≤ length rows.now }
-    ensures same { (p : Impulses) (n : ℕ) → least ≤ n
-        → impulses_or p n (drop result rows.now) ≡ impulses_or p n (drop start rows.now) }
-    ensures reached { All (λ r. least ≤ rank (key_of r.entry.touch)) (drop result rows.now) }
-{
-    let mut place = start;
-    while place < rows.len() {
-        let row = &rows[place];
-        let entry = &row.entry;
-        if Key::of(&entry.touch).rank() >= least {
-            return place;
-        }
-        place += 1;
-    }
-    place
-}
-
-/// The accumulated impulses of the row of rank `wanted`, or `own`. No row from `place` on is below
-/// that rank, so one look is enough.
-#[tactic(auto, using(crate::proofs::RowPlaces::found_here, crate::proofs::RowPlaces::found_other, crate::proofs::RowPlaces::found_nowhere))]
-fn impulses_or_own(rows: &[Row], place: usize, wanted: usize, own: Impulses) -> Impulses
-    requires rows { AreRows rows.now }
-    requires reached { All (λ r. wanted ≤ rank (key_of r.entry.touch)) (drop place rows.now) }
-    ensures { result ≡ impulses_or own wanted (drop place rows.now) }
-{
-    if place >= rows.len() {
-        return own;
-    }
-    let row = &rows[place];
-    let entry = &row.entry;
-    if Key::of(&entry.touch).rank() == wanted {
-        entry.impulses
-    } else {
-        own
-    }
-}
-
-/// Gives each contact that has a row the accumulated impulses of its row. One walk along both
-/// lists, which are in the order of the keys.
+/// Gives the contact at each place the accumulated impulses of the row beside it.
 #[inline(never)]
-fn store_all(contacts: &mut [Contact], rows: &[Row])
+fn store_at(contacts: &mut [Contact], places: &[usize], rows: &[Row])
     requires contacts { AreContacts contacts.old }
-    requires rows { AreRows rows.now }
+    requires rows { AreRowsAt contacts.old places.now rows.now }
     ensures value { contacts.new ≡ with_rows contacts.old rows.now }
     ensures contacts { AreContacts contacts.new }
 {
-    let mut place = 0;
-    for contact in contacts.iter_mut() {
-        let rank = contact.key.rank();
-        place = first_row_from(rows, place, rank);
-        contact.impulses = impulses_or_own(rows, place, rank, contact.impulses);
+    for (index, row) in rows.iter().enumerate() {
+        let entry = &row.entry;
+        let contact = &mut contacts[places[index]];
+        contact.impulses = entry.impulses;
     }
 }
 
@@ -178,7 +133,7 @@ impl Contacts {
     ghost use Rattle.std.specs.Prelude.{◌≡◌, [], IfOk, IsOk};
     ghost use Rattle.pf_manifold.specs.Key.{AreTouches};
     ghost use Rattle.pf_cache.specs.Contact.{updated};
-    ghost use Rattle.pf_cache.specs.Row.{AreRows, with_rows};
+    ghost use Rattle.pf_cache.specs.Row.{AreRowsAt, with_rows};
     ghost use Rattle.pf_cache.specs.Same.{same_contacts};
 
     /// No contacts. Takes no memory.
@@ -219,13 +174,13 @@ impl Contacts {
     }
 
     /// Keeps the accumulated impulses of these rows, as Box2D's `b2ContactSolver::StoreImpulses`:
-    /// a contact that has a row gets those of its row, another keeps its own. The rows are in the
-    /// order of their keys. Takes no memory.
-    pub fn store_impulses(&mut self, rows: &[Row])
-        requires { AreRows rows.now }
+    /// the contact at each place gets those of the row beside it, the others keep their own. Takes
+    /// no memory.
+    pub fn store_impulses(&mut self, places: &[usize], rows: &[Row])
+        requires { AreRowsAt self.old places.now rows.now }
         ensures { self.new ≡ with_rows self.old rows.now }
     {
-        store_all(&mut self.list, rows);
+        store_at(&mut self.list, places, rows);
     }
 
     /// A copy. Takes no memory where there are no contacts.

@@ -1,6 +1,6 @@
 -- The rows of a tick: the contacts that are simulated, as the solver takes them.
 use Rattle.std.specs.Prelude.{ℕ, Bool, ◌||◌, List, map, filter, slice_index_or, if◌then◌else◌}
-use Rattle.std.specs.List.{zip}
+use Rattle.std.specs.List.{enumerate_from, zip}
 use Rattle.pf_shapes.specs.Body.{BodyState}
 use Rattle.pf_shapes.specs.Scene.{Scene, is_static_at}
 use Rattle.pf_manifold.specs.Touches.{Touch}
@@ -36,3 +36,8 @@ is_active_contact bodies t = is_awake_at bodies t.a || is_awake_at bodies t.b
 abbrev pub active_rows : Scene → List BodyState → List Touch → List Contact → List Row
 active_rows s bodies touches contacts =
     map (λ m. row_of s m.0 m.1) (filter (λ m. is_active_contact bodies m.0) (zip touches contacts))
+
+-- the places of the contacts that are simulated
+abbrev pub active_places : List BodyState → List Touch → List ℕ
+active_places bodies touches =
+    map (λ m. m.0) (filter (λ m. is_active_contact bodies m.1) (enumerate_from 0 touches))

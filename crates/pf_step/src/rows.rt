@@ -1,11 +1,12 @@
 //! The rows of a tick: the contacts that are simulated, as the solver takes them.
 
-ghost use Rattle.std.specs.Prelude.{◌≡◌, ◌<◌, [], All, count_by, length, IfOk, IsOk};
-ghost use Rattle.pf_manifold.specs.Key.{AreTouches};
+ghost use Rattle.std.specs.Prelude.{◌≡◌, ◌<◌, [], All, length, map, IfOk, IsOk};
+ghost use Rattle.pf_manifold.specs.Key.{AreTouches, key_of};
 ghost use Rattle.pf_manifold.specs.Touches.{IsTouchOf};
-ghost use Rattle.pf_cache.specs.Row.{AreRows};
+ghost use Rattle.pf_cache.specs.Row.{AreRows, AreRowsAt};
 ghost use Rattle.pf_solver.specs.Solve.{IsRowOf};
-ghost use Rattle.pf_step.specs.Rows.{active_rows, is_active_contact, row_of, side_of};
+ghost use Rattle.pf_step.specs.Rows.{active_places, active_rows};
+ghost use Rattle.pf_step.specs.Rows.{is_active_contact, row_of, side_of};
 
 use pf_cache::{Contact, Entry, Row, Side};
 use pf_manifold::Touch;
@@ -50,18 +51,39 @@ fn is_active_contact(bodies: &[BodyState], touch: &Touch) -> bool
     first.awake || second.awake
 }
 
-/// How many contacts are simulated.
-fn active_count(bodies: &[BodyState], touches: &[Touch]) -> usize
+/// The places of the contacts that are simulated. Takes no memory where there are no contact
+/// points.
+fn active_places(
+    alloc: Global,
+    bodies: &[BodyState],
+    touches: &[Touch],
+) -> Result<Vec<usize>, AllocError>
     requires { All (IsTouchOf (length bodies.now)) touches.now }
-    ensures { result ≡ count_by (is_active_contact bodies.now) touches.now }
+    ensures value { IfOk result (λ places. places.items ≡ active_places bodies.now touches.now) }
+    ensures within { IfOk result
+        (λ places. All (λ place. place < length touches.now) places.items) }
+    ensures no_memory { touches.now ≡ [] → IsOk result }
 {
-    touches
-        .iter()
-        .filter(|touch| is_active_contact(bodies, touch))
-        .count()
+    let mut places = Vec::with_capacity(alloc, touches.len())?;
+    for (place, touch) in touches.iter().enumerate() {
+        if is_active_contact(bodies, touch) {
+            places.push_reserved(place);
+        }
+    }
+    Ok(places)
 }
 
-/// The rows of the contacts that are simulated. Takes no memory where there are no contact points.
+/// The contacts that are simulated.
+#[derive(Drop)]
+pub(crate) struct ActiveContacts {
+    /// Their places among the contacts.
+    pub places: Vec<usize>,
+    /// Their rows.
+    pub rows: Vec<Row>,
+}
+
+/// The contacts that are simulated, with their rows. Takes no memory where there are no contact
+/// points.
 #[inline(never)]
 pub(crate) fn active_rows(
     alloc: Global,
@@ -69,21 +91,23 @@ pub(crate) fn active_rows(
     bodies: &[BodyState],
     touches: &[Touch],
     contacts: &[Contact],
-) -> Result<Vec<Row>, AllocError>
+) -> Result<ActiveContacts, AllocError>
     requires bodies { length bodies.now ≡ length scene.now.fixtures }
     requires touches { All (IsTouchOf (length bodies.now)) touches.now }
     requires contacts { length contacts.now ≡ length touches.now }
-    ensures value { IfOk result
-        (λ rows. rows.items ≡ active_rows scene.now bodies.now touches.now contacts.now) }
-    ensures rows { IfOk result (λ rows. All (IsRowOf scene.now (length bodies.now)) rows.items) }
-    ensures order { AreTouches touches.now → IfOk result (λ rows. AreRows rows.items) }
+    ensures value { IfOk result (λ active. active.rows.items
+        ≡ active_rows scene.now bodies.now touches.now contacts.now) }
+    ensures rows { IfOk result
+        (λ active. All (IsRowOf scene.now (length bodies.now)) active.rows.items) }
+    ensures order { AreTouches touches.now → IfOk result (λ active. AreRows active.rows.items) }
+    ensures places { AreTouches touches.now → map (λ c. c.key) contacts.now ≡ map key_of touches.now
+        → IfOk result (λ active. AreRowsAt contacts.now active.places.items active.rows.items) }
     ensures no_memory { touches.now ≡ [] → IsOk result }
 {
-    let mut rows = Vec::with_capacity(alloc, active_count(bodies, touches))?;
-    for (place, touch) in touches.iter().enumerate() {
-        if is_active_contact(bodies, touch) {
-            rows.push(row_of(scene, touch, &contacts[place]))?;
-        }
+    let places = active_places(alloc, bodies, touches)?;
+    let mut rows = Vec::with_capacity(alloc, places.len())?;
+    for place in &places {
+        rows.push_reserved(row_of(scene, &touches[*place], &contacts[*place]));
     }
-    Ok(rows)
+    Ok(ActiveContacts { places, rows })
 }

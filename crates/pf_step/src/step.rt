@@ -4,7 +4,7 @@ ghost use Rattle.std.specs.Prelude.{◌≡◌, [], All, length, IfOk, IsOk, OnOk
 ghost use Rattle.pf_manifold.specs.Touches.{IsTouchOf};
 ghost use Rattle.pf_cache.specs.Manifolds.{kept_touches, no_manifolds};
 ghost use Rattle.pf_cache.specs.Meter.{work_after_tick};
-ghost use Rattle.pf_cache.specs.Row.{AreRows, with_rows};
+ghost use Rattle.pf_cache.specs.Row.{AreRowsAt, with_rows};
 ghost use Rattle.pf_islands.specs.Sleep.{rested};
 ghost use Rattle.pf_solver.specs.Solve.{IsRowOf, solved};
 ghost use Rattle.pf_step.specs.Step.{narrow_phase, narrow_phase_of_tick, step, touching};
@@ -20,26 +20,27 @@ use pf_shapes::{BodyState, Scene};
 use pf_solver::{STILL_TICKS, solve_list};
 use std::alloc::{AllocError, Global};
 
-/// The phases Gravity to Sleep, with the rows of the active contacts; what these have accumulated
-/// is kept.
-#[tactic(auto, using(pf_solver::proofs::Solved::solved_length, crate::proofs::Ticked::solved_in_order))]
+/// The phases Gravity to Sleep, with the rows of the active contacts and their places; what these
+/// have accumulated is kept.
+#[tactic(auto, using(pf_solver::proofs::Solved::solved_length))]
 fn solve_active(
     scene: &Scene,
     groups: &mut Groups,
     bodies: &mut [BodyState],
+    places: &[usize],
     rows: &mut [Row],
     contacts: &mut Contacts,
 )
     requires groups { length bodies.old ≡ length groups.old }
     requires rows { All (IsRowOf scene.now (length bodies.old)) rows.old }
-    requires order { AreRows rows.old }
+    requires places { AreRowsAt contacts.old places.now rows.old }
     ensures bodies { bodies.new
         ≡ rested STILL_TICKS groups.old (solved scene.now bodies.old rows.old).bodies }
     ensures contacts { contacts.new
         ≡ with_rows contacts.old (solved scene.now bodies.old rows.old).rows }
 {
     solve_list(scene, bodies, rows);
-    contacts.store_impulses(rows);
+    contacts.store_impulses(places, rows);
     groups.rest(bodies, STILL_TICKS);
 }
 
@@ -92,8 +93,15 @@ pub fn step_alone(
     let mut contacts = world.contacts().update(touches)?;
     let mut groups = Groups::new(alloc, scene, touches)?;
     groups.wake(&mut bodies);
-    let mut rows = active_rows(alloc, scene, &bodies, touches, contacts.as_slice())?;
-    solve_active(scene, &mut groups, &mut bodies, &mut rows, &mut contacts);
+    let mut active = active_rows(alloc, scene, &bodies, touches, contacts.as_slice())?;
+    solve_active(
+        scene,
+        &mut groups,
+        &mut bodies,
+        &active.places,
+        &mut active.rows,
+        &mut contacts,
+    );
     work.end_tick(found);
     Ok(World { bodies, contacts })
 }

@@ -1,4 +1,4 @@
-use Rattle.pf_cache.proofs.RowPlaces.{all_found, none_found, rows_rise}
+use Rattle.pf_cache.proofs.FoundRows.{all_found, none_found, rows_rise}
 use Rattle.pf_cache.proofs.laws.rows_are_found.Goals as goal
 
 pub returns-clause-found : goal.returns-clause-found

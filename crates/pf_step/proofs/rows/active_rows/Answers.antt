@@ -1,49 +1,46 @@
-use Rattle.std.proofs.Common.{◌∙◌, ap, sym, subst, length}
+use Rattle.std.proofs.Common.{◌<◌, ◌∙◌, length, rules, subst, sym}
 use Rattle.std.specs.Prelude.{All}
-use Rattle.pf_cache.specs.Row.{AreRows}
+use Rattle.pf_cache.specs.Row.{AreRows, AreRowsAt}
 use Rattle.pf_solver.specs.Solve.{IsRowOf}
-use Rattle.pf_step.proofs.ActiveRows.{after_active, after_inactive, none_left, rows_fit, rows_in_order}
-use Rattle.pf_step.proofs.rows.active_rows.Goals.{then-is_active_contact+in_ok-push, else-is_active_contact}
+use Rattle.pf_step.specs.Rows.{active_rows}
+use Rattle.pf_step.proofs.ActiveRows.{all_made, row_more, rows_beside, rows_fit, rows_in_order}
 use Rattle.pf_step.proofs.rows.active_rows.Goals as goal
 
 pub loop-place-preserved : goal.loop-place-preserved
 loop-place-preserved c =
-    let s = c.args.scene.now in
-    let bodies = c.args.bodies.now in
-    let t = c.index-touches-place.result in
-    elim c.if-is_active_contact.branch [
-      | then-is_active_contact+in_ok-push w ↦
-          after_active s bodies c.args.touches.now c.args.contacts.now c.loop-place.rows.items _ c.loop-place.place t
-          w.index-contacts-place.result w.row_of.result c.loop-place-test.true c.requires.contacts c.index-touches-place.is
-          w.index-contacts-place.is w.row_of.ensures (sym c.is_active_contact.ensures ∙ w.if-is_active_contact.true)
-          c.loop-place.invariant c.if-is_active_contact.rows.items
-          (ap (λ rows. rows.items) w.rows-is ∙ w.in_ok-push.ensures.items)
-      | else-is_active_contact w ↦
-          after_inactive s bodies c.args.touches.now c.args.contacts.now c.loop-place.rows.items _ c.loop-place.place t
-          c.loop-place-test.true c.requires.contacts c.index-touches-place.is
-          (sym c.is_active_contact.ensures ∙ w.if-is_active_contact.false)
-          c.loop-place.invariant c.if-is_active_contact.rows.items
-          (ap (λ rows. rows.items) w.rows-is)
-    ]
+    let touches = c.args.touches.now in
+    let items = c.deref-place-items.result.now in
+    let inside : All (λ place. place < length touches) items =
+    subst (All (λ place. place < length touches)) (sym c.deref-place-items.ensures.value) c.in_ok-places.ensures.within in
+    record {
+      made = row_more c.args.scene.now touches c.args.contacts.now items c.loop-place.place-index
+          c.index-touches-place.result c.index-contacts-place.result c.row_of.result _ _ c.requires.contacts
+          c.loop-place-test.true (inside c.loop-place.place-index 0 c.loop-place-test.true) c.index-touches-place.is
+          c.index-contacts-place.is c.row_of.ensures c.loop-place.invariant.made c.push_reserved.ensures.items;
+      count = search rules;
+      room = search rules;
+    }
 
 pub returns-clause-value : goal.returns-clause-value
 returns-clause-value c =
-    none_left c.args.scene.now c.args.bodies.now c.args.touches.now c.args.contacts.now c.loop-place.rows.items _ c.loop-place.place
-    c.loop-place-test.false c.loop-place.invariant
+    all_made c.args.scene.now c.args.bodies.now c.args.touches.now c.args.contacts.now c.deref-place-items.result.now
+    c.loop-place.place-index c.loop-place.rows.items c.requires.contacts c.loop-place-test.false
+    (c.deref-place-items.ensures.value ∙ c.in_ok-places.ensures.value) c.loop-place.invariant.made
 
 pub returns-clause-rows : goal.returns-clause-rows
 returns-clause-rows c =
-    let s = c.args.scene.now in
-    let bodies = c.args.bodies.now in
-    let is = none_left s bodies c.args.touches.now c.args.contacts.now c.loop-place.rows.items _ c.loop-place.place
-    c.loop-place-test.false c.loop-place.invariant in
-    subst (All (IsRowOf s (length bodies))) (sym is)
-    (rows_fit s bodies c.args.touches.now c.args.contacts.now c.requires.bodies c.requires.touches)
+    subst (All (IsRowOf c.args.scene.now (length c.args.bodies.now))) (sym (returns-clause-value c))
+    (rows_fit c.args.scene.now c.args.bodies.now c.args.touches.now c.args.contacts.now c.requires.bodies c.requires.touches)
 
 pub returns-clause-order : goal.returns-clause-order
 returns-clause-order c = λ order.
-    let s = c.args.scene.now in
-    let bodies = c.args.bodies.now in
-    let is = none_left s bodies c.args.touches.now c.args.contacts.now c.loop-place.rows.items _ c.loop-place.place
-    c.loop-place-test.false c.loop-place.invariant in
-    subst AreRows (sym is) (rows_in_order s bodies c.args.touches.now c.args.contacts.now order)
+    subst AreRows (sym (returns-clause-value c))
+    (rows_in_order c.args.scene.now c.args.bodies.now c.args.touches.now c.args.contacts.now order)
+
+pub returns-clause-places : goal.returns-clause-places
+returns-clause-places c = λ order keys.
+    let contacts = c.args.contacts.now in
+    let rows = active_rows c.args.scene.now c.args.bodies.now c.args.touches.now contacts in
+    subst (AreRowsAt contacts c.in_ok-places.places.items) (sym (returns-clause-value c))
+    (subst (λ places. AreRowsAt contacts places rows) (sym c.in_ok-places.ensures.value)
+    (rows_beside c.args.scene.now c.args.bodies.now c.args.touches.now contacts keys c.requires.contacts order))

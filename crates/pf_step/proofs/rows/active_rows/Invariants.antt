@@ -1,9 +1,10 @@
-use Rattle.std.proofs.Common.{◌≡◌, ◌++◌}
-use Rattle.std.specs.Prelude.{drop}
-use Rattle.pf_step.specs.Rows.{active_rows}
+use Rattle.std.proofs.Common.{◌≡◌, ◌≤◌, length, map, take, vec_capacity, vec_len}
+use Rattle.pf_step.proofs.ActiveRows.{row_at}
 use Rattle.pf_step.proofs.rows.active_rows.Given as goal
 
 abbrev pub invariant-loop-place : goal.invariant-loop-place
-invariant-loop-place l =
-    l.rows.items ++ active_rows l.scene l.bodies (drop l.place l.touches) (drop l.place l.contacts)
-    ≡ active_rows l.scene l.bodies l.touches l.contacts
+invariant-loop-place l = record {
+  made : l.rows.items ≡ map (row_at l.scene l.touches l.contacts) (take l.place-index l.place-items);
+  count : vec_len l.rows ≡ l.place-index;
+  room : length l.place-items ≤ vec_capacity l.rows;
+}

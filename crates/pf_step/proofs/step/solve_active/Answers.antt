@@ -1,7 +1,7 @@
-use Rattle.pf_step.proofs.Ticked.{solved_in_order}
+use Rattle.pf_step.proofs.Ticked.{solved_beside}
 use Rattle.pf_step.proofs.step.solve_active.Goals as goal
 
 pub store_impulses-requires : goal.store_impulses-requires
 store_impulses-requires c =
-    solved_in_order c.args.scene.now c.args.bodies.now c.args.rows.now
-    (record { bodies = c.solve_list.new.bodies; rows = c.solve_list.new.rows }) c.solve_list.ensures c.requires.order
+    solved_beside c.args.scene.now c.args.bodies.now c.args.contacts.now c.args.places.now c.args.rows.now
+    (record { bodies = c.solve_list.new.bodies; rows = c.solve_list.new.rows }) c.solve_list.ensures c.requires.places

@@ -1,6 +1,9 @@
-use Rattle.std.proofs.Common.{rules, ◌≡◌, ◌∙◌, ◌++◌, ℕ, List, ap, ap₂, length, take}
+use Rattle.std.proofs.Common.{rules, ◌≡◌, ◌∙◌, ◌++◌, ℕ, List, ap, ap₂, length, map, subst, take}
 use Rattle.std.proofs.Math.Seq.{take-append_seam}
+use Rattle.pf_cache.specs.Contact.{Contact}
 use Rattle.pf_cache.specs.Meter.{work_after_tick}
+use Rattle.pf_cache.specs.Row.{AreRowsAt}
+use Rattle.pf_cache.proofs.Kept.{same_keys}
 use Rattle.pf_step.specs.Commands.{after_commands}
 use Rattle.pf_step.specs.Step.{narrow_phase}
 use Rattle.pf_step.proofs.step.step_alone.Goals as goal
@@ -21,3 +24,13 @@ returns-clause-counted c =
     ∙ ap (λ found. work_after_tick found c.args.work.now)
     (c.in_ok-found.ensures.value
     ∙ ap₂ (λ bodies kept. narrow_phase fixtures bodies kept) commanded c.take_manifolds-kept.ensures.taken)
+
+pub solve_active-requires-clause-places : goal.solve_active-requires-clause-places
+solve_active-requires-clause-places c =
+    let contacts = c.in_ok-contacts.contacts in
+    let points = c.touches-touches.result.now in
+    let keys = ap (map (λ (k : Contact). k.key)) (c.as_slice.ensures.value ∙ c.in_ok-contacts.ensures.value)
+    ∙ same_keys c.contacts.result.now points in
+    rw (c.deref-3.ensures.value, c.deref_mut-4.ensures.value)
+    (subst (λ all. AreRowsAt all c.in_ok-active.active.places.items c.in_ok-active.active.rows.items) c.as_slice.ensures.value
+    (c.in_ok-active.ensures.places c.touches-touches.ensures.order keys))
