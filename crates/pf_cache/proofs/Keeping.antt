@@ -1,7 +1,7 @@
 -- What is kept, as the next tick finds it.
-use Rattle.std.proofs.Common.{◌≡◌, ℕ, ◌+◌, ◌≤◌, ◌<◌, Bool, true, false, ◌&&◌, List, [], ◌∷◌, ◌++◌, length, map, refl, sym, ap, ap₂, subst, ◌∙◌, arith}
+use Rattle.std.proofs.Common.{◌≡◌, ℕ, ◌+◌, ◌≤◌, Bool, ◌&&◌, List, [], length, map, refl, sym, ap, ap₂, subst, ◌∙◌, arith}
 use Rattle.std.specs.List.{count_by, flat_map, zip}
-use Rattle.std.specs.Prelude.{All, get_or, not}
+use Rattle.std.specs.Prelude.{All, not}
 use Rattle.std.proofs.lemmas.List.{append-nil, drop_all, length-map, take_all}
 use Rattle.std.proofs.lemmas.Slice.Zip.{length-zip}
 use Rattle.std.proofs.lemmas.List.Elements.{All-map, All-weaker}
@@ -13,8 +13,8 @@ use Rattle.pf_manifold.specs.Key.{AreTouches}
 use Rattle.pf_manifold.specs.PlacedShape.{PlacedShape}
 use Rattle.pf_manifold.specs.Touches.{Touch}
 use Rattle.pf_manifold.proofs.KeyOrder.{touches_in_order}
-use Rattle.pf_cache.specs.Manifolds.{Manifolds, computed_count, has_pair, is_unmoved, placed_shapes, points_of_pair, shape_of_body}
-use Rattle.pf_cache.specs.Spans.{ArePlaced, AreRefreshed, AreSpans, IsKeptSpan, IsSpan, Span, are_unmoved, missing_count, spans_from, unmoved_flags}
+use Rattle.pf_cache.specs.Manifolds.{computed_count, has_pair, is_unmoved, placed_shapes, points_of_pair, shape_of_body}
+use Rattle.pf_cache.specs.Spans.{ArePlaced, AreRefreshed, AreSpans, IsKeptSpan, IsSpan, Span, are_unmoved, missing_count, unmoved_flags}
 use Rattle.pf_cache.proofs.Refreshing.{placed_from, spans_here}
 use Rattle.pf_cache.proofs.Updating.{spans_done}
 use Rattle.pf_cache.proofs.Unmoved.{flag_at, kept_points, unmoved_points}

@@ -1,19 +1,15 @@
 -- Pairs and their spans.
-use Rattle.std.proofs.Common.{◌≡◌, ℕ, suc, ◌+◌, ◌≤◌, ◌<◌, ◌==◌, ◌⊎◌, ⊎_elim, inl, inr, Bool, true, false, ◌&&◌, ◌||◌, Some, List, [], ◌∷◌, ◌++◌, length, map, take, refl, sym, ap, subst, ◌∙◌, true≢false, ltb-true, eqb-true, arith}
+use Rattle.std.proofs.Common.{◌≡◌, ℕ, suc, ◌≤◌, ◌<◌, ◌==◌, ◌⊎◌, ⊎_elim, inl, inr, Bool, true, false, ◌&&◌, ◌||◌, Some, List, [], ◌∷◌, map, refl, sym, ap, subst, ◌∙◌, true≢false, ltb-true, eqb-true, arith}
 use Rattle.std.specs.List.{AllByRecursion}
-use Rattle.std.specs.Prelude.{All, drop, is_some, unwrap_or, if◌then◌else◌}
+use Rattle.std.specs.Prelude.{All, is_some, unwrap_or, if◌then◌else◌}
 use Rattle.std.proofs.lemmas.Bool.{and_parts, cases_order, or_cases}
 use Rattle.std.proofs.lemmas.Bool.Decides.{Decides-eqb}
-use Rattle.std.proofs.lemmas.List.{drop-append-le, length-append, length-drop, take-append-le}
-use Rattle.std.proofs.Math.Seq.{drop-append_seam, take-length}
 use Rattle.std.proofs.lemmas.List.Elements.{All-head, All-tail}
 use Rattle.pf_shapes.specs.Pair.{IsAscending, IsPairOf, Pair, is_before}
 use Rattle.pf_shapes.specs.declared.scene.TheConstants.{MAX_BODIES}
 use Rattle.pf_manifold.specs.Key.{IsRising}
-use Rattle.pf_manifold.specs.PlacedShape.{PlacedShape}
-use Rattle.pf_manifold.specs.Touches.{Touch}
-use Rattle.pf_cache.specs.Manifolds.{has_pair, points_of_pair}
-use Rattle.pf_cache.specs.Spans.{IsSpan, Span, pair_rank, span_at, span_points}
+use Rattle.pf_cache.specs.Manifolds.{has_pair}
+use Rattle.pf_cache.specs.Spans.{Span, pair_rank, span_at}
 
 -- ---- ranks
 
@@ -126,36 +122,3 @@ has_span p (s ∷ spans) hp all =
         ≡ (((s.pair.a == p.a) && (s.pair.b == p.b)) || has_pair (map (λ x. x.pair) spans) p)
     by true e behind = rw (test ∙ e) refl
     by false e behind = rw (test ∙ e) behind
-
--- ---- spans of a list that grows
-
-module _ (shapes : List PlacedShape) where
-  points_stay : (touches more : List Touch) (s : Span) → s.start + s.len ≤ length touches
-      → span_points (touches ++ more) s ≡ span_points touches s
-  points_stay touches more s within =
-      let left = length-drop s.start touches in
-      ap (take s.len) (drop-append-le s.start touches more (omega (arith, within)))
-      ∙ take-append-le s.len (drop s.start touches) more (omega (arith, within, left))
-
-  pub span_stays : (touches more : List Touch) (s : Span) → IsSpan shapes touches s
-      → IsSpan shapes (touches ++ more) s
-  span_stays touches more s h =
-      let longer = length-append touches more in
-      record {
-        bodies = h.bodies;
-        within = omega (arith, h.within, longer);
-        points = points_stay touches more s h.within ∙ h.points;
-      }
-
-  -- the span of the points that were added last
-  pub span_of_last : (touches : List Touch) (p : Pair) (len : ℕ) → IsPairOf MAX_BODIES p
-      → len ≡ length (points_of_pair shapes p)
-      → IsSpan shapes (touches ++ points_of_pair shapes p) (record { pair = p; start = length touches; len = len })
-  span_of_last touches p len hp e =
-      let longer = length-append touches (points_of_pair shapes p) in
-      record {
-        bodies = hp;
-        within = omega (arith, e, longer);
-        points = ap (take len) (drop-append_seam touches (points_of_pair shapes p))
-            ∙ (ap (λ n. take n (points_of_pair shapes p)) e ∙ take-length (points_of_pair shapes p));
-      }

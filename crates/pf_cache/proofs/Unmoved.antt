@@ -15,9 +15,9 @@ use Rattle.pf_shapes.specs.SameLaws.{Decides-shape}
 use Rattle.pf_manifold.specs.Collide.{collide}
 use Rattle.pf_manifold.specs.ContactPoint.{ContactPoint}
 use Rattle.pf_manifold.specs.PlacedShape.{PlacedShape}
-use Rattle.pf_manifold.specs.Touches.{Touch, placed_shape, placed_shape_at, touch_of, touches, touches_between, touches_of}
+use Rattle.pf_manifold.specs.Touches.{placed_shape, placed_shape_at, touch_of, touches, touches_between, touches_of}
 use Rattle.pf_cache.specs.Manifolds.{is_unmoved, kept_touches, manifolds_of, placed_shapes, points_of_pair, are_same_shapes, same_placed_shape}
-use Rattle.pf_cache.specs.Spans.{IsSpan, Span, unmoved_flags}
+use Rattle.pf_cache.specs.Spans.{unmoved_flags}
 
 Decides-vector : (u v : V2) → Decides (same_vector u v) (u ≡ v)
 Decides-vector u v =
@@ -84,16 +84,6 @@ flag_at [] shapes i = refl
 flag_at (a ∷ old) [] i = no_shape (slice_get (a ∷ old) i)
 flag_at (a ∷ old) (b ∷ shapes) zero = refl
 flag_at (a ∷ old) (b ∷ shapes) (suc i) = flag_at old shapes i
-
--- the span of a pair whose bodies stand as they stood
-pub span_of_unmoved : (old shapes : List PlacedShape) (kept : List Touch) (s : Span) (p : Pair) → IsSpan old kept s
-    → s.pair ≡ p → (is_unmoved old shapes p.a && is_unmoved old shapes p.b) ≡ true → IsSpan shapes kept s
-span_of_unmoved old shapes kept s p h same unmoved = record {
-  bodies = h.bodies;
-  within = h.within;
-  points = h.points ∙ ap (points_of_pair old) same ∙ unmoved_points old shapes p unmoved
-      ∙ sym (ap (points_of_pair shapes) same);
-}
 
 -- the shapes of the bodies, number by number
 no_body : (o : Option Fixture) → None ≡ placed_shape o None

@@ -1,11 +1,10 @@
 -- The walk along the kept spans and the pairs of a tick.
 use Rattle.std.proofs.Common.{◌≡◌, ℕ, zero, suc, ◌+◌, ◌-◌, ◌≤◌, ◌<◌, ◌==◌, Bool, true, false, ◌&&◌, Option, Some, None, List, [], ◌∷◌, ◌++◌, length, map, take, take_all, refl, sym, ap, ap₂, subst, ◌∙◌, arith}
-use Rattle.std.specs.List.{flat_map, zip}
+use Rattle.std.specs.List.{flat_map}
 use Rattle.std.proofs.lemmas.Bool.Decides.{Decides-eqb}
 use Rattle.std.specs.Prelude.{All, IfSome, drop, get_or, is_some, not}
-use Rattle.std.proofs.lemmas.List.{append-nil, length-append, length-map, map-append, take_more}
+use Rattle.std.proofs.lemmas.List.{append-nil, length-append, take_more}
 use Rattle.std.proofs.lemmas.Simd.{map-map}
-use Rattle.std.proofs.lemmas.Slice.Zip.{length-zip}
 use Rattle.std.proofs.lemmas.List.Concat.{flat_map-append}
 use Rattle.std.proofs.lemmas.List.Elements.{All-cons, All-drop, All-head, All-nil, All-tail, All-weaker}
 use Rattle.pf_shapes.specs.Fixture.{Fixture}
@@ -15,9 +14,7 @@ use Rattle.pf_shapes.specs.declared.scene.TheConstants.{MAX_BODIES}
 use Rattle.pf_manifold.specs.Key.{AreTouches, IsRising}
 use Rattle.pf_manifold.specs.PlacedShape.{PlacedShape}
 use Rattle.pf_manifold.specs.Touches.{Touch}
-use Rattle.pf_manifold.specs.Touches as found
-use Rattle.pf_manifold.proofs.KeyOrder.{touches_in_order}
-use Rattle.pf_cache.specs.Manifolds.{has_pair, manifolds_of, no_manifolds, placed_shapes, points_of_pair}
+use Rattle.pf_cache.specs.Manifolds.{has_pair, manifolds_of, no_manifolds, points_of_pair}
 use Rattle.pf_cache.specs.Spans.{AreSpans, IsKeptSpan, IsSpan, Span, are_unmoved, pair_rank, span_at, span_if, spans_from}
 use Rattle.pf_cache.proofs.Refreshing.{pairs_of_spans, spans_more}
 use Rattle.pf_cache.proofs.SpanPlaces.{other_rank}
@@ -32,10 +29,6 @@ of_pair spans p place = span_at (pair_rank p) (drop place spans)
 -- from this place on the spans have the pair's span, if there is one
 abbrev pub SameSpanFrom : List Span → ℕ → Pair → Type 0
 SameSpanFrom spans place p = span_at (pair_rank p) (drop place spans) ≡ span_at (pair_rank p) spans
-
--- at the start nothing is passed by
-pub same_at_start : (spans : List Span) (pairs : List Pair) → All (SameSpanFrom spans 0) pairs
-same_at_start spans pairs = λ k d within. refl
 
 -- the pairs that the spans are of
 abbrev pairs_of : List Span → List Pair
@@ -73,8 +66,7 @@ module _ (shapes : List PlacedShape) (unmoved : List Bool) (kept : List Touch) (
       by true None stand is = tt
       by true (Some s) stand is =
           let found = found_span (IsKeptSpan shapes unmoved kept) (pair_rank p) spans s all is in
-          let same = same_rank s.pair p found.0.bodies hp found.1 in
-          (
+          let same = same_rank s.pair p found.0.bodies hp found.1 in (
             record {
               bodies = found.0.bodies;
               within = found.0.within;
@@ -167,16 +159,6 @@ pair_of_bodies n pairs i p few are within p_is =
     let here = subst (IsPairOf n) (sym p_is) (are i p within) in
     (here.0, omega (arith, here.1, few))
 
--- and of two of the shapes
-pub pair_of_shapes : (fixtures : List Fixture) (bodies : List BodyState) (pairs : List Pair) (i : ℕ) (p : Pair)
-    (shapes : List PlacedShape) → i < length pairs → p ≡ get_or pairs i p → length bodies ≡ length fixtures
-    → All (IsPairOf (length bodies)) pairs → shapes ≡ placed_shapes fixtures bodies → IsPairOf (length shapes) p
-pair_of_shapes fixtures bodies pairs i p shapes within p_is paired are shapes_are =
-    let zipped = ap length shapes_are ∙ length-map (zip fixtures bodies) _ ∙ length-zip fixtures bodies in
-    let count : length shapes ≡ length bodies = omega (arith, zipped, paired) in
-    let here = subst (IsPairOf (length bodies)) (sym p_is) (are i p within) in
-    (here.0, omega (arith, here.1, count))
-
 -- pairs of a scene's bodies
 pub pairs_of_scene : (n : ℕ) (pairs : List Pair) → n ≤ MAX_BODIES → All (IsPairOf n) pairs → All (IsPairOf MAX_BODIES) pairs
 pairs_of_scene n pairs few are =
@@ -230,8 +212,7 @@ spans_done shapes pairs spans touches i few are up order over listed whole =
     let points = whole ∙ ap (flat_map (points_of_pair shapes)) all in
     let ranks : map (λ s. pair_rank s.pair) spans ≡ map pair_rank pairs =
     sym (map-map pair_rank (λ (s : Span). s.pair) spans) ∙ ap (map pair_rank) pairs_are in
-    let bodies = pairs_of_scene (length shapes) pairs few are in
-    (
+    let bodies = pairs_of_scene (length shapes) pairs few are in (
       record {
         rising = subst (IsRising 0) (sym ranks) (pairs_rise pairs up bodies);
         bodies = bodies_of spans (subst (All (IsPairOf MAX_BODIES)) (sym pairs_are) bodies);

@@ -1,9 +1,8 @@
-use Rattle.std.proofs.Common.{rules, ◌≡◌, List, ◌-◌, ◌≤◌, ◌<◌, ◌∙◌, ◌++◌, ◌∷◌, [], ◌&&◌, ap, ap₂, length, map, refl, sym, take, arith}
+use Rattle.std.proofs.Common.{◌≡◌, List, ◌-◌, ◌∙◌, ◌++◌, ◌∷◌, [], ◌&&◌, ap, ap₂, length, map, refl, sym, take, arith}
 use Rattle.std.specs.Prelude.{not, is_some}
 use Rattle.std.proofs.lemmas.List.{length-take}
 use Rattle.std.proofs.lemmas.List.Sums.{count_by-le-length}
-use Rattle.pf_shapes.specs.Pair.{IsPairOf, Pair}
-use Rattle.pf_shapes.specs.declared.scene.TheConstants.{MAX_BODIES}
+use Rattle.pf_shapes.specs.Pair.{Pair}
 use Rattle.pf_cache.specs.Gathered.{GatheredPoints}
 use Rattle.pf_cache.specs.Manifolds.{Manifolds, has_pair, points_of_pair}
 use Rattle.pf_cache.specs.Spans.{Span, are_unmoved}

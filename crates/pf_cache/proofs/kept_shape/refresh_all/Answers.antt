@@ -1,6 +1,6 @@
-use Rattle.std.proofs.Common.{◌≡◌, ◌+◌, ◌<◌, ◌≤◌, ◌∙◌, ap, ap₂, sym, length, arith}
+use Rattle.std.proofs.Common.{◌≡◌, ◌<◌, ◌∙◌, ap, sym, length, arith}
 use Rattle.std.specs.List.{zip}
-use Rattle.std.specs.Prelude.{false, get_or}
+use Rattle.std.specs.Prelude.{get_or}
 use Rattle.std.proofs.lemmas.List.{length-map}
 use Rattle.std.proofs.lemmas.Slice.Zip.{length-zip}
 use Rattle.pf_shapes.specs.Fixture.{Fixture}
@@ -8,7 +8,7 @@ use Rattle.pf_shapes.specs.Body.{BodyState}
 use Rattle.pf_manifold.specs.PlacedShape.{PlacedShape}
 use Rattle.pf_cache.specs.Manifolds.{placed_shapes, same_placed_shape, shape_of_body}
 use Rattle.pf_cache.specs.Spans.{unmoved_flags}
-use Rattle.pf_cache.proofs.Placing.{joined, joined_all, joined_at, joined_left, joined_put, zip_at}
+use Rattle.pf_cache.proofs.Placing.{joined_all, joined_at, joined_left, joined_put, zip_at}
 use Rattle.pf_cache.proofs.Unmoved.{Decides-placed}
 use Rattle.pf_cache.proofs.kept_shape.refresh_all.Goals.{then-not-is_same, else-not-is_same}
 use Rattle.pf_cache.proofs.kept_shape.refresh_all.Goals as goal

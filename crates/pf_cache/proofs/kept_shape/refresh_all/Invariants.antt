@@ -1,4 +1,4 @@
-use Rattle.std.proofs.Common.{◌≡◌, ◌≤◌, length}
+use Rattle.std.proofs.Common.{◌≡◌}
 use Rattle.pf_cache.specs.Manifolds.{placed_shapes}
 use Rattle.pf_cache.specs.Spans.{unmoved_flags}
 use Rattle.pf_cache.proofs.Placing.{joined}

@@ -1,4 +1,4 @@
-use Rattle.std.proofs.Common.{◌≡◌, ◌+◌, ◌++◌, ◌≤◌, ◌∙◌, ap, sym, length, map, refl, subst, take, arith}
+use Rattle.std.proofs.Common.{◌≡◌, ◌+◌, ◌++◌, ◌∙◌, ap, sym, length, map, refl, subst, take, arith}
 use Rattle.std.specs.Prelude.{drop, get_or}
 use Rattle.pf_cache.specs.Manifolds.{points_of_pair}
 use Rattle.pf_cache.specs.Spans.{IsKeptSpan, Span, are_unmoved}

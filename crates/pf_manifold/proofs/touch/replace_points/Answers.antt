@@ -1,4 +1,4 @@
-use Rattle.std.proofs.Common.{◌≡◌, ◌+◌, ◌++◌, ◌∙◌, ◌∷◌, [], ap, ap₂, length, map, sym, take, arith}
+use Rattle.std.proofs.Common.{◌+◌, ◌++◌, ◌∙◌, ◌∷◌, [], ap, ap₂, length, map, sym, take, arith}
 use Rattle.std.specs.Prelude.{drop}
 use Rattle.pf_manifold.specs.Manifold.{points_of}
 use Rattle.pf_manifold.specs.declared.manifold.Manifold.{Manifold}

@@ -1,4 +1,4 @@
-use Rattle.std.proofs.Common.{rules, ◌≡◌, ◌≤◌, ◌∙◌, List, ap, ap₂, length, map, subst, sym, take, take_all, arith}
+use Rattle.std.proofs.Common.{◌≡◌, ◌≤◌, ◌∙◌, List, ap, ap₂, length, map, subst, sym, take, take_all, arith}
 use Rattle.std.specs.Prelude.{IfOk}
 use Rattle.std.proofs.lemmas.List.{with_items_is}
 use Rattle.pf_shapes.specs.Pair.{Pair}
@@ -7,7 +7,7 @@ use Rattle.pf_cache.specs.Manifolds.{Manifolds, NarrowPhase, computed_count, pla
 use Rattle.pf_manifold.specs.PlacedShape.{PlacedShape}
 use Rattle.pf_cache.specs.Spans.{Span, missing_count, unmoved_flags}
 use Rattle.pf_cache.proofs.Keeping.{all_done, are_kept, are_placed, as_many, counted, in_order, pairs_of_shapes}
-use Rattle.pf_cache.proofs.Updating.{no_bodies, no_pairs, nothing_of, spans_done}
+use Rattle.pf_cache.proofs.Updating.{no_bodies, no_pairs, nothing_of}
 use Rattle.pf_cache.proofs.manifolds.Manifolds.update.Goals as goal
 
 pub returns-then-is_empty-clause-manifolds : goal.returns-then-is_empty-clause-manifolds
@@ -35,8 +35,14 @@ refresh-done-requires-clause-placed c =
 
 pub refresh-done-requires-clause-kept : goal.refresh-done-requires-clause-kept
 refresh-done-requires-clause-kept c =
-    rw (c.deref.ensures.value, c.deref-2.ensures.value, c.deref-3.ensures.value, c.deref_mut.ensures.value,
-    c.in_ok-shapes.ensures.shapes, c.in_ok-shapes.ensures.unmoved)
+    rw (
+      c.deref.ensures.value,
+      c.deref-2.ensures.value,
+      c.deref-3.ensures.value,
+      c.deref_mut.ensures.value,
+      c.in_ok-shapes.ensures.shapes,
+      c.in_ok-shapes.ensures.unmoved,
+    )
     (are_kept c.self.inside.shapes.items c.self.inside.spans.items c.self.inside.touches.items c.self.invariant
     (placed_shapes c.fixtures.result.now c.args.bodies.now))
 
