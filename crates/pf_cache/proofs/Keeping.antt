@@ -1,10 +1,12 @@
 -- What is kept, as the next tick finds it.
-use Rattle.std.proofs.Common.{◌≡◌, ℕ, ◌+◌, ◌≤◌, Bool, ◌&&◌, List, [], length, map, refl, sym, ap, ap₂, subst, ◌∙◌, arith}
+use Rattle.std.proofs.Common.{◌≡◌, ℕ, zero, suc, ◌+◌, ◌-◌, ◌≤◌, Bool, ◌&&◌, List, [], ◌∷◌, ◌++◌, filter, length, map, take, refl, sym, ap, ap₂, subst, ◌∙◌, arith}
 use Rattle.std.specs.List.{count_by, flat_map, zip}
-use Rattle.std.specs.Prelude.{All, not}
-use Rattle.std.proofs.lemmas.List.{append-nil, drop_all, length-map, take_all}
+use Rattle.std.specs.Prelude.{All, drop, not}
+use Rattle.std.proofs.lemmas.List.{append-nil, length-append, length-drop, length-map, length-take, take-append-drop, take_all}
+use Rattle.std.proofs.lemmas.List.Sums.{length-filter}
+use Rattle.std.proofs.lemmas.List.Concat.{flat_map-append}
 use Rattle.std.proofs.lemmas.Slice.Zip.{length-zip}
-use Rattle.std.proofs.lemmas.List.Elements.{All-map, All-weaker}
+use Rattle.std.proofs.lemmas.List.Elements.{All-map, All-weaker, filter-append}
 use Rattle.pf_shapes.specs.Fixture.{Fixture}
 use Rattle.pf_shapes.specs.Body.{BodyState}
 use Rattle.pf_shapes.specs.Pair.{IsAscending, IsPairOf, Pair}
@@ -14,8 +16,8 @@ use Rattle.pf_manifold.specs.PlacedShape.{PlacedShape}
 use Rattle.pf_manifold.specs.Touches.{Touch}
 use Rattle.pf_manifold.proofs.KeyOrder.{touches_in_order}
 use Rattle.pf_cache.specs.Manifolds.{computed_count, has_pair, is_unmoved, placed_shapes, points_of_pair, shape_of_body}
-use Rattle.pf_cache.specs.Spans.{ArePlaced, AreRefreshed, AreSpans, IsKeptSpan, IsSpan, Span, are_unmoved, missing_count, unmoved_flags}
-use Rattle.pf_cache.proofs.Refreshing.{placed_from, spans_here}
+use Rattle.pf_cache.specs.Spans.{ArePlaced, AreRefreshed, AreSpans, IsKeptSpan, IsSpan, Span, are_unmoved, missing_count, spans_from, unmoved_flags}
+use Rattle.pf_cache.proofs.Refreshing.{placed_end, placed_from, spans_here, spans_of_both}
 use Rattle.pf_cache.proofs.Updating.{spans_done}
 use Rattle.pf_cache.proofs.Unmoved.{flag_at, kept_points, unmoved_points}
 
@@ -74,19 +76,61 @@ module _ (fixtures : List Fixture) (bodies : List BodyState) (pairs : List Pair)
       (sym (ap (λ ss. flat_map (points_of_pair ss) pairs) shapes_are ∙ kept_points fixtures bodies pairs))
       (touches_in_order fixtures bodies (length bodies) pairs few up are)
 
--- where all pairs are refreshed, the spans are as before
-pub all_done : (shapes : List PlacedShape) (spans : List Span) (touches : List Touch) (pairs : List Pair) (i n : ℕ)
-    → length shapes ≤ MAX_BODIES → All (IsPairOf (length shapes)) pairs → IsAscending pairs
-    → AreTouches (flat_map (points_of_pair shapes) pairs) → AreRefreshed shapes spans touches pairs i n
-    → length pairs ≤ i → length spans ≤ i
-    → AreSpans shapes spans touches × (map (λ s. s.pair) spans ≡ pairs)
-all_done shapes spans touches pairs i n few are up order done over past =
-    spans_done shapes pairs spans touches i few are up order over
-    (sym (take_all i spans past) ∙ done.listed)
-    (sym (take_all n touches end) ∙ done.stored)
-  where
-    end_is : n ≡ length touches
-    end_is = subst (λ ss. ArePlaced n ss (length touches)) (drop_all i spans past) done.rest
+-- ---- the points that are up to date, and behind them those of the other pairs
 
-    end : length touches ≤ n
-    end = omega (arith, end_is)
+module _ (shapes : List PlacedShape) (spans rest_spans : List Span) (touches rest : List Touch) (pairs : List Pair) (i n : ℕ)
+    (done : AreRefreshed shapes spans touches pairs i n)
+    (spans_are : rest_spans ≡ spans_from n shapes (drop i pairs))
+    (rest_is : rest ≡ flat_map (points_of_pair shapes) (drop i pairs)) where
+  -- they end within the list
+  pub ends_within : n ≤ length touches
+  ends_within = placed_end n (length touches) (drop i spans) done.rest
+
+  whole_points : take n touches ++ rest ≡ flat_map (points_of_pair shapes) pairs
+  whole_points =
+      ap₂ (λ xs ys. xs ++ ys) done.stored rest_is
+      ∙ sym (flat_map-append (points_of_pair shapes) (take i pairs) (drop i pairs))
+      ∙ ap (flat_map (points_of_pair shapes)) (take-append-drop i pairs)
+
+  whole_spans : take i spans ++ rest_spans ≡ spans_from 0 shapes pairs
+  whole_spans =
+      let within = ends_within in
+      let taken = length-take n touches in
+      let sizes = ap length done.stored in
+      let count : n ≡ 0 + length (flat_map (points_of_pair shapes) (take i pairs)) = omega (arith, within, taken, sizes) in
+      ap₂ (λ xs ys. xs ++ ys) done.listed (spans_are ∙ ap (λ m. spans_from m shapes (drop i pairs)) count)
+      ∙ sym (spans_of_both shapes 0 (take i pairs) (drop i pairs))
+      ∙ ap (spans_from 0 shapes) (take-append-drop i pairs)
+
+  pub joined_spans : (all_spans : List Span) (all_touches : List Touch) → all_spans ≡ take i spans ++ rest_spans
+      → all_touches ≡ take n touches ++ rest → length shapes ≤ MAX_BODIES → All (IsPairOf (length shapes)) pairs
+      → IsAscending pairs → AreTouches (flat_map (points_of_pair shapes) pairs)
+      → AreSpans shapes all_spans all_touches × (map (λ s. s.pair) all_spans ≡ pairs)
+  joined_spans all_spans all_touches spans_joined touches_joined few are up order =
+      spans_done shapes pairs all_spans all_touches few are up order (spans_joined ∙ whole_spans) (touches_joined ∙ whole_points)
+
+-- counts of the first pairs and of the others
+pub counts_add : (kept : List Pair) (unmoved : List Bool) (pairs : List Pair) (i : ℕ)
+    → missing_count kept unmoved (take i pairs) + missing_count kept unmoved (drop i pairs) ≡ missing_count kept unmoved pairs
+counts_add own unmoved pairs i =
+    let test : Pair → Bool = λ p. not (has_pair own p && are_unmoved unmoved p) in
+    let first = take i pairs in
+    let second = drop i pairs in
+    let one = length-filter test first in
+    let two = length-filter test second in
+    let both = length-append (filter test first) (filter test second) in
+    let whole = ap length (filter-append test first second) in
+    let all = length-filter test (first ++ second) in
+    let sum : missing_count own unmoved first + missing_count own unmoved second ≡ missing_count own unmoved (first ++ second) =
+    omega (arith, one, two, both, whole, all) in
+    sum ∙ ap (missing_count own unmoved) (take-append-drop i pairs)
+
+-- the others, as a slice
+pub others : (pairs : List Pair) (i : ℕ) → take (length pairs - i) (drop i pairs) ≡ drop i pairs
+others pairs i = let left = length-drop i pairs in take_all (length pairs - i) (drop i pairs) (omega (arith, left))
+
+-- the pairs that are left ascend
+pub ascend_behind : (i : ℕ) (pairs : List Pair) → IsAscending pairs → IsAscending (drop i pairs)
+ascend_behind zero pairs up = up
+ascend_behind (suc i) [] up = tt
+ascend_behind (suc i) (p ∷ pairs) up = ascend_behind i pairs up.1

@@ -44,6 +44,21 @@ module _ (shapes : List PlacedShape) where
       ap (λ ss. span_at_start start q ∷ ss) (spans_more (start + length first) pairs p
       ∙ ap (λ n. spans_from (start + length first) shapes pairs ++ span_at_start n p ∷ []) same)
 
+  -- those of two lists of pairs
+  pub spans_of_both : (start : ℕ) (first second : List Pair)
+      → spans_from start shapes (first ++ second)
+      ≡ spans_from start shapes first ++ spans_from (start + length (points_of first)) shapes second
+  spans_of_both start [] second =
+      let none : start ≡ start + 0 = omega arith in
+      ap (λ n. spans_from n shapes second) none
+  spans_of_both start (p ∷ first) second =
+      let here = points_of_pair shapes p in
+      let long = length-append here (points_of first) in
+      let same : (start + length here) + length (points_of first) ≡ start + length (here ++ points_of first) = omega (arith, long) in
+      ap (λ ss. span_at_start start p ∷ ss)
+      (spans_of_both (start + length here) first second
+      ∙ ap (λ n. spans_from (start + length here) shapes first ++ spans_from n shapes second) same)
+
   pub points_more : (pairs : List Pair) (p : Pair) → points_of (pairs ++ p ∷ []) ≡ points_of pairs ++ points_of_pair shapes p
   points_more pairs p =
       flat_map-append (points_of_pair shapes) pairs (p ∷ [])

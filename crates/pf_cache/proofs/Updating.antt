@@ -1,5 +1,5 @@
 -- The walk along the kept spans and the pairs of a tick.
-use Rattle.std.proofs.Common.{◌≡◌, ℕ, zero, suc, ◌+◌, ◌-◌, ◌≤◌, ◌<◌, ◌==◌, Bool, true, false, ◌&&◌, Option, Some, None, List, [], ◌∷◌, ◌++◌, length, map, take, take_all, refl, sym, ap, ap₂, subst, ◌∙◌, arith}
+use Rattle.std.proofs.Common.{◌≡◌, ℕ, zero, suc, ◌+◌, ◌-◌, ◌≤◌, ◌<◌, ◌==◌, Bool, true, false, ◌&&◌, Option, Some, None, List, [], ◌∷◌, ◌++◌, length, map, take, refl, sym, ap, ap₂, subst, ◌∙◌, arith}
 use Rattle.std.specs.List.{flat_map}
 use Rattle.std.proofs.lemmas.Bool.Decides.{Decides-eqb}
 use Rattle.std.specs.Prelude.{All, IfSome, drop, get_or, is_some, not}
@@ -15,7 +15,7 @@ use Rattle.pf_manifold.specs.Key.{AreTouches, IsRising}
 use Rattle.pf_manifold.specs.PlacedShape.{PlacedShape}
 use Rattle.pf_manifold.specs.Touches.{Touch}
 use Rattle.pf_cache.specs.Manifolds.{has_pair, manifolds_of, no_manifolds, points_of_pair}
-use Rattle.pf_cache.specs.Spans.{AreSpans, IsKeptSpan, IsSpan, Span, are_unmoved, pair_rank, span_at, span_if, spans_from}
+use Rattle.pf_cache.specs.Spans.{AreSpans, IsBehind, IsKeptSpan, IsSpan, Span, are_unmoved, pair_rank, span_at, span_if, spans_from}
 use Rattle.pf_cache.proofs.Refreshing.{pairs_of_spans, spans_more}
 use Rattle.pf_cache.proofs.SpanPlaces.{other_rank}
 use Rattle.pf_manifold.proofs.Rising.{rising-all}
@@ -26,17 +26,13 @@ use Rattle.pf_cache.proofs.Walk.{reads_behind, reads_here}
 abbrev of_pair : List Span → Pair → ℕ → Option Span
 of_pair spans p place = span_at (pair_rank p) (drop place spans)
 
--- from this place on the spans have the pair's span, if there is one
-abbrev pub SameSpanFrom : List Span → ℕ → Pair → Type 0
-SameSpanFrom spans place p = span_at (pair_rank p) (drop place spans) ≡ span_at (pair_rank p) spans
-
 -- the pairs that the spans are of
 abbrev pairs_of : List Span → List Pair
 pairs_of spans = map (λ s. s.pair) spans
 
 -- a step of the walk: the pair p at i. The lent list is the spans.
 module _ (spans lent : List Span) (pairs : List Pair) (i place : ℕ) (d p : Pair) (within : i < length pairs)
-    (p_is : p ≡ get_or pairs i d) (lent_is : lent ≡ spans) (same : All (SameSpanFrom spans place) (drop i pairs)) where
+    (p_is : p ≡ get_or pairs i d) (lent_is : lent ≡ spans) (same : All (IsBehind spans place) (drop i pairs)) where
   -- what was looked up is the pair's span, if there is one
   pub looked_up : (o : Option Span) → o ≡ span_at (pair_rank p) (drop place lent) → o ≡ span_at (pair_rank p) spans
   looked_up o e =
@@ -47,7 +43,7 @@ module _ (spans lent : List Span) (pairs : List Pair) (i place : ℕ) (d p : Pai
   -- and a place from which all higher ranks have the span that they have from this one
   pub same_after : (last : ℕ)
       → ((n : ℕ) → pair_rank p < n → span_at n (drop last lent) ≡ span_at n (drop place lent))
-      → IsRising 0 (map pair_rank pairs) → All (SameSpanFrom spans last) (drop (i + 1) pairs)
+      → IsRising 0 (map pair_rank pairs) → All (IsBehind spans last) (drop (i + 1) pairs)
   same_after last later rising =
       let past = subst (λ ss. (n : ℕ) → pair_rank p < n → span_at n (drop last ss) ≡ span_at n (drop place ss)) lent_is later in
       reads_behind pair_rank (of_pair spans) pairs i place last d within
@@ -107,24 +103,24 @@ module _ (shapes : List PlacedShape) (pairs : List Pair) (i : ℕ) (d p : Pair) 
       ∙ sym (ap (flat_map (points_of_pair shapes)) (take_more pairs i d within)
       ∙ flat_map-append (points_of_pair shapes) (take i pairs) (get_or pairs i d ∷ []))
 
-  pub listed_more : (touches after : List Touch) (spans longer : List Span) (len : ℕ)
-      → spans ≡ spans_from 0 shapes (take i pairs) → touches ≡ flat_map (points_of_pair shapes) (take i pairs)
+  pub listed_more : (from : ℕ) (touches after : List Touch) (spans longer : List Span) (len : ℕ)
+      → spans ≡ spans_from from shapes (take i pairs) → touches ≡ flat_map (points_of_pair shapes) (take i pairs)
       → after ≡ touches ++ points_of_pair shapes p → len ≡ length after - length touches
-      → longer ≡ spans ++ record { pair = p; start = length touches; len = len } ∷ []
-      → longer ≡ spans_from 0 shapes (take (i + 1) pairs)
-  listed_more touches after spans longer len listed done added len_is pushed =
+      → longer ≡ spans ++ record { pair = p; start = from + length touches; len = len } ∷ []
+      → longer ≡ spans_from from shapes (take (i + 1) pairs)
+  listed_more from touches after spans longer len listed done added len_is pushed =
       let more = points_of_pair shapes p in
       let front = flat_map (points_of_pair shapes) (take i pairs) in
       let long = ap length added ∙ length-append touches more in
       let count : len ≡ length more = omega (arith, len_is, long) in
       let size = ap length done in
-      let place : length touches ≡ 0 + length front = omega (arith, size) in
+      let place : from + length touches ≡ from + length front = omega (arith, size) in
       let pairs_are : take (i + 1) pairs ≡ take i pairs ++ p ∷ [] =
       take_more pairs i d within ∙ ap (λ x. take i pairs ++ x ∷ []) (sym p_is) in
       pushed
       ∙ ap₂ (λ n m. spans ++ record { pair = p; start = n; len = m } ∷ []) place count
-      ∙ ap (λ ss. ss ++ record { pair = p; start = 0 + length front; len = length more } ∷ []) listed
-      ∙ sym (ap (spans_from 0 shapes) pairs_are ∙ spans_more shapes 0 (take i pairs) p)
+      ∙ ap (λ ss. ss ++ record { pair = p; start = from + length front; len = length more } ∷ []) listed
+      ∙ sym (ap (spans_from from shapes) pairs_are ∙ spans_more shapes from (take i pairs) p)
 
 -- where there are no bodies, there are no pairs
 pub no_pairs : {X : Type 0} (bodies : List X) (pairs : List Pair) → bodies ≡ [] → All (IsPairOf (length bodies)) pairs
@@ -185,7 +181,7 @@ lower_before (suc k) (p ∷ pairs) least j d rising within =
 -- behind the first pairs, which are those of the first spans, nothing is passed by
 pub same_behind : (shapes : List PlacedShape) (spans : List Span) (pairs : List Pair) (k : ℕ)
     → take k spans ≡ spans_from 0 shapes (take k pairs) → IsAscending pairs → All (IsPairOf MAX_BODIES) pairs
-    → All (SameSpanFrom spans k) (drop k pairs)
+    → All (IsBehind spans k) (drop k pairs)
 same_behind shapes spans pairs k listed up are = λ j d within.
     let q = get_or (drop k pairs) j d in
     let own : take k pairs ≡ pairs_of (take k spans) = sym (ap pairs_of listed ∙ pairs_of_spans shapes 0 (take k pairs)) in
@@ -200,16 +196,12 @@ same_behind shapes spans pairs k listed up are = λ j d within.
         (All-unmap ss (All-tail (λ p. pair_rank p < n) s.pair (pairs_of ss) all))
 
 -- all pairs have their spans
-pub spans_done : (shapes : List PlacedShape) (pairs : List Pair) (spans : List Span) (touches : List Touch) (i : ℕ)
+pub spans_done : (shapes : List PlacedShape) (pairs : List Pair) (spans : List Span) (touches : List Touch)
     → length shapes ≤ MAX_BODIES → All (IsPairOf (length shapes)) pairs → IsAscending pairs
-    → AreTouches (flat_map (points_of_pair shapes) pairs) → length pairs ≤ i
-    → spans ≡ spans_from 0 shapes (take i pairs) → touches ≡ flat_map (points_of_pair shapes) (take i pairs)
-    → AreSpans shapes spans touches × (pairs_of spans ≡ pairs)
-spans_done shapes pairs spans touches i few are up order over listed whole =
-    let all : take i pairs ≡ pairs = take_all i pairs over in
-    let placed : spans ≡ spans_from 0 shapes pairs = listed ∙ ap (spans_from 0 shapes) all in
+    → AreTouches (flat_map (points_of_pair shapes) pairs) → spans ≡ spans_from 0 shapes pairs
+    → touches ≡ flat_map (points_of_pair shapes) pairs → AreSpans shapes spans touches × (pairs_of spans ≡ pairs)
+spans_done shapes pairs spans touches few are up order placed points =
     let pairs_are : pairs_of spans ≡ pairs = ap pairs_of placed ∙ pairs_of_spans shapes 0 pairs in
-    let points = whole ∙ ap (flat_map (points_of_pair shapes)) all in
     let ranks : map (λ s. pair_rank s.pair) spans ≡ map pair_rank pairs =
     sym (map-map pair_rank (λ (s : Span). s.pair) spans) ∙ ap (map pair_rank) pairs_are in
     let bodies = pairs_of_scene (length shapes) pairs few are in (

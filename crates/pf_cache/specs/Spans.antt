@@ -28,6 +28,10 @@ abbrev pub span_at : ℕ → List Span → Option Span
 span_at n [] = None
 span_at n (s ∷ spans) = if pair_rank s.pair == n then Some s else span_at n spans
 
+-- the span of a pair, if there is one, stands from this place on
+abbrev pub IsBehind : List Span → ℕ → Pair → Type 0
+IsBehind spans place p = span_at (pair_rank p) (drop place spans) ≡ span_at (pair_rank p) spans
+
 -- the span if the test holds, and none otherwise
 abbrev pub span_if : Bool → Option Span → Option Span
 span_if b o = if b then o else None

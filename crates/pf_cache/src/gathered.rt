@@ -4,12 +4,11 @@ ghost use Rattle.std.specs.Prelude.{◌≡◌, ◌-◌, ◌≤◌, ◌++◌, All
 ghost use Rattle.std.specs.List.{flat_map};
 ghost use Rattle.pf_shapes.specs.Pair.{IsAscending, IsPairOf};
 ghost use Rattle.pf_shapes.specs.declared.scene.TheConstants.{MAX_BODIES};
-ghost use Rattle.pf_manifold.specs.Key.{AreTouches, IsRising};
+ghost use Rattle.pf_manifold.specs.Key.{IsRising};
 ghost use Rattle.pf_cache.specs.Manifolds.{points_of_pair};
-ghost use Rattle.pf_cache.specs.Spans.{AreRefreshed, IsKeptSpan, missing_count, pair_rank};
+ghost use Rattle.pf_cache.specs.Spans.{IsBehind, IsKeptSpan, missing_count, pair_rank, spans_from};
 
 use crate::kept_shape::KeptShape;
-use crate::manifolds::{Manifolds, NarrowPhase};
 use crate::refresh::Progress;
 use crate::spans::{Span, span_of, unmoved_span};
 use pf_manifold::{Touch, collide, push_points};
@@ -67,22 +66,21 @@ impl<'a> GatheredPoints<'a> {
     ghost use Rattle.pf_cache.specs.Gathered.{GatheredPoints};
     ghost use Rattle.pf_cache.specs.Spans.{IsSpan};
 
-    /// The first points of `source`, up to `end`, with capacity for as many as are kept.
+    /// No points, with capacity for those of `source` from `start` on.
     pub fn new(
         alloc: Global,
         source: &'a [Touch],
-        end: usize,
+        start: usize,
     ) -> Result<GatheredPoints<'a>, AllocError>
-        requires { end ≤ length source.now }
-        ensures { IfOk result
-            (λ g. g ≡ record { source = source.now; points = take end source.now }) }
+        requires { start ≤ length source.now }
+        ensures { IfOk result (λ g. g ≡ record { source = source.now; points = [] }) }
     {
-        let touches = Vec::with_capacity(alloc, source.len())?;
+        let touches = Vec::with_capacity(alloc, source.len() - start)?;
         Ok(GatheredPoints {
             touches,
             source,
-            start: 0,
-            end,
+            start,
+            end: start,
         })
     }
 
@@ -168,60 +166,65 @@ pub struct KeptPoints<'a> {
     pub unmoved: &'a [bool],
 }
 
-/// The contact points of these pairs in a new list: those of the pairs that are done, then those of
-/// the other pairs, of which those of unmoved bodies are copied.
+/// The contact points of pairs, with the span of each.
+#[derive(Drop)]
+pub struct PairPoints {
+    /// Where the points of each pair stand.
+    pub spans: Vec<Span>,
+    /// The points.
+    pub touches: Vec<Touch>,
+    /// For how many pairs they were computed.
+    pub computed: usize,
+}
+
+/// The contact points of the pairs behind those that are up to date. Kept points of unmoved bodies
+/// are copied, the others are computed.
 #[inline(never)]
 pub fn gather(
     alloc: Global,
     kept: &KeptPoints,
     done: &Progress,
-    shapes: Vec<KeptShape>,
+    shapes: &[KeptShape],
     pairs: &[Pair],
-) -> Result<NarrowPhase, AllocError>
-    requires few { length shapes.items ≤ MAX_BODIES }
-    requires pairs { All (IsPairOf (length shapes.items)) pairs.now }
+) -> Result<PairPoints, AllocError>
+    requires few { length shapes.now ≤ MAX_BODIES }
+    requires pairs { All (IsPairOf (length shapes.now)) pairs.now }
     requires ascending { IsAscending pairs.now }
-    requires order { AreTouches (flat_map (points_of_pair shapes.items) pairs.now) }
     requires rising { IsRising 0 (map (λ s. pair_rank s.pair) kept.now.spans.now) }
-    requires kept { All (IsKeptSpan shapes.items kept.now.unmoved.now kept.now.touches.now)
+    requires kept { All (IsKeptSpan shapes.now kept.now.unmoved.now kept.now.touches.now)
         kept.now.spans.now }
-    requires done { AreRefreshed shapes.items kept.now.spans.now kept.now.touches.now pairs.now
-        done.now.pairs done.now.points }
-    requires computed { done.now.computed ≡ missing_count (map (λ s. s.pair) kept.now.spans.now)
-        kept.now.unmoved.now (take done.now.pairs pairs.now) }
-    ensures manifolds { IfOk result
-        (λ found. found.manifolds ≡ record { shapes = shapes.items; pairs = pairs.now }) }
-    ensures computed { IfOk result
-        (λ found. found.computed ≡ missing_count (map (λ s. s.pair) kept.now.spans.now)
-        kept.now.unmoved.now pairs.now) }
+    requires within { done.now.pairs ≤ length kept.now.spans.now }
+    requires points { done.now.points ≤ length kept.now.touches.now }
+    requires behind { All (IsBehind kept.now.spans.now done.now.pairs) pairs.now }
+    ensures spans { IfOk result
+        (λ found. found.spans.items ≡ spans_from done.now.points shapes.now pairs.now) }
+    ensures touches { IfOk result
+        (λ found. found.touches.items ≡ flat_map (points_of_pair shapes.now) pairs.now) }
+    ensures computed { IfOk result (λ found. found.computed
+        ≡ missing_count (map (λ s. s.pair) kept.now.spans.now) kept.now.unmoved.now pairs.now) }
 {
     let mut spans = Vec::with_capacity(alloc, pairs.len())?;
-    spans.extend_from_slice(&kept.spans[..done.pairs])?;
     let mut points = GatheredPoints::new(alloc, kept.touches, done.points)?;
-    let mut computed = done.computed;
+    let mut computed = 0;
     let mut place = done.pairs;
-    for index in done.pairs..pairs.len() {
-        let pair = &pairs[index];
+    for pair in pairs {
         let (found, behind) = span_of(kept.spans, place, pair);
         place = behind;
         let span = unmoved_span(found, pair, kept.unmoved);
-        let start = points.len()?;
         if span.is_none() {
             computed += 1;
         }
-        points.add(span, pair, &shapes)?;
-        let len = points.len()? - start;
+        let before = points.len()?;
+        points.add(span, pair, shapes)?;
+        let start = done.points.checked_add(before).ok_or(AllocError)?;
+        let len = points.len()? - before;
         let pair = *pair;
-        spans.push(Span { pair, start, len })?;
+        spans.push_reserved(Span { pair, start, len });
     }
     let touches = points.into_touches()?;
-    let manifolds = Manifolds {
-        shapes,
+    Ok(PairPoints {
         spans,
         touches,
-    };
-    Ok(NarrowPhase {
-        manifolds,
         computed,
     })
 }

@@ -16,9 +16,9 @@ use std::marker::Model;
 /// are kept with the shapes, positions and rotations that they were computed from.
 #[derive(Debug, Drop)]
 pub struct Manifolds {
-    pub(crate) shapes: Vec<KeptShape>,
-    pub(crate) spans: Vec<Span>,
-    pub(crate) touches: Vec<Touch>,
+    shapes: Vec<KeptShape>,
+    spans: Vec<Span>,
+    touches: Vec<Touch>,
 }
 
 impl Model for Manifolds {
@@ -105,25 +105,27 @@ impl Manifolds {
             });
         }
         let (shapes, unmoved) = refreshed_shapes(alloc, self.shapes, scene.fixtures(), bodies)?;
-        let spans = self.spans;
+        let mut spans = self.spans;
         let mut touches = self.touches;
         let done = refresh(&mut touches, &spans, pairs, &unmoved, &shapes);
-        if done.pairs == pairs.len() && done.pairs == spans.len() {
-            let manifolds = Manifolds {
-                shapes,
-                spans,
-                touches,
-            };
-            return Ok(NarrowPhase {
-                manifolds,
-                computed: done.computed,
-            });
-        }
         let kept = KeptPoints {
             spans: &spans,
             touches: &touches,
             unmoved: &unmoved,
         };
-        gather(alloc, &kept, &done, shapes, pairs)
+        let rest = gather(alloc, &kept, &done, &shapes, &pairs[done.pairs..])?;
+        spans.truncate(done.pairs);
+        spans.extend_from_slice(&rest.spans)?;
+        touches.truncate(done.points);
+        touches.extend_from_slice(&rest.touches)?;
+        let manifolds = Manifolds {
+            shapes,
+            spans,
+            touches,
+        };
+        Ok(NarrowPhase {
+            manifolds,
+            computed: done.computed + rest.computed,
+        })
     }
 }
