@@ -55,7 +55,8 @@ fn find(parents: &mut [usize], body: usize) -> usize
     place
 }
 
-/// Links the greater root of two bodies to the lesser.
+/// Links the greater root of two bodies to the lesser. Bodies of one parent have one root, as those
+/// of a pair's second contact point mostly do.
 fn link(parents: &mut [usize], a: usize, b: usize)
     requires first { a < length parents.old }
     requires second { b < length parents.old }
@@ -64,6 +65,9 @@ fn link(parents: &mut [usize], a: usize, b: usize)
         → IsForest (λ i. merged (root a) (root b) (root i)) parents.new }
     ensures down { IsDownward parents.new }
 {
+    if parents[a] == parents[b] {
+        return;
+    }
     let first = find(parents, a);
     let second = find(parents, b);
     parents[first.max(second)] = first.min(second);
