@@ -54,6 +54,29 @@ fn contacts_are_those_of_the_points(rt: HostRuntime) -> Result<(), Fail> {
 }
 
 #[test]
+fn kept_points_are_used_again(rt: HostRuntime) -> Result<(), Fail> {
+    let alloc = rt.alloc();
+    let scene = scene_of(alloc, BOTH_STAND)?;
+    let starts = scene.starts();
+    if scene.fixtures().len() != starts.len() {
+        return Err(Fail::from("each body has a start"));
+    }
+    let pairs = pairs(alloc, &scene, starts)?;
+    let mut work = Work::new(alloc);
+    for computed in [2, 0] {
+        let kept = work.take_manifolds(alloc);
+        assert!(rt; work.manifolds().touches().is_empty());
+        let found = kept.update(alloc, &scene, starts, &pairs)?;
+        assert_eq!(rt;
+            (found.computed, found.manifolds.touches().len()),
+            (computed, 4)
+        );
+        work.end_tick(found);
+    }
+    Ok(())
+}
+
+#[test]
 fn counts_stay_at_their_greatest(rt: HostRuntime) -> Result<(), Fail> {
     let mut work = Work::new(rt.alloc());
     assert!(rt; work.meter() == Meter::NONE);

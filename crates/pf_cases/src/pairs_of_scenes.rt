@@ -2,7 +2,7 @@
 
 use crate::scenes::scene_of;
 use pf_broad::pairs;
-use pf_manifold::{Touch, collide_list};
+use pf_manifold::{Manifold, Touch, collide_list, replace_points};
 use pf_shapes::Pair;
 use std::alloc::Global;
 use std::test::Fail;
@@ -76,6 +76,25 @@ fn bounds_that_touch_are_pairs(rt: HostRuntime) -> Result<(), Fail> {
             .iter()
             .map(key)
             .eq([(0, 1, 28), (0, 1, 29), (0, 2, 133)])
+    );
+    Ok(())
+}
+
+#[test]
+fn points_are_written_over_others(rt: HostRuntime) -> Result<(), Fail> {
+    let (pairs, mut touches) = found(rt.alloc(), TOUCHING)?;
+    if pairs.is_empty() || touches.len() < 3 {
+        return Err(Fail::from("three points"));
+    }
+    let pair = pairs[0];
+    let swapped = Manifold::Two(touches[1].point, touches[0].point);
+    assert_eq!(rt; swapped.count(), 2);
+    replace_points(&mut touches, 0, &pair, &swapped);
+    assert!(rt;
+        touches
+            .iter()
+            .map(key)
+            .eq([(0, 1, 29), (0, 1, 28), (0, 2, 133)])
     );
     Ok(())
 }
