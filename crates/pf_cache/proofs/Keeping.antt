@@ -16,7 +16,7 @@ use Rattle.pf_manifold.specs.PlacedShape.{PlacedShape}
 use Rattle.pf_manifold.specs.Touches.{Touch}
 use Rattle.pf_manifold.proofs.KeyOrder.{touches_in_order}
 use Rattle.pf_cache.specs.Manifolds.{computed_count, has_pair, is_unmoved, placed_shapes, points_of_pair, shape_of_body}
-use Rattle.pf_cache.specs.Spans.{ArePlaced, AreRefreshed, AreSpans, IsKeptSpan, IsSpan, Span, are_unmoved, missing_count, spans_from, unmoved_flags}
+use Rattle.pf_cache.specs.Spans.{ArePlaced, AreRefreshed, AreSpans, IsKeptSpan, IsSpan, Span, are_unmoved, computed_count_by_flags, spans_from, unmoved_flags}
 use Rattle.pf_cache.proofs.Refreshing.{placed_end, placed_from, spans_here, spans_of_both}
 use Rattle.pf_cache.proofs.Updating.{spans_done}
 use Rattle.pf_cache.proofs.Unmoved.{flag_at, kept_points, unmoved_points}
@@ -28,7 +28,7 @@ flags_are old shapes p = ap₂ (λ s t. s && t) (flag_at old shapes p.a) (flag_a
 
 -- the pairs that have to be computed, by the flags
 pub counted : (old shapes : List PlacedShape) (kept pairs : List Pair)
-    → missing_count kept (unmoved_flags old shapes) pairs ≡ computed_count (record { shapes = old; pairs = kept }) shapes pairs
+    → computed_count_by_flags kept (unmoved_flags old shapes) pairs ≡ computed_count (record { shapes = old; pairs = kept }) shapes pairs
 counted old shapes kept pairs =
     ap (λ (test : Pair → Bool). count_by test pairs) (λ i p. not (has_pair kept p && flags_are old shapes p i))
 
@@ -111,7 +111,7 @@ module _ (shapes : List PlacedShape) (spans rest_spans : List Span) (touches res
 
 -- counts of the first pairs and of the others
 pub counts_add : (kept : List Pair) (unmoved : List Bool) (pairs : List Pair) (i : ℕ)
-    → missing_count kept unmoved (take i pairs) + missing_count kept unmoved (drop i pairs) ≡ missing_count kept unmoved pairs
+    → computed_count_by_flags kept unmoved (take i pairs) + computed_count_by_flags kept unmoved (drop i pairs) ≡ computed_count_by_flags kept unmoved pairs
 counts_add own unmoved pairs i =
     let test : Pair → Bool = λ p. not (has_pair own p && are_unmoved unmoved p) in
     let first = take i pairs in
@@ -121,9 +121,9 @@ counts_add own unmoved pairs i =
     let both = length-append (filter test first) (filter test second) in
     let whole = ap length (filter-append test first second) in
     let all = length-filter test (first ++ second) in
-    let sum : missing_count own unmoved first + missing_count own unmoved second ≡ missing_count own unmoved (first ++ second) =
+    let sum : computed_count_by_flags own unmoved first + computed_count_by_flags own unmoved second ≡ computed_count_by_flags own unmoved (first ++ second) =
     omega (arith, one, two, both, whole, all) in
-    sum ∙ ap (missing_count own unmoved) (take-append-drop i pairs)
+    sum ∙ ap (computed_count_by_flags own unmoved) (take-append-drop i pairs)
 
 -- the others, as a slice
 pub others : (pairs : List Pair) (i : ℕ) → take (length pairs - i) (drop i pairs) ≡ drop i pairs

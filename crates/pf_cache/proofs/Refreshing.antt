@@ -13,7 +13,7 @@ use Rattle.pf_shapes.specs.declared.scene.TheConstants.{MAX_BODIES}
 use Rattle.pf_manifold.specs.PlacedShape.{PlacedShape}
 use Rattle.pf_manifold.specs.Touches.{Touch}
 use Rattle.pf_cache.specs.Manifolds.{has_pair, points_of_pair}
-use Rattle.pf_cache.specs.Spans.{ArePlaced, AreRefreshed, IsKeptSpan, IsSpan, Span, are_unmoved, missing_count, span_points, spans_from}
+use Rattle.pf_cache.specs.Spans.{ArePlaced, AreRefreshed, IsKeptSpan, IsSpan, Span, are_unmoved, computed_count_by_flags, span_points, spans_from}
 use Rattle.pf_cache.proofs.Reusable.{Decides-pair}
 
 -- ---- spans of points that stand one after the other
@@ -311,24 +311,24 @@ module _ (kept : List Pair) (unmoved : List Bool) (pairs : List Pair) (i : ℕ) 
   test_is b e = ap (λ q. not (has_pair kept q && are_unmoved unmoved q)) (sym p_is) ∙ e
 
   -- a pair that has to be computed
-  pub missing_more : (count : ℕ) → count ≡ missing_count kept unmoved (take i pairs)
+  pub missing_more : (count : ℕ) → count ≡ computed_count_by_flags kept unmoved (take i pairs)
       → not (has_pair kept p && are_unmoved unmoved p) ≡ true
-      → count + 1 ≡ missing_count kept unmoved (take (i + 1) pairs)
+      → count + 1 ≡ computed_count_by_flags kept unmoved (take (i + 1) pairs)
   missing_more count done missing =
       ap (λ n. n + 1) done
       ∙ sym (count_by_more_yes (λ q. not (has_pair kept q && are_unmoved unmoved q)) pairs i p within (test_is true missing))
 
   -- a pair whose points are there
-  pub missing_same : (count : ℕ) → count ≡ missing_count kept unmoved (take i pairs)
+  pub missing_same : (count : ℕ) → count ≡ computed_count_by_flags kept unmoved (take i pairs)
       → not (has_pair kept p && are_unmoved unmoved p) ≡ false
-      → count ≡ missing_count kept unmoved (take (i + 1) pairs)
+      → count ≡ computed_count_by_flags kept unmoved (take (i + 1) pairs)
   missing_same count done there =
       done
       ∙ sym (count_by_more_no (λ q. not (has_pair kept q && are_unmoved unmoved q)) pairs i p within (test_is false there))
 
   -- where a body moved
-  pub moved_more : (count : ℕ) → count ≡ missing_count kept unmoved (take i pairs) → are_unmoved unmoved p ≡ false
-      → count + 1 ≡ missing_count kept unmoved (take (i + 1) pairs)
+  pub moved_more : (count : ℕ) → count ≡ computed_count_by_flags kept unmoved (take i pairs) → are_unmoved unmoved p ≡ false
+      → count + 1 ≡ computed_count_by_flags kept unmoved (take (i + 1) pairs)
   moved_more count done moved = missing_more count done (ap (λ t. not (has_pair kept p && t)) moved ∙ none (has_pair kept p))
     where
       none : (t : Bool) → not (t && false) ≡ true
@@ -337,8 +337,8 @@ module _ (kept : List Pair) (unmoved : List Bool) (pairs : List Pair) (i : ℕ) 
 
   -- where both are unmoved, and the pair is that of a span
   pub unmoved_same : (spans : List Span) (k : ℕ) (s : Span) → k < length spans → s ≡ get_or spans k s → s.pair ≡ p
-      → kept ≡ map (λ x. x.pair) spans → (count : ℕ) → count ≡ missing_count kept unmoved (take i pairs)
-      → are_unmoved unmoved p ≡ true → count ≡ missing_count kept unmoved (take (i + 1) pairs)
+      → kept ≡ map (λ x. x.pair) spans → (count : ℕ) → count ≡ computed_count_by_flags kept unmoved (take i pairs)
+      → are_unmoved unmoved p ≡ true → count ≡ computed_count_by_flags kept unmoved (take (i + 1) pairs)
   unmoved_same spans k s there s_is same kept_is count done stand =
       let listed : has_pair kept p ≡ true =
       ap₂ has_pair kept_is (sym same) ∙ has_pair_of spans k s there s_is in

@@ -15,7 +15,7 @@ use Rattle.pf_manifold.specs.Key.{AreTouches, IsRising}
 use Rattle.pf_manifold.specs.PlacedShape.{PlacedShape}
 use Rattle.pf_manifold.specs.Touches.{Touch}
 use Rattle.pf_cache.specs.Manifolds.{has_pair, manifolds_of, no_manifolds, points_of_pair}
-use Rattle.pf_cache.specs.Spans.{AreSpans, IsBehind, IsKeptSpan, IsSpan, Span, are_unmoved, pair_rank, span_at, span_if, spans_from}
+use Rattle.pf_cache.specs.Spans.{AreSpans, StandsFrom, IsKeptSpan, IsSpan, Span, are_unmoved, pair_rank, span_at, span_if, spans_from}
 use Rattle.pf_cache.proofs.Refreshing.{pairs_of_spans, spans_more}
 use Rattle.pf_cache.proofs.SpanPlaces.{other_rank}
 use Rattle.pf_manifold.proofs.Rising.{rising-all}
@@ -32,7 +32,7 @@ pairs_of spans = map (λ s. s.pair) spans
 
 -- a step of the walk: the pair p at i. The lent list is the spans.
 module _ (spans lent : List Span) (pairs : List Pair) (i place : ℕ) (d p : Pair) (within : i < length pairs)
-    (p_is : p ≡ get_or pairs i d) (lent_is : lent ≡ spans) (same : All (IsBehind spans place) (drop i pairs)) where
+    (p_is : p ≡ get_or pairs i d) (lent_is : lent ≡ spans) (same : All (StandsFrom spans place) (drop i pairs)) where
   -- what was looked up is the pair's span, if there is one
   pub looked_up : (o : Option Span) → o ≡ span_at (pair_rank p) (drop place lent) → o ≡ span_at (pair_rank p) spans
   looked_up o e =
@@ -43,7 +43,7 @@ module _ (spans lent : List Span) (pairs : List Pair) (i place : ℕ) (d p : Pai
   -- and a place from which all higher ranks have the span that they have from this one
   pub same_after : (last : ℕ)
       → ((n : ℕ) → pair_rank p < n → span_at n (drop last lent) ≡ span_at n (drop place lent))
-      → IsRising 0 (map pair_rank pairs) → All (IsBehind spans last) (drop (i + 1) pairs)
+      → IsRising 0 (map pair_rank pairs) → All (StandsFrom spans last) (drop (i + 1) pairs)
   same_after last later rising =
       let past = subst (λ ss. (n : ℕ) → pair_rank p < n → span_at n (drop last ss) ≡ span_at n (drop place ss)) lent_is later in
       reads_behind pair_rank (of_pair spans) pairs i place last d within
@@ -181,7 +181,7 @@ lower_before (suc k) (p ∷ pairs) least j d rising within =
 -- behind the first pairs, which are those of the first spans, nothing is passed by
 pub same_behind : (shapes : List PlacedShape) (spans : List Span) (pairs : List Pair) (k : ℕ)
     → take k spans ≡ spans_from 0 shapes (take k pairs) → IsAscending pairs → All (IsPairOf MAX_BODIES) pairs
-    → All (IsBehind spans k) (drop k pairs)
+    → All (StandsFrom spans k) (drop k pairs)
 same_behind shapes spans pairs k listed up are = λ j d within.
     let q = get_or (drop k pairs) j d in
     let own : take k pairs ≡ pairs_of (take k spans) = sym (ap pairs_of listed ∙ pairs_of_spans shapes 0 (take k pairs)) in

@@ -29,8 +29,8 @@ span_at n [] = None
 span_at n (s ∷ spans) = if pair_rank s.pair == n then Some s else span_at n spans
 
 -- the span of a pair, if there is one, stands from this place on
-abbrev pub IsBehind : List Span → ℕ → Pair → Type 0
-IsBehind spans place p = span_at (pair_rank p) (drop place spans) ≡ span_at (pair_rank p) spans
+abbrev pub StandsFrom : List Span → ℕ → Pair → Type 0
+StandsFrom spans place p = span_at (pair_rank p) (drop place spans) ≡ span_at (pair_rank p) spans
 
 -- the span if the test holds, and none otherwise
 abbrev pub span_if : Bool → Option Span → Option Span
@@ -44,9 +44,9 @@ unmoved_flags old shapes = map (λ both. same_placed_shape both.0 both.1) (zip o
 abbrev pub are_unmoved : List Bool → Pair → Bool
 are_unmoved unmoved p = get_or unmoved p.a false && get_or unmoved p.b false
 
--- how many of these pairs are none of the kept ones, or have a body that moved
-abbrev pub missing_count : List Pair → List Bool → List Pair → ℕ
-missing_count kept unmoved pairs = count_by (λ p. not (has_pair kept p && are_unmoved unmoved p)) pairs
+-- how many of these pairs cannot reuse kept points: they are none of the kept ones, or a body moved
+abbrev pub computed_count_by_flags : List Pair → List Bool → List Pair → ℕ
+computed_count_by_flags kept unmoved pairs = count_by (λ p. not (has_pair kept p && are_unmoved unmoved p)) pairs
 
 -- the spans of pairs whose points stand one after the other, from a start on
 abbrev pub spans_from : ℕ → List PlacedShape → List Pair → List Span
@@ -81,7 +81,8 @@ pub record AreSpans (shapes : List PlacedShape) (list : List Span) (touches : Li
   pub whole : touches ≡ flat_map (points_of_pair shapes) (map (λ s. s.pair) list)
   pub order : AreTouches touches
 
--- the first pairs, so many, are those of the first spans, and their points, so many, stand first
+-- the first `count` pairs are those of the first spans; their points, `points` in number, are of
+-- these shapes and stand first; the points of the other spans follow
 pub record AreRefreshed (shapes : List PlacedShape) (spans : List Span) (touches : List Touch)
     (pairs : List Pair) (count points : ℕ) : Type 0 where
   pub within : count ≤ length pairs

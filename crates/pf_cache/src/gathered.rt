@@ -6,7 +6,7 @@ ghost use Rattle.pf_shapes.specs.Pair.{IsAscending, IsPairOf};
 ghost use Rattle.pf_shapes.specs.declared.scene.TheConstants.{MAX_BODIES};
 ghost use Rattle.pf_manifold.specs.Key.{IsRising};
 ghost use Rattle.pf_cache.specs.Manifolds.{points_of_pair};
-ghost use Rattle.pf_cache.specs.Spans.{IsBehind, IsKeptSpan, missing_count, pair_rank, spans_from};
+ghost use Rattle.pf_cache.specs.Spans.{StandsFrom, IsKeptSpan, computed_count_by_flags, pair_rank, spans_from};
 
 use crate::kept_shape::KeptShape;
 use crate::refresh::Progress;
@@ -22,7 +22,7 @@ use std::marker::Model;
 #[derive(Drop)]
 pub struct GatheredPoints<'a> {
     touches: Vec<Touch>,
-    /// The points of the last tick.
+    /// The kept points, of which those of the first pairs are already updated.
     source: &'a [Touch],
     /// The run that is to be copied behind `touches`: its start and its end in `source`.
     start: usize,
@@ -93,7 +93,7 @@ impl<'a> GatheredPoints<'a> {
         self.touches.len().checked_add(run).ok_or(AllocError)
     }
 
-    /// Adds kept points.
+    /// Adds so many points of `source`, from `start` on.
     #[inline]
     fn add_kept(&mut self, start: usize, len: usize) -> Result<(), AllocError>
         requires { start + len ≤ length self.old.source }
@@ -155,7 +155,7 @@ impl<'a> GatheredPoints<'a> {
     }
 }
 
-/// The contact points of the last tick, brought up to date as far as they could be where they stand.
+/// The kept contact points, of which those of the first pairs are already updated.
 #[derive(Drop)]
 pub struct KeptPoints<'a> {
     /// Where the points of each pair stand.
@@ -169,7 +169,7 @@ pub struct KeptPoints<'a> {
 /// The contact points of pairs, with the span of each.
 #[derive(Drop)]
 pub struct PairPoints {
-    /// Where the points of each pair stand.
+    /// Where the points of each pair will stand, after the points that are already updated.
     pub spans: Vec<Span>,
     /// The points.
     pub touches: Vec<Touch>,
@@ -177,8 +177,8 @@ pub struct PairPoints {
     pub computed: usize,
 }
 
-/// The contact points of the pairs behind those that are up to date. Kept points of unmoved bodies
-/// are copied, the others are computed.
+/// The contact points of the pairs after those that are done. Kept points of unmoved bodies are
+/// copied, the others are computed. Spans count from the number of points that are done.
 #[inline(never)]
 pub fn gather(
     alloc: Global,
@@ -195,13 +195,13 @@ pub fn gather(
         kept.now.spans.now }
     requires within { done.now.pairs ≤ length kept.now.spans.now }
     requires points { done.now.points ≤ length kept.now.touches.now }
-    requires behind { All (IsBehind kept.now.spans.now done.now.pairs) pairs.now }
+    requires behind { All (StandsFrom kept.now.spans.now done.now.pairs) pairs.now }
     ensures spans { IfOk result
         (λ found. found.spans.items ≡ spans_from done.now.points shapes.now pairs.now) }
     ensures touches { IfOk result
         (λ found. found.touches.items ≡ flat_map (points_of_pair shapes.now) pairs.now) }
     ensures computed { IfOk result (λ found. found.computed
-        ≡ missing_count (map (λ s. s.pair) kept.now.spans.now) kept.now.unmoved.now pairs.now) }
+        ≡ computed_count_by_flags (map (λ s. s.pair) kept.now.spans.now) kept.now.unmoved.now pairs.now) }
 {
     let mut spans = Vec::with_capacity(alloc, pairs.len())?;
     let mut points = GatheredPoints::new(alloc, kept.touches, done.points)?;

@@ -108,10 +108,10 @@ pub fn unmoved_flags(
         .collect(alloc)
 }
 
-/// The shapes of bodies as they stand now, of which those that stood otherwise are written; and for
-/// each number whether the body is unmoved.
+/// Writes the shape of each body that moved over its old one, and sets for each number whether the
+/// body is unmoved.
 #[inline(never)]
-fn refresh_all(
+fn refresh_shapes(
     shapes: &mut [KeptShape],
     unmoved: &mut [bool],
     fixtures: &[Fixture],
@@ -155,7 +155,7 @@ pub fn refreshed_shapes(
     }
     let mut unmoved = Vec::with_capacity(alloc, bodies.len())?;
     unmoved.resize(bodies.len(), false)?;
-    refresh_all(&mut shapes, &mut unmoved, fixtures, bodies);
+    refresh_shapes(&mut shapes, &mut unmoved, fixtures, bodies);
     Ok((shapes, unmoved))
 }
 

@@ -78,9 +78,10 @@ impl Manifolds {
         self.touches.as_slice()
     }
 
-    /// The contact points of these pairs of bodies. Where a pair has kept points, and both bodies
-    /// have the same shape, position and rotation, these are reused; the points of the other pairs
-    /// are computed, and these pairs are counted. Takes no memory where there are no bodies.
+    /// The contact points of these pairs of bodies. The points of a pair that is kept are reused if
+    /// both bodies still have the shape, position and rotation that they had; those of the other
+    /// pairs are computed, and these pairs are counted. An error drops the kept points. Takes no
+    /// memory where there are no bodies.
     #[inline(never)]
     pub fn update(
         self,

@@ -1,16 +1,16 @@
-//! Contact points that are brought up to date where they stand.
+//! Contact points that are updated in place.
 
 ghost use Rattle.std.specs.Prelude.{◌≡◌, ◌+◌, ◌≤◌, ◌++◌, All, IsTrue, drop, false, length, map, take};
 ghost use Rattle.pf_shapes.specs.Pair.{IsPairOf};
 ghost use Rattle.pf_cache.specs.Manifolds.{points_of_pair};
-ghost use Rattle.pf_cache.specs.Spans.{ArePlaced, AreRefreshed, IsKeptSpan, missing_count};
+ghost use Rattle.pf_cache.specs.Spans.{ArePlaced, AreRefreshed, IsKeptSpan, computed_count_by_flags};
 
 use crate::kept_shape::{KeptShape, are_unmoved};
 use crate::spans::Span;
 use pf_manifold::{Touch, collide, replace_points};
 use pf_shapes::Pair;
 
-/// How far points could be brought up to date where they stand.
+/// How far contact points could be updated in place.
 #[derive(Drop)]
 pub struct Progress {
     /// For how many pairs.
@@ -44,9 +44,9 @@ fn refresh_span(touches: &mut [Touch], span: &Span, shapes: &[KeptShape]) -> boo
     true
 }
 
-/// Brings the contact points of pairs up to date where they stand: those of unmoved bodies are left,
-/// the others are computed and written over the old ones. It ends before the first pair that has no
-/// span at its place, or another number of points than before.
+/// Updates the contact points of pairs in place: those of unmoved bodies are left, the others are
+/// computed and written over the old ones. It ends before the first pair that has no span at its
+/// place, or another number of points than before; that it goes so far is said by no clause.
 #[inline(never)]
 #[tactic(auto, using(crate::proofs::Refreshing::kept_after))]
 pub fn refresh(
@@ -63,7 +63,7 @@ pub fn refresh(
         result.pairs result.points }
     ensures kept { All (IsKeptSpan shapes.now unmoved.now touches.new) spans.now }
     ensures computed { result.computed
-        ≡ missing_count (map (λ s. s.pair) spans.now) unmoved.now (take result.pairs pairs.now) }
+        ≡ computed_count_by_flags (map (λ s. s.pair) spans.now) unmoved.now (take result.pairs pairs.now) }
 {
     let mut place = 0;
     let mut points = 0;

@@ -44,15 +44,16 @@ impl Work {
         self.meter
     }
 
-    /// The contact points of the last tick, none before the first.
+    /// The contact points of the last tick; none before the first, and none after a step that was out
+    /// of memory.
     pub fn manifolds(&self) -> &Manifolds
         ensures { result.now ≡ self.now.manifolds }
     {
         &self.manifolds
     }
 
-    /// Takes the contact points of the last tick, so that those of the next can stand in their
-    /// memory. None are kept from then on.
+    /// Takes the contact points of the last tick, so that the next tick can reuse their memory. None
+    /// are kept from then on. Takes no memory.
     pub fn take_manifolds(&mut self, alloc: Global) -> Manifolds
         ensures taken { result ≡ self.old.manifolds }
         ensures rest { self.new ≡ record self.old { manifolds = no_manifolds } }

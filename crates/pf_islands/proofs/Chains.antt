@@ -106,7 +106,7 @@ merged_second x y =
     (λ apart. cond-false _ _ _ (ne_eqb y (max x y) apart) ∙ omega (arith, apart)) (cases_eq y (max x y))
 
 -- the bodies of a contact point that connects them are in one group
-linked_one_name : (s : Scene) (t : Touch) (touches : List Touch) → connects s t ≡ true
+pub linked_one_name : (s : Scene) (t : Touch) (touches : List Touch) → connects s t ≡ true
     → group s (t ∷ touches) t.a ≡ group s (t ∷ touches) t.b
 unfolding group
 linked_one_name s t touches joins =

@@ -1,11 +1,12 @@
 -- The walk along contact points, the last first, that links their bodies.
-use Rattle.std.proofs.Common.{◌≡◌, ◌∙◌, ℕ, true, false, List, [], ◌∷◌, ◌++◌, get_or, append_assoc, sym, ap}
-use Rattle.std.proofs.lemmas.Bool.{cond-true, cond-false}
-use Rattle.pf_shapes.specs.Scene.{Scene}
+use Rattle.std.proofs.Common.{◌≡◌, ◌∙◌, ⊎_elim, ℕ, true, false, not, ◌&&◌, List, [], ◌∷◌, ◌++◌, max, get_or, append_assoc, refl, sym, ap, ap₂, arith}
+use Rattle.std.proofs.lemmas.Bool.{cases_Bool, cases_eq, cond_both, cond-false, cond-true, eq-eqb, ne_eqb}
+use Rattle.pf_shapes.specs.Scene.{Scene, is_static_at}
 use Rattle.pf_manifold.specs.Touches.{Touch}
 use Rattle.pf_islands.specs.Forest.{IsForest}
 use Rattle.pf_islands.specs.Group.{group, merged}
 use Rattle.pf_islands.specs.Reach.{connects}
+use Rattle.pf_islands.proofs.Chains.{linked_one_name}
 
 -- roots that agree
 forest_agree : (f g : ℕ → ℕ) (parents : List ℕ) → ((i : ℕ) → f i ≡ g i) → IsForest f parents → IsForest g parents
@@ -43,3 +44,49 @@ module _ (s : Scene) (t : Touch) (passed : List Touch) (parents : List ℕ) wher
       ap (λ x. merged (group s passed x) (group s passed b) (group s passed i)) first
       ∙ ap (λ y. merged (group s passed t.a) (group s passed y) (group s passed i)) second
       ∙ sym (cond-true (connects s t) _ _ joined))
+
+-- the name of one group does not change where the group is merged with itself
+merged_one : (x y name : ℕ) → x ≡ y → merged x y name ≡ name
+merged_one x y name same =
+    ⊎_elim
+    (λ e. cond-true _ _ _ (eq-eqb name (max x y) e) ∙ omega (arith, e, same))
+    (λ apart. cond-false _ _ _ (ne_eqb name (max x y) apart)) (cases_eq name (max x y))
+
+-- a point of two bodies of one group changes no name
+of_one_group : (s : Scene) (t : Touch) (passed : List Touch) (i : ℕ) → group s passed t.a ≡ group s passed t.b
+    → group s (t ∷ passed) i ≡ group s passed i
+unfolding group
+of_one_group s t passed i same =
+    cond_both (connects s t) _ _ (λ name. name ≡ group s passed i) (λ _. merged_one _ _ _ same) (λ _. refl)
+
+-- a point of these bodies changes no name
+abbrev pub ChangesNone : Scene → ℕ → ℕ → List Touch → Type 0
+ChangesNone s a b passed =
+    (t : Touch) → t.a ≡ a → t.b ≡ b → (i : ℕ) → group s (t ∷ passed) i ≡ group s passed i
+
+-- as with a body and itself
+pub none_of_one : (s : Scene) (a : ℕ) (passed : List Touch) → ChangesNone s a a passed
+none_of_one s a passed = λ t first second i.
+    of_one_group s t passed i (ap (group s passed) (first ∙ sym second))
+
+-- and with the bodies of the point before
+pub none_of_last : (s : Scene) (t : Touch) (passed : List Touch) (a b : ℕ) → t.a ≡ a → t.b ≡ b
+    → ChangesNone s a b (t ∷ passed)
+unfolding group
+none_of_last s t passed a b first second = λ u u_first u_second i.
+    let one = u_first ∙ sym first in
+    let two = u_second ∙ sym second in
+    ⊎_elim
+    (λ joins.
+    of_one_group s u (t ∷ passed) i
+    (ap (group s (t ∷ passed)) one ∙ linked_one_name s t passed joins ∙ ap (group s (t ∷ passed)) (sym two)))
+    (λ apart.
+    cond-false (connects s u) _ _
+    (ap₂ (λ x y. not (is_static_at s x) && not (is_static_at s y)) one two ∙ apart))
+    (cases_Bool (connects s t))
+
+-- so such a point is passed over
+pub forest_passed : (s : Scene) (t : Touch) (passed : List Touch) (parents : List ℕ) (a b : ℕ) → t.a ≡ a → t.b ≡ b
+    → ChangesNone s a b passed → IsForest (group s passed) parents → IsForest (group s (t ∷ passed)) parents
+forest_passed s t passed parents a b first second none =
+    forest_agree (group s passed) (group s (t ∷ passed)) parents (λ i. sym (none t first second i))

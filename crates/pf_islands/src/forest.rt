@@ -1,9 +1,9 @@
 //! A union-find over bodies: each body has a parent, and the bodies of a group have one root, which
 //! is the least of them.
 
-ghost use Rattle.std.specs.Prelude.{◌≡◌, ◌≤◌, ◌<◌, ℕ, All, IfOk, IsOk, length, map};
+ghost use Rattle.std.specs.Prelude.{◌≡◌, ◌≤◌, ◌<◌, ◌∷◌, ℕ, All, IfOk, IsOk, List, length, map};
 ghost use Rattle.std.specs.List.{range_with_len};
-ghost use Rattle.pf_manifold.specs.Touches.{IsTouchOf};
+ghost use Rattle.pf_manifold.specs.Touches.{IsTouchOf, Touch};
 ghost use Rattle.pf_islands.specs.Forest.{IsDownward, IsForest};
 ghost use Rattle.pf_islands.specs.Group.{group, merged};
 ghost use Rattle.pf_islands.specs.Reach.{connects};
@@ -55,8 +55,7 @@ fn find(parents: &mut [usize], body: usize) -> usize
     place
 }
 
-/// Links the greater root of two bodies to the lesser. Bodies of one parent have one root, as those
-/// of a pair's second contact point mostly do.
+/// Links the greater root of two bodies to the lesser.
 fn link(parents: &mut [usize], a: usize, b: usize)
     requires first { a < length parents.old }
     requires second { b < length parents.old }
@@ -65,15 +64,27 @@ fn link(parents: &mut [usize], a: usize, b: usize)
         → IsForest (λ i. merged (root a) (root b) (root i)) parents.new }
     ensures down { IsDownward parents.new }
 {
-    if parents[a] == parents[b] {
-        return;
-    }
     let first = find(parents, a);
     let second = find(parents, b);
     parents[first.max(second)] = first.min(second);
 }
 
-/// Links the bodies of each contact point that connects them.
+/// Links the bodies of a contact point, where it connects them.
+fn link_touch(parents: &mut [usize], scene: &Scene, touch: &Touch)
+    requires touch { IsTouchOf (length scene.now.fixtures) touch.now }
+    requires count { length parents.old ≡ length scene.now.fixtures }
+    requires down { IsDownward parents.old }
+    ensures roots { (passed : List Touch) → IsForest (group scene.now passed) parents.old
+        → IsForest (group scene.now (touch.now ∷ passed)) parents.new }
+    ensures down { IsDownward parents.new }
+{
+    if connects(scene, touch) {
+        link(parents, touch.a, touch.b);
+    }
+}
+
+/// Links the bodies of each contact point that connects them. The points of a pair stand side by
+/// side, so a point of the same bodies as the one before has nothing to link.
 pub fn link_all(parents: &mut [usize], scene: &Scene, touches: &[Touch])
     requires touches { All (IsTouchOf (length scene.now.fixtures)) touches.now }
     requires count { length parents.old ≡ length scene.now.fixtures }
@@ -82,9 +93,14 @@ pub fn link_all(parents: &mut [usize], scene: &Scene, touches: &[Touch])
     ensures roots { IsForest (group scene.now touches.now) parents.new }
     ensures down { IsDownward parents.new }
 {
+    let mut first = 0;
+    let mut second = 0;
     for touch in touches.iter().rev() {
-        if connects(scene, touch) {
-            link(parents, touch.a, touch.b);
+        let is_other = touch.a != first || touch.b != second;
+        if is_other {
+            link_touch(parents, scene, touch);
+            first = touch.a;
+            second = touch.b;
         }
     }
 }

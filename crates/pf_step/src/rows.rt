@@ -85,7 +85,7 @@ pub(crate) struct ActiveContacts {
 /// The contacts that are simulated, with their rows. Takes no memory where there are no contact
 /// points.
 #[inline(never)]
-pub(crate) fn active_rows(
+pub(crate) fn active_contacts(
     alloc: Global,
     scene: &Scene,
     bodies: &[BodyState],
@@ -102,6 +102,8 @@ pub(crate) fn active_rows(
     ensures order { AreTouches touches.now → IfOk result (λ active. AreRows active.rows.items) }
     ensures places { AreTouches touches.now → map (λ c. c.key) contacts.now ≡ map key_of touches.now
         → IfOk result (λ active. AreRowsAt contacts.now active.places.items active.rows.items) }
+    ensures chosen { IfOk result
+        (λ active. active.places.items ≡ active_places bodies.now touches.now) }
     ensures no_memory { touches.now ≡ [] → IsOk result }
 {
     let places = active_places(alloc, bodies, touches)?;

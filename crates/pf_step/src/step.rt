@@ -10,7 +10,7 @@ ghost use Rattle.pf_solver.specs.Solve.{IsRowOf, solved};
 ghost use Rattle.pf_step.specs.Step.{narrow_phase, narrow_phase_of_tick, step, touching};
 
 use crate::command::apply_all;
-use crate::rows::active_rows;
+use crate::rows::active_contacts;
 use crate::world::{World, copy_of};
 use pf_broad::pairs;
 use pf_cache::{Contacts, Manifolds, NarrowPhase, Row, Work};
@@ -67,7 +67,7 @@ fn narrow_phase(
 
 /// The world one tick of 1/64 s later, with the payloads of the tick's commands in order of player,
 /// then number. The world has one state for each body of the scene. Counts the tick and the pairs
-/// whose contact points were computed, and keeps the points; after an error none are kept, and
+/// that could not reuse kept contact points, and keeps the points; after an error none are kept, and
 /// nothing is counted. Takes no memory where there are no bodies.
 #[tactic(auto, unfolding(crate::specs::Step::step), using(pf_islands::proofs::Starting::groups_long, crate::proofs::Lengths::woken_length, crate::proofs::Ticked::updated_length, crate::proofs::Ticked::ticked, pf_solver::proofs::Solved::solved_length))]
 pub fn step_alone(
@@ -93,7 +93,7 @@ pub fn step_alone(
     let mut contacts = world.contacts().update(touches)?;
     let mut groups = Groups::new(alloc, scene, touches)?;
     groups.wake(&mut bodies);
-    let mut active = active_rows(alloc, scene, &bodies, touches, contacts.as_slice())?;
+    let mut active = active_contacts(alloc, scene, &bodies, touches, contacts.as_slice())?;
     solve_active(
         scene,
         &mut groups,

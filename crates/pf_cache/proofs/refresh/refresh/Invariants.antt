@@ -1,5 +1,5 @@
 use Rattle.std.proofs.Common.{length, map, take, ◌-◌, ◌≡◌, ◌≤◌}
-use Rattle.pf_cache.specs.Spans.{missing_count}
+use Rattle.pf_cache.specs.Spans.{computed_count_by_flags}
 use Rattle.pf_cache.proofs.Refreshing.{AreDone}
 use Rattle.pf_cache.proofs.refresh.refresh.Given as goal
 
@@ -9,7 +9,7 @@ invariant-loop-place l = record {
   few : l.computed ≤ l.place;
   same_length : length l.touches ≡ length l.initial.touches;
   done : AreDone l.shapes l.spans l.pairs l.initial.touches l.place l.points l.touches;
-  computed : l.computed ≡ missing_count (map (λ s. s.pair) l.spans) l.unmoved (take l.place l.pairs);
+  computed : l.computed ≡ computed_count_by_flags (map (λ s. s.pair) l.spans) l.unmoved (take l.place l.pairs);
 }
 
 abbrev pub decreases-loop-place : goal.decreases-loop-place

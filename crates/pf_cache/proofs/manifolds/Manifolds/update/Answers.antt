@@ -7,7 +7,7 @@ use Rattle.pf_shapes.specs.Pair.{IsPairOf, Pair}
 use Rattle.pf_shapes.specs.declared.scene.TheConstants.{MAX_BODIES}
 use Rattle.pf_cache.specs.Manifolds.{Manifolds, computed_count, placed_shapes}
 use Rattle.pf_manifold.specs.PlacedShape.{PlacedShape}
-use Rattle.pf_cache.specs.Spans.{Span, missing_count, unmoved_flags}
+use Rattle.pf_cache.specs.Spans.{Span, computed_count_by_flags, unmoved_flags}
 use Rattle.pf_cache.proofs.Keeping.{are_kept, are_placed, as_many, ascend_behind, joined_spans, others, counts_add, counted, in_order, pairs_of_shapes}
 use Rattle.pf_cache.proofs.Updating.{pairs_of_scene, same_behind, no_bodies, no_pairs, nothing_of}
 use Rattle.pf_cache.proofs.manifolds.Manifolds.update.Goals as goal
@@ -160,11 +160,11 @@ returns-clause-computed c =
     let i = c.refresh-done.result.pairs in
     let flags_are : c.in_ok-shapes.unmoved.items ≡ flags =
     c.in_ok-shapes.ensures.unmoved ∙ ap (unmoved_flags old) (sym c.in_ok-shapes.ensures.shapes) in
-    let first : c.refresh-done.result.computed ≡ missing_count kept flags (take i pairs) =
+    let first : c.refresh-done.result.computed ≡ computed_count_by_flags kept flags (take i pairs) =
     rw (c.deref.ensures.value, c.deref-2.ensures.value, flags_are) at c.refresh-done.ensures.computed in
-    let second : c.in_ok-rest.rest.computed ≡ missing_count kept flags (drop i pairs) =
+    let second : c.in_ok-rest.rest.computed ≡ computed_count_by_flags kept flags (drop i pairs) =
     rw (others pairs i, c.deref-4.ensures.value, c.deref-6.ensures.value, flags_are) at c.in_ok-rest.ensures.computed in
     let sum = counts_add kept flags pairs i in
-    let total : c.refresh-done.result.computed + c.in_ok-rest.rest.computed ≡ missing_count kept flags pairs =
+    let total : c.refresh-done.result.computed + c.in_ok-rest.rest.computed ≡ computed_count_by_flags kept flags pairs =
     omega (arith, first, second, sum) in
     total ∙ counted old shapes kept pairs ∙ ap₂ (λ m ss. computed_count m ss pairs) c.self.view_is shapes_are

@@ -2,7 +2,7 @@ use Rattle.std.proofs.Common.{◌≡◌}
 use Rattle.pf_cache.specs.Manifolds.{placed_shapes}
 use Rattle.pf_cache.specs.Spans.{unmoved_flags}
 use Rattle.pf_cache.proofs.Placing.{joined}
-use Rattle.pf_cache.proofs.kept_shape.refresh_all.Given as goal
+use Rattle.pf_cache.proofs.kept_shape.refresh_shapes.Given as goal
 
 abbrev pub invariant-loop-number : goal.invariant-loop-number
 invariant-loop-number l = record {

@@ -4,7 +4,7 @@ use Rattle.pf_cache.specs.Row.{AreRows, AreRowsAt}
 use Rattle.pf_solver.specs.Solve.{IsRowOf}
 use Rattle.pf_step.specs.Rows.{active_rows}
 use Rattle.pf_step.proofs.ActiveRows.{all_made, row_more, rows_beside, rows_fit, rows_in_order}
-use Rattle.pf_step.proofs.rows.active_rows.Goals as goal
+use Rattle.pf_step.proofs.rows.active_contacts.Goals as goal
 
 pub loop-place-preserved : goal.loop-place-preserved
 loop-place-preserved c =

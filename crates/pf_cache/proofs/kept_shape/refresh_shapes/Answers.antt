@@ -10,8 +10,8 @@ use Rattle.pf_cache.specs.Manifolds.{placed_shapes, same_placed_shape, shape_of_
 use Rattle.pf_cache.specs.Spans.{unmoved_flags}
 use Rattle.pf_cache.proofs.Placing.{joined_all, joined_at, joined_left, joined_put, zip_at}
 use Rattle.pf_cache.proofs.Unmoved.{Decides-placed}
-use Rattle.pf_cache.proofs.kept_shape.refresh_all.Goals.{then-not-is_same, else-not-is_same}
-use Rattle.pf_cache.proofs.kept_shape.refresh_all.Goals as goal
+use Rattle.pf_cache.proofs.kept_shape.refresh_shapes.Goals.{then-not-is_same, else-not-is_same}
+use Rattle.pf_cache.proofs.kept_shape.refresh_shapes.Goals as goal
 
 pub loop-number-preserved : goal.loop-number-preserved
 loop-number-preserved c =
