@@ -113,9 +113,63 @@ fn friction_of(first: Fx, second: Fx) -> Fx
     first.mul(second).root()
 }
 
+/// The coefficient of friction of the two bodies that were mixed last. Most bodies of a scene are
+/// of few materials, so the root is seldom computed anew.
+#[derive(Drop)]
+pub struct LastFriction {
+    first: Fx,
+    second: Fx,
+    mixed: Fx,
+}
+
+impl Model for LastFriction {
+    ghost use Rattle.std.specs.Prelude.{ℤ, ◌≡◌};
+    ghost use Rattle.pf_solver.specs.Constraint.{friction_of};
+
+    ghost Value = { ℤ };
+
+    ghost view = { λ last. last.mixed };
+
+    ghost invariant = { λ last. last.mixed ≡ friction_of last.first last.second };
+}
+
+impl LastFriction {
+    ghost use Rattle.std.specs.Prelude.{◌≡◌};
+    ghost use Rattle.pf_solver.specs.Constraint.{friction_of};
+
+    /// That of two bodies without friction.
+    pub fn new() -> LastFriction {
+        LastFriction {
+            first: Fx::ZERO,
+            second: Fx::ZERO,
+            mixed: friction_of(Fx::ZERO, Fx::ZERO),
+        }
+    }
+
+    /// The coefficient of friction of two bodies.
+    #[inline]
+    fn mix(&mut self, first: Fx, second: Fx) -> Fx
+        ensures { result ≡ friction_of first second }
+    {
+        if self.first != first || self.second != second {
+            *self = LastFriction {
+                first,
+                second,
+                mixed: friction_of(first, second),
+            };
+        }
+        self.mixed
+    }
+}
+
 /// The constraint of a contact point of two bodies.
 #[tactic(auto, unfolding(crate::specs::Constraint::constraint_of))]
-pub fn constraint_of(a: &PreStepBody, b: &PreStepBody, point: &ContactPoint) -> Constraint
+pub fn constraint_of(
+    a: &PreStepBody,
+    b: &PreStepBody,
+    point: &ContactPoint,
+    last: &mut LastFriction,
+) -> Constraint
     ensures { result ≡ constraint_of a.now b.now point.now }
 {
     let normal = point.normal;
@@ -130,6 +184,6 @@ pub fn constraint_of(a: &PreStepBody, b: &PreStepBody, point: &ContactPoint) -> 
         normal_mass: effective_mass(&a.mass, &b.mass, first_arm, second_arm, normal),
         tangent_mass: effective_mass(&a.mass, &b.mass, first_arm, second_arm, tangent),
         bias: bias_of(point.separation),
-        friction: friction_of(a.friction, b.friction),
+        friction: last.mix(a.friction, b.friction),
     }
 }

@@ -6,7 +6,7 @@ ghost use Rattle.pf_solver.specs.Bodies.{after_gravity, after_motion, after_time
 ghost use Rattle.pf_solver.specs.Solve.{IsRowOf, pre_step_body, mass_of, prepared_row, solved};
 
 use crate::bodies::{after_gravity, after_motion, after_timer};
-use crate::constraint::{PreStepBody, constraint_of};
+use crate::constraint::{LastFriction, PreStepBody, constraint_of};
 use crate::velocities::{rounds, warm_start};
 use pf_cache::{InverseMass, Prepared, Row, Side};
 use pf_num::Fx;
@@ -56,14 +56,14 @@ fn pre_step_body(scene: &Scene, bodies: &[BodyState], number: usize, side: Side)
 
 /// The pre-step of a row.
 #[tactic(auto, unfolding(crate::specs::Solve::prepared_row))]
-fn prepare(scene: &Scene, bodies: &[BodyState], row: &mut Row)
+fn prepare(scene: &Scene, bodies: &[BodyState], row: &mut Row, last: &mut LastFriction)
     requires { IsRowOf scene.now (length bodies.now) row.old }
     ensures { row.new ≡ prepared_row scene.now bodies.now row.old }
 {
     let entry = row.entry;
     let first = pre_step_body(scene, bodies, entry.touch.a, entry.first);
     let second = pre_step_body(scene, bodies, entry.touch.b, entry.second);
-    let constraint = constraint_of(&first, &second, &entry.touch.point);
+    let constraint = constraint_of(&first, &second, &entry.touch.point, last);
     row.prepared = Prepared::new(first.mass, second.mass, constraint);
 }
 
@@ -72,8 +72,9 @@ fn prepare_all(scene: &Scene, bodies: &[BodyState], rows: &mut [Row])
     requires { All (IsRowOf scene.now (length bodies.now)) rows.old }
     ensures { rows.new ≡ map (prepared_row scene.now bodies.now) rows.old }
 {
+    let mut last = LastFriction::new();
     for row in rows.iter_mut() {
-        prepare(scene, bodies, row);
+        prepare(scene, bodies, row, &mut last);
     }
 }
 
