@@ -6,3 +6,4 @@ pub mod Solved
 pub mod Sizes
 pub mod StaticArms
 pub mod OneList
+pub mod Seen

@@ -11,7 +11,7 @@ use Rattle.pf_cache.specs.Row.{IsEntryOf, Row}
 use Rattle.pf_solver.specs.Impulse.{Motion}
 use Rattle.pf_solver.specs.Velocities.{Batch, Step, bodies_after, with_motion, pass, passes, row_after}
 
-with_length : (bodies : List BodyState) (side : Side) (m : Motion) → length (with_motion bodies side m) ≡ length bodies
+pub with_length : (bodies : List BodyState) (side : Side) (m : Motion) → length (with_motion bodies side m) ≡ length bodies
 unfolding with_motion
 with_length bodies Static m = refl
 with_length bodies (Dynamic place) m = length-set bodies place _
@@ -93,7 +93,7 @@ module _ (step : Step) where
       same_sides : (m : ℕ) (x : Row) (p : Impulses) → IsEntryOf m x.entry → IsEntryOf m (record x.entry { impulses = p })
       same_sides m x p h = record { first = h.first; second = h.second; apart = h.apart }
 
-  bodies_length : (bodies : List BodyState) (rows : List Row) → length (pass step bodies rows).bodies ≡ length bodies
+  pub bodies_length : (bodies : List BodyState) (rows : List Row) → length (pass step bodies rows).bodies ≡ length bodies
   unfolding pass
   bodies_length bodies [] = refl
   bodies_length bodies (r ∷ rows) = bodies_length (bodies_after step bodies r) rows ∙ after_length bodies r

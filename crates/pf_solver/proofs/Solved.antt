@@ -81,7 +81,7 @@ set_elsewhere (y ∷ xs) (suc place) zero x apart = refl
 set_elsewhere (y ∷ xs) (suc place) (suc i) x apart = set_elsewhere xs place i x (λ e. apart (ap suc e))
 
 -- what does not depend on accumulated impulses still holds where they alone have changed
-still : (P : Row → Type 0) (rows after : List Row) → map unloaded after ≡ map unloaded rows
+pub still : (P : Row → Type 0) (rows after : List Row) → map unloaded after ≡ map unloaded rows
     → All (λ r. P (unloaded r)) rows → All (λ r. P (unloaded r)) after
 still P rows after same h = All-from_map P unloaded after (subst (All P) (sym same) (All-map P unloaded rows h))
 
@@ -109,7 +109,7 @@ motion_away i bodies (Dynamic place) m away = set_elsewhere bodies place i _ (λ
 -- what passes keep
 module _ (step : Step) where
   -- a pass changes accumulated impulses alone of the rows
-  pass_rows : (bodies : List BodyState) (rows : List Row)
+  pub pass_rows : (bodies : List BodyState) (rows : List Row)
       → map unloaded (pass step bodies rows).rows ≡ map unloaded rows
   unfolding pass row_after
   pass_rows bodies [] = refl
@@ -121,7 +121,7 @@ module _ (step : Step) where
   after_rest bodies r = motion_rest _ r.entry.second _ ∙ motion_rest bodies r.entry.first _
 
   -- and so does a pass
-  pass_bodies : (bodies : List BodyState) (rows : List Row)
+  pub pass_bodies : (bodies : List BodyState) (rows : List Row)
       → map at_rest (pass step bodies rows).bodies ≡ map at_rest bodies
   unfolding pass
   pass_bodies bodies [] = refl
@@ -144,12 +144,12 @@ module _ (step : Step) where
       ∙ after_away i bodies r (All-head (IsAway i) r rows away)
 
   -- the same three of several passes
-  passes_rows : (n : ℕ) (b : Batch) → map unloaded (passes n step b).rows ≡ map unloaded b.rows
+  pub passes_rows : (n : ℕ) (b : Batch) → map unloaded (passes n step b).rows ≡ map unloaded b.rows
   unfolding passes
   passes_rows zero b = refl
   passes_rows (suc n) b = pass_rows (passes n step b).bodies (passes n step b).rows ∙ passes_rows n b
 
-  passes_bodies : (n : ℕ) (b : Batch) → map at_rest (passes n step b).bodies ≡ map at_rest b.bodies
+  pub passes_bodies : (n : ℕ) (b : Batch) → map at_rest (passes n step b).bodies ≡ map at_rest b.bodies
   unfolding passes
   passes_bodies zero b = refl
   passes_bodies (suc n) b = pass_bodies (passes n step b).bodies (passes n step b).rows ∙ passes_bodies n b

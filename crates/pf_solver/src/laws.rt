@@ -1,9 +1,14 @@
 //! Laws of the solver. These functions compute nothing: their clauses are the statements.
 
-ghost use Rattle.std.specs.Prelude.{◌≡◌, ℕ, ◌+◌, ◌*◌, ◌^◌, ◌≤ℤ◌, pos, neg_ℤ, fold, length};
-ghost use Rattle.pf_cache.specs.Row.{Constraint};
+ghost use Rattle.std.specs.Prelude.{◌≡◌, ℕ, ◌+◌, ◌*◌, ◌^◌, ◌<◌, ◌≤ℤ◌, pos, neg_ℤ, fold, All, List, length};
+ghost use Rattle.pf_shapes.specs.Body.{BodyState};
+ghost use Rattle.pf_shapes.specs.Scene.{Scene};
+ghost use Rattle.pf_manifold.specs.Key.{IsRising};
+ghost use Rattle.pf_cache.specs.Row.{Constraint, Row};
 ghost use Rattle.pf_solver.specs.Impulse.{ContactState, after_round, friction_limit};
+ghost use Rattle.pf_solver.specs.Island.{IsOwnOrOther, rows_among, seen_from, states_of};
 ghost use Rattle.pf_solver.specs.Laws.{places_written, solved_at};
+ghost use Rattle.pf_solver.specs.Solve.{solved};
 ghost use Rattle.pf_solver.specs.Velocities.{Batch, Step, passes};
 
 use crate::bodies::{STILL_SPEED, STILL_SPIN, STILL_TICKS};
@@ -26,6 +31,17 @@ pub fn rounds_keep_the_limits()
 pub fn rounds_are_one_list()
     ensures { (n : ℕ) (step : Step) (b : Batch)
         → passes n step b ≡ fold (solved_at step) b (places_written n (length b.rows)) }
+{}
+
+/// An island is solved alone as it is in the whole list, bit for bit: where no contact leads from
+/// some bodies to another dynamic one, the contacts of other bodies have no part in what becomes of
+/// these and of the contacts that touch them.
+pub fn islands_are_solved_alone()
+    ensures { (s : Scene) (numbers : List ℕ) (bodies : List BodyState) (rows : List Row)
+        → IsRising 0 numbers → All (λ n. n < length bodies) numbers
+        → All (IsOwnOrOther numbers) rows
+        → solved s (states_of numbers bodies) (rows_among numbers rows)
+        ≡ seen_from numbers (solved s bodies rows) }
 {}
 
 /// A still body moves at most 1/64 of a length and turns by at most 1/32 of a radian a second; a
