@@ -14,3 +14,4 @@ pub mod Touching
 pub mod Undisturbed
 pub mod Contacts
 pub mod KeptImpulses
+pub mod Apart

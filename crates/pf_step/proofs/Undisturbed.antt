@@ -35,7 +35,7 @@ use Rattle.pf_step.proofs.Touching.{points_of_bodies}
 
 -- ---- neighbours and static bodies
 
-neighbours_at : (s : Scene) (touches : List Touch) (k : ℕ) (t : Touch) (a b : ℕ) → slice_get touches k ≡ Some t
+pub neighbours_at : (s : Scene) (touches : List Touch) (k : ℕ) (t : Touch) (a b : ℕ) → slice_get touches k ≡ Some t
     → IsBetween s t a b → AreNeighbours s touches a b
 neighbours_at s [] k t a b here between = absurd cc
 neighbours_at s (x ∷ touches) zero t a b here between =

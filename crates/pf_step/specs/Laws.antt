@@ -1,5 +1,6 @@
 -- What laws of simulations speak of.
-use Rattle.std.specs.Prelude.{◌≡◌, ℕ, pos, neg_ℤ, ◌≤ℤ◌, false, List, Some, slice_get}
+use Rattle.std.specs.Prelude.{◌≡◌, ℕ, ◌==◌, pos, neg_ℤ, ◌≤ℤ◌, false, List, Some, filter, length, slice_get, slice_index_or}
+use Rattle.std.specs.List.{range_with_len}
 use Rattle.pf_num.specs.Fx.{product}
 use Rattle.pf_shapes.specs.Body.{BodyState}
 use Rattle.pf_shapes.specs.Scene.{Scene, fixture_at}
@@ -12,6 +13,7 @@ use Rattle.pf_islands.specs.Reach.{Reaches}
 use Rattle.pf_islands.specs.Sleep.{woken}
 use Rattle.pf_solver.specs.Constraint.{friction_of}
 use Rattle.pf_solver.specs.Solve.{solved}
+use Rattle.pf_solver.specs.Velocities.{Batch}
 use Rattle.pf_step.specs.Commands.{after_commands}
 use Rattle.pf_step.specs.Rows.{active_rows}
 use Rattle.pf_step.specs.Simulation.{sim}
@@ -29,13 +31,29 @@ IsUndisturbed s bodies i =
     (j : ℕ) (b : BodyState) → slice_get bodies j ≡ Some b → Reaches s (touching s bodies) i j
     → b.awake ≡ false
 
--- the bodies just before the phase Sleep
-abbrev pub bodies_before_sleep : Scene → World → List Payload → List BodyState
-bodies_before_sleep s w payloads =
+-- the names of the groups in a tick
+abbrev pub names_of_tick : Scene → World → List Payload → List ℕ
+names_of_tick s w payloads =
+    groups s (touching s (after_commands s.fixtures w.bodies payloads))
+
+-- the bodies of the group of this name, by their numbers
+abbrev pub members : List ℕ → ℕ → List ℕ
+members names name =
+    filter (λ i. slice_index_or names i 0 == name) (range_with_len 0 (length names))
+
+-- the bodies and contacts that are solved in a tick
+abbrev pub batch_of_tick : Scene → World → List Payload → Batch
+batch_of_tick s w payloads =
     let commanded = after_commands s.fixtures w.bodies payloads in
     let points = touching s commanded in
     let awake = woken (groups s points) commanded in
-    (solved s awake (active_rows s awake points (updated w.contacts points))).bodies
+    record { bodies = awake; rows = active_rows s awake points (updated w.contacts points) }
+
+-- the bodies just before the phase Sleep
+abbrev pub bodies_before_sleep : Scene → World → List Payload → List BodyState
+bodies_before_sleep s w payloads =
+    let batch = batch_of_tick s w payloads in
+    (solved s batch.bodies batch.rows).bodies
 
 -- the accumulated impulses are within their limits: the normal impulse is not below 0, and the
 -- tangent impulse is within the limit of friction, by the coefficient of friction of both bodies

@@ -1,6 +1,6 @@
 //! Laws of simulations. These functions compute nothing: their clauses are the statements.
 
-ghost use Rattle.std.specs.Prelude.{◌≡◌, ◌≢◌, ◌⊎◌, ℕ, ◌+◌, ◌-◌, ◌≤◌, ◌<◌, pos, true, false, Some, All, length, map, slice_get};
+ghost use Rattle.std.specs.Prelude.{◌≡◌, ◌≢◌, ◌⊎◌, ℕ, ◌+◌, ◌-◌, ◌≤◌, ◌<◌, pos, true, false, Some, All, List, length, map, slice_get};
 ghost use Rattle.pf_rot.specs.Vector.{zero_vector};
 ghost use Rattle.pf_rot.specs.Laws.{IsAtMostOne};
 ghost use Rattle.pf_shapes.specs.Body.{BodyState};
@@ -16,8 +16,10 @@ ghost use Rattle.pf_commands.specs.Merge.{CommandMap, merge, payloads_at, single
 ghost use Rattle.pf_commands.specs.Name.{Name};
 ghost use Rattle.pf_cache.specs.Contact.{AreContacts, impulses_at};
 ghost use Rattle.pf_solver.specs.Bodies.{is_still};
+ghost use Rattle.pf_solver.specs.Island.{rows_among, seen_from, states_of};
+ghost use Rattle.pf_solver.specs.Solve.{solved};
 ghost use Rattle.pf_step.specs.Commands.{apply};
-ghost use Rattle.pf_step.specs.Laws.{IsUndisturbed, IsWithinFriction, bodies_before_sleep, commanded_bodies};
+ghost use Rattle.pf_step.specs.Laws.{IsUndisturbed, IsWithinFriction, batch_of_tick, bodies_before_sleep, commanded_bodies, members, names_of_tick};
 ghost use Rattle.pf_step.specs.Simulation.{sim};
 ghost use Rattle.pf_step.specs.Step.{touching};
 ghost use Rattle.pf_step.specs.World.{World};
@@ -58,6 +60,17 @@ pub fn contacts_of_sleepers_keep_their_impulses()
         → slice_get (touching scene bodies) place ≡ Some t → (t.a ≡ i) ⊎ (t.b ≡ i)
         → impulses_at (rank (key_of t)) (sim scene commands (tick + 1)).contacts
         ≡ impulses_at (rank (key_of t)) (sim scene commands tick).contacts }
+{}
+
+/// In each tick the bodies of a group, with the contacts that touch them, are solved alone as they
+/// are in the one list of all bodies and contacts, bit for bit.
+pub fn groups_are_solved_alone()
+    ensures { (scene : Scene) (w : World) (payloads : List Payload) (name : ℕ)
+        → length w.bodies ≡ length scene.fixtures
+        → let batch = batch_of_tick scene w payloads in
+        let numbers = members (names_of_tick scene w payloads) name in
+        solved scene (states_of numbers batch.bodies) (rows_among numbers batch.rows)
+        ≡ seen_from numbers (solved scene batch.bodies batch.rows) }
 {}
 
 /// A static body is at its start at each tick.
