@@ -78,7 +78,7 @@ range_rises start zero = tt
 range_rises start (suc count) =
     (omega arith, rising-weaken (suc start) (start + 1) (range_with_len (start + 1) count) (omega arith) (range_rises (start + 1) count))
 
-range_within : (start count limit : ℕ) → start + count ≤ limit
+pub range_within : (start count limit : ℕ) → start + count ≤ limit
     → All (λ n. n < limit) (range_with_len start count)
 range_within start zero limit low = All-nil (λ n. n < limit)
 range_within start (suc count) limit low =

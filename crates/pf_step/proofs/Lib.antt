@@ -15,3 +15,4 @@ pub mod Undisturbed
 pub mod Contacts
 pub mod KeptImpulses
 pub mod Apart
+pub mod Alone

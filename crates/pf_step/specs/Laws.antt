@@ -1,6 +1,6 @@
 -- What laws of simulations speak of.
-use Rattle.std.specs.Prelude.{◌≡◌, ℕ, ◌==◌, pos, neg_ℤ, ◌≤ℤ◌, false, List, Some, filter, length, slice_get, slice_index_or}
-use Rattle.std.specs.List.{range_with_len}
+use Rattle.std.specs.Prelude.{◌≡◌, ℕ, ◌==◌, pos, neg_ℤ, ◌≤ℤ◌, false, List, Some, filter, if◌then◌else◌, length, map, slice_get, slice_index_or}
+use Rattle.std.specs.List.{list_all, range_with_len}
 use Rattle.pf_num.specs.Fx.{product}
 use Rattle.pf_shapes.specs.Body.{BodyState}
 use Rattle.pf_shapes.specs.Scene.{Scene, fixture_at}
@@ -10,7 +10,7 @@ use Rattle.pf_commands.specs.Merge.{CommandMap, payloads_at}
 use Rattle.pf_cache.specs.Contact.{Impulses, updated}
 use Rattle.pf_islands.specs.Group.{groups}
 use Rattle.pf_islands.specs.Reach.{Reaches}
-use Rattle.pf_islands.specs.Sleep.{woken}
+use Rattle.pf_islands.specs.Sleep.{at_sleep, woken}
 use Rattle.pf_solver.specs.Constraint.{friction_of}
 use Rattle.pf_solver.specs.Solve.{solved}
 use Rattle.pf_solver.specs.Velocities.{Batch}
@@ -48,6 +48,11 @@ batch_of_tick s w payloads =
     let points = touching s commanded in
     let awake = woken (groups s points) commanded in
     record { bodies = awake; rows = active_rows s awake points (updated w.contacts points) }
+
+-- the phase Sleep of a group alone: its bodies stop and sleep where each of them has a full timer
+abbrev pub rested_alone : ℕ → List BodyState → List BodyState
+rested_alone full bodies =
+    if list_all (λ b. b.timer == full) bodies then map at_sleep bodies else bodies
 
 -- the bodies just before the phase Sleep
 abbrev pub bodies_before_sleep : Scene → World → List Payload → List BodyState

@@ -15,13 +15,14 @@ ghost use Rattle.pf_commands.specs.Payload.{body_of};
 ghost use Rattle.pf_commands.specs.Merge.{CommandMap, merge, payloads_at, singleton};
 ghost use Rattle.pf_commands.specs.Name.{Name};
 ghost use Rattle.pf_cache.specs.Contact.{AreContacts, impulses_at};
+ghost use Rattle.pf_islands.specs.Sleep.{is_active};
 ghost use Rattle.pf_solver.specs.Bodies.{is_still};
 ghost use Rattle.pf_solver.specs.Island.{rows_among, seen_from, states_of};
 ghost use Rattle.pf_solver.specs.Solve.{solved};
-ghost use Rattle.pf_step.specs.Commands.{apply};
-ghost use Rattle.pf_step.specs.Laws.{IsUndisturbed, IsWithinFriction, batch_of_tick, bodies_before_sleep, commanded_bodies, members, names_of_tick};
+ghost use Rattle.pf_step.specs.Commands.{after_commands, apply};
+ghost use Rattle.pf_step.specs.Laws.{IsUndisturbed, IsWithinFriction, batch_of_tick, bodies_before_sleep, commanded_bodies, members, names_of_tick, rested_alone};
 ghost use Rattle.pf_step.specs.Simulation.{sim};
-ghost use Rattle.pf_step.specs.Step.{touching};
+ghost use Rattle.pf_step.specs.Step.{step, touching};
 ghost use Rattle.pf_step.specs.World.{World};
 
 use pf_solver::STILL_TICKS;
@@ -71,6 +72,19 @@ pub fn groups_are_solved_alone()
         let numbers = members (names_of_tick scene w payloads) name in
         solved scene (states_of numbers batch.bodies) (rows_among numbers batch.rows)
         ≡ seen_from numbers (solved scene batch.bodies batch.rows) }
+{}
+
+/// After a tick the bodies of a group that is simulated are as the group alone has them: solved
+/// with its contacts alone, and asleep where each of its own bodies has a full timer.
+pub fn groups_go_through_ticks_alone()
+    ensures { (scene : Scene) (w : World) (payloads : List Payload) (name : ℕ)
+        → length w.bodies ≡ length scene.fixtures
+        → is_active (names_of_tick scene w payloads)
+        (after_commands scene.fixtures w.bodies payloads) name ≡ true
+        → let batch = batch_of_tick scene w payloads in
+        let numbers = members (names_of_tick scene w payloads) name in
+        let alone = solved scene (states_of numbers batch.bodies) (rows_among numbers batch.rows) in
+        states_of numbers (step scene w payloads).bodies ≡ rested_alone STILL_TICKS alone.bodies }
 {}
 
 /// A static body is at its start at each tick.

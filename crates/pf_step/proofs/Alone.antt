@@ -1,0 +1,227 @@
+-- What a group goes through alone in a tick is what its bodies go through in the tick.
+use Rattle.std.proofs.Common.{◌≡◌, ◌∙◌, ℕ, suc, ◌+◌, ◌<◌, ◌==◌, Bool, true, false, cond, List, [], ◌∷◌, length, filter, map, option_map, refl, sym, ap, ap₂, arith, get_or, if◌then◌else◌}
+use Rattle.std.proofs.lemmas.Bool.{eqb-true}
+use Rattle.std.proofs.lemmas.List.Elements.{All-cons, All-filter, All-head, All-nil, All-tail}
+use Rattle.std.proofs.lemmas.Option.{get_or_from_slice_get, slice_get-get_or, slice_get-map}
+use Rattle.std.proofs.lemmas.Simd.{map-map}
+use Rattle.std.specs.List.{list_all, range_with_len, zip}
+use Rattle.std.specs.Prelude.{All, ◌&&◌, ◌||◌, not, slice_index_or, ℤ}
+use Rattle.pf_rot.specs.Vector.{V2}
+use Rattle.pf_shapes.specs.Body.{BodyState}
+use Rattle.pf_shapes.specs.Scene.{Scene}
+use Rattle.pf_commands.specs.declared.payload.Payload.{Payload}
+use Rattle.pf_islands.specs.Sleep.{at_sleep, is_active, is_resting, rested, woken}
+use Rattle.pf_islands.proofs.Starting.{groups_long}
+use Rattle.pf_solver.specs.declared.bodies.TheConstants.{STILL_TICKS}
+use Rattle.pf_solver.specs.Bodies.{after_motion, after_timer}
+use Rattle.pf_solver.specs.Island.{rows_among, states_of}
+use Rattle.pf_solver.specs.Solve.{solved}
+use Rattle.pf_solver.specs.Velocities.{Batch, no_state}
+use Rattle.pf_solver.proofs.Solved.{moved_on, solved_body, solved_length}
+use Rattle.pf_step.specs.Commands.{after_commands}
+use Rattle.pf_step.specs.Laws.{batch_of_tick, members, names_of_tick, rested_alone}
+use Rattle.pf_step.specs.Step.{step, touching}
+use Rattle.pf_step.specs.World.{World}
+use Rattle.pf_step.proofs.Apart.{groups_alone, range_within}
+use Rattle.pf_step.proofs.Commanding.{commands_length}
+use Rattle.pf_step.proofs.Elements.{zip_at}
+use Rattle.pf_step.proofs.Lengths.{woken_length}
+
+-- ---- lists
+
+-- chosen elements pass the test
+chosen_pass : {X : Type 0} (p : X → Bool) (xs : List X) → All (λ x. p x ≡ true) (filter p xs)
+chosen_pass p [] = All-nil (λ x. p x ≡ true)
+chosen_pass p (x ∷ xs) = by (p x) refl (chosen_pass p xs)
+  where
+    by : (e : Bool) → p x ≡ e → All (λ y. p y ≡ true) (filter p xs)
+        → All (λ y. p y ≡ true) (cond e (x ∷ filter p xs) (filter p xs))
+    by true e rest = All-cons (λ y. p y ≡ true) x (filter p xs) e rest
+    by false e rest = rest
+
+-- functions that agree where P holds
+map_where : {X Y : Type 0} (P : X → Type 0) (f g : X → Y) → ((x : X) → P x → f x ≡ g x) → (xs : List X)
+    → All P xs → map f xs ≡ map g xs
+map_where P f g same [] all = refl
+map_where P f g same (x ∷ xs) all =
+    ap₂ (λ y ys. y ∷ ys) (same x (All-head P x xs all)) (map_where P f g same xs (All-tail P x xs all))
+
+-- ---- members of a group
+
+module _ (names : List ℕ) (bodies : List BodyState) (paired : length names ≡ length bodies) (name : ℕ) where
+  -- the body of a number is in the group
+  abbrev IsMember : ℕ → Type 0
+  IsMember i = (i < length names) × ((slice_index_or names i 0 == name) ≡ true)
+
+  pub members_are : All IsMember (members names name)
+  members_are =
+      let within =
+      All-filter (λ i. slice_index_or names i 0 == name) (λ i. i < length names) (range_with_len 0 (length names))
+      (range_within 0 (length names) (length names) (omega arith)) in
+      let chosen = chosen_pass (λ i. slice_index_or names i 0 == name) (range_with_len 0 (length names)) in
+      λ i d inside. (within i d inside, chosen i d inside)
+
+  -- what a function of names and bodies makes of the body of a number
+  named_body : (f : ℕ × BodyState → BodyState) (i : ℕ) → IsMember i
+      → slice_index_or (map f (zip names bodies)) i no_state ≡ f (name, slice_index_or bodies i no_state)
+  named_body f i is =
+      let first = slice_get-get_or names i 0 is.0 in
+      let second = slice_get-get_or bodies i no_state (omega (arith, is.0, paired)) in
+      get_or_from_slice_get (map f (zip names bodies)) i (f (slice_index_or names i 0, slice_index_or bodies i no_state)) no_state
+      (slice_get-map f (zip names bodies) i
+      ∙ ap (option_map f) (zip_at names bodies i (slice_index_or names i 0) (slice_index_or bodies i no_state) first second))
+      ∙ ap (λ n. f (n, slice_index_or bodies i no_state)) (eqb-true (slice_index_or names i 0) name is.1)
+
+-- ---- Sleep
+
+-- a group rests where each of its members has a full timer
+resting_from : (full name : ℕ) (p : ℕ → Bool) (f : ℕ → BodyState) (k : ℕ) (names : List ℕ) (bodies : List BodyState)
+    → length names ≡ length bodies
+    → ((i : ℕ) → i < length names → p (k + i) ≡ (slice_index_or names i 0 == name))
+    → ((i : ℕ) → i < length names → f (k + i) ≡ slice_index_or bodies i no_state)
+    → list_all (λ (m : ℕ × BodyState). not (m.0 == name) || (m.1.timer == full)) (zip names bodies)
+    ≡ list_all (λ (b : BodyState). b.timer == full) (map f (filter p (range_with_len k (length names))))
+resting_from full name p f k [] bodies paired chosen state = refl
+resting_from full name p f k (n ∷ names) [] paired chosen state = absurd (omega (arith, paired))
+resting_from full name p f k (n ∷ names) (b ∷ bodies) paired chosen state =
+    by (n == name) (p k) (ap p here ∙ chosen 0 (omega arith))
+    (resting_from full name p f (k + 1) names bodies (omega (arith, paired))
+    (λ i within. ap p (next i) ∙ chosen (i + 1) (omega (arith, within)) ∙ ap (λ j. slice_index_or (n ∷ names) j 0 == name) (more i))
+    (λ i within. ap f (next i) ∙ state (i + 1) (omega (arith, within)) ∙ ap (λ j. slice_index_or (b ∷ bodies) j no_state) (more i)))
+  where
+    here : k ≡ k + 0
+    here = omega arith
+
+    next : (i : ℕ) → k + 1 + i ≡ k + (i + 1)
+    next i = omega arith
+
+    more : (i : ℕ) → i + 1 ≡ suc i
+    more i = omega arith
+
+    rest : List ℕ
+    rest = filter p (range_with_len (k + 1) (length names))
+
+    full_here : (f k).timer ≡ b.timer
+    full_here = ap (λ (x : BodyState). x.timer) (ap f here ∙ state 0 (omega arith))
+
+    by : (e c : Bool) → c ≡ e
+        → list_all (λ (m : ℕ × BodyState). not (m.0 == name) || (m.1.timer == full)) (zip names bodies)
+        ≡ list_all (λ (x : BodyState). x.timer == full) (map f rest)
+        → ((not e || (b.timer == full))
+        && list_all (λ (m : ℕ × BodyState). not (m.0 == name) || (m.1.timer == full)) (zip names bodies))
+        ≡ list_all (λ (x : BodyState). x.timer == full) (map f (cond c (k ∷ rest) rest))
+    by true true same others = ap₂ (λ t u. t && u) (ap (λ t. t == full) (sym full_here)) others
+    by true false same others = absurd cc
+    by false true same others = absurd cc
+    by false false same others = others
+
+-- the bodies of a group that is awake, after the phase Sleep
+pub rested_seen : (full : ℕ) (names : List ℕ) (bodies : List BodyState) (name : ℕ) → length names ≡ length bodies
+    → All (λ i. (slice_index_or bodies i no_state).awake ≡ true) (members names name)
+    → states_of (members names name) (rested full names bodies)
+    ≡ rested_alone full (states_of (members names name) bodies)
+unfolding rested
+rested_seen full names bodies name paired awake =
+    map_where (λ i. IsMember names bodies paired name i × ((slice_index_or bodies i no_state).awake ≡ true))
+    (λ i. slice_index_or (map one (zip names bodies)) i no_state)
+    (λ i. if rests then at_sleep (slice_index_or bodies i no_state) else slice_index_or bodies i no_state)
+    (λ i is. named_body names bodies paired name one i is.0 ∙ awake_one (slice_index_or bodies i no_state) is.1)
+    (members names name) (λ i d inside. (members_are names bodies paired name i d inside, awake i d inside))
+    ∙ by rests
+    (resting_from full name (λ i. slice_index_or names i 0 == name) (λ i. slice_index_or bodies i no_state) 0 names bodies paired
+    (λ i within. ap (λ j. slice_index_or names j 0 == name) (from_zero i))
+    (λ i within. ap (λ j. slice_index_or bodies j no_state) (from_zero i)))
+  where
+    rests : Bool
+    rests = is_resting full names bodies name
+
+    one : ℕ × BodyState → BodyState
+    one m = if m.1.awake && is_resting full names bodies m.0 then at_sleep m.1 else m.1
+
+    from_zero : (i : ℕ) → 0 + i ≡ i
+    from_zero i = omega arith
+
+    awake_one : (b : BodyState) → b.awake ≡ true → one (name, b) ≡ (if rests then at_sleep b else b)
+    awake_one b e = ap (λ t. if t && rests then at_sleep b else b) e
+
+    by : (r : Bool)
+        → r ≡ list_all (λ (b : BodyState). b.timer == full) (states_of (members names name) bodies)
+        → map (λ i. if r then at_sleep (slice_index_or bodies i no_state) else slice_index_or bodies i no_state) (members names name)
+        ≡ rested_alone full (states_of (members names name) bodies)
+    by r is =
+        whole r
+        ∙ ap (λ t. if t then map at_sleep (states_of (members names name) bodies) else states_of (members names name) bodies) is
+      where
+        whole : (t : Bool)
+            → map (λ i. if t then at_sleep (slice_index_or bodies i no_state) else slice_index_or bodies i no_state) (members names name)
+            ≡ (if t then map at_sleep (states_of (members names name) bodies) else states_of (members names name) bodies)
+        whole true = sym (map-map at_sleep (λ i. slice_index_or bodies i no_state) (members names name))
+        whole false = refl
+
+-- ---- a tick
+
+-- a tick leaves a body awake until the phase Sleep
+moved_awake : (v : V2) (w : ℤ) (b : BodyState) → (moved_on v w b).awake ≡ b.awake
+unfolding after_timer after_motion
+moved_awake v w b = by b.awake
+  where
+    by : (t : Bool)
+        → (if t then after_timer (after_motion (record b { velocity = v; spin = w }))
+        else record b { velocity = v; spin = w }).awake ≡ b.awake
+    by true = refl
+    by false = refl
+
+-- the bodies of an active group after a tick are those of the group alone
+pub group_after : (s : Scene) (w : World) (payloads : List Payload) (name : ℕ)
+    → length w.bodies ≡ length s.fixtures
+    → is_active (names_of_tick s w payloads) (after_commands s.fixtures w.bodies payloads) name ≡ true
+    → let batch = batch_of_tick s w payloads in
+    let own = members (names_of_tick s w payloads) name in
+    states_of own (step s w payloads).bodies
+    ≡ rested_alone STILL_TICKS (solved s (states_of own batch.bodies) (rows_among own batch.rows)).bodies
+unfolding step woken
+group_after s w payloads name paired active =
+    rested_seen STILL_TICKS names after name long
+    (λ i d inside. awake_after (get_or own i d) (members_are names after long name i d inside))
+    ∙ ap (λ (b : Batch). rested_alone STILL_TICKS b.bodies) (sym (groups_alone s w payloads name paired))
+  where
+    commanded : List BodyState
+    commanded = after_commands s.fixtures w.bodies payloads
+
+    names : List ℕ
+    names = names_of_tick s w payloads
+
+    own : List ℕ
+    own = members names name
+
+    awake : List BodyState
+    awake = woken names commanded
+
+    after : List BodyState
+    after = (solved s awake (batch_of_tick s w payloads).rows).bodies
+
+    count : length commanded ≡ length s.fixtures
+    count = commands_length s.fixtures w.bodies payloads ∙ paired
+
+    named : length names ≡ length commanded
+    named = groups_long s (touching s commanded) ∙ sym count
+
+    kept : length after ≡ length awake
+    kept = solved_length s awake (batch_of_tick s w payloads).rows
+
+    long : length names ≡ length after
+    long = named ∙ sym (woken_length names commanded named) ∙ sym kept
+
+    woke : (i : ℕ) → IsMember names commanded named name i → (slice_index_or awake i no_state).awake ≡ true
+    woke i is =
+        ap (λ (b : BodyState). b.awake)
+        (named_body names commanded named name (λ (m : ℕ × BodyState). record m.1 { awake = is_active names commanded m.0 }) i is)
+        ∙ active
+
+    awake_after : (i : ℕ) → IsMember names after long name i → (slice_index_or after i no_state).awake ≡ true
+    awake_after i is =
+        let here = slice_get-get_or after i no_state (omega (arith, is.0, long)) in
+        let from = solved_body s awake (batch_of_tick s w payloads).rows i (slice_index_or after i no_state) here in
+        ap (λ (b : BodyState). b.awake) from.moved ∙ moved_awake from.velocity from.spin from.before
+        ∙ sym (ap (λ (b : BodyState). b.awake) (get_or_from_slice_get awake i from.before no_state from.stood))
+        ∙ woke i (is.0, is.1)
