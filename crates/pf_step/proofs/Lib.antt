@@ -16,3 +16,4 @@ pub mod Contacts
 pub mod KeptImpulses
 pub mod Apart
 pub mod Alone
+pub mod AloneContacts

@@ -75,9 +75,10 @@ pub fn groups_are_solved_alone()
 {}
 
 /// After a tick the bodies of a group that is simulated are as the group alone has them: solved
-/// with its contacts alone, and asleep where each of its own bodies has a full timer.
+/// with its contacts alone, and asleep where each of its own bodies has a full timer. The contacts
+/// that touch them have accumulated what they accumulate there.
 pub fn groups_go_through_ticks_alone()
-    ensures { (scene : Scene) (w : World) (payloads : List Payload) (name : ℕ)
+    ensures bodies { (scene : Scene) (w : World) (payloads : List Payload) (name : ℕ)
         → length w.bodies ≡ length scene.fixtures
         → is_active (names_of_tick scene w payloads)
         (after_commands scene.fixtures w.bodies payloads) name ≡ true
@@ -85,6 +86,13 @@ pub fn groups_go_through_ticks_alone()
         let numbers = members (names_of_tick scene w payloads) name in
         let alone = solved scene (states_of numbers batch.bodies) (rows_among numbers batch.rows) in
         states_of numbers (step scene w payloads).bodies ≡ rested_alone STILL_TICKS alone.bodies }
+    ensures impulses { (scene : Scene) (w : World) (payloads : List Payload) (name : ℕ)
+        → IsScene scene → length w.bodies ≡ length scene.fixtures
+        → let batch = batch_of_tick scene w payloads in
+        let numbers = members (names_of_tick scene w payloads) name in
+        let alone = solved scene (states_of numbers batch.bodies) (rows_among numbers batch.rows) in
+        All (λ r. impulses_at (rank (key_of r.entry.touch)) (step scene w payloads).contacts
+        ≡ r.entry.impulses) alone.rows }
 {}
 
 /// A static body is at its start at each tick.
