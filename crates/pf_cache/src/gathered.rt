@@ -62,6 +62,7 @@ fn copy_run(
 impl<'a> GatheredPoints<'a> {
     ghost use Rattle.std.specs.Prelude.{◌≡◌, ◌+◌, ◌≤◌, ◌++◌, [], IfOk, IfSome, OnOk, drop, length, take};
     ghost use Rattle.pf_shapes.specs.Pair.{IsPairOf};
+    ghost use Rattle.pf_shapes.specs.declared.scene.TheConstants.{MAX_BODIES};
     ghost use Rattle.pf_cache.specs.Manifolds.{points_of_pair};
     ghost use Rattle.pf_cache.specs.Gathered.{GatheredPoints};
     ghost use Rattle.pf_cache.specs.Spans.{IsSpan};
@@ -112,7 +113,8 @@ impl<'a> GatheredPoints<'a> {
     /// Adds the contact points of a pair as the narrow phase computes them.
     #[inline(never)]
     fn add_computed(&mut self, pair: &Pair, shapes: &[KeptShape]) -> Result<(), AllocError>
-        requires { IsPairOf (length shapes.now) pair.now }
+        requires few { length shapes.now ≤ MAX_BODIES }
+        requires pair { IsPairOf (length shapes.now) pair.now }
         ensures { OnOk result (self.new ≡ record self.old {
           points = self.old.points ++ points_of_pair shapes.now pair.now;
         }) }
@@ -132,6 +134,7 @@ impl<'a> GatheredPoints<'a> {
         pair: &Pair,
         shapes: &[KeptShape],
     ) -> Result<(), AllocError>
+        requires few { length shapes.now ≤ MAX_BODIES }
         requires pair { IsPairOf (length shapes.now) pair.now }
         requires span { IfSome span
             (λ s. IsSpan shapes.now self.old.source s × (s.pair ≡ pair.now)) }

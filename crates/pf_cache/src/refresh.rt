@@ -2,6 +2,7 @@
 
 ghost use Rattle.std.specs.Prelude.{◌≡◌, ◌+◌, ◌≤◌, ◌++◌, All, IsTrue, drop, false, length, map, take};
 ghost use Rattle.pf_shapes.specs.Pair.{IsPairOf};
+ghost use Rattle.pf_shapes.specs.declared.scene.TheConstants.{MAX_BODIES};
 ghost use Rattle.pf_cache.specs.Manifolds.{points_of_pair};
 ghost use Rattle.pf_cache.specs.Spans.{ArePlaced, AreRefreshed, IsKeptSpan, computed_count_by_flags};
 
@@ -25,6 +26,7 @@ pub struct Progress {
 /// many. Whether they are.
 #[inline(never)]
 fn refresh_span(touches: &mut [Touch], span: &Span, shapes: &[KeptShape]) -> bool
+    requires few { length shapes.now ≤ MAX_BODIES }
     requires pair { IsPairOf (length shapes.now) span.now.pair }
     requires within { span.now.start + span.now.len ≤ length touches.old }
     ensures as_many { IsTrue result
@@ -56,6 +58,7 @@ pub fn refresh(
     unmoved: &[bool],
     shapes: &[KeptShape],
 ) -> Progress
+    requires few { length shapes.now ≤ MAX_BODIES }
     requires pairs { All (IsPairOf (length shapes.now)) pairs.now }
     requires placed { ArePlaced 0 spans.now (length touches.old) }
     requires kept { All (IsKeptSpan shapes.now unmoved.now touches.old) spans.now }

@@ -51,8 +51,8 @@ pub fn rank_of(pair: &Pair) -> usize
     ensures { result ≡ pair_rank pair.now }
 {
     let key = Key {
-        a: pair.a,
-        b: pair.b,
+        a: pair.a as u16,
+        b: pair.b as u16,
         feature: 0,
     };
     key.rank()

@@ -105,8 +105,8 @@ fn contact_numbers(contact: &Contact) -> [i64; 5]
     let key = &contact.key;
     let impulses = &contact.impulses;
     [
-        key.a as i64,
-        key.b as i64,
+        i64::from(key.a),
+        i64::from(key.b),
         i64::from(key.feature),
         impulses.normal.raw(),
         impulses.tangent.raw(),

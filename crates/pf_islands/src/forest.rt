@@ -30,8 +30,8 @@ fn connects(scene: &Scene, touch: &Touch) -> bool
     ensures { result ≡ connects scene.now touch.now }
 {
     let fixtures = scene.fixtures();
-    let first = &fixtures[touch.a];
-    let second = &fixtures[touch.b];
+    let first = &fixtures[usize::from(touch.a)];
+    let second = &fixtures[usize::from(touch.b)];
     !first.is_static() && !second.is_static()
 }
 
@@ -79,7 +79,7 @@ fn link_touch(parents: &mut [usize], scene: &Scene, touch: &Touch)
     ensures down { IsDownward parents.new }
 {
     if connects(scene, touch) {
-        link(parents, touch.a, touch.b);
+        link(parents, usize::from(touch.a), usize::from(touch.b));
     }
 }
 

@@ -11,9 +11,9 @@ use std::marker::Model;
 #[derive(Clone, Copy, Debug)]
 pub struct Key {
     /// The number of the first body, which is the lesser.
-    pub a: usize,
+    pub a: u16,
     /// The number of the second body, which is the greater.
-    pub b: usize,
+    pub b: u16,
     /// The feature of the contact point.
     pub feature: u32,
 }
@@ -67,6 +67,6 @@ impl Key {
         requires { IsKey self.now }
         ensures { result ≡ rank self.now }
     {
-        self.a * (1 << 24) + (self.b * (1 << 8) + self.feature as usize)
+        self.a as usize * (1 << 24) + (self.b as usize * (1 << 8) + self.feature as usize)
     }
 }

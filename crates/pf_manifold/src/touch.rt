@@ -2,6 +2,7 @@
 
 ghost use Rattle.std.specs.Prelude.{◌≡◌, ◌+◌, ◌<◌, ◌≤◌, ◌++◌, [], All, drop, length, map, take, Some, IfOk, OnOk, IsOk};
 ghost use Rattle.pf_shapes.specs.Pair.{IsAscending, IsPairOf};
+ghost use Rattle.pf_shapes.specs.declared.scene.TheConstants.{MAX_BODIES};
 ghost use Rattle.pf_manifold.specs.Key.{AreTouches};
 ghost use Rattle.pf_manifold.specs.Manifold.{points_of};
 ghost use Rattle.pf_manifold.specs.Touches.{IsTouchOf, Touch, placed_shape_at, touch_of, touches};
@@ -18,9 +19,9 @@ use std::marker::Model;
 #[derive(Clone, Copy, Debug)]
 pub struct Touch {
     /// The number of the first body, which is the lesser.
-    pub a: usize,
+    pub a: u16,
     /// The number of the second body, which is the greater.
-    pub b: usize,
+    pub b: u16,
     /// The contact point, with the normal from the first to the second.
     pub point: ContactPoint,
 }
@@ -50,11 +51,12 @@ fn placed_shape<'a>(fixtures: &'a [Fixture], bodies: &[BodyState], number: usize
 /// A contact point of a pair.
 #[inline]
 fn touch_of(pair: &Pair, point: ContactPoint) -> Touch
+    requires { IsPairOf MAX_BODIES pair.now }
     ensures { result ≡ touch_of pair.now point }
 {
     Touch {
-        a: pair.a,
-        b: pair.b,
+        a: pair.a as u16,
+        b: pair.b as u16,
         point,
     }
 }
@@ -66,6 +68,7 @@ pub fn push_points(
     pair: &Pair,
     points: &Manifold,
 ) -> Result<(), AllocError>
+    requires { IsPairOf MAX_BODIES pair.now }
     ensures added { OnOk result (touches.new.items
         ≡ touches.old.items ++ map (touch_of pair.now) (points_of points.now)) }
     ensures no_memory { points_of points.now ≡ [] → IsOk result }
@@ -83,7 +86,8 @@ pub fn push_points(
 
 /// Writes the contact points of a pair over as many others, from `start` on.
 pub fn replace_points(touches: &mut [Touch], start: usize, pair: &Pair, points: &Manifold)
-    requires { start + length (points_of points.now) ≤ length touches.old }
+    requires pair { IsPairOf MAX_BODIES pair.now }
+    requires within { start + length (points_of points.now) ≤ length touches.old }
     ensures { touches.new
         ≡ take start touches.old ++ (map (touch_of pair.now) (points_of points.now)
         ++ drop (start + length (points_of points.now)) touches.old) }

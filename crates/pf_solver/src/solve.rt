@@ -61,8 +61,8 @@ fn prepare(scene: &Scene, bodies: &[BodyState], row: &mut Row, last: &mut LastFr
     ensures { row.new ≡ prepared_row scene.now bodies.now row.old }
 {
     let entry = row.entry;
-    let first = pre_step_body(scene, bodies, entry.touch.a, entry.first);
-    let second = pre_step_body(scene, bodies, entry.touch.b, entry.second);
+    let first = pre_step_body(scene, bodies, usize::from(entry.touch.a), entry.first);
+    let second = pre_step_body(scene, bodies, usize::from(entry.touch.b), entry.second);
     let constraint = constraint_of(&first, &second, &entry.touch.point, last);
     row.prepared = Prepared::new(first.mass, second.mass, constraint);
 }

@@ -35,8 +35,8 @@ fn row_of(scene: &Scene, touch: &Touch, contact: &Contact) -> Row
     Row::new(Entry {
         touch: *touch,
         impulses: contact.impulses,
-        first: side_of(scene, touch.a),
-        second: side_of(scene, touch.b),
+        first: side_of(scene, usize::from(touch.a)),
+        second: side_of(scene, usize::from(touch.b)),
     })
 }
 
@@ -46,8 +46,8 @@ fn is_active_contact(bodies: &[BodyState], touch: &Touch) -> bool
     requires { IsTouchOf (length bodies.now) touch.now }
     ensures { result ≡ is_active_contact bodies.now touch.now }
 {
-    let first = &bodies[touch.a];
-    let second = &bodies[touch.b];
+    let first = &bodies[usize::from(touch.a)];
+    let second = &bodies[usize::from(touch.b)];
     first.awake || second.awake
 }
 

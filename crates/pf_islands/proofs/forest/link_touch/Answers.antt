@@ -9,7 +9,7 @@ returns-then-connects-clause-roots c =
     λ passed forest.
     let scene = c.args.scene.now in
     forest_of_link scene c.args.touch.now passed c.link.new.parents _ _
-    (ap (λ (t : Touch). t.a) c.touch.view_is) (ap (λ (t : Touch). t.b) c.touch.view_is)
+    (c.from.ensures ∙ ap (λ (t : Touch). t.a) c.touch.view_is) (c.from-then-connects.ensures ∙ ap (λ (t : Touch). t.b) c.touch.view_is)
     (sym c.connects.ensures ∙ c.if-connects.true) (c.link.ensures.roots (group scene passed) forest)
 
 pub returns-else-connects-clause-roots : goal.returns-else-connects-clause-roots

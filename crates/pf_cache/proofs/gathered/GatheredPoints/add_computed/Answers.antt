@@ -12,10 +12,10 @@ pub returns : goal.returns
 returns c =
     let shapes = c.args.shapes.now in
     let p = c.args.pair.now in
-    let first : p.a < length shapes = omega (arith, c.requires.0, c.requires.1) in
+    let first : p.a < length shapes = omega (arith, c.requires.pair.0, c.requires.pair.1) in
     let a_is = c.index-shapes-pair.is ∙ ap (λ (q : Pair). get_or shapes q.a c.index-shapes-pair.result) c.pair.view_is in
     let b_is = c.index-shapes-pair-2.is ∙ ap (λ (q : Pair). get_or shapes q.b c.index-shapes-pair-2.result) c.pair.view_is in
-    let points = points_here shapes p c.index-shapes-pair.result c.index-shapes-pair-2.result _ first c.requires.1 a_is b_is
+    let points = points_here shapes p c.index-shapes-pair.result c.index-shapes-pair-2.result _ first c.requires.pair.1 a_is b_is
     (c.collide.ensures ∙ ap₂ collide c.placed.ensures c.placed-2.ensures) in
     let before = c.in_ok-copy_run.ensures ∙ ap (λ (g : GatheredPoints). g.points) c.self.view_is in
     on_ok_weaker c.push_points.result

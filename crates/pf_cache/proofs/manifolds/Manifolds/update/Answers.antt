@@ -23,6 +23,15 @@ returns-then-is_empty-clause-computed c =
     sym (ap (computed_count c.args.self (placed_shapes c.args.scene.now.fixtures c.args.bodies.now))
     (no_pairs c.args.bodies.now c.args.pairs.now none c.requires.pairs))
 
+pub refresh-done-requires-clause-few : goal.refresh-done-requires-clause-few
+refresh-done-requires-clause-few c =
+    let long =
+    as_many c.args.scene.now.fixtures c.args.bodies.now c.args.pairs.now c.in_ok-shapes.shapes.items
+    (c.in_ok-shapes.ensures.shapes ∙ ap (λ fs. placed_shapes fs c.args.bodies.now) c.fixtures.ensures.value)
+    c.requires.bodies c.requires.pairs in
+    let lent = ap length c.deref-3.ensures.value in
+    omega (arith, lent, long, c.requires.bodies, c.fixtures.ensures.scene.few)
+
 pub refresh-done-requires-clause-pairs : goal.refresh-done-requires-clause-pairs
 refresh-done-requires-clause-pairs c =
     rw c.deref-3.ensures.value
