@@ -65,6 +65,17 @@ impl KeptShape {
         }
     }
 
+    /// Whether it is the shape of a body as it stands.
+    #[inline]
+    #[tactic(auto, unfolding(crate::specs::Manifolds::same_placed_shape))]
+    fn is_of(&self, fixture: &Fixture, body: &BodyState) -> bool
+        ensures { result ≡ same_placed_shape self.now (shape_of_body fixture.now body.now) }
+    {
+        self.shape == *fixture.shape()
+            && self.position == body.position
+            && self.rotation == body.rotation
+    }
+
     /// Whether both are the same shape at the same position and rotation.
     #[inline]
     #[tactic(auto, unfolding(crate::specs::Manifolds::same_placed_shape))]
@@ -125,11 +136,12 @@ fn refresh_shapes(
         ≡ unmoved_flags shapes.old (placed_shapes fixtures.now bodies.now) }
 {
     for number in 0..shapes.len() {
-        let shape = KeptShape::of(&fixtures[number], &bodies[number]);
-        let is_same = shapes[number].is_same(&shape);
+        let fixture = &fixtures[number];
+        let body = &bodies[number];
+        let is_same = shapes[number].is_of(fixture, body);
         unmoved[number] = is_same;
         if !is_same {
-            shapes[number] = shape;
+            shapes[number] = KeptShape::of(fixture, body);
         }
     }
 }
