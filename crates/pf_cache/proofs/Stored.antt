@@ -1,7 +1,7 @@
 -- Contacts with the impulses of rows.
 use Rattle.std.proofs.Common.{◌≡◌, ◌≢◌, ◌∙◌, ℕ, zero, suc, ◌+◌, ◌≤◌, ◌<◌, ◌==◌, Bool, true, false, List, [], ◌∷◌, take, take_all, set, length, map, refl, sym, ap, ap₂, arith}
 use Rattle.std.proofs.lemmas.Bool.Decides.{Decides-eqb}
-use Rattle.std.proofs.lemmas.List.{get_or-map, length-map, map-id}
+use Rattle.std.proofs.lemmas.List.{get_or-map, map-id}
 use Rattle.std.proofs.lemmas.List.Elements.{All-nil, All-cons, All-head, All-tail}
 use Rattle.std.specs.Prelude.{All, get_or, if◌then◌else◌}
 use Rattle.pf_manifold.specs.Key.{IsKey, IsRising, Key, key_of, rank}
@@ -71,33 +71,23 @@ other_found p n (r ∷ rows) zero d within other = by (row_rank r == n) refl
 other_found p n (r ∷ rows) (suc k) d within other =
     ap (λ q. if row_rank r == n then r.entry.impulses else q) (other_found p n rows k d (omega (arith, within)) other)
 
--- rows beside the places of their contacts
-module _ (contacts : List Contact) (places : List ℕ) (rows : List Row) (beside : AreRowsAt contacts places rows) where
-  -- they are as many
-  as_many : length places ≡ length rows
-  as_many =
-      sym (length-map places (λ (place : ℕ). (get_or contacts place no_contact).key)) ∙ sym (ap length beside.keys)
-      ∙ length-map rows (λ (r : Row). key_of r.entry.touch)
-
+-- rows with the keys of the contacts at their places
+module _ (contacts : List Contact) (rows : List Row) (beside : AreRowsAt contacts rows) where
   -- one row more, at k
   module _ (k : ℕ) (d : Row) (inside : k < length rows) where
     abbrev row : Row
     row = get_or rows k d
 
     abbrev here : Contact
-    here = get_or contacts (get_or places k 0) no_contact
+    here = get_or contacts row.entry.place no_contact
 
     -- its place is that of a contact
-    within : get_or places k 0 < length contacts
-    within = beside.within k 0 (omega (arith, inside, as_many))
+    within : row.entry.place < length contacts
+    within = (beside.places k d inside).within
 
     -- which has its key
     same_key : key_of row.entry.touch ≡ here.key
-    same_key =
-        let row_key : Row → Key = λ r. key_of r.entry.touch in
-        let contact_key : ℕ → Key = λ place. (get_or contacts place no_contact).key in
-        sym (get_or-map row_key rows k d no_contact.key inside) ∙ ap (λ keys. get_or keys k no_contact.key) beside.keys
-        ∙ get_or-map contact_key places k 0 no_contact.key (omega (arith, inside, as_many))
+    same_key = sym (beside.places k d inside).key
 
     -- up to it, the contact has its impulses
     found : impulses_or here.impulses (rank here.key) (take (suc k) rows) ≡ row.entry.impulses
@@ -106,21 +96,21 @@ module _ (contacts : List Contact) (places : List ℕ) (rows : List Row) (beside
         ∙ last_found here.impulses 0 rows k d inside (rows_rise rows beside.order)
 
     -- the contact at its place takes its impulses, and the others keep theirs
-    pub stored_more : (now : List Contact) (c e : Contact) (p : Impulses) → AreContacts contacts
-        → now ≡ with_rows contacts (take k rows) → c ≡ get_or now (get_or places k 0) e → p ≡ row.entry.impulses
-        → set now (get_or places k 0) (record c { impulses = p }) ≡ with_rows contacts (take (k + 1) rows)
+    pub stored_more : (now : List Contact) (place : ℕ) (c e : Contact) (p : Impulses) → AreContacts contacts
+        → now ≡ with_rows contacts (take k rows) → place ≡ row.entry.place → c ≡ get_or now place e
+        → p ≡ row.entry.impulses
+        → set now place (record c { impulses = p }) ≡ with_rows contacts (take (k + 1) rows)
     unfolding with_rows
-    stored_more now c e p order now_is c_is p_is =
-        let place = get_or places k 0 in
+    stored_more now place c e p order now_is place_is c_is p_is =
         let before = stored (take k rows) in
         let after = stored (take (suc k) rows) in
         let key_is : c.key ≡ here.key =
         ap (λ (x : Contact). x.key)
-        (c_is ∙ ap (λ xs. get_or xs place e) now_is ∙ get_or-map before contacts place no_contact e within) in
+        (c_is ∙ ap₂ (λ xs n. get_or xs n e) now_is place_is ∙ get_or-map before contacts row.entry.place no_contact e within) in
         let next : k + 1 ≡ suc k = omega arith in
         ap₂ (λ (q : Key) (i : Impulses). set now place (record { key = q; impulses = i })) key_is (p_is ∙ sym found)
-        ∙ ap (λ xs. set xs place (after here)) now_is
-        ∙ ranked.set_one rank_of before after 0 contacts place no_contact within order.rising
+        ∙ ap₂ (λ xs n. set xs n (after here)) now_is place_is
+        ∙ ranked.set_one rank_of before after 0 contacts row.entry.place no_contact within order.rising
         (λ x apart.
         let other : rank x.key ≢ row_rank row = λ e. apart (e ∙ ap rank same_key) in
         ap (λ i. record x { impulses = i }) (sym (other_found x.impulses (rank x.key) rows k d inside other)))

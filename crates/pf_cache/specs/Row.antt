@@ -8,10 +8,12 @@ use Rattle.pf_cache.specs.declared.row.Side.TheVariants.{Static, Dynamic}
 use Rattle.pf_manifold.specs.Key.{AreTouches, key_of, rank}
 use Rattle.pf_cache.specs.Contact.{Contact, Impulses, no_contact}
 
--- a contact point with its accumulated impulses, and where its bodies stand in a list of bodies
+-- a contact point with its accumulated impulses, its place among all contacts, and where its bodies
+-- stand in a list of bodies
 pub record Entry : Type 0 where
   pub touch : Touch
   pub impulses : Impulses
+  pub place : ℕ
   pub first : Side
   pub second : Side
 
@@ -89,13 +91,15 @@ pub record IsEntryOf (bodies : ℕ) (e : Entry) : Type 0 where
 abbrev pub AreRows : List Row → Type 0
 AreRows rows = AreTouches (map (λ r. r.entry.touch) rows)
 
--- rows in the order of their keys; each has the key of the contact at the place beside it
-pub record AreRowsAt (contacts : List Contact) (places : List ℕ) (rows : List Row) : Type 0 where
+-- the contact at the place of a row has its key
+pub record IsRowAt (contacts : List Contact) (r : Row) : Type 0 where
+  pub within : r.entry.place < length contacts
+  pub key : (slice_index_or contacts r.entry.place no_contact).key ≡ key_of r.entry.touch
+
+-- rows in the order of their keys, each with the key of the contact at its place
+pub record AreRowsAt (contacts : List Contact) (rows : List Row) : Type 0 where
   pub order : AreRows rows
-  pub within : All (λ place. place < length contacts) places
-  pub keys :
-      map (λ r. key_of r.entry.touch) rows
-      ≡ map (λ place. (slice_index_or contacts place no_contact).key) places
+  pub places : All (IsRowAt contacts) rows
 
 -- the accumulated impulses of the row of this rank, or these where there is no such row
 abbrev pub impulses_or : Impulses → ℕ → List Row → Impulses

@@ -114,17 +114,17 @@ fn impulses_of(contacts: &[Contact], start: usize, key: &Key) -> (Impulses, usiz
     impulses_further(contacts, start, key.rank())
 }
 
-/// Gives the contact at each place the accumulated impulses of the row beside it.
+/// Gives the contact at the place of each row the accumulated impulses of the row.
 #[inline(never)]
-fn store_at(contacts: &mut [Contact], places: &[usize], rows: &[Row])
+fn store_at(contacts: &mut [Contact], rows: &[Row])
     requires contacts { AreContacts contacts.old }
-    requires rows { AreRowsAt contacts.old places.now rows.now }
+    requires rows { AreRowsAt contacts.old rows.now }
     ensures value { contacts.new ≡ with_rows contacts.old rows.now }
     ensures contacts { AreContacts contacts.new }
 {
-    for (index, row) in rows.iter().enumerate() {
+    for row in rows {
         let entry = &row.entry;
-        let contact = &mut contacts[places[index]];
+        let contact = &mut contacts[entry.place];
         contact.impulses = entry.impulses;
     }
 }
@@ -174,13 +174,13 @@ impl Contacts {
     }
 
     /// Keeps the accumulated impulses of these rows, as Box2D's `b2ContactSolver::StoreImpulses`:
-    /// the contact at each place gets those of the row beside it, the others keep their own. Takes
+    /// the contact at the place of each row gets those of the row, the others keep their own. Takes
     /// no memory.
-    pub fn store_impulses(&mut self, places: &[usize], rows: &[Row])
-        requires { AreRowsAt self.old places.now rows.now }
+    pub fn store_impulses(&mut self, rows: &[Row])
+        requires { AreRowsAt self.old rows.now }
         ensures { self.new ≡ with_rows self.old rows.now }
     {
-        store_at(&mut self.list, places, rows);
+        store_at(&mut self.list, rows);
     }
 
     /// A copy. Takes no memory where there are no contacts.

@@ -17,13 +17,16 @@ pub enum Side {
     Dynamic(usize),
 }
 
-/// A contact of a tick: its point, its accumulated impulses, and where its bodies stand.
+/// A contact of a tick: its point, its accumulated impulses, its place among the contacts of the
+/// tick, and where its bodies stand.
 #[derive(Clone, Copy, Debug)]
 pub struct Entry {
     /// The contact point.
     pub touch: Touch,
     /// What the contact has accumulated.
     pub impulses: Impulses,
+    /// Its place among all contacts.
+    pub place: usize,
     /// Where the first body stands.
     pub first: Side,
     /// Where the second body stands.
@@ -38,6 +41,7 @@ impl Model for Entry {
     ghost view = { λ e. record {
       touch = e.touch;
       impulses = e.impulses;
+      place = e.place;
       first = e.first;
       second = e.second;
     } };
@@ -45,6 +49,7 @@ impl Model for Entry {
     ghost inverse = { λ e. record {
       touch = e.touch;
       impulses = e.impulses;
+      place = e.place;
       first = e.first;
       second = e.second;
     } };

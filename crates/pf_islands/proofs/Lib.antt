@@ -7,3 +7,4 @@ pub mod Starting
 pub mod Chains
 pub mod Looked
 pub mod Sleeping
+pub mod ActiveRows

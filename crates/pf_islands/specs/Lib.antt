@@ -4,3 +4,5 @@ pub mod Group
 pub mod Sleep
 pub mod Forest
 pub mod Marks
+pub mod Island
+pub mod Rows

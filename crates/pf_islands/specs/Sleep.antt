@@ -27,3 +27,8 @@ rested full names bodies =
     map
     (λ m. if m.1.awake && is_resting full names bodies m.0 then at_sleep m.1 else m.1)
     (zip names bodies)
+
+-- the phase Sleep of a group alone: its bodies stop and sleep where each of them has a full timer
+abbrev pub rested_alone : ℕ → List BodyState → List BodyState
+rested_alone full bodies =
+    if list_all (λ b. b.timer == full) bodies then map at_sleep bodies else bodies

@@ -5,5 +5,7 @@ mod forest;
 mod groups;
 pub mod laws;
 mod marks;
+mod rows;
 
 pub use groups::Groups;
+pub use rows::active_rows;

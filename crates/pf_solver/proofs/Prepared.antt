@@ -5,7 +5,8 @@ use Rattle.std.specs.Prelude.{All}
 use Rattle.pf_shapes.specs.Body.{BodyState}
 use Rattle.pf_shapes.specs.Scene.{Scene}
 use Rattle.pf_cache.specs.Row.{IsEntryOf, Row}
-use Rattle.pf_solver.specs.Solve.{IsRowOf, prepared_row}
+use Rattle.pf_solver.specs.Solve.{prepared_row}
+use Rattle.pf_islands.specs.Rows.{IsRowOf}
 
 -- their bodies are as before
 pub prepared_fit : (s : Scene) (bodies : List BodyState) (n : ℕ) (rows after : List Row)

@@ -12,12 +12,13 @@ use Rattle.pf_manifold.specs.Key.{IsRising}
 use Rattle.pf_cache.specs.declared.row.Side.{Side}
 use Rattle.pf_cache.specs.declared.row.Side.TheVariants.{Static, Dynamic}
 use Rattle.pf_cache.specs.Row.{InverseMass, Row}
-use Rattle.pf_solver.specs.Island.{IsOwnOrOther, IsOwnSide, has_number, is_among, place_of, row_among, rows_among, seen_from, side_among, states_of, touches_one}
+use Rattle.pf_solver.specs.Alone.{seen_from}
 use Rattle.pf_solver.specs.declared.velocities.TheConstants.{ROUNDS}
 use Rattle.pf_solver.specs.Bodies.{after_gravity, after_motion, after_timer, each_awake, gravity_per_tick}
 use Rattle.pf_solver.specs.Impulse.{ContactState, Motion, after_round, after_warm_start}
 use Rattle.pf_solver.specs.Solve.{pre_step_body, prepared_row, solved}
-use Rattle.pf_solver.specs.Velocities.{Batch, Step, bodies_after, bodies_with, contact_state, motion_at, no_state, pass, passes, row_after, with_motion}
+use Rattle.pf_solver.specs.Velocities.{Batch, Step, bodies_after, bodies_with, contact_state, motion_at, pass, passes, row_after, with_motion}
+use Rattle.pf_islands.specs.Island.{no_state, has_number, place_of, states_of, is_among, side_among, touches_one, row_among, rows_among, IsOwnSide, IsOwnOrOther}
 use Rattle.pf_solver.proofs.Passes.{after_length, bodies_length, with_length}
 use Rattle.pf_solver.proofs.Solved.{passes_bodies, passes_rows, pass_rows, still}
 

@@ -3,7 +3,7 @@
 use Rattle.std.proofs.Common.{◌≡◌, ◌≢◌, ◌∙◌, ℕ, zero, suc, ℤ, pos, neg_ℤ, ◌≤ℤ◌, Bool, true, false, Some, List, [], ◌∷◌, length, map, refl, sym, ap, ap₂, subst}
 use Rattle.std.proofs.lemmas.Bool.{cond-true, cond-false}
 use Rattle.std.proofs.lemmas.List.{length-map}
-use Rattle.std.proofs.lemmas.List.Elements.{All-cons, All-head, All-map, All-nil, All-tail}
+use Rattle.std.proofs.lemmas.List.Elements.{All-cons, All-head, All-map, All-nil, All-tail, All-weaker}
 use Rattle.std.proofs.lemmas.Option.{none-some, same_Some, slice_get-map}
 use Rattle.std.specs.Option.{option_map}
 use Rattle.std.specs.Prelude.{All, if◌then◌else◌, slice_get, slice_index_or, slice_set}
@@ -12,14 +12,15 @@ use Rattle.pf_shapes.specs.Body.{BodyState, at_rest}
 use Rattle.pf_shapes.specs.Scene.{Scene, fixture_at}
 use Rattle.pf_cache.specs.declared.row.Side.{Side}
 use Rattle.pf_cache.specs.declared.row.Side.TheVariants.{Static, Dynamic}
-use Rattle.pf_cache.specs.Contact.{no_impulses}
-use Rattle.pf_cache.specs.Row.{Row}
+use Rattle.pf_cache.specs.Contact.{Contact, no_impulses}
+use Rattle.pf_cache.specs.Row.{IsRowAt, Row}
 use Rattle.pf_solver.specs.declared.velocities.TheConstants.{ROUNDS}
 use Rattle.pf_solver.specs.Bodies.{after_gravity, after_motion, after_timer, each_awake, gravity_per_tick}
 use Rattle.pf_solver.specs.Constraint.{constraint_of, friction_of}
 use Rattle.pf_solver.specs.Impulse.{Motion, after_round, after_warm_start, friction_limit}
 use Rattle.pf_solver.specs.Solve.{pre_step_body, prepared_row, solved}
-use Rattle.pf_solver.specs.Velocities.{Batch, Step, bodies_after, body_with, no_state, pass, passes, row_after, with_motion}
+use Rattle.pf_solver.specs.Velocities.{Batch, Step, bodies_after, body_with, pass, passes, row_after, with_motion}
+use Rattle.pf_islands.specs.Island.{no_state}
 use Rattle.pf_solver.proofs.Limits.{never_pulls, within_friction}
 
 -- a row without its accumulated impulses, the only part of it that a pass changes
@@ -278,6 +279,18 @@ module _ (s : Scene) (bodies : List BodyState) (rows : List Row) where
   solved_touches =
       sym (touches_unloaded after.rows)
       ∙ (ap (map (λ (r : Row). r.entry.touch)) rows_same ∙ (touches_unloaded prepared ∙ touches_prepared s fallen rows))
+
+  -- rows stay at the places of their contacts
+  pub solved_at_places : (contacts : List Contact) → All (IsRowAt contacts) rows
+      → All (IsRowAt contacts) (solved s bodies rows).rows
+  unfolding solved prepared_row
+  solved_at_places contacts at =
+      All-weaker (λ r. IsRowAt contacts (unloaded r)) (IsRowAt contacts)
+      (λ r h. record { within = h.within; key = h.key }) after.rows
+      (still (IsRowAt contacts) prepared after.rows rows_same
+      (All-map (λ r. IsRowAt contacts (unloaded r)) (prepared_row s fallen) rows
+      (All-weaker (IsRowAt contacts) (λ r. IsRowAt contacts (unloaded (prepared_row s fallen r)))
+      (λ r h. record { within = h.within; key = h.key }) rows at)))
 
   -- each body has another velocity and spin after the phase Velocities, and is then moved
   pub solved_body : (i : ℕ) (c : BodyState) → slice_get (solved s bodies rows).bodies i ≡ Some c

@@ -6,4 +6,4 @@ pub mod Velocities
 pub mod Bodies
 pub mod Solve
 pub mod Laws
-pub mod Island
+pub mod Alone

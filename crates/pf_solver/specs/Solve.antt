@@ -2,18 +2,19 @@
 -- World::Step: Gravity, Pre-step, warm starting, Rounds, Positions; and for how long each body has
 -- been still. Gravity, Positions and Timers are of awake bodies alone. The velocities of every body
 -- that a row names change, so rows are to name awake and static bodies.
-use Rattle.std.specs.Prelude.{ℕ, ◌<◌, List, length, map, slice_index_or}
+use Rattle.std.specs.Prelude.{ℕ, List, map, slice_index_or}
 use Rattle.pf_shapes.specs.Fixture.{Fixture, inverse_mass, inverse_inertia}
 use Rattle.pf_shapes.specs.Body.{BodyState}
 use Rattle.pf_shapes.specs.Scene.{Scene, fixture_at}
 use Rattle.pf_cache.specs.declared.row.Side.{Side}
 use Rattle.pf_cache.specs.declared.row.Side.TheVariants.{Static, Dynamic}
-use Rattle.pf_cache.specs.Row.{IsEntryOf, InverseMass, Row, no_mass}
+use Rattle.pf_cache.specs.Row.{InverseMass, Row, no_mass}
 use Rattle.pf_solver.specs.declared.velocities.TheConstants.{ROUNDS}
 use Rattle.pf_solver.specs.Bodies.{after_gravity, after_motion, after_timer, each_awake, gravity_per_tick}
 use Rattle.pf_solver.specs.Constraint.{PreStepBody, constraint_of}
 use Rattle.pf_solver.specs.Impulse.{after_round, after_warm_start}
-use Rattle.pf_solver.specs.Velocities.{Batch, no_state, pass, passes}
+use Rattle.pf_solver.specs.Velocities.{Batch, pass, passes}
+use Rattle.pf_islands.specs.Island.{no_state}
 
 -- how easily impulses move a body of this fixture
 abbrev pub mass_of : Fixture → InverseMass
@@ -32,12 +33,6 @@ pre_step_body s bodies number (Dynamic place) = record {
   mass = mass_of (fixture_at s number);
   friction = (fixture_at s number).friction;
 }
-
--- a row of two bodies of the scene, whose sides are static or different places below `bodies`
-pub record IsRowOf (s : Scene) (bodies : ℕ) (r : Row) : Type 0 where
-  pub first : r.entry.touch.a < length s.fixtures
-  pub second : r.entry.touch.b < length s.fixtures
-  pub sides : IsEntryOf bodies r.entry
 
 -- a row after the pre-step; its old masses and constraint are not read
 unfoldable pub prepared_row : Scene → List BodyState → Row → Row

@@ -1,13 +1,13 @@
 -- The velocity phase over one list of contacts, as Box2D-Lite's World::Step: warm starting along
 -- the list, and then rounds, each along the whole list. Each contact is solved with the velocities
 -- that the one before it left (Gauss-Seidel).
-use Rattle.std.specs.Prelude.{ℕ, zero, suc, pos, false, List, [], ◌∷◌, slice_index_or, slice_set}
+use Rattle.std.specs.Prelude.{ℕ, zero, suc, pos, List, [], ◌∷◌, slice_index_or, slice_set}
 use Rattle.pf_rot.specs.Vector.{zero_vector}
-use Rattle.pf_rot.specs.Rotation.{upright}
 use Rattle.pf_shapes.specs.Body.{BodyState}
 use Rattle.pf_cache.specs.declared.row.Side.{Side}
 use Rattle.pf_cache.specs.declared.row.Side.TheVariants.{Static, Dynamic}
 use Rattle.pf_cache.specs.Row.{Constraint, InverseMass, Row, no_mass}
+use Rattle.pf_islands.specs.Island.{no_state}
 use Rattle.pf_solver.specs.Impulse.{ContactState, Motion}
 
 -- a static body at a contact: it does not move, and no impulse moves it
@@ -21,17 +21,6 @@ motion_of mass b = record { velocity = b.velocity; spin = b.spin; mass = mass }
 -- a body with the velocity and the spin of a motion
 abbrev pub body_with : Motion → BodyState → BodyState
 body_with m b = record b { velocity = m.velocity; spin = m.spin }
-
--- the default of a look-up, never used: each place that an entry names is in the list
-abbrev pub no_state : BodyState
-no_state = record {
-  position = zero_vector;
-  rotation = upright;
-  velocity = zero_vector;
-  spin = pos 0;
-  timer = 0;
-  awake = false;
-}
 
 -- the motion of the body on a side
 unfoldable pub motion_at : List BodyState → InverseMass → Side → Motion

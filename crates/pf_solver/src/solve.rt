@@ -3,7 +3,8 @@
 ghost use Rattle.std.specs.Prelude.{◌≡◌, ◌<◌, All, if◌then◌else◌, length, map};
 ghost use Rattle.pf_cache.specs.Row.{IsSide};
 ghost use Rattle.pf_solver.specs.Bodies.{after_gravity, after_motion, after_timer, each_awake};
-ghost use Rattle.pf_solver.specs.Solve.{IsRowOf, pre_step_body, mass_of, prepared_row, solved};
+ghost use Rattle.pf_solver.specs.Solve.{pre_step_body, mass_of, prepared_row, solved};
+ghost use Rattle.pf_islands.specs.Rows.{IsRowOf};
 
 use crate::bodies::{after_gravity, after_motion, after_timer};
 use crate::constraint::{LastFriction, PreStepBody, constraint_of};

@@ -11,16 +11,16 @@ use Rattle.pf_commands.specs.declared.payload.Payload.{Payload}
 use Rattle.pf_cache.specs.Contact.{Contact, Impulses, impulses_at, updated}
 use Rattle.pf_cache.specs.Row.{AreRows, Row, impulses_or, with_rows}
 use Rattle.pf_cache.proofs.FoundRows.{all_found, row_rank, rows_rise}
-use Rattle.pf_solver.specs.Island.{row_among, rows_among, states_of, touches_one}
+use Rattle.pf_islands.specs.Island.{states_of, touches_one, row_among, rows_among, members}
 use Rattle.pf_solver.specs.Solve.{solved}
 use Rattle.pf_solver.specs.Velocities.{Batch}
 use Rattle.pf_solver.proofs.Solved.{solved_touches}
 use Rattle.pf_step.specs.Commands.{after_commands}
-use Rattle.pf_step.specs.Laws.{batch_of_tick, members, names_of_tick}
-use Rattle.pf_step.specs.Rows.{row_of}
+use Rattle.pf_step.specs.Laws.{batch_of_tick, names_of_tick}
+use Rattle.pf_islands.specs.Rows.{row_of}
 use Rattle.pf_step.specs.Step.{step, touching}
 use Rattle.pf_step.specs.World.{World}
-use Rattle.pf_step.proofs.ActiveRows.{HoldsWhere, all_rows, rows_in_order}
+use Rattle.pf_islands.proofs.ActiveRows.{HoldsWhere, all_rows, rows_in_order}
 use Rattle.pf_step.proofs.Apart.{groups_alone}
 use Rattle.pf_step.proofs.Commanding.{commands_length}
 use Rattle.pf_step.proofs.Contacts.{all_unmapped}
@@ -90,7 +90,7 @@ module _ (s : Scene) (w : World) (payloads : List Payload) (paired : length w.bo
   rows_have_contacts =
       all_rows s batch.bodies (λ r. HasContact contacts r.entry.touch) points contacts
       (all_from (HoldsWhere s batch.bodies (λ r. HasContact contacts r.entry.touch)) points
-      (λ k t stands active c. updated_has w.contacts points k t stands))
+      (λ k t stands active place c. updated_has w.contacts points k t stands))
 
   have_contacts : All (λ r. HasContact contacts r.entry.touch) after
   have_contacts =

@@ -19,15 +19,16 @@ use Rattle.pf_islands.specs.Reach.{IsBetween, connects}
 use Rattle.pf_islands.specs.Sleep.{woken}
 use Rattle.pf_islands.proofs.Chains.{one_name}
 use Rattle.pf_islands.proofs.Starting.{groups_long}
-use Rattle.pf_solver.specs.Island.{IsOwnOrOther, IsOwnSide, has_number, is_among, rows_among, seen_from, states_of}
+use Rattle.pf_solver.specs.Alone.{seen_from}
+use Rattle.pf_islands.specs.Island.{has_number, states_of, is_among, rows_among, IsOwnSide, IsOwnOrOther, members}
 use Rattle.pf_solver.specs.Solve.{solved}
 use Rattle.pf_solver.proofs.Seen.{solved_seen}
 use Rattle.pf_step.specs.Commands.{after_commands}
-use Rattle.pf_step.specs.Laws.{batch_of_tick, members, names_of_tick}
-use Rattle.pf_step.specs.Rows.{active_rows, row_of, side_of}
+use Rattle.pf_step.specs.Laws.{batch_of_tick, names_of_tick}
+use Rattle.pf_islands.specs.Rows.{active_rows, row_of, side_of}
 use Rattle.pf_step.specs.Step.{touching}
 use Rattle.pf_step.specs.World.{World}
-use Rattle.pf_step.proofs.ActiveRows.{HoldsWhere, all_rows}
+use Rattle.pf_islands.proofs.ActiveRows.{HoldsWhere, all_rows}
 use Rattle.pf_step.proofs.Commanding.{commands_length}
 use Rattle.pf_step.proofs.Elements.{all_at, all_from}
 use Rattle.pf_step.proofs.Lengths.{woken_length}
@@ -167,7 +168,7 @@ module _ (s : Scene) (touches : List Touch) (name : ℕ) where
   own_rows bodies contacts of =
       all_rows s bodies (IsOwnOrOther numbers) touches contacts
       (all_from (HoldsWhere s bodies (IsOwnOrOther numbers)) touches
-      (λ k t stands active c.
+      (λ k t stands active place c.
       let is = all_at (IsTouchOf (length s.fixtures)) touches k t of stands in
       own_sides k t stands (omega (arith, is.0, is.1)) is.1))
 

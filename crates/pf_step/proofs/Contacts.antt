@@ -27,11 +27,11 @@ use Rattle.pf_solver.specs.Solve.{solved}
 use Rattle.pf_solver.proofs.Solved.{HasFriction, IsLimited, solved_friction, solved_limits, solved_touches}
 use Rattle.pf_step.specs.Commands.{after_commands}
 use Rattle.pf_step.specs.Laws.{IsWithinFriction}
-use Rattle.pf_step.specs.Rows.{active_rows}
+use Rattle.pf_islands.specs.Rows.{active_rows}
 use Rattle.pf_step.specs.Simulation.{sim}
 use Rattle.pf_step.specs.Step.{step, touching}
 use Rattle.pf_step.specs.World.{World, start_of}
-use Rattle.pf_step.proofs.ActiveRows.{rows_in_order}
+use Rattle.pf_islands.proofs.ActiveRows.{rows_in_order}
 use Rattle.pf_step.proofs.Commanding.{commands_length}
 use Rattle.pf_step.proofs.Lengths.{sim_length}
 use Rattle.pf_step.proofs.Touching.{points_in_order, points_of_bodies}

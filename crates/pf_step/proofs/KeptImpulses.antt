@@ -15,10 +15,10 @@ use Rattle.pf_islands.specs.Sleep.{woken}
 use Rattle.pf_solver.specs.Solve.{solved}
 use Rattle.pf_solver.proofs.Solved.{solved_touches}
 use Rattle.pf_step.specs.Laws.{IsUndisturbed, commanded_bodies}
-use Rattle.pf_step.specs.Rows.{active_rows, is_active_contact, is_awake_at, row_of}
+use Rattle.pf_islands.specs.Rows.{active_rows, is_active_contact, is_simulated_at, row_of}
 use Rattle.pf_step.specs.Simulation.{sim}
 use Rattle.pf_step.specs.Step.{step, touching}
-use Rattle.pf_step.proofs.ActiveRows.{HoldsWhere, all_rows}
+use Rattle.pf_islands.proofs.ActiveRows.{HoldsWhere, all_rows}
 use Rattle.pf_step.proofs.Commanding.{commands_length}
 use Rattle.pf_step.proofs.Contacts.{all_unmapped, same_bodies}
 use Rattle.pf_step.proofs.Elements.{all_at, all_from, same_element}
@@ -87,17 +87,17 @@ module _ (s : Scene) (scene : IsScene s) (m : CommandMap) (tick : ℕ) where
   count = commands_length s.fixtures (sim s m tick).bodies (payloads_at m tick) ∙ sim_length s m tick scene
 
   -- a contact that is simulated has another rank than one that is not
-  other_rank : (k j : ℕ) (t u : Touch) → slice_get points k ≡ Some t → is_active_contact awake t ≡ false
-      → slice_get points j ≡ Some u → is_active_contact awake u ≡ true → IsOther (rank (key_of t)) u
+  other_rank : (k j : ℕ) (t u : Touch) → slice_get points k ≡ Some t → is_active_contact s awake t ≡ false
+      → slice_get points j ≡ Some u → is_active_contact s awake u ≡ true → IsOther (rank (key_of t)) u
   unfolding is_active_contact
   other_rank k j t u here inactive there active same =
       let keys = (points_in_order s bodies count scene).keys in
       let one = same_bodies (key_of u) (key_of t)
       (all_at (λ x. IsKey (key_of x)) points j u keys there) (all_at (λ x. IsKey (key_of x)) points k t keys here) same in
       true≢false (sym active
-      ∙ ap₂ (λ a b. is_awake_at awake a || is_awake_at awake b) one.0 one.1 ∙ inactive)
+      ∙ ap₂ (λ a b. is_simulated_at s awake a || is_simulated_at s awake b) one.0 one.1 ∙ inactive)
 
-  others : (k : ℕ) (t : Touch) → slice_get points k ≡ Some t → is_active_contact awake t ≡ false
+  others : (k : ℕ) (t : Touch) → slice_get points k ≡ Some t → is_active_contact s awake t ≡ false
       → All (λ r. IsOther (rank (key_of t)) r.entry.touch) (solved s awake rows).rows
   unfolding row_of
   others k t here inactive =
@@ -105,7 +105,7 @@ module _ (s : Scene) (scene : IsScene s) (m : CommandMap) (tick : ℕ) where
       let before : All (λ (r : Row). IsOther n r.entry.touch) rows =
       all_rows s awake (λ r. IsOther n r.entry.touch) points contacts
       (all_from (HoldsWhere s awake (λ r. IsOther n r.entry.touch)) points
-      (λ j u there active c. other_rank k j t u here inactive there active)) in
+      (λ j u there active place c. other_rank k j t u here inactive there active)) in
       all_unmapped (IsOther n) (λ (r : Row). r.entry.touch) (solved s awake rows).rows
       (subst (All (IsOther n)) (sym (solved_touches s awake rows))
       (All-map (IsOther n) (λ (r : Row). r.entry.touch) rows before))
@@ -116,7 +116,7 @@ module _ (s : Scene) (scene : IsScene s) (m : CommandMap) (tick : ℕ) where
   unfolding sim step
   kept_impulses i b k t there dynamic quiet here names =
       let of = all_at (IsTouchOf (length bodies)) points k t (points_of_bodies s bodies count) here in
-      let inactive : is_active_contact awake t ≡ false =
+      let inactive : is_active_contact s awake t ≡ false =
       contact_inactive s (sim s m tick).contacts bodies count (statics_sleep s m tick scene) i b there quiet dynamic k t here
       (omega (arith, of.0, of.1)) of.1 names in
       stays_at (rank (key_of t)) contacts (solved s awake rows).rows (others k t here inactive)

@@ -15,7 +15,7 @@ use Rattle.pf_solver.specs.declared.bodies.TheConstants.{STILL_TICKS}
 use Rattle.pf_solver.specs.Solve.{solved}
 use Rattle.pf_solver.proofs.Solved.{solved_length}
 use Rattle.pf_step.specs.Commands.{after_commands}
-use Rattle.pf_step.specs.Rows.{active_rows}
+use Rattle.pf_islands.specs.Rows.{active_rows}
 use Rattle.pf_step.specs.Simulation.{sim}
 use Rattle.pf_step.specs.Step.{step, touching}
 use Rattle.pf_step.specs.World.{World, start_of}

@@ -3,7 +3,6 @@ pub mod Ticks
 pub mod Orders
 pub mod Elements
 pub mod Commanding
-pub mod ActiveRows
 pub mod Lengths
 pub mod Ticked
 pub mod Empty

@@ -18,7 +18,7 @@ use Rattle.pf_solver.specs.Solve.{solved}
 use Rattle.pf_solver.proofs.Solved.{moved_on, solved_body}
 use Rattle.pf_step.specs.Commands.{after_commands}
 use Rattle.pf_step.specs.Laws.{bodies_before_sleep}
-use Rattle.pf_step.specs.Rows.{active_rows}
+use Rattle.pf_islands.specs.Rows.{active_rows}
 use Rattle.pf_step.specs.Step.{step, touching}
 use Rattle.pf_step.specs.World.{World}
 use Rattle.pf_step.proofs.Elements.{same_element}

@@ -1,7 +1,7 @@
 -- The phases of a tick, one after the other.
+use Rattle.std.specs.Prelude.{All}
 use Rattle.std.proofs.Common.{◌≡◌, ℕ, List, length, map, refl, ap, subst, sym, ◌∙◌}
 use Rattle.std.proofs.lemmas.List.{length-map}
-use Rattle.std.proofs.lemmas.Simd.{map-map}
 use Rattle.pf_shapes.specs.Body.{BodyState}
 use Rattle.pf_shapes.specs.Pair.{Pair}
 use Rattle.pf_shapes.specs.Scene.{Scene}
@@ -9,16 +9,16 @@ use Rattle.pf_broad.specs.Pairs.{all_bounds, pairs}
 use Rattle.pf_manifold.specs.Touches.{Touch, touches}
 use Rattle.pf_commands.specs.declared.payload.Payload.{Payload}
 use Rattle.pf_cache.specs.Contact.{Contact, updated}
-use Rattle.pf_manifold.specs.Key.{AreTouches, key_of}
-use Rattle.pf_cache.specs.Row.{AreRowsAt, Row, with_rows}
+use Rattle.pf_manifold.specs.Key.{AreTouches}
+use Rattle.pf_cache.specs.Row.{AreRowsAt, IsRowAt, Row, with_rows}
 use Rattle.pf_islands.specs.Group.{groups}
 use Rattle.pf_islands.specs.Sleep.{rested, woken}
 use Rattle.pf_solver.specs.declared.bodies.TheConstants.{STILL_TICKS}
 use Rattle.pf_solver.specs.Solve.{solved}
 use Rattle.pf_solver.specs.Velocities.{Batch}
-use Rattle.pf_solver.proofs.Solved.{solved_touches}
+use Rattle.pf_solver.proofs.Solved.{solved_at_places, solved_touches}
 use Rattle.pf_step.specs.Commands.{after_commands}
-use Rattle.pf_step.specs.Rows.{active_rows}
+use Rattle.pf_islands.specs.Rows.{active_rows}
 use Rattle.pf_step.specs.Step.{step}
 use Rattle.pf_step.specs.World.{World}
 
@@ -57,15 +57,15 @@ ticked s w payloads commanded awake bodies after ps points contacts kept names b
       commands,
     ) refl
 
--- solved rows stand beside the places of the same contacts
-pub solved_beside : (s : Scene) (bodies : List BodyState) (contacts : List Contact) (places : List ℕ) (rows : List Row)
-    (after : Batch) → after ≡ solved s bodies rows → AreRowsAt contacts places rows → AreRowsAt contacts places after.rows
-solved_beside s bodies contacts places rows after is beside =
+-- solved rows stand at the places of the same contacts
+pub solved_beside : (s : Scene) (bodies : List BodyState) (contacts : List Contact) (rows : List Row)
+    (after : Batch) → after ≡ solved s bodies rows → AreRowsAt contacts rows → AreRowsAt contacts after.rows
+solved_beside s bodies contacts rows after is beside =
     let touch_of : Row → Touch = λ r. r.entry.touch in
     let same : map touch_of after.rows ≡ map touch_of rows =
     ap (λ (b : Batch). map touch_of b.rows) is ∙ solved_touches s bodies rows in
     record {
       order = subst AreTouches (sym same) beside.order;
-      within = beside.within;
-      keys = sym (map-map key_of touch_of after.rows) ∙ ap (map key_of) same ∙ map-map key_of touch_of rows ∙ beside.keys;
+      places = subst (λ (b : Batch). All (IsRowAt contacts) b.rows) (sym is)
+          (solved_at_places s bodies rows contacts beside.places);
     }

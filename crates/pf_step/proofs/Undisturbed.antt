@@ -22,12 +22,12 @@ use Rattle.pf_solver.specs.Solve.{solved}
 use Rattle.pf_solver.proofs.Solved.{IsAway, untouched_body}
 use Rattle.pf_step.specs.Commands.{after_commands}
 use Rattle.pf_step.specs.Laws.{IsUndisturbed, commanded_bodies}
-use Rattle.pf_step.specs.Rows.{active_rows, is_active_contact, is_awake_at, row_of, side_of}
+use Rattle.pf_islands.specs.Rows.{active_rows, is_active_contact, is_awake_at, is_simulated_at, row_of, side_of}
 use Rattle.pf_step.specs.Simulation.{sim}
 use Rattle.pf_step.specs.Step.{step, touching}
 use Rattle.pf_step.specs.World.{World, start_of}
-use Rattle.pf_solver.specs.Velocities.{no_state}
-use Rattle.pf_step.proofs.ActiveRows.{HoldsWhere, all_rows}
+use Rattle.pf_islands.specs.Island.{no_state}
+use Rattle.pf_islands.proofs.ActiveRows.{HoldsWhere, all_rows}
 use Rattle.pf_step.proofs.Commanding.{commands_length, not_commanded, static_stays}
 use Rattle.pf_step.proofs.Elements.{all_at, all_from, same_element, zip_at}
 use Rattle.pf_step.proofs.Lengths.{sim_length}
@@ -126,6 +126,14 @@ module _ (s : Scene) (old : List Contact) (commanded : List BodyState) (count : 
       ap (λ (x : BodyState). x.awake) (get_or_from_slice_get awake i b no_state (woken_same i b here quiet))
       ∙ quiet i b here (here_reached i)
 
+  -- so it is not simulated
+  not_simulated : (i : ℕ) → is_awake_at awake i ≡ false → is_simulated_at s awake i ≡ false
+  not_simulated i asleep = by (is_static_at s i)
+    where
+      by : (e : Bool) → (not e && is_awake_at awake i) ≡ false
+      by true = refl
+      by false = asleep
+
   -- ---- contacts of an undisturbed body
 
   module _ (statics : StaticsSleep s commanded) (i : ℕ) (b : BodyState) (here : slice_get commanded i ≡ Some b)
@@ -148,20 +156,20 @@ module _ (s : Scene) (old : List Contact) (commanded : List BodyState) (count : 
 
     -- so such a contact is not simulated
     pub contact_inactive : (k : ℕ) (t : Touch) → slice_get points k ≡ Some t → t.a < length commanded → t.b < length commanded
-        → (t.a ≡ i) ⊎ (t.b ≡ i) → is_active_contact awake t ≡ false
+        → (t.a ≡ i) ⊎ (t.b ≡ i) → is_active_contact s awake t ≡ false
     unfolding is_active_contact
     contact_inactive k t stands first second (inl same) =
         let c = get_or commanded t.b b in
         let there = slice_get-get_or commanded t.b b second in
-        or_from (is_awake_at awake t.a) (is_awake_at awake t.b)
-        (ap (is_awake_at awake) same ∙ asleep_at i b here quiet)
-        (asleep_at t.b c there (other_quiet k t t.b stands (inl (same, refl)) (is_static_at s t.b) refl))
+        or_from (is_simulated_at s awake t.a) (is_simulated_at s awake t.b)
+        (ap (is_simulated_at s awake) same ∙ not_simulated i (asleep_at i b here quiet))
+        (not_simulated t.b (asleep_at t.b c there (other_quiet k t t.b stands (inl (same, refl)) (is_static_at s t.b) refl)))
     contact_inactive k t stands first second (inr same) =
         let c = get_or commanded t.a b in
         let there = slice_get-get_or commanded t.a b first in
-        or_from (is_awake_at awake t.a) (is_awake_at awake t.b)
-        (asleep_at t.a c there (other_quiet k t t.a stands (inr (refl, same)) (is_static_at s t.a) refl))
-        (ap (is_awake_at awake) same ∙ asleep_at i b here quiet)
+        or_from (is_simulated_at s awake t.a) (is_simulated_at s awake t.b)
+        (not_simulated t.a (asleep_at t.a c there (other_quiet k t t.a stands (inr (refl, same)) (is_static_at s t.a) refl)))
+        (ap (is_simulated_at s awake) same ∙ not_simulated i (asleep_at i b here quiet))
 
     -- and no row touches the body
     rows_away : All (IsAway i) rows
@@ -170,18 +178,18 @@ module _ (s : Scene) (old : List Contact) (commanded : List BodyState) (count : 
         all_rows s awake (IsAway i) points (updated old points)
         (all_from (HoldsWhere s awake (IsAway i)) points away_at)
       where
-        first_away : (k : ℕ) (t : Touch) → slice_get points k ≡ Some t → is_active_contact awake t ≡ true → side_of s t.a ≢ Dynamic i
+        first_away : (k : ℕ) (t : Touch) → slice_get points k ≡ Some t → is_active_contact s awake t ≡ true → side_of s t.a ≢ Dynamic i
         first_away k t stands active same =
             let of = all_at (IsTouchOf (length commanded)) points k t (points_of_bodies s commanded count) stands in
             true≢false (sym active ∙ contact_inactive k t stands (omega (arith, of.0, of.1)) of.1 (inl (side_place s t.a i same)))
 
-        second_away : (k : ℕ) (t : Touch) → slice_get points k ≡ Some t → is_active_contact awake t ≡ true → side_of s t.b ≢ Dynamic i
+        second_away : (k : ℕ) (t : Touch) → slice_get points k ≡ Some t → is_active_contact s awake t ≡ true → side_of s t.b ≢ Dynamic i
         second_away k t stands active same =
             let of = all_at (IsTouchOf (length commanded)) points k t (points_of_bodies s commanded count) stands in
             true≢false (sym active ∙ contact_inactive k t stands (omega (arith, of.0, of.1)) of.1 (inr (side_place s t.b i same)))
 
         away_at : (k : ℕ) (t : Touch) → slice_get points k ≡ Some t → HoldsWhere s awake (IsAway i) t
-        away_at k t stands active c = (first_away k t stands active, second_away k t stands active)
+        away_at k t stands active place c = (first_away k t stands active, second_away k t stands active)
 
   -- a static body is on no moving side
   static_side : (i number : ℕ) → is_static_at s i ≡ true → side_of s number ≢ Dynamic i
@@ -199,7 +207,7 @@ module _ (s : Scene) (old : List Contact) (commanded : List BodyState) (count : 
   static_away i static =
       all_rows s awake (IsAway i) points (updated old points)
       (all_from (HoldsWhere s awake (IsAway i)) points
-      (λ k t stands active c. (static_side i t.a static, static_side i t.b static)))
+      (λ k t stands active place c. (static_side i t.a static, static_side i t.b static)))
 
   -- where no row touches an undisturbed body, it is as before when the phase Sleep comes
   solved_same : (i : ℕ) (b : BodyState) → slice_get commanded i ≡ Some b → IsUndisturbed s commanded i → All (IsAway i) rows

@@ -15,7 +15,7 @@ use Rattle.pf_solver.specs.Constraint.{friction_of}
 use Rattle.pf_solver.specs.Solve.{solved}
 use Rattle.pf_solver.specs.Velocities.{Batch}
 use Rattle.pf_step.specs.Commands.{after_commands}
-use Rattle.pf_step.specs.Rows.{active_rows}
+use Rattle.pf_islands.specs.Rows.{active_rows}
 use Rattle.pf_step.specs.Simulation.{sim}
 use Rattle.pf_step.specs.Step.{touching}
 use Rattle.pf_step.specs.World.{World}
@@ -36,11 +36,6 @@ abbrev pub names_of_tick : Scene → World → List Payload → List ℕ
 names_of_tick s w payloads =
     groups s (touching s (after_commands s.fixtures w.bodies payloads))
 
--- the bodies of the group of this name, by their numbers
-abbrev pub members : List ℕ → ℕ → List ℕ
-members names name =
-    filter (λ i. slice_index_or names i 0 == name) (range_with_len 0 (length names))
-
 -- the bodies and contacts that are solved in a tick
 abbrev pub batch_of_tick : Scene → World → List Payload → Batch
 batch_of_tick s w payloads =
@@ -48,11 +43,6 @@ batch_of_tick s w payloads =
     let points = touching s commanded in
     let awake = woken (groups s points) commanded in
     record { bodies = awake; rows = active_rows s awake points (updated w.contacts points) }
-
--- the phase Sleep of a group alone: its bodies stop and sleep where each of them has a full timer
-abbrev pub rested_alone : ℕ → List BodyState → List BodyState
-rested_alone full bodies =
-    if list_all (λ b. b.timer == full) bodies then map at_sleep bodies else bodies
 
 -- the bodies just before the phase Sleep
 abbrev pub bodies_before_sleep : Scene → World → List Payload → List BodyState

@@ -2,7 +2,6 @@
 pub mod World
 pub mod WorldLaws
 pub mod Commands
-pub mod Rows
 pub mod Step
 pub mod Simulation
 pub mod Laws

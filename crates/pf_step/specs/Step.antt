@@ -15,7 +15,7 @@ use Rattle.pf_islands.specs.Sleep.{rested, woken}
 use Rattle.pf_solver.specs.declared.bodies.TheConstants.{STILL_TICKS}
 use Rattle.pf_solver.specs.Solve.{solved}
 use Rattle.pf_step.specs.Commands.{after_commands}
-use Rattle.pf_step.specs.Rows.{active_rows}
+use Rattle.pf_islands.specs.Rows.{active_rows}
 use Rattle.pf_step.specs.World.{World}
 
 -- the contact points of all pairs of bodies whose bounds overlap

@@ -6,7 +6,6 @@
 
 mod command;
 pub mod laws;
-mod rows;
 mod step;
 mod world;
 

@@ -6,41 +6,40 @@ ghost use Rattle.pf_cache.specs.Manifolds.{kept_touches, no_manifolds};
 ghost use Rattle.pf_cache.specs.Meter.{work_after_tick};
 ghost use Rattle.pf_cache.specs.Row.{AreRowsAt, with_rows};
 ghost use Rattle.pf_islands.specs.Sleep.{rested};
-ghost use Rattle.pf_solver.specs.Solve.{IsRowOf, solved};
+ghost use Rattle.pf_solver.specs.Solve.{solved};
+ghost use Rattle.pf_islands.specs.Rows.{IsRowOf};
 ghost use Rattle.pf_step.specs.Step.{narrow_phase, narrow_phase_of_tick, step, touching};
 
 use crate::command::apply_all;
-use crate::rows::active_contacts;
 use crate::world::{World, copy_of};
 use pf_broad::pairs;
 use pf_cache::{Contacts, Manifolds, NarrowPhase, Row, Work};
 use pf_commands::Payload;
-use pf_islands::Groups;
+use pf_islands::{Groups, active_rows};
 use pf_shapes::{BodyState, Scene};
 use pf_solver::{STILL_TICKS, solve_list};
 use std::alloc::{AllocError, Global};
 
-/// The phases Gravity to Sleep, with the rows of the active contacts and their places; what these
-/// have accumulated is kept.
+/// The phases Gravity to Sleep, with the rows of the active contacts; what these have accumulated is
+/// kept.
 #[tactic(auto, using(pf_solver::proofs::Solved::solved_length))]
 fn solve_active(
     scene: &Scene,
     groups: &mut Groups,
     bodies: &mut [BodyState],
-    places: &[usize],
     rows: &mut [Row],
     contacts: &mut Contacts,
 )
     requires groups { length bodies.old ≡ length groups.old }
     requires rows { All (IsRowOf scene.now (length bodies.old)) rows.old }
-    requires places { AreRowsAt contacts.old places.now rows.old }
+    requires places { AreRowsAt contacts.old rows.old }
     ensures bodies { bodies.new
         ≡ rested STILL_TICKS groups.old (solved scene.now bodies.old rows.old).bodies }
     ensures contacts { contacts.new
         ≡ with_rows contacts.old (solved scene.now bodies.old rows.old).rows }
 {
     solve_list(scene, bodies, rows);
-    contacts.store_impulses(places, rows);
+    contacts.store_impulses(rows);
     groups.rest(bodies, STILL_TICKS);
 }
 
@@ -93,15 +92,8 @@ pub fn step_alone(
     let mut contacts = world.contacts().update(touches)?;
     let mut groups = Groups::new(alloc, scene, touches)?;
     groups.wake(&mut bodies);
-    let mut active = active_contacts(alloc, scene, &bodies, touches, contacts.as_slice())?;
-    solve_active(
-        scene,
-        &mut groups,
-        &mut bodies,
-        &active.places,
-        &mut active.rows,
-        &mut contacts,
-    );
+    let mut rows = active_rows(alloc, scene, &bodies, touches, contacts.as_slice())?;
+    solve_active(scene, &mut groups, &mut bodies, &mut rows, &mut contacts);
     work.end_tick(found);
     Ok(World { bodies, contacts })
 }

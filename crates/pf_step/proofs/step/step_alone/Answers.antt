@@ -31,6 +31,6 @@ solve_active-requires-clause-places c =
     let points = c.touches-touches.result.now in
     let keys = ap (map (λ (k : Contact). k.key)) (c.as_slice.ensures.value ∙ c.in_ok-contacts.ensures.value)
     ∙ same_keys c.contacts.result.now points in
-    rw (c.deref-3.ensures.value, c.deref_mut-4.ensures.value)
-    (subst (λ all. AreRowsAt all c.in_ok-active.active.places.items c.in_ok-active.active.rows.items) c.as_slice.ensures.value
-    (c.in_ok-active.ensures.places c.touches-touches.ensures.order keys))
+    rw c.deref_mut-4.ensures.value
+    (subst (λ all. AreRowsAt all c.in_ok-rows.rows.items) c.as_slice.ensures.value
+    (c.in_ok-rows.ensures.places c.touches-touches.ensures.order keys))

@@ -1,12 +1,29 @@
--- What an island has of the whole list, as Box2D 2.x's b2Island: some bodies, with the contacts that
--- touch them. Its contacts name its bodies by their places in the island.
-use Rattle.std.specs.Prelude.{◌≡◌, ℕ, suc, ◌==◌, Bool, true, false, ◌||◌, List, [], ◌∷◌, map, filter, slice_index_or, if◌then◌else◌}
-use Rattle.std.specs.List.{list_any}
+-- Islands, as Box2D 2.x's b2Island: some bodies that contacts connect, with the contacts that touch
+-- them. Its contacts name its bodies by their places in the island.
+use Rattle.std.specs.Prelude.{◌≡◌, ℕ, suc, ◌+◌, ◌==◌, pos, Bool, true, false, ◌||◌, List, [], ◌∷◌, All, length, map, filter, slice_index_or, if◌then◌else◌}
+use Rattle.std.specs.List.{list_any, range_with_len}
+use Rattle.pf_rot.specs.Vector.{zero_vector}
+use Rattle.pf_rot.specs.Rotation.{upright}
 use Rattle.pf_shapes.specs.Body.{BodyState}
 use Rattle.pf_cache.specs.declared.row.Side.{Side}
 use Rattle.pf_cache.specs.declared.row.Side.TheVariants.{Static, Dynamic}
 use Rattle.pf_cache.specs.Row.{Row}
-use Rattle.pf_solver.specs.Velocities.{Batch, no_state}
+
+-- what is read where a list has no such body
+abbrev pub no_state : BodyState
+no_state = record {
+  position = zero_vector;
+  rotation = upright;
+  velocity = zero_vector;
+  spin = pos 0;
+  timer = 0;
+  awake = false;
+}
+
+-- the bodies of the group of this name, by their numbers
+abbrev pub members : List ℕ → ℕ → List ℕ
+members names name =
+    filter (λ i. slice_index_or names i 0 == name) (range_with_len 0 (length names))
 
 -- a body is one of these
 abbrev pub has_number : List ℕ → ℕ → Bool
@@ -47,13 +64,6 @@ row_among numbers r = record r {
 -- the contacts that touch these bodies, in their order
 abbrev pub rows_among : List ℕ → List Row → List Row
 rows_among numbers rows = map (row_among numbers) (filter (touches_one numbers) rows)
-
--- what an island of these bodies has of a list of bodies and contacts
-abbrev pub seen_from : List ℕ → Batch → Batch
-seen_from numbers b = record {
-  bodies = states_of numbers b.bodies;
-  rows = rows_among numbers b.rows;
-}
 
 -- static, or one of these bodies
 abbrev pub IsOwnSide : List ℕ → Side → Type 0

@@ -1,6 +1,6 @@
 use Rattle.std.proofs.Common.{◌≡◌, ◌≤◌, length, map, take, vec_capacity, vec_len}
-use Rattle.pf_step.proofs.ActiveRows.{row_at}
-use Rattle.pf_step.proofs.rows.active_contacts.Given as goal
+use Rattle.pf_islands.proofs.ActiveRows.{row_at}
+use Rattle.pf_islands.proofs.rows.active_rows.Given as goal
 
 abbrev pub invariant-loop-place : goal.invariant-loop-place
 invariant-loop-place l = record {

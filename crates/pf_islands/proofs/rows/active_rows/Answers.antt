@@ -1,10 +1,9 @@
 use Rattle.std.proofs.Common.{◌<◌, ◌∙◌, length, rules, subst, sym}
 use Rattle.std.specs.Prelude.{All}
 use Rattle.pf_cache.specs.Row.{AreRows, AreRowsAt}
-use Rattle.pf_solver.specs.Solve.{IsRowOf}
-use Rattle.pf_step.specs.Rows.{active_rows}
-use Rattle.pf_step.proofs.ActiveRows.{all_made, row_more, rows_beside, rows_fit, rows_in_order}
-use Rattle.pf_step.proofs.rows.active_contacts.Goals as goal
+use Rattle.pf_islands.specs.Rows.{IsRowOf}
+use Rattle.pf_islands.proofs.ActiveRows.{all_made, row_more, rows_beside, rows_fit, rows_in_order}
+use Rattle.pf_islands.proofs.rows.active_rows.Goals as goal
 
 pub loop-place-preserved : goal.loop-place-preserved
 loop-place-preserved c =
@@ -24,7 +23,7 @@ loop-place-preserved c =
 pub returns-clause-value : goal.returns-clause-value
 returns-clause-value c =
     all_made c.args.scene.now c.args.bodies.now c.args.touches.now c.args.contacts.now c.deref-place-items.result.now
-    c.loop-place.place-index c.loop-place.rows.items c.requires.contacts c.loop-place-test.false
+    c.loop-place.place-index c.loop-place.rows.items c.loop-place-test.false
     (c.deref-place-items.ensures.value ∙ c.in_ok-places.ensures.value) c.loop-place.invariant.made
 
 pub returns-clause-rows : goal.returns-clause-rows
@@ -40,7 +39,5 @@ returns-clause-order c = λ order.
 pub returns-clause-places : goal.returns-clause-places
 returns-clause-places c = λ order keys.
     let contacts = c.args.contacts.now in
-    let rows = active_rows c.args.scene.now c.args.bodies.now c.args.touches.now contacts in
-    subst (AreRowsAt contacts c.in_ok-places.places.items) (sym (returns-clause-value c))
-    (subst (λ places. AreRowsAt contacts places rows) (sym c.in_ok-places.ensures.value)
-    (rows_beside c.args.scene.now c.args.bodies.now c.args.touches.now contacts keys c.requires.contacts order))
+    subst (AreRowsAt contacts) (sym (returns-clause-value c))
+    (rows_beside c.args.scene.now c.args.bodies.now c.args.touches.now contacts keys c.requires.contacts order)
