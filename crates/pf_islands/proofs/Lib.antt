@@ -8,3 +8,5 @@ pub mod Chains
 pub mod Looked
 pub mod Sleeping
 pub mod ActiveRows
+pub mod Members
+pub mod Dealing

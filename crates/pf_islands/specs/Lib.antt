@@ -6,3 +6,5 @@ pub mod Forest
 pub mod Marks
 pub mod Island
 pub mod Rows
+pub mod Split
+pub mod Dealing

@@ -28,7 +28,7 @@ impl Model for Groups {
 }
 
 impl Groups {
-    ghost use Rattle.std.specs.Prelude.{◌≡◌, [], length, All, IfOk, IsOk};
+    ghost use Rattle.std.specs.Prelude.{◌≡◌, ◌<◌, [], length, All, IfOk, IsOk};
     ghost use Rattle.pf_manifold.specs.Touches.{IsTouchOf};
     ghost use Rattle.pf_islands.specs.Group.{groups};
     ghost use Rattle.pf_islands.specs.Sleep.{rested, woken};
@@ -47,6 +47,14 @@ impl Groups {
         link_all(&mut names, scene, touches);
         flatten(&mut names);
         Ok(Groups { names, marks })
+    }
+
+    /// The name of each body's group.
+    pub(crate) fn names(&self) -> &[usize]
+        ensures value { result.now ≡ self.now }
+        ensures named { All (λ name. name < length self.now) self.now }
+    {
+        self.names.as_slice()
     }
 
     /// The phase Activity: wakes the bodies of each group that has an awake one. Takes no memory.

@@ -3,9 +3,13 @@
 
 mod forest;
 mod groups;
+mod island;
 pub mod laws;
 mod marks;
 mod rows;
+mod splitting;
 
 pub use groups::Groups;
+pub use island::Island;
 pub use rows::active_rows;
+pub use splitting::split;

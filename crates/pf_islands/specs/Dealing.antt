@@ -1,0 +1,55 @@
+-- How islands are filled, body by body and contact by contact.
+use Rattle.std.specs.Prelude.{◌≡◌, ℕ, ◌<◌, true, List, [], ◌∷◌, ◌++◌, length, filter, slice_index_or}
+use Rattle.std.specs.List.{range_with_len}
+use Rattle.pf_shapes.specs.Body.{BodyState}
+use Rattle.pf_cache.specs.declared.row.Side.{Side}
+use Rattle.pf_cache.specs.declared.row.Side.TheVariants.{Static, Dynamic}
+use Rattle.pf_cache.specs.Row.{Row}
+use Rattle.pf_islands.specs.Island.{members, place_of}
+use Rattle.pf_islands.specs.Rows.{is_awake_at}
+use Rattle.pf_islands.specs.Split.{Island, is_active_name}
+
+-- how many groups that are simulated have lesser names: the place of a group among the islands
+abbrev pub slot_of : List ℕ → List BodyState → ℕ → ℕ
+slot_of names bodies name =
+    length (filter (is_active_name names bodies) (range_with_len 0 name))
+
+-- an island with one body more
+abbrev pub with_body : ℕ → BodyState → Island → Island
+with_body number body i = record i {
+  numbers = i.numbers ++ number ∷ [];
+  bodies = i.bodies ++ body ∷ [];
+}
+
+-- an island with one contact more
+abbrev pub with_row : Row → Island → Island
+with_row row i = record i { rows = i.rows ++ row ∷ [] }
+
+-- the name of the group of a contact: that of its first dynamic body
+abbrev pub group_of_sides : List ℕ → Side → Side → ℕ
+group_of_sides names (Dynamic n) second = slice_index_or names n 0
+group_of_sides names Static (Dynamic n) = slice_index_or names n 0
+group_of_sides names Static Static = 0
+
+abbrev pub group_of_row : List ℕ → Row → ℕ
+group_of_row names r = group_of_sides names r.entry.first r.entry.second
+
+-- the side that names a body by its place in place of its number
+abbrev pub placed_side : List ℕ → Side → Side
+placed_side places Static = Static
+placed_side places (Dynamic n) = Dynamic (slice_index_or places n 0)
+
+-- the contact with both sides by the places of their bodies
+abbrev pub placed_row : List ℕ → Row → Row
+placed_row places r = record r {
+  entry = record r.entry {
+    first = placed_side places r.entry.first;
+    second = placed_side places r.entry.second;
+  };
+}
+
+-- each awake body has its place in the island of its group
+abbrev pub ArePlaces : List ℕ → List BodyState → List ℕ → Type 0
+ArePlaces names bodies places =
+    (i : ℕ) → i < length names → is_awake_at bodies i ≡ true
+    → slice_index_or places i 0 ≡ place_of (members names (slice_index_or names i 0)) i
