@@ -1,5 +1,5 @@
 -- The rows of a tick.
-use Rattle.std.proofs.Common.{◌≡◌, ℕ, zero, suc, ◌+◌, ◌<◌, ◌≤◌, Bool, true, false, List, [], ◌∷◌, ◌++◌, Some, length, map, filter, take, take_all, get_or, cond, refl, ap, ap₂, sym, ◌∙◌, subst, arith, slice_get, if◌then◌else◌}
+use Rattle.std.proofs.Common.{◌≡◌, ℕ, suc, ◌+◌, ◌<◌, ◌≤◌, Bool, true, false, List, [], ◌∷◌, ◌++◌, Some, length, map, filter, take, take_all, get_or, cond, refl, ap, ap₂, sym, ◌∙◌, subst, arith, slice_get, if◌then◌else◌}
 use Rattle.std.proofs.lemmas.List.{append-nil, drop_all, get_or_read, map_more}
 use Rattle.std.proofs.lemmas.List.FromFn.{get_or-enumerate_from, length-enumerate_from}
 use Rattle.std.proofs.Math.ListN.{get_or-map}
@@ -11,7 +11,7 @@ use Rattle.std.specs.Prelude.{All, drop, pos}
 use Rattle.pf_rot.specs.Vector.{zero_vector}
 use Rattle.pf_shapes.specs.Body.{BodyState}
 use Rattle.pf_shapes.specs.Scene.{Scene, is_static_at}
-use Rattle.pf_manifold.specs.Key.{AreTouches, IsKey, IsRising, Key, key_of, rank}
+use Rattle.pf_manifold.specs.Key.{AreTouches, IsKey, IsRising, key_of, rank}
 use Rattle.pf_manifold.specs.Touches.{IsTouchOf, Touch}
 use Rattle.pf_manifold.proofs.Rising.{rising-weaken}
 use Rattle.pf_cache.specs.declared.row.Side.TheVariants.{Static, Dynamic}

@@ -1,6 +1,6 @@
 -- Islands, as Box2D 2.x's b2Island: some bodies that contacts connect, with the contacts that touch
 -- them. Its contacts name its bodies by their places in the island.
-use Rattle.std.specs.Prelude.{◌≡◌, ℕ, suc, ◌+◌, ◌==◌, pos, Bool, true, false, ◌||◌, List, [], ◌∷◌, All, length, map, filter, slice_index_or, if◌then◌else◌}
+use Rattle.std.specs.Prelude.{◌≡◌, ℕ, suc, ◌==◌, pos, Bool, true, false, ◌||◌, List, [], ◌∷◌, length, map, filter, slice_index_or, if◌then◌else◌}
 use Rattle.std.specs.List.{list_any, range_with_len}
 use Rattle.pf_rot.specs.Vector.{zero_vector}
 use Rattle.pf_rot.specs.Rotation.{upright}

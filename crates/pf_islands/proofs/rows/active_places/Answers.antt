@@ -1,4 +1,4 @@
-use Rattle.std.proofs.Common.{◌<◌, ◌∙◌, [], length, subst, sym}
+use Rattle.std.proofs.Common.{◌<◌, [], length, subst, sym}
 use Rattle.std.specs.Prelude.{All}
 use Rattle.pf_islands.proofs.ActiveRows.{none_left, places_within}
 use Rattle.pf_islands.proofs.rows.active_places.Goals as goal
