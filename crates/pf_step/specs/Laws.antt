@@ -1,6 +1,5 @@
 -- What laws of simulations speak of.
-use Rattle.std.specs.Prelude.{◌≡◌, ℕ, ◌==◌, pos, neg_ℤ, ◌≤ℤ◌, false, List, Some, filter, if◌then◌else◌, length, map, slice_get, slice_index_or}
-use Rattle.std.specs.List.{list_all, range_with_len}
+use Rattle.std.specs.Prelude.{◌≡◌, ℕ, pos, neg_ℤ, ◌≤ℤ◌, false, List, Some, slice_get}
 use Rattle.pf_num.specs.Fx.{product}
 use Rattle.pf_shapes.specs.Body.{BodyState}
 use Rattle.pf_shapes.specs.Scene.{Scene, fixture_at}
@@ -10,7 +9,7 @@ use Rattle.pf_commands.specs.Merge.{CommandMap, payloads_at}
 use Rattle.pf_cache.specs.Contact.{Impulses, updated}
 use Rattle.pf_islands.specs.Group.{groups}
 use Rattle.pf_islands.specs.Reach.{Reaches}
-use Rattle.pf_islands.specs.Sleep.{at_sleep, woken}
+use Rattle.pf_islands.specs.Sleep.{woken}
 use Rattle.pf_solver.specs.Constraint.{friction_of}
 use Rattle.pf_solver.specs.Solve.{solved}
 use Rattle.pf_solver.specs.Velocities.{Batch}
