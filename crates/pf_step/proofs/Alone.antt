@@ -11,6 +11,8 @@ use Rattle.pf_shapes.specs.Body.{BodyState}
 use Rattle.pf_shapes.specs.Scene.{Scene}
 use Rattle.pf_commands.specs.declared.payload.Payload.{Payload}
 use Rattle.pf_islands.specs.Sleep.{at_sleep, is_active, is_resting, rested, woken, rested_alone}
+use Rattle.pf_islands.proofs.ActiveRows.{map_where}
+use Rattle.pf_islands.proofs.Members.{chosen_pass, range_within}
 use Rattle.pf_islands.proofs.Starting.{groups_long}
 use Rattle.pf_solver.specs.declared.bodies.TheConstants.{STILL_TICKS}
 use Rattle.pf_solver.specs.Bodies.{after_motion, after_timer}
@@ -22,29 +24,10 @@ use Rattle.pf_step.specs.Commands.{after_commands}
 use Rattle.pf_step.specs.Laws.{batch_of_tick, names_of_tick}
 use Rattle.pf_step.specs.Step.{step, touching}
 use Rattle.pf_step.specs.World.{World}
-use Rattle.pf_step.proofs.Apart.{groups_alone, range_within}
+use Rattle.pf_step.proofs.Apart.{groups_alone}
 use Rattle.pf_step.proofs.Commanding.{commands_length}
 use Rattle.pf_step.proofs.Elements.{zip_at}
 use Rattle.pf_step.proofs.Lengths.{woken_length}
-
--- ---- lists
-
--- chosen elements pass the test
-chosen_pass : {X : Type 0} (p : X → Bool) (xs : List X) → All (λ x. p x ≡ true) (filter p xs)
-chosen_pass p [] = All-nil (λ x. p x ≡ true)
-chosen_pass p (x ∷ xs) = by (p x) refl (chosen_pass p xs)
-  where
-    by : (e : Bool) → p x ≡ e → All (λ y. p y ≡ true) (filter p xs)
-        → All (λ y. p y ≡ true) (cond e (x ∷ filter p xs) (filter p xs))
-    by true e rest = All-cons (λ y. p y ≡ true) x (filter p xs) e rest
-    by false e rest = rest
-
--- functions that agree where P holds
-map_where : {X Y : Type 0} (P : X → Type 0) (f g : X → Y) → ((x : X) → P x → f x ≡ g x) → (xs : List X)
-    → All P xs → map f xs ≡ map g xs
-map_where P f g same [] all = refl
-map_where P f g same (x ∷ xs) all =
-    ap₂ (λ y ys. y ∷ ys) (same x (All-head P x xs all)) (map_where P f g same xs (All-tail P x xs all))
 
 -- ---- members of a group
 

@@ -18,6 +18,7 @@ use Rattle.pf_islands.specs.Group.{group, groups}
 use Rattle.pf_islands.specs.Reach.{IsBetween, connects}
 use Rattle.pf_islands.specs.Sleep.{woken}
 use Rattle.pf_islands.proofs.Chains.{one_name}
+use Rattle.pf_islands.proofs.Members.{filter_rises, has_filter, has_range, range_rises, range_within}
 use Rattle.pf_islands.proofs.Starting.{groups_long}
 use Rattle.pf_solver.specs.Alone.{seen_from}
 use Rattle.pf_islands.specs.Island.{has_number, states_of, is_among, rows_among, IsOwnSide, IsOwnOrOther, members}
@@ -36,64 +37,6 @@ use Rattle.pf_step.proofs.Touching.{points_of_bodies}
 use Rattle.pf_step.proofs.Undisturbed.{neighbours_at}
 
 -- ---- members
-
--- a chosen number is one of the list, and is chosen
-has_filter : (p : ℕ → Bool) (xs : List ℕ) (i : ℕ)
-    → has_number (filter p xs) i ≡ (has_number xs i && p i)
-has_filter p [] i = refl
-has_filter p (x ∷ xs) i = by (p x) refl (x == i) refl (has_filter p xs i)
-  where
-    by : (c : Bool) → p x ≡ c → (e : Bool) → (x == i) ≡ e
-        → has_number (filter p xs) i ≡ (has_number xs i && p i)
-        → has_number (cond c (x ∷ filter p xs) (filter p xs)) i ≡ ((e || has_number xs i) && p i)
-    by true chosen true same rest =
-        ap (λ t. t || has_number (filter p xs) i) same
-        ∙ sym (ap p (sym ((Decides-eqb x i).0 same)) ∙ chosen)
-    by true chosen false other rest = ap (λ t. t || has_number (filter p xs) i) other ∙ rest
-    by false chosen true same rest =
-        let not_chosen : p i ≡ false = ap p (sym ((Decides-eqb x i).0 same)) ∙ chosen in
-        rest ∙ ap (λ t. has_number xs i && t) not_chosen ∙ and_false (has_number xs i)
-        ∙ sym not_chosen
-      where
-        and_false : (t : Bool) → (t && false) ≡ false
-        and_false true = refl
-        and_false false = refl
-    by false chosen false other rest = rest
-
--- a range has its numbers
-has_range : (start count i : ℕ) → start ≤ i → i < start + count
-    → has_number (range_with_len start count) i ≡ true
-has_range start zero i low high = absurd (omega (arith, low, high))
-has_range start (suc count) i low high = by (start == i) refl (λ other. has_range (start + 1) count i other (omega (arith, high)))
-  where
-    by : (e : Bool) → (start == i) ≡ e
-        → (start + 1 ≤ i → has_number (range_with_len (start + 1) count) i ≡ true)
-        → (e || has_number (range_with_len (start + 1) count) i) ≡ true
-    by true e rest = refl
-    by false e rest =
-        let apart : start ≢ i = λ same. true≢false (sym ((Decides-eqb start i).1 same) ∙ e) in
-        rest (omega (arith, low, apart))
-
-range_rises : (start count : ℕ) → IsRising start (range_with_len start count)
-range_rises start zero = tt
-range_rises start (suc count) =
-    (omega arith, rising-weaken (suc start) (start + 1) (range_with_len (start + 1) count) (omega arith) (range_rises (start + 1) count))
-
-pub range_within : (start count limit : ℕ) → start + count ≤ limit
-    → All (λ n. n < limit) (range_with_len start count)
-range_within start zero limit low = All-nil (λ n. n < limit)
-range_within start (suc count) limit low =
-    All-cons (λ n. n < limit) start (range_with_len (start + 1) count) (omega (arith, low))
-    (range_within (start + 1) count limit (omega (arith, low)))
-
--- chosen numbers still rise
-filter_rises : (p : ℕ → Bool) (least : ℕ) (xs : List ℕ) → IsRising least xs → IsRising least (filter p xs)
-filter_rises p least [] h = tt
-filter_rises p least (x ∷ xs) h = by (p x) (filter_rises p (suc x) xs h.1)
-  where
-    by : (c : Bool) → IsRising (suc x) (filter p xs) → IsRising least (cond c (x ∷ filter p xs) (filter p xs))
-    by true rest = (h.0, rest)
-    by false rest = rising-weaken least (suc x) (filter p xs) (omega (arith, h.0)) rest
 
 module _ (s : Scene) (touches : List Touch) (name : ℕ) where
   abbrev names : List ℕ
