@@ -1,0 +1,17 @@
+-- The bounds of the bodies that a zip has left.
+use Rattle.std.proofs.Common.{◌≡◌, ◌⊎◌, List, [], ◌∷◌, refl, ap, ◌∙◌, ⊎_elim}
+use Rattle.pf_shapes.specs.Fixture.{Fixture}
+use Rattle.pf_shapes.specs.Body.{BodyState}
+use Rattle.pf_broad.specs.Pairs.{all_bounds}
+
+no_bodies : (fixtures : List Fixture) → all_bounds fixtures [] ≡ []
+no_bodies [] = refl
+no_bodies (f ∷ fixtures) = refl
+
+-- where a list has ended no bounds are left
+pub bounds_of_none : (fixtures : List Fixture) (bodies : List BodyState) → (fixtures ≡ []) ⊎ (bodies ≡ []) → all_bounds fixtures bodies ≡ []
+bounds_of_none fixtures bodies ended =
+    ⊎_elim
+    (λ (none : fixtures ≡ []). ap (λ fs. all_bounds fs bodies) none)
+    (λ (none : bodies ≡ []). ap (all_bounds fixtures) none ∙ no_bodies fixtures)
+    ended
