@@ -1,5 +1,5 @@
 -- The bounds of the bodies that a zip has left.
-use Rattle.std.proofs.Common.{◌≡◌, ◌⊎◌, List, [], ◌∷◌, refl, ap, ◌∙◌, ⊎_elim}
+use Rattle.std.proofs.Common.{◌≡◌, ◌≤◌, ◌⊎◌, List, [], ◌∷◌, length, refl, ap, ◌∙◌, ⊎_elim, arith}
 use Rattle.pf_shapes.specs.Fixture.{Fixture}
 use Rattle.pf_shapes.specs.Body.{BodyState}
 use Rattle.pf_broad.specs.Pairs.{all_bounds}
@@ -15,3 +15,9 @@ bounds_of_none fixtures bodies ended =
     (λ (none : fixtures ≡ []). ap (λ fs. all_bounds fs bodies) none)
     (λ (none : bodies ≡ []). ap (all_bounds fixtures) none ∙ no_bodies fixtures)
     ended
+
+-- no more bounds than fixtures
+pub length-all_bounds_le : (fixtures : List Fixture) (bodies : List BodyState) → length (all_bounds fixtures bodies) ≤ length fixtures
+length-all_bounds_le [] bodies = omega arith
+length-all_bounds_le (f ∷ fixtures) [] = omega arith
+length-all_bounds_le (f ∷ fixtures) (b ∷ bodies) = omega (arith, length-all_bounds_le fixtures bodies)

@@ -1,6 +1,6 @@
 //! Pairs of bodies whose bounds overlap, as Box2D's `b2BroadPhase::UpdatePairs` finds them.
 
-ghost use Rattle.std.specs.Prelude.{◌≡◌, ◌<◌, ◌++◌, [], length, map, All, IfOk, IsOk, OnOk};
+ghost use Rattle.std.specs.Prelude.{◌≡◌, ◌<◌, ◌≤◌, ◌++◌, [], length, map, All, IfOk, IsOk, OnOk};
 ghost use Rattle.pf_shapes.specs.Bounds.{IsOrdered};
 ghost use Rattle.pf_shapes.specs.Pair.{IsAscending, IsPairOf};
 ghost use Rattle.pf_broad.specs.Pairs.{all_bounds, pair, pairs};
@@ -9,7 +9,7 @@ ghost use Rattle.pf_broad.specs.Grid.{IsGridOf};
 use crate::bodies::all_bounds;
 use crate::grid::Grid;
 use crate::partners::find_partners;
-use pf_shapes::{BodyState, Bounds, Pair, Scene};
+use pf_shapes::{BodyState, Bounds, MAX_BODIES, Pair, Scene};
 use std::alloc::{AllocError, Global};
 
 /// The pairs of bodies, at most one of them static, whose bounds overlap in these states: in
@@ -35,6 +35,7 @@ pub fn pairs(alloc: Global, scene: &Scene, bodies: &[BodyState]) -> Result<Vec<P
 #[inline(never)]
 fn all_pairs(alloc: Global, grid: &Grid, bounds: &[Bounds]) -> Result<Vec<Pair>, AllocError>
     requires grid { IsGridOf bounds.now grid.now }
+    requires few { length bounds.now ≤ MAX_BODIES }
     requires ordered { All IsOrdered bounds.now }
     ensures { IfOk result (λ found. found.items ≡ pairs bounds.now) }
 {
@@ -49,11 +50,14 @@ fn all_pairs(alloc: Global, grid: &Grid, bounds: &[Bounds]) -> Result<Vec<Pair>,
 
 /// Adds the pairs of one body with others.
 #[inline]
-fn add_pairs(found: &mut Vec<Pair>, i: usize, partners: &[usize]) -> Result<(), AllocError>
+fn add_pairs(found: &mut Vec<Pair>, i: usize, partners: &[u16]) -> Result<(), AllocError>
     ensures { OnOk result (found.new.items ≡ found.old.items ++ map (pair i) partners.now) }
 {
     for j in partners {
-        found.push(Pair { a: i, b: *j })?;
+        found.push(Pair {
+            a: i,
+            b: usize::from(*j),
+        })?;
     }
     Ok(())
 }

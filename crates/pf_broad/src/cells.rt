@@ -16,11 +16,11 @@ use std::alloc::{AllocError, Global};
 const INLINE_BODIES: usize = 8;
 
 /// The bodies of each cell that has some.
-pub(crate) type Cells = IndexMap<Cell, SmallVec<usize, INLINE_BODIES>, CellHasher>;
+pub(crate) type Cells = IndexMap<Cell, SmallVec<u16, INLINE_BODIES>, CellHasher>;
 
 /// Adds a body to a cell.
 #[inline]
-fn add_to_cell(alloc: Global, cells: &mut Cells, cell: Cell, body: usize) -> Result<(), AllocError>
+fn add_to_cell(alloc: Global, cells: &mut Cells, cell: Cell, body: u16) -> Result<(), AllocError>
     ensures { OnOk result ((c : Cell) → stored_in cells.new c
         ≡ with_body (cell_eq cell c) body (stored_in cells.old c)) }
 {
@@ -41,7 +41,7 @@ fn add_to_column(
     cells: &mut Cells,
     x: i64,
     range: CellRange,
-    body: usize,
+    body: u16,
 ) -> Result<(), AllocError>
     requires { IsCellRange range }
     ensures { OnOk result ((c : Cell) → stored_in cells.new c
@@ -59,7 +59,7 @@ pub(crate) fn add_body(
     alloc: Global,
     cells: &mut Cells,
     range: CellRange,
-    body: usize,
+    body: u16,
 ) -> Result<(), AllocError>
     requires { IsCellRange range }
     ensures { OnOk result ((c : Cell) → stored_in cells.new c

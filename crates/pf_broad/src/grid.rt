@@ -5,7 +5,7 @@ use crate::cell::{Cell, CellRange};
 use crate::cells::{Cells, add_body};
 use crate::hasher::CellHasher;
 use indexmap::IndexMap;
-use pf_shapes::{BodyState, Bounds, Scene};
+use pf_shapes::{BodyState, Bounds, MAX_BODIES, Scene};
 use std::alloc::{AllocError, Global};
 use std::marker::Model;
 
@@ -16,7 +16,7 @@ use std::marker::Model;
 #[derive(Drop)]
 pub struct Grid {
     cells: Cells,
-    wide: Vec<usize>,
+    wide: Vec<u16>,
 }
 
 impl Model for Grid {
@@ -32,7 +32,7 @@ impl Model for Grid {
 }
 
 impl Grid {
-    ghost use Rattle.std.specs.Prelude.{◌≡◌, All, IfOk};
+    ghost use Rattle.std.specs.Prelude.{◌≡◌, ◌≤◌, length, All, IfOk};
     ghost use Rattle.std.specs.FinMap.{get};
     ghost use Rattle.pf_shapes.specs.Bounds.{IsOrdered};
     ghost use Rattle.pf_broad.specs.declared.cell.Cell.{Cell};
@@ -53,7 +53,8 @@ impl Grid {
     /// The grid of bodies with these bounds.
     #[inline(never)]
     pub(crate) fn of_bounds(alloc: Global, bounds: &[Bounds]) -> Result<Grid, AllocError>
-        requires { All IsOrdered bounds.now }
+        requires few { length bounds.now ≤ MAX_BODIES }
+        requires ordered { All IsOrdered bounds.now }
         ensures { IfOk result (IsGridOf bounds.now) }
     {
         let start = CellHasher::START;
@@ -62,9 +63,9 @@ impl Grid {
         for i in 0..bounds.len() {
             let range = CellRange::of(&bounds[i]);
             if range.is_wide() {
-                wide.push(i)?;
+                wide.push(i as u16)?;
             } else {
-                add_body(alloc, &mut cells, range, i)?;
+                add_body(alloc, &mut cells, range, i as u16)?;
             }
         }
         Ok(Grid { cells, wide })
@@ -72,7 +73,7 @@ impl Grid {
 
     /// The bodies that are listed in a cell, in ascending order.
     #[inline]
-    pub fn bodies_in(&self, cell: Cell) -> &[usize]
+    pub fn bodies_in(&self, cell: Cell) -> &[u16]
         ensures { result.now ≡ bodies_in self.now cell }
     {
         match self.cells.get(&cell) {
@@ -83,7 +84,7 @@ impl Grid {
 
     /// The wide bodies, in ascending order.
     #[inline]
-    pub fn wide(&self) -> &[usize]
+    pub fn wide(&self) -> &[u16]
         ensures { result.now ≡ self.now.wide }
     {
         self.wide.as_slice()

@@ -1,7 +1,7 @@
 //! The bodies that one body may touch, found in the grid.
 
-ghost use Rattle.std.specs.Prelude.{◌≡◌, ℕ, ◌<◌, ◌&&◌, ◌||◌, ◌++◌, length, filter, All, OnOk};
-ghost use Rattle.pf_shapes.specs.Bounds.{IsOrdered};
+ghost use Rattle.std.specs.Prelude.{◌≡◌, ℕ, ◌<◌, ◌≤◌, ◌&&◌, ◌||◌, ◌++◌, length, filter, All, OnOk};
+ghost use Rattle.pf_shapes.specs.Bounds.{IsOrdered, ranges_overlap};
 ghost use Rattle.pf_broad.specs.Pairs.{is_pair, may_touch, partners_of};
 ghost use Rattle.pf_broad.specs.Cell.{IsCellRange};
 ghost use Rattle.pf_broad.specs.Grid.{IsGridOf};
@@ -9,19 +9,21 @@ ghost use Rattle.pf_broad.specs.Partners.{has_body, is_found, is_found_in_column
 
 use crate::cell::{Cell, CellRange};
 use crate::grid::Grid;
-use pf_shapes::Bounds;
+use pf_num::Fx;
+use pf_shapes::{Bounds, MAX_BODIES};
 use std::alloc::AllocError;
 
 /// Finds the bodies of greater numbers that a body may touch, in ascending order, each once. Most
 /// are found in more than one cell; the bounds are tested first, so few are left to sort.
 pub(crate) fn find_partners(
-    partners: &mut Vec<usize>,
+    partners: &mut Vec<u16>,
     grid: &Grid,
     bounds: &[Bounds],
     i: usize,
 ) -> Result<(), AllocError>
     requires body { i < length bounds.now }
     requires grid { IsGridOf bounds.now grid.now }
+    requires few { length bounds.now ≤ MAX_BODIES }
     requires ordered { All IsOrdered bounds.now }
     ensures { OnOk result (partners.new.items ≡ partners_of bounds.now i) }
 {
@@ -39,15 +41,16 @@ pub(crate) fn find_partners(
 
 /// Adds the later bodies that a body may touch, by a test of each.
 #[inline(never)]
-fn add_later(partners: &mut Vec<usize>, bounds: &[Bounds], i: usize) -> Result<(), AllocError>
-    requires { i < length bounds.now }
+fn add_later(partners: &mut Vec<u16>, bounds: &[Bounds], i: usize) -> Result<(), AllocError>
+    requires body { i < length bounds.now }
+    requires few { length bounds.now ≤ MAX_BODIES }
     ensures { OnOk result
         (partners.new.items ≡ partners.old.items ++ partners_of bounds.now i) }
 {
     let body = &bounds[i];
     for j in i + 1..bounds.len() {
         if may_touch(body, &bounds[j]) {
-            partners.push(j)?;
+            partners.push(j as u16)?;
         }
     }
     Ok(())
@@ -56,7 +59,7 @@ fn add_later(partners: &mut Vec<usize>, bounds: &[Bounds], i: usize) -> Result<(
 /// Adds the later bodies that a body may touch and that are listed in a cell of the range, some of
 /// them more than once.
 fn add_from_cells(
-    partners: &mut Vec<usize>,
+    partners: &mut Vec<u16>,
     grid: &Grid,
     bounds: &[Bounds],
     i: usize,
@@ -79,7 +82,7 @@ fn add_from_cells(
 /// The same for the cells of the range that are in column `x`.
 #[inline]
 fn add_from_column(
-    partners: &mut Vec<usize>,
+    partners: &mut Vec<u16>,
     grid: &Grid,
     bounds: &[Bounds],
     i: usize,
@@ -103,10 +106,10 @@ fn add_from_column(
 /// Adds those of some bodies that are later and that a body may touch.
 #[inline]
 fn add_touching(
-    partners: &mut Vec<usize>,
+    partners: &mut Vec<u16>,
     bounds: &[Bounds],
     i: usize,
-    others: &[usize],
+    others: &[u16],
 ) -> Result<(), AllocError>
     requires body { i < length bounds.now }
     requires others { AreBodies bounds.now others.now }
@@ -115,19 +118,30 @@ fn add_touching(
 {
     let body = &bounds[i];
     for other in others {
-        let j = *other;
+        let j = usize::from(*other);
         if i < j && may_touch(body, &bounds[j]) {
-            partners.push(j)?;
+            partners.push(*other)?;
         }
     }
     Ok(())
 }
 
-/// Whether two bodies with these bounds may touch: not both are static, and the bounds overlap.
+/// Whether two bodies with these bounds may touch: not both are static, and the bounds overlap. All
+/// is compared, since a branch after each comparison takes longer.
 #[inline]
-#[tactic(auto, unfolding(crate::specs::Pairs::may_touch))]
+#[tactic(auto, unfolding(crate::specs::Pairs::may_touch, pf_shapes::specs::Bounds::overlaps))]
 fn may_touch(a: &Bounds, b: &Bounds) -> bool
     ensures { result ≡ may_touch a.now b.now }
 {
-    !(a.is_static && b.is_static) && a.overlaps(b)
+    !(a.is_static & b.is_static)
+        & (ranges_overlap(a.low.x, a.high.x, b.low.x, b.high.x)
+            & ranges_overlap(a.low.y, a.high.y, b.low.y, b.high.y))
+}
+
+/// Whether two closed ranges on one axis have a point in common.
+#[inline]
+fn ranges_overlap(low: Fx, high: Fx, other_low: Fx, other_high: Fx) -> bool
+    ensures { result ≡ ranges_overlap low high other_low other_high }
+{
+    (low <= other_high) & (other_low <= high)
 }

@@ -11,7 +11,7 @@ loop-j-init c = search (rules, arith, below-start)
 pub loop-j-preserved : goal.loop-j-preserved
 loop-j-preserved c =
     let bs = c.args.bounds.now in
-    let first = get_or_read bs c.args.i c.index-bounds-i.result c.requires c.index-bounds-i.is no_bounds in
+    let first = get_or_read bs c.args.i c.index-bounds-i.result c.requires.body c.index-bounds-i.is no_bounds in
     let second = get_or_read bs c.loop-j.j c.index-bounds-j.result c.loop-j-test.true c.index-bounds-j.is no_bounds in
     let is_touching : c.may_touch.result ≡ may_touch (bounds_at bs c.args.i) (bounds_at bs c.loop-j.j) = cc in
     elim c.if-may_touch.branch [
