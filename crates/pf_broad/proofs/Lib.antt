@@ -14,3 +14,4 @@ pub mod Listing
 pub mod StoredCells
 pub mod Gridding
 pub mod Partnering
+pub mod SharedCells

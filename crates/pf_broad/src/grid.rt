@@ -32,22 +32,37 @@ impl Model for Grid {
 }
 
 impl Grid {
-    ghost use Rattle.std.specs.Prelude.{◌≡◌, ◌≤◌, length, All, IfOk};
+    ghost use Rattle.std.specs.Prelude.{◌≡◌, ◌≤◌, [], length, All, IfOk, IsOk};
     ghost use Rattle.std.specs.FinMap.{get};
     ghost use Rattle.pf_shapes.specs.Bounds.{IsOrdered};
     ghost use Rattle.pf_broad.specs.declared.cell.Cell.{Cell};
     ghost use Rattle.pf_broad.specs.Pairs.{all_bounds};
     ghost use Rattle.pf_broad.specs.Grid.{IsGridOf, bodies_in, members, unless_empty, wide};
 
-    /// The grid of these bodies of a scene. It takes memory for it.
+    /// The grid of these bodies of a scene. It takes memory for their bounds and for the grid; for
+    /// no bodies it takes none, and can't fail.
     pub fn of(alloc: Global, scene: &Scene, bodies: &[BodyState]) -> Result<Grid, AllocError>
         ensures cells { IfOk result (λ grid. (cell : Cell) → get grid.cells cell
             ≡ unless_empty (members (all_bounds scene.now.fixtures bodies.now) cell)) }
         ensures wide { IfOk result
             (λ grid. grid.wide ≡ wide (all_bounds scene.now.fixtures bodies.now)) }
+        ensures no_memory { bodies.now ≡ [] → IsOk result }
     {
+        if bodies.is_empty() {
+            return Ok(Grid::empty(alloc));
+        }
         let bounds = all_bounds(alloc, scene, bodies)?;
         Grid::of_bounds(alloc, &bounds)
+    }
+
+    /// The grid of no bodies. It takes no memory.
+    fn empty(alloc: Global) -> Grid
+        ensures { IsGridOf [] result }
+    {
+        Grid {
+            cells: IndexMap::with_hasher(alloc, CellHasher::START),
+            wide: Vec::new(alloc),
+        }
     }
 
     /// The grid of bodies with these bounds.

@@ -13,8 +13,8 @@ use pf_num::Fx;
 use pf_shapes::{Bounds, MAX_BODIES};
 use std::alloc::AllocError;
 
-/// Finds the bodies of greater numbers that a body may touch, in ascending order, each once. Most
-/// are found in more than one cell; the bounds are tested first, so few are left to sort.
+/// Finds the bodies of greater numbers that a body may touch, in ascending order, each once. Some
+/// are found in more than one cell; the bounds are tested first, so that few are left to sort.
 pub(crate) fn find_partners(
     partners: &mut Vec<u16>,
     grid: &Grid,
