@@ -1,29 +1,12 @@
 -- The pairs ascend.
-use Rattle.std.proofs.Common.{◌≡◌, ℕ, zero, suc, ◌+◌, ◌<◌, ◌≤◌, Bool, true, false, cond, List, [], ◌∷◌, ◌++◌, length, refl, arith, map, nat_lt}
+use Rattle.std.proofs.Common.{◌≡◌, ℕ, zero, suc, ◌+◌, ◌<◌, ◌≤◌, true, List, [], ◌∷◌, ◌++◌, length, refl, arith, map, nat_lt}
 use Rattle.std.proofs.lemmas.Bool.Decides.{nat_tests}
 use Rattle.std.specs.List.{range_with_len, filter, flat_map, AllByRecursion}
 use Rattle.pf_shapes.specs.Bounds.{Bounds}
 use Rattle.pf_broad.specs.Pairs.{is_pair, pair, pairs_of, pairs}
 use Rattle.pf_shapes.specs.Pair.{IsAscending, Pair, is_before}
 use Rattle.pf_broad.proofs.Each.{append_each}
-
--- ascending numbers, from low on
-abbrev IsUp : ℕ → List ℕ → Type 0
-IsUp low [] = Unit {0}
-IsUp low (x ∷ xs) = (low ≤ x) × IsUp (x + 1) xs
-
-IsUp-from : (low low' : ℕ) (xs : List ℕ) → low' ≤ low → IsUp low xs → IsUp low' xs
-IsUp-from low low' [] h up = tt
-IsUp-from low low' (x ∷ xs) h up = (omega arith, up.1)
-
-IsUp-filter : (p : ℕ → Bool) (a n : ℕ) → IsUp a (filter p (range_with_len a n))
-IsUp-filter p a zero = tt
-IsUp-filter p a (suc n) =
-    let rest = filter p (range_with_len (a + 1) n) in
-    elim (p a) as (λ b. IsUp a (cond b (a ∷ rest) rest)) [
-      | true ↦ (omega arith, IsUp-filter p (a + 1) n)
-      | false ↦ IsUp-from (a + 1) a rest (omega arith) (IsUp-filter p (a + 1) n)
-    ]
+use Rattle.pf_broad.proofs.Rising.{IsUp, IsUp-filter}
 
 -- the first body of each pair is low or later
 abbrev AreFrom : ℕ → List Pair → Type 0

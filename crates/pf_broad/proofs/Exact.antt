@@ -1,5 +1,5 @@
 -- The pairs are those of bodies that may touch, and no others.
-use Rattle.std.proofs.Common.{◌≡◌, ℕ, Bool, true, false, cond, ◌&&◌, ◌||◌, List, [], ◌∷◌, length, refl, sym, ap, ◌∙◌, arith, map, nat_lt, nat_eq, eqb-true}
+use Rattle.std.proofs.Common.{◌≡◌, ℕ, Bool, true, false, ◌&&◌, ◌||◌, List, [], ◌∷◌, length, refl, sym, ap, ◌∙◌, arith, map, nat_lt, nat_eq}
 use Rattle.std.proofs.lemmas.Bool.Decides.{nat_tests}
 use Rattle.std.proofs.lemmas.List.Folds.{list_any-append}
 use Rattle.std.proofs.Math.Bool.{and-or_distrib_left, and_comm}
@@ -8,50 +8,25 @@ use Rattle.pf_shapes.specs.Bounds.{Bounds}
 use Rattle.pf_broad.specs.Pairs.{bounds_at, may_touch, is_pair, pair, pairs_of}
 use Rattle.pf_broad.specs.Laws.{has_pair, IsExact}
 use Rattle.pf_shapes.specs.Pair.{Pair}
-use Rattle.pf_broad.proofs.Ranges.{has, has-below}
-
--- a test of a number that is asked only where the number is j
-at_equal : (p : ℕ → Bool) (x j : ℕ) → (nat_eq x j && p x) ≡ (nat_eq x j && p j)
-at_equal p x j =
-    elim (nat_eq x j) as (λ b. nat_eq x j ≡ b → (b && p x) ≡ (b && p j)) [
-      | true ↦ λ same. ap p (eqb-true x j same)
-      | false ↦ λ _. refl
-    ] refl
-
--- a number that is left out, and one that is kept
-kept_or_not : (e p q h : Bool) → (e && p) ≡ (e && q) → cond p (e || (q && h)) (q && h) ≡ (q && (e || h))
-kept_or_not true true q h same = rw (← same) refl
-kept_or_not true false q h same = rw (← same) refl
-kept_or_not false p true h same = elim p as (λ b. cond b h h ≡ h) [ true ↦ refl | false ↦ refl ]
-kept_or_not false p false h same = elim p as (λ b. cond b false false ≡ false) [ true ↦ refl | false ↦ refl ]
-
-has-cond : (p : ℕ → Bool) (x : ℕ) (ys : List ℕ) (j : ℕ) → has (cond (p x) (x ∷ ys) ys) j ≡ cond (p x) (nat_eq x j || has ys j) (has ys j)
-has-cond p x ys j = elim (p x) as (λ b. has (cond b (x ∷ ys) ys) j ≡ cond b (nat_eq x j || has ys j) (has ys j)) [ true ↦ refl | false ↦ refl ]
-
--- a filter has a number where the list has it and it passes
-has-filter : (p : ℕ → Bool) (xs : List ℕ) (j : ℕ) → has (filter p xs) j ≡ (p j && has xs j)
-has-filter p [] j = elim (p j) as (λ b. false ≡ (b && false)) [ true ↦ refl | false ↦ refl ]
-has-filter p (x ∷ xs) j =
-    has-cond p x (filter p xs) j
-    ∙ ap (λ h. cond (p x) (nat_eq x j || h) h) (has-filter p xs j)
-    ∙ kept_or_not (nat_eq x j) (p x) (p j) (has xs j) (at_equal p x j)
+use Rattle.pf_broad.specs.Partners.{has_body}
+use Rattle.pf_broad.proofs.Ranges.{at_equal, has_body-filter, has_body-below}
 
 -- pairs of body k have i as their first body where it is k
-has_pair-map : (k i j : ℕ) (xs : List ℕ) → has_pair (map (pair k) xs) i j ≡ (nat_eq k i && has xs j)
+has_pair-map : (k i j : ℕ) (xs : List ℕ) → has_pair (map (pair k) xs) i j ≡ (nat_eq k i && has_body xs j)
 has_pair-map k i j [] = elim (nat_eq k i) as (λ b. false ≡ (b && false)) [ true ↦ refl | false ↦ refl ]
 has_pair-map k i j (x ∷ xs) =
-    ap (λ h. (nat_eq k i && nat_eq x j) || h) (has_pair-map k i j xs) ∙ sym (and-or_distrib_left (nat_eq k i) (nat_eq x j) (has xs j))
+    ap (λ h. (nat_eq k i && nat_eq x j) || h) (has_pair-map k i j xs) ∙ sym (and-or_distrib_left (nat_eq k i) (nat_eq x j) (has_body xs j))
 
 -- one of the lists has it
 has_pair-flat_map : (f : ℕ → List Pair) (g : ℕ → Bool) (i j : ℕ) → ((x : ℕ) → has_pair (f x) i j ≡ (nat_eq x i && g x))
-    → (xs : List ℕ) → has_pair (flat_map f xs) i j ≡ (g i && has xs i)
+    → (xs : List ℕ) → has_pair (flat_map f xs) i j ≡ (g i && has_body xs i)
 has_pair-flat_map f g i j each [] = elim (g i) as (λ b. false ≡ (b && false)) [ true ↦ refl | false ↦ refl ]
 has_pair-flat_map f g i j each (x ∷ xs) =
     list_any-append (λ (p : Pair). nat_eq p.a i && nat_eq p.b j) (f x) (flat_map f xs)
     ∙ ap (λ b. b || has_pair (flat_map f xs) i j) (each x ∙ at_equal g x i)
     ∙ ap (λ b. (nat_eq x i && g i) || b) (has_pair-flat_map f g i j each xs)
-    ∙ ap (λ b. b || (g i && has xs i)) (and_comm (nat_eq x i) (g i))
-    ∙ sym (and-or_distrib_left (g i) (nat_eq x i) (has xs i))
+    ∙ ap (λ b. b || (g i && has_body xs i)) (and_comm (nat_eq x i) (g i))
+    ∙ sym (and-or_distrib_left (g i) (nat_eq x i) (has_body xs i))
 
 -- the first body is before the second, which is one of n, so the first is one of them
 in_range : (m : Bool) (i j n : ℕ) → (((nat_lt i j && m) && nat_lt j n) && nat_lt i n) ≡ (nat_lt i j && (nat_lt j n && m))
@@ -62,11 +37,11 @@ in_range false i j n = grind (arith, nat_tests)
 pub has_pair-pairs_of : (bs : List Bounds) (x i j : ℕ) → has_pair (pairs_of bs x) i j ≡ (nat_eq x i && (is_pair bs x j && nat_lt j (length bs)))
 has_pair-pairs_of bs x i j =
     has_pair-map x i j (filter (is_pair bs x) (range_with_len 0 (length bs)))
-    ∙ ap (λ b. nat_eq x i && b) (has-filter (is_pair bs x) (range_with_len 0 (length bs)) j
-    ∙ ap (λ b. is_pair bs x j && b) (has-below (length bs) j))
+    ∙ ap (λ b. nat_eq x i && b) (has_body-filter (is_pair bs x) (range_with_len 0 (length bs)) j
+    ∙ ap (λ b. is_pair bs x j && b) (has_body-below (length bs) j))
 
 pub exact : (bs : List Bounds) → IsExact bs
 exact bs i j =
     has_pair-flat_map (pairs_of bs) (λ x. is_pair bs x j && nat_lt j (length bs)) i j (λ x. has_pair-pairs_of bs x i j) (range_with_len 0 (length bs))
-    ∙ ap (λ b. (is_pair bs i j && nat_lt j (length bs)) && b) (has-below (length bs) i)
+    ∙ ap (λ b. (is_pair bs i j && nat_lt j (length bs)) && b) (has_body-below (length bs) i)
     ∙ in_range (may_touch (bounds_at bs i) (bounds_at bs j)) i j (length bs)

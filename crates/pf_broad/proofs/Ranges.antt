@@ -1,7 +1,8 @@
 -- Filters of ranges, one number more at a time, and what stands in them.
-use Rattle.std.proofs.Common.{◌≡◌, ℕ, zero, suc, ◌+◌, ◌<◌, Bool, true, false, cond, ◌&&◌, List, [], ◌∷◌, ◌++◌, refl, sym, ap, ◌∙◌, arith, nat_lt, nat_le, nat_eq, append-nil, append_assoc}
+use Rattle.std.proofs.Common.{◌≡◌, ℕ, zero, suc, ◌+◌, ◌<◌, Bool, true, false, cond, ◌&&◌, ◌||◌, List, [], ◌∷◌, ◌++◌, refl, sym, ap, ◌∙◌, arith, nat_lt, nat_le, nat_eq, eqb-true, append-nil, append_assoc}
 use Rattle.std.proofs.lemmas.Bool.Decides.{nat_tests}
-use Rattle.std.specs.List.{range_with_len, filter, list_any, flat_map}
+use Rattle.std.specs.List.{range_with_len, filter, flat_map}
+use Rattle.pf_broad.specs.Partners.{has_body}
 
 -- the range has j more
 pub filter-range_suc : (p : ℕ → Bool) (a n j : ℕ) → a + n ≡ j
@@ -27,13 +28,35 @@ pub filter-range_none : (p : ℕ → Bool) (a n : ℕ) → ((k : ℕ) → k < a 
 filter-range_none p a zero h = refl
 filter-range_none p a (suc n) h = rw (h a (omega arith)) (filter-range_none p (a + 1) n (λ k l. h k (omega arith)))
 
--- whether a number stands in a list
-abbrev pub has : List ℕ → ℕ → Bool
-has xs j = list_any (λ y. nat_eq y j) xs
+-- a test of a number that is asked only where the number is j
+pub at_equal : (p : ℕ → Bool) (x j : ℕ) → (nat_eq x j && p x) ≡ (nat_eq x j && p j)
+at_equal p x j =
+    elim (nat_eq x j) as (λ b. nat_eq x j ≡ b → (b && p x) ≡ (b && p j)) [
+      | true ↦ λ same. ap p (eqb-true x j same)
+      | false ↦ λ _. refl
+    ] refl
 
-has-range : (a n j : ℕ) → has (range_with_len a n) j ≡ (nat_le a j && nat_lt j (a + n))
-has-range a zero j = grind (arith, nat_tests)
-has-range a (suc n) j = rw (has-range (a + 1) n j) (grind (arith, nat_tests))
+-- a number that is left out, and one that is kept
+kept_or_not : (e p q h : Bool) → (e && p) ≡ (e && q) → cond p (e || (q && h)) (q && h) ≡ (q && (e || h))
+kept_or_not true true q h same = rw (← same) refl
+kept_or_not true false q h same = rw (← same) refl
+kept_or_not false p true h same = elim p as (λ b. cond b h h ≡ h) [ true ↦ refl | false ↦ refl ]
+kept_or_not false p false h same = elim p as (λ b. cond b false false ≡ false) [ true ↦ refl | false ↦ refl ]
 
-pub has-below : (n j : ℕ) → has (range_with_len 0 n) j ≡ nat_lt j n
-has-below n j = rw (has-range 0 n j) (grind (arith, nat_tests))
+has_body-cond : (p : ℕ → Bool) (x : ℕ) (ys : List ℕ) (j : ℕ) → has_body (cond (p x) (x ∷ ys) ys) j ≡ cond (p x) (nat_eq x j || has_body ys j) (has_body ys j)
+has_body-cond p x ys j = elim (p x) as (λ b. has_body (cond b (x ∷ ys) ys) j ≡ cond b (nat_eq x j || has_body ys j) (has_body ys j)) [ true ↦ refl | false ↦ refl ]
+
+-- a filter has a number where the list has it and it passes
+pub has_body-filter : (p : ℕ → Bool) (xs : List ℕ) (j : ℕ) → has_body (filter p xs) j ≡ (p j && has_body xs j)
+has_body-filter p [] j = elim (p j) as (λ b. false ≡ (b && false)) [ true ↦ refl | false ↦ refl ]
+has_body-filter p (x ∷ xs) j =
+    has_body-cond p x (filter p xs) j
+    ∙ ap (λ h. cond (p x) (nat_eq x j || h) h) (has_body-filter p xs j)
+    ∙ kept_or_not (nat_eq x j) (p x) (p j) (has_body xs j) (at_equal p x j)
+
+has_body-range : (a n j : ℕ) → has_body (range_with_len a n) j ≡ (nat_le a j && nat_lt j (a + n))
+has_body-range a zero j = grind (arith, nat_tests)
+has_body-range a (suc n) j = rw (has_body-range (a + 1) n j) (grind (arith, nat_tests))
+
+pub has_body-below : (n j : ℕ) → has_body (range_with_len 0 n) j ≡ nat_lt j n
+has_body-below n j = rw (has_body-range 0 n j) (grind (arith, nat_tests))

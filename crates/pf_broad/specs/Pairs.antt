@@ -31,9 +31,13 @@ is_pair bs i j = nat_lt i j && may_touch (bounds_at bs i) (bounds_at bs j)
 abbrev pub pair : ℕ → ℕ → Pair
 pair i j = record { a = i; b = j }
 
+-- the bodies of greater numbers that a body may touch, in ascending order
+abbrev pub partners_of : List Bounds → ℕ → List ℕ
+partners_of bs i = filter (is_pair bs i) (range_with_len 0 (length bs))
+
 -- the pairs of one body with those of greater numbers, in ascending order
 abbrev pub pairs_of : List Bounds → ℕ → List Pair
-pairs_of bs i = map (pair i) (filter (is_pair bs i) (range_with_len 0 (length bs)))
+pairs_of bs i = map (pair i) (partners_of bs i)
 
 -- the pairs of all bodies, in ascending order
 abbrev pub pairs : List Bounds → List Pair

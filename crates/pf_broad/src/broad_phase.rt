@@ -1,15 +1,20 @@
 //! Pairs of bodies whose bounds overlap, as Box2D's `b2BroadPhase::UpdatePairs` finds them.
 
-ghost use Rattle.std.specs.Prelude.{◌≡◌, ◌<◌, ◌++◌, [], length, All, IfOk, IsOk, OnOk};
+ghost use Rattle.std.specs.Prelude.{◌≡◌, ◌<◌, ◌≤◌, ◌++◌, [], length, map, All, IfOk, IsOk, OnOk};
+ghost use Rattle.pf_shapes.specs.Bounds.{IsOrdered};
 ghost use Rattle.pf_shapes.specs.Pair.{IsAscending, IsPairOf};
-ghost use Rattle.pf_broad.specs.Pairs.{all_bounds, may_touch, pairs, pairs_of};
+ghost use Rattle.pf_broad.specs.Pairs.{all_bounds, pair, pairs};
+ghost use Rattle.pf_broad.specs.Grid.{IsGridOf};
 
-use pf_shapes::{BodyState, Bounds, Pair, Scene};
+use crate::bodies::all_bounds;
+use crate::grid::Grid;
+use crate::partners::find_partners;
+use pf_shapes::{BodyState, Bounds, MAX_BODIES, Pair, Scene};
 use std::alloc::{AllocError, Global};
 
 /// The pairs of bodies, at most one of them static, whose bounds overlap in these states: in
-/// ascending order, each once. It takes memory for the bounds of all bodies and for the pairs; for
-/// fewer than two bodies it takes none, and can't fail.
+/// ascending order, each once. It takes memory for the bounds of all bodies, for their grid and for
+/// the pairs; for fewer than two bodies it takes none, and can't fail.
 pub fn pairs(alloc: Global, scene: &Scene, bodies: &[BodyState]) -> Result<Vec<Pair>, AllocError>
     requires { length bodies.now ≡ length scene.now.fixtures }
     ensures pairs { IfOk result
@@ -22,54 +27,37 @@ pub fn pairs(alloc: Global, scene: &Scene, bodies: &[BodyState]) -> Result<Vec<P
         return Ok(Vec::new(alloc));
     }
     let bounds = all_bounds(alloc, scene, bodies)?;
-    all_pairs(alloc, &bounds)
+    let grid = Grid::of_bounds(alloc, &bounds)?;
+    all_pairs(alloc, &grid, &bounds)
 }
 
-/// The bounds of each body.
+/// The pairs of bodies with these bounds, by their grid.
 #[inline(never)]
-fn all_bounds(alloc: Global, scene: &Scene, bodies: &[BodyState]) -> Result<Vec<Bounds>, AllocError>
-    ensures { IfOk result (λ all. all.items ≡ all_bounds scene.now.fixtures bodies.now) }
-{
-    scene
-        .fixtures()
-        .iter()
-        .zip(bodies)
-        .map(|(fixture, body)| fixture.bounds(body))
-        .collect(alloc)
-}
-
-/// The pairs of bodies with these bounds. Where there is none it takes no memory.
-fn all_pairs(alloc: Global, bounds: &[Bounds]) -> Result<Vec<Pair>, AllocError>
-    ensures value { IfOk result (λ found. found.items ≡ pairs bounds.now) }
-    ensures no_memory { pairs bounds.now ≡ [] → IsOk result }
+fn all_pairs(alloc: Global, grid: &Grid, bounds: &[Bounds]) -> Result<Vec<Pair>, AllocError>
+    requires grid { IsGridOf bounds.now grid.now }
+    requires few { length bounds.now ≤ MAX_BODIES }
+    requires ordered { All IsOrdered bounds.now }
+    ensures { IfOk result (λ found. found.items ≡ pairs bounds.now) }
 {
     let mut found = Vec::new(alloc);
+    let mut partners = Vec::new(alloc);
     for i in 0..bounds.len() {
-        add_pairs_of(&mut found, bounds, i)?;
+        find_partners(&mut partners, grid, bounds, i)?;
+        add_pairs(&mut found, i, &partners)?;
     }
     Ok(found)
 }
 
-/// Adds the pairs of one body with later ones. Where there is none it takes no memory.
-#[inline(never)]
-fn add_pairs_of(found: &mut Vec<Pair>, bounds: &[Bounds], i: usize) -> Result<(), AllocError>
-    requires { i < length bounds.now }
-    ensures value { OnOk result (found.new.items ≡ found.old.items ++ pairs_of bounds.now i) }
-    ensures no_memory { pairs_of bounds.now i ≡ [] → IsOk result }
+/// Adds the pairs of one body with others.
+#[inline]
+fn add_pairs(found: &mut Vec<Pair>, i: usize, partners: &[u16]) -> Result<(), AllocError>
+    ensures { OnOk result (found.new.items ≡ found.old.items ++ map (pair i) partners.now) }
 {
-    let body = &bounds[i];
-    for j in i + 1..bounds.len() {
-        if may_touch(body, &bounds[j]) {
-            found.push(Pair { a: i, b: j })?;
-        }
+    for j in partners {
+        found.push(Pair {
+            a: i,
+            b: usize::from(*j),
+        })?;
     }
     Ok(())
-}
-
-/// Whether two bodies with these bounds may touch: not both are static, and the bounds overlap.
-#[tactic(auto, unfolding(crate::specs::Pairs::may_touch))]
-fn may_touch(a: &Bounds, b: &Bounds) -> bool
-    ensures { result ≡ may_touch a.now b.now }
-{
-    !(a.is_static && b.is_static) && a.overlaps(b)
 }
