@@ -1,5 +1,9 @@
 -- The lemmas of this crate.
+-- Commands and their numbers.
 pub mod Numbers
-pub mod Ticks
 pub mod Issued
+-- Kept ticks and worlds.
+pub mod KeptTicks
+pub mod KeptWorlds
+pub mod Ticks
 pub mod Worlds

@@ -1,3 +1,5 @@
 -- What the contracts of this crate cite.
+pub mod Kept
+pub mod Snapshots
 pub mod Peer
 pub mod Calls

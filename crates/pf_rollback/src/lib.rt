@@ -7,6 +7,8 @@
 mod fault;
 pub mod laws;
 mod peer;
+mod snapshots;
 
 pub use fault::{Fault, Refusal};
 pub use peer::PeerCore;
+pub use snapshots::KEYFRAME_INTERVAL;
