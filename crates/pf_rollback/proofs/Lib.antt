@@ -2,8 +2,11 @@
 -- Commands and their numbers.
 pub mod Numbers
 pub mod Issued
+pub mod Allowed
 -- Kept ticks and worlds.
 pub mod KeptTicks
 pub mod KeptWorlds
 pub mod Ticks
 pub mod Worlds
+-- Peer cores.
+pub mod Cores

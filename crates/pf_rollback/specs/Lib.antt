@@ -2,4 +2,5 @@
 pub mod Kept
 pub mod Snapshots
 pub mod Peer
+pub mod Core
 pub mod Calls

@@ -73,7 +73,7 @@ impl Snapshots {
     ghost use Rattle.std.specs.Prelude.{◌≡◌, ◌≤◌, ◌<◌, ◌+◌, ◌-◌, ◌%◌, ◌⊎◌, ℕ, length, IfOk, IfSome, IfNone, OnOk};
     ghost use Rattle.pf_commands.specs.declared.name.TheConstants.{MAX_TICK};
     ghost use Rattle.pf_step.specs.World.{World};
-    ghost use Rattle.pf_rollback.specs.Kept.{no_ticks, settled_tick, nearest_tick, ticks_up_to, ticks_after_settling};
+    ghost use Rattle.pf_rollback.specs.Kept.{no_ticks, settled_tick, nearest_tick, ticks_after_news, ticks_after_settling, ticks_up_to};
     ghost use Rattle.pf_rollback.specs.Snapshots.{ticks_of, IsKept, IsRecent};
 
     /// The start world alone, with a ring of so many places.
@@ -126,8 +126,22 @@ impl Snapshots {
         self.settled = settled;
     }
 
+    /// After news of this least tick, if there are any: drops each world after it. Takes no memory.
+    pub(crate) fn drop_after_news(&mut self, least: Option<u32>)
+        ensures ticks { ticks_of self.new ≡ ticks_after_news least (ticks_of self.old) }
+        ensures worlds { (t : ℕ) (world : World) → IsKept self.new t world
+            → IsKept self.old t world × IfSome least (λ tick. t ≤ tick) }
+        ensures lower { settled_tick (ticks_of self.new) ≤ settled_tick (ticks_of self.old) }
+        ensures near { IfSome least (λ tick. tick ≤ settled_tick (ticks_of self.old)
+            → tick < settled_tick (ticks_of self.new) + KEYFRAME_INTERVAL) }
+    {
+        if let Some(tick) = least {
+            self.drop_after(tick);
+        }
+    }
+
     /// Drops each world after a tick. Takes no memory.
-    pub(crate) fn drop_after(&mut self, tick: u32)
+    fn drop_after(&mut self, tick: u32)
         ensures ticks { ticks_of self.new ≡ ticks_up_to tick (ticks_of self.old) }
         ensures worlds { (t : ℕ) (world : World) → IsKept self.new t world
             → IsKept self.old t world × (t ≤ tick) }
