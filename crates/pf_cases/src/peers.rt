@@ -58,10 +58,12 @@ fn issued(
 
 /// Where the circle is along x at a tick, in units of 2^-24.
 fn x_at(alloc: Global, peer: &PeerCore, tick: u32) -> Result<Result<i64, Refusal>, AllocError> {
-    Ok(known(peer.world_at(alloc, tick, &mut Work::new(alloc)))?.map(|world| match world.bodies() {
-        [circle, ..] => circle.position.x.raw(),
-        [] => -1,
-    }))
+    Ok(known(peer.world_at(alloc, tick, &mut Work::new(alloc)))?.map(
+        |world| match world.bodies() {
+            [circle, ..] => circle.position.x.raw(),
+            [] => -1,
+        },
+    ))
 }
 
 /// The circle's push at tick 4.

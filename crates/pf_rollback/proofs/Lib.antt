@@ -6,6 +6,7 @@ pub mod Allowed
 -- Kept ticks and worlds.
 pub mod KeptTicks
 pub mod KeptWorlds
+pub mod Settling
 pub mod Ticks
 pub mod Worlds
 -- Peer cores.

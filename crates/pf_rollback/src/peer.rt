@@ -68,7 +68,6 @@ fn tick_of_news(put: Put, tick: u32) -> Option<u32>
 impl PeerCore {
     ghost use Rattle.std.specs.Prelude.{◌≡◌, ◌≢◌, ◌≤◌, ◌<◌, ◌+◌, ◌-◌, ℕ, [], Ok, Err, IsOk, IsSome, IfOk, OnOk, OnErr};
     ghost use Rattle.std.specs.FinMap.{get};
-    ghost use Rattle.pf_cache.specs.Manifolds.{no_manifolds};
     ghost use Rattle.pf_commands.specs.Check.{check};
     ghost use Rattle.pf_commands.specs.Frame.{decode};
     ghost use Rattle.pf_commands.specs.News.{least_tick, news, put_outcome};
@@ -315,25 +314,29 @@ impl PeerCore {
         ensures err { let missing = self.old.peer.reached - settled_tick self.old.kept in
             OnErr result ((more : ℕ) × (more < missing) × HasSettled more self.old self.new) }
     {
-        let reached = self.reached();
+        let last = self.reached();
         let settled = self.settled();
-        for tick in settled..reached {
-            self.settle_next(alloc, steps)?;
+        for tick in settled..last {
+            self.settle_tick(alloc, tick, steps)?;
         }
-        Ok(reached)
+        Ok(last)
     }
 
-    /// Simulates the tick after the settled one, and keeps its world. An error leaves the peer as
-    /// it was.
-    fn settle_next<S: Steps>(&mut self, alloc: Global, steps: &mut S) -> Result<(), AllocError>
-        requires { settled_tick self.old.kept < self.old.peer.reached }
-        ensures settled { OnOk result
-            (settled_tick self.new.kept ≡ settled_tick self.old.kept + 1) }
+    /// Simulates the settled tick, and keeps the world after it. An error leaves the peer as it was.
+    fn settle_tick<S: Steps>(
+        &mut self,
+        alloc: Global,
+        tick: u32,
+        steps: &mut S,
+    ) -> Result<(), AllocError>
+        requires next { tick ≡ settled_tick self.old.kept }
+        requires reached { tick < self.old.peer.reached }
+        ensures settled { OnOk result (settled_tick self.new.kept ≡ tick + 1) }
         ensures ok { OnOk result (HasSettled 1 self.old self.new) }
         ensures err { OnErr result (HasSettled 0 self.old self.new) }
     {
         self.snapshots.reserve()?;
-        let payloads = self.commands.at_tick(alloc, self.snapshots.settled())?;
+        let payloads = self.commands.at_tick(alloc, tick)?;
         let latest = self.snapshots.latest();
         let world = steps.step(alloc, &self.scene, latest, &payloads, &mut self.work)?;
         self.snapshots.keep(world);

@@ -13,13 +13,13 @@ loop-tick-init g c =
       settled = sym c.settled-settled.ensures.value;
     }
 
-pub returns-in_err-settle_next-clause-err : goal.returns-in_err-settle_next-clause-err
-returns-in_err-settle_next-clause-err g c =
+pub returns-in_err-settle_tick-clause-err : goal.returns-in_err-settle_tick-clause-err
+returns-in_err-settle_tick-clause-err g c =
     let core = c.args.self.now in
-    let some : (more : ℕ) × (more < core.peer.reached - settled_tick core.kept) × HasSettled more core c.settle_next.new.self = (
+    let some : (more : ℕ) × (more < core.peer.reached - settled_tick core.kept) × HasSettled more core c.settle_tick.new.self = (
       c.loop-tick.tick - c.settled-settled.result,
-      omega (arith, c.settled-settled.ensures.value, c.reached-reached.ensures.value),
-      settled_same _ _ _ _ c.loop-tick.invariant.has c.in_err-settle_next.ensures.err,
+      omega (arith, c.settled-settled.ensures.value, c.reached-last.ensures.value),
+      settled_same _ _ _ _ c.loop-tick.invariant.has c.in_err-settle_tick.ensures.err,
     ) in
     on_err _ some
 
@@ -28,7 +28,7 @@ loop-tick-preserved g c =
     let next : suc (c.loop-tick.tick - c.settled-settled.result) ≡ c.loop-tick.tick + 1 - c.settled-settled.result = omega arith in
     record {
       has =
-          subst (λ n. HasSettled n c.args.self.now c.settle_next.new.self) next
-          (settled_more _ _ _ _ c.loop-tick.invariant.has c.in_ok-settle_next.ensures.ok);
-      settled = c.in_ok-settle_next.ensures.settled ∙ ap (λ t. t + 1) c.loop-tick.invariant.settled;
+          subst (λ n. HasSettled n c.args.self.now c.settle_tick.new.self) next
+          (settled_more _ _ _ _ c.loop-tick.invariant.has c.in_ok-settle_tick.ensures.ok);
+      settled = c.in_ok-settle_tick.ensures.settled;
     }
