@@ -19,6 +19,8 @@ mod scenes;
 #[cfg(test)]
 mod sessions;
 #[cfg(test)]
+mod snapshots;
+#[cfg(test)]
 mod solving;
 #[cfg(test)]
 mod steps;

@@ -5,6 +5,7 @@ ghost use Rattle.std.specs.Prelude.{◌≡◌};
 ghost use Rattle.pf_commands.specs.Payload.{body_of};
 
 use crate::scenes::scene_of;
+use pf_cache::Work;
 use pf_commands::{Command, FRAME_LEN, MAX_TICK, Name, Payload, Put, encode};
 use pf_num::Fx;
 use pf_rollback::{Fault, PeerCore, Refusal};
@@ -13,6 +14,9 @@ use std::test::Fail;
 
 /// A circle of player 2.
 const SCENE: &[u8] = b"gravity 0 0\ncircle 2 16777216 0 16777216 0 0\nend\n";
+
+/// How many settled worlds a peer keeps.
+const RING: usize = 4;
 
 /// A push of the circle by 1 along x.
 const PUSH: Payload = Payload::Push {
@@ -32,7 +36,7 @@ fn known<T: Drop>(outcome: Result<T, Fault>) -> Result<Result<T, Refusal>, Alloc
 
 /// Player 2's peer, at a tick.
 fn peer_at(alloc: Global, tick: u32) -> Result<PeerCore, Fail> {
-    let mut peer = PeerCore::new(alloc, scene_of(alloc, SCENE)?, 2);
+    let mut peer = PeerCore::new(alloc, scene_of(alloc, SCENE)?, 2, RING)?;
     if known(peer.advance(tick))? != Ok(tick) {
         return Err(Fail::from("a peer reaches a tick"));
     }
@@ -54,10 +58,12 @@ fn issued(
 
 /// Where the circle is along x at a tick, in units of 2^-24.
 fn x_at(alloc: Global, peer: &PeerCore, tick: u32) -> Result<Result<i64, Refusal>, AllocError> {
-    Ok(known(peer.world_at(alloc, tick))?.map(|world| match world.bodies() {
-        [circle, ..] => circle.position.x.raw(),
-        [] => -1,
-    }))
+    Ok(known(peer.world_at(alloc, tick, &mut Work::new(alloc)))?.map(
+        |world| match world.bodies() {
+            [circle, ..] => circle.position.x.raw(),
+            [] => -1,
+        },
+    ))
 }
 
 /// The circle's push at tick 4.

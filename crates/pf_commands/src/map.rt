@@ -32,7 +32,7 @@ impl Put {
     ghost use Rattle.pf_commands.specs.News.{is_change};
 
     /// Whether the map has changed.
-    fn is_change(self) -> bool
+    pub fn is_change(self) -> bool
         ensures { result ≡ is_change self }
     {
         matches!(self, Put::New | Put::Greater)

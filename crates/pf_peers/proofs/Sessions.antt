@@ -5,14 +5,17 @@ use Rattle.std.proofs.Math.Seq.{drop-cons}
 use Rattle.std.specs.Prelude.{slice_set}
 use Rattle.std.proofs.lemmas.List.{drop_all, get_or-map, map-set}
 use Rattle.pf_shapes.specs.Scene.{Scene}
-use Rattle.pf_rollback.specs.Peer.{Peer, PeerCore, new_peer}
+use Rattle.pf_rollback.specs.Core as core
+use Rattle.pf_rollback.specs.Core.{PeerCore}
+use Rattle.pf_rollback.specs.Peer.{Peer, new_peer}
+use Rattle.pf_peers.specs.declared.session.TheConstants.{RING}
 use Rattle.pf_peers.specs.declared.event.Event.{Event}
 use Rattle.pf_peers.specs.declared.event.Reply.{Reply}
 use Rattle.pf_peers.specs.Session.{Session, answer, peer_answer, peer_at, peer_of, replies_to, reply_to, session_after}
 
 -- the core of a peer that begins
 abbrev pub new_core : Scene → ℕ → PeerCore
-new_core scene player = record { scene = scene; peer = new_peer player }
+new_core scene player = core.new_core scene player RING
 
 -- the peers of cores
 abbrev pub peers_of : List PeerCore → List Peer

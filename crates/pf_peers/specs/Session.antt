@@ -7,7 +7,8 @@ use Rattle.pf_shapes.specs.Scene.{Scene}
 use Rattle.pf_shapes.specs.declared.fixture.TheConstants.{PLAYERS}
 use Rattle.pf_step.specs.World.{World}
 use Rattle.pf_rollback.specs.declared.fault.Refusal.{Refusal}
-use Rattle.pf_rollback.specs.Peer.{Peer, PeerCore, new_peer, put, issue, take, advance, IsEmptyBefore, world_at}
+use Rattle.pf_rollback.specs.Core.{PeerCore}
+use Rattle.pf_rollback.specs.Peer.{Peer, new_peer, put, issue, take, advance, IsEmptyBefore, world_at}
 use Rattle.pf_peers.specs.declared.event.Event.{Event}
 use Rattle.pf_peers.specs.declared.event.Event.TheVariants.{Issue, Take, Advance, Show}
 use Rattle.pf_peers.specs.declared.event.Reply.{Reply}

@@ -9,11 +9,15 @@ ghost use Rattle.pf_commands.specs.declared.payload.Command.{Command};
 ghost use Rattle.pf_rollback.specs.Peer.{IsEmptyBefore, advance, issue, take, world_at};
 
 use crate::event::{Event, Reply};
+use pf_cache::Work;
 use pf_commands::{Command, FrameFault, Payload};
 use pf_rollback::{Fault, PeerCore, Refusal};
 use pf_shapes::{PLAYERS, Scene};
 use std::alloc::{AllocError, Global};
 use std::marker::Model;
+
+/// How many settled worlds each peer of a session keeps beside its keyframes.
+pub const RING: usize = 8;
 
 /// The peers of a scene, by their numbers. The player of each is its number.
 ///
@@ -28,7 +32,7 @@ impl Model for Session {
     ghost use Rattle.std.specs.Prelude.{map};
     ghost use Rattle.std.specs.Coded.{codes};
     ghost use Rattle.pf_commands.specs.contracts.map.CommandMap.{the_row};
-    ghost use Rattle.pf_rollback.specs.Peer.{PeerCore};
+    ghost use Rattle.pf_rollback.specs.Core.{PeerCore};
     ghost use Rattle.pf_peers.specs.Session.{AreCores, Session};
 
     ghost Value = { Session };
@@ -111,7 +115,7 @@ fn show(core: &PeerCore, alloc: Global, peer: u8, tick: u32) -> Result<Reply, Al
     ensures rejected { IsErr (world_at core.now.scene core.now.peer tick) → IsOk result }
     ensures no_memory { IsEmptyBefore core.now.scene core.now.peer.commands tick → IsOk result }
 {
-    match core.world_at(alloc, tick) {
+    match core.world_at(alloc, tick, &mut Work::new(alloc)) {
         Ok(world) => Ok(Reply::Shown { peer, tick, world }),
         Err(fault) => refused(fault),
     }
@@ -147,7 +151,7 @@ impl Session {
         let mut cores = Vec::new(alloc);
         for player in 0..peers {
             let copy = scene.try_clone()?;
-            cores.push(PeerCore::new(alloc, copy, player))?;
+            cores.push(PeerCore::new(alloc, copy, player, RING)?)?;
         }
         Ok(Session { scene, cores })
     }

@@ -1,3 +1,6 @@
 -- What the contracts of this crate cite.
+pub mod Kept
+pub mod Snapshots
 pub mod Peer
+pub mod Core
 pub mod Calls

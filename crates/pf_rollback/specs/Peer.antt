@@ -1,8 +1,8 @@
 -- The abstract peer: a player, the commands that it holds and the tick that it has reached; what
 -- each call on it returns and leaves. A call returns its answer with the peer after it, or why it
 -- is rejected.
-use Rattle.std.specs.Prelude.{◌≡◌, ◌<◌, ◌≤◌, ℕ, zero, suc, ◌+◌, List, [], Option, Some, None, Result, Ok, Err, is_some, nat_le, if◌then◌else◌}
-use Rattle.std.specs.FinMap.{get, empty}
+use Rattle.std.specs.Prelude.{◌≡◌, ◌<◌, ◌≤◌, ℕ, zero, suc, ◌+◌, length, List, [], Option, Some, None, Result, Ok, Err, is_some, nat_le, if◌then◌else◌}
+use Rattle.std.specs.FinMap.{get, empty, entries}
 use Rattle.pf_shapes.specs.Scene.{Scene}
 use Rattle.pf_commands.specs.declared.name.TheConstants.{MAX_TICK, NUMBERS}
 use Rattle.pf_shapes.specs.declared.fixture.TheConstants.{PLAYERS}
@@ -11,10 +11,10 @@ use Rattle.pf_commands.specs.declared.fault.FrameFault.{FrameFault}
 use Rattle.pf_commands.specs.declared.map.Put.{Put}
 use Rattle.pf_commands.specs.declared.payload.Command.{Command}
 use Rattle.pf_commands.specs.declared.payload.Payload.{Payload}
-use Rattle.pf_commands.specs.Check.{check}
+use Rattle.pf_commands.specs.Check.{check, check_all}
 use Rattle.pf_commands.specs.Frame.{encoding}
 use Rattle.pf_commands.specs.Merge.{CommandMap, merge, singleton, name_at, payloads_at}
-use Rattle.pf_commands.specs.News.{put_outcome}
+use Rattle.pf_commands.specs.News.{put_outcome, news}
 use Rattle.pf_rollback.specs.declared.fault.Refusal.{Refusal}
 use Rattle.pf_rollback.specs.declared.fault.Refusal.TheVariants.{TickLimit, NumbersSpent, Frame, Check, NotReached}
 use Rattle.pf_step.specs.Simulation.{sim}
@@ -30,11 +30,6 @@ pub record Peer : Type 0 where
 pub record IsPeer (p : Peer) : Type 0 where
   pub player : p.player < PLAYERS
   pub reached : p.reached ≤ MAX_TICK
-
--- a peer core: the scene that its peer plays, and the peer
-pub record PeerCore : Type 0 where
-  pub scene : Scene
-  pub peer : Peer
 
 -- a peer holds no commands at first, and is at tick 0
 abbrev pub new_peer : ℕ → Peer
@@ -107,6 +102,21 @@ unfoldable pub advance : Peer → ℕ → Result (ℕ × Peer) Refusal
 advance p ticks =
     let tick = p.reached + ticks in
     if nat_le tick MAX_TICK then Ok (tick, record p { reached = tick }) else Err TickLimit
+
+-- ---- maps of commands
+
+-- a peer with the commands of a map merged into its own
+abbrev pub with_commands : Peer → CommandMap → Peer
+with_commands p other = record p { commands = merge p.commands other }
+
+-- a map of which the scene allows each command is merged in; the answer is how many commands are
+-- new or greater
+unfoldable pub merge_map : Scene → Peer → CommandMap → Result (ℕ × Peer) Refusal
+merge_map s p other =
+    if_allowed (check_all s (entries other))
+    (length (news p.commands other), with_commands p other)
+
+-- ---- worlds
 
 -- a scene without bodies, and no command before the tick
 pub record IsEmptyBefore (s : Scene) (commands : CommandMap) (tick : ℕ) : Type 0 where

@@ -1,6 +1,7 @@
-//! Laws of abstract peers. Their functions do nothing: their clauses are what they are for.
+//! Laws of abstract peers and of kept ticks. Their functions do nothing: their clauses are what they
+//! are for.
 
-ghost use Rattle.std.specs.Prelude.{◌≡◌, ℕ, ◌+◌, ◌≤◌, ◌<◌, List, Ok, IsOk, IsSome};
+ghost use Rattle.std.specs.Prelude.{◌≡◌, ℕ, ◌+◌, ◌^◌, ◌≤◌, ◌<◌, ◌↔◌, List, Contains, Ok, IsOk, IsSome};
 ghost use Rattle.std.specs.FinMap.{get};
 ghost use Rattle.pf_shapes.specs.Scene.{IsScene, Scene};
 ghost use Rattle.pf_commands.specs.declared.payload.Payload.{Payload};
@@ -8,6 +9,9 @@ ghost use Rattle.pf_commands.specs.Frame.{decode};
 ghost use Rattle.pf_commands.specs.Merge.{CommandMap, name_at};
 ghost use Rattle.pf_commands.specs.Name.{Name};
 ghost use Rattle.pf_commands.specs.Payload.{IsPayload};
+ghost use Rattle.pf_cache.specs.Meter.{saturating_sum};
+ghost use Rattle.pf_rollback.specs.Core.{count_after};
+ghost use Rattle.pf_rollback.specs.Kept.{Ticks, settled_tick, ticks_after_more, up_to};
 ghost use Rattle.pf_rollback.specs.Peer.{IsPeer, Peer, issue, next_command, next_number, take, world_at};
 
 use pf_commands::NUMBERS;
@@ -40,4 +44,22 @@ pub fn numbers_follow_the_greatest()
         → IsSome (get m (name_at tick player number)) → number < next_number m tick player }
     ensures before { (m : CommandMap) (tick player number : ℕ)
         → next_number m tick player ≡ number + 1 → IsSome (get m (name_at tick player number)) }
+{}
+
+/// A tick is kept up to another one exactly where it was kept and is not above that one.
+pub fn dropping_keeps_earlier_ticks()
+    ensures { (ticks : List ℕ) (last tick : ℕ)
+        → Contains (up_to last ticks) tick ↔ (Contains ticks tick × (tick ≤ last)) }
+{}
+
+/// After so many more ticks are settled, the settled tick is so many ticks later.
+pub fn settling_goes_on_tick_by_tick()
+    ensures { (k : Ticks) (more : ℕ) → 0 < k.ring
+        → settled_tick (ticks_after_more k more) ≡ settled_tick k + more }
+{}
+
+/// A count that fits its type counts each tick once, up to 2^64 - 1.
+pub fn counts_are_saturated_sums()
+    ensures { (count more : ℕ) → count < 2 ^ 64
+        → count_after count more ≡ saturating_sum count more }
 {}

@@ -7,6 +7,10 @@
 mod fault;
 pub mod laws;
 mod peer;
+mod snapshots;
+mod steps;
 
 pub use fault::{Fault, Refusal};
-pub use peer::PeerCore;
+pub use peer::{MAX_RING, PeerCore};
+pub use snapshots::KEYFRAME_INTERVAL;
+pub use steps::{Alone, Steps};

@@ -1,8 +1,13 @@
-//! One player's peer: the scene that it plays, the commands that it holds, and the tick that it has
-//! reached.
+//! One player's peer: the scene that it plays, the commands that it holds, the tick that it has
+//! reached, and the worlds that it keeps.
+
+ghost use Rattle.std.specs.Prelude.{◌≡◌, Some, None, if◌then◌else◌};
+ghost use Rattle.pf_commands.specs.News.{is_change};
 
 use crate::fault::{Fault, Refusal};
-use pf_cache::Work;
+use crate::snapshots::Snapshots;
+use crate::steps::{Alone, Steps};
+use pf_cache::{Meter, Work};
 use pf_commands::{
     Command, CommandMap, FRAME_LEN, MAX_TICK, Name, Payload, Put, check, decode, encode,
 };
@@ -11,22 +16,29 @@ use pf_step::{World, step_alone};
 use std::alloc::{AllocError, Global};
 use std::marker::Model;
 
-/// One player's peer of a simulation.
+/// The most settled worlds that a peer keeps beside its keyframes.
+pub const MAX_RING: usize = 64;
+
+/// One player's peer of a simulation, with the worlds that it keeps to simulate from.
 ///
-/// Contracts see the scene, and the abstract peer: its player, the map of its commands, and the
-/// tick that it has reached.
+/// Contracts see the scene; the abstract peer: its player, the map of its commands, and the tick
+/// that it has reached; the ticks of the kept worlds; and the work that was done. Each kept world is
+/// the simulation from tick zero of the commands that the peer holds.
 #[derive(Drop)]
 pub struct PeerCore {
     scene: Scene,
     player: u8,
     commands: CommandMap,
     reached: u32,
+    snapshots: Snapshots,
+    work: Work,
 }
 
 impl Model for PeerCore {
     ghost use Rattle.std.specs.Coded.{codes};
     ghost use Rattle.pf_commands.specs.contracts.map.CommandMap.{the_row};
-    ghost use Rattle.pf_rollback.specs.Peer.{IsPeer, PeerCore};
+    ghost use Rattle.pf_rollback.specs.Core.{IsPeerCore, PeerCore};
+    ghost use Rattle.pf_rollback.specs.Snapshots.{ticks_of};
 
     ghost Value = { PeerCore };
 
@@ -35,35 +47,56 @@ impl Model for PeerCore {
     ghost view = { λ core. record {
       scene = core.scene;
       peer = record { player = core.player; commands = core.commands; reached = core.reached };
+      kept = ticks_of core.snapshots;
+      meter = core.work.meter;
     } };
 
-    ghost invariant = { λ core. IsPeer (record {
+    ghost invariant = { λ core. IsPeerCore core.scene (record {
       player = core.player;
       commands = core.commands;
       reached = core.reached;
-    }) };
+    }) core.snapshots };
+}
+
+/// The tick of a command by what putting it did: of one that is new or greater.
+fn tick_of_news(put: Put, tick: u32) -> Option<u32>
+    ensures { result ≡ (if is_change put then Some tick else None) }
+{
+    if put.is_change() { Some(tick) } else { None }
 }
 
 impl PeerCore {
-    ghost use Rattle.std.specs.Prelude.{◌≡◌, ◌≢◌, ◌≤◌, ◌<◌, ℕ, Ok, Err, IsOk, IsSome, IfOk, OnErr};
+    ghost use Rattle.std.specs.Prelude.{◌≡◌, ◌≢◌, ◌≤◌, ◌<◌, ◌+◌, ◌-◌, ℕ, [], Ok, Err, IsOk, IsSome, IfOk, OnOk, OnErr};
     ghost use Rattle.std.specs.FinMap.{get};
+    ghost use Rattle.pf_commands.specs.Check.{check};
     ghost use Rattle.pf_commands.specs.Frame.{decode};
+    ghost use Rattle.pf_commands.specs.News.{least_tick, news, put_outcome};
     ghost use Rattle.pf_commands.specs.declared.payload.Command.{Command};
+    ghost use Rattle.pf_rollback.specs.declared.fault.Refusal.{Refusal};
+    ghost use Rattle.pf_rollback.specs.declared.fault.Fault.TheVariants.{Refused};
     ghost use Rattle.pf_step.specs.Simulation.{sim};
-    ghost use Rattle.pf_rollback.specs.Peer.{new_peer, put, take, next_number, IsNextNumber, issue, advance, IsEmptyBefore, world_at};
+    ghost use Rattle.pf_rollback.specs.Kept.{nearest_tick, settled_tick};
+    ghost use Rattle.pf_rollback.specs.Peer.{put, take, next_command, next_number, with_command, IsNextNumber, issue, merge_map, advance, IsEmptyBefore, world_at};
+    ghost use Rattle.pf_rollback.specs.Core.{AreAllowed, HasSettled, KeepsBefore, count_after, new_core, news_tick};
     ghost use Rattle.pf_rollback.specs.Calls.{Refines, Returns};
 
-    /// A peer of this player, from 0, at tick 0 and without commands. Takes no memory.
-    pub fn new(alloc: Global, scene: Scene, player: u8) -> PeerCore
-        requires { player < PLAYERS }
-        ensures { result ≡ record { scene = scene; peer = new_peer player } }
+    /// A peer of this player, from 0, at tick 0 and without commands, which keeps this many settled
+    /// worlds.
+    pub fn new(alloc: Global, scene: Scene, player: u8, ring: usize) -> Result<PeerCore, AllocError>
+        requires player { player < PLAYERS }
+        requires ring { (0 < ring) × (ring ≤ MAX_RING) }
+        ensures { IfOk result (λ core. core ≡ new_core scene player ring) }
     {
-        PeerCore {
+        let start = World::start(alloc, &scene)?;
+        let snapshots = Snapshots::new(alloc, start, ring)?;
+        Ok(PeerCore {
             scene,
             player,
             commands: CommandMap::new(alloc),
             reached: 0,
-        }
+            snapshots,
+            work: Work::new(alloc),
+        })
     }
 
     /// The scene that the peer plays.
@@ -81,9 +114,10 @@ impl PeerCore {
         self.player
     }
 
-    /// The commands that the peer holds.
+    /// The commands that the peer holds. The scene allows each of them.
     pub fn commands(&self) -> &CommandMap
-        ensures { result.now ≡ self.now.peer.commands }
+        ensures value { result.now ≡ self.now.peer.commands }
+        ensures allowed { AreAllowed self.now.scene self.now.peer.commands }
     {
         &self.commands
     }
@@ -96,21 +130,60 @@ impl PeerCore {
         self.reached
     }
 
+    /// The settled tick: the greatest tick of a kept world.
+    pub fn settled(&self) -> u32
+        ensures value { result ≡ settled_tick self.now.kept }
+        ensures reached { result ≤ self.now.peer.reached }
+    {
+        self.snapshots.settled()
+    }
+
+    /// How much work was done to settle ticks.
+    pub fn meter(&self) -> Meter
+        ensures { result ≡ self.now.meter }
+    {
+        self.work.meter()
+    }
+
+    /// Puts a command that the scene allows into the map, and drops the worlds that it changes. Out
+    /// of memory leaves the peer as it was.
+    fn hold(&mut self, command: &Command) -> Result<Put, AllocError>
+        requires { let c = command.now in check self.old.scene c.name c.payload ≡ Ok tt }
+        ensures outcome { let c = command.now in
+            IfOk result (λ put. put ≡ put_outcome (get self.old.peer.commands c.name) c.payload) }
+        ensures ok { OnOk result (self.new.peer ≡ with_command self.old.peer command.now) }
+        ensures kept { OnOk result (KeepsBefore (news_tick self.old.peer.commands command.now)
+            self.old.kept self.new.kept) }
+        ensures rest { self.new
+            ≡ record self.old { peer = self.new.peer; kept = self.new.kept } }
+        ensures err { OnErr result (self.new ≡ self.old) }
+        ensures no_memory { IsSome (get self.old.peer.commands command.now.name) → IsOk result }
+    {
+        let put = self.commands.put(command)?;
+        self.snapshots
+            .drop_after_news(tick_of_news(put, command.name.tick()));
+        Ok(put)
+    }
+
     /// Takes a command of any player, for any tick. Returns an error where the scene does not allow
     /// it, and out of memory, which is possible only where its name is new. An error leaves the
-    /// peer as it was.
+    /// peer as it was. A command that is new or greater drops each kept world after its tick.
     #[tactic(auto, unfolding(crate::specs::Peer::put))]
     pub fn put(&mut self, command: &Command) -> Result<Put, Fault>
         ensures peer { Refines result self.old.peer self.new.peer
             (put self.old.scene self.old.peer command.now) }
-        ensures scene { self.new.scene ≡ self.old.scene }
+        ensures kept { OnOk result (KeepsBefore (news_tick self.old.peer.commands command.now)
+            self.old.kept self.new.kept) }
+        ensures rest { self.new
+            ≡ record self.old { peer = self.new.peer; kept = self.new.kept } }
+        ensures err { OnErr result (self.new ≡ self.old) }
         ensures no_memory { IsSome (get self.old.peer.commands command.now.name)
             → result ≢ Err Fault.OutOfMemory }
     {
         if let Err(fault) = check(&self.scene, command) {
             return Err(Fault::Refused(Refusal::Check(fault)));
         }
-        Ok(self.commands.put(command)?)
+        Ok(self.hold(command)?)
     }
 
     /// Takes the command that a frame of bytes encodes, as [`PeerCore::put`] does. Returns an error
@@ -118,7 +191,11 @@ impl PeerCore {
     pub fn take(&mut self, frame: &[u8]) -> Result<Put, Fault>
         ensures peer { Refines result self.old.peer self.new.peer
             (take self.old.scene self.old.peer (decode frame.now)) }
-        ensures scene { self.new.scene ≡ self.old.scene }
+        ensures kept { (c : Command) → decode frame.now ≡ Ok c → OnOk result
+            (KeepsBefore (news_tick self.old.peer.commands c) self.old.kept self.new.kept) }
+        ensures rest { self.new
+            ≡ record self.old { peer = self.new.peer; kept = self.new.kept } }
+        ensures err { OnErr result (self.new ≡ self.old) }
         ensures no_memory { (c : Command) → decode frame.now ≡ Ok c
             → IsSome (get self.old.peer.commands c.name) → result ≢ Err Fault.OutOfMemory }
     {
@@ -126,6 +203,31 @@ impl PeerCore {
             Ok(command) => self.put(&command),
             Err(fault) => Err(Fault::Refused(Refusal::Frame(fault))),
         }
+    }
+
+    /// Merges the commands of a map, and returns how many were new or greater. Returns an error
+    /// where the scene does not allow one of them, that of the first one in the order of names; and
+    /// out of memory, which is possible only where one is new or greater. An error leaves the peer
+    /// as it was. Where there are new or greater ones, each kept world after the least tick of them
+    /// is dropped.
+    #[tactic(auto, unfolding(crate::specs::Peer::merge_map))]
+    pub fn merge(&mut self, other: &CommandMap) -> Result<usize, Fault>
+        ensures peer { Refines result self.old.peer self.new.peer
+            (merge_map self.old.scene self.old.peer other.now) }
+        ensures kept { OnOk result (KeepsBefore
+            (least_tick (news self.old.peer.commands other.now)) self.old.kept self.new.kept) }
+        ensures rest { self.new
+            ≡ record self.old { peer = self.new.peer; kept = self.new.kept } }
+        ensures err { OnErr result (self.new ≡ self.old) }
+        ensures no_memory { news self.old.peer.commands other.now ≡ []
+            → result ≢ Err Fault.OutOfMemory }
+    {
+        if let Err(fault) = other.check_all(&self.scene) {
+            return Err(Fault::Refused(Refusal::Check(fault)));
+        }
+        let merged = self.commands.merge(other)?;
+        self.snapshots.drop_after_news(merged.least);
+        Ok(merged.count)
     }
 
     /// The number of the next command at the reached tick, if there is one left.
@@ -147,7 +249,11 @@ impl PeerCore {
     pub fn issue(&mut self, payload: Payload) -> Result<[u8; FRAME_LEN], Fault>
         ensures peer { Refines result self.old.peer self.new.peer
             (issue self.old.scene self.old.peer payload) }
-        ensures scene { self.new.scene ≡ self.old.scene }
+        ensures kept { let p = self.old.peer in OnOk result (KeepsBefore
+            (news_tick p.commands (next_command p payload)) self.old.kept self.new.kept) }
+        ensures rest { self.new
+            ≡ record self.old { peer = self.new.peer; kept = self.new.kept } }
+        ensures err { OnErr result (self.new ≡ self.old) }
     {
         if self.reached >= MAX_TICK {
             return Err(Fault::Refused(Refusal::TickLimit));
@@ -162,7 +268,7 @@ impl PeerCore {
         if let Err(fault) = check(&self.scene, &command) {
             return Err(Fault::Refused(Refusal::Check(fault)));
         }
-        self.commands.put(&command)?;
+        self.hold(&command)?;
         Ok(encode(&command))
     }
 
@@ -171,7 +277,7 @@ impl PeerCore {
     #[tactic(auto, unfolding(crate::specs::Peer::advance))]
     pub fn advance(&mut self, ticks: u32) -> Result<u32, Fault>
         ensures peer { Refines result self.old.peer self.new.peer (advance self.old.peer ticks) }
-        ensures scene { self.new.scene ≡ self.old.scene }
+        ensures rest { self.new ≡ record self.old { peer = self.new.peer } }
         ensures no_memory { result ≢ Err Fault.OutOfMemory }
     {
         match self.reached.checked_add(ticks) {
@@ -183,34 +289,100 @@ impl PeerCore {
         }
     }
 
-    /// The world at a tick that the peer has reached, simulated from tick zero by the commands that
-    /// it holds. Returns an error for a later tick, and out of memory. Takes no memory for a scene
-    /// without bodies, at a tick before which there is no command.
+    /// Settles each tick up to the reached one, by steps on one thread, and returns that tick: see
+    /// [`PeerCore::settle`].
+    pub fn settle_alone(&mut self, alloc: Global) -> Result<u32, AllocError>
+        ensures answer { IfOk result (λ tick. tick ≡ self.old.peer.reached) }
+        ensures settled { OnOk result (settled_tick self.new.kept ≡ self.old.peer.reached) }
+        ensures ok { let missing = self.old.peer.reached - settled_tick self.old.kept in
+            OnOk result (HasSettled missing self.old self.new) }
+        ensures err { let missing = self.old.peer.reached - settled_tick self.old.kept in
+            OnErr result ((more : ℕ) × (more < missing) × HasSettled more self.old self.new) }
+    {
+        self.settle(alloc, &mut Alone)
+    }
+
+    /// Settles each tick up to the reached one: simulates it once, from the settled tick on, and
+    /// keeps its world. Returns the reached tick. After an error the ticks that were settled stand,
+    /// and so do the commands and the reached tick. Takes no memory where the reached tick is
+    /// settled.
+    pub fn settle<S: Steps>(&mut self, alloc: Global, steps: &mut S) -> Result<u32, AllocError>
+        ensures answer { IfOk result (λ tick. tick ≡ self.old.peer.reached) }
+        ensures settled { OnOk result (settled_tick self.new.kept ≡ self.old.peer.reached) }
+        ensures ok { let missing = self.old.peer.reached - settled_tick self.old.kept in
+            OnOk result (HasSettled missing self.old self.new) }
+        ensures err { let missing = self.old.peer.reached - settled_tick self.old.kept in
+            OnErr result ((more : ℕ) × (more < missing) × HasSettled more self.old self.new) }
+    {
+        let last = self.reached();
+        let settled = self.settled();
+        for tick in settled..last {
+            self.settle_tick(alloc, tick, steps)?;
+        }
+        Ok(last)
+    }
+
+    /// Simulates the settled tick, and keeps the world after it. An error leaves the peer as it was.
+    fn settle_tick<S: Steps>(
+        &mut self,
+        alloc: Global,
+        tick: u32,
+        steps: &mut S,
+    ) -> Result<(), AllocError>
+        requires next { tick ≡ settled_tick self.old.kept }
+        requires reached { tick < self.old.peer.reached }
+        ensures settled { OnOk result (settled_tick self.new.kept ≡ tick + 1) }
+        ensures ok { OnOk result (HasSettled 1 self.old self.new) }
+        ensures err { OnErr result (HasSettled 0 self.old self.new) }
+    {
+        self.snapshots.reserve()?;
+        let payloads = self.commands.at_tick(alloc, tick)?;
+        let latest = self.snapshots.latest();
+        let world = steps.step(alloc, &self.scene, latest, &payloads, &mut self.work)?;
+        self.snapshots.keep(world);
+        Ok(())
+    }
+
+    /// The world at a tick that the peer has reached: the simulation from tick zero of the commands
+    /// that it holds. Simulates from the last kept world that is not after the tick, and counts
+    /// these ticks in `work`. Returns an error for a later tick, and out of memory. Takes no memory
+    /// for a scene without bodies, at a tick before which there is no command.
     #[tactic(auto, unfolding(crate::specs::Peer::world_at))]
-    pub fn world_at(&self, alloc: Global, tick: u32) -> Result<World, Fault>
+    pub fn world_at(&self, alloc: Global, tick: u32, work: &mut Work) -> Result<World, Fault>
         ensures value { Returns result (world_at self.now.scene self.now.peer tick) }
+        ensures counted { let ticks = tick - nearest_tick self.now.kept tick in
+            OnOk result (work.new.meter.ticks ≡ count_after work.old.meter.ticks ticks) }
+        ensures not_counted { let ticks = tick - nearest_tick self.now.kept tick in
+            OnErr result ((some : ℕ) × (some ≤ ticks)
+            × (work.new.meter.ticks ≡ count_after work.old.meter.ticks some)) }
+        ensures refused { (refusal : Refusal) → result ≡ Err (Refused refusal)
+            → work.new ≡ work.old }
         ensures no_memory { IsEmptyBefore self.now.scene self.now.peer.commands tick
             → result ≢ Err Fault.OutOfMemory }
     {
         if tick > self.reached {
             return Err(Fault::Refused(Refusal::NotReached(self.reached)));
         }
-        Ok(self.simulate(alloc, tick)?)
+        Ok(self.simulate(alloc, tick, work)?)
     }
 
-    /// The world at a tick, simulated from tick zero.
-    #[tactic(auto, using(crate::proofs::Ticks::sim_none, crate::proofs::Ticks::sim_more, pf_step::proofs::Empty::sim_empty))]
-    fn simulate(&self, alloc: Global, ticks: u32) -> Result<World, AllocError>
+    /// The world at a tick, simulated from the last kept world that is not after it.
+    fn simulate(&self, alloc: Global, tick: u32, work: &mut Work) -> Result<World, AllocError>
         ensures value { let core = self.now in
-            IfOk result (λ world. world ≡ sim core.scene core.peer.commands ticks) }
+            IfOk result (λ world. world ≡ sim core.scene core.peer.commands tick) }
+        ensures counted { let ticks = tick - nearest_tick self.now.kept tick in
+            OnOk result (work.new.meter.ticks ≡ count_after work.old.meter.ticks ticks) }
+        ensures not_counted { let ticks = tick - nearest_tick self.now.kept tick in
+            OnErr result ((some : ℕ) × (some ≤ ticks)
+            × (work.new.meter.ticks ≡ count_after work.old.meter.ticks some)) }
         ensures no_memory { let core = self.now in
-            IsEmptyBefore core.scene core.peer.commands ticks → IsOk result }
+            IsEmptyBefore core.scene core.peer.commands tick → IsOk result }
     {
-        let mut world = World::start(alloc, &self.scene)?;
-        let mut work = Work::new(alloc);
-        for tick in 0..ticks {
-            let payloads = self.commands.at_tick(alloc, tick)?;
-            world = step_alone(alloc, &self.scene, &world, &payloads, &mut work)?;
+        let (from, kept) = self.snapshots.nearest(tick);
+        let mut world = kept.try_clone()?;
+        for at in from..tick {
+            let payloads = self.commands.at_tick(alloc, at)?;
+            world = step_alone(alloc, &self.scene, &world, &payloads, work)?;
         }
         Ok(world)
     }

@@ -6,13 +6,16 @@ use Rattle.pf_shapes.specs.Scene.{Scene}
 use Rattle.pf_commands.specs.Merge.{CommandMap, payloads_at}
 use Rattle.pf_commands.specs.Payload.{body_of}
 use Rattle.pf_commands.specs.declared.payload.Payload.{Payload}
-use Rattle.pf_cache.specs.Row.{Row}
+use Rattle.pf_broad.specs.Pairs.{all_bounds, pairs}
+use Rattle.pf_manifold.specs.Touches.{Touch, touches}
+use Rattle.pf_cache.specs.Contact.{Contact, updated}
+use Rattle.pf_cache.specs.Row.{Row, with_rows}
 use Rattle.pf_islands.specs.Sleep.{rested, woken}
 use Rattle.pf_solver.specs.Solve.{solved}
 use Rattle.pf_solver.proofs.Solved.{solved_length}
 use Rattle.pf_step.specs.Commands.{bodies_with, after_command, after_commands}
 use Rattle.pf_step.specs.Simulation.{sim}
-use Rattle.pf_step.specs.Step.{step}
+use Rattle.pf_step.specs.Step.{step, touching}
 use Rattle.pf_step.specs.World.{World, start_of}
 
 abbrev no_bodies : List BodyState
@@ -66,3 +69,29 @@ pub sim_empty : (s : Scene) (m : CommandMap) (tick : ℕ) → s.starts ≡ [] �
 unfolding sim start_of
 sim_empty s m zero none = none
 sim_empty s m (suc tick) none = step_empty s (sim s m tick) (payloads_at m tick) (sim_empty s m tick none)
+
+-- ---- contacts
+
+touching-empty : (s : Scene) → touching s [] ≡ []
+touching-empty s = by s.fixtures
+  where
+    by : (fixtures : List Fixture) → touches fixtures [] (pairs (all_bounds fixtures [])) ≡ []
+    by [] = refl
+    by (f ∷ fixtures) = refl
+
+rows-empty : (contacts : List Contact) (points : List Touch) (rows : List Row) → points ≡ [] → with_rows (updated contacts points) rows ≡ []
+unfolding updated with_rows
+rows-empty contacts points rows none = rw none refl
+
+step_no_contacts : (s : Scene) (w : World) (payloads : List Payload) → w.bodies ≡ [] → (step s w payloads).contacts ≡ []
+unfolding step
+step_no_contacts s w payloads none =
+    let commanded : after_commands s.fixtures w.bodies payloads ≡ [] =
+    ap (λ bodies. after_commands s.fixtures bodies payloads) none ∙ after_commands-empty s.fixtures payloads in
+    rows-empty w.contacts _ _ (ap (touching s) commanded ∙ touching-empty s)
+
+-- and without contacts
+pub sim_no_contacts : (s : Scene) (m : CommandMap) (tick : ℕ) → s.starts ≡ [] → (sim s m tick).contacts ≡ []
+unfolding sim start_of
+sim_no_contacts s m zero none = refl
+sim_no_contacts s m (suc tick) none = step_no_contacts s (sim s m tick) (payloads_at m tick) (sim_empty s m tick none)

@@ -1,7 +1,7 @@
 use Rattle.std.proofs.Common.{◌≡◌, ℕ, ◌<◌, length, get_or, ap, ◌∙◌, sym, arith}
 use Rattle.std.proofs.lemmas.List.{length-map}
 use Rattle.std.proofs.lemmas.Result.{IfOk-weaker}
-use Rattle.pf_rollback.specs.Peer.{PeerCore}
+use Rattle.pf_rollback.specs.Core.{PeerCore}
 use Rattle.pf_peers.specs.Session.{Session, peer_of}
 use Rattle.pf_peers.proofs.Sessions.{peer_answer_is}
 use Rattle.pf_peers.proofs.session.Session.answer.Goals as goal

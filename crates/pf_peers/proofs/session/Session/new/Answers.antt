@@ -10,7 +10,7 @@ pub loop-player-preserved : goal.loop-player-preserved
 loop-player-preserved c =
     let more = map-range_with_len_more (new_core c.args.scene) 0 c.loop-player.player c.loop-player.player (omega arith) in
     let copied : c.in_ok-copy.copy ≡ c.args.scene = c.in_ok-copy.ensures.value in
-    c.in_ok-push.ensures.items ∙ rw (c.new.ensures, copied, c.loop-player.invariant, more) refl
+    c.in_ok-push.ensures.items ∙ rw (c.in_ok-new.ensures, copied, c.loop-player.invariant, more) refl
 
 pub invariant_of-result : goal.invariant_of-result
 invariant_of-result c = rw c.loop-player.invariant (record {

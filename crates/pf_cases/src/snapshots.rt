@@ -1,0 +1,159 @@
+//! Snapshots: which ticks stay settled after a command, and how many ticks the next settle counts.
+
+use crate::scenes::scene_of;
+use pf_cache::Work;
+use pf_commands::{Command, CommandMap, Name, Payload};
+use pf_num::Fx;
+use pf_rollback::{Fault, MAX_RING, PeerCore};
+use pf_step::World;
+use std::alloc::{AllocError, Global};
+use std::test::Fail;
+
+/// A circle of player 1.
+const SCENE: &[u8] = b"gravity 0 0\ncircle 1 16777216 0 16777216 0 0\nend\n";
+
+/// A push of the circle by 1 along x.
+const PUSH: Payload = Payload::Push {
+    body: 0,
+    x: Fx::ONE,
+    y: Fx::ZERO,
+};
+
+/// A push at a tick.
+fn push_at(tick: u32) -> Result<Command, Fail> {
+    if tick >= pf_commands::MAX_TICK {
+        return Err(Fail::from("the last tick has no commands"));
+    }
+    Ok(Command {
+        name: Name::new(tick, 1, 0),
+        payload: PUSH,
+    })
+}
+
+/// What a call returned: none of these is rejected.
+fn known<T: Drop>(outcome: Result<T, Fault>) -> Result<T, Fail> {
+    match outcome {
+        Ok(answer) => Ok(answer),
+        Err(Fault::Refused(_)) => Err(Fail::from("a call is rejected")),
+        Err(Fault::OutOfMemory) => Err(Fail::from(AllocError)),
+    }
+}
+
+/// A peer with a ring of so many places that has reached a tick, and settled it.
+fn settled_peer(alloc: Global, ring: usize, tick: u32) -> Result<PeerCore, Fail> {
+    if ring == 0 || ring > MAX_RING {
+        return Err(Fail::from("a ring has 1 to 64 places"));
+    }
+    let mut peer = PeerCore::new(alloc, scene_of(alloc, SCENE)?, 0, ring)?;
+    known(peer.advance(tick))?;
+    peer.settle_alone(alloc)?;
+    Ok(peer)
+}
+
+/// Settles what is missing, and returns how many ticks that counts.
+fn count_of_settle(alloc: Global, peer: &mut PeerCore) -> Result<u64, Fail> {
+    let before = peer.meter().ticks;
+    peer.settle_alone(alloc)?;
+    Ok(peer.meter().ticks.saturating_sub(before))
+}
+
+/// The settled tick after a command of a tick, and how many ticks the next settle counts.
+fn after_command(alloc: Global, peer: &mut PeerCore, tick: u32) -> Result<(u32, u64), Fail> {
+    known(peer.put(&push_at(tick)?))?;
+    let settled = peer.settled();
+    Ok((settled, count_of_settle(alloc, peer)?))
+}
+
+/// Where the circle is along x at a tick, and how many ticks that took to simulate.
+fn shown(alloc: Global, peer: &PeerCore, tick: u32) -> Result<(i64, u64), Fail> {
+    let mut work = Work::new(alloc);
+    let world = known(peer.world_at(alloc, tick, &mut work))?;
+    Ok((x_of(&world), work.meter().ticks))
+}
+
+/// Where the first body is along x.
+fn x_of(world: &World) -> i64 {
+    match world.bodies() {
+        [circle, ..] => circle.position.x.raw(),
+        [] => -1,
+    }
+}
+
+/// The tick of a command, the settled tick after it, and what the next settle counts, for a peer
+/// with a ring of 4 places at tick 10.
+const RING_OF_FOUR: [(u32, u32, u64); 5] = [
+    (10, 10, 0),
+    (9, 9, 1),
+    (7, 7, 3),
+    (6, 0, 10),
+    (15, 10, 0),
+];
+
+#[test]
+fn a_ring_of_four_keeps_four_worlds(rt: HostRuntime) -> Result<(), Fail> {
+    for (tick, settled, count) in RING_OF_FOUR {
+        let mut peer = settled_peer(rt.alloc(), 4, 10)?;
+        assert!(rt; peer.settled() == 10 && peer.meter().ticks == 10);
+        assert!(rt;
+            after_command(rt.alloc(), &mut peer, tick)? == (settled, count),
+            "tick {tick}"
+        );
+    }
+    Ok(())
+}
+
+/// The same for a ring of 64 places at tick 1,000.
+const KEYFRAME_EDGES: [(u32, u32, u64); 4] = [
+    (936, 768, 232),
+    (937, 937, 63),
+    (256, 256, 744),
+    (255, 0, 1000),
+];
+
+#[test]
+fn keyframes_stand_where_the_ring_ends(rt: HostRuntime) -> Result<(), Fail> {
+    for (tick, settled, count) in KEYFRAME_EDGES {
+        let mut peer = settled_peer(rt.alloc(), 64, 1000)?;
+        assert!(rt;
+            after_command(rt.alloc(), &mut peer, tick)? == (settled, count),
+            "tick {tick}"
+        );
+    }
+    Ok(())
+}
+
+#[test]
+fn a_far_too_late_command_goes_back_to_a_keyframe(rt: HostRuntime) -> Result<(), Fail> {
+    let mut late = settled_peer(rt.alloc(), 64, 500)?;
+    assert!(rt; after_command(rt.alloc(), &mut late, 300)? == (256, 244));
+    let mut early = settled_peer(rt.alloc(), 64, 0)?;
+    known(early.put(&push_at(300)?))?;
+    known(early.advance(500))?;
+    assert!(rt; count_of_settle(rt.alloc(), &mut early)? == 500);
+    for tick in [256, 300, 301, 437, 500] {
+        assert!(rt; shown(rt.alloc(), &late, tick)?.0 == shown(rt.alloc(), &early, tick)?.0);
+    }
+    Ok(())
+}
+
+#[test]
+fn a_shown_world_is_simulated_from_the_nearest_one(rt: HostRuntime) -> Result<(), Fail> {
+    let peer = settled_peer(rt.alloc(), 4, 10)?;
+    assert!(rt; shown(rt.alloc(), &peer, 9)?.1 == 0);
+    assert!(rt; shown(rt.alloc(), &peer, 5)?.1 == 5);
+    Ok(())
+}
+
+#[test]
+fn merged_commands_are_late_too(rt: HostRuntime) -> Result<(), Fail> {
+    let mut peer = settled_peer(rt.alloc(), 8, 10)?;
+    let mut commands = CommandMap::new(rt.alloc());
+    commands.put(&push_at(4)?)?;
+    commands.put(&push_at(6)?)?;
+    assert!(rt; known(peer.merge(&commands))? == 2 && peer.settled() == 4);
+    assert!(rt; count_of_settle(rt.alloc(), &mut peer)? == 6);
+    assert!(rt; known(peer.merge(&commands))? == 0 && peer.settled() == 10);
+    // 4 ticks at 0, two at 1/64 a tick, and four at twice that.
+    assert!(rt; shown(rt.alloc(), &peer, 10)? == (2_621_440, 0));
+    Ok(())
+}

@@ -1,0 +1,34 @@
+use Rattle.std.proofs.Common.{◌≡◌, ◌<◌, ◌+◌, ◌-◌, ℕ, suc, refl, ap, sym, ◌∙◌, subst, arith}
+use Rattle.pf_rollback.specs.Core.{HasSettled}
+use Rattle.pf_rollback.specs.Kept.{settled_tick}
+use Rattle.pf_rollback.proofs.Cores.{on_err, settled_more, settled_none, settled_same}
+use Rattle.pf_rollback.proofs.peer.PeerCore.settle.Goals as goal
+
+pub loop-tick-init : goal.loop-tick-init
+loop-tick-init g c =
+    let core = c.args.self.now in
+    let none : c.settled-settled.result - c.settled-settled.result ≡ 0 = omega arith in
+    record {
+      has = subst (λ n. HasSettled n core core) (sym none) (settled_none core core.kept core.meter refl refl);
+      settled = sym c.settled-settled.ensures.value;
+    }
+
+pub returns-in_err-settle_tick-clause-err : goal.returns-in_err-settle_tick-clause-err
+returns-in_err-settle_tick-clause-err g c =
+    let core = c.args.self.now in
+    let some : (more : ℕ) × (more < core.peer.reached - settled_tick core.kept) × HasSettled more core c.settle_tick.new.self = (
+      c.loop-tick.tick - c.settled-settled.result,
+      omega (arith, c.settled-settled.ensures.value, c.reached-last.ensures.value),
+      settled_same _ _ _ _ c.loop-tick.invariant.has c.in_err-settle_tick.ensures.err,
+    ) in
+    on_err _ some
+
+pub loop-tick-preserved : goal.loop-tick-preserved
+loop-tick-preserved g c =
+    let next : suc (c.loop-tick.tick - c.settled-settled.result) ≡ c.loop-tick.tick + 1 - c.settled-settled.result = omega arith in
+    record {
+      has =
+          subst (λ n. HasSettled n c.args.self.now c.settle_tick.new.self) next
+          (settled_more _ _ _ _ c.loop-tick.invariant.has c.in_ok-settle_tick.ensures.ok);
+      settled = c.in_ok-settle_tick.ensures.settled;
+    }

@@ -1,0 +1,20 @@
+use Rattle.std.proofs.Common.{min, ap, ◌∙◌, subst, arith}
+use Rattle.pf_rollback.specs.Snapshots.{Snapshots, IsSnapshots}
+use Rattle.pf_rollback.proofs.KeptWorlds.{nearest_recent, nearest_keyframe, keyframe_there, recent_kept}
+use Rattle.pf_rollback.proofs.snapshots.Snapshots.nearest.Goals as goal
+
+pub returns-in-Some-clause-tick : goal.returns-in-Some-clause-tick
+returns-in-Some-clause-tick c =
+    nearest_recent _ _ _ _ (subst IsSnapshots c.self.view_is c.self.invariant)
+    (c.min-last.ensures ∙ ap (λ (s : Snapshots). min c.args.tick s.settled) c.self.view_is) c.in-Some.ensures.some
+
+pub returns-in-Some-clause-kept : goal.returns-in-Some-clause-kept
+returns-in-Some-clause-kept c = recent_kept _ _ _ c.in-Some.ensures.some
+
+pub returns-clause-tick : goal.returns-clause-tick
+returns-clause-tick c =
+    nearest_keyframe _ _ _ (subst IsSnapshots c.self.view_is c.self.invariant)
+    (c.min-last.ensures ∙ ap (λ (s : Snapshots). min c.args.tick s.settled) c.self.view_is) c.in_default.ensures.none
+
+pub returns-clause-kept : goal.returns-clause-kept
+returns-clause-kept c = rw (← c.self.view_is) (keyframe_there _ _ _ c.self.invariant (omega arith) c.index.ensures)

@@ -1,0 +1,58 @@
+-- The ticks at which a peer keeps worlds: beside the start world, the last ones that were settled,
+-- and keyframes for commands that come far too late for these.
+use Rattle.std.specs.Prelude.{ℕ, zero, suc, ◌+◌, ◌-◌, ◌%◌, List, [], ◌∷◌, ◌++◌, length, filter, max, Option, Some, None, ◌==◌, nat_le, if◌then◌else◌, slice_index}
+use Rattle.circular_buffer.specs.Buffer.{keep_last}
+use Rattle.pf_rollback.specs.declared.snapshots.TheConstants.{KEYFRAME_INTERVAL}
+
+-- the ticks of kept worlds beside tick 0, whose world is always kept: the last ones that were
+-- settled, at most as many as the ring has places, and the keyframes; both lists rise
+pub record Ticks : Type 0 where
+  pub recent : List ℕ
+  pub keyframes : List ℕ
+  pub ring : ℕ
+
+-- at first there are none
+abbrev pub no_ticks : ℕ → Ticks
+no_ticks ring = record { recent = []; keyframes = []; ring = ring }
+
+-- the last of some ticks, or 0
+abbrev pub last_tick : List ℕ → ℕ
+last_tick ticks = slice_index ticks (length ticks - 1)
+
+-- the settled tick: the greatest kept one
+unfoldable pub settled_tick : Ticks → ℕ
+settled_tick k = max (last_tick k.recent) (last_tick k.keyframes)
+
+-- those of some ticks that are not above a tick
+abbrev pub up_to : ℕ → List ℕ → List ℕ
+up_to tick ticks = filter (λ u. nat_le u tick) ticks
+
+-- the kept ticks without those above a tick
+unfoldable pub ticks_up_to : ℕ → Ticks → Ticks
+ticks_up_to tick k =
+    record k { recent = up_to tick k.recent; keyframes = up_to tick k.keyframes }
+
+-- the kept ticks after news, of which this is the least tick, if there are any: a command of a tick
+-- changes the worlds after it, and no other
+abbrev pub ticks_after_news : Option ℕ → Ticks → Ticks
+ticks_after_news None k = k
+ticks_after_news (Some tick) k = ticks_up_to tick k
+
+-- the greatest kept tick that is not above a tick
+abbrev pub nearest_tick : Ticks → ℕ → ℕ
+nearest_tick k tick = settled_tick (ticks_up_to tick k)
+
+-- the kept ticks after a tick is settled
+unfoldable pub ticks_after_settling : Ticks → ℕ → Ticks
+ticks_after_settling k tick = record {
+  recent = keep_last k.ring (k.recent ++ tick ∷ []);
+  keyframes = if tick % KEYFRAME_INTERVAL == 0 then k.keyframes ++ tick ∷ [] else k.keyframes;
+  ring = k.ring;
+}
+
+-- the kept ticks after so many more ticks are settled
+unfoldable pub ticks_after_more : Ticks → ℕ → Ticks
+ticks_after_more k zero = k
+ticks_after_more k (suc more) =
+    let before = ticks_after_more k more in
+    ticks_after_settling before (settled_tick before + 1)
