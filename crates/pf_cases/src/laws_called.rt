@@ -119,6 +119,9 @@ fn laws_of_peers(_rt: HostRuntime) {
     laws::same_commands_same_worlds();
     laws::issued_commands_can_be_taken();
     laws::numbers_follow_the_greatest();
+    laws::dropping_keeps_earlier_ticks();
+    laws::settling_goes_on_tick_by_tick();
+    laws::counts_are_saturated_sums();
     sessions::shown_worlds_are_simulated();
     sessions::refused_events_change_nothing();
     sessions::same_commands_same_replies();

@@ -306,7 +306,7 @@ impl PeerCore {
     /// keeps its world. Returns the reached tick. After an error the ticks that were settled stand,
     /// and so do the commands and the reached tick. Takes no memory where the reached tick is
     /// settled.
-    pub fn settle<S: Steps>(&mut self, alloc: Global, steps: &mut S) -> Result<u32, AllocError>
+    pub fn settle<S: Steps>(&mut self, alloc: Global, steps: &mut S) -> Result<u32, S::Error>
         ensures answer { IfOk result (λ tick. tick ≡ self.old.peer.reached) }
         ensures settled { OnOk result (settled_tick self.new.kept ≡ self.old.peer.reached) }
         ensures ok { let missing = self.old.peer.reached - settled_tick self.old.kept in
@@ -328,7 +328,7 @@ impl PeerCore {
         alloc: Global,
         tick: u32,
         steps: &mut S,
-    ) -> Result<(), AllocError>
+    ) -> Result<(), S::Error>
         requires next { tick ≡ settled_tick self.old.kept }
         requires reached { tick < self.old.peer.reached }
         ensures settled { OnOk result (settled_tick self.new.kept ≡ tick + 1) }

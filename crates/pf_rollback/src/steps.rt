@@ -13,6 +13,9 @@ pub trait Steps {
     ghost use Rattle.pf_cache.specs.Meter.{work_after_tick};
     ghost use Rattle.pf_step.specs.Step.{narrow_phase_of_tick, step};
 
+    /// Why a step is not made: out of memory, or more.
+    type Error: From<AllocError>;
+
     /// The world one tick of 1/64 s later, with the payloads of the tick's commands in order of
     /// player, then number. The world has one state for each body of the scene. Counts the tick;
     /// an error counts none.
@@ -23,7 +26,7 @@ pub trait Steps {
         world: &World,
         payloads: &[Payload],
         work: &mut Work,
-    ) -> Result<World, AllocError>
+    ) -> Result<World, Self::Error>
         requires { length world.now.bodies ≡ length scene.now.fixtures }
         ensures value { IfOk result (λ next. next ≡ step scene.now world.now payloads.now) }
         ensures counted { OnOk result (work.new ≡ work_after_tick
@@ -37,6 +40,8 @@ pub trait Steps {
 pub struct Alone;
 
 impl Steps for Alone {
+    type Error = AllocError;
+
     fn step(
         &mut self,
         alloc: Global,

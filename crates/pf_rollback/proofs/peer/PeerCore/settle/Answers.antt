@@ -1,4 +1,4 @@
-use Rattle.std.proofs.Common.{◌≡◌, ◌<◌, ◌+◌, ◌-◌, ℕ, suc, refl, ap, sym, ◌∙◌, subst, arith}
+use Rattle.std.proofs.Common.{◌≡◌, ◌<◌, ◌+◌, ◌-◌, ℕ, suc, refl, sym, subst, arith}
 use Rattle.pf_rollback.specs.Core.{HasSettled}
 use Rattle.pf_rollback.specs.Kept.{settled_tick}
 use Rattle.pf_rollback.proofs.Cores.{on_err, settled_more, settled_none, settled_same}
