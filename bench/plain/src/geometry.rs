@@ -14,7 +14,10 @@
 //!
 //! In the task `pairs` there are HELD bodies, at most 1,024, by turns a circle and a box, and every eighth of them static from
 //! the first on; body `i` stands at `i % 32` and `i / 32` in units of 1.75, turned by the pair of `i % 4`. The pairs are found
-//! COUNT times, and printed is how many were found in all.
+//! COUNT times, by a grid of cells with sides of 4, and printed is how many were found in all.
+
+use std::collections::HashMap;
+use std::hash::{BuildHasherDefault, Hasher};
 
 use crate::{ONE, add, div, length, mul, sat};
 
@@ -431,16 +434,78 @@ fn meets(a: &Bounds, b: &Bounds) -> bool {
         && b.low.y <= a.high.y
 }
 
-/// All pairs by a double loop over bounds that are computed once for each body.
-fn pairs(bodies: &[(Body, bool)]) -> Vec<(usize, usize)> {
-    let bounds: Vec<Bounds> = bodies.iter().map(|(body, is_static)| bounds(body, *is_static)).collect();
-    let mut found = Vec::new();
-    for i in 0..bounds.len() {
-        for j in i + 1..bounds.len() {
-            if meets(&bounds[i], &bounds[j]) {
-                found.push((i, j));
+const SIDE: i64 = 1 << 26;
+const MOST: i64 = 16;
+
+/// A sum and a product for each number, as the twin's hash of cells.
+#[derive(Clone, Copy, Default)]
+struct CellHasher(u64);
+
+impl Hasher for CellHasher {
+    fn finish(&self) -> u64 {
+        self.0 ^ (self.0 >> 32)
+    }
+
+    fn write(&mut self, _: &[u8]) {}
+
+    fn write_i64(&mut self, number: i64) {
+        self.0 = self.0.wrapping_add(number as u64).wrapping_mul(0x9e37_79b9_7f4a_7c15);
+    }
+}
+
+type Cells = HashMap<(i64, i64), Vec<u16>, BuildHasherDefault<CellHasher>>;
+
+/// The columns and rows in which bounds lie: left, right, bottom, top.
+fn cells_of(bounds: &Bounds) -> [i64; 4] {
+    [bounds.low.x, bounds.high.x, bounds.low.y, bounds.high.y].map(|z| z.div_euclid(SIDE))
+}
+
+fn is_wide([left, right, bottom, top]: [i64; 4]) -> bool {
+    (right - left + 1) * (top - bottom + 1) > MOST
+}
+
+/// The bodies of each cell, and those of more than 16 cells.
+fn grid(bounds: &[Bounds]) -> (Cells, Vec<u16>) {
+    let (mut cells, mut wide) = (Cells::with_capacity_and_hasher(bounds.len(), Default::default()), Vec::new());
+    for (i, body) in bounds.iter().enumerate() {
+        let range @ [left, right, bottom, top] = cells_of(body);
+        if is_wide(range) {
+            wide.push(i as u16);
+            continue;
+        }
+        for x in left..=right {
+            for y in bottom..=top {
+                cells.entry((x, y)).or_default().push(i as u16);
             }
         }
+    }
+    (cells, wide)
+}
+
+/// All pairs, by a grid, over bounds that are computed once for each body.
+fn pairs(bodies: &[(Body, bool)]) -> Vec<(usize, usize)> {
+    let bounds: Vec<Bounds> = bodies.iter().map(|(body, is_static)| bounds(body, *is_static)).collect();
+    let (cells, wide) = grid(&bounds);
+    let (mut found, mut partners) = (Vec::new(), Vec::<u16>::new());
+    for (i, body) in bounds.iter().enumerate() {
+        partners.clear();
+        let mut add = |others: &[u16]| {
+            partners.extend(others.iter().filter(|j| i < **j as usize && meets(body, &bounds[**j as usize])));
+        };
+        let range @ [left, right, bottom, top] = cells_of(body);
+        if is_wide(range) {
+            found.extend((i + 1..bounds.len()).filter(|j| meets(body, &bounds[*j])).map(|j| (i, j)));
+            continue;
+        }
+        for x in left..=right {
+            for y in bottom..=top {
+                add(&cells[&(x, y)]);
+            }
+        }
+        add(&wide);
+        partners.sort_unstable();
+        partners.dedup();
+        found.extend(partners.iter().map(|j| (i, *j as usize)));
     }
     found
 }
