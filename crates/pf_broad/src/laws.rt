@@ -27,7 +27,8 @@ pub fn cells_contain_their_coordinates()
 /// Bounds that overlap lie in a common cell, also where they only touch on its border.
 pub fn overlapping_bounds_share_a_cell()
     ensures { (a b : Bounds) → IsOrdered a → IsOrdered b → overlaps a b ≡ true
-        → (cell : Cell) × (has_cell (cells_of a) cell ≡ true) × (has_cell (cells_of b) cell ≡ true) }
+        → (cell : Cell) × (has_cell (cells_of a) cell ≡ true)
+        × (has_cell (cells_of b) cell ≡ true) }
 {}
 
 /// The side of a cell, and the most cells of a body that is not wide.
