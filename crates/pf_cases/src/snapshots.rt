@@ -59,7 +59,8 @@ fn count_of_settle(alloc: Global, peer: &mut PeerCore) -> Result<u64, Fail> {
 
 /// The settled tick after a command of a tick, and how many ticks the next settle counts.
 fn after_command(alloc: Global, peer: &mut PeerCore, tick: u32) -> Result<(u32, u64), Fail> {
-    known(peer.put(&push_at(tick)?))?;
+    let command = push_at(tick)?;
+    known(peer.put(&command))?;
     let settled = peer.settled();
     Ok((settled, count_of_settle(alloc, peer)?))
 }
@@ -127,7 +128,8 @@ fn a_far_too_late_command_goes_back_to_a_keyframe(rt: HostRuntime) -> Result<(),
     let mut late = settled_peer(rt.alloc(), 64, 500)?;
     assert!(rt; after_command(rt.alloc(), &mut late, 300)? == (256, 244));
     let mut early = settled_peer(rt.alloc(), 64, 0)?;
-    known(early.put(&push_at(300)?))?;
+    let command = push_at(300)?;
+    known(early.put(&command))?;
     known(early.advance(500))?;
     assert!(rt; count_of_settle(rt.alloc(), &mut early)? == 500);
     for tick in [256, 300, 301, 437, 500] {
