@@ -1,4 +1,4 @@
-//! Snapshots: which ticks stay settled after a command, and how many ticks the next settle counts.
+//! Snapshots: how many ticks a settle and a shown world count.
 
 use crate::scenes::scene_of;
 use pf_cache::Work;
@@ -57,13 +57,6 @@ fn count_of_settle(alloc: Global, peer: &mut PeerCore) -> Result<u64, Fail> {
     Ok(peer.meter().ticks.saturating_sub(before))
 }
 
-/// The settled tick after a command of a tick, and how many ticks the next settle counts.
-fn after_command(alloc: Global, peer: &mut PeerCore, tick: u32) -> Result<(u32, u64), Fail> {
-    known(peer.put(&push_at(tick)?))?;
-    let settled = peer.settled();
-    Ok((settled, count_of_settle(alloc, peer)?))
-}
-
 /// Where the circle is along x at a tick, and how many ticks that took to simulate.
 fn shown(alloc: Global, peer: &PeerCore, tick: u32) -> Result<(i64, u64), Fail> {
     let mut work = Work::new(alloc);
@@ -77,63 +70,6 @@ fn x_of(world: &World) -> i64 {
         [circle, ..] => circle.position.x.raw(),
         [] => -1,
     }
-}
-
-/// The tick of a command, the settled tick after it, and what the next settle counts, for a peer
-/// with a ring of 4 places at tick 10.
-const RING_OF_FOUR: [(u32, u32, u64); 5] = [
-    (10, 10, 0),
-    (9, 9, 1),
-    (7, 7, 3),
-    (6, 0, 10),
-    (15, 10, 0),
-];
-
-#[test]
-fn a_ring_of_four_keeps_four_worlds(rt: HostRuntime) -> Result<(), Fail> {
-    for (tick, settled, count) in RING_OF_FOUR {
-        let mut peer = settled_peer(rt.alloc(), 4, 10)?;
-        assert!(rt; peer.settled() == 10 && peer.meter().ticks == 10);
-        assert!(rt;
-            after_command(rt.alloc(), &mut peer, tick)? == (settled, count),
-            "tick {tick}"
-        );
-    }
-    Ok(())
-}
-
-/// The same for a ring of 64 places at tick 1,000.
-const KEYFRAME_EDGES: [(u32, u32, u64); 4] = [
-    (936, 768, 232),
-    (937, 937, 63),
-    (256, 256, 744),
-    (255, 0, 1000),
-];
-
-#[test]
-fn keyframes_stand_where_the_ring_ends(rt: HostRuntime) -> Result<(), Fail> {
-    for (tick, settled, count) in KEYFRAME_EDGES {
-        let mut peer = settled_peer(rt.alloc(), 64, 1000)?;
-        assert!(rt;
-            after_command(rt.alloc(), &mut peer, tick)? == (settled, count),
-            "tick {tick}"
-        );
-    }
-    Ok(())
-}
-
-#[test]
-fn a_far_too_late_command_goes_back_to_a_keyframe(rt: HostRuntime) -> Result<(), Fail> {
-    let mut late = settled_peer(rt.alloc(), 64, 500)?;
-    assert!(rt; after_command(rt.alloc(), &mut late, 300)? == (256, 244));
-    let mut early = settled_peer(rt.alloc(), 64, 0)?;
-    known(early.put(&push_at(300)?))?;
-    known(early.advance(500))?;
-    assert!(rt; count_of_settle(rt.alloc(), &mut early)? == 500);
-    for tick in [256, 300, 301, 437, 500] {
-        assert!(rt; shown(rt.alloc(), &late, tick)?.0 == shown(rt.alloc(), &early, tick)?.0);
-    }
-    Ok(())
 }
 
 #[test]
