@@ -35,6 +35,9 @@ fn laws_of_shapes(_rt: HostRuntime) {
     laws::bodies_that_share_a_position_overlap();
     laws::named_limits();
     pairs::pairs_are_exact();
+    pairs::cells_contain_their_coordinates();
+    pairs::overlapping_bounds_share_a_cell();
+    pairs::named_limits();
 }
 
 #[test]

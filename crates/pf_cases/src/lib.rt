@@ -5,6 +5,8 @@
 #![tactic(auto)]
 
 #[cfg(test)]
+mod cells_of_scenes;
+#[cfg(test)]
 mod commands;
 #[cfg(test)]
 mod contacts;
