@@ -57,7 +57,7 @@ fn found(alloc: Global, text: &[u8]) -> Result<(Vec<Pair>, Vec<Touch>), Fail> {
 }
 
 /// The bodies of a contact point, and its feature.
-fn key(touch: &Touch) -> (usize, usize, u32) {
+fn key(touch: &Touch) -> (u16, u16, u32) {
     (touch.a, touch.b, touch.point.feature)
 }
 

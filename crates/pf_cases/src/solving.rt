@@ -40,6 +40,7 @@ fn tick(
     let mut rows = [Row::new(Entry {
         touch: *touch,
         impulses: kept,
+        place: 0,
         first: Side::Static,
         second: Side::Dynamic(0),
     })];
