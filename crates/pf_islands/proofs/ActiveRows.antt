@@ -1,6 +1,6 @@
 -- The rows of a tick.
 use Rattle.std.proofs.Common.{◌≡◌, ℕ, suc, ◌+◌, ◌<◌, ◌≤◌, Bool, true, false, List, [], ◌∷◌, ◌++◌, Some, length, map, filter, take, take_all, get_or, cond, refl, ap, ap₂, sym, ◌∙◌, subst, arith, slice_get, if◌then◌else◌}
-use Rattle.std.proofs.lemmas.List.{append-nil, drop_all, get_or_read, map_more}
+use Rattle.std.proofs.lemmas.List.{append-nil, drop_all, get_or_read, length-map, map_more}
 use Rattle.std.proofs.lemmas.List.FromFn.{get_or-enumerate_from, length-enumerate_from}
 use Rattle.std.proofs.Math.ListN.{get_or-map}
 use Rattle.std.proofs.lemmas.Simd.{map-map}
@@ -116,6 +116,15 @@ abbrev pub row_at : Scene → List Touch → List Contact → ℕ → Row
 row_at s touches contacts place =
     row_of s place (get_or touches place no_touch) (get_or contacts place no_contact)
 
+-- the row of a contact that is read at its place
+pub row_read : (s : Scene) (touches : List Touch) (contacts : List Contact) (place : ℕ) (t : Touch) (c : Contact) (r : Row)
+    → length contacts ≡ length touches → place < length touches → t ≡ get_or touches place t
+    → c ≡ get_or contacts place c → r ≡ row_of s place t c → r ≡ row_at s touches contacts place
+row_read s touches contacts place t c r same within t_is c_is r_is =
+    let touch = get_or_read touches place t within t_is no_touch in
+    let contact = get_or_read contacts place c (omega (arith, same, within)) c_is no_contact in
+    r_is ∙ ap₂ (row_of s place) touch contact
+
 -- the row of one place more
 pub row_more : (s : Scene) (touches : List Touch) (contacts : List Contact) (places : List ℕ) (k : ℕ) (t : Touch) (c : Contact)
     (r : Row) (made now : List Row) → length contacts ≡ length touches → k < length places
@@ -124,10 +133,9 @@ pub row_more : (s : Scene) (touches : List Touch) (contacts : List Contact) (pla
     → made ≡ map (row_at s touches contacts) (take k places) → now ≡ made ++ r ∷ []
     → now ≡ map (row_at s touches contacts) (take (k + 1) places)
 row_more s touches contacts places k t c r made now same inside within t_is c_is r_is made_is now_is =
-    let place = get_or places k 0 in
-    let touch = get_or_read touches place t within t_is no_touch in
-    let contact = get_or_read contacts place c (omega (arith, same, within)) c_is no_contact in
-    now_is ∙ ap₂ (λ rows x. rows ++ x ∷ []) made_is (r_is ∙ ap₂ (row_of s place) touch contact)
+    now_is
+    ∙ ap₂ (λ rows x. rows ++ x ∷ []) made_is
+    (row_read s touches contacts (get_or places k 0) t c r same within t_is c_is r_is)
     ∙ sym (map_more (row_at s touches contacts) places k 0 inside)
 
 module _ (s : Scene) (bodies : List BodyState) where
@@ -162,6 +170,16 @@ module _ (s : Scene) (bodies : List BodyState) (touches : List Touch) (contacts 
       (λ m stands.
       ap (λ t. row_of s m.0 t (get_or contacts m.0 no_contact)) (get_or_from_slice_get touches m.0 m.1 no_touch stands))
       (active_points s bodies touches) (points_stand s bodies touches)
+
+  -- what holds of all rows holds of the one at each place
+  pub row_holds : (P : Row → Type 0) (places : List ℕ) (k : ℕ) → All P (active_rows s bodies touches contacts)
+      → places ≡ map place_of_point (active_points s bodies touches) → k < length places
+      → P (row_at s touches contacts (get_or places k 0))
+  row_holds P places k all is within =
+      let at = row_at s touches contacts in
+      subst P (get_or-map at places k 0)
+      (subst (All P) (sym (ap (map at) is ∙ rows_at_places)) all k (at 0)
+      (omega (arith, length-map places at, within)))
 
   -- all places have their rows
   pub all_made : (places : List ℕ) (k : ℕ) (rows : List Row) → length places ≤ k

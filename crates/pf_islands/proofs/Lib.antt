@@ -10,3 +10,6 @@ pub mod Sleeping
 pub mod ActiveRows
 pub mod Members
 pub mod Dealing
+pub mod Elements
+pub mod Together
+pub mod HomeAgain

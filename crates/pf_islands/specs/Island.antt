@@ -1,24 +1,11 @@
 -- Islands, as Box2D 2.x's b2Island: some bodies that contacts connect, with the contacts that touch
 -- them. Its contacts name its bodies by their places in the island.
-use Rattle.std.specs.Prelude.{◌≡◌, ℕ, suc, ◌==◌, pos, Bool, true, false, ◌||◌, List, [], ◌∷◌, length, map, filter, slice_index_or, if◌then◌else◌}
+use Rattle.std.specs.Prelude.{◌≡◌, ℕ, suc, ◌==◌, Bool, true, false, ◌||◌, List, [], ◌∷◌, length, map, filter, slice_index_or, if◌then◌else◌}
 use Rattle.std.specs.List.{list_any, range_with_len}
-use Rattle.pf_rot.specs.Vector.{zero_vector}
-use Rattle.pf_rot.specs.Rotation.{upright}
-use Rattle.pf_shapes.specs.Body.{BodyState}
+use Rattle.pf_shapes.specs.Body.{BodyState, no_state}
 use Rattle.pf_cache.specs.declared.row.Side.{Side}
 use Rattle.pf_cache.specs.declared.row.Side.TheVariants.{Static, Dynamic}
 use Rattle.pf_cache.specs.Row.{Row}
-
--- what is read where a list has no such body
-abbrev pub no_state : BodyState
-no_state = record {
-  position = zero_vector;
-  rotation = upright;
-  velocity = zero_vector;
-  spin = pos 0;
-  timer = 0;
-  awake = false;
-}
 
 -- the bodies of the group of this name, by their numbers
 abbrev pub members : List ℕ → ℕ → List ℕ

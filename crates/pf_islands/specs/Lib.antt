@@ -8,3 +8,4 @@ pub mod Island
 pub mod Rows
 pub mod Split
 pub mod Dealing
+pub mod Join

@@ -1,14 +1,13 @@
 -- The rows of a tick: the contacts that are simulated, as the solver takes them.
 use Rattle.std.specs.Prelude.{ℕ, ◌<◌, Bool, not, ◌&&◌, ◌||◌, List, length, map, filter, slice_index_or, if◌then◌else◌}
 use Rattle.std.specs.List.{enumerate_from}
-use Rattle.pf_shapes.specs.Body.{BodyState}
+use Rattle.pf_shapes.specs.Body.{BodyState, no_state}
 use Rattle.pf_shapes.specs.Scene.{Scene, is_static_at}
 use Rattle.pf_manifold.specs.Touches.{Touch}
 use Rattle.pf_cache.specs.declared.row.Side.{Side}
 use Rattle.pf_cache.specs.declared.row.Side.TheVariants.{Static, Dynamic}
 use Rattle.pf_cache.specs.Contact.{Contact, no_contact}
 use Rattle.pf_cache.specs.Row.{IsEntryOf, Row, new_row}
-use Rattle.pf_islands.specs.Island.{no_state}
 
 -- where the body of a number stands for the solver: at its number, unless it is static
 abbrev pub side_of : Scene → ℕ → Side

@@ -4,12 +4,15 @@
 mod forest;
 mod groups;
 mod island;
+mod joining;
 pub mod laws;
 mod marks;
+mod rooms;
 mod rows;
 mod splitting;
 
 pub use groups::Groups;
 pub use island::Island;
+pub use joining::join_back;
 pub use rows::active_rows;
 pub use splitting::split;

@@ -26,7 +26,7 @@ fn side_of(scene: &Scene, number: usize) -> Side
 
 /// The row of a contact point and its contact, which stands at this place.
 #[tactic(auto, unfolding(crate::specs::Rows::row_of))]
-fn row_of(scene: &Scene, place: usize, touch: &Touch, contact: &Contact) -> Row
+pub(crate) fn row_of(scene: &Scene, place: usize, touch: &Touch, contact: &Contact) -> Row
     requires { IsTouchOf (length scene.now.fixtures) touch.now }
     ensures { result ≡ row_of scene.now place touch.now contact.now }
 {
@@ -65,7 +65,7 @@ fn is_active_contact(scene: &Scene, bodies: &[BodyState], touch: &Touch) -> bool
 
 /// The places of the contacts that are simulated. Takes no memory where there are no contact
 /// points.
-fn active_places(
+pub(crate) fn active_places(
     alloc: Global,
     scene: &Scene,
     bodies: &[BodyState],

@@ -1,16 +1,22 @@
 //! The islands of a tick.
 
-ghost use Rattle.std.specs.Prelude.{◌≡◌, ◌<◌, [], All, IfOk, OnOk, length, map, slice_index_or, slice_set};
+ghost use Rattle.std.specs.Prelude.{◌≡◌, ◌<◌, [], All, IfOk, IsOk, OnOk, length, map, slice_index_or, slice_set};
 ghost use Rattle.std.specs.List.{range_with_len};
 ghost use Rattle.pf_cache.specs.Row.{IsSide};
+ghost use Rattle.pf_manifold.specs.Touches.{IsTouchOf};
+ghost use Rattle.pf_islands.specs.Group.{groups as groups_of};
 ghost use Rattle.pf_islands.specs.Island.{members};
-ghost use Rattle.pf_islands.specs.Split.{AreWoken, IsActiveRow, active_names, is_active_name, island_of, islands, no_island};
+ghost use Rattle.pf_islands.specs.Rows.{active_rows};
+ghost use Rattle.pf_islands.specs.Split.{AreWoken, active_names, is_active_name, island_of, islands, no_island};
 ghost use Rattle.pf_islands.specs.Dealing.{ArePlaces, group_of_row, group_of_sides, placed_row, placed_side, slot_of, with_body, with_row};
 
 use crate::groups::Groups;
 use crate::island::Island;
-use pf_cache::{Row, Side};
-use pf_shapes::BodyState;
+use crate::rooms::{Room, rooms};
+use crate::rows::{active_places, row_of};
+use pf_cache::{Contact, Row, Side};
+use pf_manifold::Touch;
+use pf_shapes::{BodyState, Scene};
 use std::alloc::{AllocError, Global};
 
 /// Whether a body is the least one of its group, whose name it is then, and awake.
@@ -30,19 +36,22 @@ fn empty_islands(
     alloc: Global,
     names: &[usize],
     bodies: &[BodyState],
+    rooms: &[Room],
 ) -> Result<(Vec<Island>, Vec<usize>), AllocError>
-    requires { length bodies.now ≡ length names.now }
+    requires bodies { length bodies.now ≡ length names.now }
+    requires rooms { length rooms.now ≡ length names.now }
     ensures islands { IfOk result
         (λ made. made.0.items ≡ map (λ name. no_island) (active_names names.now bodies.now)) }
     ensures slots { IfOk result (λ made. made.1.items
         ≡ map (slot_of names.now bodies.now) (range_with_len 0 (length names.now))) }
+    ensures no_memory { length names.now ≡ 0 → IsOk result }
 {
     let mut islands = Vec::new(alloc);
     let mut slots = Vec::with_capacity(alloc, names.len())?;
     for number in 0..names.len() {
         slots.push_reserved(islands.len());
         if is_active_name(names, bodies, number) {
-            islands.push(Island::new(alloc))?;
+            islands.push(Island::with_room(alloc, rooms[number])?)?;
         }
     }
     Ok((islands, slots))
@@ -98,6 +107,7 @@ fn deal_bodies(
         ≡ map (λ name. island_of bodies.now [] (members names.now name))
         (active_names names.now bodies.now)) }
     ensures places { OnOk result (ArePlaces names.now bodies.now places.new) }
+    ensures no_memory { bodies.now ≡ [] → IsOk result }
 {
     for number in 0..bodies.len() {
         let body = &bodies[number];
@@ -135,6 +145,7 @@ fn group_of_sides(names: &[usize], first: Side, second: Side) -> usize
 }
 
 /// Adds a contact to the island of its group.
+#[inline]
 fn deal_row(
     islands: &mut [Island],
     slots: &[usize],
@@ -163,25 +174,37 @@ fn deal_row(
 
 /// The islands of a tick, as Box2D 2.x's `b2World::Solve` makes them: one for each group that is
 /// simulated, in the order of their least bodies, with copies of the bodies of the group and with
-/// the contacts that touch them. The rows are those of the contacts that are simulated.
+/// the contacts that touch them. The groups are those of the contact points, and awake as wholes;
+/// the contacts are those of the contact points. Takes no memory where there are no bodies and no
+/// contact points.
+#[inline(never)]
 pub fn split(
     alloc: Global,
+    scene: &Scene,
     groups: &Groups,
     bodies: &[BodyState],
-    rows: Vec<Row>,
+    touches: &[Touch],
+    contacts: &[Contact],
 ) -> Result<Vec<Island>, AllocError>
-    requires bodies { length bodies.now ≡ length groups.now }
+    requires bodies { length bodies.now ≡ length scene.now.fixtures }
+    requires touches { All (IsTouchOf (length bodies.now)) touches.now }
+    requires contacts { length contacts.now ≡ length touches.now }
+    requires groups { groups.now ≡ groups_of scene.now touches.now }
     requires woken { AreWoken groups.now bodies.now }
-    requires rows { All (IsActiveRow groups.now bodies.now) rows.items }
-    ensures { IfOk result
-        (λ found. found.items ≡ islands groups.now bodies.now rows.items) }
+    ensures value { IfOk result (λ found. found.items ≡ islands groups.now bodies.now
+        (active_rows scene.now bodies.now touches.now contacts.now)) }
+    ensures no_memory { bodies.now ≡ [] → touches.now ≡ [] → IsOk result }
 {
     let names = groups.names();
-    let (mut made, slots) = empty_islands(alloc, names, bodies)?;
+    let active = active_places(alloc, scene, bodies, touches)?;
+    let rooms = rooms(alloc, names, bodies, touches, &active)?;
+    let (mut made, slots) = empty_islands(alloc, names, bodies, &rooms)?;
     let mut places = Vec::with_capacity(alloc, names.len())?;
     places.resize(names.len(), 0)?;
     deal_bodies(&mut made, &mut places, &slots, names, bodies)?;
-    for row in rows {
+    for place in &active {
+        let place = *place;
+        let row = row_of(scene, place, &touches[place], &contacts[place]);
         deal_row(&mut made, &slots, &places, names, row)?;
     }
     Ok(made)

@@ -1,7 +1,7 @@
 -- The motion of a body at one tick, as b2Body keeps it.
-use Rattle.std.specs.Prelude.{ℕ, ℤ, pos, Bool, not}
+use Rattle.std.specs.Prelude.{ℕ, ℤ, pos, Bool, false, not}
 use Rattle.pf_rot.specs.Vector.{V2, zero_vector}
-use Rattle.pf_rot.specs.Rotation.{Rot}
+use Rattle.pf_rot.specs.Rotation.{Rot, upright}
 use Rattle.pf_shapes.specs.Fixture.{Fixture, is_static}
 
 -- position, rotation and velocities; the number of ticks for which the body has been still; and
@@ -23,6 +23,17 @@ start_of f position rotation = record {
   spin = pos 0;
   timer = 0;
   awake = not (is_static f);
+}
+
+-- at rest at the origin, upright, and not awake: what is read where a list has no such body
+abbrev pub no_state : BodyState
+no_state = record {
+  position = zero_vector;
+  rotation = upright;
+  velocity = zero_vector;
+  spin = pos 0;
+  timer = 0;
+  awake = false;
 }
 
 -- without velocity and spin

@@ -74,6 +74,25 @@ impl Eq for BodyState {
     ghost laws = { states_equivalent };
 }
 
+impl Default for BodyState {
+    ghost use Rattle.std.specs.Prelude.{◌≡◌};
+    ghost use Rattle.pf_shapes.specs.Body.{no_state};
+
+    ghost is_default = { λ b. b ≡ no_state };
+
+    /// At rest at the origin, upright, and not awake.
+    fn default() -> Self {
+        BodyState {
+            position: V2::ZERO,
+            rotation: Rot::UPRIGHT,
+            velocity: V2::ZERO,
+            spin: Fx::ZERO,
+            timer: 0,
+            awake: false,
+        }
+    }
+}
+
 impl BodyState {
     /// The state in which a body of this fixture starts: at rest, and awake unless static.
     pub fn start(fixture: &Fixture, position: V2, rotation: Rot) -> BodyState

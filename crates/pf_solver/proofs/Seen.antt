@@ -6,7 +6,7 @@ use Rattle.std.proofs.lemmas.List.{get_or-set_same, get_or-set_other, length-map
 use Rattle.std.proofs.lemmas.List.Elements.{All-head, All-tail, All-map, All-weaker}
 use Rattle.std.proofs.Math.ListN.{get_or-map}
 use Rattle.std.specs.Prelude.{All, ◌==◌, ◌||◌, if◌then◌else◌, slice_index_or, slice_set}
-use Rattle.pf_shapes.specs.Body.{BodyState, at_rest}
+use Rattle.pf_shapes.specs.Body.{BodyState, at_rest, no_state}
 use Rattle.pf_shapes.specs.Scene.{Scene}
 use Rattle.pf_manifold.specs.Key.{IsRising}
 use Rattle.pf_cache.specs.declared.row.Side.{Side}
@@ -18,7 +18,7 @@ use Rattle.pf_solver.specs.Bodies.{after_gravity, after_motion, after_timer, eac
 use Rattle.pf_solver.specs.Impulse.{ContactState, Motion, after_round, after_warm_start}
 use Rattle.pf_solver.specs.Solve.{pre_step_body, prepared_row, solved}
 use Rattle.pf_solver.specs.Velocities.{Batch, Step, bodies_after, bodies_with, contact_state, motion_at, pass, passes, row_after, with_motion}
-use Rattle.pf_islands.specs.Island.{no_state, has_number, place_of, states_of, is_among, side_among, touches_one, row_among, rows_among, IsOwnSide, IsOwnOrOther}
+use Rattle.pf_islands.specs.Island.{has_number, place_of, states_of, is_among, side_among, touches_one, row_among, rows_among, IsOwnSide, IsOwnOrOther}
 use Rattle.pf_solver.proofs.Passes.{after_length, bodies_length, with_length}
 use Rattle.pf_solver.proofs.Solved.{passes_bodies, passes_rows, pass_rows, still}
 

@@ -8,7 +8,7 @@ use Rattle.std.proofs.lemmas.Option.{none-some, same_Some, slice_get-map}
 use Rattle.std.specs.Option.{option_map}
 use Rattle.std.specs.Prelude.{All, if◌then◌else◌, slice_get, slice_index_or, slice_set}
 use Rattle.pf_rot.specs.Vector.{V2}
-use Rattle.pf_shapes.specs.Body.{BodyState, at_rest}
+use Rattle.pf_shapes.specs.Body.{BodyState, at_rest, no_state}
 use Rattle.pf_shapes.specs.Scene.{Scene, fixture_at}
 use Rattle.pf_cache.specs.declared.row.Side.{Side}
 use Rattle.pf_cache.specs.declared.row.Side.TheVariants.{Static, Dynamic}
@@ -20,7 +20,6 @@ use Rattle.pf_solver.specs.Constraint.{constraint_of, friction_of}
 use Rattle.pf_solver.specs.Impulse.{Motion, after_round, after_warm_start, friction_limit}
 use Rattle.pf_solver.specs.Solve.{pre_step_body, prepared_row, solved}
 use Rattle.pf_solver.specs.Velocities.{Batch, Step, bodies_after, body_with, pass, passes, row_after, with_motion}
-use Rattle.pf_islands.specs.Island.{no_state}
 use Rattle.pf_solver.proofs.Limits.{never_pulls, within_friction}
 
 -- a row without its accumulated impulses, the only part of it that a pass changes

@@ -4,7 +4,7 @@
 -- that a row names change, so rows are to name awake and static bodies.
 use Rattle.std.specs.Prelude.{ℕ, List, map, slice_index_or}
 use Rattle.pf_shapes.specs.Fixture.{Fixture, inverse_mass, inverse_inertia}
-use Rattle.pf_shapes.specs.Body.{BodyState}
+use Rattle.pf_shapes.specs.Body.{BodyState, no_state}
 use Rattle.pf_shapes.specs.Scene.{Scene, fixture_at}
 use Rattle.pf_cache.specs.declared.row.Side.{Side}
 use Rattle.pf_cache.specs.declared.row.Side.TheVariants.{Static, Dynamic}
@@ -14,7 +14,6 @@ use Rattle.pf_solver.specs.Bodies.{after_gravity, after_motion, after_timer, eac
 use Rattle.pf_solver.specs.Constraint.{PreStepBody, constraint_of}
 use Rattle.pf_solver.specs.Impulse.{after_round, after_warm_start}
 use Rattle.pf_solver.specs.Velocities.{Batch, pass, passes}
-use Rattle.pf_islands.specs.Island.{no_state}
 
 -- how easily impulses move a body of this fixture
 abbrev pub mass_of : Fixture → InverseMass

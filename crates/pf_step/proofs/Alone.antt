@@ -7,7 +7,7 @@ use Rattle.std.proofs.lemmas.Simd.{map-map}
 use Rattle.std.specs.List.{list_all, range_with_len, zip}
 use Rattle.std.specs.Prelude.{All, ◌&&◌, ◌||◌, not, slice_index_or, ℤ}
 use Rattle.pf_rot.specs.Vector.{V2}
-use Rattle.pf_shapes.specs.Body.{BodyState}
+use Rattle.pf_shapes.specs.Body.{BodyState, no_state}
 use Rattle.pf_shapes.specs.Scene.{Scene}
 use Rattle.pf_commands.specs.declared.payload.Payload.{Payload}
 use Rattle.pf_islands.specs.Sleep.{at_sleep, is_active, is_resting, rested, woken, rested_alone}
@@ -18,7 +18,7 @@ use Rattle.pf_solver.specs.declared.bodies.TheConstants.{STILL_TICKS}
 use Rattle.pf_solver.specs.Bodies.{after_motion, after_timer}
 use Rattle.pf_solver.specs.Solve.{solved}
 use Rattle.pf_solver.specs.Velocities.{Batch}
-use Rattle.pf_islands.specs.Island.{no_state, states_of, rows_among, members}
+use Rattle.pf_islands.specs.Island.{states_of, rows_among, members}
 use Rattle.pf_solver.proofs.Solved.{moved_on, solved_body, solved_length}
 use Rattle.pf_step.specs.Commands.{after_commands}
 use Rattle.pf_step.specs.Laws.{batch_of_tick, names_of_tick}
@@ -26,7 +26,7 @@ use Rattle.pf_step.specs.Step.{step, touching}
 use Rattle.pf_step.specs.World.{World}
 use Rattle.pf_step.proofs.Apart.{groups_alone}
 use Rattle.pf_step.proofs.Commanding.{commands_length}
-use Rattle.pf_step.proofs.Elements.{zip_at}
+use Rattle.pf_islands.proofs.Elements.{zip_at}
 use Rattle.pf_step.proofs.Lengths.{woken_length}
 
 -- ---- members of a group

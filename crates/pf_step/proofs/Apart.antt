@@ -31,7 +31,7 @@ use Rattle.pf_step.specs.Step.{touching}
 use Rattle.pf_step.specs.World.{World}
 use Rattle.pf_islands.proofs.ActiveRows.{HoldsWhere, all_rows}
 use Rattle.pf_step.proofs.Commanding.{commands_length}
-use Rattle.pf_step.proofs.Elements.{all_at, all_from}
+use Rattle.pf_islands.proofs.Elements.{all_at, all_from}
 use Rattle.pf_step.proofs.Lengths.{woken_length}
 use Rattle.pf_step.proofs.Touching.{points_of_bodies}
 use Rattle.pf_step.proofs.Undisturbed.{neighbours_at}

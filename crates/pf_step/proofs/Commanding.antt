@@ -10,7 +10,7 @@ use Rattle.pf_commands.specs.declared.payload.Payload.TheVariants.{Push, Turn, S
 use Rattle.pf_commands.specs.Payload.{body_of}
 use Rattle.pf_step.specs.Commands.{after_payload, bodies_with, after_command, after_commands, apply}
 use Rattle.pf_step.specs.World.{World}
-use Rattle.pf_step.proofs.Elements.{same_element, set_length, set_other, set_same}
+use Rattle.pf_islands.proofs.Elements.{same_element, set_length, set_other, set_same}
 
 -- ---- one command
 

@@ -21,7 +21,7 @@ use Rattle.pf_step.specs.Step.{step, touching}
 use Rattle.pf_islands.proofs.ActiveRows.{HoldsWhere, all_rows}
 use Rattle.pf_step.proofs.Commanding.{commands_length}
 use Rattle.pf_step.proofs.Contacts.{all_unmapped, same_bodies}
-use Rattle.pf_step.proofs.Elements.{all_at, all_from, same_element}
+use Rattle.pf_islands.proofs.Elements.{all_at, all_from, same_element}
 use Rattle.pf_step.proofs.Lengths.{sim_length}
 use Rattle.pf_step.proofs.Touching.{points_in_order, points_of_bodies}
 use Rattle.pf_step.proofs.Undisturbed.{contact_inactive, statics_sleep}

@@ -20,7 +20,7 @@ use Rattle.pf_step.specs.Simulation.{sim}
 use Rattle.pf_step.specs.Step.{step, touching}
 use Rattle.pf_step.specs.World.{World, start_of}
 use Rattle.pf_step.proofs.Commanding.{commands_length}
-use Rattle.pf_step.proofs.Elements.{zip_length}
+use Rattle.pf_islands.proofs.Elements.{zip_length}
 
 pub woken_length : (names : List ℕ) (bodies : List BodyState) → length names ≡ length bodies
     → length (woken names bodies) ≡ length bodies

@@ -1,7 +1,6 @@
 -- The lemmas of this crate.
 pub mod Ticks
 pub mod Orders
-pub mod Elements
 pub mod Commanding
 pub mod Lengths
 pub mod Ticked

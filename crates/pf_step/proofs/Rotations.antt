@@ -8,7 +8,7 @@ use Rattle.pf_commands.specs.Merge.{CommandMap, payloads_at}
 use Rattle.pf_step.specs.Simulation.{sim}
 use Rattle.pf_step.specs.World.{start_of}
 use Rattle.pf_step.proofs.Commanding.{Commanded, commands_case, same, woken}
-use Rattle.pf_step.proofs.Elements.{all_at, all_from}
+use Rattle.pf_islands.proofs.Elements.{all_at, all_from}
 use Rattle.pf_step.proofs.TickCases.{ticked_body}
 
 abbrev HasRotation : BodyState → Type 0

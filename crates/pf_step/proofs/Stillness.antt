@@ -11,7 +11,7 @@ use Rattle.pf_step.specs.Laws.{bodies_before_sleep}
 use Rattle.pf_step.specs.Simulation.{sim}
 use Rattle.pf_step.specs.World.{start_of}
 use Rattle.pf_step.proofs.Commanding.{Commanded, commands_case, same, woken}
-use Rattle.pf_step.proofs.Elements.{same_element}
+use Rattle.pf_islands.proofs.Elements.{same_element}
 use Rattle.pf_step.proofs.TickCases.{TickCase, falls_asleep, moves, rests, sleeps, slept, stays_awake, ticked_body}
 
 -- a body is still at a tick

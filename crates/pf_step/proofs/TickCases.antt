@@ -21,7 +21,7 @@ use Rattle.pf_step.specs.Laws.{bodies_before_sleep}
 use Rattle.pf_islands.specs.Rows.{active_rows}
 use Rattle.pf_step.specs.Step.{step, touching}
 use Rattle.pf_step.specs.World.{World}
-use Rattle.pf_step.proofs.Elements.{same_element}
+use Rattle.pf_islands.proofs.Elements.{same_element}
 
 -- a body that is not simulated sleeps on; one that is moves, or is still for one tick more, or goes
 -- to sleep with a full timer

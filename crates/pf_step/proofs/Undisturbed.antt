@@ -4,7 +4,7 @@ use Rattle.std.proofs.lemmas.Bool.{and_parts, false_from_ne_true, not-true, or_f
 use Rattle.std.proofs.lemmas.Option.{get_or_from_slice_get, slice_get-get_or, slice_get-map, slice_get_within}
 use Rattle.std.specs.List.{zip}
 use Rattle.std.specs.Prelude.{All, not, ◌&&◌}
-use Rattle.pf_shapes.specs.Body.{BodyState}
+use Rattle.pf_shapes.specs.Body.{BodyState, no_state}
 use Rattle.pf_shapes.specs.Fixture.{Fixture, is_static}
 use Rattle.pf_shapes.specs.Scene.{AreStarts, IsScene, Scene, fixture_at, is_static_at, no_fixture}
 use Rattle.pf_manifold.specs.Touches.{IsTouchOf, Touch}
@@ -26,10 +26,9 @@ use Rattle.pf_islands.specs.Rows.{active_rows, is_active_contact, is_awake_at, i
 use Rattle.pf_step.specs.Simulation.{sim}
 use Rattle.pf_step.specs.Step.{step, touching}
 use Rattle.pf_step.specs.World.{World, start_of}
-use Rattle.pf_islands.specs.Island.{no_state}
 use Rattle.pf_islands.proofs.ActiveRows.{HoldsWhere, all_rows}
 use Rattle.pf_step.proofs.Commanding.{commands_length, not_commanded, static_stays}
-use Rattle.pf_step.proofs.Elements.{all_at, all_from, same_element, zip_at}
+use Rattle.pf_islands.proofs.Elements.{all_at, all_from, same_element, zip_at}
 use Rattle.pf_step.proofs.Lengths.{sim_length}
 use Rattle.pf_step.proofs.Touching.{points_of_bodies}
 

@@ -1,10 +1,9 @@
 use Rattle.std.proofs.Common.{◌≡◌, ◌<◌, ◌∙◌, ap, ap₂, arith, get_or, length, length-set, set, sym, true}
 use Rattle.std.proofs.lemmas.List.{get_or_read}
 use Rattle.std.proofs.lemmas.List.FromFn.{get_or-map-range_with_len, length-map-range_with_len}
-use Rattle.pf_shapes.specs.Body.{BodyState}
+use Rattle.pf_shapes.specs.Body.{BodyState, no_state}
 use Rattle.pf_islands.specs.Dealing.{slot_of, with_body}
 use Rattle.pf_islands.specs.Split.{Island, no_island}
-use Rattle.pf_islands.specs.Island.{no_state}
 use Rattle.pf_islands.specs.Rows.{is_awake_at}
 use Rattle.pf_islands.proofs.Dealing.{dealt_more, dealt_same, first_part, island_at, placed_more, placed_same, slot_within}
 use Rattle.pf_islands.proofs.splitting.deal_bodies.Goals.{then-body+in_ok-places, else-body}

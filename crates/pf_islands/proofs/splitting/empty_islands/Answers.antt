@@ -2,7 +2,7 @@ use Rattle.std.proofs.Common.{rules, ◌≡◌, ◌∙◌, ◌++◌, ◌∷◌, 
 use Rattle.std.proofs.lemmas.List.FromFn.{map-range_with_len_more}
 use Rattle.pf_islands.specs.Dealing.{slot_of}
 use Rattle.pf_islands.proofs.Dealing.{made_count, made_more}
-use Rattle.pf_islands.proofs.splitting.empty_islands.Goals.{then-is_active_name+in_ok-push, else-is_active_name}
+use Rattle.pf_islands.proofs.splitting.empty_islands.Goals.{then-is_active_name+in_ok-with_room+in_ok-push, else-is_active_name}
 use Rattle.pf_islands.proofs.splitting.empty_islands.Goals as goal
 
 pub loop-number-preserved : goal.loop-number-preserved
@@ -13,8 +13,8 @@ loop-number-preserved c =
     let long : c.len.result ≡ length c.loop-number.islands.items = omega arith in
     record {
       islands = elim c.if-is_active_name.branch [
-        | then-is_active_name+in_ok-push w ↦ rw w.islands-is
-            (w.in_ok-push.ensures.items ∙ ap₂ (λ xs i. xs ++ i ∷ []) c.loop-number.invariant.islands w.new.ensures
+        | then-is_active_name+in_ok-with_room+in_ok-push w ↦ rw w.islands-is
+            (w.in_ok-push.ensures.items ∙ ap₂ (λ xs i. xs ++ i ∷ []) c.loop-number.invariant.islands w.in_ok-with_room.ensures.value
             ∙ sym (made_more names bodies k true (sym w.if-is_active_name.ensures)))
         | else-is_active_name w ↦ rw w.islands-is
             (c.loop-number.invariant.islands ∙ sym (append-nil _)

@@ -1,76 +1,158 @@
-use Rattle.std.proofs.Common.{◌<◌, ◌∙◌, ℕ, List, ap, arith, get_or, length, set, subst, sym}
+use Rattle.std.proofs.Common.{◌≡◌, ◌<◌, ◌∙◌, refl, [], ◌∷◌, ◌++◌, ℕ, List, ap, arith, get_or, length, map, set, subst, sym, take}
 use Rattle.std.specs.Prelude.{All}
-use Rattle.std.proofs.lemmas.List.{with_items_is}
-use Rattle.std.proofs.lemmas.List.Elements.{All-head, All-tail}
+use Rattle.std.proofs.lemmas.List.{map_more, take_all, with_items_is}
 use Rattle.std.proofs.lemmas.List.FromFn.{get_or-map-range_with_len, length-map-range_with_len}
+use Rattle.pf_cache.specs.Row.{Row}
 use Rattle.pf_islands.specs.Dealing.{ArePlaces, group_of_row, placed_row, slot_of, with_row}
-use Rattle.pf_islands.specs.Split.{AreWoken, IsActiveRow, no_island}
+use Rattle.pf_islands.specs.Group.{groups as groups_of}
+use Rattle.pf_islands.specs.Rows.{active_rows}
+use Rattle.pf_islands.specs.Split.{AreWoken, IsActiveRow, active_names, islands, no_island}
+use Rattle.pf_islands.proofs.ActiveRows.{all_made, row_at}
 use Rattle.pf_islands.proofs.Dealing.{full_part, group_active, row_dealt, slot_within}
+use Rattle.pf_islands.proofs.Starting.{groups_long}
+use Rattle.pf_islands.proofs.Together.{read_row_is_active}
 use Rattle.pf_islands.proofs.splitting.split.Goals as goal
 
-pub loop-row-init : goal.loop-row-init
-loop-row-init c = record {
-  made = with_items_is c.in_ok-made.made c.deal_bodies.new.islands (c.deal_bodies.auto.islands ∙ c.deref_mut.ensures.len)
-      ∙ c.in_ok-deal_bodies.ensures.islands;
-  left = subst (All (IsActiveRow c.names-names.result.now c.args.bodies.now)) (sym c.into_iter-row-iterator.ensures.into_iter_gives.0)
-      (subst (λ ns. All (IsActiveRow ns c.args.bodies.now) c.args.rows.items) (sym c.names-names.ensures.value) c.requires.rows);
-}
+pub rooms-requires-clause-bodies : goal.rooms-requires-clause-bodies
+rooms-requires-clause-bodies c =
+    c.requires.bodies ∙ sym (groups_long c.args.scene.now c.args.touches.now) ∙ sym (ap length c.requires.groups)
+    ∙ sym (ap length c.names-names.ensures.value)
+
+pub empty_islands-requires-clause-bodies : goal.empty_islands-requires-clause-bodies
+empty_islands-requires-clause-bodies c =
+    c.requires.bodies ∙ sym (groups_long c.args.scene.now c.args.touches.now) ∙ sym (ap length c.requires.groups)
+    ∙ sym (ap length c.names-names.ensures.value)
+
+pub deal_bodies-requires-clause-bodies : goal.deal_bodies-requires-clause-bodies
+deal_bodies-requires-clause-bodies c =
+    c.requires.bodies ∙ sym (groups_long c.args.scene.now c.args.touches.now) ∙ sym (ap length c.requires.groups)
+    ∙ sym (ap length c.names-names.ensures.value)
+
+pub loop-place-init : goal.loop-place-init
+loop-place-init c =
+    with_items_is c.in_ok-made.made c.deal_bodies.new.islands (c.deal_bodies.auto.islands ∙ c.deref_mut.ensures.len)
+    ∙ c.in_ok-deal_bodies.ensures.islands
+
+pub deal_row-requires-clause-first : goal.deal_row-requires-clause-first
+deal_row-requires-clause-first c =
+    let names = c.names-names.result.now in
+    let bodies = c.args.bodies.now in
+    let items = c.deref-place-items.result.now in
+    let items_are = c.deref-place-items.ensures.value in
+    let inside = subst (All (λ place. place < length c.args.touches.now)) (sym items_are) c.in_ok-active.ensures.within in
+    let read = read_row_is_active c.args.scene.now c.args.touches.now bodies c.args.contacts.now names items
+    c.loop-place.place-index c.index-touches-place.result c.index-contacts-place.result c.row_of-row.result
+    (c.names-names.ensures.value ∙ c.requires.groups) c.requires.bodies c.requires.touches c.requires.contacts inside
+    (items_are ∙ c.in_ok-active.ensures.value) c.loop-place-test.true c.index-touches-place.is c.index-contacts-place.is
+    c.row_of-row.ensures in
+    read.0.first
+
+pub deal_row-requires-clause-second : goal.deal_row-requires-clause-second
+deal_row-requires-clause-second c =
+    let names = c.names-names.result.now in
+    let bodies = c.args.bodies.now in
+    let items = c.deref-place-items.result.now in
+    let items_are = c.deref-place-items.ensures.value in
+    let inside = subst (All (λ place. place < length c.args.touches.now)) (sym items_are) c.in_ok-active.ensures.within in
+    let read = read_row_is_active c.args.scene.now c.args.touches.now bodies c.args.contacts.now names items
+    c.loop-place.place-index c.index-touches-place.result c.index-contacts-place.result c.row_of-row.result
+    (c.names-names.ensures.value ∙ c.requires.groups) c.requires.bodies c.requires.touches c.requires.contacts inside
+    (items_are ∙ c.in_ok-active.ensures.value) c.loop-place-test.true c.index-touches-place.is c.index-contacts-place.is
+    c.row_of-row.ensures in
+    read.0.second
 
 pub deal_row-requires-clause-slots : goal.deal_row-requires-clause-slots
 deal_row-requires-clause-slots c =
-    ap length (c.deref-in-loop-row.ensures.value ∙ c.in_ok-made.ensures.slots)
+    ap length (c.deref-in-loop-place.ensures.value ∙ c.in_ok-made.ensures.slots)
     ∙ length-map-range_with_len (slot_of c.names-names.result.now c.args.bodies.now) 0 (length c.names-names.result.now)
 
 pub deal_row-requires-clause-group : goal.deal_row-requires-clause-group
 deal_row-requires-clause-group c =
     let names = c.names-names.result.now in
     let bodies = c.args.bodies.now in
+    let items = c.deref-place-items.result.now in
+    let items_are = c.deref-place-items.ensures.value in
+    let inside = subst (All (λ place. place < length c.args.touches.now)) (sym items_are) c.in_ok-active.ensures.within in
+    let read = read_row_is_active c.args.scene.now c.args.touches.now bodies c.args.contacts.now names items
+    c.loop-place.place-index c.index-touches-place.result c.index-contacts-place.result c.row_of-row.result
+    (c.names-names.ensures.value ∙ c.requires.groups) c.requires.bodies c.requires.touches c.requires.contacts inside
+    (items_are ∙ c.in_ok-active.ensures.value) c.loop-place-test.true c.index-touches-place.is c.index-contacts-place.is
+    c.row_of-row.ensures in
     let named = subst (λ (ns : List ℕ). All (λ name. name < length ns) ns) (sym c.names-names.ensures.value) c.names-names.ensures.named in
     let woken = subst (λ ns. AreWoken ns bodies) (sym c.names-names.ensures.value) c.requires.woken in
-    let head = All-head (IsActiveRow names bodies) c.in-Some.row c.next.new.self.rest.items
-    (subst (All (IsActiveRow names bodies)) c.in-Some.ensures.steps.0 c.loop-row.invariant.left) in
-    (group_active names bodies c.in-Some.row named woken head).0
+    let own = group_active names bodies c.row_of-row.result named woken read.0 in
+    own.0
 
 pub deal_row-requires-clause-slot : goal.deal_row-requires-clause-slot
 deal_row-requires-clause-slot c =
     let names = c.names-names.result.now in
     let bodies = c.args.bodies.now in
+    let items = c.deref-place-items.result.now in
+    let items_are = c.deref-place-items.ensures.value in
+    let inside = subst (All (λ place. place < length c.args.touches.now)) (sym items_are) c.in_ok-active.ensures.within in
+    let read = read_row_is_active c.args.scene.now c.args.touches.now bodies c.args.contacts.now names items
+    c.loop-place.place-index c.index-touches-place.result c.index-contacts-place.result c.row_of-row.result
+    (c.names-names.ensures.value ∙ c.requires.groups) c.requires.bodies c.requires.touches c.requires.contacts inside
+    (items_are ∙ c.in_ok-active.ensures.value) c.loop-place-test.true c.index-touches-place.is c.index-contacts-place.is
+    c.row_of-row.ensures in
     let named = subst (λ (ns : List ℕ). All (λ name. name < length ns) ns) (sym c.names-names.ensures.value) c.names-names.ensures.named in
     let woken = subst (λ ns. AreWoken ns bodies) (sym c.names-names.ensures.value) c.requires.woken in
-    let head = All-head (IsActiveRow names bodies) c.in-Some.row c.next.new.self.rest.items
-    (subst (All (IsActiveRow names bodies)) c.in-Some.ensures.steps.0 c.loop-row.invariant.left) in
-    let own = group_active names bodies c.in-Some.row named woken head in
-    let name = group_of_row names c.in-Some.row in
-    let slot = ap (λ xs. get_or xs name 0) (c.deref-in-loop-row.ensures.value ∙ c.in_ok-made.ensures.slots)
+    let own = group_active names bodies c.row_of-row.result named woken read.0 in
+    let name = group_of_row names c.row_of-row.result in
+    let slot = ap (λ xs. get_or xs name 0) (c.deref-in-loop-place.ensures.value ∙ c.in_ok-made.ensures.slots)
     ∙ get_or-map-range_with_len (slot_of names bodies) 0 (length names) name name 0 own.0 (omega arith) in
-    let within = slot_within names bodies (full_part names bodies c.loop-row.yielded) name own.0 own.1 in
-    let lent = ap length (c.deref_mut-in-loop-row.ensures.value ∙ c.loop-row.invariant.made) in
+    let rows : List Row = map (row_at c.args.scene.now c.args.touches.now c.args.contacts.now) (take c.loop-place.place-index items) in
+    let within = slot_within names bodies (full_part names bodies rows) name own.0 own.1 in
+    let lent = ap length (c.deref_mut-in-loop-place.ensures.value ∙ c.loop-place.invariant) in
     omega (arith, slot, within, lent)
 
-pub loop-row-preserved : goal.loop-row-preserved
-loop-row-preserved c =
+pub loop-place-preserved : goal.loop-place-preserved
+loop-place-preserved c =
     let names = c.names-names.result.now in
     let bodies = c.args.bodies.now in
-    let places = c.deref-in-loop-row-2.result.now in
-    let row = c.in-Some.row in
-    let now = c.deref_mut-in-loop-row.result.now in
+    let items = c.deref-place-items.result.now in
+    let items_are = c.deref-place-items.ensures.value in
+    let inside = subst (All (λ place. place < length c.args.touches.now)) (sym items_are) c.in_ok-active.ensures.within in
+    let read = read_row_is_active c.args.scene.now c.args.touches.now bodies c.args.contacts.now names items
+    c.loop-place.place-index c.index-touches-place.result c.index-contacts-place.result c.row_of-row.result
+    (c.names-names.ensures.value ∙ c.requires.groups) c.requires.bodies c.requires.touches c.requires.contacts inside
+    (items_are ∙ c.in_ok-active.ensures.value) c.loop-place-test.true c.index-touches-place.is c.index-contacts-place.is
+    c.row_of-row.ensures in
     let named = subst (λ (ns : List ℕ). All (λ name. name < length ns) ns) (sym c.names-names.ensures.value) c.names-names.ensures.named in
     let woken = subst (λ ns. AreWoken ns bodies) (sym c.names-names.ensures.value) c.requires.woken in
-    let left = subst (All (IsActiveRow names bodies)) c.in-Some.ensures.steps.0 c.loop-row.invariant.left in
-    let head = All-head (IsActiveRow names bodies) row c.next.new.self.rest.items left in
-    let own = group_active names bodies row named woken head in
-    let name = group_of_row names row in
-    let slot = ap (λ xs. get_or xs name 0) (c.deref-in-loop-row.ensures.value ∙ c.in_ok-made.ensures.slots)
+    let own = group_active names bodies c.row_of-row.result named woken read.0 in
+    let name = group_of_row names c.row_of-row.result in
+    let slot = ap (λ xs. get_or xs name 0) (c.deref-in-loop-place.ensures.value ∙ c.in_ok-made.ensures.slots)
     ∙ get_or-map-range_with_len (slot_of names bodies) 0 (length names) name name 0 own.0 (omega arith) in
+    let row = c.row_of-row.result in
+    let at = row_at c.args.scene.now c.args.touches.now c.args.contacts.now in
+    let k = c.loop-place.place-index in
+    let now = c.deref_mut-in-loop-place.result.now in
+    let places = c.deref-in-loop-place-2.result.now in
     let noted = subst (ArePlaces names bodies)
-    (sym (c.deref-in-loop-row-2.ensures.value
+    (sym (c.deref-in-loop-place-2.ensures.value
     ∙ with_items_is c.resize.new.self c.deal_bodies.new.places (c.deal_bodies.auto.places ∙ c.deref_mut-2.ensures.len)))
     c.in_ok-deal_bodies.ensures.places in
-    record {
-      made = with_items_is c.loop-row.made c.deal_row.new.islands (c.deal_row.auto.islands ∙ c.deref_mut-in-loop-row.ensures.len)
-          ∙ row_dealt names bodies c.loop-row.yielded row places now c.deal_row.new.islands named woken noted head
-          (c.deref_mut-in-loop-row.ensures.value ∙ c.loop-row.invariant.made)
-          (c.in_ok-deal_row.ensures
-          ∙ ap (λ n. set now n (with_row (placed_row places row) (get_or now n no_island))) slot);
-      left = All-tail (IsActiveRow names bodies) row c.next.new.self.rest.items left;
-    }
+    with_items_is c.loop-place.made c.deal_row.new.islands (c.deal_row.auto.islands ∙ c.deref_mut-in-loop-place.ensures.len)
+    ∙ row_dealt names bodies (map at (take k items)) row places now c.deal_row.new.islands named woken noted read.0
+    (c.deref_mut-in-loop-place.ensures.value ∙ c.loop-place.invariant)
+    (c.in_ok-deal_row.ensures
+    ∙ ap (λ n. set now n (with_row (placed_row places row) (get_or now n no_island))) slot)
+    ∙ ap (λ (rows : List Row). map (full_part names bodies rows) (active_names names bodies))
+    (ap (λ (r : Row). map at (take k items) ++ r ∷ []) read.1 ∙ sym (map_more at items k 0 c.loop-place-test.true))
+
+pub returns-clause-value : goal.returns-clause-value
+returns-clause-value c =
+    let s = c.args.scene.now in
+    let touches = c.args.touches.now in
+    let contacts = c.args.contacts.now in
+    let bodies = c.args.bodies.now in
+    let items = c.deref-place-items.result.now in
+    let k = c.loop-place.place-index in
+    let rows : List Row = map (row_at s touches contacts) (take k items) in
+    let all : rows ≡ active_rows s bodies touches contacts =
+    all_made s bodies touches contacts items k rows c.loop-place-test.false
+    (c.deref-place-items.ensures.value ∙ c.in_ok-active.ensures.value) refl in
+    c.loop-place.invariant
+    ∙ ap (λ (rs : List Row). map (full_part c.names-names.result.now bodies rs) (active_names c.names-names.result.now bodies)) all
+    ∙ ap (λ ns. islands ns bodies (active_rows s bodies touches contacts)) c.names-names.ensures.value

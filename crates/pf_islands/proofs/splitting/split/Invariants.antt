@@ -1,11 +1,11 @@
-use Rattle.std.proofs.Common.{◌≡◌, map}
-use Rattle.std.specs.Prelude.{All}
-use Rattle.pf_islands.specs.Split.{IsActiveRow, active_names}
+use Rattle.std.proofs.Common.{◌≡◌, map, take}
+use Rattle.pf_islands.specs.Split.{active_names}
+use Rattle.pf_islands.proofs.ActiveRows.{row_at}
 use Rattle.pf_islands.proofs.Dealing.{full_part}
 use Rattle.pf_islands.proofs.splitting.split.Given as goal
 
-abbrev pub invariant-loop-row : goal.invariant-loop-row
-invariant-loop-row l = record {
-  made : l.made.items ≡ map (full_part l.names l.bodies l.yielded) (active_names l.names l.bodies);
-  left : All (IsActiveRow l.names l.bodies) l.row-iterator.rest.items;
-}
+abbrev pub invariant-loop-place : goal.invariant-loop-place
+invariant-loop-place l =
+    l.made.items
+    ≡ map (full_part l.names l.bodies (map (row_at l.scene l.touches l.contacts) (take l.place-index l.place-items)))
+    (active_names l.names l.bodies)

@@ -1,0 +1,166 @@
+-- The groups of a tick are awake as wholes, and no contact leads out of a group to another dynamic
+-- body.
+use Rattle.std.proofs.Common.{◌≡◌, ◌∙◌, inl, inr, ℕ, zero, suc, ◌<◌, ◌==◌, Bool, true, false, not, ◌&&◌, ◌||◌, List, [], ◌∷◌, Some, length, map, option_map, get_or, refl, sym, ap, subst, arith, slice_get, if◌then◌else◌}
+use Rattle.std.proofs.lemmas.Bool.{and_from, and_parts, eq-eqb}
+use Rattle.std.proofs.lemmas.List.FromFn.{get_or-map-range_with_len}
+use Rattle.std.proofs.lemmas.Option.{get_or_from_slice_get, slice_get-get_or, slice_get-map}
+use Rattle.std.specs.List.{zip}
+use Rattle.std.specs.Prelude.{All}
+use Rattle.pf_shapes.specs.Body.{BodyState, no_state}
+use Rattle.pf_shapes.specs.Scene.{Scene, is_static_at}
+use Rattle.pf_manifold.specs.Touches.{IsTouchOf, Touch}
+use Rattle.pf_cache.specs.declared.row.Side.{Side}
+use Rattle.pf_cache.specs.declared.row.Side.TheVariants.{Static, Dynamic}
+use Rattle.pf_cache.specs.Contact.{Contact, no_contact}
+use Rattle.pf_cache.specs.Row.{IsSide, Row}
+use Rattle.pf_islands.specs.Group.{group, groups}
+use Rattle.pf_islands.specs.Reach.{AreNeighbours, IsBetween, connects}
+use Rattle.pf_islands.specs.Rows.{active_points, active_rows, is_active_contact, is_awake_at, is_simulated_at, row_of, side_of}
+use Rattle.pf_islands.specs.Sleep.{is_active, woken}
+use Rattle.pf_islands.specs.Split.{AreTogether, AreWoken, IsActiveRow, is_active_name, is_awake_side}
+use Rattle.pf_islands.proofs.ActiveRows.{all_rows, row_at, row_holds, row_read}
+use Rattle.pf_islands.proofs.Chains.{one_name, reaches_name}
+use Rattle.pf_islands.proofs.Elements.{same_element, zip_at}
+use Rattle.pf_islands.proofs.Starting.{group_low, groups_long}
+
+-- a contact point that connects two bodies makes them neighbours
+pub neighbours_at : (s : Scene) (touches : List Touch) (k : ℕ) (t : Touch) (a b : ℕ) → slice_get touches k ≡ Some t
+    → IsBetween s t a b → AreNeighbours s touches a b
+neighbours_at s [] k t a b here between = absurd cc
+neighbours_at s (x ∷ touches) zero t a b here between =
+    inl (subst (λ (y : Touch). IsBetween s y a b) (sym (same_element x t here)) between)
+neighbours_at s (x ∷ touches) (suc k) t a b here between = inr (neighbours_at s touches k t a b here between)
+
+module _ (s : Scene) (touches : List Touch) where
+  -- the name of a body's group
+  pub name_of : (i : ℕ) → i < length s.fixtures → get_or (groups s touches) i 0 ≡ group s touches i
+  name_of i within = get_or-map-range_with_len (group s touches) 0 (length s.fixtures) i i 0 within (omega arith)
+
+  -- a name is that of its own group
+  own_name : (i : ℕ) → group s touches (group s touches i) ≡ group s touches i
+  own_name i = sym (one_name s touches i (group s touches i) (reaches_name s touches i))
+
+  -- ---- groups awake as wholes
+
+  module _ (bodies : List BodyState) (count : length bodies ≡ length s.fixtures) where
+    abbrev names : List ℕ
+    names = groups s touches
+
+    abbrev after : List BodyState
+    after = woken names bodies
+
+    -- a body is awake afterwards where its group has an awake one
+    pub woken_at : (i : ℕ) → i < length s.fixtures
+        → is_awake_at after i ≡ is_active names bodies (group s touches i)
+    unfolding woken
+    woken_at i within =
+        let first = slice_get-get_or names i 0 (omega (arith, groups_long s touches, within)) in
+        let second = slice_get-get_or bodies i no_state (omega (arith, count, within)) in
+        ap (λ (b : BodyState). b.awake)
+        (get_or_from_slice_get (map wake (zip names bodies)) i (wake (get_or names i 0, get_or bodies i no_state)) no_state
+        (slice_get-map wake (zip names bodies) i
+        ∙ ap (option_map wake) (zip_at names bodies i (get_or names i 0) (get_or bodies i no_state) first second)))
+        ∙ ap (is_active names bodies) (name_of i within)
+      where
+        wake : ℕ × BodyState → BodyState
+        wake m = record m.1 { awake = is_active names bodies m.0 }
+
+    -- the least body of a group is awake where its group has an awake body
+    least_awake : (i : ℕ) → i < length s.fixtures
+        → is_awake_at after (group s touches i) ≡ is_active names bodies (group s touches i)
+    least_awake i within =
+        let low = group_low s touches i in
+        woken_at (group s touches i) (omega (arith, low, within)) ∙ ap (is_active names bodies) (own_name i)
+
+    pub groups_woken : AreWoken names after
+    groups_woken = record {
+      active = λ i inside awake.
+          let within : i < length s.fixtures = omega (arith, inside, groups_long s touches) in
+          let low = group_low s touches i in
+          subst (λ n. is_active_name names after n ≡ true) (sym (name_of i within))
+          (and_from _ _
+          (eq-eqb (get_or names (group s touches i) 0) (group s touches i)
+          (name_of (group s touches i) (omega (arith, low, within)) ∙ own_name i))
+          (least_awake i within ∙ sym (woken_at i within) ∙ awake));
+      whole = λ i inside active.
+          let within : i < length s.fixtures = omega (arith, inside, groups_long s touches) in
+          let at = subst (λ n. is_active_name names after n ≡ true) (name_of i within) active in
+          woken_at i within ∙ sym (least_awake i within)
+          ∙ (and_parts (get_or names (group s touches i) 0 == group s touches i) (is_awake_at after (group s touches i)) at).1;
+    }
+
+  -- ---- contacts within one group
+
+  -- a contact of two dynamic bodies has both in one group
+  one_group : (k : ℕ) (t : Touch) → slice_get touches k ≡ Some t → is_static_at s t.a ≡ false → is_static_at s t.b ≡ false
+      → group s touches t.a ≡ group s touches t.b
+  one_group k t stands a_moves b_moves =
+      let joins : connects s t ≡ true = rw (a_moves, b_moves) refl in
+      let between : IsBetween s t t.a t.b = (joins, inl (refl, refl)) in
+      one_name s touches t.a t.b (t.b ∷ [], (neighbours_at s touches k t t.a t.b stands between, refl))
+
+  -- the dynamic bodies of a contact are in one group
+  pub together : (k : ℕ) (t : Touch) → slice_get touches k ≡ Some t → t.a < length s.fixtures → t.b < length s.fixtures
+      → AreTogether (groups s touches) (side_of s t.a) (side_of s t.b)
+  together k t stands first second = by (is_static_at s t.a) refl (is_static_at s t.b) refl
+    where
+      by : (d : Bool) → is_static_at s t.a ≡ d → (e : Bool) → is_static_at s t.b ≡ e
+          → AreTogether (groups s touches) (if d then Static else Dynamic t.a) (if e then Static else Dynamic t.b)
+      by true a_is true b_is = tt
+      by true a_is false b_is = tt
+      by false a_is true b_is = tt
+      by false a_is false b_is =
+          name_of t.a first ∙ one_group k t stands a_is b_is ∙ sym (name_of t.b second)
+
+  -- ---- rows
+
+  side_within : (n number : ℕ) → number < n → IsSide n (side_of s number)
+  side_within n number within = by (is_static_at s number)
+    where
+      by : (e : Bool) → IsSide n (if e then Static else Dynamic number)
+      by true = tt
+      by false = within
+
+  awake_side : (bodies : List BodyState) (number : ℕ)
+      → is_awake_side bodies (side_of s number) ≡ is_simulated_at s bodies number
+  awake_side bodies number = by (is_static_at s number)
+    where
+      by : (e : Bool) → is_awake_side bodies (if e then Static else Dynamic number)
+          ≡ (not e && is_awake_at bodies number)
+      by true = refl
+      by false = refl
+
+  -- the rows of a tick are those of contacts that are simulated, each within one group
+  pub rows_are_active : (bodies : List BodyState) (contacts : List Contact) → length bodies ≡ length s.fixtures
+      → All (IsTouchOf (length bodies)) touches
+      → All (IsActiveRow (groups s touches) bodies) (active_rows s bodies touches contacts)
+  unfolding row_of is_active_contact
+  rows_are_active bodies contacts count of =
+      all_rows s bodies (IsActiveRow (groups s touches) bodies) touches contacts
+      (λ k d within active place c.
+      let t = get_or touches k d in
+      let is = of k d within in
+      let first : t.a < length s.fixtures = omega (arith, is.0, is.1, count) in
+      let second : t.b < length s.fixtures = omega (arith, is.1, count) in
+      let long = groups_long s touches in
+      record {
+        first = side_within (length (groups s touches)) t.a (omega (arith, long, first));
+        second = side_within (length (groups s touches)) t.b (omega (arith, long, second));
+        active = rw (awake_side bodies t.a, awake_side bodies t.b) active;
+        together = together k t (slice_get-get_or touches k d within) first second;
+      })
+
+  -- and so is the one that is read at a place of a contact that is simulated
+  pub read_row_is_active : (bodies : List BodyState) (contacts : List Contact) (names places : List ℕ) (k : ℕ)
+      (t : Touch) (c : Contact) (r : Row) → names ≡ groups s touches → length bodies ≡ length s.fixtures
+      → All (IsTouchOf (length bodies)) touches → length contacts ≡ length touches
+      → All (λ place. place < length touches) places
+      → places ≡ map (λ (m : ℕ × Touch). m.0) (active_points s bodies touches)
+      → k < length places → t ≡ get_or touches (get_or places k 0) t → c ≡ get_or contacts (get_or places k 0) c
+      → r ≡ row_of s (get_or places k 0) t c
+      → IsActiveRow names bodies r × (r ≡ row_at s touches contacts (get_or places k 0))
+  read_row_is_active bodies contacts names places k t c r named count of same inside are within t_is c_is r_is =
+      let at = row_read s touches contacts (get_or places k 0) t c r same (inside k 0 within) t_is c_is r_is in
+      let active = row_holds s bodies touches contacts (IsActiveRow (groups s touches) bodies) places k
+      (rows_are_active bodies contacts count of) are within in
+      (subst (λ (ns : List ℕ). IsActiveRow ns bodies r) (sym named) (subst (IsActiveRow (groups s touches) bodies) (sym at) active), at)
