@@ -182,7 +182,7 @@ module _ (names : List ℕ) (bodies : List BodyState) where
   full_part rows name = island_of bodies rows (members names name)
 
   -- a body is a member of the group of its name
-  is_member : (name i : ℕ) → i < length names → has_number (members names name) i ≡ (get_or names i 0 == name)
+  pub is_member : (name i : ℕ) → i < length names → has_number (members names name) i ≡ (get_or names i 0 == name)
   is_member name i within =
       has_filter (λ k. get_or names k 0 == name) (range_with_len 0 (length names)) i
       ∙ ap (λ t. t && (get_or names i 0 == name))
@@ -194,7 +194,7 @@ module _ (names : List ℕ) (bodies : List BodyState) where
   side_member name (Dynamic n) is = is_member name n is
 
   -- a contact touches the bodies of its group alone
-  touches_group : (name : ℕ) (r : Row) → IsActiveRow names bodies r
+  pub touches_group : (name : ℕ) (r : Row) → IsActiveRow names bodies r
       → touches_one (members names name) r ≡ (group_of_row names r == name)
   touches_group name r is =
       ap₂ (λ s t. s || t) (side_member name r.entry.first is.first) (side_member name r.entry.second is.second)

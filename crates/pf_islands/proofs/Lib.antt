@@ -13,3 +13,4 @@ pub mod Dealing
 pub mod Elements
 pub mod Together
 pub mod HomeAgain
+pub mod Whole

@@ -1,19 +1,25 @@
 -- The islands of a tick, as Box2D 2.x's b2World::Solve makes them: one for each group that is
 -- simulated, with the bodies of the group and the contacts that touch them.
-use Rattle.std.specs.Prelude.{◌≡◌, ℕ, ◌<◌, ◌==◌, Bool, true, false, ◌&&◌, ◌||◌, List, [], length, map, filter, slice_index_or}
+use Rattle.std.specs.Prelude.{◌≡◌, ℕ, ◌<◌, ◌==◌, Bool, true, false, ◌&&◌, ◌||◌, List, [], All, length, map, filter, slice_index_or}
 use Rattle.std.specs.List.{range_with_len}
 use Rattle.pf_shapes.specs.Body.{BodyState}
+use Rattle.pf_shapes.specs.Scene.{Scene}
 use Rattle.pf_cache.specs.declared.row.Side.{Side}
 use Rattle.pf_cache.specs.declared.row.Side.TheVariants.{Static, Dynamic}
 use Rattle.pf_cache.specs.Row.{IsSide, Row}
 use Rattle.pf_islands.specs.Island.{members, rows_among, states_of}
-use Rattle.pf_islands.specs.Rows.{is_awake_at}
+use Rattle.pf_islands.specs.Rows.{IsRowOf, is_awake_at}
 
 -- some bodies by their numbers, their states, and the contacts that touch them
 pub record Island : Type 0 where
   pub numbers : List ℕ
   pub bodies : List BodyState
   pub rows : List Row
+
+-- an island of the scene: one state for each number, and contacts of its own bodies and static ones
+pub record IsIslandOf (s : Scene) (i : Island) : Type 0 where
+  pub paired : length i.bodies ≡ length i.numbers
+  pub rows : All (IsRowOf s (length i.bodies)) i.rows
 
 -- an island without bodies
 abbrev pub no_island : Island

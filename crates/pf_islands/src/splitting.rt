@@ -7,7 +7,7 @@ ghost use Rattle.pf_manifold.specs.Touches.{IsTouchOf};
 ghost use Rattle.pf_islands.specs.Group.{groups as groups_of};
 ghost use Rattle.pf_islands.specs.Island.{members};
 ghost use Rattle.pf_islands.specs.Rows.{active_rows};
-ghost use Rattle.pf_islands.specs.Split.{AreWoken, active_names, is_active_name, island_of, islands, no_island};
+ghost use Rattle.pf_islands.specs.Split.{AreWoken, IsIslandOf, active_names, is_active_name, island_of, islands, no_island};
 ghost use Rattle.pf_islands.specs.Dealing.{ArePlaces, group_of_row, group_of_sides, placed_row, placed_side, slot_of, with_body, with_row};
 
 use crate::groups::Groups;
@@ -193,6 +193,7 @@ pub fn split(
     requires woken { AreWoken groups.now bodies.now }
     ensures value { IfOk result (λ found. found.items ≡ islands groups.now bodies.now
         (active_rows scene.now bodies.now touches.now contacts.now)) }
+    ensures fit { IfOk result (λ found. All (IsIslandOf scene.now) found.items) }
     ensures no_memory { bodies.now ≡ [] → touches.now ≡ [] → IsOk result }
 {
     let names = groups.names();

@@ -23,8 +23,7 @@ use Rattle.pf_step.specs.World.{World}
 use Rattle.pf_islands.proofs.ActiveRows.{HoldsWhere, all_rows, rows_in_order}
 use Rattle.pf_step.proofs.Apart.{groups_alone}
 use Rattle.pf_step.proofs.Commanding.{commands_length}
-use Rattle.pf_step.proofs.Contacts.{all_unmapped}
-use Rattle.pf_islands.proofs.Elements.{all_from, same_element}
+use Rattle.pf_islands.proofs.Elements.{all_from, all_unmapped, same_element}
 use Rattle.pf_step.proofs.Touching.{points_in_order}
 
 -- some contact has the key of a contact point

@@ -25,6 +25,7 @@ use Rattle.pf_solver.specs.Constraint.{friction_of}
 use Rattle.pf_solver.specs.Impulse.{friction_limit}
 use Rattle.pf_solver.specs.Solve.{solved}
 use Rattle.pf_solver.proofs.Solved.{HasFriction, IsLimited, solved_friction, solved_limits, solved_touches}
+use Rattle.pf_islands.proofs.Elements.{all_unmapped}
 use Rattle.pf_step.specs.Commands.{after_commands}
 use Rattle.pf_step.specs.Laws.{IsWithinFriction}
 use Rattle.pf_islands.specs.Rows.{active_rows}
@@ -169,11 +170,6 @@ pub step_keys : (s : Scene) (w : World) (payloads : List Payload)
     → map (λ c. c.key) (step s w payloads).contacts ≡ map key_of (touching s (after_commands s.fixtures w.bodies payloads))
 unfolding step
 step_keys s w payloads = rows_keep_keys _ _ ∙ same_keys w.contacts (touching s (after_commands s.fixtures w.bodies payloads))
-
--- what holds of all elements of a mapped list
-pub all_unmapped : {X Y : Type 0} (P : Y → Type 0) (f : X → Y) (xs : List X) → All P (map f xs) → All (λ x. P (f x)) xs
-all_unmapped P f xs h = λ k d within.
-    subst P (get_or-map f xs k d (f d) within) (h k (f d) (subst (λ n. k < n) (sym (length-map xs f)) within))
 
 -- contacts with the keys of contact points are in their order
 same_order : (points : List Touch) (contacts : List Contact) → map (λ c. c.key) contacts ≡ map key_of points → AreTouches points

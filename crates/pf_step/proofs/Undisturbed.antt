@@ -16,6 +16,7 @@ use Rattle.pf_cache.specs.Row.{Row}
 use Rattle.pf_islands.specs.Group.{group, groups}
 use Rattle.pf_islands.specs.Reach.{AreNeighbours, IsBetween, Reaches, connects}
 use Rattle.pf_islands.specs.Sleep.{at_sleep, is_active, is_resting, rested, woken}
+use Rattle.pf_islands.proofs.Together.{neighbours_at}
 use Rattle.pf_islands.proofs.Sleeping.{name_at, woken_reach}
 use Rattle.pf_solver.specs.declared.bodies.TheConstants.{STILL_TICKS}
 use Rattle.pf_solver.specs.Solve.{solved}
@@ -33,13 +34,6 @@ use Rattle.pf_step.proofs.Lengths.{sim_length}
 use Rattle.pf_step.proofs.Touching.{points_of_bodies}
 
 -- ---- neighbours and static bodies
-
-pub neighbours_at : (s : Scene) (touches : List Touch) (k : ℕ) (t : Touch) (a b : ℕ) → slice_get touches k ≡ Some t
-    → IsBetween s t a b → AreNeighbours s touches a b
-neighbours_at s [] k t a b here between = absurd cc
-neighbours_at s (x ∷ touches) zero t a b here between =
-    inl (subst (λ (y : Touch). IsBetween s y a b) (sym (same_element x t here)) between)
-neighbours_at s (x ∷ touches) (suc k) t a b here between = inr (neighbours_at s touches k t a b here between)
 
 -- a static body has no neighbour
 between_dynamic : (s : Scene) (t : Touch) (a b : ℕ) → IsBetween s t a b → is_static_at s a ≡ false

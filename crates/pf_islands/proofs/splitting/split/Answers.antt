@@ -6,11 +6,12 @@ use Rattle.pf_cache.specs.Row.{Row}
 use Rattle.pf_islands.specs.Dealing.{ArePlaces, group_of_row, placed_row, slot_of, with_row}
 use Rattle.pf_islands.specs.Group.{groups as groups_of}
 use Rattle.pf_islands.specs.Rows.{active_rows}
-use Rattle.pf_islands.specs.Split.{AreWoken, IsActiveRow, active_names, islands, no_island}
-use Rattle.pf_islands.proofs.ActiveRows.{all_made, row_at}
+use Rattle.pf_islands.specs.Split.{AreWoken, IsActiveRow, IsIslandOf, active_names, islands, no_island}
+use Rattle.pf_islands.proofs.ActiveRows.{all_made, row_at, rows_fit}
 use Rattle.pf_islands.proofs.Dealing.{full_part, group_active, row_dealt, slot_within}
 use Rattle.pf_islands.proofs.Starting.{groups_long}
-use Rattle.pf_islands.proofs.Together.{read_row_is_active}
+use Rattle.pf_islands.proofs.Together.{read_row_is_active, rows_are_active}
+use Rattle.pf_islands.proofs.Whole.{islands_fit}
 use Rattle.pf_islands.proofs.splitting.split.Goals as goal
 
 pub rooms-requires-clause-bodies : goal.rooms-requires-clause-bodies
@@ -156,3 +157,15 @@ returns-clause-value c =
     c.loop-place.invariant
     ∙ ap (λ (rs : List Row). map (full_part c.names-names.result.now bodies rs) (active_names c.names-names.result.now bodies)) all
     ∙ ap (λ ns. islands ns bodies (active_rows s bodies touches contacts)) c.names-names.ensures.value
+
+pub returns-clause-fit : goal.returns-clause-fit
+returns-clause-fit c =
+    let s = c.args.scene.now in
+    let touches = c.args.touches.now in
+    let contacts = c.args.contacts.now in
+    let bodies = c.args.bodies.now in
+    let active = subst (λ (ns : List ℕ). All (IsActiveRow ns bodies) (active_rows s bodies touches contacts))
+    (sym c.requires.groups) (rows_are_active s touches bodies contacts c.requires.bodies c.requires.touches) in
+    subst (All (IsIslandOf s)) (sym (returns-clause-value c))
+    (islands_fit c.args.groups.now bodies (active_rows s bodies touches contacts) s active
+    (rows_fit s bodies touches contacts c.requires.bodies c.requires.touches))

@@ -1,0 +1,234 @@
+-- Islands have all that is simulated, and nothing else.
+use Rattle.std.proofs.Common.{◌≡◌, ◌≢◌, ◌∙◌, ℕ, zero, suc, ◌+◌, ◌<◌, ◌==◌, Bool, true, false, ◌||◌, List, [], ◌∷◌, Some, length, map, filter, get_or, cond, refl, sym, ap, ap₂, subst, arith, slice_get, if◌then◌else◌}
+use Rattle.std.proofs.lemmas.Bool.{eq-eqb, or_left, or_right, true≢false}
+use Rattle.std.proofs.lemmas.Bool.Decides.{Decides-eqb}
+use Rattle.std.proofs.lemmas.List.{length-map}
+use Rattle.std.proofs.lemmas.List.Elements.{All-filter, All-map, All-weaker}
+use Rattle.std.proofs.lemmas.Option.{same_Some}
+use Rattle.std.specs.List.{list_any, range_with_len}
+use Rattle.std.specs.Prelude.{All}
+use Rattle.pf_shapes.specs.Body.{BodyState}
+use Rattle.pf_shapes.specs.Scene.{Scene}
+use Rattle.pf_manifold.specs.Key.{AreTouches, IsKey, IsRising, key_of, rank}
+use Rattle.pf_manifold.proofs.Rising.{rising-weaken}
+use Rattle.pf_cache.specs.declared.row.Side.{Side}
+use Rattle.pf_cache.specs.declared.row.Side.TheVariants.{Static, Dynamic}
+use Rattle.pf_cache.specs.Contact.{Contact}
+use Rattle.pf_cache.specs.Row.{AreApart, AreRows, AreRowsAt, IsRowAt, IsSide, Row}
+use Rattle.pf_islands.specs.Dealing.{group_of_row}
+use Rattle.pf_islands.specs.Island.{IsOwnOrOther, IsOwnSide, has_number, is_among, members, place_of, row_among, rows_among, side_among, states_of, touches_one}
+use Rattle.pf_islands.specs.Join.{IsAtHome}
+use Rattle.pf_islands.specs.Rows.{IsRowOf, is_awake_at}
+use Rattle.pf_islands.specs.Split.{AreTogether, AreWoken, IsActiveRow, IsIslandOf, Island, active_names, is_active_name, island_of, islands}
+use Rattle.pf_islands.proofs.Elements.{all_unmapped}
+use Rattle.pf_islands.proofs.Dealing.{group_active, is_member, name_at, touches_group}
+use Rattle.pf_islands.proofs.Members.{chosen_pass, range_within}
+
+-- ---- places among numbers
+
+-- a number has a place
+place_within : (numbers : List ℕ) (n : ℕ) → has_number numbers n ≡ true → place_of numbers n < length numbers
+place_within [] n has = absurd (true≢false (sym has))
+place_within (m ∷ numbers) n has = by (m == n) (place_within numbers n) has
+  where
+    by : (e : Bool) → (has_number numbers n ≡ true → place_of numbers n < length numbers)
+        → (e || has_number numbers n) ≡ true → (if e then 0 else suc (place_of numbers n)) < suc (length numbers)
+    by true rest h = omega arith
+    by false rest h = omega (arith, rest h)
+
+-- and no other number has it
+place_apart : (numbers : List ℕ) (a b : ℕ) → has_number numbers a ≡ true → has_number numbers b ≡ true
+    → place_of numbers a ≡ place_of numbers b → a ≡ b
+place_apart [] a b has_a has_b same = absurd (true≢false (sym has_a))
+place_apart (m ∷ numbers) a b has_a has_b same =
+    by (m == a) refl (m == b) refl (place_apart numbers a b) has_a has_b same
+  where
+    by : (d : Bool) → (m == a) ≡ d → (e : Bool) → (m == b) ≡ e
+        → (has_number numbers a ≡ true → has_number numbers b ≡ true → place_of numbers a ≡ place_of numbers b → a ≡ b)
+        → (d || has_number numbers a) ≡ true → (e || has_number numbers b) ≡ true
+        → (if d then 0 else suc (place_of numbers a)) ≡ (if e then 0 else suc (place_of numbers b)) → a ≡ b
+    by true a_is true b_is rest h k s = sym ((Decides-eqb m a).0 a_is) ∙ (Decides-eqb m b).0 b_is
+    by true a_is false b_is rest h k s = absurd (omega (arith, s))
+    by false a_is true b_is rest h k s = absurd (omega (arith, s))
+    by false a_is false b_is rest h k s = rest h k (omega (arith, s))
+
+-- ---- rows of an island
+
+-- a contact that fits the world fits an island of its bodies
+row_fits_island : (s : Scene) (bodies : ℕ) (numbers : List ℕ) (r : Row) → IsRowOf s bodies r
+    → IsOwnSide numbers r.entry.first → IsOwnSide numbers r.entry.second
+    → IsRowOf s (length numbers) (row_among numbers r)
+row_fits_island s bodies numbers r is first second = record {
+  first = is.first;
+  second = is.second;
+  sides = record {
+    first = within r.entry.first first;
+    second = within r.entry.second second;
+    apart = apart r.entry.first r.entry.second first second is.sides.apart;
+  };
+}
+  where
+    within : (side : Side) → IsOwnSide numbers side → IsSide (length numbers) (side_among numbers side)
+    within Static own = tt
+    within (Dynamic n) own = place_within numbers n own
+
+    apart : (a b : Side) → IsOwnSide numbers a → IsOwnSide numbers b → AreApart a b
+        → AreApart (side_among numbers a) (side_among numbers b)
+    apart Static Static a_own b_own other = tt
+    apart Static (Dynamic n) a_own b_own other = tt
+    apart (Dynamic m) Static a_own b_own other = tt
+    apart (Dynamic m) (Dynamic n) a_own b_own other = λ same. other (place_apart numbers m n a_own b_own same)
+
+-- what holds of all rows of which both sides are an island's own
+all_among : (P : Row → Type 0) (numbers : List ℕ) (rows : List Row) → All (IsOwnOrOther numbers) rows
+    → All (λ r. IsOwnSide numbers r.entry.first → IsOwnSide numbers r.entry.second → P (row_among numbers r)) rows
+    → All P (rows_among numbers rows)
+all_among P numbers rows own each =
+    All-map P (row_among numbers) (filter (touches_one numbers) rows)
+    (λ k d within.
+    let sides = All-filter (touches_one numbers) (IsOwnOrOther numbers) rows own k d within
+    (chosen_pass (touches_one numbers) rows k d within) in
+    All-filter (touches_one numbers) Each rows each k d within sides.0 sides.1)
+  where
+    Each : Row → Type 0
+    Each r = IsOwnSide numbers r.entry.first → IsOwnSide numbers r.entry.second → P (row_among numbers r)
+
+-- rows at contacts, those that touch some bodies
+rows_among_at : (contacts : List Contact) (numbers : List ℕ) (rows : List Row) → AreRowsAt contacts rows
+    → AreRowsAt contacts (rows_among numbers rows)
+rows_among_at contacts numbers rows are = record {
+  order = record {
+    rising = rising 0 rows are.order.rising;
+    keys = All-map (λ t. IsKey (key_of t)) (λ (r : Row). r.entry.touch) (rows_among numbers rows)
+        (All-map (λ (r : Row). IsKey (key_of r.entry.touch)) (row_among numbers) (filter (touches_one numbers) rows)
+        (All-filter (touches_one numbers) (λ (r : Row). IsKey (key_of r.entry.touch)) rows (keys rows are.order.keys)));
+  };
+  places = All-map (IsRowAt contacts) (row_among numbers) (filter (touches_one numbers) rows)
+      (All-filter (touches_one numbers) (λ (r : Row). IsRowAt contacts (row_among numbers r)) rows
+      (All-weaker (IsRowAt contacts) (λ r. IsRowAt contacts (row_among numbers r))
+      (λ r is. record { within = is.within; key = is.key }) rows are.places));
+}
+  where
+    keys : (rs : List Row) → All (λ t. IsKey (key_of t)) (map (λ (r : Row). r.entry.touch) rs)
+        → All (λ (r : Row). IsKey (key_of r.entry.touch)) rs
+    keys rs all = all_unmapped (λ t. IsKey (key_of t)) (λ (r : Row). r.entry.touch) rs all
+
+    ranks : List Row → List ℕ
+    ranks rs = map (λ t. rank (key_of t)) (map (λ (r : Row). r.entry.touch) rs)
+
+    rising : (least : ℕ) (rs : List Row) → IsRising least (ranks rs) → IsRising least (ranks (rows_among numbers rs))
+    rising least [] h = tt
+    rising least (r ∷ rs) h = by (touches_one numbers r) (rising (suc (rank (key_of r.entry.touch))) rs h.1)
+      where
+        by : (e : Bool) → IsRising (suc (rank (key_of r.entry.touch))) (ranks (rows_among numbers rs))
+            → IsRising least
+            (ranks (map (row_among numbers) (cond e (r ∷ filter (touches_one numbers) rs) (filter (touches_one numbers) rs))))
+        by true rest = (h.0, rest)
+        by false rest =
+            let low = h.0 in
+            rising-weaken least (suc (rank (key_of r.entry.touch))) (ranks (rows_among numbers rs)) (omega (arith, low)) rest
+
+-- ---- the islands of a tick
+
+module _ (names : List ℕ) (bodies : List BodyState) where
+  -- a contact touches the bodies of one group alone
+  pub own_or_other : (name : ℕ) (r : Row) → IsActiveRow names bodies r → IsOwnOrOther (members names name) r
+  own_or_other name r is = by r.entry.first r.entry.second is.first is.second is.together
+    where
+      left : (x : Bool) → (x || false) ≡ true → x ≡ true
+      left true h = refl
+      left false h = h
+
+      both : (x y : Bool) → x ≡ y → (x || y) ≡ true → (x ≡ true) × (y ≡ true)
+      both true y same h = (refl, sym same)
+      both false y same h = absurd (true≢false (sym h ∙ sym same))
+
+      by : (first second : Side) → IsSide (length names) first → IsSide (length names) second
+          → AreTogether names first second
+          → (is_among (members names name) first || is_among (members names name) second) ≡ true
+          → IsOwnSide (members names name) first × IsOwnSide (members names name) second
+      by Static Static one two same h = (tt, tt)
+      by Static (Dynamic b) one two same h = (tt, h)
+      by (Dynamic a) Static one two same h = (left (has_number (members names name) a) h, tt)
+      by (Dynamic a) (Dynamic b) one two same h =
+          both (has_number (members names name) a) (has_number (members names name) b)
+          (is_member names bodies name a one ∙ ap (λ n. n == name) same ∙ sym (is_member names bodies name b two)) h
+
+  -- members are bodies
+  pub members_within : (name : ℕ) → All (λ n. n < length names) (members names name)
+  members_within name =
+      All-filter (λ i. get_or names i 0 == name) (λ n. n < length names) (range_with_len 0 (length names))
+      (range_within 0 (length names) (length names) (omega arith))
+
+  module _ (rows : List Row) where
+    abbrev island_named : ℕ → Island
+    island_named name = island_of bodies rows (members names name)
+
+    -- each island fits the scene
+    pub islands_fit : (s : Scene) → All (IsActiveRow names bodies) rows → All (IsRowOf s (length bodies)) rows
+        → All (IsIslandOf s) (islands names bodies rows)
+    islands_fit s active fits =
+        All-map (IsIslandOf s) island_named (active_names names bodies)
+        (λ k d within. fit (get_or (active_names names bodies) k d))
+      where
+        fit : (name : ℕ) → IsIslandOf s (island_named name)
+        fit name =
+            let numbers = members names name in
+            let long : length (states_of numbers bodies) ≡ length numbers = length-map numbers _ in
+            record {
+              paired = long;
+              rows = subst (λ n. All (IsRowOf s n) (rows_among numbers rows)) (sym long)
+                  (all_among (IsRowOf s (length numbers)) numbers rows
+                  (All-weaker (IsActiveRow names bodies) (IsOwnOrOther numbers) (λ r is. own_or_other name r is) rows active)
+                  (λ k d within first second.
+                  row_fits_island s (length bodies) numbers (get_or rows k d) (fits k d within) first second));
+            }
+
+    -- each has its place in the world
+    pub islands_at_home : All (IsAtHome (length names)) (islands names bodies rows)
+    islands_at_home =
+        All-map (IsAtHome (length names)) island_named (active_names names bodies)
+        (λ k d within. record {
+          paired = length-map (members names (get_or (active_names names bodies) k d)) _;
+          within = members_within (get_or (active_names names bodies) k d);
+        })
+
+    -- and its contacts have theirs
+    pub islands_at_contacts : (contacts : List Contact) → AreRowsAt contacts rows
+        → All (λ (i : Island). AreRowsAt contacts i.rows) (islands names bodies rows)
+    islands_at_contacts contacts are =
+        All-map (λ (i : Island). AreRowsAt contacts i.rows) island_named (active_names names bodies)
+        (λ k d within. rows_among_at contacts (members names (get_or (active_names names bodies) k d)) rows are)
+
+    -- the group of this name has an island
+    any_island : (q : Island → Bool) (name : ℕ) → name < length names → is_active_name names bodies name ≡ true
+        → q (island_named name) ≡ true → list_any q (islands names bodies rows) ≡ true
+    any_island q name within active passes =
+        any_named (active_names names bodies) (length (filter (is_active_name names bodies) (range_with_len 0 name)))
+        (name_at names bodies name within active)
+      where
+        any_named : (ns : List ℕ) (k : ℕ) → slice_get ns k ≡ Some name → list_any q (map island_named ns) ≡ true
+        any_named [] k here = absurd cc
+        any_named (n ∷ ns) zero here =
+            or_left (q (island_named n)) (list_any q (map island_named ns))
+            (ap (λ m. q (island_named m)) (same_Some n name here) ∙ passes)
+        any_named (n ∷ ns) (suc k) here =
+            or_right (q (island_named n)) (list_any q (map island_named ns)) (any_named ns k here)
+
+    -- each awake body is in an island
+    pub body_has_island : (j : ℕ) → j < length names → All (λ name. name < length names) names → AreWoken names bodies
+        → is_awake_at bodies j ≡ true
+        → list_any (λ (i : Island). has_number i.numbers j) (islands names bodies rows) ≡ true
+    body_has_island j within named woken awake =
+        any_island (λ i. has_number i.numbers j) (get_or names j 0) (named j 0 within) (woken.active j within awake)
+        (is_member names bodies (get_or names j 0) j within ∙ eq-eqb (get_or names j 0) (get_or names j 0) refl)
+
+    -- and so is each contact that is simulated
+    pub row_has_island : (r : Row) → All (λ name. name < length names) names → AreWoken names bodies
+        → IsActiveRow names bodies r
+        → list_any (λ (i : Island). touches_one i.numbers r) (islands names bodies rows) ≡ true
+    row_has_island r named woken active =
+        let group = group_active names bodies r named woken active in
+        any_island (λ i. touches_one i.numbers r) (group_of_row names r) group.0 group.1
+        (touches_group names bodies (group_of_row names r) r active
+        ∙ eq-eqb (group_of_row names r) (group_of_row names r) refl)
