@@ -5,10 +5,10 @@ use Rattle.std.proofs.lemmas.List.Elements.{All-head, All-tail}
 use Rattle.std.proofs.lemmas.List.FromFn.{get_or-map-range_with_len}
 use Rattle.std.proofs.lemmas.Slice.Zip.{get_or-zip, length-zip}
 use Rattle.std.specs.List.{range_with_len, zip}
-use Rattle.std.specs.Prelude.{All, if◌then◌else◌}
+use Rattle.std.specs.Prelude.{All}
 use Rattle.pf_shapes.specs.Body.{BodyState}
-use Rattle.pf_islands.specs.Marks.{each_named, rested_body, woken_body}
-use Rattle.pf_islands.specs.Sleep.{at_sleep, is_active, is_resting, rested, woken}
+use Rattle.pf_islands.specs.Marks.{each_named, woken_body}
+use Rattle.pf_islands.specs.Sleep.{is_active, woken}
 
 -- the first i bodies are changed, each by its name
 module _ {X : Type 0} (change : ℕ × X → X) (names : List ℕ) (bodies now : List X) (i : ℕ)
@@ -82,17 +82,6 @@ module _ (names : List ℕ) (marks : List Bool) (bodies : List BodyState) (named
   woken_is are =
       changes_agree (woken_body marks) (λ m. record m.1 { awake = is_active names bodies m.0 }) (length names)
       (λ name b small. ap (λ mark. record b { awake = mark }) (mark_is (is_active names bodies) are name small))
-      names bodies named
-
-  -- bodies that rest by these marks rest
-  pub rested_is : (full : ℕ) → marks ≡ map (is_resting full names bodies) (range_with_len 0 (length names))
-      → each_named (rested_body marks) names bodies ≡ rested full names bodies
-  unfolding rested
-  rested_is full are =
-      changes_agree (rested_body marks) (λ m. if m.1.awake && is_resting full names bodies m.0 then at_sleep m.1 else m.1)
-      (length names)
-      (λ name b small.
-      ap (λ mark. if b.awake && mark then at_sleep b else b) (mark_is (is_resting full names bodies) are name small))
       names bodies named
 
 -- a change of bodies by marks that were noted, written back and lent again, as the names were lent twice

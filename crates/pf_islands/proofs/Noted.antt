@@ -44,26 +44,10 @@ any_none e b true h = refl
 any_none true b false h = h
 any_none false b false h = refl
 
--- a test that fails decides at the name e, and one that passes changes nothing
-all_step : (e b r : Bool) → b ≡ false → (r && (not e || b)) ≡ cond e false r
-all_step true b true h = h
-all_step true b false h = refl
-all_step false b true h = refl
-all_step false b false h = refl
-
-all_none : (e b r : Bool) → b ≡ true → (r && (not e || b)) ≡ r
-all_none true b true h = h
-all_none false b true h = refl
-all_none e b false h = refl
-
 module _ (test : BodyState → Bool) (names : List ℕ) (bodies : List BodyState) where
   -- one of the first bodies of the group passes the test
   abbrev pub any_of : ℕ → ℕ → Bool
   any_of i name = list_any (λ (m : ℕ × BodyState). (m.0 == name) && test m.1) (take i (zip names bodies))
-
-  -- all of the first bodies of the group pass the test
-  abbrev pub all_of : ℕ → ℕ → Bool
-  all_of i name = list_all (λ (m : ℕ × BodyState). not (m.0 == name) || test m.1) (take i (zip names bodies))
 
   -- all bodies are passed
   zip_all : (i : ℕ) → length bodies ≤ i → take i (zip names bodies) ≡ zip names bodies
@@ -73,11 +57,6 @@ module _ (test : BodyState → Bool) (names : List ℕ) (bodies : List BodyState
   pub any_all : (i : ℕ) → length bodies ≤ i → (name : ℕ)
       → any_of i name ≡ list_any (λ (m : ℕ × BodyState). (m.0 == name) && test m.1) (zip names bodies)
   any_all i over name = ap (list_any (λ (m : ℕ × BodyState). (m.0 == name) && test m.1)) (zip_all i over)
-
-  -- all of all bodies of the group pass
-  pub all_all : (i : ℕ) → length bodies ≤ i → (name : ℕ)
-      → all_of i name ≡ list_all (λ (m : ℕ × BodyState). not (m.0 == name) || test m.1) (zip names bodies)
-  all_all i over name = ap (list_all (λ (m : ℕ × BodyState). not (m.0 == name) || test m.1)) (zip_all i over)
 
   -- the next body
   module _ (i : ℕ) (d : BodyState) (paired : length bodies ≡ length names) (within : i < length bodies) where
@@ -94,12 +73,6 @@ module _ (test : BodyState → Bool) (names : List ℕ) (bodies : List BodyState
         list_any_more (λ (m : ℕ × BodyState). (m.0 == name) && test m.1) (zip names bodies) i (0, d) within_both
         ∙ ap (λ (m : ℕ × BodyState). any_of i name || ((m.0 == name) && test m.1)) pair
 
-    -- what it leaves
-    all_more : (name : ℕ) → all_of (i + 1) name ≡ (all_of i name && (not (get_or names i 0 == name) || test (get_or bodies i d)))
-    all_more name =
-        list_all_more (λ (m : ℕ × BodyState). not (m.0 == name) || test m.1) (zip names bodies) i (0, d) within_both
-        ∙ ap (λ (m : ℕ × BodyState). all_of i name && (not (m.0 == name) || test m.1)) pair
-
     -- it passes
     pub any_passed : test (get_or bodies i d) ≡ true → (name : ℕ)
         → any_of (i + 1) name ≡ cond (get_or names i 0 == name) true (any_of i name)
@@ -108,12 +81,3 @@ module _ (test : BodyState → Bool) (names : List ℕ) (bodies : List BodyState
     -- it fails
     pub any_failed : test (get_or bodies i d) ≡ false → (name : ℕ) → any_of (i + 1) name ≡ any_of i name
     any_failed fails name = any_more name ∙ any_none (get_or names i 0 == name) _ (any_of i name) fails
-
-    -- it passes
-    pub all_passed : test (get_or bodies i d) ≡ true → (name : ℕ) → all_of (i + 1) name ≡ all_of i name
-    all_passed passes name = all_more name ∙ all_none (get_or names i 0 == name) _ (all_of i name) passes
-
-    -- it fails
-    pub all_failed : test (get_or bodies i d) ≡ false → (name : ℕ)
-        → all_of (i + 1) name ≡ cond (get_or names i 0 == name) false (all_of i name)
-    all_failed fails name = all_more name ∙ all_step (get_or names i 0 == name) _ (all_of i name) fails

@@ -159,7 +159,7 @@ module _ (s : Scene) (touches : List Touch) where
       → k < length places → t ≡ get_or touches (get_or places k 0) t → c ≡ get_or contacts (get_or places k 0) c
       → r ≡ row_of s (get_or places k 0) t c
       → IsActiveRow names bodies r × (r ≡ row_at s touches contacts (get_or places k 0))
-  read_row_is_active bodies contacts names places k t c r named count of same inside are within t_is c_is r_is =
+  read_row_is_active bodies contacts given places k t c r named count of same inside are within t_is c_is r_is =
       let at = row_read s touches contacts (get_or places k 0) t c r same (inside k 0 within) t_is c_is r_is in
       let active = row_holds s bodies touches contacts (IsActiveRow (groups s touches) bodies) places k
       (rows_are_active bodies contacts count of) are within in

@@ -1,16 +1,11 @@
 -- What a mark of each group does to the bodies of the group.
-use Rattle.std.specs.Prelude.{ℕ, Bool, false, ◌&&◌, List, map, if◌then◌else◌, slice_index_or}
+use Rattle.std.specs.Prelude.{ℕ, Bool, false, List, map, slice_index_or}
 use Rattle.std.specs.List.{zip}
 use Rattle.pf_shapes.specs.Body.{BodyState}
-use Rattle.pf_islands.specs.Sleep.{at_sleep}
 
 -- a body is awake where its group has a mark
 abbrev pub woken_body : List Bool → ℕ × BodyState → BodyState
 woken_body marks m = record m.1 { awake = slice_index_or marks m.0 false }
-
--- an awake body goes to sleep where its group has a mark
-abbrev pub rested_body : List Bool → ℕ × BodyState → BodyState
-rested_body marks m = if m.1.awake && slice_index_or marks m.0 false then at_sleep m.1 else m.1
 
 -- the bodies, each changed by its state and the name of its group
 abbrev pub each_named : (ℕ × BodyState → BodyState) → List ℕ → List BodyState → List BodyState

@@ -1,7 +1,7 @@
 //! Groups of bodies that contacts connect.
 
 use crate::forest::{flatten, link_all, singles};
-use crate::marks::{mark_active, mark_resting, rest_marked, unmarked, wake_marked};
+use crate::marks::{mark_active, unmarked, wake_marked};
 use pf_manifold::Touch;
 use pf_shapes::{BodyState, Scene};
 use std::alloc::{AllocError, Global};
@@ -12,7 +12,7 @@ use std::marker::Model;
 #[derive(Drop)]
 pub struct Groups {
     names: Vec<usize>,
-    /// Scratch space of `wake` and `rest`: a mark for each group, at its name.
+    /// Scratch space of `wake`: a mark for each group, at its name.
     marks: Vec<bool>,
 }
 
@@ -31,7 +31,7 @@ impl Groups {
     ghost use Rattle.std.specs.Prelude.{◌≡◌, ◌<◌, [], length, All, IfOk, IsOk};
     ghost use Rattle.pf_manifold.specs.Touches.{IsTouchOf};
     ghost use Rattle.pf_islands.specs.Group.{groups};
-    ghost use Rattle.pf_islands.specs.Sleep.{rested, woken};
+    ghost use Rattle.pf_islands.specs.Sleep.{woken};
 
     /// The groups of the scene's bodies that these contact points connect. Takes no memory where
     /// there are no bodies.
@@ -66,17 +66,5 @@ impl Groups {
     {
         mark_active(&mut self.marks, &self.names, bodies);
         wake_marked(&self.marks, &self.names, bodies);
-    }
-
-    /// The phase Sleep: the bodies of each awake group go to sleep where all of them have this
-    /// timer. Takes no memory.
-    #[inline(never)]
-    pub fn rest(&mut self, bodies: &mut [BodyState], full: u8)
-        requires { length bodies.old ≡ length self.old }
-        ensures bodies { bodies.new ≡ rested full self.old bodies.old }
-        ensures groups { self.new ≡ self.old }
-    {
-        mark_resting(&mut self.marks, &self.names, bodies, full);
-        rest_marked(&self.marks, &self.names, bodies);
     }
 }

@@ -9,10 +9,11 @@ pub mod laws;
 mod marks;
 mod rooms;
 mod rows;
+mod sleep;
 mod splitting;
 
 pub use groups::Groups;
 pub use island::Island;
 pub use joining::join_back;
-pub use rows::active_rows;
+pub use sleep::rest_alone;
 pub use splitting::split;

@@ -1,10 +1,8 @@
 //! The rows of a tick: the contacts that are simulated, as the solver takes them.
 
 ghost use Rattle.std.specs.Prelude.{◌≡◌, ◌<◌, [], All, length, map, IfOk, IsOk};
-ghost use Rattle.pf_manifold.specs.Key.{AreTouches, key_of};
 ghost use Rattle.pf_manifold.specs.Touches.{IsTouchOf};
-ghost use Rattle.pf_cache.specs.Row.{AreRows, AreRowsAt};
-ghost use Rattle.pf_islands.specs.Rows.{IsRowOf, active_points, active_rows, is_active_contact, is_simulated_at, row_of, side_of};
+ghost use Rattle.pf_islands.specs.Rows.{active_points, is_active_contact, is_simulated_at, row_of, side_of};
 
 use pf_cache::{Contact, Entry, Row, Side};
 use pf_manifold::Touch;
@@ -86,36 +84,4 @@ pub(crate) fn active_places(
         }
     }
     Ok(places)
-}
-
-/// The rows of the contacts that are simulated, those that have a dynamic awake body, in the order
-/// of their keys. The contacts are those of the contact points. Takes no memory where there are no
-/// contact points.
-#[inline(never)]
-pub fn active_rows(
-    alloc: Global,
-    scene: &Scene,
-    bodies: &[BodyState],
-    touches: &[Touch],
-    contacts: &[Contact],
-) -> Result<Vec<Row>, AllocError>
-    requires bodies { length bodies.now ≡ length scene.now.fixtures }
-    requires touches { All (IsTouchOf (length bodies.now)) touches.now }
-    requires contacts { length contacts.now ≡ length touches.now }
-    ensures value { IfOk result (λ rows. rows.items
-        ≡ active_rows scene.now bodies.now touches.now contacts.now) }
-    ensures rows { IfOk result
-        (λ rows. All (IsRowOf scene.now (length bodies.now)) rows.items) }
-    ensures order { AreTouches touches.now → IfOk result (λ rows. AreRows rows.items) }
-    ensures places { AreTouches touches.now → map (λ c. c.key) contacts.now ≡ map key_of touches.now
-        → IfOk result (λ rows. AreRowsAt contacts.now rows.items) }
-    ensures no_memory { touches.now ≡ [] → IsOk result }
-{
-    let places = active_places(alloc, scene, bodies, touches)?;
-    let mut rows = Vec::with_capacity(alloc, places.len())?;
-    for place in &places {
-        let place = *place;
-        rows.push_reserved(row_of(scene, place, &touches[place], &contacts[place]));
-    }
-    Ok(rows)
 }

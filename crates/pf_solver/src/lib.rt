@@ -6,11 +6,12 @@ mod bodies;
 mod constraint;
 mod fast_path;
 mod impulse;
+mod island;
 pub mod laws;
 mod solve;
 mod velocities;
 
 pub use bodies::{STILL_SPEED, STILL_SPIN, STILL_TICKS, after_gravity, after_motion, after_timer};
 pub use constraint::{BIAS_FACTOR, SLOP};
-pub use solve::solve_list;
+pub use island::Solve;
 pub use velocities::ROUNDS;

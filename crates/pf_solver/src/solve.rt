@@ -123,7 +123,7 @@ fn move_on(bodies: &mut [BodyState])
 /// anew. Takes no memory.
 #[inline(never)]
 #[tactic(auto, unfolding(crate::specs::Solve::solved))]
-pub fn solve_list(scene: &Scene, bodies: &mut [BodyState], rows: &mut [Row])
+pub(crate) fn solve_list(scene: &Scene, bodies: &mut [BodyState], rows: &mut [Row])
     requires { All (IsRowOf scene.now (length bodies.old)) rows.old }
     ensures { record { bodies = bodies.new; rows = rows.new }
         ≡ solved scene.now bodies.old rows.old }

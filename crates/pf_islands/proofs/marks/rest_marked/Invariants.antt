@@ -1,8 +1,0 @@
-use Rattle.std.proofs.Common.{◌≡◌, ◌++◌, drop, map, take}
-use Rattle.std.specs.List.{zip}
-use Rattle.pf_islands.specs.Marks.{rested_body}
-use Rattle.pf_islands.proofs.marks.rest_marked.Given as goal
-
-abbrev pub invariant-loop-number : goal.invariant-loop-number
-invariant-loop-number l =
-    l.bodies ≡ map (rested_body l.marks) (take l.number (zip l.names l.initial.bodies)) ++ drop l.number l.initial.bodies

@@ -1,0 +1,47 @@
+//! The phase Sleep of a group, as Box2D 2.x's `b2Island::Solve` ends.
+
+ghost use Rattle.std.specs.Prelude.{◌≡◌, ◌==◌, ◌↔◌, IsTrue, map};
+ghost use Rattle.std.specs.List.{list_all};
+ghost use Rattle.pf_islands.specs.Sleep.{at_sleep, rested_alone};
+
+use pf_num::Fx;
+use pf_rot::V2;
+use pf_shapes::BodyState;
+
+/// Stops a body and puts it to sleep.
+#[inline]
+fn fall_asleep(body: &mut BodyState)
+    ensures { body.new ≡ at_sleep body.old }
+{
+    body.velocity = V2::ZERO;
+    body.spin = Fx::ZERO;
+    body.timer = 0;
+    body.awake = false;
+}
+
+/// Stops all bodies and puts them to sleep.
+fn fall_asleep_all(bodies: &mut [BodyState])
+    ensures { bodies.new ≡ map at_sleep bodies.old }
+{
+    for body in bodies.iter_mut() {
+        fall_asleep(body);
+    }
+}
+
+/// Whether each body has this timer.
+#[inline]
+fn have_timer(bodies: &[BodyState], full: u8) -> bool
+    ensures { result ≡ list_all (λ b. b.timer == full) bodies.now }
+{
+    bodies.iter().all(|body| body.timer == full)
+}
+
+/// The bodies of a group stop and go to sleep where each of them has this timer. Takes no memory.
+#[inline]
+pub fn rest_alone(bodies: &mut [BodyState], full: u8)
+    ensures { bodies.new ≡ rested_alone full bodies.old }
+{
+    if have_timer(bodies, full) {
+        fall_asleep_all(bodies);
+    }
+}
