@@ -1,5 +1,5 @@
 -- Islands have all that is simulated, and nothing else.
-use Rattle.std.proofs.Common.{◌≡◌, ◌≢◌, ◌∙◌, ℕ, zero, suc, ◌+◌, ◌<◌, ◌==◌, Bool, true, false, ◌||◌, List, [], ◌∷◌, Some, length, map, filter, get_or, cond, refl, sym, ap, ap₂, subst, arith, slice_get, if◌then◌else◌}
+use Rattle.std.proofs.Common.{◌≡◌, ◌≢◌, ◌∙◌, ◌⊎◌, inl, inr, ℕ, zero, suc, ◌+◌, ◌<◌, ◌==◌, Bool, true, false, ◌||◌, List, [], ◌∷◌, Some, length, map, filter, get_or, cond, refl, sym, ap, ap₂, subst, arith, slice_get, if◌then◌else◌}
 use Rattle.std.proofs.lemmas.Bool.{eq-eqb, or_left, or_right, true≢false}
 use Rattle.std.proofs.lemmas.Bool.Decides.{Decides-eqb}
 use Rattle.std.proofs.lemmas.List.{length-map}
@@ -15,7 +15,7 @@ use Rattle.pf_cache.specs.declared.row.Side.{Side}
 use Rattle.pf_cache.specs.declared.row.Side.TheVariants.{Static, Dynamic}
 use Rattle.pf_cache.specs.Contact.{Contact}
 use Rattle.pf_cache.specs.Row.{AreApart, AreRows, AreRowsAt, IsRowAt, IsSide, Row}
-use Rattle.pf_islands.specs.Dealing.{group_of_row}
+use Rattle.pf_islands.specs.Dealing.{group_of_row, group_of_sides}
 use Rattle.pf_islands.specs.Island.{IsOwnOrOther, IsOwnSide, has_number, is_among, members, place_of, row_among, rows_among, side_among, states_of, touches_one}
 use Rattle.pf_islands.specs.Join.{IsAtHome}
 use Rattle.pf_islands.specs.Rows.{IsRowOf, is_awake_at}
@@ -153,6 +153,30 @@ module _ (names : List ℕ) (bodies : List BodyState) where
       by (Dynamic a) (Dynamic b) one two same h =
           both (has_number (members names name) a) (has_number (members names name) b)
           (is_member names bodies name a one ∙ ap (λ n. n == name) same ∙ sym (is_member names bodies name b two)) h
+
+  -- a dynamic body of a contact that is simulated is awake
+  pub sides_awake : (r : Row) → All (λ name. name < length names) names → AreWoken names bodies → IsActiveRow names bodies r
+      → (j : ℕ) → (r.entry.first ≡ Dynamic j) ⊎ (r.entry.second ≡ Dynamic j) → is_awake_at bodies j ≡ true
+  sides_awake r named woken is j =
+      by r.entry.first r.entry.second is.first is.second is.together (group_active names bodies r named woken is).1
+    where
+      at : (n name : ℕ) → n < length names → get_or names n 0 ≡ name → is_active_name names bodies name ≡ true
+          → Dynamic n ≡ Dynamic j → is_awake_at bodies j ≡ true
+      at n name within same active here =
+          let is_j : n ≡ j = cc in
+          subst (λ i. is_awake_at bodies i ≡ true) is_j
+          (woken.whole n within (ap (is_active_name names bodies) same ∙ active))
+
+      by : (first second : Side) → IsSide (length names) first → IsSide (length names) second
+          → AreTogether names first second → is_active_name names bodies (group_of_sides names first second) ≡ true
+          → (first ≡ Dynamic j) ⊎ (second ≡ Dynamic j) → is_awake_at bodies j ≡ true
+      by (Dynamic a) second one two same active (inl here) = at a (get_or names a 0) one refl active here
+      by (Dynamic a) (Dynamic b) one two same active (inr here) = at b (get_or names a 0) two (sym same) active here
+      by (Dynamic a) Static one two same active (inr here) = absurd cc
+      by Static (Dynamic b) one two same active (inl here) = absurd cc
+      by Static (Dynamic b) one two same active (inr here) = at b (get_or names b 0) two refl active here
+      by Static Static one two same active (inl here) = absurd cc
+      by Static Static one two same active (inr here) = absurd cc
 
   -- members are bodies
   pub members_within : (name : ℕ) → All (λ n. n < length names) (members names name)

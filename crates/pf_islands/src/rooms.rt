@@ -51,7 +51,11 @@ fn count_rows(
         let touch = &touches[*place];
         let first = usize::from(touch.a);
         let body = &bodies[first];
-        let number = if body.awake { first } else { usize::from(touch.b) };
+        let number = if body.awake {
+            first
+        } else {
+            usize::from(touch.b)
+        };
         let room = &mut rooms[names[number]];
         room.rows = room.rows.saturating_add(1);
     }

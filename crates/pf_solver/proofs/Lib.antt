@@ -7,3 +7,4 @@ pub mod Sizes
 pub mod StaticArms
 pub mod OneList
 pub mod Seen
+pub mod AfterTick

@@ -291,6 +291,14 @@ module _ (s : Scene) (bodies : List BodyState) (rows : List Row) where
       (All-weaker (IsRowAt contacts) (λ r. IsRowAt contacts (unloaded (prepared_row s fallen r)))
       (λ r h. record { within = h.within; key = h.key }) rows at)))
 
+  -- rows keep their sides
+  pub solved_sides : (P : Side → Side → Type 0) → All (λ r. P r.entry.first r.entry.second) rows
+      → All (λ r. P r.entry.first r.entry.second) (solved s bodies rows).rows
+  unfolding solved prepared_row
+  solved_sides P at =
+      still (λ r. P r.entry.first r.entry.second) prepared after.rows rows_same
+      (All-map (λ r. P r.entry.first r.entry.second) (prepared_row s fallen) rows at)
+
   -- each body has another velocity and spin after the phase Velocities, and is then moved
   pub solved_body : (i : ℕ) (c : BodyState) → slice_get (solved s bodies rows).bodies i ≡ Some c
       → IsSolvedAt bodies i c

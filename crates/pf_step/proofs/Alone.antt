@@ -21,7 +21,7 @@ use Rattle.pf_solver.specs.Velocities.{Batch}
 use Rattle.pf_islands.specs.Island.{states_of, rows_among, members}
 use Rattle.pf_solver.proofs.Solved.{moved_on, solved_body, solved_length}
 use Rattle.pf_step.specs.Commands.{after_commands}
-use Rattle.pf_step.specs.Laws.{batch_of_tick, names_of_tick}
+use Rattle.pf_step.specs.Activity.{batch_of_tick, names_of_tick}
 use Rattle.pf_step.specs.Step.{step, touching}
 use Rattle.pf_step.specs.World.{World}
 use Rattle.pf_step.proofs.Apart.{groups_alone}

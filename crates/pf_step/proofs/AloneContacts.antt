@@ -16,7 +16,7 @@ use Rattle.pf_solver.specs.Solve.{solved}
 use Rattle.pf_solver.specs.Velocities.{Batch}
 use Rattle.pf_solver.proofs.Solved.{solved_touches}
 use Rattle.pf_step.specs.Commands.{after_commands}
-use Rattle.pf_step.specs.Laws.{batch_of_tick, names_of_tick}
+use Rattle.pf_step.specs.Activity.{batch_of_tick, names_of_tick}
 use Rattle.pf_islands.specs.Rows.{row_of}
 use Rattle.pf_step.specs.Step.{step, touching}
 use Rattle.pf_step.specs.World.{World}

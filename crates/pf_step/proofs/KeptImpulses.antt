@@ -20,7 +20,8 @@ use Rattle.pf_step.specs.Simulation.{sim}
 use Rattle.pf_step.specs.Step.{step, touching}
 use Rattle.pf_islands.proofs.ActiveRows.{HoldsWhere, all_rows}
 use Rattle.pf_step.proofs.Commanding.{commands_length}
-use Rattle.pf_step.proofs.Contacts.{all_unmapped, same_bodies}
+use Rattle.pf_step.proofs.Contacts.{same_bodies}
+use Rattle.pf_islands.proofs.Elements.{all_unmapped}
 use Rattle.pf_islands.proofs.Elements.{all_at, all_from, same_element}
 use Rattle.pf_step.proofs.Lengths.{sim_length}
 use Rattle.pf_step.proofs.Touching.{points_in_order, points_of_bodies}

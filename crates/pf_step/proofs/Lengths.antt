@@ -7,7 +7,7 @@ use Rattle.pf_shapes.specs.Scene.{IsScene, Scene}
 use Rattle.pf_manifold.specs.Touches.{Touch}
 use Rattle.pf_commands.specs.declared.payload.Payload.{Payload}
 use Rattle.pf_commands.specs.Merge.{CommandMap, payloads_at}
-use Rattle.pf_cache.specs.Contact.{updated}
+use Rattle.pf_cache.specs.Contact.{Contact, updated}
 use Rattle.pf_islands.specs.Group.{groups}
 use Rattle.pf_islands.specs.Sleep.{rested, woken}
 use Rattle.pf_islands.proofs.Starting.{groups_long}
@@ -36,6 +36,11 @@ rested_length full names bodies same = length-map (zip names bodies) _ ∙ zip_l
 pub named : (s : Scene) (points : List Touch) (bodies : List BodyState) → length bodies ≡ length s.fixtures
     → length (groups s points) ≡ length bodies
 named s points bodies paired = groups_long s points ∙ sym paired
+
+-- each contact point has a contact
+pub updated_length : (old : List Contact) (points : List Touch) → length (updated old points) ≡ length points
+unfolding updated
+updated_length old points = length-map points _
 
 -- a world has one state for each body of the scene
 pub step_length : (s : Scene) (w : World) (payloads : List Payload) → length w.bodies ≡ length s.fixtures

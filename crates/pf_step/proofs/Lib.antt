@@ -3,7 +3,6 @@ pub mod Ticks
 pub mod Orders
 pub mod Commanding
 pub mod Lengths
-pub mod Ticked
 pub mod Empty
 pub mod TickCases
 pub mod Stillness
@@ -15,3 +14,4 @@ pub mod KeptImpulses
 pub mod Apart
 pub mod Alone
 pub mod AloneContacts
+pub mod Joined

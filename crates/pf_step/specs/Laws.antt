@@ -6,15 +6,12 @@ use Rattle.pf_shapes.specs.Scene.{Scene, fixture_at}
 use Rattle.pf_manifold.specs.Key.{Key}
 use Rattle.pf_commands.specs.declared.payload.Payload.{Payload}
 use Rattle.pf_commands.specs.Merge.{CommandMap, payloads_at}
-use Rattle.pf_cache.specs.Contact.{Impulses, updated}
-use Rattle.pf_islands.specs.Group.{groups}
+use Rattle.pf_cache.specs.Contact.{Impulses}
 use Rattle.pf_islands.specs.Reach.{Reaches}
-use Rattle.pf_islands.specs.Sleep.{woken}
 use Rattle.pf_solver.specs.Constraint.{friction_of}
 use Rattle.pf_solver.specs.Solve.{solved}
-use Rattle.pf_solver.specs.Velocities.{Batch}
+use Rattle.pf_step.specs.Activity.{batch_of_tick}
 use Rattle.pf_step.specs.Commands.{after_commands}
-use Rattle.pf_islands.specs.Rows.{active_rows}
 use Rattle.pf_step.specs.Simulation.{sim}
 use Rattle.pf_step.specs.Step.{touching}
 use Rattle.pf_step.specs.World.{World}
@@ -29,19 +26,6 @@ abbrev pub IsUndisturbed : Scene → List BodyState → ℕ → Type 0
 IsUndisturbed s bodies i =
     (j : ℕ) (b : BodyState) → slice_get bodies j ≡ Some b → Reaches s (touching s bodies) i j
     → b.awake ≡ false
-
--- the names of the groups in a tick
-abbrev pub names_of_tick : Scene → World → List Payload → List ℕ
-names_of_tick s w payloads =
-    groups s (touching s (after_commands s.fixtures w.bodies payloads))
-
--- the bodies and contacts that are solved in a tick
-abbrev pub batch_of_tick : Scene → World → List Payload → Batch
-batch_of_tick s w payloads =
-    let commanded = after_commands s.fixtures w.bodies payloads in
-    let points = touching s commanded in
-    let awake = woken (groups s points) commanded in
-    record { bodies = awake; rows = active_rows s awake points (updated w.contacts points) }
 
 -- the bodies just before the phase Sleep
 abbrev pub bodies_before_sleep : Scene → World → List Payload → List BodyState

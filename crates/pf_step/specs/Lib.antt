@@ -4,4 +4,5 @@ pub mod WorldLaws
 pub mod Commands
 pub mod Step
 pub mod Simulation
+pub mod Activity
 pub mod Laws

@@ -5,10 +5,12 @@
 #![tactic(auto)]
 
 mod command;
+mod crew;
 pub mod laws;
 mod step;
 mod world;
 
 pub use command::apply;
-pub use step::step_alone;
+pub use crew::{Crew, CrewError, StepError};
+pub use step::{step_alone, step_with};
 pub use world::World;

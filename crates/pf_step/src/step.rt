@@ -1,47 +1,28 @@
 //! The tick on one screen: from a world to the world one tick later, on one thread.
 
-ghost use Rattle.std.specs.Prelude.{◌≡◌, [], All, length, IfOk, IsOk, OnOk, OnErr};
+ghost use Rattle.std.specs.Prelude.{◌≡◌, [], All, length, map, IfOk, IsOk, OnOk, OnErr};
+ghost use Rattle.pf_manifold.specs.Key.{AreTouches};
 ghost use Rattle.pf_manifold.specs.Touches.{IsTouchOf};
 ghost use Rattle.pf_cache.specs.Manifolds.{kept_touches, no_manifolds};
 ghost use Rattle.pf_cache.specs.Meter.{work_after_tick};
-ghost use Rattle.pf_cache.specs.Row.{AreRowsAt, with_rows};
-ghost use Rattle.pf_islands.specs.Sleep.{rested};
-ghost use Rattle.pf_solver.specs.Solve.{solved};
-ghost use Rattle.pf_islands.specs.Rows.{IsRowOf};
+ghost use Rattle.pf_cache.specs.Row.{AreRowsAt};
+ghost use Rattle.pf_islands.specs.Join.{IsAtHome, joined_bodies, joined_contacts};
+ghost use Rattle.pf_islands.specs.Split.{IsIslandOf};
+ghost use Rattle.pf_solver.specs.Alone.{island_after_tick};
+ghost use Rattle.pf_step.specs.Activity.{batch_of_tick, contacts_of_tick, islands_of_tick};
+ghost use Rattle.pf_step.specs.Commands.{after_commands};
 ghost use Rattle.pf_step.specs.Step.{narrow_phase, narrow_phase_of_tick, step, touching};
 
 use crate::command::apply_all;
+use crate::crew::{Crew, StepError};
 use crate::world::{World, copy_of};
 use pf_broad::pairs;
-use pf_cache::{Contacts, Manifolds, NarrowPhase, Row, Work};
+use pf_cache::{Contacts, Manifolds, NarrowPhase, Work};
 use pf_commands::Payload;
-use pf_islands::{Groups, active_rows};
+use pf_islands::{Groups, Island, join_back, split};
 use pf_shapes::{BodyState, Scene};
-use pf_solver::{STILL_TICKS, solve_list};
+use pf_solver::Solve;
 use std::alloc::{AllocError, Global};
-
-/// The phases Gravity to Sleep, with the rows of the active contacts; what these have accumulated is
-/// kept.
-#[tactic(auto, using(pf_solver::proofs::Solved::solved_length))]
-fn solve_active(
-    scene: &Scene,
-    groups: &mut Groups,
-    bodies: &mut [BodyState],
-    rows: &mut [Row],
-    contacts: &mut Contacts,
-)
-    requires groups { length bodies.old ≡ length groups.old }
-    requires rows { All (IsRowOf scene.now (length bodies.old)) rows.old }
-    requires places { AreRowsAt contacts.old rows.old }
-    ensures bodies { bodies.new
-        ≡ rested STILL_TICKS groups.old (solved scene.now bodies.old rows.old).bodies }
-    ensures contacts { contacts.new
-        ≡ with_rows contacts.old (solved scene.now bodies.old rows.old).rows }
-{
-    solve_list(scene, bodies, rows);
-    contacts.store_impulses(rows);
-    groups.rest(bodies, STILL_TICKS);
-}
 
 /// The contact points of the bodies of a scene as they stand; kept ones are reused.
 #[tactic(auto, using(pf_cache::proofs::Unmoved::kept_points, pf_manifold::proofs::KeyOrder::touches_of_bodies))]
@@ -64,11 +45,89 @@ fn narrow_phase(
     kept.update(alloc, scene, bodies, &pairs)
 }
 
+/// A tick before its islands are solved.
+#[derive(Drop)]
+struct Tick {
+    /// All bodies, awake where they are simulated.
+    bodies: Vec<BodyState>,
+    /// All contacts.
+    contacts: Contacts,
+    /// Copies of the bodies and contacts that are simulated.
+    islands: Vec<Island>,
+    /// What the narrow phase found.
+    found: NarrowPhase,
+}
+
+/// The phases Commands, Points and Activity. The kept contact points are reused, and gone.
+#[tactic(auto, using(crate::proofs::Joined::awake_long, crate::proofs::Lengths::updated_length, pf_islands::proofs::Together::groups_woken))]
+fn prepare(
+    alloc: Global,
+    scene: &Scene,
+    world: &World,
+    payloads: &[Payload],
+    work: &mut Work,
+) -> Result<Tick, AllocError>
+    requires { length world.now.bodies ≡ length scene.now.fixtures }
+    ensures bodies { IfOk result (λ tick.
+        tick.bodies.items ≡ (batch_of_tick scene.now world.now payloads.now).bodies) }
+    ensures contacts { IfOk result
+        (λ tick. tick.contacts ≡ contacts_of_tick scene.now world.now payloads.now) }
+    ensures islands { IfOk result
+        (λ tick. tick.islands.items ≡ islands_of_tick scene.now world.now payloads.now) }
+    ensures fit { IfOk result (λ tick. All (IsIslandOf scene.now) tick.islands.items) }
+    ensures order { IfOk result (λ tick. AreTouches
+        (touching scene.now (after_commands scene.now.fixtures world.now.bodies payloads.now))) }
+    ensures found { IfOk result (λ tick. tick.found
+        ≡ narrow_phase_of_tick scene.now world.now payloads.now work.old.manifolds) }
+    ensures work { work.new ≡ record work.old { manifolds = no_manifolds } }
+    ensures no_memory { world.now.bodies ≡ [] → IsOk result }
+{
+    let kept = work.take_manifolds(alloc);
+    let mut bodies = copy_of(alloc, world.bodies())?;
+    apply_all(scene.fixtures(), &mut bodies, payloads);
+    let found = narrow_phase(alloc, scene, &bodies, kept)?;
+    let touches = found.manifolds.touches();
+    let contacts = world.contacts().update(touches)?;
+    let mut groups = Groups::new(alloc, scene, touches)?;
+    groups.wake(&mut bodies);
+    let islands = split(alloc, scene, &groups, &bodies, touches, contacts.as_slice())?;
+    Ok(Tick {
+        bodies,
+        contacts,
+        islands,
+        found,
+    })
+}
+
+/// Solves each island, one after the other. Takes no memory.
+fn solve_all(scene: &Scene, islands: &mut [Island])
+    requires { All (IsIslandOf scene.now) islands.old }
+    ensures { islands.new ≡ map (island_after_tick scene.now) islands.old }
+{
+    for island in islands.iter_mut() {
+        island.solve_in_place(scene);
+    }
+}
+
+/// The world that solved islands leave of these bodies and contacts.
+fn world_of(bodies: Vec<BodyState>, contacts: Contacts, islands: &[Island]) -> World
+    requires bodies { All (IsAtHome (length bodies.items)) islands.now }
+    requires contacts { All (λ i. AreRowsAt contacts i.rows) islands.now }
+    ensures bodies { result.bodies ≡ joined_bodies islands.now bodies.items }
+    ensures contacts { result.contacts ≡ joined_contacts islands.now contacts }
+{
+    let mut bodies = bodies;
+    let mut contacts = contacts;
+    join_back(islands, &mut bodies, &mut contacts);
+    World { bodies, contacts }
+}
+
 /// The world one tick of 1/64 s later, with the payloads of the tick's commands in order of player,
-/// then number. The world has one state for each body of the scene. Counts the tick and the pairs
-/// that could not reuse kept contact points, and keeps the points; after an error none are kept, and
-/// nothing is counted. Takes no memory where there are no bodies.
-#[tactic(auto, unfolding(crate::specs::Step::step), using(pf_islands::proofs::Starting::groups_long, crate::proofs::Lengths::woken_length, crate::proofs::Ticked::updated_length, crate::proofs::Ticked::ticked, pf_solver::proofs::Solved::solved_length))]
+/// then number. The world has one state for each body of the scene. Its islands are solved one
+/// after the other. Counts the tick and the pairs that could not reuse kept contact points, and
+/// keeps the points; after an error none are kept, and nothing is counted. Takes no memory where
+/// there are no bodies.
+#[tactic(auto, using(crate::proofs::Lengths::step_length))]
 pub fn step_alone(
     alloc: Global,
     scene: &Scene,
@@ -79,21 +138,38 @@ pub fn step_alone(
     requires { length world.now.bodies ≡ length scene.now.fixtures }
     ensures value { IfOk result (λ next. next ≡ step scene.now world.now payloads.now) }
     ensures bodies { IfOk result (λ next. length next.bodies ≡ length scene.now.fixtures) }
-    ensures counted { OnOk result (work.new
-        ≡ work_after_tick (narrow_phase_of_tick scene.now world.now payloads.now work.old.manifolds) work.old) }
+    ensures counted { OnOk result (work.new ≡ work_after_tick
+        (narrow_phase_of_tick scene.now world.now payloads.now work.old.manifolds) work.old) }
     ensures not_counted { OnErr result (work.new ≡ record work.old { manifolds = no_manifolds }) }
     ensures no_memory { world.now.bodies ≡ [] → IsOk result }
 {
-    let kept = work.take_manifolds(alloc);
-    let mut bodies = copy_of(alloc, world.bodies())?;
-    apply_all(scene.fixtures(), &mut bodies, payloads);
-    let found = narrow_phase(alloc, scene, &bodies, kept)?;
-    let touches = found.manifolds.touches();
-    let mut contacts = world.contacts().update(touches)?;
-    let mut groups = Groups::new(alloc, scene, touches)?;
-    groups.wake(&mut bodies);
-    let mut rows = active_rows(alloc, scene, &bodies, touches, contacts.as_slice())?;
-    solve_active(scene, &mut groups, &mut bodies, &mut rows, &mut contacts);
-    work.end_tick(found);
-    Ok(World { bodies, contacts })
+    let tick = prepare(alloc, scene, world, payloads, work)?;
+    let mut islands = tick.islands;
+    solve_all(scene, &mut islands);
+    work.end_tick(tick.found);
+    Ok(world_of(tick.bodies, tick.contacts, &islands))
+}
+
+/// The same world, with the islands solved by a crew, which is called once in each step. An error
+/// of the crew leaves what one of memory does.
+#[tactic(auto, using(crate::proofs::Lengths::step_length))]
+pub fn step_with<C: Crew>(
+    alloc: Global,
+    scene: &Scene,
+    world: &World,
+    payloads: &[Payload],
+    work: &mut Work,
+    crew: &mut C,
+) -> Result<World, StepError>
+    requires { length world.now.bodies ≡ length scene.now.fixtures }
+    ensures value { IfOk result (λ next. next ≡ step scene.now world.now payloads.now) }
+    ensures bodies { IfOk result (λ next. length next.bodies ≡ length scene.now.fixtures) }
+    ensures counted { OnOk result (work.new ≡ work_after_tick
+        (narrow_phase_of_tick scene.now world.now payloads.now work.old.manifolds) work.old) }
+    ensures not_counted { OnErr result (work.new ≡ record work.old { manifolds = no_manifolds }) }
+{
+    let tick = prepare(alloc, scene, world, payloads, work)?;
+    let solved = crew.solve(scene, tick.islands)?;
+    work.end_tick(tick.found);
+    Ok(world_of(tick.bodies, tick.contacts, &solved))
 }

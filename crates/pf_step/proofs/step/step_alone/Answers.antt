@@ -1,36 +1,55 @@
-use Rattle.std.proofs.Common.{rules, ◌≡◌, ◌∙◌, ◌++◌, ℕ, List, ap, ap₂, length, map, subst, take}
-use Rattle.std.proofs.Math.Seq.{take-append_seam}
-use Rattle.pf_cache.specs.Contact.{Contact}
-use Rattle.pf_cache.specs.Meter.{work_after_tick}
+use Rattle.std.proofs.Common.{◌≡◌, ◌∙◌, List, ap, ap₂, length, map, subst, sym}
+use Rattle.std.proofs.lemmas.List.{with_items_is}
+use Rattle.std.specs.Prelude.{All}
+use Rattle.pf_shapes.specs.Body.{BodyState}
 use Rattle.pf_cache.specs.Row.{AreRowsAt}
-use Rattle.pf_cache.proofs.Kept.{same_keys}
-use Rattle.pf_step.specs.Commands.{after_commands}
-use Rattle.pf_step.specs.Step.{narrow_phase}
+use Rattle.pf_islands.specs.Join.{IsAtHome, joined_bodies, joined_contacts}
+use Rattle.pf_islands.specs.Split.{Island}
+use Rattle.pf_solver.specs.Alone.{island_after_tick}
+use Rattle.pf_step.specs.Activity.{islands_of_tick}
+use Rattle.pf_step.specs.World.{World}
+use Rattle.pf_step.proofs.Joined.{ended_at_contacts, ended_at_home, ended_join}
+use Rattle.pf_step.proofs.Lengths.{step_length}
 use Rattle.pf_step.proofs.step.step_alone.Goals as goal
 
-taken : {X : Type 0} (n : ℕ) (xs ys : List X) → n ≡ length xs → take n (xs ++ ys) ≡ xs
-taken n xs ys e = ap (λ k. take k (xs ++ ys)) e ∙ take-append_seam xs ys
+pub world_of-requires-clause-bodies : goal.world_of-requires-clause-bodies
+world_of-requires-clause-bodies c =
+    let s = c.args.scene.now in
+    let w = c.args.world.now in
+    let payloads = c.args.payloads.now in
+    let ended : c.deref.result.now ≡ map (island_after_tick s) (islands_of_tick s w payloads) =
+    c.deref.ensures.value ∙ with_items_is c.in_ok-tick.tick.islands c.solve_all.new.islands (c.solve_all.auto.islands ∙ c.deref_mut.ensures.len)
+    ∙ c.solve_all.ensures ∙ ap (map (island_after_tick s)) (c.deref_mut.ensures.value ∙ c.in_ok-tick.ensures.islands) in
+    let home = subst (λ (bs : List BodyState). All (IsAtHome (length bs)) (map (island_after_tick s) (islands_of_tick s w payloads)))
+    (sym c.in_ok-tick.ensures.bodies) (ended_at_home s w payloads c.requires) in
+    subst (All (IsAtHome (length c.in_ok-tick.tick.bodies.items))) (sym ended) home
 
-pub returns-clause-counted : goal.returns-clause-counted
-returns-clause-counted c =
-    let fixtures = c.args.scene.now.fixtures in
-    let len_is : c.in_ok-bodies.bodies.len ≡ length c.apply_all.new.bodies = search rules in
-    let commanded : c.deref.result.now ≡ after_commands fixtures c.args.world.now.bodies c.args.payloads.now =
-    c.deref.ensures.value ∙ taken c.in_ok-bodies.bodies.len c.apply_all.new.bodies _ len_is ∙ c.apply_all.ensures
-    ∙ ap₂ (λ fs bs. after_commands fs bs c.args.payloads.now) c.fixtures.ensures.value
-    (c.deref_mut.ensures.value ∙ c.in_ok-bodies.ensures.items ∙ c.bodies.ensures) in
-    c.end_tick.ensures
-    ∙ ap (work_after_tick c.in_ok-found.found) c.take_manifolds-kept.ensures.rest
-    ∙ ap (λ found. work_after_tick found c.args.work.now)
-    (c.in_ok-found.ensures.value
-    ∙ ap₂ (λ bodies kept. narrow_phase fixtures bodies kept) commanded c.take_manifolds-kept.ensures.taken)
+pub world_of-requires-clause-contacts : goal.world_of-requires-clause-contacts
+world_of-requires-clause-contacts c =
+    let s = c.args.scene.now in
+    let w = c.args.world.now in
+    let payloads = c.args.payloads.now in
+    let ended : c.deref.result.now ≡ map (island_after_tick s) (islands_of_tick s w payloads) =
+    c.deref.ensures.value ∙ with_items_is c.in_ok-tick.tick.islands c.solve_all.new.islands (c.solve_all.auto.islands ∙ c.deref_mut.ensures.len)
+    ∙ c.solve_all.ensures ∙ ap (map (island_after_tick s)) (c.deref_mut.ensures.value ∙ c.in_ok-tick.ensures.islands) in
+    let at = subst (λ cs. All (λ (i : Island). AreRowsAt cs i.rows) (map (island_after_tick s) (islands_of_tick s w payloads)))
+    (sym c.in_ok-tick.ensures.contacts) (ended_at_contacts s w payloads c.requires c.in_ok-tick.ensures.order) in
+    subst (All (λ (i : Island). AreRowsAt c.in_ok-tick.tick.contacts i.rows)) (sym ended) at
 
-pub solve_active-requires-clause-places : goal.solve_active-requires-clause-places
-solve_active-requires-clause-places c =
-    let contacts = c.in_ok-contacts.contacts in
-    let points = c.touches-touches.result.now in
-    let keys = ap (map (λ (k : Contact). k.key)) (c.as_slice.ensures.value ∙ c.in_ok-contacts.ensures.value)
-    ∙ same_keys c.contacts.result.now points in
-    rw c.deref_mut-4.ensures.value
-    (subst (λ all. AreRowsAt all c.in_ok-rows.rows.items) c.as_slice.ensures.value
-    (c.in_ok-rows.ensures.places c.touches-touches.ensures.order keys))
+pub returns-clause-value : goal.returns-clause-value
+returns-clause-value c =
+    let s = c.args.scene.now in
+    let w = c.args.world.now in
+    let payloads = c.args.payloads.now in
+    let ended : c.deref.result.now ≡ map (island_after_tick s) (islands_of_tick s w payloads) =
+    c.deref.ensures.value ∙ with_items_is c.in_ok-tick.tick.islands c.solve_all.new.islands (c.solve_all.auto.islands ∙ c.deref_mut.ensures.len)
+    ∙ c.solve_all.ensures ∙ ap (map (island_after_tick s)) (c.deref_mut.ensures.value ∙ c.in_ok-tick.ensures.islands) in
+    let joined = ended_join s w payloads c.requires c.in_ok-tick.ensures.order in
+    ap₂ (λ bs cs. record { bodies = bs; contacts = cs })
+    (c.world_of.ensures.bodies ∙ ap₂ joined_bodies ended c.in_ok-tick.ensures.bodies ∙ joined.0)
+    (c.world_of.ensures.contacts ∙ ap₂ joined_contacts ended c.in_ok-tick.ensures.contacts ∙ joined.1)
+
+pub returns-clause-bodies : goal.returns-clause-bodies
+returns-clause-bodies c =
+    ap (λ (next : World). length next.bodies) (returns-clause-value c)
+    ∙ step_length c.args.scene.now c.args.world.now c.args.payloads.now c.requires

@@ -1,0 +1,211 @@
+-- Islands that are solved alone and put back make the world that the one list makes.
+use Rattle.std.proofs.Common.{◌≡◌, ◌≢◌, ◌∙◌, inl, inr, ℕ, ◌<◌, ◌==◌, Bool, true, false, ◌&&◌, ◌||◌, List, [], ◌∷◌, Some, length, map, filter, option_map, get_or, refl, sym, ap, ap₂, subst, arith, slice_get, if◌then◌else◌}
+use Rattle.std.proofs.lemmas.Bool.{and_parts, eqb-true, false_from_ne_true, true≢false}
+use Rattle.std.proofs.lemmas.List.Elements.{All-filter, All-map, All-weaker}
+use Rattle.std.proofs.lemmas.Option.{get_or_from_slice_get, slice_get-get_or, slice_get-map}
+use Rattle.std.specs.List.{list_any, range_with_len, zip}
+use Rattle.std.specs.Prelude.{All}
+use Rattle.pf_shapes.specs.Body.{BodyState, no_state}
+use Rattle.pf_shapes.specs.Scene.{Scene}
+use Rattle.pf_manifold.specs.Key.{AreTouches}
+use Rattle.pf_manifold.specs.Touches.{IsTouchOf, Touch}
+use Rattle.pf_commands.specs.declared.payload.Payload.{Payload}
+use Rattle.pf_cache.specs.declared.row.Side.{Side}
+use Rattle.pf_cache.specs.Contact.{Contact, updated}
+use Rattle.pf_cache.specs.Row.{AreRows, AreRowsAt, Row}
+use Rattle.pf_cache.proofs.Kept.{same_keys}
+use Rattle.pf_islands.specs.Island.{has_number, is_among, members, rows_among, states_of, touches_one}
+use Rattle.pf_islands.specs.Join.{IsAtHome, joined_bodies, joined_contacts}
+use Rattle.pf_islands.specs.Rows.{is_awake_at}
+use Rattle.pf_islands.specs.Sleep.{at_sleep, is_active, is_resting, rested}
+use Rattle.pf_islands.specs.Split.{AreWoken, IsActiveRow, Island, active_names, is_active_name, island_of}
+use Rattle.pf_islands.proofs.ActiveRows.{rows_beside, rows_in_order}
+use Rattle.pf_islands.proofs.Elements.{zip_at}
+use Rattle.pf_islands.proofs.HomeAgain.{joined_contacts_are, joined_is}
+use Rattle.pf_islands.proofs.Members.{chosen_pass, range_within}
+use Rattle.pf_islands.proofs.Sleeping.{name_at}
+use Rattle.pf_islands.proofs.Starting.{groups_long, groups_named}
+use Rattle.pf_islands.proofs.Together.{groups_woken, name_of, rows_are_active, woken_at}
+use Rattle.pf_islands.proofs.Whole.{body_has_island, islands_at_contacts, islands_at_home, row_has_island, sides_awake}
+use Rattle.pf_solver.specs.declared.bodies.TheConstants.{STILL_TICKS}
+use Rattle.pf_solver.specs.Alone.{island_after_tick}
+use Rattle.pf_solver.specs.Solve.{solved}
+use Rattle.pf_solver.specs.Velocities.{Batch}
+use Rattle.pf_solver.proofs.AfterTick.{after_tick_at_contacts, after_tick_at_home}
+use Rattle.pf_solver.proofs.Solved.{IsAway, solved_sides, solved_touches, untouched_body}
+use Rattle.pf_step.specs.Activity.{batch_of_tick, contacts_of_tick, islands_of_tick, names_of_tick}
+use Rattle.pf_step.specs.Commands.{after_commands}
+use Rattle.pf_step.specs.Step.{step, touching}
+use Rattle.pf_step.specs.World.{World}
+use Rattle.pf_step.proofs.Alone.{group_after}
+use Rattle.pf_step.proofs.Apart.{groups_alone}
+use Rattle.pf_step.proofs.Commanding.{commands_length}
+use Rattle.pf_step.proofs.Lengths.{step_length, updated_length, woken_length}
+use Rattle.pf_step.proofs.Touching.{points_of_bodies}
+
+-- a test of mapped elements
+any_mapped : {X Y : Type 0} (p : Y → Bool) (f : X → Y) (xs : List X) → list_any p (map f xs) ≡ list_any (λ x. p (f x)) xs
+any_mapped p f [] = refl
+any_mapped p f (x ∷ xs) = ap (λ t. p (f x) || t) (any_mapped p f xs)
+
+module _ (s : Scene) (w : World) (payloads : List Payload) (paired : length w.bodies ≡ length s.fixtures) where
+  abbrev commanded : List BodyState
+  commanded = after_commands s.fixtures w.bodies payloads
+
+  abbrev points : List Touch
+  points = touching s commanded
+
+  abbrev names : List ℕ
+  names = names_of_tick s w payloads
+
+  abbrev batch : Batch
+  batch = batch_of_tick s w payloads
+
+  abbrev contacts : List Contact
+  contacts = contacts_of_tick s w payloads
+
+  abbrev after : Batch
+  after = solved s batch.bodies batch.rows
+
+  abbrev found : List Island
+  found = islands_of_tick s w payloads
+
+  -- the islands of the tick after it
+  abbrev ended : List Island
+  ended = map (island_after_tick s) found
+
+  count : length commanded ≡ length s.fixtures
+  count = commands_length s.fixtures w.bodies payloads ∙ paired
+
+  pub awake_long : length batch.bodies ≡ length s.fixtures
+  awake_long = woken_length names commanded (groups_long s points ∙ sym count) ∙ count
+
+  are_woken : AreWoken names batch.bodies
+  are_woken = groups_woken s points commanded count
+
+  are_active : All (IsActiveRow names batch.bodies) batch.rows
+  are_active =
+      rows_are_active s points batch.bodies contacts awake_long
+      (subst (λ n. All (IsTouchOf n) points) (count ∙ sym awake_long) (points_of_bodies s commanded count))
+
+  -- ---- what putting islands back requires
+
+  pub ended_at_home : All (IsAtHome (length batch.bodies)) ended
+  ended_at_home =
+      after_tick_at_home s (length batch.bodies) found
+      (subst (λ n. All (IsAtHome n) found) (groups_long s points ∙ sym awake_long)
+      (islands_at_home names batch.bodies batch.rows))
+
+  pub ended_at_contacts : AreTouches points → All (λ (i : Island). AreRowsAt contacts i.rows) ended
+  ended_at_contacts order =
+      after_tick_at_contacts s contacts found
+      (islands_at_contacts names batch.bodies batch.rows contacts
+      (rows_beside s batch.bodies points contacts (same_keys w.contacts points) (updated_length w.contacts points) order))
+
+  -- ---- what the islands have
+
+  -- what holds of the island of each group that is simulated, after the tick, holds of all
+  all_ended : (P : Island → Type 0)
+      → ((name : ℕ) → name < length s.fixtures → is_active_name names batch.bodies name ≡ true
+      → P (island_after_tick s (island_of batch.bodies batch.rows (members names name)))) → All P ended
+  all_ended P each =
+      All-map P (island_after_tick s) found
+      (All-map (λ i. P (island_after_tick s i)) (λ name. island_of batch.bodies batch.rows (members names name))
+      (active_names names batch.bodies)
+      (λ k d within.
+      each (get_or (active_names names batch.bodies) k d)
+      (All-filter (is_active_name names batch.bodies) (λ n. n < length s.fixtures) (range_with_len 0 (length names))
+      (range_within 0 (length names) (length s.fixtures) (omega (arith, groups_long s points))) k d within)
+      (chosen_pass (is_active_name names batch.bodies) (range_with_len 0 (length names)) k d within)))
+
+  -- a group that is simulated has an awake body after the commands
+  active_group : (name : ℕ) → name < length s.fixtures → is_active_name names batch.bodies name ≡ true
+      → is_active names commanded name ≡ true
+  active_group name within active =
+      let parts = and_parts (get_or names name 0 == name) (is_awake_at batch.bodies name) active in
+      ap (is_active names commanded) (sym (eqb-true (get_or names name 0) name parts.0) ∙ name_of s points name within)
+      ∙ sym (woken_at s points commanded count name within) ∙ parts.1
+
+  -- the states of the world after the tick
+  states_ended : All (λ (i : Island). i.bodies ≡ states_of i.numbers (step s w payloads).bodies) ended
+  states_ended =
+      all_ended (λ (i : Island). i.bodies ≡ states_of i.numbers (step s w payloads).bodies)
+      (λ name within active. sym (group_after s w payloads name paired (active_group name within active)))
+
+  -- and the rows of the one list
+  rows_ended : All (λ (i : Island). i.rows ≡ rows_among i.numbers after.rows) ended
+  rows_ended =
+      all_ended (λ (i : Island). i.rows ≡ rows_among i.numbers after.rows)
+      (λ name within active. ap (λ (b : Batch). b.rows) (groups_alone s w payloads name paired))
+
+  -- each of these rows is of an island
+  rows_are_ended : All (λ r. list_any (λ (i : Island). touches_one i.numbers r) ended ≡ true) after.rows
+  rows_are_ended =
+      solved_sides s batch.bodies batch.rows
+      (λ first second. list_any (λ (i : Island). is_among i.numbers first || is_among i.numbers second) ended ≡ true)
+      (All-weaker (IsActiveRow names batch.bodies)
+      (λ r. list_any (λ (i : Island). touches_one i.numbers r) ended ≡ true)
+      (λ r active.
+      any_mapped (λ (i : Island). touches_one i.numbers r) (island_after_tick s) found
+      ∙ row_has_island names batch.bodies batch.rows r (groups_named s points) are_woken active)
+      batch.rows are_active)
+
+  -- ---- bodies of no island
+
+  -- they are asleep
+  asleep : (j : ℕ) → j < length s.fixtures → list_any (λ (i : Island). has_number i.numbers j) ended ≡ false
+      → is_awake_at batch.bodies j ≡ false
+  asleep j within none =
+      false_from_ne_true (is_awake_at batch.bodies j)
+      (λ awake.
+      true≢false
+      (sym (any_mapped (λ (i : Island). has_number i.numbers j) (island_after_tick s) found
+      ∙ body_has_island names batch.bodies batch.rows j (omega (arith, within, groups_long s points)) (groups_named s points)
+      are_woken awake)
+      ∙ none))
+
+  -- no row touches them
+  away : (j : ℕ) → is_awake_at batch.bodies j ≡ false → All (IsAway j) batch.rows
+  away j sleeps =
+      All-weaker (IsActiveRow names batch.bodies) (IsAway j)
+      (λ r active.
+      let wakes = sides_awake names batch.bodies r (groups_named s points) are_woken active j in (
+        λ first. true≢false (sym (wakes (inl first)) ∙ sleeps),
+        λ second. true≢false (sym (wakes (inr second)) ∙ sleeps),
+      ))
+      batch.rows are_active
+
+  -- so they stay as they are
+  stays : (j : ℕ) → j < length s.fixtures → is_awake_at batch.bodies j ≡ false
+      → get_or batch.bodies j no_state ≡ get_or (step s w payloads).bodies j no_state
+  unfolding step rested
+  stays j within sleeps =
+      let b = get_or batch.bodies j no_state in
+      let here : slice_get batch.bodies j ≡ Some b =
+      slice_get-get_or batch.bodies j no_state (omega (arith, within, awake_long)) in
+      let solved_same : slice_get after.bodies j ≡ Some b =
+      untouched_body s batch.bodies batch.rows j b here (away j sleeps) ∙ rw sleeps refl in
+      sym (get_or_from_slice_get (map rest (zip names after.bodies)) j b no_state
+      (slice_get-map rest (zip names after.bodies) j
+      ∙ ap (option_map rest) (zip_at names after.bodies j (get_or names j 0) b
+      (slice_get-get_or names j 0 (omega (arith, within, groups_long s points))) solved_same)
+      ∙ rw sleeps refl))
+    where
+      rest : ℕ × BodyState → BodyState
+      rest m = if m.1.awake && is_resting STILL_TICKS names after.bodies m.0 then at_sleep m.1 else m.1
+
+  -- ---- the world
+
+  pub ended_join : AreTouches points
+      → (joined_bodies ended batch.bodies ≡ (step s w payloads).bodies)
+      × (joined_contacts ended contacts ≡ (step s w payloads).contacts)
+  unfolding step
+  ended_join order =
+      let before : AreRows batch.rows = rows_in_order s batch.bodies points contacts order in (
+        joined_is (step s w payloads).bodies ended batch.bodies (step_length s w payloads paired ∙ sym awake_long) states_ended
+            (λ j inside none.
+            let within : j < length s.fixtures = omega (arith, inside, awake_long) in
+            stays j within (asleep j within none)),
+        joined_contacts_are after.rows ended contacts
+            (subst AreTouches (sym (solved_touches s batch.bodies batch.rows)) before) rows_ended rows_are_ended,
+      )

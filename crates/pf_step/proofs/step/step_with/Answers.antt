@@ -1,0 +1,52 @@
+use Rattle.std.proofs.Common.{◌≡◌, ◌∙◌, List, ap, ap₂, length, map, subst, sym}
+use Rattle.std.proofs.lemmas.List.{with_items_is}
+use Rattle.std.specs.Prelude.{All}
+use Rattle.pf_shapes.specs.Body.{BodyState}
+use Rattle.pf_cache.specs.Row.{AreRowsAt}
+use Rattle.pf_islands.specs.Join.{IsAtHome, joined_bodies, joined_contacts}
+use Rattle.pf_islands.specs.Split.{Island}
+use Rattle.pf_solver.specs.Alone.{island_after_tick}
+use Rattle.pf_step.specs.Activity.{islands_of_tick}
+use Rattle.pf_step.specs.World.{World}
+use Rattle.pf_step.proofs.Joined.{ended_at_contacts, ended_at_home, ended_join}
+use Rattle.pf_step.proofs.Lengths.{step_length}
+use Rattle.pf_step.proofs.step.step_with.Goals as goal
+
+pub world_of-requires-clause-bodies : goal.world_of-requires-clause-bodies
+world_of-requires-clause-bodies g c =
+    let s = c.args.scene.now in
+    let w = c.args.world.now in
+    let payloads = c.args.payloads.now in
+    let ended : c.deref.result.now ≡ map (island_after_tick s) (islands_of_tick s w payloads) =
+    c.deref.ensures.value ∙ c.in_ok-solved.ensures ∙ ap (map (island_after_tick s)) c.in_ok-tick.ensures.islands in
+    let home = subst (λ (bs : List BodyState). All (IsAtHome (length bs)) (map (island_after_tick s) (islands_of_tick s w payloads)))
+    (sym c.in_ok-tick.ensures.bodies) (ended_at_home s w payloads c.requires) in
+    subst (All (IsAtHome (length c.in_ok-tick.tick.bodies.items))) (sym ended) home
+
+pub world_of-requires-clause-contacts : goal.world_of-requires-clause-contacts
+world_of-requires-clause-contacts g c =
+    let s = c.args.scene.now in
+    let w = c.args.world.now in
+    let payloads = c.args.payloads.now in
+    let ended : c.deref.result.now ≡ map (island_after_tick s) (islands_of_tick s w payloads) =
+    c.deref.ensures.value ∙ c.in_ok-solved.ensures ∙ ap (map (island_after_tick s)) c.in_ok-tick.ensures.islands in
+    let at = subst (λ cs. All (λ (i : Island). AreRowsAt cs i.rows) (map (island_after_tick s) (islands_of_tick s w payloads)))
+    (sym c.in_ok-tick.ensures.contacts) (ended_at_contacts s w payloads c.requires c.in_ok-tick.ensures.order) in
+    subst (All (λ (i : Island). AreRowsAt c.in_ok-tick.tick.contacts i.rows)) (sym ended) at
+
+pub returns-clause-value : goal.returns-clause-value
+returns-clause-value g c =
+    let s = c.args.scene.now in
+    let w = c.args.world.now in
+    let payloads = c.args.payloads.now in
+    let ended : c.deref.result.now ≡ map (island_after_tick s) (islands_of_tick s w payloads) =
+    c.deref.ensures.value ∙ c.in_ok-solved.ensures ∙ ap (map (island_after_tick s)) c.in_ok-tick.ensures.islands in
+    let joined = ended_join s w payloads c.requires c.in_ok-tick.ensures.order in
+    ap₂ (λ bs cs. record { bodies = bs; contacts = cs })
+    (c.world_of.ensures.bodies ∙ ap₂ joined_bodies ended c.in_ok-tick.ensures.bodies ∙ joined.0)
+    (c.world_of.ensures.contacts ∙ ap₂ joined_contacts ended c.in_ok-tick.ensures.contacts ∙ joined.1)
+
+pub returns-clause-bodies : goal.returns-clause-bodies
+returns-clause-bodies g c =
+    ap (λ (next : World). length next.bodies) (returns-clause-value g c)
+    ∙ step_length c.args.scene.now c.args.world.now c.args.payloads.now c.requires
