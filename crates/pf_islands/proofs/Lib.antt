@@ -14,3 +14,4 @@ pub mod Elements
 pub mod Together
 pub mod HomeAgain
 pub mod Whole
+pub mod Exactly

@@ -93,26 +93,16 @@ all_among P numbers rows own each =
     Each : Row → Type 0
     Each r = IsOwnSide numbers r.entry.first → IsOwnSide numbers r.entry.second → P (row_among numbers r)
 
--- rows at contacts, those that touch some bodies
-rows_among_at : (contacts : List Contact) (numbers : List ℕ) (rows : List Row) → AreRowsAt contacts rows
-    → AreRowsAt contacts (rows_among numbers rows)
-rows_among_at contacts numbers rows are = record {
-  order = record {
-    rising = rising 0 rows are.order.rising;
-    keys = All-map (λ t. IsKey (key_of t)) (λ (r : Row). r.entry.touch) (rows_among numbers rows)
-        (All-map (λ (r : Row). IsKey (key_of r.entry.touch)) (row_among numbers) (filter (touches_one numbers) rows)
-        (All-filter (touches_one numbers) (λ (r : Row). IsKey (key_of r.entry.touch)) rows (keys rows are.order.keys)));
-  };
-  places = All-map (IsRowAt contacts) (row_among numbers) (filter (touches_one numbers) rows)
-      (All-filter (touches_one numbers) (λ (r : Row). IsRowAt contacts (row_among numbers r)) rows
-      (All-weaker (IsRowAt contacts) (λ r. IsRowAt contacts (row_among numbers r))
-      (λ r is. record { within = is.within; key = is.key }) rows are.places));
+-- rows in the order of their keys, those that touch some bodies
+pub rows_in_order_among : (numbers : List ℕ) (rows : List Row) → AreRows rows → AreRows (rows_among numbers rows)
+rows_in_order_among numbers rows order = record {
+  rising = rising 0 rows order.rising;
+  keys = All-map (λ t. IsKey (key_of t)) (λ (r : Row). r.entry.touch) (rows_among numbers rows)
+      (All-map (λ (r : Row). IsKey (key_of r.entry.touch)) (row_among numbers) (filter (touches_one numbers) rows)
+      (All-filter (touches_one numbers) (λ (r : Row). IsKey (key_of r.entry.touch)) rows
+      (all_unmapped (λ t. IsKey (key_of t)) (λ (r : Row). r.entry.touch) rows order.keys)));
 }
   where
-    keys : (rs : List Row) → All (λ t. IsKey (key_of t)) (map (λ (r : Row). r.entry.touch) rs)
-        → All (λ (r : Row). IsKey (key_of r.entry.touch)) rs
-    keys rs all = all_unmapped (λ t. IsKey (key_of t)) (λ (r : Row). r.entry.touch) rs all
-
     ranks : List Row → List ℕ
     ranks rs = map (λ t. rank (key_of t)) (map (λ (r : Row). r.entry.touch) rs)
 
@@ -127,6 +117,17 @@ rows_among_at contacts numbers rows are = record {
         by false rest =
             let low = h.0 in
             rising-weaken least (suc (rank (key_of r.entry.touch))) (ranks (rows_among numbers rs)) (omega (arith, low)) rest
+
+-- rows at contacts, those that touch some bodies
+rows_among_at : (contacts : List Contact) (numbers : List ℕ) (rows : List Row) → AreRowsAt contacts rows
+    → AreRowsAt contacts (rows_among numbers rows)
+rows_among_at contacts numbers rows are = record {
+  order = rows_in_order_among numbers rows are.order;
+  places = All-map (IsRowAt contacts) (row_among numbers) (filter (touches_one numbers) rows)
+      (All-filter (touches_one numbers) (λ (r : Row). IsRowAt contacts (row_among numbers r)) rows
+      (All-weaker (IsRowAt contacts) (λ r. IsRowAt contacts (row_among numbers r))
+      (λ r is. record { within = is.within; key = is.key }) rows are.places));
+}
 
 -- ---- the islands of a tick
 

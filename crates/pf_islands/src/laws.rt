@@ -1,9 +1,14 @@
 //! Laws of groups. These functions compute nothing: their clauses are the statements.
 
-ghost use Rattle.std.specs.Prelude.{◌≡◌, ◌≤◌, ℕ, ◌↔◌, List, Some, true, false, length, slice_get};
+ghost use Rattle.std.specs.Prelude.{◌≡◌, ◌≤◌, ℕ, ◌↔◌, All, List, Some, true, false, length, map, slice_get, slice_index};
 ghost use Rattle.pf_shapes.specs.Body.{BodyState};
 ghost use Rattle.pf_shapes.specs.Scene.{Scene};
-ghost use Rattle.pf_manifold.specs.Touches.{Touch};
+ghost use Rattle.pf_manifold.specs.Key.{AreTouches, IsRising};
+ghost use Rattle.pf_manifold.specs.Touches.{IsTouchOf, Touch};
+ghost use Rattle.pf_cache.specs.Contact.{Contact};
+ghost use Rattle.pf_cache.specs.Row.{AreRows};
+ghost use Rattle.pf_islands.specs.Island.{rows_among};
+ghost use Rattle.pf_islands.specs.Laws.{HasBody, HasRow, active_bodies, islands_of, rows_of};
 ghost use Rattle.pf_islands.specs.Reach.{Reaches};
 ghost use Rattle.pf_islands.specs.Group.{group, groups};
 ghost use Rattle.pf_islands.specs.Sleep.{rested, woken};
@@ -37,4 +42,51 @@ pub fn groups_sleep_as_wholes()
         → slice_get (rested full (groups s touches) bodies) i ≡ Some after
         → (after.awake ≡ false) ↔ ((j : ℕ) (c : BodyState) → slice_get bodies j ≡ Some c
         → Reaches s touches i j → c.timer ≡ full) }
+{}
+
+/// The islands of a tick have each body that is simulated, awake and else as it was, and no other
+/// body. Two bodies are in one island exactly where a chain of contacts leads from one to the other,
+/// so no body is in two. The islands are in the order of their least bodies, and the bodies of each
+/// in that of their numbers.
+pub fn islands_have_each_simulated_body()
+    ensures others { (s : Scene) (touches : List Touch) (bodies : List BodyState)
+        (contacts : List Contact) (k n : ℕ) (b : BodyState) → length bodies ≡ length s.fixtures
+        → HasBody (islands_of s touches bodies contacts) k n b
+        → (slice_get (active_bodies s touches bodies) n ≡ Some b) × (b.awake ≡ true) }
+    ensures whole { (s : Scene) (touches : List Touch) (bodies : List BodyState)
+        (contacts : List Contact) (n : ℕ) (b : BodyState) → length bodies ≡ length s.fixtures
+        → slice_get (active_bodies s touches bodies) n ≡ Some b → b.awake ≡ true
+        → (k : ℕ) × HasBody (islands_of s touches bodies contacts) k n b }
+    ensures together { (s : Scene) (touches : List Touch) (bodies : List BodyState)
+        (contacts : List Contact) (k l m n : ℕ) (b c : BodyState)
+        → length bodies ≡ length s.fixtures
+        → HasBody (islands_of s touches bodies contacts) k m b
+        → HasBody (islands_of s touches bodies contacts) l n c
+        → (k ≡ l) ↔ Reaches s touches m n }
+    ensures order { (s : Scene) (touches : List Touch) (bodies : List BodyState)
+        (contacts : List Contact)
+        → IsRising 0 (map (λ i. slice_index i.numbers 0) (islands_of s touches bodies contacts))
+        × All (λ i. IsRising 0 i.numbers) (islands_of s touches bodies contacts) }
+{}
+
+/// The islands of a tick have each contact that is simulated, and each in one island alone; they
+/// have no other contact. The contacts of an island are in the order of their keys.
+pub fn islands_have_each_simulated_contact()
+    ensures whole { (s : Scene) (touches : List Touch) (bodies : List BodyState)
+        (contacts : List Contact) → length bodies ≡ length s.fixtures
+        → All (IsTouchOf (length bodies)) touches
+        → All (λ r. (k : ℕ) × HasRow (islands_of s touches bodies contacts) k r)
+        (rows_of s touches bodies contacts) }
+    ensures once { (s : Scene) (touches : List Touch) (bodies : List BodyState)
+        (contacts : List Contact) → length bodies ≡ length s.fixtures
+        → All (IsTouchOf (length bodies)) touches
+        → All (λ r. (k l : ℕ) → HasRow (islands_of s touches bodies contacts) k r
+        → HasRow (islands_of s touches bodies contacts) l r → k ≡ l)
+        (rows_of s touches bodies contacts) }
+    ensures others { (s : Scene) (touches : List Touch) (bodies : List BodyState)
+        (contacts : List Contact) → All (λ i. i.rows ≡ rows_among i.numbers
+        (rows_of s touches bodies contacts)) (islands_of s touches bodies contacts) }
+    ensures order { (s : Scene) (touches : List Touch) (bodies : List BodyState)
+        (contacts : List Contact) → AreTouches touches
+        → All (λ i. AreRows i.rows) (islands_of s touches bodies contacts) }
 {}

@@ -1,6 +1,6 @@
 //! Who solves the islands of a tick.
 
-ghost use Rattle.std.specs.Prelude.{◌≡◌, All, IfOk, map};
+ghost use Rattle.std.specs.Prelude.{◌≡◌, ⊤, All, IfOk, OnOk, map};
 ghost use Rattle.pf_islands.specs.Split.{IsIslandOf};
 ghost use Rattle.pf_solver.specs.Alone.{island_after_tick};
 
@@ -28,12 +28,16 @@ pub enum CrewError {
 
 /// Solves the islands of a tick, in whatever order and with whatever threads.
 pub trait Crew {
+    /// What a call does to the crew itself, as a count of its calls. Nothing is said of it here.
+    ghost is_called: { Self → Self → Type 0 } = { λ _ _. ⊤ };
+
     /// Solves each island alone: answer k is island k after a tick of 1/64 s. The islands are gone
     /// after an error.
     fn solve(&mut self, scene: &Scene, islands: Vec<Island>) -> Result<Vec<Island>, CrewError>
         requires { All (IsIslandOf scene.now) islands.items }
-        ensures { IfOk result
-            (λ solved. solved.items ≡ map (island_after_tick scene.now) islands.items) };
+        ensures solved { IfOk result
+            (λ solved. solved.items ≡ map (island_after_tick scene.now) islands.items) }
+        ensures called { OnOk result (is_called self.old self.new) };
 }
 
 /// Why a step was not made.

@@ -167,6 +167,7 @@ pub fn step_with<C: Crew>(
     ensures counted { OnOk result (work.new ≡ work_after_tick
         (narrow_phase_of_tick scene.now world.now payloads.now work.old.manifolds) work.old) }
     ensures not_counted { OnErr result (work.new ≡ record work.old { manifolds = no_manifolds }) }
+    ensures called { OnOk result (C.is_called crew.old crew.new) }
 {
     let tick = prepare(alloc, scene, world, payloads, work)?;
     let solved = crew.solve(scene, tick.islands)?;

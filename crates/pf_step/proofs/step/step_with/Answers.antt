@@ -18,7 +18,7 @@ world_of-requires-clause-bodies g c =
     let w = c.args.world.now in
     let payloads = c.args.payloads.now in
     let ended : c.deref.result.now ≡ map (island_after_tick s) (islands_of_tick s w payloads) =
-    c.deref.ensures.value ∙ c.in_ok-solved.ensures ∙ ap (map (island_after_tick s)) c.in_ok-tick.ensures.islands in
+    c.deref.ensures.value ∙ c.in_ok-solved.ensures.solved ∙ ap (map (island_after_tick s)) c.in_ok-tick.ensures.islands in
     let home = subst (λ (bs : List BodyState). All (IsAtHome (length bs)) (map (island_after_tick s) (islands_of_tick s w payloads)))
     (sym c.in_ok-tick.ensures.bodies) (ended_at_home s w payloads c.requires) in
     subst (All (IsAtHome (length c.in_ok-tick.tick.bodies.items))) (sym ended) home
@@ -29,7 +29,7 @@ world_of-requires-clause-contacts g c =
     let w = c.args.world.now in
     let payloads = c.args.payloads.now in
     let ended : c.deref.result.now ≡ map (island_after_tick s) (islands_of_tick s w payloads) =
-    c.deref.ensures.value ∙ c.in_ok-solved.ensures ∙ ap (map (island_after_tick s)) c.in_ok-tick.ensures.islands in
+    c.deref.ensures.value ∙ c.in_ok-solved.ensures.solved ∙ ap (map (island_after_tick s)) c.in_ok-tick.ensures.islands in
     let at = subst (λ cs. All (λ (i : Island). AreRowsAt cs i.rows) (map (island_after_tick s) (islands_of_tick s w payloads)))
     (sym c.in_ok-tick.ensures.contacts) (ended_at_contacts s w payloads c.requires c.in_ok-tick.ensures.order) in
     subst (All (λ (i : Island). AreRowsAt c.in_ok-tick.tick.contacts i.rows)) (sym ended) at
@@ -40,7 +40,7 @@ returns-clause-value g c =
     let w = c.args.world.now in
     let payloads = c.args.payloads.now in
     let ended : c.deref.result.now ≡ map (island_after_tick s) (islands_of_tick s w payloads) =
-    c.deref.ensures.value ∙ c.in_ok-solved.ensures ∙ ap (map (island_after_tick s)) c.in_ok-tick.ensures.islands in
+    c.deref.ensures.value ∙ c.in_ok-solved.ensures.solved ∙ ap (map (island_after_tick s)) c.in_ok-tick.ensures.islands in
     let joined = ended_join s w payloads c.requires c.in_ok-tick.ensures.order in
     ap₂ (λ bs cs. record { bodies = bs; contacts = cs })
     (c.world_of.ensures.bodies ∙ ap₂ joined_bodies ended c.in_ok-tick.ensures.bodies ∙ joined.0)

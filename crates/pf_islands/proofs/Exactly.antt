@@ -1,0 +1,280 @@
+-- Each body and each contact that is simulated is in exactly one island, and nothing else is.
+use Rattle.std.proofs.Common.{◌≡◌, ◌≢◌, ◌∙◌, ◌↔◌, ℕ, zero, suc, ◌+◌, ◌<◌, ◌≤◌, ◌==◌, Bool, true, false, ◌&&◌, ◌||◌, List, [], ◌∷◌, Option, Some, length, map, filter, option_map, get_or, cond, refl, sym, ap, ap₂, subst, arith, slice_get, if◌then◌else◌}
+use Rattle.std.proofs.lemmas.Bool.{and_parts, eq-eqb, eqb-true, ne_eqb}
+use Rattle.std.proofs.lemmas.List.{length-map}
+use Rattle.std.proofs.lemmas.List.Elements.{All-filter, All-map, All-weaker}
+use Rattle.std.proofs.lemmas.Option.{get_or_from_slice_get, same_Some, slice_get-get_or, slice_get-map, slice_get_within}
+use Rattle.std.proofs.lemmas.Simd.{map-map}
+use Rattle.std.proofs.lemmas.Slice.Zip.{length-zip}
+use Rattle.std.specs.List.{range_with_len, zip}
+use Rattle.std.specs.Prelude.{All}
+use Rattle.pf_shapes.specs.Body.{BodyState, no_state}
+use Rattle.pf_shapes.specs.Scene.{Scene}
+use Rattle.pf_manifold.specs.Key.{AreTouches, IsRising}
+use Rattle.pf_manifold.specs.Touches.{IsTouchOf, Touch}
+use Rattle.pf_manifold.proofs.Rising.{rising-weaken}
+use Rattle.pf_cache.specs.Contact.{Contact}
+use Rattle.pf_cache.specs.Row.{AreRows, Row}
+use Rattle.pf_islands.specs.Dealing.{group_of_row, slot_of}
+use Rattle.pf_islands.specs.Group.{group, groups}
+use Rattle.pf_islands.specs.Island.{members, place_of, rows_among, states_of, touches_one}
+use Rattle.pf_islands.specs.Laws.{HasBody, HasRow, active_bodies, islands_of, rows_of}
+use Rattle.pf_islands.specs.Reach.{Reaches}
+use Rattle.pf_islands.specs.Rows.{is_awake_at}
+use Rattle.pf_islands.specs.Sleep.{woken}
+use Rattle.pf_islands.specs.Split.{AreWoken, IsActiveRow, Island, active_names, is_active_name, island_of}
+use Rattle.pf_islands.proofs.ActiveRows.{map_where, rows_in_order}
+use Rattle.pf_islands.proofs.Chains.{one_name, reaches_one}
+use Rattle.pf_islands.proofs.Dealing.{group_active, name_at, touches_group}
+use Rattle.pf_islands.proofs.Elements.{all_at, mapped}
+use Rattle.pf_islands.proofs.Members.{chosen_at, chosen_pass, filter_rises, range_rises, range_within}
+use Rattle.pf_islands.proofs.Starting.{group_low, groups_long, groups_named}
+use Rattle.pf_islands.proofs.Together.{groups_woken, name_of, rows_are_active}
+use Rattle.pf_islands.proofs.Whole.{rows_in_order_among}
+
+-- rising numbers are not below the least
+not_below : (least : ℕ) (ns : List ℕ) (i n : ℕ) → IsRising least ns → slice_get ns i ≡ Some n → least ≤ n
+not_below least [] i n rising at = absurd cc
+not_below least (x ∷ ns) zero n rising at = let e : x ≡ n = same_Some x n at in omega (arith, e, rising.0)
+not_below least (x ∷ ns) (suc i) n rising at =
+    let up = not_below (suc x) ns i n rising.1 at in omega (arith, up, rising.0)
+
+-- what stands at two places of rising numbers is different
+rising_once : (least : ℕ) (ns : List ℕ) (k l n : ℕ) → IsRising least ns → slice_get ns k ≡ Some n → slice_get ns l ≡ Some n
+    → k ≡ l
+rising_once least [] k l n rising here there = absurd cc
+rising_once least (x ∷ ns) zero zero n rising here there = refl
+rising_once least (x ∷ ns) zero (suc l) n rising here there =
+    let is : x ≡ n = same_Some x n here in
+    absurd (omega (arith, is, not_below (suc x) ns l n rising.1 there))
+rising_once least (x ∷ ns) (suc k) zero n rising here there =
+    let is : x ≡ n = same_Some x n there in
+    absurd (omega (arith, is, not_below (suc x) ns k n rising.1 here))
+rising_once least (x ∷ ns) (suc k) (suc l) n rising here there = ap suc (rising_once (suc x) ns k l n rising.1 here there)
+
+-- the phase Activity keeps each body
+pub awake_long : (s : Scene) (touches : List Touch) (bodies : List BodyState) → length bodies ≡ length s.fixtures
+    → length (active_bodies s touches bodies) ≡ length bodies
+unfolding woken
+awake_long s touches bodies count =
+    length-map (zip (groups s touches) bodies) _
+    ∙ length-zip (groups s touches) bodies ∙ omega (arith, count, groups_long s touches)
+
+module _ (s : Scene) (touches : List Touch) (bodies : List BodyState) (contacts : List Contact) where
+  abbrev names : List ℕ
+  names = groups s touches
+
+  abbrev awake : List BodyState
+  awake = active_bodies s touches bodies
+
+  abbrev rows : List Row
+  rows = rows_of s touches bodies contacts
+
+  abbrev island_named : ℕ → Island
+  island_named name = island_of awake rows (members names name)
+
+  abbrev chosen : List ℕ
+  chosen = active_names names awake
+
+  chosen_rise : IsRising 0 chosen
+  chosen_rise = filter_rises (is_active_name names awake) 0 (range_with_len 0 (length names)) (range_rises 0 (length names))
+
+  -- an island is that of a group that is simulated
+  island_at : (k : ℕ) (i : Island) → slice_get (islands_of s touches bodies contacts) k ≡ Some i
+      → (name : ℕ) × (slice_get chosen k ≡ Some name) × (island_named name ≡ i)
+  island_at k i here = let is = mapped island_named chosen k i here in (is.from, is.is_there, is.value)
+
+  -- the name is that of the group of each of its bodies
+  named_body : (k n : ℕ) (b : BodyState) → HasBody (islands_of s touches bodies contacts) k n b
+      → (name : ℕ) × (slice_get chosen k ≡ Some name) × (n < length names) × (get_or names n 0 ≡ name)
+      × (b ≡ get_or awake n no_state)
+  named_body k n b has =
+      let at = island_at k has.island has.is_there in
+      let numbers : slice_get (members names at.0) has.place ≡ Some n =
+      ap (λ (i : Island). slice_get i.numbers has.place) at.2 ∙ has.number in
+      let state : slice_get (states_of (members names at.0) awake) has.place ≡ Some b =
+      ap (λ (i : Island). slice_get i.bodies has.place) at.2 ∙ has.state in
+      let own = all_at (λ i. (get_or names i 0 == at.0) ≡ true) (members names at.0) has.place n
+      (chosen_pass (λ i. get_or names i 0 == at.0) (range_with_len 0 (length names))) numbers in
+      let within = all_at (λ i. i < length names) (members names at.0) has.place n
+      (All-filter (λ i. get_or names i 0 == at.0) (λ i. i < length names) (range_with_len 0 (length names))
+      (range_within 0 (length names) (length names) (omega arith))) numbers in
+      (at.0, at.1, within, eqb-true (get_or names n 0) at.0 own,
+      same_Some b (get_or awake n no_state)
+      (sym state ∙ slice_get-map (λ m. get_or awake m no_state) (members names at.0) has.place
+      ∙ ap (option_map (λ m. get_or awake m no_state)) numbers))
+
+  module _ (count : length bodies ≡ length s.fixtures) where
+    are_woken : AreWoken names awake
+    are_woken = groups_woken s touches bodies count
+
+    -- nothing but bodies that are simulated
+    pub bodies_simulated : (k n : ℕ) (b : BodyState) → length awake ≡ length bodies
+        → HasBody (islands_of s touches bodies contacts) k n b
+        → (slice_get awake n ≡ Some b) × (b.awake ≡ true)
+    bodies_simulated k n b long has =
+        let at = named_body k n b has in
+        let active = all_at (λ m. is_active_name names awake m ≡ true) chosen k at.0
+        (chosen_pass (is_active_name names awake) (range_with_len 0 (length names))) at.1 in
+        let wakes : is_awake_at awake n ≡ true =
+        are_woken.whole n at.2 (ap (is_active_name names awake) at.3 ∙ active) in (
+          slice_get-get_or awake n no_state (omega (arith, at.2, long, count, groups_long s touches)) ∙ ap Some (sym at.4),
+          ap (λ (x : BodyState). x.awake) at.4 ∙ wakes,
+        )
+
+    -- each of them
+    pub simulated_bodies : (n : ℕ) (b : BodyState) → length awake ≡ length bodies → slice_get awake n ≡ Some b → b.awake ≡ true
+        → (k : ℕ) × HasBody (islands_of s touches bodies contacts) k n b
+    simulated_bodies n b long here wakes =
+        let inside : n < length names = omega (arith, slice_get_within awake n b here, long, count, groups_long s touches) in
+        let read = get_or_from_slice_get awake n b no_state here in
+        let name = get_or names n 0 in
+        let active = are_woken.active n inside (ap (λ (x : BodyState). x.awake) read ∙ wakes) in
+        let named = groups_named s touches n 0 inside in
+        let from_zero : 0 + n ≡ n = omega arith in
+        let own = λ (j : ℕ). get_or names j 0 == name in
+        let number : slice_get (members names name) (length (filter own (range_with_len 0 n))) ≡ Some n =
+        chosen_at own 0 (length names) n inside (ap own from_zero ∙ eq-eqb name name refl) ∙ ap Some from_zero in (
+          slot_of names awake name,
+          record {
+            island = island_named name;
+            place = length (filter own (range_with_len 0 n));
+            is_there = slice_get-map island_named chosen (slot_of names awake name)
+                ∙ ap (option_map island_named) (name_at names awake name named active);
+            number = number;
+            state = slice_get-map (λ m. get_or awake m no_state) (members names name) _
+                ∙ ap (option_map (λ m. get_or awake m no_state)) number ∙ ap Some read;
+          },
+        )
+
+    -- two in one island exactly where one reaches the other
+    pub bodies_together : (k l m n : ℕ) (b c : BodyState) → HasBody (islands_of s touches bodies contacts) k m b
+        → HasBody (islands_of s touches bodies contacts) l n c → (k ≡ l) ↔ Reaches s touches m n
+    bodies_together k l m n b c first second =
+        let one = named_body k m b first in
+        let two = named_body l n c second in
+        let first_group : group s touches m ≡ one.0 =
+        sym (name_of s touches m (omega (arith, one.2, groups_long s touches))) ∙ one.3 in
+        let second_group : group s touches n ≡ two.0 =
+        sym (name_of s touches n (omega (arith, two.2, groups_long s touches))) ∙ two.3 in (
+          λ same.
+              reaches_one s touches m n
+              (first_group
+              ∙ same_Some one.0 two.0 (sym one.1 ∙ ap (slice_get chosen) same ∙ two.1)
+              ∙ sym second_group),
+          λ reach.
+              rising_once 0 chosen k l one.0 chosen_rise one.1
+              (two.1 ∙ ap Some (sym second_group ∙ sym (one_name s touches m n reach) ∙ first_group)),
+        )
+
+    -- ---- contacts
+
+    module _ (of : All (IsTouchOf (length bodies)) touches) (long : length awake ≡ length bodies) where
+      are_active : All (IsActiveRow names awake) rows
+      are_active =
+          rows_are_active s touches awake contacts (long ∙ count) (subst (λ n. All (IsTouchOf n) touches) (sym long) of)
+
+      -- a contact touches the island of its group
+      row_named : (k : ℕ) (r : Row) → IsActiveRow names awake r → HasRow (islands_of s touches bodies contacts) k r
+          → slice_get chosen k ≡ Some (group_of_row names r)
+      row_named k r active has =
+          let at = island_at k has.island has.is_there in
+          let touched : touches_one (members names at.0) r ≡ true =
+          ap (λ (i : Island). touches_one i.numbers r) at.2 ∙ has.touched in
+          at.1
+          ∙ ap Some (sym (eqb-true (group_of_row names r) at.0 (sym (touches_group names awake at.0 r active) ∙ touched)))
+
+      pub rows_whole : All (λ r. (k : ℕ) × HasRow (islands_of s touches bodies contacts) k r) rows
+      rows_whole =
+          All-weaker (IsActiveRow names awake) (λ r. (k : ℕ) × HasRow (islands_of s touches bodies contacts) k r)
+          (λ r active.
+          let own = group_active names awake r (groups_named s touches) are_woken active in
+          let name = group_of_row names r in (
+            slot_of names awake name,
+            record {
+              island = island_named name;
+              is_there = slice_get-map island_named chosen (slot_of names awake name)
+                  ∙ ap (option_map island_named) (name_at names awake name own.0 own.1);
+              touched = touches_group names awake name r active ∙ eq-eqb name name refl;
+            },
+          ))
+          rows are_active
+
+      pub rows_once : All (λ r. (k l : ℕ) → HasRow (islands_of s touches bodies contacts) k r
+          → HasRow (islands_of s touches bodies contacts) l r → k ≡ l) rows
+      rows_once =
+          All-weaker (IsActiveRow names awake)
+          (λ r. (k l : ℕ) → HasRow (islands_of s touches bodies contacts) k r
+          → HasRow (islands_of s touches bodies contacts) l r → k ≡ l)
+          (λ r active k l first second.
+          rising_once 0 chosen k l (group_of_row names r) chosen_rise (row_named k r active first) (row_named l r active second))
+          rows are_active
+
+  -- the contacts of an island are those that touch its bodies
+  pub rows_of_islands : All (λ (i : Island). i.rows ≡ rows_among i.numbers rows) (islands_of s touches bodies contacts)
+  rows_of_islands =
+      All-map (λ (i : Island). i.rows ≡ rows_among i.numbers rows) island_named chosen (λ k d within. refl)
+
+  -- in the order of their keys
+  pub rows_of_islands_rise : AreTouches touches → All (λ (i : Island). AreRows i.rows) (islands_of s touches bodies contacts)
+  rows_of_islands_rise order =
+      All-map (λ (i : Island). AreRows i.rows) island_named chosen
+      (λ k d within.
+      rows_in_order_among (members names (get_or chosen k d)) rows (rows_in_order s awake touches contacts order))
+
+  -- ---- order
+
+  -- numbers ascend in each island
+  pub numbers_rise : All (λ (i : Island). IsRising 0 i.numbers) (islands_of s touches bodies contacts)
+  numbers_rise =
+      All-map (λ (i : Island). IsRising 0 i.numbers) island_named chosen
+      (λ k d within.
+      filter_rises (λ i. get_or names i 0 == get_or chosen k d) 0 (range_with_len 0 (length names)) (range_rises 0 (length names)))
+
+  -- no body below a name is in its group
+  none_below : (name start count : ℕ) → start + count ≤ name → name < length s.fixtures
+      → filter (λ i. get_or names i 0 == name) (range_with_len start count) ≡ []
+  none_below name start zero low within = refl
+  none_below name start (suc count) low within =
+      ap (λ e. cond e (start ∷ rest) rest) apart ∙ none_below name (start + 1) count (omega (arith, low)) within
+    where
+      rest : List ℕ
+      rest = filter (λ i. get_or names i 0 == name) (range_with_len (start + 1) count)
+
+      apart : (get_or names start 0 == name) ≡ false
+      apart =
+          let small : start < length s.fixtures = omega (arith, low, within) in
+          ne_eqb (get_or names start 0) name
+          (λ same. omega (arith, same, name_of s touches start small, group_low s touches start, low))
+
+  -- so the least body of an island is the name of its group
+  least_is : (name : ℕ) → name < length s.fixtures → is_active_name names awake name ≡ true
+      → get_or (members names name) 0 0 ≡ name
+  least_is name within active =
+      let own = λ (i : ℕ). get_or names i 0 == name in
+      let from_zero : 0 + name ≡ name = omega arith in
+      let is_own = (and_parts (own name) (is_awake_at awake name) active).0 in
+      get_or_from_slice_get (members names name) 0 name 0
+      (ap (λ (ns : List ℕ). slice_get (members names name) (length ns)) (sym (none_below name 0 name (omega arith) within))
+      ∙ chosen_at own 0 (length names) name (omega (arith, within, groups_long s touches)) (ap own from_zero ∙ is_own)
+      ∙ ap Some from_zero)
+
+  -- and the least bodies of islands ascend
+  pub least_rise : IsRising 0 (map (λ (i : Island). get_or i.numbers 0 0) (islands_of s touches bodies contacts))
+  least_rise =
+      subst (IsRising 0)
+      (sym (map-map (λ (i : Island). get_or i.numbers 0 0) island_named chosen
+      ∙ map_where (λ name. (name < length names) × (is_active_name names awake name ≡ true))
+      (λ name. get_or (members names name) 0 0) (λ name. name)
+      (λ name is. least_is name (omega (arith, is.0, groups_long s touches)) is.1) chosen
+      (λ k d within. (
+        All-filter (is_active_name names awake) (λ i. i < length names) (range_with_len 0 (length names))
+            (range_within 0 (length names) (length names) (omega arith)) k d within,
+        chosen_pass (is_active_name names awake) (range_with_len 0 (length names)) k d within,
+      ))
+      ∙ map_self chosen))
+      chosen_rise
+    where
+      map_self : (ns : List ℕ) → map (λ n. n) ns ≡ ns
+      map_self [] = refl
+      map_self (n ∷ ns) = ap (λ rest. n ∷ rest) (map_self ns)
