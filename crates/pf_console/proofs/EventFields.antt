@@ -19,9 +19,9 @@ use Rattle.pf_commands.specs.Frame.{IsFrameable, encoding}
 use Rattle.pf_commands.proofs.Encoding.{encoding_encodes}
 use Rattle.pf_commands.proofs.Frames.{encoded_decodes}
 use Rattle.pf_peers.specs.declared.event.Event.{Event}
-use Rattle.pf_peers.specs.declared.event.Event.TheVariants.{Issue, Take, Advance, Show}
+use Rattle.pf_peers.specs.declared.event.Event.TheVariants.{Issue, Take, Merge, Advance, Settle, Show}
 use Rattle.pf_console.specs.Digits.{frame_or_error, bytes_or_error, frame_of}
-use Rattle.pf_console.specs.Grammar.{peer_of, tick_of, body_of, real_of, event_of, issue_of, push_of, turn_of, stop_of, take_of, advance_of, show_of}
+use Rattle.pf_console.specs.Grammar.{peer_of, tick_of, body_of, real_of, event_of, issue_of, push_of, turn_of, stop_of, take_of, merge_of, advance_of, settle_of, show_of}
 use Rattle.pf_console.specs.EventEncoding.{payload_fields, event_fields, IsEncodable}
 
 -- ---- numbers
@@ -65,9 +65,11 @@ read_issue peers peer (Stop body) few e h = rw (read_peer peers peer few e, read
 
 pub read_event : (peers : ℕ) (event : Event) → peers ≤ PLAYERS → IsEncodable peers event
     → event_of peers (event_fields event) ≡ Ok event
-unfolding event_of take_of advance_of show_of
+unfolding event_of take_of merge_of advance_of settle_of show_of
 read_event peers (Issue peer payload) few h = read_issue peers peer payload few h.0 h.1
 read_event peers (Take peer (Ok c)) few h = rw (read_peer peers peer few h.0, read_frame c h.1) refl
 read_event peers (Take peer (Err fault)) few h = elim h [ ]
+read_event peers (Merge peer other) few h = rw (read_peer peers peer few h.0, read_peer peers other few h.1) refl
 read_event peers (Advance peer ticks) few h = rw (read_peer peers peer few h.0, read_tick ticks h.1) refl
+read_event peers (Settle peer) few h = rw (read_peer peers peer few h) refl
 read_event peers (Show peer tick) few h = rw (read_peer peers peer few h.0, read_tick tick h.1) refl

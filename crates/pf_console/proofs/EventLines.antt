@@ -22,7 +22,7 @@ use Rattle.pf_commands.specs.Payload.{IsPayload}
 use Rattle.pf_commands.specs.Frame.{encoding}
 use Rattle.pf_commands.proofs.Encoding.{encoding_encodes}
 use Rattle.pf_peers.specs.declared.event.Event.{Event}
-use Rattle.pf_peers.specs.declared.event.Event.TheVariants.{Issue, Take, Advance, Show}
+use Rattle.pf_peers.specs.declared.event.Event.TheVariants.{Issue, Take, Merge, Advance, Settle, Show}
 use Rattle.pf_console.specs.Laws.{IsLineOf, AreLinesOf}
 use Rattle.pf_console.specs.EventEncoding.{payload_fields, event_fields, event_line, IsEncodable}
 use Rattle.pf_console.proofs.EventFields.{read_event}
@@ -149,8 +149,12 @@ event_words peers (Issue peer payload) few h =
 event_words peers (Take peer (Ok c)) few h =
     (word (codes "take") refl (omega arith) (omega arith), (peer_word peers peer few h.0, (frame_word (encoding c) (encoding_encodes c h.1).long, tt)))
 event_words peers (Take peer (Err fault)) few h = elim h [ ]
+event_words peers (Merge peer other) few h =
+    (word (codes "merge") refl (omega arith) (omega arith), (peer_word peers peer few h.0, (peer_word peers other few h.1, tt)))
 event_words peers (Advance peer ticks) few h =
     (word (codes "advance") refl (omega arith) (omega arith), (peer_word peers peer few h.0, (decimal_word ticks (omega (arith, h.1)), tt)))
+event_words peers (Settle peer) few h =
+    (word (codes "settle") refl (omega arith) (omega arith), (peer_word peers peer few h, tt))
 event_words peers (Show peer tick) few h =
     (word (codes "show") refl (omega arith) (omega arith), (peer_word peers peer few h.0, (decimal_word tick (omega (arith, h.1)), tt)))
 
@@ -163,7 +167,9 @@ event_count : (peers : ℕ) (event : Event) → peers ≤ PLAYERS → IsEncodabl
 event_count peers (Issue peer payload) few h = (omega arith, omega (arith, payload_count payload))
 event_count peers (Take peer (Ok c)) few h = (omega arith, omega arith)
 event_count peers (Take peer (Err fault)) few h = elim h [ ]
+event_count peers (Merge peer other) few h = (omega arith, omega arith)
 event_count peers (Advance peer ticks) few h = (omega arith, omega arith)
+event_count peers (Settle peer) few h = (omega arith, omega arith)
 event_count peers (Show peer tick) few h = (omega arith, omega arith)
 
 event_not_skipped : (peers : ℕ) (event : Event) → peers ≤ PLAYERS → IsEncodable peers event → is_skipped (event_line event) ≡ false
@@ -172,7 +178,9 @@ event_not_skipped peers (Issue peer (Turn body x)) few h = refl
 event_not_skipped peers (Issue peer (Stop body)) few h = refl
 event_not_skipped peers (Take peer (Ok c)) few h = refl
 event_not_skipped peers (Take peer (Err fault)) few h = elim h [ ]
+event_not_skipped peers (Merge peer other) few h = refl
 event_not_skipped peers (Advance peer ticks) few h = refl
+event_not_skipped peers (Settle peer) few h = refl
 event_not_skipped peers (Show peer tick) few h = refl
 
 pub line_of_event : (peers : ℕ) (event : Event) → peers ≤ PLAYERS → IsEncodable peers event

@@ -9,7 +9,7 @@ use Rattle.pf_commands.specs.declared.payload.Payload.TheVariants.{Push, Turn, S
 use Rattle.pf_commands.specs.Payload.{IsPayload}
 use Rattle.pf_commands.specs.Frame.{IsFrameable, encoding}
 use Rattle.pf_peers.specs.declared.event.Event.{Event}
-use Rattle.pf_peers.specs.declared.event.Event.TheVariants.{Issue, Take, Advance, Show}
+use Rattle.pf_peers.specs.declared.event.Event.TheVariants.{Issue, Take, Merge, Advance, Settle, Show}
 
 -- what is issued: its kind, its body and its numbers
 abbrev pub payload_fields : Payload → List (List ℕ)
@@ -23,17 +23,21 @@ abbrev pub event_fields : Event → List (List ℕ)
 event_fields (Issue peer payload) = codes "issue" ∷ decimal peer ∷ payload_fields payload
 event_fields (Take peer (Ok c)) = codes "take" ∷ decimal peer ∷ encode_lower (encoding c) ∷ []
 event_fields (Take peer (Err fault)) = []
+event_fields (Merge peer other) = codes "merge" ∷ decimal peer ∷ decimal other ∷ []
 event_fields (Advance peer ticks) = codes "advance" ∷ decimal peer ∷ decimal ticks ∷ []
+event_fields (Settle peer) = codes "settle" ∷ decimal peer ∷ []
 event_fields (Show peer tick) = codes "show" ∷ decimal peer ∷ decimal tick ∷ []
 
 -- the line of an event
 abbrev pub event_line : Event → List ℕ
 event_line event = join_with_byte 32 (event_fields event)
 
--- the peer is one of so many, and the numbers of the event are in the ranges of its line
+-- the peers are of so many, and the numbers of the event are in the ranges of its line
 abbrev pub IsEncodable : ℕ → Event → Type 0
 IsEncodable peers (Issue peer payload) = (peer < peers) × IsPayload payload
 IsEncodable peers (Take peer (Ok c)) = (peer < peers) × IsFrameable c
 IsEncodable peers (Take peer (Err fault)) = ⊥
+IsEncodable peers (Merge peer other) = (peer < peers) × (other < peers)
 IsEncodable peers (Advance peer ticks) = (peer < peers) × (ticks < 2 ^ 32)
+IsEncodable peers (Settle peer) = peer < peers
 IsEncodable peers (Show peer tick) = (peer < peers) × (tick < 2 ^ 32)

@@ -11,7 +11,7 @@ use Rattle.pf_text.specs.Numbers.{whole_of, integer}
 use Rattle.pf_rot.specs.Vector.{V2}
 use Rattle.pf_peers.specs.declared.event.Event.{Event}
 use Rattle.pf_commands.specs.declared.payload.Payload.TheVariants.{Push, Turn, Stop}
-use Rattle.pf_peers.specs.declared.event.Event.TheVariants.{Issue, Take, Advance, Show}
+use Rattle.pf_peers.specs.declared.event.Event.TheVariants.{Issue, Take, Merge, Advance, Settle, Show}
 use Rattle.pf_console.specs.declared.grammar.EventWord.{EventWord}
 use Rattle.pf_console.specs.declared.grammar.EventWord.TheVariants as words
 use Rattle.pf_console.specs.declared.grammar.Kind.{Kind}
@@ -35,9 +35,11 @@ abbrev pub word_of : List ℕ → Option EventWord
 word_of field =
     if bytes_eq field (codes "issue") then Some words.Issue
     else (if bytes_eq field (codes "take") then Some words.Take
+    else (if bytes_eq field (codes "merge") then Some words.Merge
     else (if bytes_eq field (codes "advance") then Some words.Advance
+    else (if bytes_eq field (codes "settle") then Some words.Settle
     else (if bytes_eq field (codes "show") then Some words.Show
-    else None)))
+    else None)))))
 
 -- the kind of a command
 abbrev pub kind_of : List ℕ → Option Kind
@@ -107,6 +109,14 @@ take_of peers (peer ∷ digits ∷ []) = do
   Ok (Take peer frame)
 take_of peers args = Err BadLine
 
+-- `merge P Q`
+unfoldable pub merge_of : ℕ → List (List ℕ) → Result Event LineFault
+merge_of peers (peer ∷ other ∷ []) = do
+  peer ← peer_of peers peer
+  other ← peer_of peers other
+  Ok (Merge peer other)
+merge_of peers args = Err BadLine
+
 -- `advance P K`
 unfoldable pub advance_of : ℕ → List (List ℕ) → Result Event LineFault
 advance_of peers (peer ∷ ticks ∷ []) = do
@@ -114,6 +124,13 @@ advance_of peers (peer ∷ ticks ∷ []) = do
   ticks ← tick_of ticks
   Ok (Advance peer ticks)
 advance_of peers args = Err BadLine
+
+-- `settle P`
+unfoldable pub settle_of : ℕ → List (List ℕ) → Result Event LineFault
+settle_of peers (peer ∷ []) = do
+  peer ← peer_of peers peer
+  Ok (Settle peer)
+settle_of peers args = Err BadLine
 
 -- `show P T`
 unfoldable pub show_of : ℕ → List (List ℕ) → Result Event LineFault
@@ -126,7 +143,9 @@ show_of peers args = Err BadLine
 abbrev pub event_by_word : ℕ → Option EventWord → List (List ℕ) → Result Event LineFault
 event_by_word peers (Some words.Issue) args = issue_of peers args
 event_by_word peers (Some words.Take) args = take_of peers args
+event_by_word peers (Some words.Merge) args = merge_of peers args
 event_by_word peers (Some words.Advance) args = advance_of peers args
+event_by_word peers (Some words.Settle) args = settle_of peers args
 event_by_word peers (Some words.Show) args = show_of peers args
 event_by_word peers None args = Err BadLine
 

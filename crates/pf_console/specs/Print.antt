@@ -1,5 +1,5 @@
 -- The texts of replies.
-use Rattle.std.specs.Prelude.{ℕ, ◌+◌, ℤ, pos, Bool, true, false, List, [], ◌∷◌, ◌++◌, codes, if◌then◌else◌}
+use Rattle.std.specs.Prelude.{ℕ, ◌+◌, ℤ, pos, Bool, true, false, List, [], ◌∷◌, ◌++◌, codes, decimal, if◌then◌else◌}
 use Rattle.std.specs.List.{flat_map}
 use Rattle.hex.specs.Hex.{encode_lower}
 use Rattle.pf_text.specs.Words.{words_text, line_text}
@@ -10,7 +10,7 @@ use Rattle.pf_commands.specs.declared.payload.Payload.{Payload}
 use Rattle.pf_commands.specs.declared.payload.Payload.TheVariants.{Push, Turn, Stop}
 use Rattle.pf_cache.specs.Contact.{Contact}
 use Rattle.pf_peers.specs.declared.event.Reply.{Reply}
-use Rattle.pf_peers.specs.declared.event.Reply.TheVariants.{Issued, Took, Advanced, Shown, Refused}
+use Rattle.pf_peers.specs.declared.event.Reply.TheVariants.{Issued, Took, Merged, Advanced, Settled, Shown, Refused}
 use Rattle.pf_step.specs.World.{World}
 use Rattle.pf_rollback.specs.declared.fault.Refusal.{Refusal}
 use Rattle.pf_rollback.specs.declared.fault.Refusal.TheVariants.{TickLimit, NumbersSpent, Frame, Check, NotReached}
@@ -86,7 +86,10 @@ refusal_text (NotReached reached) = line_text (codes "refused NotReached") (pos 
 unfoldable pub reply_text : List Fixture → Reply → List ℕ
 reply_text fixtures (Issued peer frame) = reply_line (codes "issue") peer (encode_lower frame)
 reply_text fixtures (Took peer put) = reply_line (codes "take") peer (put_name put)
+reply_text fixtures (Merged peer count) = reply_line (codes "merge") peer (decimal count)
 reply_text fixtures (Advanced peer reached) =
     line_text (codes "advance") (pos peer ∷ pos reached ∷ [])
+reply_text fixtures (Settled peer reached) =
+    line_text (codes "settle") (pos peer ∷ pos reached ∷ [])
 reply_text fixtures (Shown peer tick world) = block_text fixtures peer tick world
 reply_text fixtures (Refused refusal) = refusal_text refusal

@@ -2,7 +2,7 @@
 
 ghost use Rattle.std.specs.Prelude.{◌≡◌, ◌<◌, map, IfOk};
 ghost use Rattle.pf_peers.specs.Session.{IsAmong};
-ghost use Rattle.pf_console.specs.Grammar.{peer_of, tick_of, body_of, real_of, impulse_of, word_of, kind_of, push_of, turn_of, stop_of, issue_of, take_of, advance_of, show_of, event_of};
+ghost use Rattle.pf_console.specs.Grammar.{peer_of, tick_of, body_of, real_of, impulse_of, word_of, kind_of, push_of, turn_of, stop_of, issue_of, take_of, merge_of, advance_of, settle_of, show_of, event_of};
 
 use crate::digits::frame;
 use pf_commands::Payload;
@@ -16,7 +16,9 @@ use pf_text::{LineFault, ParsedNumber, number};
 pub enum EventWord {
     Issue,
     Take,
+    Merge,
     Advance,
+    Settle,
     Show,
 }
 
@@ -36,8 +38,12 @@ fn word(field: &[u8]) -> Option<EventWord>
         Some(EventWord::Issue)
     } else if field == b"take".as_slice() {
         Some(EventWord::Take)
+    } else if field == b"merge".as_slice() {
+        Some(EventWord::Merge)
     } else if field == b"advance".as_slice() {
         Some(EventWord::Advance)
+    } else if field == b"settle".as_slice() {
+        Some(EventWord::Settle)
     } else if field == b"show".as_slice() {
         Some(EventWord::Show)
     } else {
@@ -189,6 +195,21 @@ fn take(peers: u8, arguments: &[&[u8]]) -> Result<Event, LineFault>
     Ok(Event::Take { peer, frame })
 }
 
+/// `merge P Q`.
+#[tactic(auto, unfolding(crate::specs::Grammar::merge_of))]
+fn merge(peers: u8, arguments: &[&[u8]]) -> Result<Event, LineFault>
+    ensures value { result ≡ merge_of peers (map (λ field. field.now) arguments.now) }
+    ensures peer { IfOk result (IsAmong peers) }
+{
+    let [to, from] = arguments else {
+        return Err(LineFault::BadLine);
+    };
+    Ok(Event::Merge {
+        peer: peer(peers, to)?,
+        other: peer(peers, from)?,
+    })
+}
+
 /// `advance P K`.
 #[tactic(auto, unfolding(crate::specs::Grammar::advance_of))]
 fn advance(peers: u8, arguments: &[&[u8]]) -> Result<Event, LineFault>
@@ -202,6 +223,19 @@ fn advance(peers: u8, arguments: &[&[u8]]) -> Result<Event, LineFault>
         peer: peer(peers, of)?,
         ticks: tick(ticks)?,
     })
+}
+
+/// `settle P`.
+#[tactic(auto, unfolding(crate::specs::Grammar::settle_of))]
+fn settle(peers: u8, arguments: &[&[u8]]) -> Result<Event, LineFault>
+    ensures value { result ≡ settle_of peers (map (λ field. field.now) arguments.now) }
+    ensures peer { IfOk result (IsAmong peers) }
+{
+    let [of] = arguments else {
+        return Err(LineFault::BadLine);
+    };
+    let peer = peer(peers, of)?;
+    Ok(Event::Settle { peer })
 }
 
 /// `show P T`.
@@ -231,7 +265,9 @@ pub fn event(peers: u8, fields: &[&[u8]]) -> Result<Event, LineFault>
     match word(first) {
         Some(EventWord::Issue) => issue(peers, arguments),
         Some(EventWord::Take) => take(peers, arguments),
+        Some(EventWord::Merge) => merge(peers, arguments),
         Some(EventWord::Advance) => advance(peers, arguments),
+        Some(EventWord::Settle) => settle(peers, arguments),
         Some(EventWord::Show) => show(peers, arguments),
         None => Err(LineFault::BadLine),
     }

@@ -43,5 +43,5 @@ pub fn printed_frames_are_parsed()
 
 /// How many peers a text may have.
 pub fn named_limits()
-    ensures { MAX_TEXT_PEERS ≡ 1 }
+    ensures { MAX_TEXT_PEERS ≡ 8 }
 {}

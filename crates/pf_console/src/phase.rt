@@ -14,7 +14,7 @@ use pf_text::{LineFault, Machine, TakeRefusal, integer};
 use std::alloc::Global;
 
 /// How many peers a text may have.
-pub const MAX_TEXT_PEERS: u8 = 1;
+pub const MAX_TEXT_PEERS: u8 = 8;
 
 /// Which part of a text comes next.
 #[derive(Drop)]

@@ -7,6 +7,7 @@ ghost use Rattle.pf_manifold.specs.Key.{IsKey};
 ghost use Rattle.pf_console.specs.Print.{payload_text, command_line, body_numbers, dynamic_body_text, bodies_text, contact_numbers, contact_text, block_text, reply_line, refusal_line, refusal_text, reply_text};
 
 use crate::names::{check_fault_name, frame_fault_name, put_name};
+use itoa::Buffer;
 use pf_cache::Contact;
 use pf_commands::{Command, Payload};
 use pf_peers::Reply;
@@ -191,10 +192,20 @@ pub fn reply_text(alloc: Global, fixtures: &[Fixture], reply: &Reply) -> Result<
             push_reply(&mut text, "issue", *peer, &digits)?;
         }
         Reply::Took { peer, put } => push_reply(&mut text, "take", *peer, put_name(*put))?,
+        Reply::Merged { peer, count } => {
+            push_reply(&mut text, "merge", *peer, Buffer::new().format(*count))?;
+        }
         Reply::Advanced { peer, reached } => {
             push_line(
                 &mut text,
                 "advance",
+                &[i64::from(*peer), i64::from(*reached)],
+            )?;
+        }
+        Reply::Settled { peer, reached } => {
+            push_line(
+                &mut text,
+                "settle",
                 &[i64::from(*peer), i64::from(*reached)],
             )?;
         }

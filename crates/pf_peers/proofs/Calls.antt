@@ -1,6 +1,6 @@
 -- What events leave as it was, and what they leave behind.
 use Rattle.std.proofs.Common.{◌≡◌, ◌≢◌, ℕ, ◌+◌, ◌<◌, Bool, true, false, ◌==◌, if◌then◌else◌, List, [], ◌∷◌, ◌++◌, length, Result, Ok, Err, refl, ap, sym, ◌∙◌, nat_le, arith}
-use Rattle.std.specs.FinMap.{get}
+use Rattle.std.specs.FinMap.{get, entries}
 use Rattle.std.proofs.lemmas.Bool.Decides.{nat_tests}
 use Rattle.std.proofs.lemmas.List.{ext_get_or, get_or-set_same, get_or-set_other}
 use Rattle.pf_shapes.specs.Scene.{Scene}
@@ -9,30 +9,31 @@ use Rattle.pf_commands.specs.declared.map.Put.{Put}
 use Rattle.pf_commands.specs.declared.name.TheConstants.{MAX_TICK, NUMBERS}
 use Rattle.pf_commands.specs.declared.payload.Command.{Command}
 use Rattle.pf_commands.specs.declared.payload.Payload.{Payload}
-use Rattle.pf_commands.specs.Check.{check}
+use Rattle.pf_commands.specs.Check.{check, check_all}
 use Rattle.pf_commands.specs.Merge.{CommandMap, merge, singleton, put_all}
-use Rattle.pf_commands.specs.News.{put_outcome}
+use Rattle.pf_commands.specs.News.{news, put_outcome}
 use Rattle.pf_rollback.specs.declared.fault.Refusal.{Refusal}
-use Rattle.pf_rollback.specs.Peer.{Peer, if_allowed, new_peer, with_command, with_frame, put, issue, advance, next_command, next_number}
+use Rattle.pf_rollback.specs.Peer.{Peer, if_allowed, new_peer, with_command, with_commands, with_frame, put, issue, merge_map, advance, next_command, next_number}
 use Rattle.pf_peers.specs.declared.event.Event.{Event}
-use Rattle.pf_peers.specs.declared.event.Event.TheVariants.{Issue, Take, Advance, Show}
+use Rattle.pf_peers.specs.declared.event.Event.TheVariants.{Issue, Take, Merge, Advance, Settle, Show}
 use Rattle.pf_peers.specs.declared.event.Reply.{Reply}
-use Rattle.pf_peers.specs.declared.event.Reply.TheVariants.{Issued, Took, Advanced}
-use Rattle.pf_peers.specs.Laws.{if_taken, commands_from, commands_for}
-use Rattle.pf_peers.specs.Session.{Session, peer_answer, peer_at, peer_of, reply_and_peer, session_after, session_after_all}
+use Rattle.pf_peers.specs.declared.event.Reply.TheVariants.{Issued, Took, Merged, Advanced}
+use Rattle.pf_peers.specs.Laws.{if_taken, commands_of, commands_from, commands_for}
+use Rattle.pf_peers.specs.Session.{Session, other_commands, peer_answer, peer_at, peer_of, reply_and_peer, session_after, session_after_all}
+use Rattle.pf_peers.proofs.Maps.{put_all-commands_of}
 use Rattle.pf_peers.proofs.Sessions.{length-session_after}
 
 -- ---- one peer
 
--- a call that brings a command, rejected or not: the player stays, and the map is the one with the
--- command put in
-record Brings {A : Type 0} (p : Peer) (c : Command) (r : Result (A × Peer) Refusal) : Type 0 where
+-- a call that brings commands, rejected or not: the player stays, and the map is the one with these
+-- commands put in
+record Brings {A : Type 0} (p : Peer) (cs : List Command) (r : Result (A × Peer) Refusal) : Type 0 where
   player : (reply : A → Reply) → (reply_and_peer reply p r).1.player ≡ p.player
-  commands : (reply : A → Reply) → (reply_and_peer reply p r).1.commands ≡ put_all p.commands (if_taken r c)
+  commands : (reply : A → Reply) → (reply_and_peer reply p r).1.commands ≡ put_all p.commands (if_taken r cs)
 
 -- a call that is rejected
-rejected : {A : Type 0} (p : Peer) (c : Command) (refusal : Refusal) → Brings {A = A} p c (Err refusal)
-rejected p c refusal = record { player = λ reply. refl; commands = λ reply. refl }
+rejected : {A : Type 0} (p : Peer) (cs : List Command) (refusal : Refusal) → Brings {A = A} p cs (Err refusal)
+rejected p cs refusal = record { player = λ reply. refl; commands = λ reply. refl }
 
 -- what holds of two calls holds of the one that a test chooses
 either : {A : Type 0} (Holds : Result (A × Peer) Refusal → Type 0) (test : Bool) (r s : Result (A × Peer) Refusal) → Holds r → Holds s
@@ -41,26 +42,35 @@ either Holds true r s first second = first
 either Holds false r s first second = second
 
 put_allowed : (p : Peer) (c : Command) (outcome : Put) (checked : Result (Unit {0}) CheckFault) →
-    Brings p c (if_allowed checked (outcome, with_command p c))
+    Brings p (c ∷ []) (if_allowed checked (outcome, with_command p c))
 put_allowed p c outcome (Ok done) = record { player = λ reply. refl; commands = λ reply. refl }
 put_allowed p c outcome (Err fault) = record { player = λ reply. refl; commands = λ reply. refl }
 
 put_with_frame : (p : Peer) (c : Command) (outcome : Put) (checked : Result (Unit {0}) CheckFault) →
-    Brings p c (with_frame c (if_allowed checked (outcome, with_command p c)))
+    Brings p (c ∷ []) (with_frame c (if_allowed checked (outcome, with_command p c)))
 put_with_frame p c outcome (Ok done) = record { player = λ reply. refl; commands = λ reply. refl }
 put_with_frame p c outcome (Err fault) = record { player = λ reply. refl; commands = λ reply. refl }
 
-puts : (s : Scene) (p : Peer) (c : Command) → Brings p c (put s p c)
+merge_allowed : (p : Peer) (others : CommandMap) (count : ℕ) (checked : Result (Unit {0}) CheckFault) →
+    Brings p (commands_of others) (if_allowed checked (count, with_commands p others))
+merge_allowed p others count (Ok done) = record { player = λ reply. refl; commands = λ reply. sym (put_all-commands_of p.commands others) }
+merge_allowed p others count (Err fault) = record { player = λ reply. refl; commands = λ reply. refl }
+
+puts : (s : Scene) (p : Peer) (c : Command) → Brings p (c ∷ []) (put s p c)
 unfolding put
 puts s p c = put_allowed p c (put_outcome (get p.commands c.name) c.payload) (check s c.name c.payload)
 
-issues : (s : Scene) (p : Peer) (payload : Payload) → Brings p (next_command p payload) (issue s p payload)
+issues : (s : Scene) (p : Peer) (payload : Payload) → Brings p (next_command p payload ∷ []) (issue s p payload)
 unfolding issue put
 issues s p payload =
     let c = next_command p payload in
-    either (Brings p c) (nat_le MAX_TICK p.reached) (Err _) _ (rejected p c _)
-    (either (Brings p c) (nat_le NUMBERS (next_number p.commands p.reached p.player)) (Err _) _ (rejected p c _)
+    either (Brings p (c ∷ [])) (nat_le MAX_TICK p.reached) (Err _) _ (rejected p (c ∷ []) _)
+    (either (Brings p (c ∷ [])) (nat_le NUMBERS (next_number p.commands p.reached p.player)) (Err _) _ (rejected p (c ∷ []) _)
     (put_with_frame p c (put_outcome (get p.commands c.name) c.payload) (check s c.name c.payload)))
+
+merges : (s : Scene) (p : Peer) (others : CommandMap) → Brings p (commands_of others) (merge_map s p others)
+unfolding merge_map
+merges s p others = merge_allowed p others (length (news p.commands others)) (check_all s (entries others))
 
 -- a call that changes neither player nor commands
 record Keeps {A : Type 0} (p : Peer) (r : Result (A × Peer) Refusal) : Type 0 where
@@ -73,60 +83,75 @@ advances p ticks = either (Keeps p) (nat_le (p.reached + ticks) MAX_TICK) _ _
     (record { player = λ reply. refl; commands = λ reply. refl }) (record { player = λ reply. refl; commands = λ reply. refl })
 
 -- the player stays
-same_player : (s : Scene) (p : Peer) (event : Event) → (peer_answer s p event).1.player ≡ p.player
+same_player : (s : Scene) (others : CommandMap) (p : Peer) (event : Event) → (peer_answer s others p event).1.player ≡ p.player
 unfolding peer_answer
-same_player s p (Issue peer payload) = (issues s p payload).player (λ frame. Issued peer frame)
-same_player s p (Take peer (Ok c)) = (puts s p c).player (λ outcome. Took peer outcome)
-same_player s p (Take peer (Err fault)) = refl
-same_player s p (Advance peer ticks) = (advances p ticks).player (λ reached. Advanced peer reached)
-same_player s p (Show peer tick) = refl
+same_player s others p (Issue peer payload) = (issues s p payload).player (λ frame. Issued peer frame)
+same_player s others p (Take peer (Ok c)) = (puts s p c).player (λ outcome. Took peer outcome)
+same_player s others p (Take peer (Err fault)) = refl
+same_player s others p (Merge peer other) = by (other == peer)
+  where
+    by : (b : Bool) → (if b then (Merged peer 0, p) else reply_and_peer (λ count. Merged peer count) p (merge_map s p others)).1.player ≡ p.player
+    by true = refl
+    by false = (merges s p others).player (λ count. Merged peer count)
+same_player s others p (Advance peer ticks) = (advances p ticks).player (λ reached. Advanced peer reached)
+same_player s others p (Settle peer) = refl
+same_player s others p (Show peer tick) = refl
 
--- the map has the command that the event brought
-commands_after : (s : Scene) (p : Peer) (event : Event) → (peer_answer s p event).1.commands ≡ put_all p.commands (commands_from s p event)
+-- the map has the commands that the event brought
+commands_after : (s : Scene) (others : CommandMap) (p : Peer) (event : Event)
+    → (peer_answer s others p event).1.commands ≡ put_all p.commands (commands_from s others p event)
 unfolding peer_answer
-commands_after s p (Issue peer payload) = (issues s p payload).commands (λ frame. Issued peer frame)
-commands_after s p (Take peer (Ok c)) = (puts s p c).commands (λ outcome. Took peer outcome)
-commands_after s p (Take peer (Err fault)) = refl
-commands_after s p (Advance peer ticks) = (advances p ticks).commands (λ reached. Advanced peer reached)
-commands_after s p (Show peer tick) = refl
+commands_after s others p (Issue peer payload) = (issues s p payload).commands (λ frame. Issued peer frame)
+commands_after s others p (Take peer (Ok c)) = (puts s p c).commands (λ outcome. Took peer outcome)
+commands_after s others p (Take peer (Err fault)) = refl
+commands_after s others p (Merge peer other) = by (other == peer)
+  where
+    by : (b : Bool) → (if b then (Merged peer 0, p) else reply_and_peer (λ count. Merged peer count) p (merge_map s p others)).1.commands
+        ≡ put_all p.commands (if b then [] else if_taken (merge_map s p others) (commands_of others))
+    by true = refl
+    by false = (merges s p others).commands (λ count. Merged peer count)
+commands_after s others p (Advance peer ticks) = (advances p ticks).commands (λ reached. Advanced peer reached)
+commands_after s others p (Settle peer) = refl
+commands_after s others p (Show peer tick) = refl
 
 -- ---- one peer of a session
 
 -- the peer of an event is the one that answered
-asked_peer : (s : Session) (event : Event) → peer_of event < length s.peers
-    → peer_at (session_after s event) (peer_of event) ≡ (peer_answer s.scene (peer_at s (peer_of event)) event).1
+pub asked_peer : (s : Session) (event : Event) → peer_of event < length s.peers
+    → peer_at (session_after s event) (peer_of event) ≡ (peer_answer s.scene (other_commands s event) (peer_at s (peer_of event)) event).1
 asked_peer s event h =
-    get_or-set_same s.peers (peer_of event) (peer_answer s.scene (peer_at s (peer_of event)) event).1 (new_peer 0) h
+    get_or-set_same s.peers (peer_of event) (peer_answer s.scene (other_commands s event) (peer_at s (peer_of event)) event).1 (new_peer 0) h
 
 -- any other stays
-other_peer : (s : Session) (event : Event) (i : ℕ) → i ≢ peer_of event → peer_at (session_after s event) i ≡ peer_at s i
+pub other_peer : (s : Session) (event : Event) (i : ℕ) → i ≢ peer_of event → peer_at (session_after s event) i ≡ peer_at s i
 other_peer s event i other =
-    get_or-set_other s.peers (peer_of event) i (peer_answer s.scene (peer_at s (peer_of event)) event).1 (new_peer 0) other
+    get_or-set_other s.peers (peer_of event) i (peer_answer s.scene (other_commands s event) (peer_at s (peer_of event)) event).1 (new_peer 0) other
 
 -- the commands that one event brings to a peer
 abbrev commands_by : Session → ℕ → Event → List Command
-commands_by s i event = if peer_of event == i then commands_from s.scene (peer_at s i) event else []
+commands_by s i event = if peer_of event == i then commands_from s.scene (other_commands s event) (peer_at s i) event else []
 
 pub record IsPeerAfter (p q : Peer) (cs : List Command) : Type 0 where
   pub player : q.player ≡ p.player
   pub commands : q.commands ≡ put_all p.commands cs
 
-peer_after : (s : Session) (event : Event) (i : ℕ) → i < length s.peers
+pub peer_after : (s : Session) (event : Event) (i : ℕ) → i < length s.peers
     → IsPeerAfter (peer_at s i) (peer_at (session_after s event) i) (commands_by s i event)
 peer_after s event i h = by (peer_of event == i) refl
   where
     by : (b : Bool) → (peer_of event == i) ≡ b
-        → IsPeerAfter (peer_at s i) (peer_at (session_after s event) i) (if b then commands_from s.scene (peer_at s i) event else [])
+        → IsPeerAfter (peer_at s i) (peer_at (session_after s event) i) (if b then commands_from s.scene (other_commands s event) (peer_at s i) event else [])
     by true test =
         let same : peer_of event ≡ i = grind (arith, nat_tests) in
         let p : Peer = peer_at s i in
-        let asked : peer_at (session_after s event) i ≡ (peer_answer s.scene p event).1 =
+        let others : CommandMap = other_commands s event in
+        let asked : peer_at (session_after s event) i ≡ (peer_answer s.scene others p event).1 =
         ap (λ (k : ℕ). peer_at (session_after s event) k) (sym same)
         ∙ asked_peer s event (omega (arith, same))
-        ∙ ap (λ (k : ℕ). (peer_answer s.scene (peer_at s k) event).1) same in
+        ∙ ap (λ (k : ℕ). (peer_answer s.scene others (peer_at s k) event).1) same in
         record {
-          player = ap (λ (q : Peer). q.player) asked ∙ same_player s.scene p event;
-          commands = ap (λ (q : Peer). q.commands) asked ∙ commands_after s.scene p event;
+          player = ap (λ (q : Peer). q.player) asked ∙ same_player s.scene others p event;
+          commands = ap (λ (q : Peer). q.commands) asked ∙ commands_after s.scene others p event;
         }
     by false test =
         let other : i ≢ peer_of event = λ same. grind (arith, nat_tests) in

@@ -1,6 +1,10 @@
 -- The lemmas of this crate.
+pub mod Parts
 pub mod Sessions
+pub mod Maps
 pub mod Calls
 pub mod Shown
 pub mod Refusals
 pub mod Alike
+pub mod Repeats
+pub mod BothWays

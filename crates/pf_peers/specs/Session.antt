@@ -1,18 +1,20 @@
 -- The abstract session: peers of one scene, and the reply to each event on them, one event after
 -- the other.
-use Rattle.std.specs.Prelude.{◌≡◌, ℕ, ◌<◌, ◌≤◌, ◌⊎◌, All, length, List, [], ◌∷◌, Result, Ok, Err, IsErr, IsSome, map, slice_index_or, slice_set}
+use Rattle.std.specs.Prelude.{◌≡◌, ◌==◌, if◌then◌else◌, ℕ, ◌<◌, ◌≤◌, ◌⊎◌, All, length, List, [], ◌∷◌, Result, Ok, Err, IsErr, IsSome, map, slice_index_or, slice_set}
 use Rattle.std.specs.FinMap.{get}
 use Rattle.std.specs.List.{range_with_len}
 use Rattle.pf_shapes.specs.Scene.{Scene}
 use Rattle.pf_shapes.specs.declared.fixture.TheConstants.{PLAYERS}
+use Rattle.pf_commands.specs.Merge.{CommandMap}
+use Rattle.pf_commands.specs.News.{news}
 use Rattle.pf_step.specs.World.{World}
 use Rattle.pf_rollback.specs.declared.fault.Refusal.{Refusal}
 use Rattle.pf_rollback.specs.Core.{PeerCore}
-use Rattle.pf_rollback.specs.Peer.{Peer, new_peer, put, issue, take, advance, IsEmptyBefore, world_at}
+use Rattle.pf_rollback.specs.Peer.{Peer, new_peer, put, issue, take, merge_map, advance, IsEmptyBefore, world_at}
 use Rattle.pf_peers.specs.declared.event.Event.{Event}
-use Rattle.pf_peers.specs.declared.event.Event.TheVariants.{Issue, Take, Advance, Show}
+use Rattle.pf_peers.specs.declared.event.Event.TheVariants.{Issue, Take, Merge, Advance, Settle, Show}
 use Rattle.pf_peers.specs.declared.event.Reply.{Reply}
-use Rattle.pf_peers.specs.declared.event.Reply.TheVariants.{Issued, Took, Advanced, Shown, Refused}
+use Rattle.pf_peers.specs.declared.event.Reply.TheVariants.{Issued, Took, Merged, Advanced, Settled, Shown, Refused}
 
 -- the peers of a scene, by their numbers
 pub record Session : Type 0 where
@@ -36,8 +38,19 @@ peer_at s i = slice_index_or s.peers i (new_peer 0)
 abbrev pub peer_of : Event → ℕ
 peer_of (Issue peer payload) = peer
 peer_of (Take peer frame) = peer
+peer_of (Merge peer other) = peer
 peer_of (Advance peer ticks) = peer
+peer_of (Settle peer) = peer
 peer_of (Show peer tick) = peer
+
+-- the number of the peer whose commands are merged; for other events that of their peer
+abbrev pub other_of : Event → ℕ
+other_of (Issue peer payload) = peer
+other_of (Take peer frame) = peer
+other_of (Merge peer other) = other
+other_of (Advance peer ticks) = peer
+other_of (Settle peer) = peer
+other_of (Show peer tick) = peer
 
 -- ---- one event
 
@@ -52,28 +65,45 @@ abbrev pub world_reply : ℕ → ℕ → Result World Refusal → Reply
 world_reply peer tick (Ok world) = Shown peer tick world
 world_reply peer tick (Err refusal) = Refused refusal
 
--- the reply to an event on its peer, and the peer after it
-unfoldable pub peer_answer : Scene → Peer → Event → Reply × Peer
-peer_answer s p (Issue peer payload) =
+-- the reply to an event on its peer, and the peer after it; these are the commands of the other
+-- peer of a merge, and a merge of a peer with itself changes nothing; nor does a settle, which
+-- simulates what each later reply would
+unfoldable pub peer_answer : Scene → CommandMap → Peer → Event → Reply × Peer
+peer_answer s others p (Issue peer payload) =
     reply_and_peer (λ frame. Issued peer frame) p (issue s p payload)
-peer_answer s p (Take peer frame) = reply_and_peer (λ put. Took peer put) p (take s p frame)
-peer_answer s p (Advance peer ticks) =
+peer_answer s others p (Take peer frame) =
+    reply_and_peer (λ put. Took peer put) p (take s p frame)
+peer_answer s others p (Merge peer other) =
+    if other == peer then (Merged peer 0, p)
+    else reply_and_peer (λ count. Merged peer count) p (merge_map s p others)
+peer_answer s others p (Advance peer ticks) =
     reply_and_peer (λ reached. Advanced peer reached) p (advance p ticks)
-peer_answer s p (Show peer tick) = (world_reply peer tick (world_at s p tick), p)
+peer_answer s others p (Settle peer) = (Settled peer p.reached, p)
+peer_answer s others p (Show peer tick) = (world_reply peer tick (world_at s p tick), p)
 
 -- no memory is needed for the reply to an event: it is rejected, or a name that is held is taken,
--- or ticks are advanced, or a world without bodies is shown before any command
-abbrev pub NeedsNoMemory : Scene → Peer → Event → Type 0
-NeedsNoMemory s p (Issue peer payload) = IsErr (issue s p payload)
-NeedsNoMemory s p (Take peer (Ok c)) = IsErr (put s p c) ⊎ IsSome (get p.commands c.name)
-NeedsNoMemory s p (Take peer (Err fault)) = Unit {0}
-NeedsNoMemory s p (Advance peer ticks) = Unit {0}
-NeedsNoMemory s p (Show peer tick) = IsErr (world_at s p tick) ⊎ IsEmptyBefore s p.commands tick
+-- or no command that is merged is new or greater, or ticks are advanced, or no tick is reached that
+-- could be settled, or a world without bodies is shown before any command
+abbrev pub NeedsNoMemory : Scene → CommandMap → Peer → Event → Type 0
+NeedsNoMemory s others p (Issue peer payload) = IsErr (issue s p payload)
+NeedsNoMemory s others p (Take peer (Ok c)) = IsErr (put s p c) ⊎ IsSome (get p.commands c.name)
+NeedsNoMemory s others p (Take peer (Err fault)) = Unit {0}
+NeedsNoMemory s others p (Merge peer other) =
+    (other ≡ peer) ⊎ (IsErr (merge_map s p others) ⊎ (news p.commands others ≡ []))
+NeedsNoMemory s others p (Advance peer ticks) = Unit {0}
+NeedsNoMemory s others p (Settle peer) = p.reached ≡ 0
+NeedsNoMemory s others p (Show peer tick) =
+    IsErr (world_at s p tick) ⊎ IsEmptyBefore s p.commands tick
+
+-- the commands that the other peer of an event holds
+abbrev pub other_commands : Session → Event → CommandMap
+other_commands s event = (peer_at s (other_of event)).commands
 
 -- the reply to an event on a session, and the session after it
 abbrev pub answer : Session → Event → Reply × Session
 answer s event =
-    let a = peer_answer s.scene (peer_at s (peer_of event)) event in
+    let p = peer_at s (peer_of event) in
+    let a = peer_answer s.scene (other_commands s event) p event in
     (a.0, record s { peers = slice_set s.peers (peer_of event) a.1 })
 
 abbrev pub reply_to : Session → Event → Reply
@@ -94,6 +124,6 @@ unfoldable pub session_after_all : Session → List Event → Session
 session_after_all s [] = s
 session_after_all s (event ∷ events) = session_after_all (session_after s event) events
 
--- the event is on one of so many peers
+-- the event is on one of so many peers, and so is the other peer of a merge
 abbrev pub IsAmong : ℕ → Event → Type 0
-IsAmong peers event = peer_of event < peers
+IsAmong peers event = (peer_of event < peers) × (other_of event < peers)

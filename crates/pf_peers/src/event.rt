@@ -17,10 +17,19 @@ pub enum Event {
         peer: u8,
         frame: Result<Command, FrameFault>,
     },
+    /// Merge the commands that another peer holds.
+    Merge {
+        peer: u8,
+        other: u8,
+    },
     /// Go on by so many ticks of 1/64 s.
     Advance {
         peer: u8,
         ticks: u32,
+    },
+    /// Simulate each tick up to the reached one, and keep worlds to show others from.
+    Settle {
+        peer: u8,
     },
     /// Show the world at this tick.
     Show {
@@ -31,7 +40,7 @@ pub enum Event {
 
 impl Event {
     ghost use Rattle.std.specs.Prelude.{◌≡◌};
-    ghost use Rattle.pf_peers.specs.Session.{peer_of};
+    ghost use Rattle.pf_peers.specs.Session.{other_of, peer_of};
 
     /// The number of the peer.
     pub fn peer(&self) -> u8
@@ -40,8 +49,20 @@ impl Event {
         match self {
             Event::Issue { peer, .. }
             | Event::Take { peer, .. }
+            | Event::Merge { peer, .. }
             | Event::Advance { peer, .. }
+            | Event::Settle { peer }
             | Event::Show { peer, .. } => *peer,
+        }
+    }
+
+    /// The number of the peer whose commands are merged; for other events that of their peer.
+    pub fn other(&self) -> u8
+        ensures { result ≡ other_of self.now }
+    {
+        match self {
+            Event::Merge { other, .. } => *other,
+            _ => self.peer(),
         }
     }
 }
@@ -53,8 +74,12 @@ pub enum Reply {
     Issued { peer: u8, frame: [u8; FRAME_LEN] },
     /// The peer holds the command, or a greater one of its name.
     Took { peer: u8, put: Put },
+    /// The peer holds the other's commands, of which so many were new or greater.
+    Merged { peer: u8, count: usize },
     /// The peer has reached this tick.
     Advanced { peer: u8, reached: u32 },
+    /// Each tick up to the reached one, this, is settled.
+    Settled { peer: u8, reached: u32 },
     /// The world at this tick.
     Shown { peer: u8, tick: u32, world: World },
     /// The event was rejected and changed nothing.

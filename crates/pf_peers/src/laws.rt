@@ -1,14 +1,18 @@
 //! Laws of sessions. Their functions do nothing: their clauses are what they are for.
 
-ghost use Rattle.std.specs.Prelude.{◌≡◌, ◌↔◌, ℕ, ◌≤◌, ◌<◌, List, length, All, Contains};
+ghost use Rattle.std.specs.Prelude.{◌≡◌, ◌↔◌, ℕ, ◌≤◌, ◌<◌, List, Result, length, All, Contains};
+ghost use Rattle.std.specs.FinMap.{get};
 ghost use Rattle.pf_commands.specs.declared.payload.Command.{Command};
+ghost use Rattle.pf_commands.specs.declared.fault.FrameFault.{FrameFault};
 ghost use Rattle.pf_commands.specs.Merge.{IsCommand, IsCommandMap, put_all};
+ghost use Rattle.pf_commands.specs.Name.{Name};
 ghost use Rattle.pf_step.specs.Simulation.{sim};
+ghost use Rattle.pf_step.specs.World.{World};
 ghost use Rattle.pf_rollback.specs.declared.fault.Refusal.{Refusal};
 ghost use Rattle.pf_peers.specs.declared.event.Event.{Event};
-ghost use Rattle.pf_peers.specs.declared.event.Event.TheVariants.{Show};
+ghost use Rattle.pf_peers.specs.declared.event.Event.TheVariants.{Merge, Settle, Show, Take};
 ghost use Rattle.pf_peers.specs.declared.event.Reply.TheVariants.{Refused, Shown};
-ghost use Rattle.pf_peers.specs.Laws.{IsAlike, commands_for};
+ghost use Rattle.pf_peers.specs.Laws.{IsAlike, IsAllowedPeer, commands_for};
 ghost use Rattle.pf_peers.specs.Session.{Session, peer_at, replies_to, reply_to, session_after, session_after_all};
 
 /// After any list of events, a world that a peer shows at a tick that it has reached is the
@@ -49,4 +53,40 @@ pub fn order_and_repeats_do_not_matter()
         ≡ (peer_at (session_after_all s others) i).reached)
         → replies_to (session_after_all s events) later
         ≡ replies_to (session_after_all s others) later }
+{}
+
+/// A settle changes no later reply.
+pub fn settles_change_no_reply()
+    ensures { (s : Session) (i : ℕ) (later : List Event)
+        → replies_to (session_after s (Settle i)) later ≡ replies_to s later }
+{}
+
+/// Whatever happens in between, a frame that is taken again and a map that is merged again change
+/// no later reply.
+pub fn repeats_change_no_reply()
+    ensures taken { (s : Session) (i : ℕ) (frame : Result Command FrameFault)
+        (between later : List Event) → i < length s.peers
+        → let t = session_after_all (session_after s (Take i frame)) between in
+        replies_to (session_after t (Take i frame)) later ≡ replies_to t later }
+    ensures merged { (s : Session) (i j : ℕ) (between later : List Event) → i < length s.peers
+        → let t = session_after_all (session_after s (Merge i j)) between in
+        (peer_at t j).commands ≡ (peer_at s j).commands
+        → replies_to (session_after t (Merge i j)) later ≡ replies_to t later }
+{}
+
+/// Two peers that merge each other's commands hold the same commands.
+pub fn merging_both_ways_makes_maps_equal()
+    ensures { (s : Session) (i j : ℕ) → i < length s.peers → j < length s.peers
+        → IsAllowedPeer s.scene (peer_at s i) → IsAllowedPeer s.scene (peer_at s j)
+        → let t = session_after (session_after s (Merge i j)) (Merge j i) in
+        (peer_at t i).commands ≡ (peer_at t j).commands }
+{}
+
+/// Two peers that hold the same commands show one world at a tick that both have reached.
+pub fn same_commands_show_one_world()
+    ensures { (s : Session) (i j tick : ℕ)
+        → ((name : Name) → get (peer_at s i).commands name ≡ get (peer_at s j).commands name)
+        → tick ≤ (peer_at s i).reached → tick ≤ (peer_at s j).reached
+        → (world : World) × (reply_to s (Show i tick) ≡ Shown i tick world)
+        × (reply_to s (Show j tick) ≡ Shown j tick world) }
 {}

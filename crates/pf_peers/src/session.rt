@@ -1,23 +1,24 @@
 //! Peers of one scene, which are asked one event after the other.
 
-ghost use Rattle.std.specs.Prelude.{◌≡◌, Ok, IfOk, OnErr, IsErr, IsOk, IsSome};
+ghost use Rattle.std.specs.Prelude.{◌≡◌, ◌≢◌, ◌<◌, Ok, Some, IfOk, OnErr, IsErr, IsOk, IsSome, length, slice_get, slice_set};
 ghost use Rattle.std.specs.FinMap.{get};
-ghost use Rattle.pf_peers.specs.Answers.{IsReplyOf};
-ghost use Rattle.pf_peers.specs.Session.{NeedsNoMemory, peer_answer, reply_and_peer, world_reply};
-ghost use Rattle.pf_peers.specs.declared.event.Reply.TheVariants.{Advanced, Issued, Took};
+ghost use Rattle.pf_peers.specs.Answers.{IsMergeReply, IsReplyOf};
+ghost use Rattle.pf_peers.specs.Session.{NeedsNoMemory, other_of, peer_answer, peer_of, reply_and_peer, world_reply};
+ghost use Rattle.pf_peers.specs.declared.event.Reply.TheVariants.{Advanced, Issued, Settled, Took};
 ghost use Rattle.pf_commands.specs.declared.payload.Command.{Command};
+ghost use Rattle.pf_rollback.specs.Core.{PeerCore};
 ghost use Rattle.pf_rollback.specs.Peer.{IsEmptyBefore, advance, issue, take, world_at};
 
 use crate::event::{Event, Reply};
 use pf_cache::Work;
-use pf_commands::{Command, FrameFault, Payload};
-use pf_rollback::{Fault, PeerCore, Refusal};
+use pf_commands::{Command, CommandMap, FrameFault, Payload};
+use pf_rollback::{Fault, MAX_RING, PeerCore, Refusal};
 use pf_shapes::{PLAYERS, Scene};
 use std::alloc::{AllocError, Global};
 use std::marker::Model;
 
 /// How many settled worlds each peer of a session keeps beside its keyframes.
-pub const RING: usize = 8;
+pub const RING: usize = MAX_RING;
 
 /// The peers of a scene, by their numbers. The player of each is its number.
 ///
@@ -95,6 +96,36 @@ fn take(
     }
 }
 
+/// The reply of a peer to Merge with another one, which holds these commands.
+fn merge(core: &mut PeerCore, peer: u8, other: &CommandMap) -> Result<Reply, AllocError>
+    ensures { IsMergeReply peer other.now core.old core.new result }
+{
+    match core.merge(other) {
+        Ok(count) => Ok(Reply::Merged { peer, count }),
+        Err(fault) => refused(fault),
+    }
+}
+
+/// The reply to Merge of one of several peers with another one of them.
+fn merge_among(cores: &mut [PeerCore], peer: u8, other: u8) -> Result<Reply, AllocError>
+    requires peer { peer < length cores.old }
+    requires other { other < length cores.old }
+    requires two { other ≢ peer }
+    ensures { (old others : PeerCore) → slice_get cores.old peer ≡ Some old
+        → slice_get cores.old other ≡ Some others → (new : PeerCore)
+        × (cores.new ≡ slice_set cores.old peer new)
+        × IsMergeReply peer others.peer.commands old new result }
+{
+    let to = usize::from(peer);
+    let from = usize::from(other);
+    let (low, high) = cores.split_at_mut(to.max(from));
+    if to < from {
+        merge(&mut low[to], peer, high[0].commands())
+    } else {
+        merge(&mut high[0], peer, low[from].commands())
+    }
+}
+
 /// The reply of a peer to Advance. Takes no memory.
 fn advance(core: &mut PeerCore, peer: u8, ticks: u32) -> Result<Reply, AllocError>
     ensures reply { let p = core.old.peer in IfOk result (λ reply. (reply, core.new.peer)
@@ -106,6 +137,17 @@ fn advance(core: &mut PeerCore, peer: u8, ticks: u32) -> Result<Reply, AllocErro
         Ok(reached) => Ok(Reply::Advanced { peer, reached }),
         Err(fault) => refused(fault),
     }
+}
+
+/// The reply of a peer to Settle. An `Err` may leave more ticks settled, and no other change.
+fn settle(core: &mut PeerCore, alloc: Global, peer: u8) -> Result<Reply, AllocError>
+    ensures reply { IfOk result (λ reply. reply ≡ Settled peer core.old.peer.reached) }
+    ensures peer { core.new.peer ≡ core.old.peer }
+    ensures scene { core.new.scene ≡ core.old.scene }
+    ensures no_memory { core.old.peer.reached ≡ 0 → IsOk result }
+{
+    let reached = core.settle_alone(alloc)?;
+    Ok(Reply::Settled { peer, reached })
 }
 
 /// The reply of a peer to Show.
@@ -121,26 +163,31 @@ fn show(core: &PeerCore, alloc: Global, peer: u8, tick: u32) -> Result<Reply, Al
     }
 }
 
-/// The reply of a peer to an event. An `Err` leaves the peer as it was.
+/// The reply of a peer to an event on it alone. An `Err` changes neither what it holds nor what it
+/// shows.
 #[tactic(auto, unfolding(crate::specs::Session::peer_answer))]
 fn answer_alone(core: &mut PeerCore, alloc: Global, event: Event) -> Result<Reply, AllocError>
-    ensures reply { IfOk result (λ reply.
-        (reply, core.new.peer) ≡ peer_answer core.old.scene core.old.peer event) }
+    requires { other_of event ≡ peer_of event }
+    ensures reply { let p = core.old.peer in IfOk result (λ reply.
+        (reply, core.new.peer) ≡ peer_answer core.old.scene p.commands p event) }
     ensures scene { core.new.scene ≡ core.old.scene }
-    ensures no_memory { NeedsNoMemory core.old.scene core.old.peer event → IsOk result }
-    ensures err { OnErr result (core.new ≡ core.old) }
+    ensures no_memory { let p = core.old.peer in
+        NeedsNoMemory core.old.scene p.commands p event → IsOk result }
+    ensures err { OnErr result (core.new.peer ≡ core.old.peer) }
 {
     match event {
         Event::Issue { peer, payload } => issue(core, peer, payload),
         Event::Take { peer, frame } => take(core, peer, frame),
+        Event::Merge { peer, .. } => Ok(Reply::Merged { peer, count: 0 }),
         Event::Advance { peer, ticks } => advance(core, peer, ticks),
+        Event::Settle { peer } => settle(core, alloc, peer),
         Event::Show { peer, tick } => show(core, alloc, peer, tick),
     }
 }
 
 impl Session {
     ghost use Rattle.std.specs.Prelude.{◌≡◌, ◌≤◌, ◌<◌, length, IfOk, IsOk, OnErr};
-    ghost use Rattle.pf_peers.specs.Session.{IsAmong, NeedsNoMemory, answer, new_session, peer_at, peer_of};
+    ghost use Rattle.pf_peers.specs.Session.{IsAmong, NeedsNoMemory, answer, new_session, other_commands, peer_at, peer_of};
 
     /// So many peers of the scene, at tick 0 and without commands. Takes no memory for none.
     pub fn new(alloc: Global, scene: Scene, peers: u8) -> Result<Session, AllocError>
@@ -171,15 +218,21 @@ impl Session {
         self.cores.len() as u8
     }
 
-    /// The reply to an event on one of the peers. An `Err` leaves all peers as they were.
+    /// The reply to an event. An `Err` leaves what all peers hold as it was.
     pub fn answer(&mut self, alloc: Global, event: Event) -> Result<Reply, AllocError>
         requires { IsAmong (length self.old.peers) event }
         ensures reply { IfOk result (λ reply. (reply, self.new) ≡ answer self.old event) }
         ensures no_memory { let s = self.old in
-            NeedsNoMemory s.scene (peer_at s (peer_of event)) event → IsOk result }
+            NeedsNoMemory s.scene (other_commands s event) (peer_at s (peer_of event)) event
+            → IsOk result }
         ensures err { OnErr result (self.new ≡ self.old) }
     {
-        let core = &mut self.cores[usize::from(event.peer())];
+        let peer = event.peer();
+        let other = event.other();
+        if other != peer {
+            return merge_among(&mut self.cores, peer, other);
+        }
+        let core = &mut self.cores[usize::from(peer)];
         answer_alone(core, alloc, event)
     }
 }

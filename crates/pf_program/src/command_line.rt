@@ -32,14 +32,17 @@ them. It prints tick, player and number of the command that they spell, and what
 const RUN_ABOUT: &str = "Answers a text on standard input, line by line";
 
 const RUN_HELP: &str = "\
-Standard input holds a scene, a line `peers 1`, and then events, a line each:
+Standard input holds a scene, a line `peers N` with N from 1 to 8, and then events, a line
+each. P and Q are the numbers of peers, from 0:
 
-  issue 0 push B X Y   gives body B an impulse now, and answers the command's frame
-  issue 0 turn B X     gives body B an angular impulse
-  issue 0 stop B       stops body B
-  take 0 HEX           takes a command's frame, also of a tick that is past
-  advance 0 K          goes K ticks of 1/64 s further, and answers the tick reached
-  show 0 T             shows the world at tick T, at or below the tick reached
+  issue P push B X Y   gives body B an impulse now, and answers the command's frame
+  issue P turn B X     gives body B an angular impulse
+  issue P stop B       stops body B
+  take P HEX           takes a command's frame, also of a tick that is past
+  merge P Q            takes the commands of peer Q, and answers how many were new or greater
+  advance P K          goes K ticks of 1/64 s further, and answers the tick reached
+  settle P             simulates up to the tick reached, and answers that tick
+  show P T             shows the world at tick T, at or below the tick reached
 
 Numbers are whole, in units of 1/16777216. Save this text as scene.txt, a circle
 of mass 1 and radius 1 that falls with gravity 10:
