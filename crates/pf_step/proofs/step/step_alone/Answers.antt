@@ -20,7 +20,7 @@ returns-clause-counted c =
     ∙ ap₂ (λ fs bs. after_commands fs bs c.args.payloads.now) c.fixtures.ensures.value
     (c.deref_mut.ensures.value ∙ c.in_ok-bodies.ensures.items ∙ c.bodies.ensures) in
     c.end_tick.ensures
-    ∙ ap (work_after_tick c.in_ok-found.found) c.take_manifolds-kept.ensures.rest
+    ∙ ap (work_after_tick c.in_ok-found.found) (c.in_ok-found.ensures.work ∙ c.take_manifolds-kept.ensures.rest)
     ∙ ap (λ found. work_after_tick found c.args.work.now)
     (c.in_ok-found.ensures.value
     ∙ ap₂ (λ bodies kept. narrow_phase fixtures bodies kept) commanded c.take_manifolds-kept.ensures.taken)
