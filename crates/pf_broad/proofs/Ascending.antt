@@ -9,7 +9,7 @@ use Rattle.pf_broad.proofs.Each.{append_each}
 use Rattle.pf_broad.proofs.Rising.{IsUp, IsUp-filter}
 
 -- the first body of each pair is low or later
-abbrev AreFrom : ℕ → List Pair → Type 0
+abbrev pub AreFrom : ℕ → List Pair → Type 0
 AreFrom low ps = AllByRecursion (λ p. low ≤ p.a) ps
 
 AreFrom-map : (i : ℕ) (xs : List ℕ) → AreFrom i (map (pair i) xs)
@@ -57,7 +57,7 @@ ascending-append i low (x ∷ xs) qs up from asc = (
   ascending-append i (x + 1) xs qs up.1 from asc,
 )
 
-AreFrom-flat_map : (bs : List Bounds) (a n : ℕ) → AreFrom a (flat_map (pairs_of bs) (range_with_len a n))
+pub AreFrom-flat_map : (bs : List Bounds) (a n : ℕ) → AreFrom a (flat_map (pairs_of bs) (range_with_len a n))
 AreFrom-flat_map bs a zero = tt
 AreFrom-flat_map bs a (suc n) =
     append_each (λ p. a ≤ p.a) (pairs_of bs a) (flat_map (pairs_of bs) (range_with_len (a + 1) n))

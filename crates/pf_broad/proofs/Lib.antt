@@ -15,3 +15,5 @@ pub mod StoredCells
 pub mod Gridding
 pub mod Partnering
 pub mod SharedCells
+pub mod Loosening
+pub mod Leaving

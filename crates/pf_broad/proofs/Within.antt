@@ -42,3 +42,10 @@ within fixtures bodies h =
 pub pairs_within : (fixtures : List Fixture) (bodies : List BodyState) (bs : List Bounds) (ps : List Pair) → length bodies ≡ length fixtures
     → bs ≡ all_bounds fixtures bodies → ps ≡ pairs bs → All (IsPairOf (length bodies)) ps
 pairs_within fixtures bodies bs ps h e k = let P : List Pair → Type 0 = λ l. All (IsPairOf (length bodies)) l in subst P (sym (k ∙ ap pairs e)) (within fixtures bodies h)
+
+pub pairs-IsPairOf : (bs : List Bounds) (ps : List Pair) (n : ℕ) → ps ≡ pairs bs → length bs ≡ n → All (IsPairOf n) ps
+pairs-IsPairOf bs ps n e k =
+    let all = All-from_recursion (IsPairOf (length bs)) (pairs bs) (flat_map_within bs (range_with_len 0 (length bs))) in
+    let P : List Pair → Type 0 = λ l. All (IsPairOf n) l in
+    let Q : ℕ → Type 0 = λ m. All (IsPairOf m) (pairs bs) in
+    subst P (sym e) (subst Q k all)

@@ -5,4 +5,5 @@ pub mod CellHasher
 pub mod Grid
 pub mod Stored
 pub mod Partners
+pub mod Loose
 pub mod Laws

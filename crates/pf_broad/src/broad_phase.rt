@@ -33,7 +33,11 @@ pub fn pairs(alloc: Global, scene: &Scene, bodies: &[BodyState]) -> Result<Vec<P
 
 /// The pairs of bodies with these bounds, by their grid.
 #[inline(never)]
-fn all_pairs(alloc: Global, grid: &Grid, bounds: &[Bounds]) -> Result<Vec<Pair>, AllocError>
+pub(crate) fn all_pairs(
+    alloc: Global,
+    grid: &Grid,
+    bounds: &[Bounds],
+) -> Result<Vec<Pair>, AllocError>
     requires grid { IsGridOf bounds.now grid.now }
     requires few { length bounds.now ≤ MAX_BODIES }
     requires ordered { All IsOrdered bounds.now }
@@ -50,7 +54,7 @@ fn all_pairs(alloc: Global, grid: &Grid, bounds: &[Bounds]) -> Result<Vec<Pair>,
 
 /// Adds the pairs of one body with others.
 #[inline]
-fn add_pairs(found: &mut Vec<Pair>, i: usize, partners: &[u16]) -> Result<(), AllocError>
+pub(crate) fn add_pairs(found: &mut Vec<Pair>, i: usize, partners: &[u16]) -> Result<(), AllocError>
     ensures { OnOk result (found.new.items ≡ found.old.items ++ map (pair i) partners.now) }
 {
     for j in partners {

@@ -3,13 +3,17 @@
 
 mod bodies;
 mod broad_phase;
+mod candidates;
 mod cell;
 mod cells;
 mod grid;
 mod hasher;
+mod kept;
 pub mod laws;
+mod loose;
 mod partners;
 
 pub use broad_phase::pairs;
 pub use cell::{CELL_SIDE, Cell, MAX_CELLS};
 pub use grid::Grid;
+pub use kept::BroadPhase;

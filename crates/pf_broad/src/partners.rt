@@ -41,7 +41,11 @@ pub(crate) fn find_partners(
 
 /// Adds the later bodies that a body may touch, by a test of each.
 #[inline(never)]
-fn add_later(partners: &mut Vec<u16>, bounds: &[Bounds], i: usize) -> Result<(), AllocError>
+pub(crate) fn add_later(
+    partners: &mut Vec<u16>,
+    bounds: &[Bounds],
+    i: usize,
+) -> Result<(), AllocError>
     requires body { i < length bounds.now }
     requires few { length bounds.now ≤ MAX_BODIES }
     ensures { OnOk result
@@ -105,7 +109,7 @@ fn add_from_column(
 
 /// Adds those of some bodies that are later and that a body may touch.
 #[inline]
-fn add_touching(
+pub(crate) fn add_touching(
     partners: &mut Vec<u16>,
     bounds: &[Bounds],
     i: usize,
@@ -130,7 +134,7 @@ fn add_touching(
 /// is compared, since a branch after each comparison takes longer.
 #[inline]
 #[tactic(auto, unfolding(crate::specs::Pairs::may_touch, pf_shapes::specs::Bounds::overlaps))]
-fn may_touch(a: &Bounds, b: &Bounds) -> bool
+pub(crate) fn may_touch(a: &Bounds, b: &Bounds) -> bool
     ensures { result ≡ may_touch a.now b.now }
 {
     !(a.is_static & b.is_static)

@@ -1,21 +1,22 @@
 //! What steps of one simulation share.
 
-ghost use Rattle.std.specs.Prelude.{◌≡◌};
-ghost use Rattle.pf_cache.specs.Manifolds.{no_manifolds};
-ghost use Rattle.pf_cache.specs.Meter.{work_after_tick, no_work};
-
 use crate::manifolds::{Manifolds, NarrowPhase};
 use crate::meter::Meter;
-use std::alloc::Global;
+use pf_broad::BroadPhase;
+use pf_shapes::{BodyState, Pair, Scene};
+use std::alloc::{AllocError, Global};
 use std::marker::Model;
 use std::mem;
 
 /// What one step of a simulation leaves to the next beside the world: how much work was done, and
-/// the contact points of the last tick, for reuse.
+/// for reuse the contact points of the last tick, and what the broad phase keeps.
+///
+/// Contracts do not see the broad phase, since what it keeps changes no result.
 #[derive(Debug, Drop)]
 pub struct Work {
     meter: Meter,
     manifolds: Manifolds,
+    broad_phase: BroadPhase,
 }
 
 impl Model for Work {
@@ -27,6 +28,12 @@ impl Model for Work {
 }
 
 impl Work {
+    ghost use Rattle.std.specs.Prelude.{◌≡◌, ◌<◌, length, All, IfOk, IsOk};
+    ghost use Rattle.pf_shapes.specs.Pair.{IsAscending, IsPairOf};
+    ghost use Rattle.pf_broad.specs.Pairs.{all_bounds, pairs};
+    ghost use Rattle.pf_cache.specs.Manifolds.{no_manifolds};
+    ghost use Rattle.pf_cache.specs.Meter.{work_after_tick, no_work};
+
     /// With nothing counted and nothing kept. Takes no memory.
     pub fn new(alloc: Global) -> Work
         ensures { result ≡ no_work }
@@ -34,6 +41,7 @@ impl Work {
         Work {
             meter: Meter::NONE,
             manifolds: Manifolds::new(alloc),
+            broad_phase: BroadPhase::new(alloc),
         }
     }
 
@@ -59,6 +67,26 @@ impl Work {
         ensures rest { self.new ≡ record self.old { manifolds = no_manifolds } }
     {
         mem::replace(&mut self.manifolds, Manifolds::new(alloc))
+    }
+
+    /// The pairs of bodies, at most one of them static, whose bounds overlap in these states: in
+    /// ascending order, each once, whatever is kept. For fewer than two bodies it takes no memory,
+    /// and can't fail. What contracts see of the work stays as it is.
+    pub fn pairs(
+        &mut self,
+        alloc: Global,
+        scene: &Scene,
+        bodies: &[BodyState],
+    ) -> Result<Vec<Pair>, AllocError>
+        requires { length bodies.now ≡ length scene.now.fixtures }
+        ensures pairs { IfOk result
+            (λ found. found.items ≡ pairs (all_bounds scene.now.fixtures bodies.now)) }
+        ensures ascending { IfOk result (λ found. IsAscending found.items) }
+        ensures bodies { IfOk result (λ found. All (IsPairOf (length bodies.now)) found.items) }
+        ensures work { self.new ≡ self.old }
+        ensures no_memory { length bodies.now < 2 → IsOk result }
+    {
+        self.broad_phase.pairs(alloc, scene, bodies)
     }
 
     /// Counts a tick and its pairs that could not reuse kept points, and keeps the contact points of

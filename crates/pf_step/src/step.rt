@@ -16,7 +16,6 @@ ghost use Rattle.pf_step.specs.Step.{narrow_phase, narrow_phase_of_tick, step, t
 use crate::command::apply_all;
 use crate::crew::{Crew, StepError};
 use crate::world::{World, copy_of};
-use pf_broad::pairs;
 use pf_cache::{Contacts, Manifolds, NarrowPhase, Work};
 use pf_commands::Payload;
 use pf_islands::{Groups, Island, join_back, split};
@@ -24,13 +23,15 @@ use pf_shapes::{BodyState, Scene};
 use pf_solver::Solve;
 use std::alloc::{AllocError, Global};
 
-/// The contact points of the bodies of a scene as they stand; kept ones are reused.
+/// The contact points of the bodies of a scene as they stand; kept ones are reused. What contracts
+/// see of the work stays as it is.
 #[tactic(auto, using(pf_cache::proofs::Unmoved::kept_points, pf_manifold::proofs::KeyOrder::touches_of_bodies))]
 fn narrow_phase(
     alloc: Global,
     scene: &Scene,
     bodies: &[BodyState],
     kept: Manifolds,
+    work: &mut Work,
 ) -> Result<NarrowPhase, AllocError>
     requires { length bodies.now ≡ length scene.now.fixtures }
     ensures value { IfOk result
@@ -39,9 +40,10 @@ fn narrow_phase(
         (λ found. kept_touches found.manifolds ≡ touching scene.now bodies.now) }
     ensures bodies { IfOk result
         (λ found. All (IsTouchOf (length bodies.now)) (kept_touches found.manifolds)) }
+    ensures work { work.new ≡ work.old }
     ensures no_memory { bodies.now ≡ [] → IsOk result }
 {
-    let pairs = pairs(alloc, scene, bodies)?;
+    let pairs = work.pairs(alloc, scene, bodies)?;
     kept.update(alloc, scene, bodies, &pairs)
 }
 
@@ -85,7 +87,7 @@ fn prepare(
     let kept = work.take_manifolds(alloc);
     let mut bodies = copy_of(alloc, world.bodies())?;
     apply_all(scene.fixtures(), &mut bodies, payloads);
-    let found = narrow_phase(alloc, scene, &bodies, kept)?;
+    let found = narrow_phase(alloc, scene, &bodies, kept, work)?;
     let touches = found.manifolds.touches();
     let contacts = world.contacts().update(touches)?;
     let mut groups = Groups::new(alloc, scene, touches)?;

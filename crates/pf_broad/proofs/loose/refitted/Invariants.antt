@@ -1,0 +1,11 @@
+use Rattle.std.proofs.Common.{◌≡◌, ℕ, ◌<◌, length, true}
+use Rattle.pf_broad.specs.Pairs.{bounds_at}
+use Rattle.pf_broad.specs.Loose.{contains}
+use Rattle.pf_broad.proofs.loose.refitted.Given as goal
+
+abbrev pub invariant-loop-i : goal.invariant-loop-i
+invariant-loop-i l = record {
+  count : length l.next.items ≡ l.i;
+  each : (k : ℕ) → k < l.i → contains (bounds_at l.next.items k) (bounds_at l.bounds k) ≡ true;
+  same : (k : ℕ) → k < l.i → contains (bounds_at l.loose k) (bounds_at l.bounds k) ≡ true → bounds_at l.next.items k ≡ bounds_at l.loose k;
+}

@@ -1,0 +1,50 @@
+-- Enlarged bounds, as the fat AABBs of Box2D's b2DynamicTree: pairs of bodies are searched for by
+-- them, and kept until a body has left its enlarged bounds.
+use Rattle.std.specs.Prelude.{◌≡◌, ℕ, ◌<◌, ◌≤◌, ℤ, Bool, true, false, not, ◌&&◌, ◌||◌, ◌==◌, List, [], ◌∷◌, length, filter, All, int_le, if◌then◌else◌}
+use Rattle.std.specs.List.{range_with_len}
+use Rattle.pf_shapes.specs.Bounds.{Bounds, IsOrdered}
+use Rattle.pf_shapes.specs.Pair.{Pair}
+use Rattle.pf_shapes.specs.declared.scene.TheConstants.{MAX_BODIES}
+use Rattle.pf_broad.specs.Pairs.{bounds_at, pairs}
+use Rattle.pf_broad.specs.Partners.{has_body}
+
+-- on one axis: the first range contains the second
+abbrev pub is_within : ℤ → ℤ → ℤ → ℤ → Bool
+is_within outer_low outer_high low high = int_le outer_low low && int_le high outer_high
+
+-- on both axes; and where the first are static, so are the second
+unfoldable pub contains : Bounds → Bounds → Bool
+contains a b =
+    (not a.is_static || b.is_static)
+    && (is_within a.low.x a.high.x b.low.x b.high.x && is_within a.low.y a.high.y b.low.y b.high.y)
+
+-- each body's enlarged bounds contain its bounds
+pub record AreLoosened (loose bounds : List Bounds) : Type 0 where
+  pub as_many : length loose ≡ length bounds
+  pub each : (k : ℕ) → k < length bounds → contains (bounds_at loose k) (bounds_at bounds k) ≡ true
+
+-- the bodies that left their enlarged bounds
+abbrev pub left_bodies : List Bounds → List Bounds → List ℕ
+left_bodies loose bounds =
+    filter (λ k. not (contains (bounds_at loose k) (bounds_at bounds k)))
+    (range_with_len 0 (length bounds))
+
+-- only these bodies have other bounds
+abbrev pub AreSameBut : List ℕ → List Bounds → List Bounds → Type 0
+AreSameBut bodies old new = (k : ℕ) → has_body bodies k ≡ false → bounds_at new k ≡ bounds_at old k
+
+-- the pairs of bodies with these enlarged bounds are these
+pub record AreCandidates (loose : List Bounds) (candidates : List Pair) : Type 0 where
+  pub few : length loose ≤ MAX_BODIES
+  pub ordered : All IsOrdered loose
+  pub pairs : candidates ≡ pairs loose
+
+-- the second bodies of the pairs of body i at the front
+abbrev pub seconds : ℕ → List Pair → List ℕ
+seconds i [] = []
+seconds i (p ∷ ps) = if p.a == i then p.b ∷ seconds i ps else []
+
+-- and what stands behind these pairs
+abbrev pub behind : ℕ → List Pair → List Pair
+behind i [] = []
+behind i (p ∷ ps) = if p.a == i then behind i ps else p ∷ ps

@@ -1,0 +1,162 @@
+//! The broad phase that is kept from tick to tick.
+
+use crate::bodies::all_bounds;
+use crate::broad_phase::{add_pairs, all_pairs};
+use crate::candidates::{add_candidates, complete, touching};
+use crate::grid::Grid;
+use crate::loose::{all_loosened, left_bodies, refitted};
+use pf_shapes::{BodyState, Bounds, Pair, Scene};
+use std::alloc::{AllocError, Global};
+use std::marker::Model;
+use std::mem;
+
+/// How many bodies may leave their enlarged bounds at once before all get new ones.
+const MAX_LEFT: usize = 16;
+
+/// What the broad phase keeps from tick to tick, as Box2D's `b2BroadPhase` does: enlarged bounds of
+/// all bodies, and the pairs of bodies whose enlarged bounds overlap. They are sound for every
+/// scene and world: what is kept changes no result, only time.
+///
+/// Contracts see the enlarged bounds.
+#[derive(Debug, Drop)]
+pub struct BroadPhase {
+    loose: Vec<Bounds>,
+    candidates: Vec<Pair>,
+}
+
+impl Model for BroadPhase {
+    ghost use Rattle.std.specs.Prelude.{List};
+    ghost use Rattle.pf_shapes.specs.Bounds.{Bounds};
+    ghost use Rattle.pf_broad.specs.Loose.{AreCandidates};
+
+    ghost Value = { List Bounds };
+
+    ghost view = { λ b. b.loose.items };
+
+    ghost invariant = { λ b. AreCandidates b.loose.items b.candidates.items };
+}
+
+impl BroadPhase {
+    ghost use Rattle.std.specs.Prelude.{◌≡◌, ◌<◌, ◌≤◌, [], length, All, IfOk, IsOk, OnErr};
+    ghost use Rattle.pf_shapes.specs.Bounds.{IsOrdered};
+    ghost use Rattle.pf_shapes.specs.Pair.{IsAscending, IsPairOf};
+    ghost use Rattle.pf_shapes.specs.declared.scene.TheConstants.{MAX_BODIES};
+    ghost use Rattle.pf_broad.specs.Pairs.{all_bounds, pairs};
+    ghost use Rattle.pf_broad.specs.Loose.{AreLoosened, AreSameBut};
+    ghost use Rattle.pf_broad.specs.Partners.{AreBodies};
+
+    /// Nothing kept. Takes no memory.
+    pub fn new(alloc: Global) -> BroadPhase
+        ensures { result ≡ [] }
+    {
+        BroadPhase {
+            loose: Vec::new(alloc),
+            candidates: Vec::new(alloc),
+        }
+    }
+
+    /// The pairs of bodies, at most one of them static, whose bounds overlap in these states: in
+    /// ascending order, each once, whatever is kept. For fewer than two bodies it takes no memory,
+    /// and can't fail. An error drops what is kept.
+    pub fn pairs(
+        &mut self,
+        alloc: Global,
+        scene: &Scene,
+        bodies: &[BodyState],
+    ) -> Result<Vec<Pair>, AllocError>
+        requires { length bodies.now ≡ length scene.now.fixtures }
+        ensures pairs { IfOk result
+            (λ found. found.items ≡ pairs (all_bounds scene.now.fixtures bodies.now)) }
+        ensures ascending { IfOk result (λ found. IsAscending found.items) }
+        ensures bodies { IfOk result (λ found. All (IsPairOf (length bodies.now)) found.items) }
+        ensures dropped { OnErr result (self.new ≡ []) }
+        ensures no_memory { length bodies.now < 2 → IsOk result }
+    {
+        if bodies.len() < 2 {
+            return Ok(Vec::new(alloc));
+        }
+        let kept = mem::replace(self, BroadPhase::new(alloc));
+        let bounds = all_bounds(alloc, scene, bodies)?;
+        let next = kept.refreshed(alloc, &bounds, bodies)?;
+        let found = next.touching(alloc, &bounds)?;
+        *self = next;
+        Ok(found)
+    }
+
+    /// Of the candidates those whose bodies may touch.
+    fn touching(&self, alloc: Global, bounds: &[Bounds]) -> Result<Vec<Pair>, AllocError>
+        requires { AreLoosened self.now bounds.now }
+        ensures { IfOk result (λ found. found.items ≡ pairs bounds.now) }
+    {
+        touching(alloc, &self.candidates, bounds)
+    }
+
+    /// Enlarged bounds that contain these, and their pairs. Where few bodies have left their
+    /// enlarged bounds, these alone are searched for.
+    fn refreshed(
+        self,
+        alloc: Global,
+        bounds: &[Bounds],
+        bodies: &[BodyState],
+    ) -> Result<BroadPhase, AllocError>
+        requires bodies { length bodies.now ≡ length bounds.now }
+        requires few { length bounds.now ≤ MAX_BODIES }
+        requires ordered { All IsOrdered bounds.now }
+        ensures { IfOk result (λ kept. AreLoosened kept bounds.now) }
+    {
+        if self.loose.len() != bounds.len() {
+            return BroadPhase::of(alloc, bounds, bodies);
+        }
+        let left = left_bodies(alloc, &self.loose, bounds)?;
+        if left.is_empty() {
+            return Ok(self);
+        }
+        if left.len() > MAX_LEFT {
+            return BroadPhase::of(alloc, bounds, bodies);
+        }
+        let loose = refitted(alloc, &self.loose, bounds, bodies)?;
+        let candidates = self.updated(alloc, &loose, &left)?;
+        Ok(BroadPhase { loose, candidates })
+    }
+
+    /// The candidates after these bodies left their enlarged bounds and got others: those of the
+    /// other bodies are kept.
+    #[inline(never)]
+    fn updated(
+        &self,
+        alloc: Global,
+        loose: &[Bounds],
+        left: &[u16],
+    ) -> Result<Vec<Pair>, AllocError>
+        requires few { length loose.now ≤ MAX_BODIES }
+        requires as_many { length self.now ≡ length loose.now }
+        requires left { AreBodies loose.now left.now }
+        requires same { AreSameBut left.now self.now loose.now }
+        ensures { IfOk result (λ found. found.items ≡ pairs loose.now) }
+    {
+        let candidates = self.candidates.as_slice();
+        let mut found = Vec::with_capacity(alloc, candidates.len())?;
+        let mut partners = Vec::new(alloc);
+        let mut place = 0;
+        for i in 0..loose.len() {
+            partners.clear();
+            place = add_candidates(&mut partners, candidates, place, loose, i)?;
+            complete(&mut partners, loose, left, i)?;
+            add_pairs(&mut found, i, &partners)?;
+        }
+        Ok(found)
+    }
+
+    /// Enlarged bounds of all bodies, and their pairs by a grid.
+    fn of(alloc: Global, bounds: &[Bounds], bodies: &[BodyState]) -> Result<BroadPhase, AllocError>
+        requires bodies { length bodies.now ≡ length bounds.now }
+        requires few { length bounds.now ≤ MAX_BODIES }
+        requires ordered { All IsOrdered bounds.now }
+        ensures { IfOk result (λ kept. AreLoosened kept bounds.now) }
+    {
+        let loose = all_loosened(alloc, bounds, bodies)?;
+        let grid = Grid::of_bounds(alloc, &loose)?;
+        let candidates = all_pairs(alloc, &grid, &loose)?;
+        Ok(BroadPhase { loose, candidates })
+    }
+}

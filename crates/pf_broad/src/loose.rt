@@ -1,0 +1,135 @@
+//! Enlarged bounds, which still contain those of a body some ticks later, as the fat AABBs of
+//! Box2D's `b2DynamicTree`.
+
+ghost use Rattle.std.specs.Prelude.{◌≡◌, ◌≤◌, ◌≤ℤ◌, length, true, IfOk};
+ghost use Rattle.pf_broad.specs.Loose.{contains, is_within, left_bodies, AreLoosened, AreSameBut};
+
+use pf_num::Fx;
+use pf_rot::V2;
+use pf_shapes::{BodyState, Bounds, MAX_BODIES};
+use std::alloc::{AllocError, Global};
+
+/// Whether enlarged bounds contain these. Static ones contain only those of a static body.
+#[inline]
+#[tactic(auto, unfolding(crate::specs::Loose::contains))]
+fn contains(loose: &Bounds, bounds: &Bounds) -> bool
+    ensures { result ≡ contains loose.now bounds.now }
+{
+    (!loose.is_static | bounds.is_static)
+        & (is_within(loose.low.x, loose.high.x, bounds.low.x, bounds.high.x)
+            & is_within(loose.low.y, loose.high.y, bounds.low.y, bounds.high.y))
+}
+
+/// Whether a closed range on one axis contains another.
+#[inline]
+fn is_within(outer_low: Fx, outer_high: Fx, low: Fx, high: Fx) -> bool
+    ensures { result ≡ is_within outer_low outer_high low high }
+{
+    (outer_low <= low) & (high <= outer_high)
+}
+
+/// An eighth: the length by which bounds are enlarged on each side, and the time, 8 ticks, whose
+/// way they are enlarged by ahead.
+#[inline]
+fn eighth() -> Fx {
+    Fx::from_raw(1 << 21).unwrap()
+}
+
+/// A lower bound, enlarged for a body with this velocity.
+#[inline]
+fn lowered(low: Fx, velocity: Fx) -> Fx
+    ensures { result ≤ℤ low }
+{
+    let way = velocity.mul(eighth()).min(Fx::ZERO);
+    low.add(way).sub(eighth()).min(low)
+}
+
+/// An upper bound, enlarged for a body with this velocity.
+#[inline]
+fn raised(high: Fx, velocity: Fx) -> Fx
+    ensures { high ≤ℤ result }
+{
+    let way = velocity.mul(eighth()).max(Fx::ZERO);
+    high.add(way).add(eighth()).max(high)
+}
+
+/// Enlarged bounds of a body with these bounds. By how much is said by no clause: only time
+/// depends on it.
+#[tactic(auto, unfolding(crate::specs::Loose::contains))]
+fn loosened(bounds: &Bounds, body: &BodyState) -> Bounds
+    ensures { contains result bounds.now ≡ true }
+{
+    Bounds {
+        low: V2 {
+            x: lowered(bounds.low.x, body.velocity.x),
+            y: lowered(bounds.low.y, body.velocity.y),
+        },
+        high: V2 {
+            x: raised(bounds.high.x, body.velocity.x),
+            y: raised(bounds.high.y, body.velocity.y),
+        },
+        is_static: bounds.is_static,
+    }
+}
+
+/// Enlarged bounds of all bodies.
+#[inline(never)]
+pub(crate) fn all_loosened(
+    alloc: Global,
+    bounds: &[Bounds],
+    bodies: &[BodyState],
+) -> Result<Vec<Bounds>, AllocError>
+    requires { length bodies.now ≡ length bounds.now }
+    ensures { IfOk result (λ loose. AreLoosened loose.items bounds.now) }
+{
+    let mut loose = Vec::with_capacity(alloc, bounds.len())?;
+    for i in 0..bounds.len() {
+        loose.push(loosened(&bounds[i], &bodies[i]))?;
+    }
+    Ok(loose)
+}
+
+/// The bodies that left their enlarged bounds.
+#[inline(never)]
+pub(crate) fn left_bodies(
+    alloc: Global,
+    loose: &[Bounds],
+    bounds: &[Bounds],
+) -> Result<Vec<u16>, AllocError>
+    requires few { length bounds.now ≤ MAX_BODIES }
+    requires loose { length loose.now ≡ length bounds.now }
+    ensures { IfOk result (λ left. left.items ≡ left_bodies loose.now bounds.now) }
+{
+    let mut left = Vec::new(alloc);
+    for i in 0..bounds.len() {
+        if !contains(&loose[i], &bounds[i]) {
+            left.push(i as u16)?;
+        }
+    }
+    Ok(left)
+}
+
+/// Enlarged bounds of all bodies: the same, but new ones for those that left them.
+#[inline(never)]
+pub(crate) fn refitted(
+    alloc: Global,
+    loose: &[Bounds],
+    bounds: &[Bounds],
+    bodies: &[BodyState],
+) -> Result<Vec<Bounds>, AllocError>
+    requires loose { length loose.now ≡ length bounds.now }
+    requires bodies { length bodies.now ≡ length bounds.now }
+    ensures loosened { IfOk result (λ next. AreLoosened next.items bounds.now) }
+    ensures others { IfOk result
+        (λ next. AreSameBut (left_bodies loose.now bounds.now) loose.now next.items) }
+{
+    let mut next = Vec::with_capacity(alloc, bounds.len())?;
+    for i in 0..bounds.len() {
+        if contains(&loose[i], &bounds[i]) {
+            next.push(loose[i])?;
+        } else {
+            next.push(loosened(&bounds[i], &bodies[i]))?;
+        }
+    }
+    Ok(next)
+}
