@@ -11,8 +11,6 @@ mod commands;
 #[cfg(test)]
 mod contacts;
 #[cfg(test)]
-mod crews;
-#[cfg(test)]
 mod laws_called;
 #[cfg(test)]
 mod pairs_of_scenes;

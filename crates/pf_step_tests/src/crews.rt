@@ -4,7 +4,6 @@ ghost use Rattle.std.specs.Prelude.{◌≡◌, All, map};
 ghost use Rattle.pf_islands.specs.Split.{IsIslandOf};
 ghost use Rattle.pf_solver.specs.Alone.{island_after_tick};
 
-use crate::scenes::scene_of;
 use pf_cache::Work;
 use pf_commands::Payload;
 use pf_islands::Island;
@@ -64,6 +63,7 @@ impl Seen {
 }
 
 /// Solves the islands from the last to the first, and counts its calls.
+#[derive(Drop)]
 struct BackwardCrew {
     calls: u64,
     seen: Seen,
@@ -115,7 +115,7 @@ fn world_by(
     let mut work = Work::new(alloc);
     let mut other_work = Work::new(alloc);
     let mut world = World::start(alloc, scene)?;
-    for _ in 0..ticks {
+    for _tick in 0..ticks {
         let next = step_with(alloc, scene, &world, &push, &mut work, crew)?;
         if next != step_alone(alloc, scene, &world, &push, &mut other_work)? {
             return Err(Fail::from("another world"));
@@ -127,22 +127,46 @@ fn world_by(
 
 #[test]
 fn piles_are_islands_of_their_own(rt: HostRuntime) -> Result<(), Fail> {
-    let scene = scene_of(rt.alloc(), TWO_PILES)?;
+    let scene = Scene::read(rt.alloc(), TWO_PILES)?;
     let mut crew = BackwardCrew::NEW;
     let _ = world_by(rt.alloc(), &scene, 1, 1, &mut crew)?;
-    assert_eq!(rt; crew.seen, Seen { islands: 2, bodies: 2, contacts: 2, least: Some(1) });
+    assert_eq!(rt;
+        crew.seen,
+        Seen {
+            islands: 2,
+            bodies: 2,
+            contacts: 2,
+            least: Some(1)
+        }
+    );
     let mut crew = BackwardCrew::NEW;
     let _ = world_by(rt.alloc(), &scene, 1, 33, &mut crew)?;
     assert_eq!(rt; crew.calls, 33);
-    assert_eq!(rt; crew.seen, Seen { islands: 1, bodies: 1, contacts: 1, least: Some(1) });
+    assert_eq!(rt;
+        crew.seen,
+        Seen {
+            islands: 1,
+            bodies: 1,
+            contacts: 1,
+            least: Some(1)
+        }
+    );
     Ok(())
 }
 
 #[test]
 fn three_in_a_row_are_one_island(rt: HostRuntime) -> Result<(), Fail> {
-    let scene = scene_of(rt.alloc(), THREE_IN_A_ROW)?;
+    let scene = Scene::read(rt.alloc(), THREE_IN_A_ROW)?;
     let mut crew = BackwardCrew::NEW;
     let _ = world_by(rt.alloc(), &scene, 0, 3, &mut crew)?;
-    assert_eq!(rt; crew.seen, Seen { islands: 1, bodies: 3, contacts: 2, least: Some(0) });
+    assert_eq!(rt;
+        crew.seen,
+        Seen {
+            islands: 1,
+            bodies: 3,
+            contacts: 2,
+            least: Some(0)
+        }
+    );
     Ok(())
 }
