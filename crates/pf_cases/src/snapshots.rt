@@ -1,8 +1,8 @@
-//! Snapshots: how many ticks a settle and a shown world count.
+//! Snapshots: which ticks stay settled after a command, and how many ticks the next settle counts.
 
 use crate::scenes::scene_of;
 use pf_cache::Work;
-use pf_commands::{Command, CommandMap, Name, Payload};
+use pf_commands::{Command, CommandMap, FRAME_LEN, MAX_TICK, Name, Payload, encode};
 use pf_num::Fx;
 use pf_rollback::{Fault, MAX_RING, PeerCore};
 use pf_step::World;
@@ -21,13 +21,25 @@ const PUSH: Payload = Payload::Push {
 
 /// A push at a tick.
 fn push_at(tick: u32) -> Result<Command, Fail> {
-    if tick >= pf_commands::MAX_TICK {
+    if tick >= MAX_TICK {
         return Err(Fail::from("the last tick has no commands"));
     }
     Ok(Command {
         name: Name::new(tick, 1, 0),
         payload: PUSH,
     })
+}
+
+/// The frame of a push at a tick.
+fn frame_at(tick: u32) -> Result<[u8; FRAME_LEN], Fail> {
+    if tick >= MAX_TICK {
+        return Err(Fail::from("the last tick has no commands"));
+    }
+    let command = Command {
+        name: Name::new(tick, 1, 0),
+        payload: PUSH,
+    };
+    Ok(encode(&command))
 }
 
 /// What a call returned: none of these is rejected.
@@ -57,6 +69,21 @@ fn count_of_settle(alloc: Global, peer: &mut PeerCore) -> Result<u64, Fail> {
     Ok(peer.meter().ticks.saturating_sub(before))
 }
 
+/// The settled tick after a frame is taken.
+fn settled_after(peer: &mut PeerCore, frame: &[u8]) -> Result<u32, Fail> {
+    known(peer.take(frame))?;
+    Ok(peer.settled())
+}
+
+/// The settled tick after a push at a tick, and how many ticks the next settle counts, for a peer
+/// with a ring of so many places that has reached and settled a tick.
+fn after_push(alloc: Global, ring: usize, reached: u32, tick: u32) -> Result<(u32, u64), Fail> {
+    let mut peer = settled_peer(alloc, ring, reached)?;
+    let settled = settled_after(&mut peer, &frame_at(tick)?)?;
+    let count = count_of_settle(alloc, &mut peer)?;
+    Ok((settled, count))
+}
+
 /// Where the circle is along x at a tick, and how many ticks that took to simulate.
 fn shown(alloc: Global, peer: &PeerCore, tick: u32) -> Result<(i64, u64), Fail> {
     let mut work = Work::new(alloc);
@@ -70,6 +97,58 @@ fn x_of(world: &World) -> i64 {
         [circle, ..] => circle.position.x.raw(),
         [] => -1,
     }
+}
+
+/// The tick of a command, the settled tick after it, and what the next settle counts, for a peer
+/// with a ring of 4 places at tick 10.
+const RING_OF_FOUR: [(u32, u32, u64); 5] = [
+    (10, 10, 0),
+    (9, 9, 1),
+    (7, 7, 3),
+    (6, 0, 10),
+    (15, 10, 0),
+];
+
+#[test]
+fn a_ring_of_four_keeps_four_worlds(rt: HostRuntime) -> Result<(), Fail> {
+    for (tick, settled, count) in RING_OF_FOUR {
+        let after = after_push(rt.alloc(), 4, 10, tick)?;
+        assert!(rt; after == (settled, count), "tick {tick}");
+    }
+    Ok(())
+}
+
+/// The same for a ring of 64 places at tick 1,000.
+const KEYFRAME_EDGES: [(u32, u32, u64); 4] = [
+    (936, 768, 232),
+    (937, 937, 63),
+    (256, 256, 744),
+    (255, 0, 1000),
+];
+
+#[test]
+fn keyframes_stand_where_the_ring_ends(rt: HostRuntime) -> Result<(), Fail> {
+    for (tick, settled, count) in KEYFRAME_EDGES {
+        let after = after_push(rt.alloc(), 64, 1000, tick)?;
+        assert!(rt; after == (settled, count), "tick {tick}");
+    }
+    Ok(())
+}
+
+#[test]
+fn a_far_too_late_command_goes_back_to_a_keyframe(rt: HostRuntime) -> Result<(), Fail> {
+    assert!(rt; after_push(rt.alloc(), 64, 500, 300)? == (256, 244));
+    Ok(())
+}
+
+#[test]
+fn a_repeat_is_no_reason_to_settle_again(rt: HostRuntime) -> Result<(), Fail> {
+    let mut peer = settled_peer(rt.alloc(), 64, 10)?;
+    let frame = frame_at(4)?;
+    assert!(rt; settled_after(&mut peer, &frame)? == 4);
+    assert!(rt; count_of_settle(rt.alloc(), &mut peer)? == 6);
+    assert!(rt; settled_after(&mut peer, &frame)? == 10);
+    Ok(())
 }
 
 #[test]
