@@ -17,3 +17,4 @@ pub mod Partnering
 pub mod SharedCells
 pub mod Loosening
 pub mod Leaving
+pub mod Placed

@@ -5,5 +5,6 @@ pub mod CellHasher
 pub mod Grid
 pub mod Stored
 pub mod Partners
+pub mod KeptBounds
 pub mod Loose
 pub mod Laws

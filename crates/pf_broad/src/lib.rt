@@ -9,6 +9,7 @@ mod cells;
 mod grid;
 mod hasher;
 mod kept;
+mod kept_bounds;
 pub mod laws;
 mod loose;
 mod partners;
