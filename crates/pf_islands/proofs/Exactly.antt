@@ -1,5 +1,5 @@
 -- Each body and each contact that is simulated is in exactly one island, and nothing else is.
-use Rattle.std.proofs.Common.{◌≡◌, ◌≢◌, ◌∙◌, ◌↔◌, ℕ, zero, suc, ◌+◌, ◌<◌, ◌≤◌, ◌==◌, Bool, true, false, ◌&&◌, ◌||◌, List, [], ◌∷◌, Option, Some, length, map, filter, option_map, get_or, cond, refl, sym, ap, ap₂, subst, arith, slice_get, if◌then◌else◌}
+use Rattle.std.proofs.Common.{◌≡◌, ◌∙◌, ◌↔◌, ℕ, zero, suc, ◌+◌, ◌<◌, ◌≤◌, ◌==◌, true, false, List, [], ◌∷◌, Some, length, map, filter, option_map, get_or, cond, refl, sym, ap, subst, arith, slice_get}
 use Rattle.std.proofs.lemmas.Bool.{and_parts, eq-eqb, eqb-true, ne_eqb}
 use Rattle.std.proofs.lemmas.List.{length-map}
 use Rattle.std.proofs.lemmas.List.Elements.{All-filter, All-map, All-weaker}
@@ -12,12 +12,11 @@ use Rattle.pf_shapes.specs.Body.{BodyState, no_state}
 use Rattle.pf_shapes.specs.Scene.{Scene}
 use Rattle.pf_manifold.specs.Key.{AreTouches, IsRising}
 use Rattle.pf_manifold.specs.Touches.{IsTouchOf, Touch}
-use Rattle.pf_manifold.proofs.Rising.{rising-weaken}
 use Rattle.pf_cache.specs.Contact.{Contact}
 use Rattle.pf_cache.specs.Row.{AreRows, Row}
 use Rattle.pf_islands.specs.Dealing.{group_of_row, slot_of}
 use Rattle.pf_islands.specs.Group.{group, groups}
-use Rattle.pf_islands.specs.Island.{members, place_of, rows_among, states_of, touches_one}
+use Rattle.pf_islands.specs.Island.{members, rows_among, states_of, touches_one}
 use Rattle.pf_islands.specs.Laws.{HasBody, HasRow, active_bodies, islands_of, rows_of}
 use Rattle.pf_islands.specs.Reach.{Reaches}
 use Rattle.pf_islands.specs.Rows.{is_awake_at}
@@ -98,11 +97,15 @@ module _ (s : Scene) (touches : List Touch) (bodies : List BodyState) (contacts 
       (chosen_pass (λ i. get_or names i 0 == at.0) (range_with_len 0 (length names))) numbers in
       let within = all_at (λ i. i < length names) (members names at.0) has.place n
       (All-filter (λ i. get_or names i 0 == at.0) (λ i. i < length names) (range_with_len 0 (length names))
-      (range_within 0 (length names) (length names) (omega arith))) numbers in
-      (at.0, at.1, within, eqb-true (get_or names n 0) at.0 own,
-      same_Some b (get_or awake n no_state)
-      (sym state ∙ slice_get-map (λ m. get_or awake m no_state) (members names at.0) has.place
-      ∙ ap (option_map (λ m. get_or awake m no_state)) numbers))
+      (range_within 0 (length names) (length names) (omega arith))) numbers in (
+        at.0,
+        at.1,
+        within,
+        eqb-true (get_or names n 0) at.0 own,
+        same_Some b (get_or awake n no_state)
+            (sym state ∙ slice_get-map (λ m. get_or awake m no_state) (members names at.0) has.place
+            ∙ ap (option_map (λ m. get_or awake m no_state)) numbers),
+      )
 
   module _ (count : length bodies ≡ length s.fixtures) where
     are_woken : AreWoken names awake

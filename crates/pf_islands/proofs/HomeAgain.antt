@@ -1,16 +1,15 @@
 -- Islands put back into their world.
-use Rattle.std.proofs.Common.{◌≡◌, ◌≢◌, ◌∙◌, ℕ, zero, suc, ◌<◌, ◌==◌, Bool, true, false, ◌||◌, List, [], ◌∷◌, length, map, filter, get_or, set, cond, refl, sym, ap, ap₂, subst, arith, if◌then◌else◌}
+use Rattle.std.proofs.Common.{◌≡◌, ◌∙◌, ℕ, zero, suc, ◌<◌, ◌==◌, Bool, true, false, ◌||◌, List, [], ◌∷◌, length, map, filter, get_or, set, cond, refl, sym, ap, ap₂, arith, if◌then◌else◌}
 use Rattle.std.proofs.lemmas.Bool.{ne_eqb, true≢false}
 use Rattle.std.proofs.lemmas.Bool.Decides.{Decides-eqb}
 use Rattle.std.proofs.lemmas.List.{get_or-set_other, get_or-set_same, length-map}
-use Rattle.std.proofs.lemmas.List.Elements.{All-cons, All-head, All-tail, All-weaker}
+use Rattle.std.proofs.lemmas.List.Elements.{All-head, All-tail, All-weaker}
 use Rattle.std.proofs.lemmas.Simd.{map-map}
 use Rattle.std.proofs.Math.ListN.{get_or-map}
 use Rattle.std.specs.List.{list_any, zip}
 use Rattle.std.specs.Prelude.{All, fold}
 use Rattle.pf_shapes.specs.Body.{BodyState, no_state}
-use Rattle.pf_manifold.specs.Key.{IsRising, Key, key_of, rank}
-use Rattle.pf_manifold.proofs.Rising.{rising-all}
+use Rattle.pf_manifold.specs.Key.{IsRising, rank}
 use Rattle.pf_cache.specs.Contact.{Contact, Impulses, no_contact}
 use Rattle.pf_cache.specs.Row.{AreRows, AreRowsAt, IsRowAt, Row, impulses_or, with_rows}
 use Rattle.pf_cache.proofs.FoundRows.{row_rank, rows_rise}

@@ -1,5 +1,5 @@
 -- Changes of bodies that each have the name of a group.
-use Rattle.std.proofs.Common.{◌≡◌, ◌∙◌, ℕ, ◌+◌, ◌<◌, ◌≤◌, ◌&&◌, Bool, false, List, [], ◌∷◌, ◌++◌, length, map, take, drop, get_or, set, length-take, append_assoc, append-nil, take_all, refl, sym, ap, ap₂, arith}
+use Rattle.std.proofs.Common.{◌≡◌, ◌∙◌, ℕ, ◌+◌, ◌<◌, ◌≤◌, Bool, false, List, [], ◌∷◌, ◌++◌, length, map, take, drop, get_or, set, length-take, append_assoc, append-nil, take_all, refl, sym, ap, ap₂, arith}
 use Rattle.std.proofs.lemmas.List.{drop_all, drop_more, get_or_at, length-map, map_more, set_at, take_at}
 use Rattle.std.proofs.lemmas.List.Elements.{All-head, All-tail}
 use Rattle.std.proofs.lemmas.List.FromFn.{get_or-map-range_with_len}

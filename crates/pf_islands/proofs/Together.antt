@@ -1,6 +1,6 @@
 -- The groups of a tick are awake as wholes, and no contact leads out of a group to another dynamic
 -- body.
-use Rattle.std.proofs.Common.{◌≡◌, ◌∙◌, inl, inr, ℕ, zero, suc, ◌<◌, ◌==◌, Bool, true, false, not, ◌&&◌, ◌||◌, List, [], ◌∷◌, Some, length, map, option_map, get_or, refl, sym, ap, subst, arith, slice_get, if◌then◌else◌}
+use Rattle.std.proofs.Common.{◌≡◌, ◌∙◌, inl, inr, ℕ, zero, suc, ◌<◌, ◌==◌, Bool, true, false, not, ◌&&◌, List, [], ◌∷◌, Some, length, map, option_map, get_or, refl, sym, ap, subst, arith, slice_get, if◌then◌else◌}
 use Rattle.std.proofs.lemmas.Bool.{and_from, and_parts, eq-eqb}
 use Rattle.std.proofs.lemmas.List.FromFn.{get_or-map-range_with_len}
 use Rattle.std.proofs.lemmas.Option.{get_or_from_slice_get, slice_get-get_or, slice_get-map}
@@ -9,9 +9,8 @@ use Rattle.std.specs.Prelude.{All}
 use Rattle.pf_shapes.specs.Body.{BodyState, no_state}
 use Rattle.pf_shapes.specs.Scene.{Scene, is_static_at}
 use Rattle.pf_manifold.specs.Touches.{IsTouchOf, Touch}
-use Rattle.pf_cache.specs.declared.row.Side.{Side}
 use Rattle.pf_cache.specs.declared.row.Side.TheVariants.{Static, Dynamic}
-use Rattle.pf_cache.specs.Contact.{Contact, no_contact}
+use Rattle.pf_cache.specs.Contact.{Contact}
 use Rattle.pf_cache.specs.Row.{IsSide, Row}
 use Rattle.pf_islands.specs.Group.{group, groups}
 use Rattle.pf_islands.specs.Reach.{AreNeighbours, IsBetween, connects}

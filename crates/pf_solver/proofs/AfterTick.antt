@@ -1,5 +1,5 @@
 -- Islands after a tick of their own stand where they stood.
-use Rattle.std.proofs.Common.{◌≡◌, ◌∙◌, ℕ, Bool, true, false, List, length, map, sym, ap, refl, subst, ◌==◌, if◌then◌else◌}
+use Rattle.std.proofs.Common.{◌≡◌, ◌∙◌, ℕ, Bool, true, false, List, length, map, sym, refl, subst, ◌==◌, if◌then◌else◌}
 use Rattle.std.proofs.lemmas.List.{length-map}
 use Rattle.std.proofs.lemmas.List.Elements.{All-map, All-weaker}
 use Rattle.std.specs.List.{list_all}
@@ -7,9 +7,8 @@ use Rattle.std.specs.Prelude.{All}
 use Rattle.pf_shapes.specs.Body.{BodyState}
 use Rattle.pf_shapes.specs.Scene.{Scene}
 use Rattle.pf_manifold.specs.Key.{AreTouches}
-use Rattle.pf_manifold.specs.Touches.{Touch}
 use Rattle.pf_cache.specs.Contact.{Contact}
-use Rattle.pf_cache.specs.Row.{AreRowsAt, IsRowAt, Row}
+use Rattle.pf_cache.specs.Row.{AreRowsAt, Row}
 use Rattle.pf_islands.specs.Join.{IsAtHome}
 use Rattle.pf_islands.specs.Sleep.{at_sleep, rested_alone}
 use Rattle.pf_islands.specs.Split.{Island}

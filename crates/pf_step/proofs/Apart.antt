@@ -1,31 +1,27 @@
 -- No contact leads out of a group to another dynamic body, so groups are solved alone.
-use Rattle.std.proofs.Common.{◌≡◌, ◌≢◌, ◌∙◌, inl, ℕ, zero, suc, ◌+◌, ◌<◌, ◌≤◌, ◌==◌, Bool, true, false, cond, List, [], ◌∷◌, Some, length, filter, refl, sym, ap, subst, arith, slice_get, if◌then◌else◌}
+use Rattle.std.proofs.Common.{◌≡◌, ◌∙◌, ℕ, ◌<◌, ◌==◌, List, length, sym, subst, arith}
 use Rattle.std.proofs.lemmas.List.Elements.{All-filter, All-weaker}
-use Rattle.std.proofs.lemmas.List.FromFn.{get_or-map-range_with_len}
 use Rattle.std.specs.List.{range_with_len}
-use Rattle.std.specs.Prelude.{All, ◌&&◌, ◌||◌, slice_index_or}
-use Rattle.pf_shapes.specs.Body.{BodyState}
-use Rattle.pf_shapes.specs.Scene.{Scene, is_static_at}
+use Rattle.std.specs.Prelude.{All, slice_index_or}
+use Rattle.pf_shapes.specs.Scene.{Scene}
 use Rattle.pf_manifold.specs.Key.{IsRising}
 use Rattle.pf_manifold.specs.Touches.{IsTouchOf, Touch}
-use Rattle.pf_manifold.proofs.Rising.{rising-weaken}
 use Rattle.pf_commands.specs.declared.payload.Payload.{Payload}
-use Rattle.pf_cache.specs.declared.row.Side.TheVariants.{Static, Dynamic}
-use Rattle.pf_cache.specs.Contact.{Contact, updated}
+use Rattle.pf_cache.specs.Contact.{updated}
 use Rattle.pf_islands.specs.Split.{IsActiveRow}
 use Rattle.pf_islands.proofs.Together.{rows_are_active}
 use Rattle.pf_islands.proofs.Whole.{own_or_other}
-use Rattle.pf_islands.specs.Group.{group, groups}
+use Rattle.pf_islands.specs.Group.{groups}
 use Rattle.pf_islands.specs.Sleep.{woken}
-use Rattle.pf_islands.proofs.Members.{filter_rises, has_filter, has_range, range_rises, range_within}
+use Rattle.pf_islands.proofs.Members.{filter_rises, range_rises, range_within}
 use Rattle.pf_islands.proofs.Starting.{groups_long}
 use Rattle.pf_solver.specs.Alone.{seen_from}
-use Rattle.pf_islands.specs.Island.{has_number, states_of, is_among, rows_among, IsOwnSide, IsOwnOrOther, members}
+use Rattle.pf_islands.specs.Island.{states_of, rows_among, IsOwnOrOther, members}
 use Rattle.pf_solver.specs.Solve.{solved}
 use Rattle.pf_solver.proofs.Seen.{solved_seen}
 use Rattle.pf_step.specs.Commands.{after_commands}
 use Rattle.pf_step.specs.Activity.{batch_of_tick, names_of_tick}
-use Rattle.pf_islands.specs.Rows.{active_rows, row_of, side_of}
+use Rattle.pf_islands.specs.Rows.{active_rows}
 use Rattle.pf_step.specs.Step.{touching}
 use Rattle.pf_step.specs.World.{World}
 use Rattle.pf_step.proofs.Commanding.{commands_length}

@@ -1,5 +1,5 @@
 -- Islands that are solved alone and put back make the world that the one list makes.
-use Rattle.std.proofs.Common.{◌≡◌, ◌≢◌, ◌∙◌, inl, inr, ℕ, ◌<◌, ◌==◌, Bool, true, false, ◌&&◌, ◌||◌, List, [], ◌∷◌, Some, length, map, filter, option_map, get_or, refl, sym, ap, ap₂, subst, arith, slice_get, if◌then◌else◌}
+use Rattle.std.proofs.Common.{◌≡◌, ◌∙◌, inl, inr, ℕ, ◌<◌, ◌==◌, Bool, true, false, ◌&&◌, ◌||◌, List, [], ◌∷◌, Some, length, map, option_map, get_or, refl, sym, ap, subst, arith, slice_get, if◌then◌else◌}
 use Rattle.std.proofs.lemmas.Bool.{and_parts, eqb-true, false_from_ne_true, true≢false}
 use Rattle.std.proofs.lemmas.List.Elements.{All-filter, All-map, All-weaker}
 use Rattle.std.proofs.lemmas.Option.{get_or_from_slice_get, slice_get-get_or, slice_get-map}
@@ -10,9 +10,8 @@ use Rattle.pf_shapes.specs.Scene.{Scene}
 use Rattle.pf_manifold.specs.Key.{AreTouches}
 use Rattle.pf_manifold.specs.Touches.{IsTouchOf, Touch}
 use Rattle.pf_commands.specs.declared.payload.Payload.{Payload}
-use Rattle.pf_cache.specs.declared.row.Side.{Side}
-use Rattle.pf_cache.specs.Contact.{Contact, updated}
-use Rattle.pf_cache.specs.Row.{AreRows, AreRowsAt, Row}
+use Rattle.pf_cache.specs.Contact.{Contact}
+use Rattle.pf_cache.specs.Row.{AreRows, AreRowsAt}
 use Rattle.pf_cache.proofs.Kept.{same_keys}
 use Rattle.pf_islands.specs.Island.{has_number, is_among, members, rows_among, states_of, touches_one}
 use Rattle.pf_islands.specs.Join.{IsAtHome, joined_bodies, joined_contacts}
@@ -23,7 +22,6 @@ use Rattle.pf_islands.proofs.ActiveRows.{rows_beside, rows_in_order}
 use Rattle.pf_islands.proofs.Elements.{zip_at}
 use Rattle.pf_islands.proofs.HomeAgain.{joined_contacts_are, joined_is}
 use Rattle.pf_islands.proofs.Members.{chosen_pass, range_within}
-use Rattle.pf_islands.proofs.Sleeping.{name_at}
 use Rattle.pf_islands.proofs.Starting.{groups_long, groups_named}
 use Rattle.pf_islands.proofs.Together.{groups_woken, name_of, rows_are_active, woken_at}
 use Rattle.pf_islands.proofs.Whole.{body_has_island, islands_at_contacts, islands_at_home, row_has_island, sides_awake}

@@ -61,7 +61,7 @@ struct Tick {
 }
 
 /// The phases Commands, Points and Activity. The kept contact points are reused, and gone.
-#[tactic(auto, using(crate::proofs::Joined::awake_long, crate::proofs::Lengths::updated_length, pf_islands::proofs::Together::groups_woken))]
+#[tactic(auto, using(crate::proofs::Joined::awake_long, crate::proofs::Lengths::updated_length))]
 fn prepare(
     alloc: Global,
     scene: &Scene,

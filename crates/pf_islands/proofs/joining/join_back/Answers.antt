@@ -1,8 +1,7 @@
-use Rattle.std.proofs.Common.{◌≡◌, ◌∙◌, ◌+◌, ◌∷◌, List, add-one, ap, ap₂, map, subst, sym}
+use Rattle.std.proofs.Common.{◌≡◌, ◌∙◌, ◌+◌, ◌∷◌, add-one, ap, ap₂, map, subst, sym}
 use Rattle.std.proofs.Math.Seq.{drop-cons}
 use Rattle.std.specs.Prelude.{drop, fold, slice_set}
 use Rattle.std.specs.List.{zip}
-use Rattle.pf_shapes.specs.Body.{BodyState}
 use Rattle.pf_cache.specs.Contact.{Contact}
 use Rattle.pf_cache.specs.Row.{AreRowsAt, with_rows}
 use Rattle.pf_islands.specs.Join.{joined_bodies, joined_contacts, with_states}

@@ -1,4 +1,4 @@
-use Rattle.std.proofs.Common.{◌≡◌, length, map}
+use Rattle.std.proofs.Common.{◌≡◌, map}
 use Rattle.std.specs.Prelude.{drop}
 use Rattle.pf_islands.specs.Join.{joined_bodies, joined_contacts}
 use Rattle.pf_islands.proofs.joining.join_back.Given as goal

@@ -1,5 +1,3 @@
-use Rattle.std.proofs.Common.{◌≡◌, length}
-use Rattle.pf_islands.specs.Laws.{active_bodies}
 use Rattle.pf_islands.proofs.Exactly.{bodies_simulated, bodies_together, least_rise, numbers_rise, simulated_bodies, awake_long}
 use Rattle.pf_islands.proofs.laws.islands_have_each_simulated_body.Goals as goal
 

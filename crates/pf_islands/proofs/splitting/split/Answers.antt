@@ -1,10 +1,9 @@
 use Rattle.std.proofs.Common.{◌≡◌, ◌<◌, ◌∙◌, refl, [], ◌∷◌, ◌++◌, ℕ, List, ap, arith, get_or, length, map, set, subst, sym, take}
 use Rattle.std.specs.Prelude.{All}
-use Rattle.std.proofs.lemmas.List.{map_more, take_all, with_items_is}
+use Rattle.std.proofs.lemmas.List.{map_more, with_items_is}
 use Rattle.std.proofs.lemmas.List.FromFn.{get_or-map-range_with_len, length-map-range_with_len}
 use Rattle.pf_cache.specs.Row.{Row}
 use Rattle.pf_islands.specs.Dealing.{ArePlaces, group_of_row, placed_row, slot_of, with_row}
-use Rattle.pf_islands.specs.Group.{groups as groups_of}
 use Rattle.pf_islands.specs.Rows.{active_rows}
 use Rattle.pf_islands.specs.Split.{AreWoken, IsActiveRow, IsIslandOf, active_names, islands, no_island}
 use Rattle.pf_islands.proofs.ActiveRows.{all_made, row_at, rows_fit}

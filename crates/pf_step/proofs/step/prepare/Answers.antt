@@ -1,10 +1,8 @@
-use Rattle.std.proofs.Common.{◌≡◌, ◌∙◌, List, ap, ap₂, length, map, subst, sym}
+use Rattle.std.proofs.Common.{◌≡◌, ◌∙◌, ap, ap₂, length, subst, sym}
 use Rattle.std.proofs.lemmas.List.{with_items_is}
 use Rattle.std.specs.Vec.{with_items}
-use Rattle.pf_shapes.specs.Body.{BodyState}
 use Rattle.pf_manifold.specs.Key.{AreTouches}
-use Rattle.pf_manifold.specs.Touches.{Touch}
-use Rattle.pf_cache.specs.Contact.{Contact, updated}
+use Rattle.pf_cache.specs.Contact.{updated}
 use Rattle.pf_cache.specs.Manifolds.{NarrowPhase, kept_touches}
 use Rattle.pf_islands.specs.Group.{groups}
 use Rattle.pf_islands.specs.Rows.{active_rows}
