@@ -3,6 +3,7 @@ pub mod Odd
 pub mod Signs
 pub mod Shift
 pub mod Nearest
+pub mod Quotients
 pub mod Roots
 pub mod Range
 pub mod Monotone

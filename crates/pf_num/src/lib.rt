@@ -5,6 +5,7 @@
 #![tactic(auto)]
 
 mod fx;
+mod guess;
 pub mod laws;
 mod quotient;
 mod root;

@@ -1,9 +1,11 @@
 //! Rounded products and quotients: in 64 bits for the usual operands, in 128 bits for others.
 
-ghost use Rattle.std.specs.Prelude.{◌≡◌, ◌≢◌, ◌≤◌, ◌<◌, IsTrue, ◌^◌, ◌+◌, ◌*◌, ◌%◌, pos, min};
+ghost use Rattle.std.specs.Prelude.{◌≡◌, ◌≢◌, ◌≤◌, ◌<◌, IsTrue, ◌^◌, ◌+◌, ◌*◌, ◌%◌, ◌/◌, pos, min};
 ghost use Rattle.std.specs.Int.RustNames.{unsigned_abs};
 ghost use Rattle.pf_num.specs.Round.{carry, nearest, with_sign, near};
 ghost use Rattle.pf_num.specs.Fx.{IsRaw, product, quotient};
+
+use crate::guess::{float_near, whole_part};
 
 /// The greatest raw value, 2^55 - 1.
 pub(crate) const MAX_RAW: u64 = 36_028_797_018_963_967;
@@ -25,6 +27,23 @@ fn carry_of(n: u64, remainder: u64, divisor: u64) -> u64
     }
 }
 
+/// The quotient and the remainder of `p` by `b`: a checked guess by floating-point numbers, with
+/// the slower division as fallback.
+#[inline]
+#[tactic(auto, using(crate::proofs::Quotients::quotient_by_product, crate::proofs::Quotients::remainder_by_product))]
+fn divided(p: u64, b: u64) -> (u64, u64)
+    requires { b ≢ 0 }
+    ensures quotient { result.0 ≡ p / b }
+    ensures remainder { result.1 ≡ p % b }
+    ensures bound { result.1 < b }
+{
+    let guess = whole_part(float_near(p as u128) / float_near(b as u128));
+    match guess.checked_mul(b) {
+        Some(product) if product <= p && p - product < b => (guess, p - product),
+        _ => (p / b, p % b),
+    }
+}
+
 /// The whole number nearest to `a * 2^24 / b`, saturated at `MAX_RAW`.
 #[inline]
 #[tactic(auto, unfolding(crate::specs::Round::nearest))]
@@ -34,9 +53,8 @@ fn nearest_quotient(a: u64, b: u64) -> u64
     ensures { result ≡ min (nearest (a * 16777216) b) MAX_RAW }
 {
     if a < (1 << 39) {
-        let p = a * 16_777_216;
-        let n = p / b;
-        (n + carry_of(n, p % b, b)).min(MAX_RAW)
+        let (n, remainder) = divided(a * 16_777_216, b);
+        (n + carry_of(n, remainder, b)).min(MAX_RAW)
     } else {
         long_quotient(a, b)
     }
