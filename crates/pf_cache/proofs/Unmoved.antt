@@ -4,38 +4,17 @@ use Rattle.std.specs.Bool.{Decides}
 use Rattle.std.specs.Prelude.{get_or, slice_get}
 use Rattle.std.proofs.lemmas.Option.{slice_get_read}
 use Rattle.std.proofs.lemmas.Bool.{and_parts}
-use Rattle.std.proofs.lemmas.Bool.Decides.{Decides-int_eq, Decides-and, Decides-like}
-use Rattle.pf_rot.specs.Vector.{V2}
-use Rattle.pf_rot.specs.Rotation.{Rot}
+use Rattle.std.proofs.lemmas.Bool.Decides.{Decides-and, Decides-like}
 use Rattle.pf_shapes.specs.Fixture.{Fixture}
 use Rattle.pf_shapes.specs.Body.{BodyState}
 use Rattle.pf_shapes.specs.Pair.{Pair}
-use Rattle.pf_shapes.specs.Same.{same_rotation, same_vector}
-use Rattle.pf_shapes.specs.SameLaws.{Decides-shape}
+use Rattle.pf_shapes.specs.SameLaws.{Decides-rotation, Decides-shape, Decides-vector}
 use Rattle.pf_manifold.specs.Collide.{collide}
 use Rattle.pf_manifold.specs.ContactPoint.{ContactPoint}
 use Rattle.pf_manifold.specs.PlacedShape.{PlacedShape}
 use Rattle.pf_manifold.specs.Touches.{placed_shape, placed_shape_at, touch_of, touches, touches_between, touches_of}
 use Rattle.pf_cache.specs.Manifolds.{is_unmoved, kept_touches, manifolds_of, placed_shapes, points_of_pair, are_same_shapes, same_placed_shape}
 use Rattle.pf_cache.specs.Spans.{unmoved_flags}
-
-Decides-vector : (u v : V2) → Decides (same_vector u v) (u ≡ v)
-Decides-vector u v =
-    Decides-like (same_vector u v) (λ e i. record {
-      x = e.0 i;
-      y = e.1 i;
-    })
-    (λ e. (ap (λ (w : V2). w.x) e, ap (λ (w : V2). w.y) e))
-    (Decides-and _ _ (Decides-int_eq u.x v.x) (Decides-int_eq u.y v.y))
-
-Decides-rotation : (p q : Rot) → Decides (same_rotation p q) (p ≡ q)
-Decides-rotation p q =
-    Decides-like (same_rotation p q) (λ e i. record {
-      c = e.0 i;
-      s = e.1 i;
-    })
-    (λ e. (ap (λ (w : Rot). w.c) e, ap (λ (w : Rot). w.s) e))
-    (Decides-and _ _ (Decides-int_eq p.c q.c) (Decides-int_eq p.s q.s))
 
 pub Decides-placed : (a b : PlacedShape) → Decides (same_placed_shape a b) (a ≡ b)
 unfolding same_placed_shape

@@ -2,7 +2,7 @@
 use borrow.Author.Count.{below_more}
 use Rattle.std.proofs.Common.{◌≡◌, ◌∙◌, ℕ, ◌+◌, ◌<◌, ◌==◌, Bool, true, false, cond, List, [], ◌∷◌, ◌++◌, Some, length, filter, map, option_map, set, get_or, refl, sym, ap, ap₂, subst, arith, slice_get}
 use Rattle.std.proofs.lemmas.Bool.{eq-eqb, eqb-true, false_from_ne_true, ne_eqb, true≢false}
-use Rattle.std.proofs.lemmas.List.{append-nil, get_or-set_other, get_or-set_same, length-map, map-append}
+use Rattle.std.proofs.lemmas.List.{append-nil, get_or-set_other, get_or-set_same, length-append, length-map, map-append}
 use Rattle.std.proofs.lemmas.List.Elements.{filter-append}
 use Rattle.std.proofs.lemmas.Option.{get_or_from_slice_get, slice_get-map, slice_get_within}
 use Rattle.std.specs.List.{range_with_len}
@@ -41,6 +41,17 @@ module _ (names : List ℕ) (bodies : List BodyState) where
       ∙ ap (λ xs. map (λ (name : ℕ). no_island) (filter (is_active_name names bodies) (range_with_len 0 k)) ++ xs) (by e)
     where
       by : (t : Bool) → map (λ (name : ℕ). no_island) (cond t ((0 + k) ∷ []) []) ≡ (if t then no_island ∷ [] else [])
+      by true = refl
+      by false = refl
+
+  pub slot_more : (k : ℕ) (e : Bool) → is_active_name names bodies k ≡ e
+      → slot_of names bodies (k + 1) ≡ slot_of names bodies k + (if e then 1 else 0)
+  slot_more k e is =
+      sym (made_count (k + 1)) ∙ ap length (made_more k e is)
+      ∙ length-append (map (λ (name : ℕ). no_island) (filter (is_active_name names bodies) (range_with_len 0 k))) (if e then no_island ∷ [] else [])
+      ∙ ap₂ (λ m n. m + n) (made_count k) (by e)
+    where
+      by : (t : Bool) → length (if t then no_island ∷ [] else []) ≡ (if t then 1 else 0)
       by true = refl
       by false = refl
 

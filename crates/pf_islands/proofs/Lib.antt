@@ -15,3 +15,4 @@ pub mod Together
 pub mod HomeAgain
 pub mod Whole
 pub mod Exactly
+pub mod PutBack

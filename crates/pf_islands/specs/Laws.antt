@@ -2,6 +2,7 @@
 use Rattle.std.specs.Prelude.{◌≡◌, ℕ, true, List, Some, slice_get}
 use Rattle.pf_shapes.specs.Body.{BodyState}
 use Rattle.pf_shapes.specs.Scene.{Scene}
+use Rattle.pf_manifold.specs.Key.{key_of}
 use Rattle.pf_manifold.specs.Touches.{Touch}
 use Rattle.pf_cache.specs.Contact.{Contact}
 use Rattle.pf_cache.specs.Row.{Row}
@@ -38,3 +39,21 @@ pub record HasRow (islands : List Island) (k : ℕ) (r : Row) : Type 0 where
   pub island : Island
   pub is_there : slice_get islands k ≡ Some island
   pub touched : touches_one island.numbers r ≡ true
+
+-- island k of a list has this row
+pub record HoldsRow (islands : List Island) (k : ℕ) (r : Row) : Type 0 where
+  pub island : Island
+  pub place : ℕ
+  pub is_there : slice_get islands k ≡ Some island
+  pub row : slice_get island.rows place ≡ Some r
+
+-- no body is in two islands
+abbrev pub HaveOwnBodies : List Island → Type 0
+HaveOwnBodies islands =
+    (k l n : ℕ) (b c : BodyState) → HasBody islands k n b → HasBody islands l n c → k ≡ l
+
+-- no contact is in two islands
+abbrev pub HaveOwnContacts : List Island → Type 0
+HaveOwnContacts islands =
+    (k l : ℕ) (q r : Row) → HoldsRow islands k q → HoldsRow islands l r
+    → key_of q.entry.touch ≡ key_of r.entry.touch → k ≡ l

@@ -9,4 +9,5 @@ pub mod Rows
 pub mod Split
 pub mod Dealing
 pub mod Join
+pub mod Same
 pub mod Laws

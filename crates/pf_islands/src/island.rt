@@ -1,5 +1,7 @@
 //! Islands: bodies that contacts connect, with these contacts.
 
+ghost use Rattle.std.specs.Prelude.{◌≡◌, [], IfOk, IsOk};
+
 use crate::rooms::Room;
 use pf_cache::Row;
 use pf_shapes::BodyState;
@@ -21,6 +23,18 @@ pub struct Island {
     pub rows: Vec<Row>,
 }
 
+/// A copy of some rows. Takes no memory for none.
+fn copy_of_rows(alloc: Global, rows: &[Row]) -> Result<Vec<Row>, AllocError>
+    ensures value { IfOk result (λ copy. copy.items ≡ rows.now) }
+    ensures no_memory { rows.now ≡ [] → IsOk result }
+{
+    let mut copy = Vec::with_capacity(alloc, rows.len())?;
+    for row in rows {
+        copy.push(row.clone()?)?;
+    }
+    Ok(copy)
+}
+
 impl Model for Island {
     ghost use Rattle.pf_islands.specs.Split.{Island};
 
@@ -33,8 +47,29 @@ impl Model for Island {
     } };
 }
 
+impl PartialEq for Island {
+    ghost use Rattle.std.specs.Cmp.{partial_equiv_from_equiv};
+    ghost use Rattle.pf_islands.specs.Same.{same_island, islands_equivalent};
+
+    ghost eq = { same_island };
+
+    ghost laws = { partial_equiv_from_equiv islands_equivalent };
+
+    fn eq(&self, other: &Island) -> bool {
+        self.numbers.as_slice() == other.numbers.as_slice()
+            && self.bodies.as_slice() == other.bodies.as_slice()
+            && self.rows.as_slice() == other.rows.as_slice()
+    }
+}
+
+impl Eq for Island {
+    ghost use Rattle.pf_islands.specs.Same.{islands_equivalent};
+
+    ghost laws = { islands_equivalent };
+}
+
 impl Island {
-    ghost use Rattle.std.specs.Prelude.{◌≡◌, ◌≤◌, ◌++◌, ◌∷◌, [], IfOk, IsOk, OnOk};
+    ghost use Rattle.std.specs.Prelude.{◌≡◌, ◌≤◌, ◌++◌, ◌∷◌, [], IfOk, IsOk, OnOk, length};
     ghost use Rattle.pf_islands.specs.Split.{no_island};
 
     /// Without bodies, with room for so many bodies and contacts. Takes no memory for one body
@@ -44,14 +79,30 @@ impl Island {
         ensures no_memory { room.bodies ≤ 1 → room.rows ≡ 0 → IsOk result }
     {
         let mut numbers = SmallVec::new(alloc);
-        numbers.reserve(room.bodies)?;
         let mut bodies = SmallVec::new(alloc);
-        bodies.reserve(room.bodies)?;
+        if room.bodies > 1 {
+            numbers.reserve(room.bodies)?;
+            bodies.reserve(room.bodies)?;
+        }
         let rows = Vec::with_capacity(alloc, room.rows)?;
         Ok(Island {
             numbers,
             bodies,
             rows,
+        })
+    }
+
+    /// A copy. Takes no memory for one body without contacts.
+    pub fn try_clone(&self) -> Result<Island, AllocError>
+        ensures value { IfOk result (λ copy. copy ≡ self.now) }
+        ensures no_memory { length self.now.numbers ≤ 1 → length self.now.bodies ≤ 1
+            → self.now.rows ≡ [] → IsOk result }
+    {
+        let alloc = *self.rows.allocator();
+        Ok(Island {
+            numbers: SmallVec::from_slice(alloc, self.numbers.as_slice())?,
+            bodies: SmallVec::from_slice(alloc, self.bodies.as_slice())?,
+            rows: copy_of_rows(alloc, &self.rows)?,
         })
     }
 

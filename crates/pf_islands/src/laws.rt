@@ -3,12 +3,14 @@
 ghost use Rattle.std.specs.Prelude.{◌≡◌, ◌≤◌, ℕ, ◌↔◌, All, List, Some, true, false, length, map, slice_get, slice_index};
 ghost use Rattle.pf_shapes.specs.Body.{BodyState};
 ghost use Rattle.pf_shapes.specs.Scene.{Scene};
-ghost use Rattle.pf_manifold.specs.Key.{AreTouches, IsRising};
+ghost use Rattle.pf_manifold.specs.Key.{AreTouches, IsRising, key_of};
 ghost use Rattle.pf_manifold.specs.Touches.{IsTouchOf, Touch};
-ghost use Rattle.pf_cache.specs.Contact.{Contact};
-ghost use Rattle.pf_cache.specs.Row.{AreRows};
+ghost use Rattle.pf_cache.specs.Contact.{AreContacts, Contact};
+ghost use Rattle.pf_cache.specs.Row.{AreRows, AreRowsAt, Row};
 ghost use Rattle.pf_islands.specs.Island.{rows_among};
-ghost use Rattle.pf_islands.specs.Laws.{HasBody, HasRow, active_bodies, islands_of, rows_of};
+ghost use Rattle.pf_islands.specs.Laws.{HasBody, HasRow, HaveOwnBodies, HaveOwnContacts, HoldsRow, active_bodies, islands_of, rows_of};
+ghost use Rattle.pf_islands.specs.Join.{IsAtHome, joined_bodies, joined_contacts};
+ghost use Rattle.pf_islands.specs.Split.{Island};
 ghost use Rattle.pf_islands.specs.Reach.{Reaches};
 ghost use Rattle.pf_islands.specs.Group.{group, groups};
 ghost use Rattle.pf_islands.specs.Sleep.{rested, woken};
@@ -89,4 +91,27 @@ pub fn islands_have_each_simulated_contact()
     ensures order { (s : Scene) (touches : List Touch) (bodies : List BodyState)
         (contacts : List Contact) → AreTouches touches
         → All (λ i. AreRows i.rows) (islands_of s touches bodies contacts) }
+{}
+
+/// Islands that are put back into their world, no body and no contact in two of them: each body has
+/// the state that it has in its island, each contact has accumulated what it has there, and the
+/// others stay as they are.
+pub fn islands_go_home()
+    ensures bodies { (islands : List Island) (bodies : List BodyState) (k n : ℕ) (b : BodyState)
+        → All (IsAtHome (length bodies)) islands → All (λ i. IsRising 0 i.numbers) islands
+        → HaveOwnBodies islands → HasBody islands k n b
+        → slice_get (joined_bodies islands bodies) n ≡ Some b }
+    ensures other_bodies { (islands : List Island) (bodies : List BodyState) (n : ℕ)
+        → ((k : ℕ) (b : BodyState) → HasBody islands k n b → ⊥)
+        → slice_get (joined_bodies islands bodies) n ≡ slice_get bodies n }
+    ensures contacts { (islands : List Island) (contacts : List Contact) (k : ℕ) (r : Row)
+        → All (λ i. AreRowsAt contacts i.rows) islands → HaveOwnContacts islands
+        → HoldsRow islands k r
+        → slice_get (joined_contacts islands contacts) r.entry.place
+        ≡ Some (record { key = key_of r.entry.touch; impulses = r.entry.impulses }) }
+    ensures other_contacts { (islands : List Island) (contacts : List Contact) (place : ℕ)
+        (c : Contact) → AreContacts contacts → All (λ i. AreRowsAt contacts i.rows) islands
+        → slice_get contacts place ≡ Some c
+        → ((k : ℕ) (r : Row) → HoldsRow islands k r → key_of r.entry.touch ≡ c.key → ⊥)
+        → slice_get (joined_contacts islands contacts) place ≡ Some c }
 {}

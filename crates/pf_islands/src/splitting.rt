@@ -30,6 +30,20 @@ fn is_active_name(names: &[usize], bodies: &[BodyState], number: usize) -> bool
     names[number] == number && body.awake
 }
 
+/// How many groups are simulated.
+fn active_count(names: &[usize], bodies: &[BodyState]) -> usize
+    requires { length bodies.now ≡ length names.now }
+    ensures { result ≡ length (active_names names.now bodies.now) }
+{
+    let mut count = 0;
+    for number in 0..names.len() {
+        if is_active_name(names, bodies, number) {
+            count += 1;
+        }
+    }
+    count
+}
+
 /// An island without bodies for each group that is simulated, in the order of their names; and for
 /// each number of a body how many of these names are less.
 fn empty_islands(
@@ -46,7 +60,7 @@ fn empty_islands(
         ≡ map (slot_of names.now bodies.now) (range_with_len 0 (length names.now))) }
     ensures no_memory { length names.now ≡ 0 → IsOk result }
 {
-    let mut islands = Vec::new(alloc);
+    let mut islands = Vec::with_capacity(alloc, active_count(names, bodies))?;
     let mut slots = Vec::with_capacity(alloc, names.len())?;
     for number in 0..names.len() {
         slots.push_reserved(islands.len());

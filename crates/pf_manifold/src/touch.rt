@@ -34,6 +34,26 @@ impl Model for Touch {
     ghost inverse = { λ t. record { a = t.a; b = t.b; point = t.point } };
 }
 
+impl PartialEq for Touch {
+    ghost use Rattle.std.specs.Cmp.{partial_equiv_from_equiv};
+    ghost use Rattle.pf_manifold.specs.SameTouches.{same_touch, touches_equivalent};
+
+    ghost eq = { same_touch };
+
+    ghost laws = { partial_equiv_from_equiv touches_equivalent };
+
+    #[tactic(auto, unfolding(crate::specs::SameTouches::same_touch))]
+    fn eq(&self, other: &Touch) -> bool {
+        self.a == other.a && self.b == other.b && self.point == other.point
+    }
+}
+
+impl Eq for Touch {
+    ghost use Rattle.pf_manifold.specs.SameTouches.{touches_equivalent};
+
+    ghost laws = { touches_equivalent };
+}
+
 /// The shape of the body of this number at its position and rotation.
 fn placed_shape<'a>(fixtures: &'a [Fixture], bodies: &[BodyState], number: usize) -> PlacedShape<'a>
     requires bodies { length bodies.now ≡ length fixtures.now }

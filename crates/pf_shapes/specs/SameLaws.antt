@@ -17,7 +17,7 @@ use Rattle.pf_shapes.specs.Body.{BodyState}
 use Rattle.pf_shapes.specs.Scene.{Scene}
 use Rattle.pf_shapes.specs.Same.{same_vector, same_rotation, same_shape, same_fixture, same_state, same_scene}
 
-Decides-vector : (u v : V2) → Decides (same_vector u v) (u ≡ v)
+pub Decides-vector : (u v : V2) → Decides (same_vector u v) (u ≡ v)
 Decides-vector u v =
     Decides-like (same_vector u v) (λ e i. record {
       x = e.0 i;
@@ -26,7 +26,7 @@ Decides-vector u v =
     (λ e. (ap (λ (w : V2). w.x) e, ap (λ (w : V2). w.y) e))
     (Decides-and _ _ (Decides-int_eq u.x v.x) (Decides-int_eq u.y v.y))
 
-Decides-rotation : (p q : Rot) → Decides (same_rotation p q) (p ≡ q)
+pub Decides-rotation : (p q : Rot) → Decides (same_rotation p q) (p ≡ q)
 Decides-rotation p q =
     Decides-like (same_rotation p q) (λ e i. record {
       c = e.0 i;
