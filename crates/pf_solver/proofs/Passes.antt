@@ -1,5 +1,5 @@
 -- Passes along rows.
-use Rattle.std.proofs.Common.{◌≡◌, ◌∙◌, ℕ, suc, ◌+◌, ◌<◌, ◌≤◌, List, [], ◌∷◌, ◌++◌, take, drop, set, get_or, length, length-set, length-take, append_assoc, refl, sym, ap, ap₂, subst, arith}
+use Rattle.std.proofs.Common.{◌≡◌, ◌∙◌, ℕ, zero, suc, ◌+◌, ◌<◌, ◌≤◌, List, [], ◌∷◌, ◌++◌, take, drop, set, get_or, length, length-set, length-take, append_assoc, refl, sym, ap, ap₂, subst, arith}
 use Rattle.std.proofs.lemmas.List.{append-nil, drop_all, drop_more, take_all, take_more, get_or_at, set_at}
 use Rattle.std.proofs.lemmas.List.Elements.{All-cons, All-head, All-nil, All-tail}
 use Rattle.std.specs.Prelude.{All}
@@ -24,6 +24,19 @@ pub passes_more : (n : ℕ) (step : Step) (b : Batch)
     → passes (n + 1) step b ≡ pass step (passes n step b).bodies (passes n step b).rows
 unfolding passes
 passes_more n step b = let more : n + 1 ≡ suc n = omega arith in ap (λ m. passes m step b) more
+
+-- without rows nothing changes
+passes_nothing : (n : ℕ) (step : Step) (bodies : List BodyState)
+    → passes n step (record { bodies = bodies; rows = [] }) ≡ record { bodies = bodies; rows = [] }
+unfolding passes pass
+passes_nothing zero step bodies = refl
+passes_nothing (suc n) step bodies =
+    ap (λ (b : Batch). pass step b.bodies b.rows) (passes_nothing n step bodies)
+
+pub passes_no_rows : (n : ℕ) (step : Step) (bodies : List BodyState) (rows : List Row) → length rows ≡ 0
+    → record { bodies = bodies; rows = rows } ≡ passes n step (record { bodies = bodies; rows = rows })
+passes_no_rows n step bodies [] empty = sym (passes_nothing n step bodies)
+passes_no_rows n step bodies (r ∷ rows) empty = absurd (omega (arith, empty))
 
 module _ (step : Step) where
   -- the bodies stay as many
