@@ -6,13 +6,13 @@ ghost use Rattle.pf_commands.specs.News.{is_change};
 
 use crate::fault::{Fault, Refusal};
 use crate::snapshots::Snapshots;
-use crate::steps::{Alone, Steps};
+use crate::steps::{Alone, Steps, WithCrew};
 use pf_cache::{Meter, Work};
 use pf_commands::{
     Command, CommandMap, FRAME_LEN, MAX_TICK, Name, Payload, Put, check, decode, encode,
 };
 use pf_shapes::{PLAYERS, Scene};
-use pf_step::{World, step_alone};
+use pf_step::{Crew, StepError, World, step_alone};
 use std::alloc::{AllocError, Global};
 use std::marker::Model;
 
@@ -300,6 +300,19 @@ impl PeerCore {
             OnErr result ((more : ℕ) × (more < missing) × HasSettled more self.old self.new) }
     {
         self.settle(alloc, &mut Alone)
+    }
+
+    /// Settles each tick up to the reached one, with the islands solved by a crew, and returns that
+    /// tick: see [`PeerCore::settle`].
+    pub fn settle_with<C: Crew>(&mut self, alloc: Global, crew: &mut C) -> Result<u32, StepError>
+        ensures answer { IfOk result (λ tick. tick ≡ self.old.peer.reached) }
+        ensures settled { OnOk result (settled_tick self.new.kept ≡ self.old.peer.reached) }
+        ensures ok { let missing = self.old.peer.reached - settled_tick self.old.kept in
+            OnOk result (HasSettled missing self.old self.new) }
+        ensures err { let missing = self.old.peer.reached - settled_tick self.old.kept in
+            OnErr result ((more : ℕ) × (more < missing) × HasSettled more self.old self.new) }
+    {
+        self.settle(alloc, &mut WithCrew { crew })
     }
 
     /// Settles each tick up to the reached one: simulates it once, from the settled tick on, and

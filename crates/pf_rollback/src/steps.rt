@@ -3,7 +3,7 @@
 use pf_cache::Work;
 use pf_commands::Payload;
 use pf_shapes::Scene;
-use pf_step::{World, step_alone};
+use pf_step::{Crew, StepError, World, step_alone, step_with};
 use std::alloc::{AllocError, Global};
 
 /// Makes the steps of a simulation, as [`step_alone`] does.
@@ -51,5 +51,27 @@ impl Steps for Alone {
         work: &mut Work,
     ) -> Result<World, AllocError> {
         step_alone(alloc, scene, world, payloads, work)
+    }
+}
+
+/// Makes the steps with a crew that solves the islands.
+#[derive(Drop)]
+pub(crate) struct WithCrew<'a, C: Crew> {
+    /// The crew, which is called once in each step.
+    pub(crate) crew: &'a mut C,
+}
+
+impl<C: Crew> Steps for WithCrew<'_, C> {
+    type Error = StepError;
+
+    fn step(
+        &mut self,
+        alloc: Global,
+        scene: &Scene,
+        world: &World,
+        payloads: &[Payload],
+        work: &mut Work,
+    ) -> Result<World, StepError> {
+        step_with(alloc, scene, world, payloads, work, self.crew)
     }
 }
