@@ -155,14 +155,17 @@ impl Contacts {
 
     /// The contacts of these points, as Box2D-Lite's `Arbiter::Update`: a key of the old contacts
     /// keeps its impulses, a new key has none, and a contact without a point is gone. The
-    /// points are in the order of their keys. Takes no memory where there are none.
+    /// points are in the order of their keys. The list is made in the memory of `room`, whose
+    /// contacts are gone, and takes more only where that is too little.
     #[inline(never)]
-    pub fn update(&self, touches: &[Touch]) -> Result<Contacts, AllocError>
+    pub fn update(&self, room: Contacts, touches: &[Touch]) -> Result<Contacts, AllocError>
         requires { AreTouches touches.now }
         ensures value { IfOk result (λ contacts. contacts ≡ updated self.now touches.now) }
         ensures no_memory { touches.now ≡ [] → IsOk result }
     {
-        let mut list = Vec::with_capacity(*self.list.allocator(), touches.len())?;
+        let mut list = room.list;
+        list.clear();
+        list.reserve(touches.len())?;
         let mut place = 0;
         for touch in touches {
             let key = Key::of(touch);

@@ -1,5 +1,6 @@
 //! What steps of one simulation share.
 
+use crate::contacts::Contacts;
 use crate::manifolds::{Manifolds, NarrowPhase};
 use crate::meter::Meter;
 use pf_broad::BroadPhase;
@@ -9,14 +10,18 @@ use std::marker::Model;
 use std::mem;
 
 /// What one step of a simulation leaves to the next beside the world: how much work was done, and
-/// for reuse the contact points of the last tick, and what the broad phase keeps.
+/// for reuse the contact points of the last tick, what the broad phase keeps, and the memory of a
+/// world that is gone.
 ///
-/// Contracts do not see the broad phase, since what it keeps changes no result.
+/// Contracts see neither the broad phase nor that memory, since they change no result.
 #[derive(Debug, Drop)]
 pub struct Work {
     meter: Meter,
     manifolds: Manifolds,
     broad_phase: BroadPhase,
+    /// Of a world that is gone, for those of the next one.
+    spare_bodies: Vec<BodyState>,
+    spare_contacts: Contacts,
 }
 
 impl Model for Work {
@@ -42,6 +47,8 @@ impl Work {
             meter: Meter::NONE,
             manifolds: Manifolds::new(alloc),
             broad_phase: BroadPhase::new(alloc),
+            spare_bodies: Vec::new(alloc),
+            spare_contacts: Contacts::new(alloc),
         }
     }
 
@@ -67,6 +74,29 @@ impl Work {
         ensures rest { self.new ≡ record self.old { manifolds = no_manifolds } }
     {
         mem::replace(&mut self.manifolds, Manifolds::new(alloc))
+    }
+
+    /// Lends the memory of these bodies and contacts, of a world that is gone, to the next world.
+    /// What contracts see of the work stays as it is.
+    pub fn lend(&mut self, bodies: Vec<BodyState>, contacts: Contacts)
+        ensures { self.new ≡ self.old }
+    {
+        self.spare_bodies = bodies;
+        self.spare_contacts = contacts;
+    }
+
+    /// Takes the memory that was lent for bodies. What it holds is of no use. Takes no memory.
+    pub fn take_bodies(&mut self, alloc: Global) -> Vec<BodyState>
+        ensures { self.new ≡ self.old }
+    {
+        mem::replace(&mut self.spare_bodies, Vec::new(alloc))
+    }
+
+    /// Takes the memory that was lent for contacts. What it holds is of no use. Takes no memory.
+    pub fn take_contacts(&mut self, alloc: Global) -> Contacts
+        ensures { self.new ≡ self.old }
+    {
+        mem::replace(&mut self.spare_contacts, Contacts::new(alloc))
     }
 
     /// The pairs of bodies, at most one of them static, whose bounds overlap in these states: in

@@ -32,7 +32,7 @@ fn next(alloc: Global, contacts: &Contacts, text: &[u8]) -> Result<Contacts, Fai
     }
     let pairs = pairs(alloc, &scene, starts)?;
     let touches = collide_list(alloc, &scene, starts, &pairs)?;
-    Ok(contacts.update(&touches)?)
+    Ok(contacts.update(Contacts::new(alloc), &touches)?)
 }
 
 #[test]

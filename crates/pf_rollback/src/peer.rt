@@ -15,6 +15,7 @@ use pf_shapes::{PLAYERS, Scene};
 use pf_step::{Crew, StepError, World, step_alone};
 use std::alloc::{AllocError, Global};
 use std::marker::Model;
+use std::mem;
 
 /// The most settled worlds that a peer keeps beside its keyframes.
 pub const MAX_RING: usize = 64;
@@ -335,7 +336,8 @@ impl PeerCore {
         Ok(last)
     }
 
-    /// Simulates the settled tick, and keeps the world after it. An error leaves the peer as it was.
+    /// Simulates the settled tick, and keeps the world after it. The world that falls out of the ring
+    /// lends its memory to the next. An error leaves the peer as it was.
     fn settle_tick<S: Steps>(
         &mut self,
         alloc: Global,
@@ -352,7 +354,9 @@ impl PeerCore {
         let payloads = self.commands.at_tick(alloc, tick)?;
         let latest = self.snapshots.latest();
         let world = steps.step(alloc, &self.scene, latest, &payloads, &mut self.work)?;
-        self.snapshots.keep(world);
+        if let Some(fallen) = self.snapshots.keep(world) {
+            fallen.lend(&mut self.work);
+        }
         Ok(())
     }
 
@@ -395,7 +399,8 @@ impl PeerCore {
         let mut world = kept.try_clone()?;
         for at in from..tick {
             let payloads = self.commands.at_tick(alloc, at)?;
-            world = step_alone(alloc, &self.scene, &world, &payloads, work)?;
+            let next = step_alone(alloc, &self.scene, &world, &payloads, work)?;
+            mem::replace(&mut world, next).lend(work);
         }
         Ok(world)
     }

@@ -48,13 +48,14 @@ impl Model for Snapshots {
     }) };
 }
 
-/// Keeps the world of a tick, as a keyframe or among the recent worlds.
+/// Keeps the world of a tick, as a keyframe or among the recent worlds. Returns the world that falls
+/// out of the ring, if one does.
 fn keep_at(
     keyframes: &mut Vec<World>,
     recent: &mut HeapCircularBuffer<Option<World>>,
     tick: u32,
     world: World,
-)
+) -> Option<World>
     requires { vec_len keyframes.old < vec_capacity keyframes.old }
     ensures keyframes { keyframes.new.items ≡ (if tick % KEYFRAME_INTERVAL == 0
         then keyframes.old.items ++ world ∷ [] else keyframes.old.items) }
@@ -63,9 +64,9 @@ fn keep_at(
 {
     if tick % KEYFRAME_INTERVAL == 0 {
         keyframes.push_reserved(world);
-        recent.push_back(None);
+        recent.push_back(None).flatten()
     } else {
-        recent.push_back(Some(world));
+        recent.push_back(Some(world)).flatten()
     }
 }
 
@@ -110,8 +111,8 @@ impl Snapshots {
     }
 
     /// Keeps the world of the tick after the settled one, and of the ring's worlds the last ones.
-    /// Takes no memory.
-    pub(crate) fn keep(&mut self, world: World)
+    /// Returns the world that falls out of the ring, if one does. Takes no memory.
+    pub(crate) fn keep(&mut self, world: World) -> Option<World>
         requires room { 0 < self.old.room }
         requires limit { settled_tick (ticks_of self.old) < MAX_TICK }
         ensures ticks { ticks_of self.new
@@ -122,8 +123,9 @@ impl Snapshots {
             ⊎ ((tick ≡ settled_tick (ticks_of self.old) + 1) × (w ≡ world)) }
     {
         let settled = self.settled + 1;
-        keep_at(&mut self.keyframes, &mut self.recent, settled, world);
+        let fallen = keep_at(&mut self.keyframes, &mut self.recent, settled, world);
         self.settled = settled;
+        fallen
     }
 
     /// After news of this least tick, if there are any: drops each world after it. Takes no memory.

@@ -15,7 +15,7 @@ ghost use Rattle.pf_step.specs.Step.{narrow_phase, narrow_phase_of_tick, step, t
 
 use crate::command::apply_all;
 use crate::crew::{Crew, StepError};
-use crate::world::{World, copy_of};
+use crate::world::{World, copy_into};
 use pf_cache::{Contacts, Manifolds, NarrowPhase, Work};
 use pf_commands::Payload;
 use pf_islands::{Groups, Island, join_back, split};
@@ -85,11 +85,13 @@ fn prepare(
     ensures no_memory { world.now.bodies ≡ [] → IsOk result }
 {
     let kept = work.take_manifolds(alloc);
-    let mut bodies = copy_of(alloc, world.bodies())?;
+    let mut bodies = copy_into(work.take_bodies(alloc), world.bodies())?;
     apply_all(scene.fixtures(), &mut bodies, payloads);
     let found = narrow_phase(alloc, scene, &bodies, kept, work)?;
     let touches = found.manifolds.touches();
-    let contacts = world.contacts().update(touches)?;
+    let contacts = world
+        .contacts()
+        .update(work.take_contacts(alloc), touches)?;
     let mut groups = Groups::new(alloc, scene, touches)?;
     groups.wake(&mut bodies);
     let islands = split(alloc, scene, &groups, &bodies, touches, contacts.as_slice())?;

@@ -2,7 +2,7 @@
 
 ghost use Rattle.std.specs.Prelude.{◌≡◌, [], IfOk, IsOk};
 
-use pf_cache::Contacts;
+use pf_cache::{Contacts, Work};
 use pf_shapes::{BodyState, Scene};
 use std::alloc::{AllocError, Global};
 use std::marker::Model;
@@ -34,6 +34,21 @@ pub(crate) fn copy_of(alloc: Global, bodies: &[BodyState]) -> Result<Vec<BodySta
     Vec::from_slice(alloc, bodies)
 }
 
+/// A copy of bodies in the memory of `room`, whose bodies are gone. Takes more memory only where that
+/// is too little.
+pub(crate) fn copy_into(
+    room: Vec<BodyState>,
+    bodies: &[BodyState],
+) -> Result<Vec<BodyState>, AllocError>
+    ensures items { IfOk result (λ copy. copy.items ≡ bodies.now) }
+    ensures no_memory { bodies.now ≡ [] → IsOk result }
+{
+    let mut copy = room;
+    copy.clear();
+    copy.extend_from_slice(bodies)?;
+    Ok(copy)
+}
+
 impl World {
     ghost use Rattle.std.specs.Prelude.{◌≡◌, [], length, IfOk, IsOk};
     ghost use Rattle.pf_step.specs.World.{start_of, same_world};
@@ -63,6 +78,14 @@ impl World {
         ensures { result.now ≡ self.now.contacts }
     {
         &self.contacts
+    }
+
+    /// Lends the memory of this world to the next one that is made with `work`. What contracts see of
+    /// the work stays as it is.
+    pub fn lend(self, work: &mut Work)
+        ensures { work.new ≡ work.old }
+    {
+        work.lend(self.bodies, self.contacts);
     }
 
     /// A copy. Takes time and memory for all bodies and contacts, and no memory where there are
