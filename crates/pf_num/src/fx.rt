@@ -5,7 +5,8 @@ ghost use Rattle.std.specs.Int.{int_min, int_max, is_negative};
 ghost use Rattle.std.specs.Int.RustNames.{unsigned_abs};
 ghost use Rattle.pf_num.specs.Fx.{IsRaw, max_raw, saturate, sum, difference, product, quotient, root};
 
-use crate::quotient::{rounded_product, rounded_quotient, short_product};
+use crate::divisor::Divisor;
+use crate::quotient::{rounded_product, short_product};
 use crate::root::raw_root;
 use std::marker::Model;
 
@@ -78,6 +79,15 @@ impl Fx {
         } else {
             None
         }
+    }
+
+    /// The number with this raw value, which is in range.
+    #[inline]
+    pub(crate) fn of_raw(raw: i64) -> Fx
+        requires { IsRaw raw }
+        ensures { result ≡ raw }
+    {
+        Fx { raw }
     }
 
     /// The raw value, in units of 2^-24.
@@ -169,9 +179,7 @@ impl Fx {
     pub fn div(self, other: Fx) -> Fx
         ensures { result ≡ quotient self other }
     {
-        Fx {
-            raw: rounded_quotient(self.raw, other.raw),
-        }
+        Divisor::new(other).divide(self)
     }
 
     /// The square root, rounded down, and 0 for a negative number.

@@ -4,11 +4,13 @@
 //! rounded to the nearest unit (ties to even; a square root down) and saturated.
 #![tactic(auto)]
 
+mod divisor;
 mod fx;
 mod guess;
 pub mod laws;
 mod quotient;
 mod root;
 
+pub use divisor::Divisor;
 pub use fx::Fx;
 pub use root::whole_root;

@@ -1,11 +1,11 @@
 //! Rounded products and quotients: in 64 bits for the usual operands, in 128 bits for others.
 
-ghost use Rattle.std.specs.Prelude.{◌≡◌, ◌≢◌, ◌≤◌, ◌<◌, IsTrue, ◌^◌, ◌+◌, ◌*◌, ◌%◌, ◌/◌, pos, min};
+ghost use Rattle.std.specs.Prelude.{◌≡◌, ◌≢◌, ◌≤◌, ◌<◌, IsTrue, ◌^◌, ◌+◌, ◌*◌, ◌%◌, ◌↔◌, pos, min};
 ghost use Rattle.std.specs.Int.RustNames.{unsigned_abs};
 ghost use Rattle.pf_num.specs.Round.{carry, nearest, with_sign, near};
 ghost use Rattle.pf_num.specs.Fx.{IsRaw, product, quotient};
 
-use crate::guess::{float_near, whole_part};
+use crate::guess::quotient_guess;
 
 /// The greatest raw value, 2^55 - 1.
 pub(crate) const MAX_RAW: u64 = 36_028_797_018_963_967;
@@ -27,48 +27,60 @@ fn carry_of(n: u64, remainder: u64, divisor: u64) -> u64
     }
 }
 
-/// The quotient and the remainder of `p` by `b`: a checked guess by floating-point numbers, with
-/// the slower division as fallback.
+/// Whether a number is less than half of another.
 #[inline]
-#[tactic(auto, using(crate::proofs::Quotients::quotient_by_product, crate::proofs::Quotients::remainder_by_product))]
-fn divided(p: u64, b: u64) -> (u64, u64)
-    requires { b ≢ 0 }
-    ensures quotient { result.0 ≡ p / b }
-    ensures remainder { result.1 ≡ p % b }
-    ensures bound { result.1 < b }
+fn is_below_half(n: u64, whole: u64) -> bool
+    ensures { IsTrue result ↔ (2 * n < whole) }
 {
-    let guess = whole_part(float_near(p as u128) / float_near(b as u128));
-    match guess.checked_mul(b) {
-        Some(product) if product <= p && p - product < b => (guess, p - product),
-        _ => (p / b, p % b),
+    n < whole && n < whole - n
+}
+
+/// Whether `n` is nearer to `p / b` than any other whole number.
+#[inline]
+#[tactic(auto, using(crate::proofs::Quotients::nearest_at, crate::proofs::Quotients::nearest_above))]
+fn is_nearest(n: u64, p: u64, b: u64) -> bool
+    ensures { IsTrue result → n ≡ nearest p b }
+{
+    match n.checked_mul(b) {
+        Some(product) if product <= p => is_below_half(p - product, b),
+        Some(product) => is_below_half(product - p, b),
+        None => false,
     }
 }
 
-/// The whole number nearest to `a * 2^24 / b`, saturated at `MAX_RAW`.
+/// The whole number nearest to `a * 2^24 / b`, saturated at `MAX_RAW`: a checked guess, where
+/// `reciprocal` is about 2^24 / b.
 #[inline]
-#[tactic(auto, unfolding(crate::specs::Round::nearest))]
-fn nearest_quotient(a: u64, b: u64) -> u64
+fn nearest_quotient(a: u64, b: u64, reciprocal: f64) -> u64
     requires some { b ≢ 0 }
     requires few { a < 2 ^ 63 }
     ensures { result ≡ min (nearest (a * 16777216) b) MAX_RAW }
 {
     if a < (1 << 39) {
-        let (n, remainder) = divided(a * 16_777_216, b);
-        (n + carry_of(n, remainder, b)).min(MAX_RAW)
-    } else {
-        long_quotient(a, b)
+        let guess = quotient_guess(a, reciprocal);
+        if is_nearest(guess, a * 16_777_216, b) {
+            return guess.min(MAX_RAW);
+        }
     }
+    long_quotient(a, b)
 }
 
-/// `nearest_quotient` in 128 bits.
+/// `nearest_quotient` by division: in 64 bits where the dividend fits them, else in 128 bits.
 #[cold]
 #[inline(never)]
+#[tactic(auto, unfolding(crate::specs::Round::nearest))]
 fn long_quotient(a: u64, b: u64) -> u64
     requires some { b ≢ 0 }
     requires few { a < 2 ^ 63 }
     ensures { result ≡ min (nearest (a * 16777216) b) MAX_RAW }
 {
-    nearest_wide(a as u128 * 16_777_216, b)
+    if a < (1 << 39) {
+        let p = a * 16_777_216;
+        let n = p / b;
+        (n + carry_of(n, p % b, b)).min(MAX_RAW)
+    } else {
+        nearest_wide(a as u128 * 16_777_216, b)
+    }
 }
 
 /// The whole number nearest to `p / q`, saturated at `MAX_RAW`. Inlined, so that a division by a
@@ -171,9 +183,10 @@ fn wide_product(a: i64, b: i64) -> i64
 }
 
 /// The quotient of two raw numbers, rounded to the nearest even and saturated. By 0 it is the
-/// greatest number with the sign of `a`.
+/// greatest number with the sign of `a`. The result does not depend on `reciprocal`, which is about
+/// 2^24 / |b|.
 #[inline]
-pub fn rounded_quotient(a: i64, b: i64) -> i64
+pub fn rounded_quotient(a: i64, b: i64, reciprocal: f64) -> i64
     requires left { IsRaw a }
     requires right { IsRaw b }
     ensures value { result ≡ quotient a b }
@@ -183,7 +196,7 @@ pub fn rounded_quotient(a: i64, b: i64) -> i64
         return a.signum() * MAX_RAW as i64;
     }
     with_sign(
-        nearest_quotient(a.unsigned_abs(), b.unsigned_abs()),
+        nearest_quotient(a.unsigned_abs(), b.unsigned_abs(), reciprocal),
         (a < 0) != (b < 0),
     )
 }

@@ -1,17 +1,45 @@
-//! Integer square roots: a checked guess by floating-point numbers, with std's slower root as
-//! fallback.
+//! Integer square roots: a checked guess, with std's slower root as fallback.
 
 ghost use Rattle.std.specs.Prelude.{◌≡◌, ◌<◌, ◌*◌, ◌^◌, ◌↔◌, IsTrue};
 ghost use Rattle.pf_num.specs.Root.{IsRoot, whole_root};
 
-use crate::guess::{float_near, whole_part};
+use crate::guess::root_guess;
 
 /// The greatest number whose square is at most `n`.
-#[tactic(auto, using(crate::proofs::Roots::root_is))]
+#[inline]
 pub fn whole_root(n: u128) -> u64
     ensures { result ≡ whole_root n }
 {
-    let guess = guess(n);
+    if n < 1 << 63 {
+        short_root(n as u64)
+    } else {
+        long_root(n)
+    }
+}
+
+/// `whole_root` of a number below 2^63: a checked guess.
+#[inline]
+#[tactic(auto, using(crate::proofs::Roots::root_is))]
+fn short_root(n: u64) -> u64
+    requires { n < 2 ^ 63 }
+    ensures { result ≡ whole_root n }
+{
+    let guess = root_guess(n);
+    let square = guess * guess;
+    if square <= n && n - square <= 2 * guess {
+        guess
+    } else {
+        long_root(n as u128)
+    }
+}
+
+/// `whole_root` of any number: a checked guess, and std's slower root where that is wrong.
+#[inline(never)]
+#[tactic(auto, using(crate::proofs::Roots::root_is))]
+fn long_root(n: u128) -> u64
+    ensures { result ≡ whole_root n }
+{
+    let guess = wide_guess(n);
     if is_root(guess, n) {
         return guess;
     }
@@ -43,17 +71,13 @@ fn is_root(root: u64, n: u128) -> bool
     square <= n && n - square <= 2 * root
 }
 
-/// Below this, a floating-point root is off by at most 1.
-const NARROW: u128 = 1 << 100;
-
-/// A guess at the root: by a floating-point number, and for a great number by one step of Newton's
-/// method more. No proof depends on it: the guess is checked.
+/// A guess at the root: that of the first 62 or 63 bits, and a step of Newton's method, the mean of
+/// a guess and of the quotient by it.
 #[inline]
-fn guess(n: u128) -> u64 {
-    let first = whole_part(float_near(n).sqrt());
-    if n < NARROW {
-        return first;
-    }
-    let quotient = (n / first.max(1) as u128) & 0xffff_ffff_ffff_ffff;
-    first.wrapping_add(quotient as u64) / 2
+fn wide_guess(n: u128) -> u64 {
+    let half = (66 - n.leading_zeros().min(66)) / 2;
+    let first = (n >> (2 * half)) & 0x7fff_ffff_ffff_ffff;
+    let root = (root_guess(first as u64) << half.min(63)).max(1);
+    let quotient = (n / root as u128) & 0xffff_ffff_ffff_ffff;
+    root.wrapping_add(quotient as u64) / 2
 }
