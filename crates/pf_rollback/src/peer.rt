@@ -1,8 +1,11 @@
 //! One player's peer: the scene that it plays, the commands that it holds, the tick that it has
 //! reached, and the worlds that it keeps.
 
-ghost use Rattle.std.specs.Prelude.{◌≡◌, Some, None, if◌then◌else◌};
+ghost use Rattle.std.specs.Prelude.{◌≡◌, [], Some, None, IfOk, IsOk, OnErr, OnOk, if◌then◌else◌, length};
+ghost use Rattle.pf_cache.specs.Manifolds.{no_manifolds};
+ghost use Rattle.pf_cache.specs.Meter.{work_after_tick};
 ghost use Rattle.pf_commands.specs.News.{is_change};
+ghost use Rattle.pf_step.specs.Step.{narrow_phase_of_tick, step};
 
 use crate::fault::{Fault, Refusal};
 use crate::snapshots::Snapshots;
@@ -15,7 +18,6 @@ use pf_shapes::{PLAYERS, Scene};
 use pf_step::{Crew, StepError, World, step_alone};
 use std::alloc::{AllocError, Global};
 use std::marker::Model;
-use std::mem;
 
 /// The most settled worlds that a peer keeps beside its keyframes.
 pub const MAX_RING: usize = 64;
@@ -64,6 +66,28 @@ fn tick_of_news(put: Put, tick: u32) -> Option<u32>
     ensures { result ≡ (if is_change put then Some tick else None) }
 {
     if put.is_change() { Some(tick) } else { None }
+}
+
+/// The world one tick later, as [`step_alone`] makes it. The world before lends its memory to the
+/// next one that is made with `work`.
+fn step_on(
+    alloc: Global,
+    scene: &Scene,
+    world: World,
+    payloads: &[Payload],
+    work: &mut Work,
+) -> Result<World, AllocError>
+    requires { length world.bodies ≡ length scene.now.fixtures }
+    ensures value { IfOk result (λ next. next ≡ step scene.now world payloads.now) }
+    ensures bodies { IfOk result (λ next. length next.bodies ≡ length scene.now.fixtures) }
+    ensures counted { OnOk result (work.new ≡ work_after_tick
+        (narrow_phase_of_tick scene.now world payloads.now work.old.manifolds) work.old) }
+    ensures not_counted { OnErr result (work.new ≡ record work.old { manifolds = no_manifolds }) }
+    ensures no_memory { world.bodies ≡ [] → IsOk result }
+{
+    let next = step_alone(alloc, scene, &world, payloads, work)?;
+    world.lend(work);
+    Ok(next)
 }
 
 impl PeerCore {
@@ -354,9 +378,7 @@ impl PeerCore {
         let payloads = self.commands.at_tick(alloc, tick)?;
         let latest = self.snapshots.latest();
         let world = steps.step(alloc, &self.scene, latest, &payloads, &mut self.work)?;
-        if let Some(fallen) = self.snapshots.keep(world) {
-            fallen.lend(&mut self.work);
-        }
+        self.snapshots.keep(world, &mut self.work);
         Ok(())
     }
 
@@ -399,8 +421,7 @@ impl PeerCore {
         let mut world = kept.try_clone()?;
         for at in from..tick {
             let payloads = self.commands.at_tick(alloc, at)?;
-            let next = step_alone(alloc, &self.scene, &world, &payloads, work)?;
-            mem::replace(&mut world, next).lend(work);
+            world = step_on(alloc, &self.scene, world, &payloads, work)?;
         }
         Ok(world)
     }

@@ -4,6 +4,7 @@ ghost use Rattle.std.specs.Prelude.{◌≡◌, ◌<◌, ◌%◌, ◌==◌, [], �
 ghost use Rattle.circular_buffer.specs.Buffer.{buffer, keep_last};
 
 use circular_buffer::HeapCircularBuffer;
+use pf_cache::Work;
 use pf_step::World;
 use std::alloc::{AllocError, Global};
 use std::marker::Model;
@@ -70,6 +71,15 @@ fn keep_at(
     }
 }
 
+/// Lends the memory of a world, if there is one, to the next one that is made with `work`.
+fn lend(world: Option<World>, work: &mut Work)
+    ensures { work.new ≡ work.old }
+{
+    if let Some(world) = world {
+        world.lend(work);
+    }
+}
+
 impl Snapshots {
     ghost use Rattle.std.specs.Prelude.{◌≡◌, ◌≤◌, ◌<◌, ◌+◌, ◌-◌, ◌%◌, ◌⊎◌, ℕ, length, IfOk, IfSome, IfNone, OnOk};
     ghost use Rattle.pf_commands.specs.declared.name.TheConstants.{MAX_TICK};
@@ -111,8 +121,9 @@ impl Snapshots {
     }
 
     /// Keeps the world of the tick after the settled one, and of the ring's worlds the last ones.
-    /// Returns the world that falls out of the ring, if one does. Takes no memory.
-    pub(crate) fn keep(&mut self, world: World) -> Option<World>
+    /// The world that falls out of the ring lends its memory to the next one that is made with
+    /// `work`. Takes no memory.
+    pub(crate) fn keep(&mut self, world: World, work: &mut Work)
         requires room { 0 < self.old.room }
         requires limit { settled_tick (ticks_of self.old) < MAX_TICK }
         ensures ticks { ticks_of self.new
@@ -121,11 +132,12 @@ impl Snapshots {
             ≡ settled_tick (ticks_of self.old) + 1 }
         ensures worlds { (tick : ℕ) (w : World) → IsKept self.new tick w → IsKept self.old tick w
             ⊎ ((tick ≡ settled_tick (ticks_of self.old) + 1) × (w ≡ world)) }
+        ensures work { work.new ≡ work.old }
     {
         let settled = self.settled + 1;
         let fallen = keep_at(&mut self.keyframes, &mut self.recent, settled, world);
         self.settled = settled;
-        fallen
+        lend(fallen, work);
     }
 
     /// After news of this least tick, if there are any: drops each world after it. Takes no memory.

@@ -68,4 +68,4 @@ returns-clause-ok g c =
     (c.keep.ensures.ticks
     ∙ ap (λ k. ticks_after_settling k (settled_tick k + 1))
     (ticks_reserved c.self.inside.snapshots c.reserve.new.self c.reserve.ensures.kept))
-    (ap (λ (w : Work). w.meter.ticks) c.in_ok-world.ensures.counted))
+    (ap (λ (w : Work). w.meter.ticks) (c.keep.ensures.work ∙ c.in_ok-world.ensures.counted)))

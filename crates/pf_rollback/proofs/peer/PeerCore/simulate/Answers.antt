@@ -34,8 +34,8 @@ loop-at-init c = record {
       sym (ap (count_after c.args.work.now.meter.ticks) none ∙ count_none _);
 }
 
-pub step_alone-requires : goal.step_alone-requires
-step_alone-requires c =
+pub step_on-requires : goal.step_on-requires
+step_on-requires c =
     ap (λ (w : World). length w.bodies) c.loop-at.invariant.world ∙ sim_bodies _ _ _ c.self.invariant.paired
 
 pub returns-in_err-world-2-clause-no_memory : goal.returns-in_err-world-2-clause-no_memory

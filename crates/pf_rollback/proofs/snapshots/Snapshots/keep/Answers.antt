@@ -3,14 +3,14 @@ use Rattle.pf_rollback.specs.contracts.snapshots.Snapshots.{the_view}
 use Rattle.pf_rollback.proofs.KeptWorlds.{IsKeeping, settled_is, keeping_is, keeping_ticks, keeping_settled, keeping_kept}
 use Rattle.pf_rollback.proofs.snapshots.Snapshots.keep.Goals as goal
 
-keeping : (c : goal.After-self-1)
+keeping : (c : goal.After-lend)
     → IsKeeping (the_view c.self.inside)
-    (the_view (record { keyframes = c.keep_at.new.keyframes; recent = c.keep_at.new.recent; settled = c.self.inside.settled + 1 })) c.args.world
+    (the_view (record { keyframes = c.keep_at-fallen.new.keyframes; recent = c.keep_at-fallen.new.recent; settled = c.self.inside.settled + 1 })) c.args.world
 keeping c = record {
-  keyframes = c.keep_at.ensures.keyframes;
-  recent = ap (λ b. b.items) c.keep_at.ensures.recent;
+  keyframes = c.keep_at-fallen.ensures.keyframes;
+  recent = ap (λ b. b.items) c.keep_at-fallen.ensures.recent;
   settled = refl;
-  ring = ap (λ b. b.capacity) c.keep_at.ensures.recent;
+  ring = ap (λ b. b.capacity) c.keep_at-fallen.ensures.recent;
 }
 
 pub invariant_of-self : goal.invariant_of-self
