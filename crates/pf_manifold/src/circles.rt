@@ -4,7 +4,7 @@ ghost use Rattle.std.specs.Prelude.{◌≡◌};
 ghost use Rattle.pf_manifold.specs.Circles.{normalize, circle_normal, rim_point, circle_contact, collide_circles};
 
 use crate::contact_point::ContactPoint;
-use pf_num::Fx;
+use pf_num::{Divisor, Fx};
 use pf_rot::V2;
 
 /// A vector divided by its length, by part.
@@ -13,9 +13,10 @@ use pf_rot::V2;
 pub fn normalize(v: V2, length: Fx) -> V2
     ensures { result ≡ normalize v length }
 {
+    let divisor = Divisor::new(length);
     V2 {
-        x: v.x.div(length),
-        y: v.y.div(length),
+        x: divisor.divide(v.x),
+        y: divisor.divide(v.y),
     }
 }
 

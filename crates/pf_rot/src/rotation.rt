@@ -4,7 +4,7 @@ ghost use Rattle.std.specs.Prelude.{◌≡◌};
 ghost use Rattle.pf_rot.specs.Rotation.{Rot, unit, turn, rotate, unrotate};
 
 use crate::vector::V2;
-use pf_num::Fx;
+use pf_num::{Divisor, Fx};
 use std::marker::Model;
 
 /// A rotation: the cosine `c` and the sine `s` of its angle, in units of 2^-24. `unit` and `turn`
@@ -40,9 +40,10 @@ impl Rot {
         if length == Fx::ZERO {
             return Rot::UPRIGHT;
         }
+        let divisor = Divisor::new(length);
         Rot {
-            c: c.div(length),
-            s: s.div(length),
+            c: divisor.divide(c),
+            s: divisor.divide(s),
         }
     }
 

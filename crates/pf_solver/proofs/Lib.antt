@@ -1,5 +1,6 @@
 -- The lemmas of this crate.
 pub mod Passes
+pub mod Free
 pub mod Prepared
 pub mod Limits
 pub mod Solved

@@ -26,17 +26,12 @@ unfolding passes
 passes_more n step b = let more : n + 1 ≡ suc n = omega arith in ap (λ m. passes m step b) more
 
 -- without rows nothing changes
-passes_nothing : (n : ℕ) (step : Step) (bodies : List BodyState)
+pub passes_nothing : (n : ℕ) (step : Step) (bodies : List BodyState)
     → passes n step (record { bodies = bodies; rows = [] }) ≡ record { bodies = bodies; rows = [] }
 unfolding passes pass
 passes_nothing zero step bodies = refl
 passes_nothing (suc n) step bodies =
     ap (λ (b : Batch). pass step b.bodies b.rows) (passes_nothing n step bodies)
-
-pub passes_no_rows : (n : ℕ) (step : Step) (bodies : List BodyState) (rows : List Row) → length rows ≡ 0
-    → record { bodies = bodies; rows = rows } ≡ passes n step (record { bodies = bodies; rows = rows })
-passes_no_rows n step bodies [] empty = sym (passes_nothing n step bodies)
-passes_no_rows n step bodies (r ∷ rows) empty = absurd (omega (arith, empty))
 
 module _ (step : Step) where
   -- the bodies stay as many

@@ -118,12 +118,31 @@ fn move_on(bodies: &mut [BodyState])
     }
 }
 
-/// The phases Gravity to Timers: Gravity, Positions and Timers of the awake bodies, and Velocities
-/// of all bodies that rows name, in the order of the rows. All of a row but its entry is computed
-/// anew. Takes no memory.
+/// The phases Gravity to Timers of a body that no contact touches, where it is awake.
+#[inline]
+fn go_on_freely(pull: V2, body: &mut BodyState)
+    ensures { body.new ≡ (if body.old.awake
+        then after_timer (after_motion (after_gravity pull body.old)) else body.old) }
+{
+    if body.awake {
+        *body = after_timer(after_motion(after_gravity(pull, *body)));
+    }
+}
+
+/// The phases Gravity to Timers of bodies that no contact touches, one body after the other.
+fn solve_free(pull: V2, bodies: &mut [BodyState])
+    ensures { bodies.new
+        ≡ each_awake (λ b. after_timer (after_motion (after_gravity pull b))) bodies.old }
+{
+    for body in bodies.iter_mut() {
+        go_on_freely(pull, body);
+    }
+}
+
+/// The phases Gravity to Timers of bodies that contacts touch, one phase after the other.
 #[inline(never)]
 #[tactic(auto, unfolding(crate::specs::Solve::solved))]
-pub(crate) fn solve_list(scene: &Scene, bodies: &mut [BodyState], rows: &mut [Row])
+fn solve_touching(scene: &Scene, bodies: &mut [BodyState], rows: &mut [Row])
     requires { All (IsRowOf scene.now (length bodies.old)) rows.old }
     ensures { record { bodies = bodies.new; rows = rows.new }
         ≡ solved scene.now bodies.old rows.old }
@@ -133,4 +152,19 @@ pub(crate) fn solve_list(scene: &Scene, bodies: &mut [BodyState], rows: &mut [Ro
     warm_start(bodies, rows);
     rounds(bodies, rows);
     move_on(bodies);
+}
+
+/// The phases Gravity to Timers: Gravity, Positions and Timers of the awake bodies, and Velocities
+/// of all bodies that rows name, in the order of the rows. All of a row but its entry is computed
+/// anew. Takes no memory.
+pub(crate) fn solve_list(scene: &Scene, bodies: &mut [BodyState], rows: &mut [Row])
+    requires { All (IsRowOf scene.now (length bodies.old)) rows.old }
+    ensures { record { bodies = bodies.new; rows = rows.new }
+        ≡ solved scene.now bodies.old rows.old }
+{
+    if rows.is_empty() {
+        solve_free(scene.gravity().scale(Fx::TICK), bodies);
+    } else {
+        solve_touching(scene, bodies, rows);
+    }
 }

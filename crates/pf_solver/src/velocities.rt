@@ -186,15 +186,12 @@ pub(crate) fn warm_start(bodies: &mut [BodyState], rows: &mut [Row])
     pass::<WarmStart>(bodies, rows);
 }
 
-/// All rounds. Without rows there is nothing to do.
+/// All rounds.
 pub(crate) fn rounds(bodies: &mut [BodyState], rows: &mut [Row])
     requires { All (λ r. IsEntryOf (length bodies.old) r.entry) rows.old }
     ensures { record { bodies = bodies.new; rows = rows.new }
         ≡ passes ROUNDS after_round (record { bodies = bodies.old; rows = rows.old }) }
 {
-    if rows.is_empty() {
-        return;
-    }
     for _ in 0..ROUNDS {
         pass::<Round>(bodies, rows);
     }

@@ -1,11 +1,8 @@
-use Rattle.std.proofs.Common.{rules, ◌∙◌, ap, sym}
+use Rattle.std.proofs.Common.{◌∙◌, ap, sym}
 use Rattle.pf_solver.specs.Impulse.{after_round}
 use Rattle.pf_solver.specs.Velocities.{Batch, pass}
-use Rattle.pf_solver.proofs.Passes.{passes_more, passes_no_rows, passes_none}
+use Rattle.pf_solver.proofs.Passes.{passes_more, passes_none}
 use Rattle.pf_solver.proofs.velocities.rounds.Goals as goal
-
-pub returns-then-is_empty : goal.returns-then-is_empty
-returns-then-is_empty c = passes_no_rows _ after_round c.args.bodies.now c.args.rows.now (search rules)
 
 pub loop-init : goal.loop-init
 loop-init c = record { value = passes_none after_round _; fit = c.requires }
