@@ -15,7 +15,7 @@ use std::alloc::{AllocError, Global};
 use std::thread::Threads;
 
 /// Lists with fewer pairs are computed by one thread: to start threads costs more than they save.
-pub const PAIRS_FOR_THREADS: usize = 2048;
+pub const PAIRS_FOR_THREADS: usize = 16_384;
 
 /// How many pairs a thread takes at once.
 const CHUNK: usize = 64;
