@@ -49,6 +49,19 @@ module _ (spans lent : List Span) (pairs : List Pair) (i place : ℕ) (d p : Pai
       reads_behind pair_rank (of_pair spans) pairs i place last d within
       (λ q high. past (pair_rank q) (subst (λ x. pair_rank x < pair_rank q) (sym p_is) high)) same rising
 
+-- whether there is a span of the pair, and both bodies are unmoved
+pub reused_test : (unmoved : List Bool) (spans : List Span) (p : Pair) (looked : Option Span)
+    → All (λ s. IsPairOf MAX_BODIES s.pair) spans → IsPairOf MAX_BODIES p → looked ≡ span_at (pair_rank p) spans
+    → is_some (span_if (are_unmoved unmoved p) looked) ≡ (has_pair (pairs_of spans) p && are_unmoved unmoved p)
+reused_test unmoved spans p looked bodies hp e =
+    by (are_unmoved unmoved p) looked ∙ ap (λ t. t && are_unmoved unmoved p) (ap is_some e ∙ has_span p spans hp bodies)
+  where
+    by : (b : Bool) (o : Option Span) → is_some (span_if b o) ≡ (is_some o && b)
+    by true None = refl
+    by true (Some s) = refl
+    by false None = refl
+    by false (Some s) = refl
+
 -- what is looked up, where both bodies of the pair are unmoved, holds its points
 module _ (shapes : List PlacedShape) (unmoved : List Bool) (kept : List Touch) (spans : List Span) (p : Pair)
     (looked : Option Span) (all : All (IsKeptSpan shapes unmoved kept) spans) (hp : IsPairOf MAX_BODIES p)
@@ -74,17 +87,8 @@ module _ (shapes : List PlacedShape) (unmoved : List Bool) (kept : List Touch) (
   -- so its points are there
   pub kept_test : is_some (span_if (are_unmoved unmoved p) looked) ≡ (has_pair (pairs_of spans) p && are_unmoved unmoved p)
   kept_test =
-      by (are_unmoved unmoved p) looked ∙ ap (λ t. t && are_unmoved unmoved p) (ap is_some e ∙ has_span p spans hp bodies)
-    where
-      bodies : All (λ s. IsPairOf MAX_BODIES s.pair) spans
-      bodies =
-          All-weaker (IsKeptSpan shapes unmoved kept) (λ s. IsPairOf MAX_BODIES s.pair) (λ s h. h.bodies) spans all
-
-      by : (b : Bool) (o : Option Span) → is_some (span_if b o) ≡ (is_some o && b)
-      by true None = refl
-      by true (Some s) = refl
-      by false None = refl
-      by false (Some s) = refl
+      reused_test unmoved spans p looked
+      (All-weaker (IsKeptSpan shapes unmoved kept) (λ s. IsPairOf MAX_BODIES s.pair) (λ s h. h.bodies) spans all) hp e
 
 -- a test, and the opposite one
 pub opposite : (a b : Bool) → a ≡ not b → b ≡ not a
@@ -154,6 +158,11 @@ pub pair_of_bodies : (n : ℕ) (pairs : List Pair) (i : ℕ) (p : Pair) → n �
 pair_of_bodies n pairs i p few are within p_is =
     let here = subst (IsPairOf n) (sym p_is) (are i p within) in
     (here.0, omega (arith, here.1, few))
+
+-- what holds of all pairs holds of the pair p at i
+pub pair_at : (pairs : List Pair) (i : ℕ) (p : Pair) → All (IsPairOf MAX_BODIES) pairs → i < length pairs
+    → p ≡ get_or pairs i p → IsPairOf MAX_BODIES p
+pair_at pairs i p are within p_is = subst (IsPairOf MAX_BODIES) (sym p_is) (are i p within)
 
 -- pairs of a scene's bodies
 pub pairs_of_scene : (n : ℕ) (pairs : List Pair) → n ≤ MAX_BODIES → All (IsPairOf n) pairs → All (IsPairOf MAX_BODIES) pairs

@@ -9,3 +9,4 @@ pub mod Manifolds
 pub mod Spans
 pub mod Gathered
 pub mod Laws
+pub mod Ahead

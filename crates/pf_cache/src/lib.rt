@@ -3,6 +3,7 @@
 //! the work done.
 #![tactic(auto)]
 
+mod ahead;
 mod constraint;
 mod contact;
 mod contacts;

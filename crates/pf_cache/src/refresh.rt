@@ -6,9 +6,10 @@ ghost use Rattle.pf_shapes.specs.declared.scene.TheConstants.{MAX_BODIES};
 ghost use Rattle.pf_cache.specs.Manifolds.{points_of_pair};
 ghost use Rattle.pf_cache.specs.Spans.{ArePlaced, AreRefreshed, IsKeptSpan, computed_count_by_flags};
 
-use crate::kept_shape::{KeptShape, are_unmoved};
+use crate::ahead::BodyShapes;
+use crate::kept_shape::are_unmoved;
 use crate::spans::Span;
-use pf_manifold::{Touch, collide, replace_points};
+use pf_manifold::{Touch, replace_points};
 use pf_shapes::Pair;
 
 /// How far contact points could be updated in place.
@@ -23,9 +24,9 @@ pub struct Progress {
 }
 
 /// Computes the contact points of a span's pair, and writes them over the old ones if they are as
-/// many. Whether they are.
+/// many. Whether they are. The pair is the one at this place of those that are computed.
 #[inline(never)]
-fn refresh_span(touches: &mut [Touch], span: &Span, shapes: &[KeptShape]) -> bool
+fn refresh_span(touches: &mut [Touch], span: &Span, shapes: &BodyShapes, place: usize) -> bool
     requires few { length shapes.now ≤ MAX_BODIES }
     requires pair { IsPairOf (length shapes.now) span.now.pair }
     requires within { span.now.start + span.now.len ≤ length touches.old }
@@ -36,9 +37,7 @@ fn refresh_span(touches: &mut [Touch], span: &Span, shapes: &[KeptShape]) -> boo
         ++ drop (span.now.start + span.now.len) touches.old) }
     ensures others { result ≡ false → touches.new ≡ touches.old }
 {
-    let a = &shapes[span.pair.a];
-    let b = &shapes[span.pair.b];
-    let manifold = collide(&a.placed(), &b.placed());
+    let manifold = shapes.manifold(&span.pair, place);
     if manifold.count() != span.len {
         return false;
     }
@@ -56,7 +55,7 @@ pub fn refresh(
     spans: &[Span],
     pairs: &[Pair],
     unmoved: &[bool],
-    shapes: &[KeptShape],
+    shapes: &BodyShapes,
 ) -> Progress
     requires few { length shapes.now ≤ MAX_BODIES }
     requires pairs { All (IsPairOf (length shapes.now)) pairs.now }
@@ -78,7 +77,7 @@ pub fn refresh(
             break;
         }
         if !are_unmoved(unmoved, pair) {
-            if !refresh_span(touches, span, shapes) {
+            if !refresh_span(touches, span, shapes, computed) {
                 break;
             }
             computed += 1;

@@ -19,3 +19,4 @@ pub mod Rising
 pub mod KeyOrder
 pub mod Ranks
 pub mod Replaced
+pub mod Chunks

@@ -122,6 +122,29 @@ pub fn replace_points(touches: &mut [Touch], start: usize, pair: &Pair, points: 
     }
 }
 
+/// The contact points of these pairs, pair by pair. Where no pair touches it takes no memory.
+pub fn collide_pairs(
+    alloc: Global,
+    fixtures: &[Fixture],
+    bodies: &[BodyState],
+    pairs: &[Pair],
+) -> Result<Vec<Touch>, AllocError>
+    requires few { length fixtures.now ≤ MAX_BODIES }
+    requires bodies { length bodies.now ≡ length fixtures.now }
+    requires pairs { All (IsPairOf (length bodies.now)) pairs.now }
+    ensures found { IfOk result
+        (λ found. found.items ≡ touches fixtures.now bodies.now pairs.now) }
+    ensures no_memory { touches fixtures.now bodies.now pairs.now ≡ [] → IsOk result }
+{
+    let mut touches = Vec::new(alloc);
+    for pair in pairs {
+        let a = placed_shape(fixtures, bodies, pair.a);
+        let b = placed_shape(fixtures, bodies, pair.b);
+        push_points(&mut touches, pair, &collide(&a, &b))?;
+    }
+    Ok(touches)
+}
+
 /// The contact points of these pairs of bodies, in the order of the pairs, and those of one pair in
 /// ascending order of their features. So those of ascending pairs are in the order of their keys.
 /// Where no pair touches it takes no memory, and can't fail.
@@ -139,12 +162,5 @@ pub fn collide_list(
     ensures bodies { IfOk result (λ found. All (IsTouchOf (length bodies.now)) found.items) }
     ensures no_memory { touches scene.now.fixtures bodies.now pairs.now ≡ [] → IsOk result }
 {
-    let fixtures = scene.fixtures();
-    let mut touches = Vec::new(alloc);
-    for pair in pairs {
-        let a = placed_shape(fixtures, bodies, pair.a);
-        let b = placed_shape(fixtures, bodies, pair.b);
-        push_points(&mut touches, pair, &collide(&a, &b))?;
-    }
-    Ok(touches)
+    collide_pairs(alloc, scene.fixtures(), bodies, pairs)
 }

@@ -18,6 +18,7 @@ use pf_shapes::{PLAYERS, Scene};
 use pf_step::{Crew, StepError, World, step_alone};
 use std::alloc::{AllocError, Global};
 use std::marker::Model;
+use std::thread::Threads;
 
 /// The most settled worlds that a peer keeps beside its keyframes.
 pub const MAX_RING: usize = 64;
@@ -329,7 +330,12 @@ impl PeerCore {
 
     /// Settles each tick up to the reached one, with the islands solved by a crew, and returns that
     /// tick: see [`PeerCore::settle`].
-    pub fn settle_with<C: Crew>(&mut self, alloc: Global, crew: &mut C) -> Result<u32, StepError>
+    pub fn settle_with<R: Threads + Sync, C: Crew>(
+        &mut self,
+        rt: &R,
+        alloc: Global,
+        crew: &mut C,
+    ) -> Result<u32, StepError>
         ensures answer { IfOk result (λ tick. tick ≡ self.old.peer.reached) }
         ensures settled { OnOk result (settled_tick self.new.kept ≡ self.old.peer.reached) }
         ensures ok { let missing = self.old.peer.reached - settled_tick self.old.kept in
@@ -337,7 +343,7 @@ impl PeerCore {
         ensures err { let missing = self.old.peer.reached - settled_tick self.old.kept in
             OnErr result ((more : ℕ) × (more < missing) × HasSettled more self.old self.new) }
     {
-        self.settle(alloc, &mut WithCrew { crew })
+        self.settle(alloc, &mut WithCrew { rt, crew })
     }
 
     /// Settles each tick up to the reached one: simulates it once, from the settled tick on, and

@@ -5,6 +5,7 @@ use pf_commands::Payload;
 use pf_shapes::Scene;
 use pf_step::{Crew, StepError, World, step_alone, step_with};
 use std::alloc::{AllocError, Global};
+use std::thread::Threads;
 
 /// Makes the steps of a simulation, as [`step_alone`] does.
 pub trait Steps {
@@ -56,12 +57,14 @@ impl Steps for Alone {
 
 /// Makes the steps with a crew that solves the islands.
 #[derive(Drop)]
-pub(crate) struct WithCrew<'a, C: Crew> {
+pub(crate) struct WithCrew<'a, R: Threads + Sync, C: Crew> {
+    /// Starts the threads that compute contact points, where there are many pairs.
+    pub(crate) rt: &'a R,
     /// The crew, which is called once in each step.
     pub(crate) crew: &'a mut C,
 }
 
-impl<C: Crew> Steps for WithCrew<'_, C> {
+impl<R: Threads + Sync, C: Crew> Steps for WithCrew<'_, R, C> {
     type Error = StepError;
 
     fn step(
@@ -72,6 +75,6 @@ impl<C: Crew> Steps for WithCrew<'_, C> {
         payloads: &[Payload],
         work: &mut Work,
     ) -> Result<World, StepError> {
-        step_with(alloc, scene, world, payloads, work, self.crew)
+        step_with(self.rt, alloc, scene, world, payloads, work, self.crew)
     }
 }

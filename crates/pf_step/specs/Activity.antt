@@ -1,6 +1,7 @@
 -- A tick after its phase Activity, before anything is solved: its groups, its contacts, and its
 -- islands, as Box2D 2.x's b2World::Solve finds them.
 use Rattle.std.specs.Prelude.{ℕ, List}
+use Rattle.pf_shapes.specs.Body.{BodyState}
 use Rattle.pf_shapes.specs.Scene.{Scene}
 use Rattle.pf_commands.specs.declared.payload.Payload.{Payload}
 use Rattle.pf_cache.specs.Contact.{Contact, updated}
@@ -13,26 +14,42 @@ use Rattle.pf_step.specs.Commands.{after_commands}
 use Rattle.pf_step.specs.Step.{touching}
 use Rattle.pf_step.specs.World.{World}
 
--- the names of the groups in a tick
-abbrev pub names_of_tick : Scene → World → List Payload → List ℕ
-names_of_tick s w payloads =
-    groups s (touching s (after_commands s.fixtures w.bodies payloads))
+-- the names of the groups of bodies as they stand
+abbrev pub names_of_bodies : Scene → List BodyState → List ℕ
+names_of_bodies s bodies = groups s (touching s bodies)
 
--- the contacts of a tick, with what they accumulated before it
+-- their contacts, with what those of the last tick accumulated
+abbrev pub contacts_of_bodies : Scene → List Contact → List BodyState → List Contact
+contacts_of_bodies s contacts bodies = updated contacts (touching s bodies)
+
+-- the bodies and contacts that are solved, in one list each
+abbrev pub batch_of_bodies : Scene → List Contact → List BodyState → Batch
+batch_of_bodies s contacts bodies =
+    let points = touching s bodies in
+    let awake = woken (groups s points) bodies in
+    record { bodies = awake; rows = active_rows s awake points (updated contacts points) }
+
+-- and as islands
+abbrev pub islands_of_bodies : Scene → List Contact → List BodyState → List Island
+islands_of_bodies s contacts bodies =
+    let batch = batch_of_bodies s contacts bodies in
+    islands (names_of_bodies s bodies) batch.bodies batch.rows
+
+-- the same of the bodies of a tick, after its commands: the names of the groups
+abbrev pub names_of_tick : Scene → World → List Payload → List ℕ
+names_of_tick s w payloads = names_of_bodies s (after_commands s.fixtures w.bodies payloads)
+
+-- the contacts
 abbrev pub contacts_of_tick : Scene → World → List Payload → List Contact
 contacts_of_tick s w payloads =
-    updated w.contacts (touching s (after_commands s.fixtures w.bodies payloads))
+    contacts_of_bodies s w.contacts (after_commands s.fixtures w.bodies payloads)
 
--- the bodies and contacts that are solved in a tick, in one list each
+-- the bodies and contacts that are solved
 abbrev pub batch_of_tick : Scene → World → List Payload → Batch
 batch_of_tick s w payloads =
-    let commanded = after_commands s.fixtures w.bodies payloads in
-    let points = touching s commanded in
-    let awake = woken (groups s points) commanded in
-    record { bodies = awake; rows = active_rows s awake points (updated w.contacts points) }
+    batch_of_bodies s w.contacts (after_commands s.fixtures w.bodies payloads)
 
 -- and as islands
 abbrev pub islands_of_tick : Scene → World → List Payload → List Island
 islands_of_tick s w payloads =
-    let batch = batch_of_tick s w payloads in
-    islands (names_of_tick s w payloads) batch.bodies batch.rows
+    islands_of_bodies s w.contacts (after_commands s.fixtures w.bodies payloads)

@@ -1,4 +1,4 @@
-//! The tick on one screen: from a world to the world one tick later, on one thread.
+//! The tick on one screen: from a world to the world one tick later.
 
 ghost use Rattle.std.specs.Prelude.{◌≡◌, [], All, length, map, IfOk, IsOk, OnOk, OnErr};
 ghost use Rattle.pf_manifold.specs.Key.{AreTouches};
@@ -9,7 +9,7 @@ ghost use Rattle.pf_cache.specs.Row.{AreRowsAt};
 ghost use Rattle.pf_islands.specs.Join.{IsAtHome, joined_bodies, joined_contacts};
 ghost use Rattle.pf_islands.specs.Split.{IsIslandOf};
 ghost use Rattle.pf_solver.specs.Alone.{island_after_tick};
-ghost use Rattle.pf_step.specs.Activity.{batch_of_tick, contacts_of_tick, islands_of_tick};
+ghost use Rattle.pf_step.specs.Activity.{batch_of_bodies, contacts_of_bodies, islands_of_bodies};
 ghost use Rattle.pf_step.specs.Commands.{after_commands};
 ghost use Rattle.pf_step.specs.Step.{narrow_phase, narrow_phase_of_tick, step, touching};
 
@@ -22,6 +22,7 @@ use pf_islands::{Groups, Island, join_back, split};
 use pf_shapes::{BodyState, Scene};
 use pf_solver::Solve;
 use std::alloc::{AllocError, Global};
+use std::thread::Threads;
 
 /// The contact points of the bodies of a scene as they stand; kept ones are reused. What contracts
 /// see of the work stays as it is.
@@ -47,6 +48,49 @@ fn narrow_phase(
     kept.update(alloc, scene, bodies, &pairs)
 }
 
+/// The same, with the points that are not reused computed by several threads, where there are many
+/// pairs.
+#[tactic(auto, using(pf_cache::proofs::Unmoved::kept_points, pf_manifold::proofs::KeyOrder::touches_of_bodies))]
+fn narrow_phase_by_threads<R: Threads + Sync>(
+    rt: &R,
+    alloc: Global,
+    scene: &Scene,
+    bodies: &[BodyState],
+    kept: Manifolds,
+    work: &mut Work,
+) -> Result<NarrowPhase, AllocError>
+    requires { length bodies.now ≡ length scene.now.fixtures }
+    ensures value { IfOk result
+        (λ found. found ≡ narrow_phase scene.now.fixtures bodies.now kept) }
+    ensures touches { IfOk result
+        (λ found. kept_touches found.manifolds ≡ touching scene.now bodies.now) }
+    ensures bodies { IfOk result
+        (λ found. All (IsTouchOf (length bodies.now)) (kept_touches found.manifolds)) }
+    ensures work { work.new ≡ work.old }
+    ensures no_memory { bodies.now ≡ [] → IsOk result }
+{
+    let pairs = work.pairs(alloc, scene, bodies)?;
+    kept.update_by_threads(rt, alloc, scene, bodies, &pairs)
+}
+
+/// The phase Commands: the bodies after the commands of a tick, in the memory of `room`.
+#[tactic(auto, using(crate::proofs::Commanding::commands_length))]
+fn commanded(
+    room: Vec<BodyState>,
+    scene: &Scene,
+    world: &World,
+    payloads: &[Payload],
+) -> Result<Vec<BodyState>, AllocError>
+    ensures bodies { IfOk result (λ bodies. bodies.items
+        ≡ after_commands scene.now.fixtures world.now.bodies payloads.now) }
+    ensures count { IfOk result (λ bodies. length bodies.items ≡ length world.now.bodies) }
+    ensures no_memory { world.now.bodies ≡ [] → IsOk result }
+{
+    let mut bodies = copy_into(room, world.bodies())?;
+    apply_all(scene.fixtures(), &mut bodies, payloads);
+    Ok(bodies)
+}
+
 /// A tick before its islands are solved.
 #[derive(Drop)]
 struct Tick {
@@ -60,38 +104,34 @@ struct Tick {
     found: NarrowPhase,
 }
 
-/// The phases Commands, Points and Activity. The kept contact points are reused, and gone.
+/// The phases Points and Activity, after the narrow phase of these bodies. The next contacts are
+/// made in the memory of `room`.
 #[tactic(auto, using(crate::proofs::Joined::awake_long, crate::proofs::Lengths::updated_length))]
 fn prepare(
     alloc: Global,
     scene: &Scene,
-    world: &World,
-    payloads: &[Payload],
-    work: &mut Work,
+    contacts: &Contacts,
+    bodies: Vec<BodyState>,
+    room: Contacts,
+    found: NarrowPhase,
 ) -> Result<Tick, AllocError>
-    requires { length world.now.bodies ≡ length scene.now.fixtures }
+    requires bodies { length bodies.items ≡ length scene.now.fixtures }
+    requires points { kept_touches found.manifolds ≡ touching scene.now bodies.items }
+    requires touches { All (IsTouchOf (length bodies.items)) (kept_touches found.manifolds) }
     ensures bodies { IfOk result (λ tick.
-        tick.bodies.items ≡ (batch_of_tick scene.now world.now payloads.now).bodies) }
+        tick.bodies.items ≡ (batch_of_bodies scene.now contacts.now bodies.items).bodies) }
     ensures contacts { IfOk result
-        (λ tick. tick.contacts ≡ contacts_of_tick scene.now world.now payloads.now) }
+        (λ tick. tick.contacts ≡ contacts_of_bodies scene.now contacts.now bodies.items) }
     ensures islands { IfOk result
-        (λ tick. tick.islands.items ≡ islands_of_tick scene.now world.now payloads.now) }
+        (λ tick. tick.islands.items ≡ islands_of_bodies scene.now contacts.now bodies.items) }
     ensures fit { IfOk result (λ tick. All (IsIslandOf scene.now) tick.islands.items) }
-    ensures order { IfOk result (λ tick. AreTouches
-        (touching scene.now (after_commands scene.now.fixtures world.now.bodies payloads.now))) }
-    ensures found { IfOk result (λ tick. tick.found
-        ≡ narrow_phase_of_tick scene.now world.now payloads.now work.old.manifolds) }
-    ensures work { work.new ≡ record work.old { manifolds = no_manifolds } }
-    ensures no_memory { world.now.bodies ≡ [] → IsOk result }
+    ensures order { IfOk result (λ tick. AreTouches (touching scene.now bodies.items)) }
+    ensures found { IfOk result (λ tick. tick.found ≡ found) }
+    ensures no_memory { bodies.items ≡ [] → IsOk result }
 {
-    let kept = work.take_manifolds(alloc);
-    let mut bodies = copy_into(work.take_bodies(alloc), world.bodies())?;
-    apply_all(scene.fixtures(), &mut bodies, payloads);
-    let found = narrow_phase(alloc, scene, &bodies, kept, work)?;
+    let mut bodies = bodies;
     let touches = found.manifolds.touches();
-    let contacts = world
-        .contacts()
-        .update(work.take_contacts(alloc), touches)?;
+    let contacts = contacts.update(room, touches)?;
     let mut groups = Groups::new(alloc, scene, touches)?;
     groups.wake(&mut bodies);
     let islands = split(alloc, scene, &groups, &bodies, touches, contacts.as_slice())?;
@@ -147,17 +187,22 @@ pub fn step_alone(
     ensures not_counted { OnErr result (work.new ≡ record work.old { manifolds = no_manifolds }) }
     ensures no_memory { world.now.bodies ≡ [] → IsOk result }
 {
-    let tick = prepare(alloc, scene, world, payloads, work)?;
+    let kept = work.take_manifolds(alloc);
+    let bodies = commanded(work.take_bodies(alloc), scene, world, payloads)?;
+    let found = narrow_phase(alloc, scene, &bodies, kept, work)?;
+    let tick = prepare(alloc, scene, world.contacts(), bodies, work.take_contacts(alloc), found)?;
     let mut islands = tick.islands;
     solve_all(scene, &mut islands);
     work.end_tick(tick.found);
     Ok(world_of(tick.bodies, tick.contacts, &islands))
 }
 
-/// The same world, with the islands solved by a crew, which is called once in each step. An error
-/// of the crew leaves what one of memory does.
+/// The same world, with the islands solved by a crew, which is called once in each step; where there
+/// are many pairs, several threads compute the contact points. An error of the crew leaves what one
+/// of memory does.
 #[tactic(auto, using(crate::proofs::Lengths::step_length))]
-pub fn step_with<C: Crew>(
+pub fn step_with<R: Threads + Sync, C: Crew>(
+    rt: &R,
     alloc: Global,
     scene: &Scene,
     world: &World,
@@ -173,7 +218,10 @@ pub fn step_with<C: Crew>(
     ensures not_counted { OnErr result (work.new ≡ record work.old { manifolds = no_manifolds }) }
     ensures called { OnOk result (C.is_called crew.old crew.new) }
 {
-    let tick = prepare(alloc, scene, world, payloads, work)?;
+    let kept = work.take_manifolds(alloc);
+    let bodies = commanded(work.take_bodies(alloc), scene, world, payloads)?;
+    let found = narrow_phase_by_threads(rt, alloc, scene, &bodies, kept, work)?;
+    let tick = prepare(alloc, scene, world.contacts(), bodies, work.take_contacts(alloc), found)?;
     let solved = crew.solve(scene, tick.islands)?;
     work.end_tick(tick.found);
     Ok(world_of(tick.bodies, tick.contacts, &solved))

@@ -13,6 +13,7 @@ use pf_solver::Solve;
 use pf_step::{Crew, CrewError, World, step_alone, step_with};
 use std::alloc::Global;
 use std::test::Fail;
+use std::thread::Threads;
 
 /// A circle on each end of a floor.
 const TWO_PILES: &[u8] = b"gravity 0 -167772160
@@ -64,13 +65,13 @@ impl Seen {
 
 /// Solves the islands from the last to the first, and counts its calls.
 #[derive(Drop)]
-struct BackwardCrew {
+pub struct BackwardCrew {
     calls: u64,
     seen: Seen,
 }
 
 impl BackwardCrew {
-    const NEW: BackwardCrew = BackwardCrew {
+    pub const NEW: BackwardCrew = BackwardCrew {
         calls: 0,
         seen: Seen::NOTHING,
     };
@@ -100,7 +101,8 @@ impl Crew for BackwardCrew {
 
 /// The world so many ticks after the start, with a push of nothing at body `pushed` in each, by a
 /// backward crew; each world is compared with that of one thread.
-fn world_by(
+fn world_by<R: Threads + Sync>(
+    rt: &R,
     alloc: Global,
     scene: &Scene,
     pushed: u16,
@@ -116,7 +118,7 @@ fn world_by(
     let mut other_work = Work::new(alloc);
     let mut world = World::start(alloc, scene)?;
     for _tick in 0..ticks {
-        let next = step_with(alloc, scene, &world, &push, &mut work, crew)?;
+        let next = step_with(rt, alloc, scene, &world, &push, &mut work, crew)?;
         if next != step_alone(alloc, scene, &world, &push, &mut other_work)? {
             return Err(Fail::from("another world"));
         }
@@ -129,7 +131,7 @@ fn world_by(
 fn piles_are_islands_of_their_own(rt: HostRuntime) -> Result<(), Fail> {
     let scene = Scene::read(rt.alloc(), TWO_PILES)?;
     let mut crew = BackwardCrew::NEW;
-    let _ = world_by(rt.alloc(), &scene, 1, 1, &mut crew)?;
+    let _ = world_by(&rt, rt.alloc(), &scene, 1, 1, &mut crew)?;
     assert_eq!(rt;
         crew.seen,
         Seen {
@@ -140,7 +142,7 @@ fn piles_are_islands_of_their_own(rt: HostRuntime) -> Result<(), Fail> {
         }
     );
     let mut crew = BackwardCrew::NEW;
-    let _ = world_by(rt.alloc(), &scene, 1, 33, &mut crew)?;
+    let _ = world_by(&rt, rt.alloc(), &scene, 1, 33, &mut crew)?;
     assert_eq!(rt; crew.calls, 33);
     assert_eq!(rt;
         crew.seen,
@@ -158,7 +160,7 @@ fn piles_are_islands_of_their_own(rt: HostRuntime) -> Result<(), Fail> {
 fn three_in_a_row_are_one_island(rt: HostRuntime) -> Result<(), Fail> {
     let scene = Scene::read(rt.alloc(), THREE_IN_A_ROW)?;
     let mut crew = BackwardCrew::NEW;
-    let _ = world_by(rt.alloc(), &scene, 0, 3, &mut crew)?;
+    let _ = world_by(&rt, rt.alloc(), &scene, 0, 3, &mut crew)?;
     assert_eq!(rt;
         crew.seen,
         Seen {

@@ -4,3 +4,5 @@
 
 #[cfg(test)]
 mod crews;
+#[cfg(test)]
+mod threads;

@@ -1,0 +1,218 @@
+-- Contact points that are computed ahead.
+use Rattle.std.proofs.Common.{◌≡◌, ℕ, ◌+◌, ◌<◌, ◌==◌, ◌&&◌, Bool, true, false, Option, Some, None, List, [], ◌∷◌, ◌++◌, length, map, take, refl, sym, ap, ap₂, subst, ◌∙◌, ⊎_elim, ltb-true, eqb-true, arith}
+use Rattle.std.specs.List.{AllByRecursion, filter, flat_map, prefix_len}
+use Rattle.std.specs.Prelude.{All, IfSome, cond, drop, get_or, not, slice_get}
+use Rattle.std.proofs.lemmas.Bool.Decides.{Decides-eqb}
+use Rattle.std.proofs.lemmas.Bool.{and_parts, or_cases}
+use Rattle.std.proofs.lemmas.List.{append-nil, drop_more, length-append, length-map, take-append-drop, take_more}
+use Rattle.std.proofs.lemmas.List.Concat.{flat_map-append}
+use Rattle.std.proofs.lemmas.List.Elements.{filter-append}
+use Rattle.std.proofs.Math.Seq.{drop-append_seam}
+use Rattle.pf_shapes.specs.Body.{BodyState}
+use Rattle.pf_shapes.specs.Fixture.{Fixture}
+use Rattle.pf_shapes.specs.Pair.{IsAscending, IsPairOf, Pair, is_before}
+use Rattle.pf_shapes.specs.declared.scene.TheConstants.{MAX_BODIES}
+use Rattle.pf_manifold.specs.Collide.{collide}
+use Rattle.pf_manifold.specs.ContactPoint.{ContactPoint}
+use Rattle.pf_manifold.specs.Manifold.{points_of}
+use Rattle.pf_manifold.specs.declared.manifold.Manifold.{Manifold}
+use Rattle.pf_manifold.specs.PlacedShape.{PlacedShape}
+use Rattle.pf_manifold.specs.Touches.{Touch, touch_of, touches, touches_between}
+use Rattle.pf_cache.specs.Ahead.{is_of_pair, missed}
+use Rattle.pf_cache.specs.Manifolds.{has_pair, placed_shapes, points_of_pair}
+use Rattle.pf_cache.specs.Spans.{IsSpan, Span, are_unmoved, span_points, spans_from}
+use Rattle.pf_cache.proofs.Keeping.{ascend_behind}
+use Rattle.pf_cache.proofs.Refreshing.{points_more, spans_here, spans_more}
+use Rattle.pf_cache.proofs.Unmoved.{kept_points}
+
+-- ---- pairs that are kept in order
+
+module _ (test : Pair → Bool) where
+  later_kept : (P : Pair → Type 0) (ps : List Pair) → AllByRecursion P ps → AllByRecursion P (filter test ps)
+  later_kept P [] all = tt
+  later_kept P (p ∷ ps) all = by (test p) (later_kept P ps all.1)
+    where
+      by : (t : Bool) → AllByRecursion P (filter test ps) → AllByRecursion P (cond t (p ∷ filter test ps) (filter test ps))
+      by true rest = (all.0, rest)
+      by false rest = rest
+
+  -- some of ascending pairs ascend
+  pub ascending_kept : (ps : List Pair) → IsAscending ps → IsAscending (filter test ps)
+  ascending_kept [] up = tt
+  ascending_kept (p ∷ ps) up = by (test p) (ascending_kept ps up.1)
+    where
+      by : (t : Bool) → IsAscending (filter test ps) → IsAscending (cond t (p ∷ filter test ps) (filter test ps))
+      by true rest = (later_kept (λ q. is_before p q ≡ true) ps up.0, rest)
+      by false rest = rest
+
+-- two tests that agree keep the same elements
+pub filter_alike : {X : Type 0} (s t : X → Bool) → ((x : X) → s x ≡ t x) → (xs : List X) → filter s xs ≡ filter t xs
+filter_alike s t same [] = refl
+filter_alike s t same (x ∷ xs) = ap₂ (λ b ys. cond b (x ∷ ys) ys) (same x) (filter_alike s t same xs)
+
+-- ---- points of one pair, and behind them those of later ones
+
+own : (p : Pair) → ((p.a == p.a) && (p.b == p.b)) ≡ true
+own p = rw ((Decides-eqb p.a p.a).1 refl, (Decides-eqb p.b p.b).1 refl) refl
+
+-- the points of a later pair are not of this one
+other : (p q : Pair) → is_before p q ≡ true → ((q.a == p.a) && (q.b == p.b)) ≡ false
+other p q before = by ((q.a == p.a) && (q.b == p.b)) refl
+  where
+    by : (t : Bool) → ((q.a == p.a) && (q.b == p.b)) ≡ t → t ≡ false
+    by false e = refl
+    by true e =
+        let parts = and_parts _ _ e in
+        let first = eqb-true q.a p.a parts.0 in
+        let second = eqb-true q.b p.b parts.1 in
+        absurd (⊎_elim (λ x. let less = ltb-true p.a q.a x in omega (arith, less, first))
+        (λ y.
+        let both = and_parts _ _ y in
+        let less = ltb-true p.b q.b both.1 in
+        omega (arith, less, second))
+        (or_cases _ _ before))
+
+own_first : (p : Pair) (cs : List ContactPoint) (rest : List Touch)
+    → prefix_len (is_of_pair p) (map (touch_of p) cs ++ rest) ≡ length cs + prefix_len (is_of_pair p) rest
+own_first p [] rest = omega arith
+own_first p (x ∷ cs) rest =
+    let before = own_first p cs rest in
+    rw (own p) (omega (arith, before))
+
+module _ (shapes : List PlacedShape) (p : Pair) where
+  none_between : (q : Pair) (o m : Option PlacedShape) (rest : List Touch) → is_before p q ≡ true
+      → prefix_len (is_of_pair p) rest ≡ 0 → prefix_len (is_of_pair p) (touches_between q o m ++ rest) ≡ 0
+  none_between q (Some a) (Some b) rest before none = by (collide a b)
+    where
+      by : (cs : List ContactPoint) → prefix_len (is_of_pair p) (map (touch_of q) cs ++ rest) ≡ 0
+      by [] = none
+      by (x ∷ cs) = rw (other p q before) refl
+  none_between q (Some a) None rest before none = none
+  none_between q None m rest before none = none
+
+  none_later : (ps : List Pair) → AllByRecursion (λ q. is_before p q ≡ true) ps
+      → prefix_len (is_of_pair p) (flat_map (points_of_pair shapes) ps) ≡ 0
+  none_later [] later = refl
+  none_later (q ∷ ps) later =
+      none_between q (slice_get shapes q.a) (slice_get shapes q.b) (flat_map (points_of_pair shapes) ps) later.0
+      (none_later ps later.1)
+
+  between_first : (o m : Option PlacedShape) (rest : List Touch) → prefix_len (is_of_pair p) rest ≡ 0
+      → prefix_len (is_of_pair p) (touches_between p o m ++ rest) ≡ length (touches_between p o m)
+  between_first (Some a) (Some b) rest none =
+      let cs = collide a b in
+      let first = own_first p cs rest in
+      let long = length-map cs (touch_of p) in
+      omega (arith, first, none, long)
+  between_first (Some a) None rest none = none
+  between_first None m rest none = none
+
+  -- so many are of the first pair
+  pub first_points : (ps : List Pair) → AllByRecursion (λ q. is_before p q ≡ true) ps
+      → prefix_len (is_of_pair p) (points_of_pair shapes p ++ flat_map (points_of_pair shapes) ps)
+      ≡ length (points_of_pair shapes p)
+  first_points ps later = between_first (slice_get shapes p.a) (slice_get shapes p.b) _ (none_later ps later)
+
+-- ---- a manifold of points that stand in a list
+
+points_back : (p : Pair) (cs : List ContactPoint) → map (λ (t : Touch). t.point) (map (touch_of p) cs) ≡ cs
+points_back p [] = refl
+points_back p (x ∷ cs) = ap (λ ys. x ∷ ys) (points_back p cs)
+
+between_back : (p : Pair) (o m : Option PlacedShape)
+    → map (touch_of p) (map (λ t. t.point) (touches_between p o m)) ≡ touches_between p o m
+between_back p (Some a) (Some b) = ap (map (touch_of p)) (points_back p (collide a b))
+between_back p (Some a) None = refl
+between_back p None m = refl
+
+read_back : (shapes : List PlacedShape) (p : Pair)
+    → map (touch_of p) (map (λ t. t.point) (points_of_pair shapes p)) ≡ points_of_pair shapes p
+read_back shapes p = between_back p (slice_get shapes p.a) (slice_get shapes p.b)
+
+-- what stands in a span is what was computed for its pair
+pub ahead_points : (shapes : List PlacedShape) (touches : List Touch) (p : Pair) (s : Span) → IsSpan shapes touches s
+    → s.pair ≡ p → (o : Option Manifold)
+    → IfSome o (λ m. points_of m ≡ map (λ t. t.point) (span_points touches s))
+    → IfSome o (λ m. map (touch_of p) (points_of m) ≡ points_of_pair shapes p)
+ahead_points shapes touches p s are same None h = tt
+ahead_points shapes touches p s are same (Some m) h =
+    ap (map (touch_of p)) (h ∙ ap (map (λ t. t.point)) (are.points ∙ ap (points_of_pair shapes) same)) ∙ read_back shapes p
+
+-- ---- one pair more
+
+module _ (kept : List Pair) (unmoved : List Bool) (pairs : List Pair) (i : ℕ) (p : Pair) (within : i < length pairs)
+    (p_is : p ≡ get_or pairs i p) where
+  test : Pair → Bool
+  test q = not (has_pair kept q && are_unmoved unmoved q)
+
+  longer : filter test (take (i + 1) pairs) ≡ filter test (take i pairs) ++ filter test (p ∷ [])
+  longer =
+      ap (filter test) (take_more pairs i p within ∙ ap (λ q. take i pairs ++ q ∷ []) (sym p_is))
+      ∙ filter-append test (take i pairs) (p ∷ [])
+
+  -- it cannot reuse kept points
+  pub missed_more : (found after : List Pair) → found ≡ missed kept unmoved (take i pairs) → after ≡ found ++ p ∷ []
+      → not (has_pair kept p && are_unmoved unmoved p) ≡ true → after ≡ missed kept unmoved (take (i + 1) pairs)
+  unfolding test
+  missed_more found after done pushed e =
+      pushed ∙ ap (λ ps. ps ++ p ∷ []) done
+      ∙ ap (λ t. filter test (take i pairs) ++ cond t (p ∷ []) []) (sym e) ∙ sym longer
+
+  -- it can
+  pub missed_same : (found : List Pair) → found ≡ missed kept unmoved (take i pairs)
+      → not (has_pair kept p && are_unmoved unmoved p) ≡ false → found ≡ missed kept unmoved (take (i + 1) pairs)
+  unfolding test
+  missed_same found done e =
+      done ∙ sym (append-nil (filter test (take i pairs)))
+      ∙ ap (λ t. filter test (take i pairs) ++ cond t (p ∷ []) []) (sym e) ∙ sym longer
+
+-- the span of one pair more
+module _ (shapes : List PlacedShape) (pairs : List Pair) (touches : List Touch) (up : IsAscending pairs)
+    (whole : touches ≡ flat_map (points_of_pair shapes) pairs) (i : ℕ) (p : Pair) (within : i < length pairs)
+    (p_is : p ≡ get_or pairs i p) (start : ℕ) (start_is : start ≡ length (flat_map (points_of_pair shapes) (take i pairs)))
+    (len : ℕ) (len_is : len ≡ prefix_len (is_of_pair p) (drop start touches)) where
+  here : drop i pairs ≡ p ∷ drop (i + 1) pairs
+  here = drop_more pairs i p within ∙ ap (λ q. q ∷ drop (i + 1) pairs) (sym p_is)
+
+  left : drop start touches ≡ points_of_pair shapes p ++ flat_map (points_of_pair shapes) (drop (i + 1) pairs)
+  left =
+      let f = points_of_pair shapes in
+      let split = whole ∙ ap (flat_map f) (sym (take-append-drop i pairs)) ∙ flat_map-append f (take i pairs) (drop i pairs) in
+      ap₂ drop start_is split ∙ drop-append_seam (flat_map f (take i pairs)) (flat_map f (drop i pairs))
+      ∙ ap (flat_map f) here
+
+  many : len ≡ length (points_of_pair shapes p)
+  many =
+      len_is ∙ ap (prefix_len (is_of_pair p)) left
+      ∙ first_points shapes p (drop (i + 1) pairs) (subst IsAscending here (ascend_behind i pairs up)).0
+
+  taken : take (i + 1) pairs ≡ take i pairs ++ p ∷ []
+  taken = take_more pairs i p within ∙ ap (λ q. take i pairs ++ q ∷ []) (sym p_is)
+
+  pub start_more : start + len ≡ length (flat_map (points_of_pair shapes) (take (i + 1) pairs))
+  start_more =
+      let f = points_of_pair shapes in
+      let added = ap (λ ps. length (flat_map f ps)) taken ∙ ap length (points_more shapes (take i pairs) p)
+      ∙ length-append (flat_map f (take i pairs)) (f p) in
+      omega (arith, added, start_is, many)
+
+  pub span_more : (spans after : List Span) → spans ≡ spans_from 0 shapes (take i pairs)
+      → after ≡ spans ++ record { pair = p; start = start; len = len } ∷ []
+      → after ≡ spans_from 0 shapes (take (i + 1) pairs)
+  span_more spans after done pushed =
+      let front = length (flat_map (points_of_pair shapes) (take i pairs)) in
+      let from : front ≡ 0 + front = omega arith in
+      pushed
+      ∙ ap₂ (λ ss n. ss ++ record { pair = p; start = n; len = len } ∷ []) done start_is
+      ∙ ap₂ (λ n m. spans_from 0 shapes (take i pairs) ++ record { pair = p; start = n; len = m } ∷ []) from many
+      ∙ sym (ap (spans_from 0 shapes) taken ∙ spans_more shapes 0 (take i pairs) p)
+
+-- the points of some pairs, as the bodies stand, and where they stand in their list
+pub ahead_spans : (fixtures : List Fixture) (bodies : List BodyState) (pairs : List Pair) (spans : List Span) (all : List Touch)
+    → All (IsPairOf MAX_BODIES) pairs → all ≡ touches fixtures bodies pairs
+    → spans ≡ spans_from 0 (placed_shapes fixtures bodies) pairs
+    → All (IsSpan (placed_shapes fixtures bodies) all) spans
+ahead_spans fixtures bodies pairs spans all are all_is spans_are =
+    let shapes = placed_shapes fixtures bodies in
+    subst (All (IsSpan shapes all)) (sym spans_are)
+    (spans_here shapes pairs [] [] all 0 refl (all_is ∙ sym (kept_points fixtures bodies pairs) ∙ sym (append-nil _)) are)
