@@ -80,4 +80,4 @@ returns-clause-counted c =
     let found = c.in_ok-tick.ensures.found ∙ c.in_ok-found.ensures.value
     ∙ ap₂ (λ (bs : List BodyState) (kept : Manifolds). narrow_phase s.fixtures bs kept) (c.deref.ensures.value ∙ c.in_ok-bodies.ensures.bodies)
     c.take_manifolds-kept.ensures.taken in
-    c.end_tick.ensures ∙ ap₂ work_after_tick found (c.in_ok-found.ensures.work ∙ c.take_manifolds-kept.ensures.rest)
+    c.end_tick.ensures ∙ ap₂ work_after_tick found (c.take_contacts.ensures ∙ c.in_ok-found.ensures.work ∙ c.take_bodies.ensures ∙ c.take_manifolds-kept.ensures.rest)
