@@ -178,7 +178,7 @@ unfolding count_after
 count_sum count zero fits = omega arith
 count_sum count (suc more) fits = let before = count_sum count more fits in omega arith
 
--- what an error is said of, whatever the result
+-- what holds in any case holds after an error
 pub on_err : {A E P : Type 0} (r : Result A E) → P → OnErr r P
 on_err (Ok value) is = tt
 on_err (Err fault) is = is
