@@ -192,7 +192,7 @@ pub one_call_more : {A : Type 0} (call : A → A → Type 0) (n : ℕ) (first be
 unfolding AreCalls
 one_call_more call n first before last calls one = (before, calls, one)
 
--- what an error is said of, whatever the result
+-- what holds in any case holds after an error
 pub on_err : {A E P : Type 0} (r : Result A E) → P → OnErr r P
 on_err (Ok value) is = tt
 on_err (Err fault) is = is

@@ -58,7 +58,7 @@ impl Model for PeerCore {
     }) core.snapshots };
 }
 
-/// The tick of a command by what putting it did: of one that is new or greater.
+/// The tick of a command that was put, where it is news: new, or greater than the one that was held.
 fn tick_of_news(put: Put, tick: u32) -> Option<u32>
     ensures { result ≡ (if is_change put then Some tick else None) }
 {
@@ -80,8 +80,8 @@ impl PeerCore {
     ghost use Rattle.pf_rollback.specs.Core.{AreAllowed, HasSettled, KeepsBefore, count_after, new_core, news_tick};
     ghost use Rattle.pf_rollback.specs.Calls.{AreCalls, Refines, Returns};
 
-    /// A peer of this player, from 0, at tick 0 and without commands, which keeps this many settled
-    /// worlds.
+    /// A peer at tick 0 and without commands, which keeps this many settled worlds. Players count
+    /// from 0.
     pub fn new(alloc: Global, scene: Scene, player: u8, ring: usize) -> Result<PeerCore, AllocError>
         requires player { player < PLAYERS }
         requires ring { (0 < ring) × (ring ≤ MAX_RING) }

@@ -8,8 +8,8 @@ use pf_step::World;
 use std::alloc::{AllocError, Global};
 use std::marker::Model;
 
-/// A world is kept for good at each tick that is a multiple of this: until there is a new command
-/// of an earlier tick.
+/// The world of each settled tick that is a multiple of this is kept until news of an earlier tick
+/// come.
 pub const KEYFRAME_INTERVAL: u32 = 256;
 
 /// The start world, the last settled worlds in a ring, and a keyframe at each multiple of
@@ -18,9 +18,9 @@ pub const KEYFRAME_INTERVAL: u32 = 256;
 /// Contracts see the kept ticks, and which world is kept at a tick.
 #[derive(Drop)]
 pub(crate) struct Snapshots {
-    /// Of which the first is the start world.
+    /// The first is the start world.
     keyframes: Vec<World>,
-    /// Of which the last is that of the settled tick; None stands for a keyframe.
+    /// The last is that of the settled tick; None stands for a world that is a keyframe.
     recent: HeapCircularBuffer<Option<World>>,
     settled: u32,
 }
@@ -109,8 +109,8 @@ impl Snapshots {
         self.keyframes.reserve(1)
     }
 
-    /// Keeps the world of the tick after the settled one, and of the ring's worlds the last ones.
-    /// Takes no memory.
+    /// Keeps the world of the tick after the settled one. A full ring drops its oldest world. Takes
+    /// no memory.
     pub(crate) fn keep(&mut self, world: World)
         requires room { 0 < self.old.room }
         requires limit { settled_tick (ticks_of self.old) < MAX_TICK }
@@ -126,7 +126,7 @@ impl Snapshots {
         self.settled = settled;
     }
 
-    /// After news of this least tick, if there are any: drops each world after it. Takes no memory.
+    /// Drops each world after the least tick of news, if there are any. Takes no memory.
     pub(crate) fn drop_after_news(&mut self, least: Option<u32>)
         ensures ticks { ticks_of self.new ≡ ticks_after_news least (ticks_of self.old) }
         ensures worlds { (t : ℕ) (world : World) → IsKept self.new t world

@@ -60,7 +60,8 @@ struct Tick {
     found: NarrowPhase,
 }
 
-/// The phases Commands, Points and Activity. The kept contact points are reused, and gone.
+/// The phases Commands, Points and Activity. Kept contact points are reused, and none are kept from
+/// then on.
 #[tactic(auto, using(crate::proofs::Joined::awake_long, crate::proofs::Lengths::updated_length))]
 fn prepare(
     alloc: Global,
@@ -153,7 +154,7 @@ pub fn step_alone(
 }
 
 /// The same world, with the islands solved by a crew, which is called once in each step. An error
-/// of the crew leaves what one of memory does.
+/// of the crew leaves the work as one of memory does: nothing is counted, and no points are kept.
 #[tactic(auto, using(crate::proofs::Lengths::step_length))]
 pub fn step_with<C: Crew>(
     alloc: Global,
