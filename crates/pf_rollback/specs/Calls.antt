@@ -21,4 +21,5 @@ Returns (Err OutOfMemory) call = IsOk call
 -- so many calls, each of which does this, lead from one value to another
 unfoldable pub AreCalls : {A : Type 0} → (A → A → Type 0) → ℕ → A → A → Type 0
 AreCalls call zero first last = first ≡ last
-AreCalls {A} call (suc n) first last = (before : A) × AreCalls call n first before × call before last
+AreCalls {A} call (suc n) first last =
+    (before : A) × AreCalls call n first before × call before last

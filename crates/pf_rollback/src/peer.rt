@@ -58,7 +58,7 @@ impl Model for PeerCore {
     }) core.snapshots };
 }
 
-/// The tick of a command that was put, where it is news: new, or greater than the one that was held.
+/// The tick of a command that was put, where it is news: new, or greater than the held one.
 fn tick_of_news(put: Put, tick: u32) -> Option<u32>
     ensures { result ≡ (if is_change put then Some tick else None) }
 {
@@ -302,10 +302,10 @@ impl PeerCore {
         self.settle(alloc, &mut Alone)
     }
 
-    /// Settles each tick up to the reached one, from the settled tick on: simulates it by one call of
-    /// `steps`, and keeps its world. Returns the reached tick. After an error the ticks that were
-    /// settled stand, and so do the commands and the reached tick. Takes no memory where the reached
-    /// tick is settled.
+    /// Settles each tick up to the reached one, from the settled tick on: simulates it by one call
+    /// of `steps`, and keeps its world. Returns the reached tick. After an error the ticks that were
+    /// settled stand, and so do the commands and the reached tick. Takes no memory where the
+    /// reached tick is settled.
     pub fn settle<S: Steps>(&mut self, alloc: Global, steps: &mut S) -> Result<u32, S::Error>
         ensures answer { IfOk result (λ tick. tick ≡ self.old.peer.reached) }
         ensures settled { OnOk result (settled_tick self.new.kept ≡ self.old.peer.reached) }
