@@ -1,5 +1,5 @@
-//! Laws of frames, of command maps and of checks. Their functions do nothing: their clauses are
-//! what they are for.
+//! Laws of frames, of command maps and of checks. These functions compute nothing: their clauses
+//! are the statements.
 
 ghost use Rattle.std.specs.Prelude.{◌≡◌, ◌<◌, ◌^◌, IfSome, ◌↔◌, ◌≢◌, ℕ, List, [], ◌++◌, All, Contains, map, Some, Ok, Err, false};
 ghost use Rattle.std.specs.FinMap.{empty, get};

@@ -1,4 +1,4 @@
-//! Laws of texts. Their functions do nothing: their clauses are what they are for.
+//! Laws of texts. These functions compute nothing: their clauses are the statements.
 
 ghost use Rattle.std.specs.Prelude.{◌≡◌, ℕ, ◌+◌, ◌≤◌, List, length, Ok, map, All};
 ghost use Rattle.hex.specs.Hex.{encode_lower};

@@ -84,7 +84,8 @@ module _ (names : List ℕ) (marks : List Bool) (bodies : List BodyState) (named
       (λ name b small. ap (λ mark. record b { awake = mark }) (mark_is (is_active names bodies) are name small))
       names bodies named
 
--- a change of bodies by marks that were noted, written back and lent again, as the names were lent twice
+-- a change of bodies by the marks that were noted of their groups; the code lends marks and names
+-- twice, so these stand here under more than one name
 pub changed_through : (change : List Bool → ℕ × BodyState → BodyState) (noted : List ℕ → ℕ → Bool)
     (names first second : List ℕ) (marks lent behind : List Bool) (len : ℕ) (bodies after : List BodyState)
     → first ≡ names → second ≡ names → marks ≡ map (noted first) (range_with_len 0 (length first))

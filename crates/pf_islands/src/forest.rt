@@ -35,8 +35,8 @@ fn connects(scene: &Scene, touch: &Touch) -> bool
     !first.is_static() && !second.is_static()
 }
 
-/// The root of a body, with path halving: each second body on the way gets the parent of its
-/// parent.
+/// The root of a body, with path halving: every other body on the way gets the parent of its parent
+/// as its own.
 fn find(parents: &mut [usize], body: usize) -> usize
     requires body { body < length parents.old }
     requires down { IsDownward parents.old }

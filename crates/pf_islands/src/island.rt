@@ -119,7 +119,7 @@ impl Island {
         Ok(())
     }
 
-    /// Adds a contact. Where there is no memory for it, it is gone.
+    /// Adds a contact. An error loses the contact.
     #[inline]
     pub(crate) fn add_row(&mut self, row: Row) -> Result<(), AllocError>
         ensures { OnOk result (self.new ≡ record self.old { rows = self.old.rows ++ row ∷ [] }) }

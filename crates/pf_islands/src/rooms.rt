@@ -1,4 +1,4 @@
-//! How much room the islands of a tick need, so that each is reserved once.
+//! How much room the islands of a tick need, so that the memory of each is reserved once.
 
 ghost use Rattle.std.specs.Prelude.{◌≡◌, ◌<◌, All, IfOk, IsOk, length};
 ghost use Rattle.pf_manifold.specs.Touches.{IsTouchOf};

@@ -19,7 +19,7 @@ use pf_manifold::Touch;
 use pf_shapes::{BodyState, Scene};
 use std::alloc::{AllocError, Global};
 
-/// Whether a body is the least one of its group, whose name it is then, and awake.
+/// Whether a body is awake and gives its group the name, as the least body of it.
 #[inline]
 fn is_active_name(names: &[usize], bodies: &[BodyState], number: usize) -> bool
     requires number { number < length names.now }
@@ -45,7 +45,7 @@ fn active_count(names: &[usize], bodies: &[BodyState]) -> usize
 }
 
 /// An island without bodies for each group that is simulated, in the order of their names; and for
-/// each number of a body how many of these names are less.
+/// each body how many of these names are less than its number.
 fn empty_islands(
     alloc: Global,
     names: &[usize],

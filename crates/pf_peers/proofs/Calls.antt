@@ -1,4 +1,4 @@
--- What events leave as it was, and what they leave behind.
+-- What events do not change of a peer, and which map they leave.
 use Rattle.std.proofs.Common.{◌≡◌, ◌≢◌, ℕ, ◌+◌, ◌<◌, Bool, true, false, ◌==◌, if◌then◌else◌, List, [], ◌∷◌, ◌++◌, length, Result, Ok, Err, refl, ap, sym, ◌∙◌, nat_le, arith}
 use Rattle.std.specs.FinMap.{get, entries}
 use Rattle.std.proofs.lemmas.Bool.Decides.{nat_tests}

@@ -31,7 +31,7 @@ settle_changes_nothing s i later =
 
 -- ---- one peer
 
--- a peer that absorbs what another is after a call is left by that call as it was
+-- a call of which a peer already holds all commands leaves the peer as it was
 with_same : (q : Peer) (m : CommandMap) → Absorbs q.commands m → record q { commands = merge q.commands m } ≡ q
 with_same q m same = ap (λ (k : CommandMap). record q { commands = k }) same
 

@@ -65,9 +65,9 @@ abbrev pub world_reply : ℕ → ℕ → Result World Refusal → Reply
 world_reply peer tick (Ok world) = Shown peer tick world
 world_reply peer tick (Err refusal) = Refused refusal
 
--- the reply to an event on its peer, and the peer after it; these are the commands of the other
--- peer of a merge, and a merge of a peer with itself changes nothing; nor does a settle, which
--- simulates what each later reply would
+-- the reply to an event on its peer, and the peer after it, where these are the commands of the
+-- other peer of a merge; a merge of a peer with itself changes nothing, nor does a settle, which
+-- only simulates earlier what later replies would simulate
 unfoldable pub peer_answer : Scene → CommandMap → Peer → Event → Reply × Peer
 peer_answer s others p (Issue peer payload) =
     reply_and_peer (λ frame. Issued peer frame) p (issue s p payload)

@@ -1,4 +1,4 @@
-//! Laws of sessions. Their functions do nothing: their clauses are what they are for.
+//! Laws of sessions. These functions compute nothing: their clauses are the statements.
 
 ghost use Rattle.std.specs.Prelude.{◌≡◌, ◌↔◌, ℕ, ◌≤◌, ◌<◌, List, Result, length, All, Contains};
 ghost use Rattle.std.specs.FinMap.{get};

@@ -1,12 +1,14 @@
 //! Peers of one scene, which are asked one event after the other.
 
-ghost use Rattle.std.specs.Prelude.{◌≡◌, ◌≢◌, ◌<◌, Ok, Some, IfOk, OnErr, IsErr, IsOk, IsSome, length, slice_get, slice_set};
+ghost use Rattle.std.specs.Prelude.{◌≡◌, ◌≢◌, ◌<◌, ℕ, Ok, Some, IfOk, OnErr, OnOk, IsErr, IsOk, IsSome, length, slice_get, slice_set};
 ghost use Rattle.std.specs.FinMap.{get};
 ghost use Rattle.pf_peers.specs.Answers.{IsMergeReply, IsReplyOf};
 ghost use Rattle.pf_peers.specs.Session.{NeedsNoMemory, other_of, peer_answer, peer_of, reply_and_peer, world_reply};
+ghost use Rattle.pf_peers.specs.declared.event.Event.TheVariants.{Settle};
 ghost use Rattle.pf_peers.specs.declared.event.Reply.TheVariants.{Advanced, Issued, Settled, Took};
 ghost use Rattle.pf_commands.specs.declared.payload.Command.{Command};
 ghost use Rattle.pf_rollback.specs.Core.{PeerCore};
+ghost use Rattle.pf_rollback.specs.Kept.{settled_tick};
 ghost use Rattle.pf_rollback.specs.Peer.{IsEmptyBefore, advance, issue, take, world_at};
 
 use crate::event::{Event, Reply};
@@ -142,6 +144,7 @@ fn advance(core: &mut PeerCore, peer: u8, ticks: u32) -> Result<Reply, AllocErro
 /// The reply of a peer to Settle. An `Err` may leave more ticks settled, and no other change.
 fn settle(core: &mut PeerCore, alloc: Global, peer: u8) -> Result<Reply, AllocError>
     ensures reply { IfOk result (λ reply. reply ≡ Settled peer core.old.peer.reached) }
+    ensures settled { OnOk result (settled_tick core.new.kept ≡ core.old.peer.reached) }
     ensures peer { core.new.peer ≡ core.old.peer }
     ensures scene { core.new.scene ≡ core.old.scene }
     ensures no_memory { core.old.peer.reached ≡ 0 → IsOk result }
@@ -170,6 +173,8 @@ fn answer_alone(core: &mut PeerCore, alloc: Global, event: Event) -> Result<Repl
     requires { other_of event ≡ peer_of event }
     ensures reply { let p = core.old.peer in IfOk result (λ reply.
         (reply, core.new.peer) ≡ peer_answer core.old.scene p.commands p event) }
+    ensures settled { (peer : ℕ) → event ≡ Settle peer
+        → OnOk result (settled_tick core.new.kept ≡ core.old.peer.reached) }
     ensures scene { core.new.scene ≡ core.old.scene }
     ensures no_memory { let p = core.old.peer in
         NeedsNoMemory core.old.scene p.commands p event → IsOk result }

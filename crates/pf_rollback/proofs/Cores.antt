@@ -15,6 +15,7 @@ use Rattle.pf_step.specs.World.{World, start_of}
 use Rattle.pf_step.proofs.Lengths.{step_length}
 use Rattle.pf_step.proofs.Ticks.{sim_same}
 use Rattle.pf_cache.specs.Meter.{Meter, saturating_sum}
+use Rattle.pf_rollback.specs.Calls.{AreCalls}
 use Rattle.pf_rollback.specs.Core.{PeerCore, IsPeerCore, HasSettled, AreAllowed, count_after, news_tick}
 use Rattle.pf_rollback.specs.Kept.{Ticks, no_ticks, settled_tick, ticks_after_more, ticks_after_settling}
 use Rattle.pf_rollback.specs.Peer.{Peer, IsPeer, with_command, with_commands}
@@ -178,7 +179,20 @@ unfolding count_after
 count_sum count zero fits = omega arith
 count_sum count (suc more) fits = let before = count_sum count more fits in omega arith
 
--- what an error is said of, whatever the result
+-- ---- calls
+
+-- no call changes nothing
+pub no_calls : {A : Type 0} (call : A → A → Type 0) (a : A) → AreCalls call 0 a a
+unfolding AreCalls
+no_calls call a = refl
+
+-- one call more, after some
+pub one_call_more : {A : Type 0} (call : A → A → Type 0) (n : ℕ) (first before last : A)
+    → AreCalls call n first before → call before last → AreCalls call (suc n) first last
+unfolding AreCalls
+one_call_more call n first before last calls one = (before, calls, one)
+
+-- what holds in any case holds after an error
 pub on_err : {A E P : Type 0} (r : Result A E) → P → OnErr r P
 on_err (Ok value) is = tt
 on_err (Err fault) is = is

@@ -1,5 +1,5 @@
-//! Laws of abstract peers and of kept ticks. Their functions do nothing: their clauses are what they
-//! are for.
+//! Laws of abstract peers and of kept ticks. These functions compute nothing: their clauses are the
+//! statements.
 
 ghost use Rattle.std.specs.Prelude.{◌≡◌, ℕ, ◌+◌, ◌^◌, ◌≤◌, ◌<◌, ◌↔◌, List, Contains, Ok, IsOk, IsSome};
 ghost use Rattle.std.specs.FinMap.{get};

@@ -62,7 +62,7 @@ impl Model for PeerCore {
     }) core.snapshots };
 }
 
-/// The tick of a command by what putting it did: of one that is new or greater.
+/// The tick of a command that was put, where it is news: new, or greater than the held one.
 fn tick_of_news(put: Put, tick: u32) -> Option<u32>
     ensures { result ≡ (if is_change put then Some tick else None) }
 {
@@ -104,10 +104,10 @@ impl PeerCore {
     ghost use Rattle.pf_rollback.specs.Kept.{nearest_tick, settled_tick};
     ghost use Rattle.pf_rollback.specs.Peer.{put, take, next_command, next_number, with_command, IsNextNumber, issue, merge_map, advance, IsEmptyBefore, world_at};
     ghost use Rattle.pf_rollback.specs.Core.{AreAllowed, HasSettled, KeepsBefore, count_after, new_core, news_tick};
-    ghost use Rattle.pf_rollback.specs.Calls.{Refines, Returns};
+    ghost use Rattle.pf_rollback.specs.Calls.{AreCalls, Refines, Returns};
 
-    /// A peer of this player, from 0, at tick 0 and without commands, which keeps this many settled
-    /// worlds.
+    /// A peer at tick 0 and without commands, which keeps this many settled worlds. Players count
+    /// from 0.
     pub fn new(alloc: Global, scene: Scene, player: u8, ring: usize) -> Result<PeerCore, AllocError>
         requires player { player < PLAYERS }
         requires ring { (0 < ring) × (ring ≤ MAX_RING) }
@@ -346,10 +346,10 @@ impl PeerCore {
         self.settle(alloc, &mut WithCrew { rt, crew })
     }
 
-    /// Settles each tick up to the reached one: simulates it once, from the settled tick on, and
-    /// keeps its world. Returns the reached tick. After an error the ticks that were settled stand,
-    /// and so do the commands and the reached tick. Takes no memory where the reached tick is
-    /// settled.
+    /// Settles each tick up to the reached one, from the settled tick on: simulates it by one call
+    /// of `steps`, and keeps its world. Returns the reached tick. After an error the ticks that were
+    /// settled stand, and so do the commands and the reached tick. Takes no memory where the
+    /// reached tick is settled.
     pub fn settle<S: Steps>(&mut self, alloc: Global, steps: &mut S) -> Result<u32, S::Error>
         ensures answer { IfOk result (λ tick. tick ≡ self.old.peer.reached) }
         ensures settled { OnOk result (settled_tick self.new.kept ≡ self.old.peer.reached) }
@@ -357,6 +357,8 @@ impl PeerCore {
             OnOk result (HasSettled missing self.old self.new) }
         ensures err { let missing = self.old.peer.reached - settled_tick self.old.kept in
             OnErr result ((more : ℕ) × (more < missing) × HasSettled more self.old self.new) }
+        ensures called { let missing = self.old.peer.reached - settled_tick self.old.kept in
+            OnOk result (AreCalls S.is_called missing steps.old steps.new) }
     {
         let last = self.reached();
         let settled = self.settled();
@@ -379,6 +381,7 @@ impl PeerCore {
         ensures settled { OnOk result (settled_tick self.new.kept ≡ tick + 1) }
         ensures ok { OnOk result (HasSettled 1 self.old self.new) }
         ensures err { OnErr result (HasSettled 0 self.old self.new) }
+        ensures called { OnOk result (S.is_called steps.old steps.new) }
     {
         self.snapshots.reserve()?;
         let payloads = self.commands.at_tick(alloc, tick)?;

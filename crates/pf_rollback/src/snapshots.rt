@@ -9,8 +9,8 @@ use pf_step::World;
 use std::alloc::{AllocError, Global};
 use std::marker::Model;
 
-/// A world is kept for good at each tick that is a multiple of this: until there is a new command
-/// of an earlier tick.
+/// The world of each settled tick that is a multiple of this is kept until news of an earlier tick
+/// come.
 pub const KEYFRAME_INTERVAL: u32 = 256;
 
 /// The start world, the last settled worlds in a ring, and a keyframe at each multiple of
@@ -19,9 +19,9 @@ pub const KEYFRAME_INTERVAL: u32 = 256;
 /// Contracts see the kept ticks, and which world is kept at a tick.
 #[derive(Drop)]
 pub(crate) struct Snapshots {
-    /// Of which the first is the start world.
+    /// The first is the start world.
     keyframes: Vec<World>,
-    /// Of which the last is that of the settled tick; None stands for a keyframe.
+    /// The last is that of the settled tick; None stands for a world that is a keyframe.
     recent: HeapCircularBuffer<Option<World>>,
     settled: u32,
 }
@@ -120,9 +120,8 @@ impl Snapshots {
         self.keyframes.reserve(1)
     }
 
-    /// Keeps the world of the tick after the settled one, and of the ring's worlds the last ones.
-    /// The world that falls out of the ring lends its memory to the next one that is made with
-    /// `work`. Takes no memory.
+    /// Keeps the world of the tick after the settled one. A full ring drops its oldest world, which
+    /// lends its memory to the next one that is made with `work`. Takes no memory.
     pub(crate) fn keep(&mut self, world: World, work: &mut Work)
         requires room { 0 < self.old.room }
         requires limit { settled_tick (ticks_of self.old) < MAX_TICK }
@@ -140,7 +139,7 @@ impl Snapshots {
         lend(fallen, work);
     }
 
-    /// After news of this least tick, if there are any: drops each world after it. Takes no memory.
+    /// Drops each world after the least tick of news, if there are any. Takes no memory.
     pub(crate) fn drop_after_news(&mut self, least: Option<u32>)
         ensures ticks { ticks_of self.new ≡ ticks_after_news least (ticks_of self.old) }
         ensures worlds { (t : ℕ) (world : World) → IsKept self.new t world

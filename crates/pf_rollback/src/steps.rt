@@ -9,10 +9,13 @@ use std::thread::Threads;
 
 /// Makes the steps of a simulation, as [`step_alone`] does.
 pub trait Steps {
-    ghost use Rattle.std.specs.Prelude.{◌≡◌, length, IfOk, OnOk, OnErr};
+    ghost use Rattle.std.specs.Prelude.{◌≡◌, ⊤, length, IfOk, OnOk, OnErr};
     ghost use Rattle.pf_cache.specs.Manifolds.{no_manifolds};
     ghost use Rattle.pf_cache.specs.Meter.{work_after_tick};
     ghost use Rattle.pf_step.specs.Step.{narrow_phase_of_tick, step};
+
+    /// What a call does to the maker itself, as a count of its calls. Nothing is said of it here.
+    ghost is_called: { Self → Self → Type 0 } = { λ _ _. ⊤ };
 
     /// Why a step is not made: out of memory, or more.
     type Error: From<AllocError>;
@@ -33,7 +36,8 @@ pub trait Steps {
         ensures counted { OnOk result (work.new ≡ work_after_tick
             (narrow_phase_of_tick scene.now world.now payloads.now work.old.manifolds) work.old) }
         ensures not_counted { OnErr result
-            (work.new ≡ record work.old { manifolds = no_manifolds }) };
+            (work.new ≡ record work.old { manifolds = no_manifolds }) }
+        ensures called { OnOk result (is_called self.old self.new) };
 }
 
 /// Makes the steps on one thread.

@@ -1,4 +1,4 @@
--- Islands after a tick of their own stand where they stood.
+-- Islands keep their places in the world through a tick of their own.
 use Rattle.std.proofs.Common.{◌≡◌, ◌∙◌, ℕ, Bool, true, false, List, length, map, sym, refl, subst, ◌==◌, if◌then◌else◌}
 use Rattle.std.proofs.lemmas.List.{length-map}
 use Rattle.std.proofs.lemmas.List.Elements.{All-map, All-weaker}
@@ -32,7 +32,7 @@ solved_beside s bodies contacts rows beside = record {
   places = solved_at_places s bodies rows contacts beside.places;
 }
 
--- islands that have their places in the world have them after the tick
+-- their numbers are still of bodies of the world, with a state for each
 pub after_tick_at_home : (s : Scene) (n : ℕ) (islands : List Island) → All (IsAtHome n) islands
     → All (IsAtHome n) (map (island_after_tick s) islands)
 after_tick_at_home s n islands home =
@@ -44,7 +44,7 @@ after_tick_at_home s n islands home =
     })
     islands home)
 
--- and so have their contacts
+-- and their rows still stand at contacts of the world
 pub after_tick_at_contacts : (s : Scene) (contacts : List Contact) (islands : List Island)
     → All (λ (i : Island). AreRowsAt contacts i.rows) islands
     → All (λ (i : Island). AreRowsAt contacts i.rows) (map (island_after_tick s) islands)

@@ -8,7 +8,7 @@ use Rattle.pf_cache.specs.Row.{IsEntryOf, Row}
 use Rattle.pf_solver.specs.Solve.{prepared_row}
 use Rattle.pf_islands.specs.Rows.{IsRowOf}
 
--- their bodies are as before
+-- they still name bodies of the list
 pub prepared_fit : (s : Scene) (bodies : List BodyState) (n : ℕ) (rows after : List Row)
     → after ≡ map (prepared_row s bodies) rows → All (IsRowOf s n) rows → All (λ r. IsEntryOf n r.entry) after
 unfolding prepared_row

@@ -24,7 +24,7 @@ use Rattle.pf_solver.proofs.Solved.{passes_bodies, passes_rows, pass_rows, still
 
 -- ---- numbers
 
--- two numbers are equal, or not, as the test has it
+-- two numbers are equal exactly where the test says so
 same_number : (m n : ℕ) → (m == n) ≡ true → m ≡ n
 same_number m n h = (Decides-eqb m n).0 h
 
@@ -39,7 +39,7 @@ below_least least (m ∷ numbers) n h below =
     or_from (m == n) (has_number numbers n) (ne_eqb m n (omega (arith, h.0, below)))
     (below_least (suc m) numbers n h.1 (omega (arith, h.0, below)))
 
--- a number of the list is within what all are within
+-- a number of the list is below a limit of all
 number_within : (limit : ℕ) (numbers : List ℕ) (n : ℕ) → All (λ m. m < limit) numbers
     → has_number numbers n ≡ true → n < limit
 number_within limit [] n all h = absurd (true≢false (sym h))

@@ -25,7 +25,7 @@ unfolding second_after scale add sum saturate
 still_second arm impulse =
     rw (product-zero impulse.x, product-zero impulse.y, product-zero (cross arm impulse)) refl
 
--- with either of two arms that fit, the point has one velocity and an impulse one effect
+-- with either of two arms that fit, the point has the same velocity and an impulse the same effect
 module _ (a b : V2) (body : Motion) (fits : IsArmFor body b a) where
   point_same : add body.velocity (cross_sv body.spin a) ≡ add body.velocity (cross_sv body.spin b)
   point_same =

@@ -57,7 +57,7 @@ static_reach s touches a b static (next ∷ chain, along) =
 abbrev pub StaticsSleep : Scene → List BodyState → Type 0
 StaticsSleep s bodies = (j : ℕ) (b : BodyState) → is_static_at s j ≡ true → slice_get bodies j ≡ Some b → b.awake ≡ false
 
--- a moving side names its body
+-- a dynamic side names its body
 side_place : (s : Scene) (number i : ℕ) → side_of s number ≡ Dynamic i → number ≡ i
 side_place s number i = by (is_static_at s number)
   where
@@ -184,7 +184,7 @@ module _ (s : Scene) (old : List Contact) (commanded : List BodyState) (count : 
         away_at : (k : ℕ) (t : Touch) → slice_get points k ≡ Some t → HoldsWhere s awake (IsAway i) t
         away_at k t stands active place c = (first_away k t stands active, second_away k t stands active)
 
-  -- a static body is on no moving side
+  -- a static body is on no dynamic side
   static_side : (i number : ℕ) → is_static_at s i ≡ true → side_of s number ≢ Dynamic i
   static_side i number static = by (is_static_at s number) refl
     where

@@ -198,8 +198,8 @@ pub fn step_alone(
 }
 
 /// The same world, with the islands solved by a crew, which is called once in each step; where there
-/// are many pairs, several threads compute the contact points. An error of the crew leaves what one
-/// of memory does.
+/// are many pairs, several threads compute the contact points. An error of the crew leaves the work
+/// as one of memory does: nothing is counted, and no points are kept.
 #[tactic(auto, using(crate::proofs::Lengths::step_length))]
 pub fn step_with<R: Threads + Sync, C: Crew>(
     rt: &R,

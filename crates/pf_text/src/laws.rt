@@ -1,5 +1,5 @@
-//! Laws of lines, fields and numbers, and of the output for lines, for every machine. Their
-//! functions do nothing: each stands for its contract.
+//! Laws of lines, fields and numbers, and of the output for lines, for every machine. These
+//! functions compute nothing: their clauses are the statements.
 
 ghost use Rattle.std.specs.Prelude.{◌≡◌, ◌↔◌, ℕ, ◌^◌, ◌<◌, ℤ, ◌∷◌, ◌++◌, List, length, Some, Ok, true};
 ghost use Rattle.std.specs.Fmt.{signed_decimal};

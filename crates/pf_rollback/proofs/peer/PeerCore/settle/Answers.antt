@@ -1,7 +1,8 @@
 use Rattle.std.proofs.Common.{◌≡◌, ◌<◌, ◌+◌, ◌-◌, ℕ, suc, refl, sym, subst, arith}
 use Rattle.pf_rollback.specs.Core.{HasSettled}
 use Rattle.pf_rollback.specs.Kept.{settled_tick}
-use Rattle.pf_rollback.proofs.Cores.{on_err, settled_more, settled_none, settled_same}
+use Rattle.pf_rollback.specs.Calls.{AreCalls}
+use Rattle.pf_rollback.proofs.Cores.{no_calls, on_err, one_call_more, settled_more, settled_none, settled_same}
 use Rattle.pf_rollback.proofs.peer.PeerCore.settle.Goals as goal
 
 pub loop-tick-init : goal.loop-tick-init
@@ -11,6 +12,7 @@ loop-tick-init g c =
     record {
       has = subst (λ n. HasSettled n core core) (sym none) (settled_none core core.kept core.meter refl refl);
       settled = sym c.settled-settled.ensures.value;
+      called = subst (λ n. AreCalls g.S.Steps.is_called n c.args.steps.now c.args.steps.now) (sym none) (no_calls _ _);
     }
 
 pub returns-in_err-settle_tick-clause-err : goal.returns-in_err-settle_tick-clause-err
@@ -31,4 +33,7 @@ loop-tick-preserved g c =
           subst (λ n. HasSettled n c.args.self.now c.settle_tick.new.self) next
           (settled_more _ _ _ _ c.loop-tick.invariant.has c.in_ok-settle_tick.ensures.ok);
       settled = c.in_ok-settle_tick.ensures.settled;
+      called =
+          subst (λ n. AreCalls g.S.Steps.is_called n c.args.steps.now c.settle_tick.new.steps) next
+          (one_call_more _ _ _ _ _ c.loop-tick.invariant.called c.in_ok-settle_tick.ensures.called);
     }
