@@ -9,13 +9,13 @@ ghost use Rattle.pf_step.specs.Step.{narrow_phase_of_tick, step};
 
 use crate::fault::{Fault, Refusal};
 use crate::snapshots::Snapshots;
-use crate::steps::{Alone, Steps, WithCrew};
+use crate::steps::{Alone, Steps};
 use pf_cache::{Meter, Work};
 use pf_commands::{
     Command, CommandMap, FRAME_LEN, MAX_TICK, Name, Payload, Put, check, decode, encode,
 };
 use pf_shapes::{PLAYERS, Scene};
-use pf_step::{Crew, StepError, World, step_alone};
+use pf_step::{Crew, StepError, World, step_alone, step_with};
 use std::alloc::{AllocError, Global};
 use std::marker::Model;
 use std::thread::Threads;
@@ -328,8 +328,8 @@ impl PeerCore {
         self.settle(alloc, &mut Alone)
     }
 
-    /// Settles each tick up to the reached one, with the islands solved by a crew, and returns that
-    /// tick: see [`PeerCore::settle`].
+    /// Settles each tick up to the reached one, with the islands of each solved by one call of a
+    /// crew, and returns that tick: see [`PeerCore::settle`].
     pub fn settle_with<R: Threads + Sync, C: Crew>(
         &mut self,
         rt: &R,
@@ -342,8 +342,40 @@ impl PeerCore {
             OnOk result (HasSettled missing self.old self.new) }
         ensures err { let missing = self.old.peer.reached - settled_tick self.old.kept in
             OnErr result ((more : ℕ) × (more < missing) × HasSettled more self.old self.new) }
+        ensures called { let missing = self.old.peer.reached - settled_tick self.old.kept in
+            OnOk result (AreCalls C.is_called missing crew.old crew.new) }
     {
-        self.settle(alloc, &mut WithCrew { rt, crew })
+        let last = self.reached();
+        let settled = self.settled();
+        for tick in settled..last {
+            self.settle_tick_with(rt, alloc, tick, crew)?;
+        }
+        Ok(last)
+    }
+
+    /// Simulates the settled tick with a crew, and keeps the world after it. An error leaves the peer
+    /// as it was.
+    fn settle_tick_with<R: Threads + Sync, C: Crew>(
+        &mut self,
+        rt: &R,
+        alloc: Global,
+        tick: u32,
+        crew: &mut C,
+    ) -> Result<(), StepError>
+        requires next { tick ≡ settled_tick self.old.kept }
+        requires reached { tick < self.old.peer.reached }
+        ensures settled { OnOk result (settled_tick self.new.kept ≡ tick + 1) }
+        ensures ok { OnOk result (HasSettled 1 self.old self.new) }
+        ensures err { OnErr result (HasSettled 0 self.old self.new) }
+        ensures called { OnOk result (C.is_called crew.old crew.new) }
+    {
+        self.snapshots.reserve()?;
+        let payloads = self.commands.at_tick(alloc, tick)?;
+        let latest = self.snapshots.latest();
+        let work = &mut self.work;
+        let world = step_with(rt, alloc, &self.scene, latest, &payloads, work, crew)?;
+        self.snapshots.keep(world, &mut self.work);
+        Ok(())
     }
 
     /// Settles each tick up to the reached one, from the settled tick on: simulates it by one call

@@ -3,9 +3,8 @@
 use pf_cache::Work;
 use pf_commands::Payload;
 use pf_shapes::Scene;
-use pf_step::{Crew, StepError, World, step_alone, step_with};
+use pf_step::{World, step_alone};
 use std::alloc::{AllocError, Global};
-use std::thread::Threads;
 
 /// Makes the steps of a simulation, as [`step_alone`] does.
 pub trait Steps {
@@ -56,29 +55,5 @@ impl Steps for Alone {
         work: &mut Work,
     ) -> Result<World, AllocError> {
         step_alone(alloc, scene, world, payloads, work)
-    }
-}
-
-/// Makes the steps with a crew that solves the islands.
-#[derive(Drop)]
-pub(crate) struct WithCrew<'a, R: Threads + Sync, C: Crew> {
-    /// Starts the threads that compute contact points, where there are many pairs.
-    pub(crate) rt: &'a R,
-    /// The crew, which is called once in each step.
-    pub(crate) crew: &'a mut C,
-}
-
-impl<R: Threads + Sync, C: Crew> Steps for WithCrew<'_, R, C> {
-    type Error = StepError;
-
-    fn step(
-        &mut self,
-        alloc: Global,
-        scene: &Scene,
-        world: &World,
-        payloads: &[Payload],
-        work: &mut Work,
-    ) -> Result<World, StepError> {
-        step_with(self.rt, alloc, scene, world, payloads, work, self.crew)
     }
 }
