@@ -116,15 +116,15 @@ fn world_by<R: Threads + Sync>(
     }];
     let mut work = Work::new(alloc);
     let mut other_work = Work::new(alloc);
-    let mut world = World::start(alloc, scene)?;
+    let mut reached = World::start(alloc, scene)?;
     for _tick in 0..ticks {
-        let next = step_with(rt, alloc, scene, &world, &push, &mut work, crew)?;
-        if next != step_alone(alloc, scene, &world, &push, &mut other_work)? {
+        let next = step_with(rt, alloc, scene, &reached, &push, &mut work, crew)?;
+        if next != step_alone(alloc, scene, &reached, &push, &mut other_work)? {
             return Err(Fail::from("another world"));
         }
-        world = next;
+        reached = next;
     }
-    Ok(world)
+    Ok(reached)
 }
 
 #[test]

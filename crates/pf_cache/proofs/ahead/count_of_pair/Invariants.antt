@@ -8,7 +8,7 @@ invariant-loop-end l = record {
   order : l.start ≤ l.end;
   within : l.end ≤ length l.touches;
   count : prefix_len (is_of_pair l.pair) (drop l.start l.touches)
-    ≡ (l.end - l.start) + prefix_len (is_of_pair l.pair) (drop l.end l.touches);
+      ≡ (l.end - l.start) + prefix_len (is_of_pair l.pair) (drop l.end l.touches);
 }
 
 abbrev pub decreases-loop-end : goal.decreases-loop-end

@@ -9,8 +9,8 @@ abbrev pub invariant-loop-pair : goal.invariant-loop-pair
 invariant-loop-pair l = record {
   within : l.start ≤ length l.touches;
   placed : (shapes : List PlacedShape) → l.touches ≡ flat_map (points_of_pair shapes) l.pairs
-    → (l.start ≡ length (flat_map (points_of_pair shapes) (take l.pair-index l.pairs)))
-    × (l.spans.items ≡ spans_from 0 shapes (take l.pair-index l.pairs));
+      → (l.start ≡ length (flat_map (points_of_pair shapes) (take l.pair-index l.pairs)))
+      × (l.spans.items ≡ spans_from 0 shapes (take l.pair-index l.pairs));
   count : vec_len l.spans ≡ l.pair-index;
   room : length l.pairs ≤ vec_capacity l.spans;
 }
