@@ -44,10 +44,6 @@ impl Divisor {
     pub fn divide(&self, dividend: Fx) -> Fx
         ensures { result ≡ quotient dividend self.now }
     {
-        Fx::of_raw(rounded_quotient(
-            dividend.raw(),
-            self.divisor.raw(),
-            self.reciprocal,
-        ))
+        Fx::of_raw(rounded_quotient(dividend.raw(), self.divisor.raw(), self.reciprocal))
     }
 }

@@ -190,7 +190,14 @@ pub fn step_alone(
     let kept = work.take_manifolds(alloc);
     let bodies = commanded(work.take_bodies(alloc), scene, world, payloads)?;
     let found = narrow_phase(alloc, scene, &bodies, kept, work)?;
-    let tick = prepare(alloc, scene, world.contacts(), bodies, work.take_contacts(alloc), found)?;
+    let tick = prepare(
+        alloc,
+        scene,
+        world.contacts(),
+        bodies,
+        work.take_contacts(alloc),
+        found,
+    )?;
     let mut islands = tick.islands;
     solve_all(scene, &mut islands);
     work.end_tick(tick.found);
@@ -221,7 +228,14 @@ pub fn step_with<R: Threads + Sync, C: Crew>(
     let kept = work.take_manifolds(alloc);
     let bodies = commanded(work.take_bodies(alloc), scene, world, payloads)?;
     let found = narrow_phase_by_threads(rt, alloc, scene, &bodies, kept, work)?;
-    let tick = prepare(alloc, scene, world.contacts(), bodies, work.take_contacts(alloc), found)?;
+    let tick = prepare(
+        alloc,
+        scene,
+        world.contacts(),
+        bodies,
+        work.take_contacts(alloc),
+        found,
+    )?;
     let solved = crew.solve(scene, tick.islands)?;
     work.end_tick(tick.found);
     Ok(world_of(tick.bodies, tick.contacts, &solved))

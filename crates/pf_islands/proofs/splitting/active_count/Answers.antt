@@ -11,12 +11,12 @@ loop-number-preserved c =
     let before = c.loop-number.invariant in
     elim c.if-is_active_name.branch [
       | then-is_active_name w ↦ record {
-          value = w.count-is ∙ ap (λ n. n + 1) before.value
-              ∙ sym (slot_more names bodies k true (sym w.if-is_active_name.ensures));
-          bound = omega (arith, w.count-is, before.bound);
-        }
+        value = w.count-is ∙ ap (λ n. n + 1) before.value
+            ∙ sym (slot_more names bodies k true (sym w.if-is_active_name.ensures));
+        bound = omega (arith, w.count-is, before.bound);
+      }
       | else-is_active_name w ↦ record {
-          value = w.count-is ∙ omega (arith, before.value, slot_more names bodies k false (sym w.if-is_active_name.ensures));
-          bound = omega (arith, w.count-is, before.bound);
-        }
+        value = w.count-is ∙ omega (arith, before.value, slot_more names bodies k false (sym w.if-is_active_name.ensures));
+        bound = omega (arith, w.count-is, before.bound);
+      }
     ]
