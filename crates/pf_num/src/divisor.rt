@@ -28,7 +28,7 @@ impl Divisor {
     ghost use Rattle.pf_num.specs.Fx.{quotient};
 
     /// To divide by this number.
-    #[inline]
+    #[inline(always)]
     pub fn new(divisor: Fx) -> Divisor
         ensures { result ≡ divisor }
     {
@@ -40,7 +40,7 @@ impl Divisor {
 
     /// The quotient of a number by this one, rounded to the nearest even and saturated. By 0 it is
     /// the greatest number with the sign of the dividend, and 0 where that is 0.
-    #[inline]
+    #[inline(always)]
     pub fn divide(&self, dividend: Fx) -> Fx
         ensures { result ≡ quotient dividend self.now }
     {

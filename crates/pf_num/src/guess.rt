@@ -12,7 +12,7 @@ const ONE: f64 = 16_777_216.0;
 const MAX_ROOT: u64 = 0xffff_ffff;
 
 /// A guess at the root of a number below 2^63.
-#[inline]
+#[inline(always)]
 pub fn root_guess(n: u64) -> u64
     requires { n < 2 ^ 63 }
     ensures { result ≤ MAX_ROOT }
@@ -22,7 +22,7 @@ pub fn root_guess(n: u64) -> u64
 }
 
 /// About 2^24 / b: what a number is multiplied by for a guess at its quotient by `b`.
-#[inline]
+#[inline(always)]
 pub fn reciprocal_near(b: u64) -> f64
     requires { b < 2 ^ 63 }
 {
@@ -30,7 +30,7 @@ pub fn reciprocal_near(b: u64) -> f64
 }
 
 /// A guess at the whole number nearest to a quotient.
-#[inline]
+#[inline(always)]
 pub fn quotient_guess(a: u64, reciprocal: f64) -> u64
     requires { a < 2 ^ 63 }
 {

@@ -28,7 +28,7 @@ fn carry_of(n: u64, remainder: u64, divisor: u64) -> u64
 }
 
 /// Whether a number is less than half of another.
-#[inline]
+#[inline(always)]
 fn is_below_half(n: u64, whole: u64) -> bool
     ensures { IsTrue result ↔ (2 * n < whole) }
 {
@@ -36,7 +36,7 @@ fn is_below_half(n: u64, whole: u64) -> bool
 }
 
 /// Whether `n` is nearer to `p / b` than any other whole number.
-#[inline]
+#[inline(always)]
 #[tactic(auto, using(crate::proofs::Quotients::nearest_at, crate::proofs::Quotients::nearest_above))]
 fn is_nearest(n: u64, p: u64, b: u64) -> bool
     ensures { IsTrue result → n ≡ nearest p b }
@@ -50,7 +50,7 @@ fn is_nearest(n: u64, p: u64, b: u64) -> bool
 
 /// The whole number nearest to `a * 2^24 / b`, saturated at `MAX_RAW`: a checked guess, where
 /// `reciprocal` is about 2^24 / b.
-#[inline]
+#[inline(always)]
 fn nearest_quotient(a: u64, b: u64, reciprocal: f64) -> u64
     requires some { b ≢ 0 }
     requires few { a < 2 ^ 63 }
@@ -185,7 +185,7 @@ fn wide_product(a: i64, b: i64) -> i64
 /// The quotient of two raw numbers, rounded to the nearest even and saturated. By 0 it is the
 /// greatest number with the sign of `a`. The result does not depend on `reciprocal`, which is about
 /// 2^24 / |b|.
-#[inline]
+#[inline(always)]
 pub fn rounded_quotient(a: i64, b: i64, reciprocal: f64) -> i64
     requires left { IsRaw a }
     requires right { IsRaw b }
@@ -202,7 +202,7 @@ pub fn rounded_quotient(a: i64, b: i64, reciprocal: f64) -> i64
 }
 
 /// The number of this magnitude and sign.
-#[inline]
+#[inline(always)]
 fn with_sign(magnitude: u64, negative: bool) -> i64
     requires { magnitude ≤ MAX_RAW }
     ensures { result ≡ with_sign negative magnitude }

@@ -18,7 +18,7 @@ pub fn whole_root(n: u128) -> u64
 }
 
 /// `whole_root` of a number below 2^63: a checked guess.
-#[inline]
+#[inline(always)]
 #[tactic(auto, using(crate::proofs::Roots::root_is))]
 fn short_root(n: u64) -> u64
     requires { n < 2 ^ 63 }

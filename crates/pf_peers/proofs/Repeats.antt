@@ -1,6 +1,8 @@
 -- A settle, a frame that is taken again and a map that is merged again change nothing.
-use Rattle.std.proofs.Common.{◌≡◌, ℕ, ◌<◌, ◌==◌, if◌then◌else◌, Bool, true, false, List, length, Result, Ok, Err, refl, ap, sym, subst, arith}
-use Rattle.std.specs.FinMap.{get, entries}
+use Rattle.std.proofs.Common.{◌≡◌, ◌∙◌, ℕ, ◌<◌, ◌==◌, if◌then◌else◌, Bool, true, false, cond, List, length, Some, Result, Ok, Err, refl, ap, sym, subst, arith}
+use Rattle.std.proofs.lemmas.Bool.Decides.{nat_tests}
+use Rattle.std.specs.Cmp.{eq_by_cmp_equiv}
+use Rattle.std.specs.FinMap.{get, get-insert, entries}
 use Rattle.pf_shapes.specs.Scene.{Scene}
 use Rattle.pf_commands.specs.declared.checking.CheckFault.{CheckFault}
 use Rattle.pf_commands.specs.declared.fault.FrameFault.{FrameFault}
@@ -8,14 +10,19 @@ use Rattle.pf_commands.specs.declared.map.Put.{Put}
 use Rattle.pf_commands.specs.declared.payload.Command.{Command}
 use Rattle.pf_commands.specs.Check.{check, check_all}
 use Rattle.pf_commands.specs.Merge.{CommandMap, merge, singleton}
-use Rattle.pf_commands.specs.News.{news, put_outcome}
+use Rattle.pf_commands.specs.Name.{Name}
+use Rattle.pf_commands.specs.News.{is_change, is_news, news, put_outcome}
+use Rattle.pf_commands.specs.declared.map.Put.TheVariants.{Same}
+use Rattle.pf_commands.specs.declared.payload.Payload.{Payload}
+use Rattle.pf_commands.proofs.Changes.{merge_one-changed}
+use Rattle.pf_commands.proofs.Names.{name_cmp_total}
 use Rattle.pf_rollback.specs.Peer.{Peer, if_allowed, merge_map, put, with_command, with_commands}
 use Rattle.pf_peers.specs.declared.event.Event.{Event}
 use Rattle.pf_peers.specs.declared.event.Event.TheVariants.{Merge, Settle, Take}
 use Rattle.pf_peers.specs.declared.event.Reply.{Reply}
 use Rattle.pf_peers.specs.declared.event.Reply.TheVariants.{Merged, Took}
 use Rattle.pf_peers.specs.Laws.{commands_for}
-use Rattle.pf_peers.specs.Session.{Session, other_commands, peer_answer, peer_at, peer_of, replies_to, reply_and_peer, session_after, session_after_all}
+use Rattle.pf_peers.specs.Session.{Session, other_commands, peer_answer, peer_at, peer_of, replies_to, reply_and_peer, reply_to, session_after, session_after_all}
 use Rattle.pf_peers.proofs.Calls.{asked_peer, peer_after_all, scene-session_after_all}
 use Rattle.pf_peers.proofs.Maps.{Absorbs, absorbs_before, absorbs_merged, absorbs_more}
 use Rattle.pf_peers.proofs.Refusals.{same_after}
@@ -48,6 +55,41 @@ unfolding peer_answer put
 take_again s others other p q i (Ok c) has =
     put_again p q c i (put_outcome (get p.commands c.name) c.payload) (put_outcome (get q.commands c.name) c.payload) (check s c.name c.payload) has
 take_again s others other p q i (Err fault) has = refl
+
+-- the payload that is held is no news
+same_again : (p : Payload) → is_change (put_outcome (Some p) p) ≡ false
+same_again p = grind (arith, nat_tests)
+
+-- a command that a map absorbs is no news to it
+no_news : (m : CommandMap) (n : Name) (p : Payload) → Absorbs m (singleton n p)
+    → is_change (put_outcome (get m n) p) ≡ false
+no_news m n p absorbs = by (is_news m (n, p)) refl
+  where
+    held : is_news m (n, p) ≡ true → get m n ≡ Some p
+    held fresh =
+        ap (λ (k : CommandMap). get k n) (sym absorbs ∙ merge_one-changed m n p fresh)
+        ∙ get-insert name_cmp_total m n p n
+        ∙ ap (λ t. cond t (Some p) (get m n)) ((eq_by_cmp_equiv name_cmp_total).refl n)
+
+    by : (b : Bool) → is_news m (n, p) ≡ b → is_change (put_outcome (get m n) p) ≡ false
+    by false e = e
+    by true e = ap (λ o. is_change (put_outcome o p)) (held e) ∙ same_again p
+
+-- the outcome in a reply to a frame that is taken
+abbrev outcome_in : Reply → Put
+outcome_in (Took peer put) = put
+outcome_in reply = Same
+
+reply_again : (p q : Peer) (c : Command) (i : ℕ) (before put : Put) (checked : Result (Unit {0}) CheckFault)
+    → Absorbs q.commands (reply_and_peer (λ outcome. Took i outcome) p (if_allowed checked (before, with_command p c))).1.commands
+    → (reply_and_peer (λ outcome. Took i outcome) q
+    (if_allowed checked (put_outcome (get q.commands c.name) c.payload, with_command q c))).0 ≡ Took i put
+    → is_change put ≡ false
+reply_again p q c i before put (Ok done) has same =
+    ap (λ r. is_change (outcome_in r)) (sym same)
+    ∙ no_news q.commands c.name c.payload
+    (absorbs_more q.commands _ (singleton c.name c.payload) has (absorbs_merged p.commands (singleton c.name c.payload)))
+reply_again p q c i before put (Err fault) has same = ap (λ r. is_change (outcome_in r)) (sym same)
 
 merge_checked : (p q : Peer) (m : CommandMap) (peer before after : ℕ) (checked : Result (Unit {0}) CheckFault)
     → Absorbs q.commands (reply_and_peer (λ count. Merged peer count) p (if_allowed checked (before, with_commands p m))).1.commands
@@ -101,3 +143,15 @@ merged_again s i j between later within same =
     let same_scene : t.scene ≡ s.scene = scene-session_after_all (session_after s event) between in
     let again = merge_again s.scene (peer_at s j).commands (peer_at s i) (peer_at t i) i j (still_has s event between within) in
     ap (λ (u : Session). replies_to u later) (same_after t event (rw (same_scene, same) again))
+
+pub taken_again_is_no_news : (s : Session) (i : ℕ) (c : Command) (between : List Event) (put : Put) → i < length s.peers
+    → let t = session_after_all (session_after s (Take i (Ok c))) between in
+    reply_to t (Take i (Ok c)) ≡ Took i put → is_change put ≡ false
+unfolding peer_answer Rattle.pf_rollback.specs.Peer.put
+taken_again_is_no_news s i c between put within same =
+    let event = Take i (Ok c) in
+    let t = session_after_all (session_after s event) between in
+    let one_scene : t.scene ≡ s.scene = scene-session_after_all (session_after s event) between in
+    reply_again (peer_at s i) (peer_at t i) c i (put_outcome (get (peer_at s i).commands c.name) c.payload) put
+    (check s.scene c.name c.payload) (still_has s event between within)
+    (rw one_scene at same)

@@ -1,17 +1,19 @@
 //! Laws of sessions. These functions compute nothing: their clauses are the statements.
 
-ghost use Rattle.std.specs.Prelude.{◌≡◌, ◌↔◌, ℕ, ◌≤◌, ◌<◌, List, Result, length, All, Contains};
+ghost use Rattle.std.specs.Prelude.{◌≡◌, ◌↔◌, ℕ, ◌≤◌, ◌<◌, List, Result, Ok, false, length, All, Contains};
 ghost use Rattle.std.specs.FinMap.{get};
 ghost use Rattle.pf_commands.specs.declared.payload.Command.{Command};
 ghost use Rattle.pf_commands.specs.declared.fault.FrameFault.{FrameFault};
 ghost use Rattle.pf_commands.specs.Merge.{IsCommand, IsCommandMap, put_all};
 ghost use Rattle.pf_commands.specs.Name.{Name};
+ghost use Rattle.pf_commands.specs.News.{is_change};
+ghost use Rattle.pf_commands.specs.declared.map.Put.{Put};
 ghost use Rattle.pf_step.specs.Simulation.{sim};
 ghost use Rattle.pf_step.specs.World.{World};
 ghost use Rattle.pf_rollback.specs.declared.fault.Refusal.{Refusal};
 ghost use Rattle.pf_peers.specs.declared.event.Event.{Event};
 ghost use Rattle.pf_peers.specs.declared.event.Event.TheVariants.{Merge, Settle, Show, Take};
-ghost use Rattle.pf_peers.specs.declared.event.Reply.TheVariants.{Refused, Shown};
+ghost use Rattle.pf_peers.specs.declared.event.Reply.TheVariants.{Refused, Shown, Took};
 ghost use Rattle.pf_peers.specs.Laws.{IsAlike, IsAllowedPeer, commands_for};
 ghost use Rattle.pf_peers.specs.Session.{Session, peer_at, replies_to, reply_to, session_after, session_after_all};
 
@@ -62,7 +64,7 @@ pub fn settles_change_no_reply()
 {}
 
 /// Whatever happens in between, a frame that is taken again and a map that is merged again change
-/// no later reply.
+/// no later reply; and the command of a frame that is taken again is no news.
 pub fn repeats_change_no_reply()
     ensures taken { (s : Session) (i : ℕ) (frame : Result Command FrameFault)
         (between later : List Event) → i < length s.peers
@@ -72,6 +74,10 @@ pub fn repeats_change_no_reply()
         → let t = session_after_all (session_after s (Merge i j)) between in
         (peer_at t j).commands ≡ (peer_at s j).commands
         → replies_to (session_after t (Merge i j)) later ≡ replies_to t later }
+    ensures no_news { (s : Session) (i : ℕ) (c : Command) (between : List Event) (put : Put)
+        → i < length s.peers
+        → let t = session_after_all (session_after s (Take i (Ok c))) between in
+        reply_to t (Take i (Ok c)) ≡ Took i put → is_change put ≡ false }
 {}
 
 /// Two peers that merge each other's commands hold the same commands.

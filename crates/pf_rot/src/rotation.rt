@@ -32,6 +32,7 @@ impl Rot {
 
     /// The rotation in the direction (c, s): each part divided by the length, and upright where
     /// that is 0.
+    #[inline]
     #[tactic(auto, unfolding(crate::specs::Rotation::unit))]
     pub fn unit(c: Fx, s: Fx) -> Rot
         ensures { result ≡ unit c s }
@@ -49,6 +50,7 @@ impl Rot {
 
     /// The rotation after a tick (1/64 s) at this angular velocity, in radians a second. It stays
     /// as it is, bit for bit, where the angle rounds to 0.
+    #[inline]
     #[tactic(auto, unfolding(crate::specs::Rotation::turn))]
     pub fn turn(self, spin: Fx) -> Rot
         ensures { result ≡ turn self spin }

@@ -15,7 +15,7 @@ pub const STILL_SPIN: u64 = 524_288;
 pub const STILL_TICKS: u8 = 32;
 
 /// The phase Gravity. `pull` is what gravity adds to a velocity in a tick.
-#[inline]
+#[inline(always)]
 #[tactic(auto, unfolding(crate::specs::Bodies::after_gravity))]
 pub fn after_gravity(pull: V2, body: BodyState) -> BodyState
     ensures { result ≡ after_gravity pull body }
@@ -27,7 +27,7 @@ pub fn after_gravity(pull: V2, body: BodyState) -> BodyState
 }
 
 /// The phase Positions: semi-implicit Euler, by the new velocity and spin.
-#[inline]
+#[inline(always)]
 #[tactic(auto, unfolding(crate::specs::Bodies::after_motion))]
 pub fn after_motion(body: BodyState) -> BodyState
     ensures { result ≡ after_motion body }
@@ -40,7 +40,7 @@ pub fn after_motion(body: BodyState) -> BodyState
 }
 
 /// The phase Timers.
-#[inline]
+#[inline(always)]
 #[tactic(auto, unfolding(crate::specs::Bodies::after_timer))]
 pub fn after_timer(body: BodyState) -> BodyState
     ensures { result ≡ after_timer body }
@@ -56,7 +56,7 @@ pub fn after_timer(body: BodyState) -> BodyState
 }
 
 /// Whether a body is slow enough to be still, by exact squares.
-#[inline]
+#[inline(always)]
 #[tactic(auto, unfolding(crate::specs::Bodies::is_still))]
 fn is_still(body: BodyState) -> bool
     ensures { result ≡ is_still body }
@@ -66,7 +66,7 @@ fn is_still(body: BodyState) -> bool
 }
 
 /// Whether a velocity is at most `STILL_SPEED`.
-#[inline]
+#[inline(always)]
 fn is_slow(velocity: V2) -> bool
     ensures { result ≡ is_slow velocity }
 {

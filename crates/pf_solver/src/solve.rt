@@ -119,7 +119,7 @@ fn move_on(bodies: &mut [BodyState])
 }
 
 /// The phases Gravity to Timers of a body that no contact touches, where it is awake.
-#[inline]
+#[inline(always)]
 fn go_on_freely(pull: V2, body: &mut BodyState)
     ensures { body.new ≡ (if body.old.awake
         then after_timer (after_motion (after_gravity pull body.old)) else body.old) }

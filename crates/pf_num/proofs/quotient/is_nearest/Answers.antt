@@ -1,4 +1,4 @@
-use Rattle.std.proofs.Common.{rules, arith, ◌≡◌, ◌+◌, ◌-◌, ◌*◌, ◌<◌}
+use Rattle.std.proofs.Common.{rules, arith, ◌≡◌, ◌-◌, ◌*◌, ◌<◌}
 use Rattle.pf_num.proofs.Quotients.{nearest_above, nearest_at}
 use Rattle.pf_num.proofs.quotient.is_nearest.Goals as goal
 
