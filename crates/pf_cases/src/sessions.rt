@@ -9,6 +9,7 @@ use pf_num::Fx;
 use pf_peers::{Event, Reply, Session, run};
 use pf_rollback::Refusal;
 use pf_shapes::PLAYERS;
+use std::alloc::Global;
 use std::test::Fail;
 
 /// A circle of player 0 and one of player 1.
@@ -50,6 +51,22 @@ fn take(peer: u8, tick: u32, player: u8) -> Event
     }
 }
 
+/// Peer 0 took a new command, peer 1 has not reached tick 21, and both show one world.
+fn end_equal(replies: &[Reply]) -> bool {
+    let [.., took, refused, shown, others] = replies else {
+        return false;
+    };
+    let (Reply::Shown { world: left, .. }, Reply::Shown { world: right, .. }) = (shown, others)
+    else {
+        return false;
+    };
+    let xs = left.bodies().iter().map(|body| body.position.x.raw());
+    matches!(took, Reply::Took { peer: 0, put } if *put == Put::New)
+        && matches!(refused, Reply::Refused(Refusal::NotReached(20)))
+        && left == right
+        && xs.eq([20 * 262_144, 99_999_999 + 15 * 262_144])
+}
+
 #[test]
 fn two_peers_end_equal(rt: HostRuntime) -> Result<(), Fail> {
     let scene = scene_of(rt.alloc(), SCENE)?;
@@ -66,19 +83,7 @@ fn two_peers_end_equal(rt: HostRuntime) -> Result<(), Fail> {
         Event::Show { peer: 1, tick: 20 },
     ];
     let replies = run(rt.alloc(), &scene, 2, &events)?;
-    let [.., took, refused, shown, others] = replies.as_slice() else {
-        panic!(rt; "each event has a reply");
-    };
-    let put = Put::New;
-    assert!(rt; matches!(took, Reply::Took { peer: 0, put: found } if *found == put));
-    assert!(rt; matches!(refused, Reply::Refused(Refusal::NotReached(20))));
-    let (Reply::Shown { world: left, .. }, Reply::Shown { world: right, .. }) = (shown, others)
-    else {
-        panic!(rt; "both worlds are shown");
-    };
-    assert!(rt; left == right);
-    let xs = left.bodies().iter().map(|body| body.position.x.raw());
-    assert!(rt; xs.eq([20 * 262_144, 99_999_999 + 15 * 262_144]));
+    assert!(rt; end_equal(replies.as_slice()));
     Ok(())
 }
 
@@ -122,6 +127,31 @@ fn shown(reply: &Reply) -> Option<[[i64; 3]; 2]> {
     ])
 }
 
+/// Peer 0 settles tick 10, takes player 1's push at tick 4, settles again, and shows peer 1's world.
+fn settled_twice(replies: &[Reply]) -> bool {
+    let [_, settled, _, issued, took, again, _, left, right] = replies else {
+        return false;
+    };
+    let bodies = Some([[0, 0, 10], [169_345_024, 16_777_216, 0]]);
+    is_settled_at_10(settled)
+        && matches!(issued, Reply::Issued { peer: 1, frame } if *frame == LATE_FRAME)
+        && matches!(took, Reply::Took { peer: 0, put } if *put == Put::New)
+        && is_settled_at_10(again)
+        && shown(left) == bodies
+        && shown(right) == bodies
+}
+
+/// Peer 0 has settled tick 10.
+fn is_settled_at_10(reply: &Reply) -> bool {
+    matches!(
+        reply,
+        Reply::Settled {
+            peer: 0,
+            reached: 10
+        }
+    )
+}
+
 #[test]
 fn a_late_command_is_settled_again(rt: HostRuntime) -> Result<(), Fail> {
     let scene = scene_of(rt.alloc(), LATE_SCENE)?;
@@ -137,33 +167,20 @@ fn a_late_command_is_settled_again(rt: HostRuntime) -> Result<(), Fail> {
         Event::Show { peer: 1, tick: 10 },
     ];
     let replies = run(rt.alloc(), &scene, 2, &events)?;
-    let [_, settled, _, issued, took, again, _, left, right] = replies.as_slice() else {
-        panic!(rt; "each event has a reply");
-    };
-    let put = Put::New;
-    assert!(rt;
-        matches!(
-            settled,
-            Reply::Settled {
-                peer: 0,
-                reached: 10
-            }
-        )
-    );
-    assert!(rt; matches!(issued, Reply::Issued { peer: 1, frame } if *frame == LATE_FRAME));
-    assert!(rt; matches!(took, Reply::Took { peer: 0, put: found } if *found == put));
-    assert!(rt;
-        matches!(
-            again,
-            Reply::Settled {
-                peer: 0,
-                reached: 10
-            }
-        )
-    );
-    let bodies = [[0, 0, 10], [169_345_024, 16_777_216, 0]];
-    assert!(rt; shown(left) == Some(bodies) && shown(right) == Some(bodies));
+    assert!(rt; settled_twice(replies.as_slice()));
     Ok(())
+}
+
+/// Only the first of three equal frames, and neither of two merges, brings a command.
+fn brought_once(replies: &[Reply]) -> bool {
+    let [_, _, _, first, second, third, merged, own] = replies else {
+        return false;
+    };
+    matches!(first, Reply::Took { peer: 0, put } if *put == Put::New)
+        && matches!(second, Reply::Took { peer: 0, put } if *put == Put::Same)
+        && matches!(third, Reply::Took { peer: 0, put } if *put == Put::Same)
+        && matches!(merged, Reply::Merged { peer: 0, count: 0 })
+        && matches!(own, Reply::Merged { peer: 0, count: 0 })
 }
 
 #[test]
@@ -180,16 +197,21 @@ fn repeats_and_merges_of_what_is_held_bring_nothing(rt: HostRuntime) -> Result<(
         Event::Merge { peer: 0, other: 0 },
     ];
     let replies = run(rt.alloc(), &scene, 2, &events)?;
-    let [_, _, _, first, second, third, merged, own] = replies.as_slice() else {
-        panic!(rt; "each event has a reply");
-    };
-    let (new, same) = (Put::New, Put::Same);
-    assert!(rt; matches!(first, Reply::Took { peer: 0, put } if *put == new));
-    assert!(rt; matches!(second, Reply::Took { peer: 0, put } if *put == same));
-    assert!(rt; matches!(third, Reply::Took { peer: 0, put } if *put == same));
-    assert!(rt; matches!(merged, Reply::Merged { peer: 0, count: 0 }));
-    assert!(rt; matches!(own, Reply::Merged { peer: 0, count: 0 }));
+    assert!(rt; brought_once(replies.as_slice()));
     Ok(())
+}
+
+/// One command came to peer 0, two to peer 1, and both show one world.
+fn merged_both_ways(replies: &[Reply]) -> bool {
+    let [.., there, back, left, right] = replies else {
+        return false;
+    };
+    // Ten ticks at 2, and ten at 1.
+    let bodies = Some([[5_242_880, 33_554_432, 0], [170_393_600, 16_777_216, 0]]);
+    matches!(there, Reply::Merged { peer: 0, count: 1 })
+        && matches!(back, Reply::Merged { peer: 1, count: 2 })
+        && shown(left) == bodies
+        && shown(right) == bodies
 }
 
 #[test]
@@ -207,15 +229,22 @@ fn merges_both_ways_make_peers_agree(rt: HostRuntime) -> Result<(), Fail> {
         Event::Show { peer: 1, tick: 10 },
     ];
     let replies = run(rt.alloc(), &scene, 2, &events)?;
-    let [.., there, back, left, right] = replies.as_slice() else {
-        panic!(rt; "each event has a reply");
-    };
-    assert!(rt; matches!(there, Reply::Merged { peer: 0, count: 1 }));
-    assert!(rt; matches!(back, Reply::Merged { peer: 1, count: 2 }));
-    // Ten ticks at 2, and ten at 1.
-    let bodies = [[5_242_880, 33_554_432, 0], [170_393_600, 16_777_216, 0]];
-    assert!(rt; shown(left) == Some(bodies) && shown(right) == Some(bodies));
+    assert!(rt; merged_both_ways(replies.as_slice()));
     Ok(())
+}
+
+/// Both peers show two sleepers at tick 300, and one of them moved at tick 437.
+fn moved_from_tick_300(replies: &[Reply]) -> bool {
+    let [.., before, first, after, second] = replies else {
+        return false;
+    };
+    let asleep = Some([[0, 0, 0], [167_772_160, 0, 0]]);
+    // 137 ticks at 1.
+    let moved = Some([[0, 0, 0], [203_685_888, 16_777_216, 0]]);
+    shown(before) == asleep
+        && shown(first) == asleep
+        && shown(after) == moved
+        && shown(second) == moved
 }
 
 #[test]
@@ -240,15 +269,30 @@ fn a_far_too_late_command_changes_the_same_worlds(rt: HostRuntime) -> Result<(),
         Event::Show { peer: 1, tick: 437 },
     ];
     let replies = run(rt.alloc(), &scene, 2, &events)?;
-    let [.., before, first, after, second] = replies.as_slice() else {
-        panic!(rt; "each event has a reply");
-    };
-    let asleep = Some([[0, 0, 0], [167_772_160, 0, 0]]);
-    assert!(rt; shown(before) == asleep && shown(first) == asleep);
-    // 137 ticks at 1.
-    let moved = Some([[0, 0, 0], [203_685_888, 16_777_216, 0]]);
-    assert!(rt; shown(after) == moved && shown(second) == moved);
+    assert!(rt; moved_from_tick_300(replies.as_slice()));
     Ok(())
+}
+
+/// Peer 0 has reached tick 5.
+fn is_at_5(reply: &Reply) -> bool {
+    matches!(
+        reply,
+        Reply::Advanced {
+            peer: 0,
+            reached: 5
+        }
+    )
+}
+
+/// Peer 0 reaches tick 5, and neither shows a later tick nor goes beyond the last one.
+fn stayed_at_5(replies: &[Reply]) -> bool {
+    let [first, above, over, last] = replies else {
+        return false;
+    };
+    is_at_5(first)
+        && matches!(above, Reply::Refused(Refusal::NotReached(5)))
+        && matches!(over, Reply::Refused(Refusal::TickLimit))
+        && is_at_5(last)
 }
 
 #[test]
@@ -264,29 +308,7 @@ fn nobody_goes_over_the_limit(rt: HostRuntime) -> Result<(), Fail> {
         Event::Advance { peer: 0, ticks: 0 },
     ];
     let replies = run(rt.alloc(), &scene, 1, &events)?;
-    let [first, above, over, last] = replies.as_slice() else {
-        panic!(rt; "each event has a reply");
-    };
-    assert!(rt;
-        matches!(
-            first,
-            Reply::Advanced {
-                peer: 0,
-                reached: 5
-            }
-        )
-    );
-    assert!(rt; matches!(above, Reply::Refused(Refusal::NotReached(5))));
-    assert!(rt; matches!(over, Reply::Refused(Refusal::TickLimit)));
-    assert!(rt;
-        matches!(
-            last,
-            Reply::Advanced {
-                peer: 0,
-                reached: 5
-            }
-        )
-    );
+    assert!(rt; stayed_at_5(replies.as_slice()));
     Ok(())
 }
 
@@ -299,48 +321,27 @@ fn nudge(body: u16) -> Payload {
 /// A floor of nobody.
 const FLOOR: &[u8] = b"gravity 0 0\nbox - 0 0 16777216 16777216 0 0 16777216 0\nend\n";
 
+/// The reply to peer 1 where it pushes a body of a scene by nothing.
+fn reply_to_nudge(alloc: Global, text: &[u8], body: u16) -> Result<Vec<Reply>, Fail> {
+    let scene = scene_of(alloc, text)?;
+    let payload = nudge(body);
+    Ok(run(alloc, &scene, 2, &[Event::Issue { peer: 1, payload }])?)
+}
+
+/// The only reply rejects a command for this reason.
+fn is_rejected(replies: &[Reply], reason: CheckFault) -> bool {
+    matches!(replies, [Reply::Refused(Refusal::Check(found))] if *found == reason)
+}
+
 #[test]
 fn commands_for_other_bodies_are_rejected(rt: HostRuntime) -> Result<(), Fail> {
-    let scene = scene_of(rt.alloc(), LATE_SCENE)?;
-    let events = [
-        Event::Issue {
-            peer: 1,
-            payload: nudge(0),
-        },
-        Event::Issue {
-            peer: 1,
-            payload: nudge(7),
-        },
-    ];
-    let replies = run(rt.alloc(), &scene, 2, &events)?;
-    let [owned, unknown] = replies.as_slice() else {
-        panic!(rt; "each event has a reply");
-    };
-    assert!(rt; matches!(owned, Reply::Refused(Refusal::Check(CheckFault::NotOwner))));
-    assert!(rt;
-        matches!(
-            unknown,
-            Reply::Refused(Refusal::Check(CheckFault::UnknownBody))
-        )
-    );
-    let floor = scene_of(rt.alloc(), FLOOR)?;
-    let replies = run(
-        rt.alloc(),
-        &floor,
-        1,
-        &[Event::Issue {
-            peer: 0,
-            payload: nudge(0),
-        }],
-    )?;
-    let [fixed] = replies.as_slice() else {
-        panic!(rt; "each event has a reply");
-    };
-    assert!(rt;
-        matches!(
-            fixed,
-            Reply::Refused(Refusal::Check(CheckFault::StaticBody))
-        )
-    );
+    for (text, body, reason) in [
+        (LATE_SCENE, 0, CheckFault::NotOwner),
+        (LATE_SCENE, 7, CheckFault::UnknownBody),
+        (FLOOR, 0, CheckFault::StaticBody),
+    ] {
+        let replies = reply_to_nudge(rt.alloc(), text, body)?;
+        assert!(rt; is_rejected(replies.as_slice(), reason), "body {body}");
+    }
     Ok(())
 }

@@ -15,5 +15,5 @@ mod splitting;
 pub use groups::Groups;
 pub use island::Island;
 pub use joining::join_back;
-pub use sleep::rest_alone;
+pub use sleep::{fall_asleep, rest_alone};
 pub use splitting::split;

@@ -10,7 +10,7 @@ use pf_shapes::BodyState;
 
 /// Stops a body and puts it to sleep.
 #[inline]
-fn fall_asleep(body: &mut BodyState)
+pub fn fall_asleep(body: &mut BodyState)
     ensures { body.new ≡ at_sleep body.old }
 {
     body.velocity = V2::ZERO;

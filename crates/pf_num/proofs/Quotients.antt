@@ -1,6 +1,7 @@
 -- A number whose product with the divisor is nearer to the dividend than half the divisor is the
 -- rounded quotient.
-use Rattle.std.proofs.Common.{◌≡◌, ℕ, ◌+◌, ◌*◌, ◌-◌, ◌/◌, ◌%◌, ◌<◌, ◌≤◌, zero, suc, ap, ap₂, sym, ◌∙◌, arith}
+use Rattle.std.proofs.Common.{◌≡◌, ⊎_elim, ℕ, ◌+◌, ◌*◌, ◌-◌, ◌/◌, ◌%◌, ◌<◌, ◌≤◌, zero, suc, ap, ap₂, sym, ◌∙◌, arith}
+use Rattle.std.proofs.lemmas.Bool.{cases_lt}
 use Rattle.std.proofs.lemmas.Bool.Decides.{nat_tests}
 use Rattle.std.proofs.lemmas.Nat.{div-mul-add, mod-mul-add}
 use Rattle.pf_num.specs.Round.{carry, nearest}
@@ -44,3 +45,11 @@ nearest_above p b (suc m) above near =
     let one_more : m + 1 ≡ suc m = omega arith in
     sym (ap₂ (λ q r. q + carry q r b) (quotient_by_product p b m low below) (remainder_by_product p b m low below)
     ∙ one_carry m (p - m * b) b great ∙ one_more)
+
+-- on either side
+pub nearest_within : (p b n : ℕ) → 2 * ((n * b - p) + (p - n * b)) < b → n ≡ nearest p b
+nearest_within p b n near =
+    ⊎_elim
+    (λ above. nearest_above p b n above (omega (arith, above, near)))
+    (λ low. nearest_at p b n low (omega (arith, low, near)))
+    (cases_lt p (n * b))

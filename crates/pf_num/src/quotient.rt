@@ -37,13 +37,12 @@ fn is_below_half(n: u64, whole: u64) -> bool
 
 /// Whether `n` is nearer to `p / b` than any other whole number.
 #[inline(always)]
-#[tactic(auto, using(crate::proofs::Quotients::nearest_at, crate::proofs::Quotients::nearest_above))]
+#[tactic(auto, using(crate::proofs::Quotients::nearest_within))]
 fn is_nearest(n: u64, p: u64, b: u64) -> bool
     ensures { IsTrue result → n ≡ nearest p b }
 {
     match n.checked_mul(b) {
-        Some(product) if product <= p => is_below_half(p - product, b),
-        Some(product) => is_below_half(product - p, b),
+        Some(product) => is_below_half(product.abs_diff(p), b),
         None => false,
     }
 }

@@ -1,10 +1,14 @@
--- What an island goes through in a tick, as Box2D 2.x's b2Island::Solve.
-use Rattle.std.specs.Prelude.{ℕ, List}
+-- What an island goes through in a tick, as Box2D 2.x's b2Island::Solve, and what a body goes
+-- through that no contact touches.
+use Rattle.std.specs.Prelude.{ℕ, ◌==◌, ◌&&◌, List, if◌then◌else◌}
+use Rattle.pf_rot.specs.Vector.{V2}
+use Rattle.pf_shapes.specs.Body.{BodyState}
 use Rattle.pf_shapes.specs.Scene.{Scene}
 use Rattle.pf_islands.specs.Island.{rows_among, states_of}
-use Rattle.pf_islands.specs.Sleep.{rested_alone}
+use Rattle.pf_islands.specs.Sleep.{at_sleep, rested_alone}
 use Rattle.pf_islands.specs.Split.{Island}
 use Rattle.pf_solver.specs.declared.bodies.TheConstants.{STILL_TICKS}
+use Rattle.pf_solver.specs.Bodies.{after_gravity, after_motion, after_timer}
 use Rattle.pf_solver.specs.Solve.{solved}
 use Rattle.pf_solver.specs.Velocities.{Batch}
 
@@ -21,3 +25,16 @@ seen_from numbers b = record {
   bodies = states_of numbers b.bodies;
   rows = rows_among numbers b.rows;
 }
+
+-- the phases Gravity to Timers of a body that no contact touches
+abbrev pub moved_alone : V2 → BodyState → BodyState
+moved_alone pull b =
+    if b.awake then after_timer (after_motion (after_gravity pull b)) else b
+
+-- the phase Sleep of a body that is a group of its own
+abbrev pub asleep_if_still : BodyState → BodyState
+asleep_if_still b = if b.awake && (b.timer == STILL_TICKS) then at_sleep b else b
+
+-- a body that no contact touches, after a tick; `pull` is what gravity adds to its velocity
+unfoldable pub body_after_tick : V2 → BodyState → BodyState
+body_after_tick pull b = asleep_if_still (moved_alone pull b)

@@ -2,14 +2,16 @@
 
 ghost use Rattle.std.specs.Prelude.{◌≡◌, ◌<◌, All, if◌then◌else◌, length, map};
 ghost use Rattle.pf_cache.specs.Row.{IsSide};
-ghost use Rattle.pf_solver.specs.Bodies.{after_gravity, after_motion, after_timer, each_awake};
+ghost use Rattle.pf_solver.specs.Alone.{body_after_tick};
+ghost use Rattle.pf_solver.specs.Bodies.{after_gravity, after_motion, after_timer, each_awake, gravity_per_tick};
 ghost use Rattle.pf_solver.specs.Solve.{pre_step_body, mass_of, prepared_row, solved};
 ghost use Rattle.pf_islands.specs.Rows.{IsRowOf};
 
-use crate::bodies::{after_gravity, after_motion, after_timer};
+use crate::bodies::{STILL_TICKS, after_gravity, after_motion, after_timer};
 use crate::constraint::{LastFriction, PreStepBody, constraint_of};
 use crate::velocities::{rounds, warm_start};
 use pf_cache::{InverseMass, Prepared, Row, Side};
+use pf_islands::fall_asleep;
 use pf_num::Fx;
 use pf_rot::V2;
 use pf_shapes::{BodyState, Fixture, Scene};
@@ -126,6 +128,31 @@ fn go_on_freely(pull: V2, body: &mut BodyState)
 {
     if body.awake {
         *body = after_timer(after_motion(after_gravity(pull, *body)));
+    }
+}
+
+/// The phases Gravity to Sleep of a body that no contact touches.
+#[inline(always)]
+#[tactic(auto, unfolding(crate::specs::Alone::body_after_tick))]
+fn go_on_alone(pull: V2, body: &mut BodyState)
+    ensures { body.new ≡ body_after_tick pull body.old }
+{
+    go_on_freely(pull, body);
+    if body.awake && body.timer == STILL_TICKS {
+        fall_asleep(body);
+    }
+}
+
+/// The phases Gravity to Sleep of bodies that no contact touches, one body after the other: each is
+/// a group of its own. Takes no memory.
+#[inline(never)]
+pub fn solve_untouched(scene: &Scene, bodies: &mut [BodyState])
+    ensures { bodies.new
+        ≡ map (body_after_tick (gravity_per_tick scene.now.gravity)) bodies.old }
+{
+    let pull = scene.gravity().scale(Fx::TICK);
+    for body in bodies.iter_mut() {
+        go_on_alone(pull, body);
     }
 }
 

@@ -40,7 +40,8 @@ after_commands-empty fixtures [] = refl
 after_commands-empty fixtures (p ∷ payloads) =
     rw (after_command-empty fixtures p) (after_commands-empty fixtures payloads)
 
-none_long : {X : Type 0} (xs : List X) → length xs ≡ 0 → xs ≡ []
+-- a list without length has no elements
+pub none_long : {X : Type 0} (xs : List X) → length xs ≡ 0 → xs ≡ []
 none_long [] none = refl
 none_long (x ∷ xs) none = absurd (omega (arith, none))
 

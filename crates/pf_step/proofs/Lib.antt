@@ -15,3 +15,4 @@ pub mod Apart
 pub mod Alone
 pub mod AloneContacts
 pub mod Joined
+pub mod Untouched

@@ -8,7 +8,8 @@ ghost use Rattle.pf_cache.specs.Meter.{work_after_tick};
 ghost use Rattle.pf_cache.specs.Row.{AreRowsAt};
 ghost use Rattle.pf_islands.specs.Join.{IsAtHome, joined_bodies, joined_contacts};
 ghost use Rattle.pf_islands.specs.Split.{IsIslandOf};
-ghost use Rattle.pf_solver.specs.Alone.{island_after_tick};
+ghost use Rattle.pf_solver.specs.Alone.{body_after_tick, island_after_tick};
+ghost use Rattle.pf_solver.specs.Bodies.{gravity_per_tick};
 ghost use Rattle.pf_step.specs.Activity.{batch_of_bodies, contacts_of_bodies, islands_of_bodies};
 ghost use Rattle.pf_step.specs.Commands.{after_commands};
 ghost use Rattle.pf_step.specs.Step.{narrow_phase, narrow_phase_of_tick, step, touching};
@@ -20,7 +21,7 @@ use pf_cache::{Contacts, Manifolds, NarrowPhase, Work};
 use pf_commands::Payload;
 use pf_islands::{Groups, Island, join_back, split};
 use pf_shapes::{BodyState, Scene};
-use pf_solver::Solve;
+use pf_solver::{Solve, solve_untouched};
 use std::alloc::{AllocError, Global};
 use std::thread::Threads;
 
@@ -166,6 +167,20 @@ fn world_of(bodies: Vec<BodyState>, contacts: Contacts, islands: &[Island]) -> W
     World { bodies, contacts }
 }
 
+/// The world after a tick in which nothing touches: each body goes through it alone.
+fn untouched_world(alloc: Global, scene: &Scene, bodies: Vec<BodyState>) -> World
+    ensures bodies { result.bodies
+        ≡ map (body_after_tick (gravity_per_tick scene.now.gravity)) bodies.items }
+    ensures contacts { result.contacts ≡ [] }
+{
+    let mut bodies = bodies;
+    solve_untouched(scene, &mut bodies);
+    World {
+        bodies,
+        contacts: Contacts::new(alloc),
+    }
+}
+
 /// The world one tick of 1/64 s later, with the payloads of the tick's commands in order of player,
 /// then number. The world has one state for each body of the scene. Its islands are solved one
 /// after the other. Counts the tick and the pairs that could not reuse kept contact points, and
@@ -190,6 +205,10 @@ pub fn step_alone(
     let kept = work.take_manifolds(alloc);
     let bodies = commanded(work.take_bodies(alloc), scene, world, payloads)?;
     let found = narrow_phase(alloc, scene, &bodies, kept, work)?;
+    if found.manifolds.touches().is_empty() {
+        work.end_tick(found);
+        return Ok(untouched_world(alloc, scene, bodies));
+    }
     let tick = prepare(
         alloc,
         scene,

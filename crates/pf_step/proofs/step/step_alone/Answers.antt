@@ -1,20 +1,23 @@
-use Rattle.std.proofs.Common.{◌≡◌, ◌∙◌, List, ap, ap₂, length, map, subst, sym}
+use Rattle.std.proofs.Common.{rules, ◌≡◌, ◌∙◌, List, ap, ap₂, length, map, subst, sym}
 use Rattle.std.proofs.lemmas.List.{with_items_is}
 use Rattle.std.specs.Prelude.{All}
 use Rattle.pf_shapes.specs.Body.{BodyState}
 use Rattle.pf_cache.specs.Row.{AreRowsAt}
 use Rattle.pf_islands.specs.Join.{IsAtHome, joined_bodies, joined_contacts}
 use Rattle.pf_islands.specs.Split.{Island}
-use Rattle.pf_solver.specs.Alone.{island_after_tick}
+use Rattle.pf_solver.specs.Alone.{body_after_tick, island_after_tick}
+use Rattle.pf_solver.specs.Bodies.{gravity_per_tick}
 use Rattle.pf_manifold.specs.Key.{AreTouches}
 use Rattle.pf_islands.specs.Sleep.{woken}
 use Rattle.pf_step.specs.Activity.{contacts_of_bodies, islands_of_bodies, islands_of_tick, names_of_bodies}
-use Rattle.pf_cache.specs.Manifolds.{Manifolds}
+use Rattle.pf_cache.specs.Manifolds.{Manifolds, NarrowPhase, kept_touches}
 use Rattle.pf_cache.specs.Meter.{work_after_tick}
 use Rattle.pf_step.specs.Step.{narrow_phase, touching}
 use Rattle.pf_step.specs.World.{World}
 use Rattle.pf_step.proofs.Joined.{ended_at_contacts, ended_at_home, ended_join}
+use Rattle.pf_step.proofs.Empty.{none_long}
 use Rattle.pf_step.proofs.Lengths.{step_length}
+use Rattle.pf_step.proofs.Untouched.{untouched_step}
 use Rattle.pf_step.proofs.step.step_alone.Goals as goal
 
 pub world_of-requires-clause-bodies : goal.world_of-requires-clause-bodies
@@ -80,4 +83,30 @@ returns-clause-counted c =
     let found = c.in_ok-tick.ensures.found ∙ c.in_ok-found.ensures.value
     ∙ ap₂ (λ (bs : List BodyState) (kept : Manifolds). narrow_phase s.fixtures bs kept) (c.deref.ensures.value ∙ c.in_ok-bodies.ensures.bodies)
     c.take_manifolds-kept.ensures.taken in
-    c.end_tick.ensures ∙ ap₂ work_after_tick found (c.take_contacts.ensures ∙ c.in_ok-found.ensures.work ∙ c.take_bodies.ensures ∙ c.take_manifolds-kept.ensures.rest)
+    c.end_tick-2.ensures ∙ ap₂ work_after_tick found (c.take_contacts.ensures ∙ c.in_ok-found.ensures.work ∙ c.take_bodies.ensures ∙ c.take_manifolds-kept.ensures.rest)
+
+-- ---- a tick in which nothing touches
+
+pub returns-then-is_empty-clause-value : goal.returns-then-is_empty-clause-value
+returns-then-is_empty-clause-value c =
+    let s = c.args.scene.now in
+    let w = c.args.world.now in
+    let payloads = c.args.payloads.now in
+    let is = c.in_ok-bodies.ensures.bodies in
+    let count : length c.touches.result.now ≡ 0 = search rules in
+    let points : c.touches.result.now ≡ touching s c.deref.result.now =
+    c.touches.ensures.value ∙ ap (λ (f : NarrowPhase). kept_touches f.manifolds) c.found.view_is
+    ∙ c.in_ok-found.ensures.touches in
+    let none = sym (points ∙ ap (touching s) (c.deref.ensures.value ∙ is)) ∙ none_long c.touches.result.now count in
+    ap₂ (λ bs cs. record { bodies = bs; contacts = cs })
+    (c.untouched_world.ensures.bodies ∙ ap (map (body_after_tick (gravity_per_tick s.gravity))) is)
+    c.untouched_world.ensures.contacts
+    ∙ sym (untouched_step s w payloads c.requires none)
+
+pub returns-then-is_empty-clause-counted : goal.returns-then-is_empty-clause-counted
+returns-then-is_empty-clause-counted c =
+    let s = c.args.scene.now in
+    let found = c.in_ok-found.ensures.value
+    ∙ ap₂ (λ (bs : List BodyState) (kept : Manifolds). narrow_phase s.fixtures bs kept) (c.deref.ensures.value ∙ c.in_ok-bodies.ensures.bodies)
+    c.take_manifolds-kept.ensures.taken in
+    c.end_tick.ensures ∙ ap₂ work_after_tick found (c.in_ok-found.ensures.work ∙ c.take_bodies.ensures ∙ c.take_manifolds-kept.ensures.rest)

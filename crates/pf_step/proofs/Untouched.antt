@@ -1,0 +1,181 @@
+-- A tick in which nothing touches: each body is a group of its own, and goes through it alone.
+use Rattle.std.proofs.Common.{◌≡◌, ◌∙◌, ℕ, zero, suc, ◌<◌, ◌+◌, ◌==◌, Bool, true, false, not, ◌&&◌, ◌||◌, List, [], ◌∷◌, Some, length, map, refl, sym, ap, ap₂, arith, slice_get, if◌then◌else◌}
+use Rattle.std.proofs.lemmas.Bool.{eq-eqb, ne_eqb}
+use Rattle.std.proofs.lemmas.List.{length-map}
+use Rattle.std.proofs.lemmas.Option.{none-some, same_Some}
+use Rattle.std.specs.List.{list_all, list_any, range_with_len, zip}
+use Rattle.pf_rot.specs.Vector.{V2}
+use Rattle.pf_shapes.specs.Body.{BodyState}
+use Rattle.pf_shapes.specs.Scene.{Scene}
+use Rattle.pf_manifold.specs.Touches.{Touch}
+use Rattle.pf_commands.specs.declared.payload.Payload.{Payload}
+use Rattle.pf_cache.specs.Contact.{Contact, updated}
+use Rattle.pf_cache.specs.Row.{Row, with_rows}
+use Rattle.pf_islands.specs.Group.{group, groups}
+use Rattle.pf_islands.specs.Rows.{active_rows}
+use Rattle.pf_islands.specs.Sleep.{at_sleep, is_active, is_resting, rested, woken}
+use Rattle.pf_solver.specs.declared.bodies.TheConstants.{STILL_TICKS}
+use Rattle.pf_solver.specs.Alone.{asleep_if_still, body_after_tick}
+use Rattle.pf_solver.specs.Bodies.{after_gravity, after_motion, after_timer, each_awake, gravity_per_tick}
+use Rattle.pf_solver.specs.Solve.{solved}
+use Rattle.pf_solver.specs.Velocities.{Batch}
+use Rattle.pf_solver.proofs.Free.{free_is_solved}
+use Rattle.pf_step.specs.Commands.{after_commands}
+use Rattle.pf_step.specs.Step.{step, touching}
+use Rattle.pf_step.specs.World.{World}
+use Rattle.pf_step.proofs.Commanding.{commands_length}
+
+-- the names of bodies that are groups of their own, from a number on
+abbrev own_names : ℕ → List BodyState → List ℕ
+own_names k bodies = range_with_len k (length bodies)
+
+or_false : (b : Bool) → (b || false) ≡ b
+or_false true = refl
+or_false false = refl
+
+and_true : (b : Bool) → (b && true) ≡ b
+and_true true = refl
+and_true false = refl
+
+-- a test of a body
+module _ (p : BodyState → Bool) where
+  abbrev is_named : ℕ → ℕ × BodyState → Bool
+  is_named name m = (m.0 == name) && p m.1
+
+  abbrev if_named : ℕ → ℕ × BodyState → Bool
+  if_named name m = not (m.0 == name) || p m.1
+
+  -- no later body has this name
+  none_named : (k name : ℕ) (bodies : List BodyState) → name < k
+      → list_any (is_named name) (zip (own_names k bodies) bodies) ≡ false
+  none_named k name [] below = refl
+  none_named k name (b ∷ bodies) below =
+      ap₂ (λ t rest. (t && p b) || rest) (ne_eqb k name (omega (arith, below)))
+      (none_named (k + 1) name bodies (omega (arith, below)))
+
+  all_unnamed : (k name : ℕ) (bodies : List BodyState) → name < k
+      → list_all (if_named name) (zip (own_names k bodies) bodies) ≡ true
+  all_unnamed k name [] below = refl
+  all_unnamed k name (b ∷ bodies) below =
+      ap₂ (λ t rest. (not t || p b) && rest) (ne_eqb k name (omega (arith, below)))
+      (all_unnamed (k + 1) name bodies (omega (arith, below)))
+
+  -- so one body with this name passes where it passes itself
+  one_named : (k i name : ℕ) (bodies : List BodyState) (b : BodyState) → name ≡ k + i → slice_get bodies i ≡ Some b
+      → list_any (is_named name) (zip (own_names k bodies) bodies) ≡ p b
+  one_named k i name [] b is at = absurd (none-some b at)
+  one_named k zero name (c ∷ bodies) b is at =
+      ap₂ (λ t rest. (t && p c) || rest) (eq-eqb k name (omega (arith, is)))
+      (none_named (k + 1) name bodies (omega (arith, is)))
+      ∙ or_false (p c) ∙ ap p (same_Some c b at)
+  one_named k (suc i) name (c ∷ bodies) b is at =
+      ap₂ (λ t rest. (t && p c) || rest) (ne_eqb k name (omega (arith, is)))
+      (one_named (k + 1) i name bodies b (omega (arith, is)) at)
+
+  each_named : (k i name : ℕ) (bodies : List BodyState) (b : BodyState) → name ≡ k + i → slice_get bodies i ≡ Some b
+      → list_all (if_named name) (zip (own_names k bodies) bodies) ≡ p b
+  each_named k i name [] b is at = absurd (none-some b at)
+  each_named k zero name (c ∷ bodies) b is at =
+      ap₂ (λ t rest. (not t || p c) && rest) (eq-eqb k name (omega (arith, is)))
+      (all_unnamed (k + 1) name bodies (omega (arith, is)))
+      ∙ and_true (p c) ∙ ap p (same_Some c b at)
+  each_named k (suc i) name (c ∷ bodies) b is at =
+      ap₂ (λ t rest. (not t || p c) && rest) (ne_eqb k name (omega (arith, is)))
+      (each_named (k + 1) i name bodies b (omega (arith, is)) at)
+
+-- what changes each body by its name and its state, and as this does, is this
+map_named : (f : ℕ × BodyState → BodyState) (g : BodyState → BodyState) (k : ℕ) (bodies : List BodyState)
+    → ((name i : ℕ) (b : BodyState) → name ≡ k + i → slice_get bodies i ≡ Some b → f (name, b) ≡ g b)
+    → map f (zip (own_names k bodies) bodies) ≡ map g bodies
+map_named f g k [] each = refl
+map_named f g k (b ∷ bodies) each =
+    ap₂ (λ x xs. x ∷ xs) (each k 0 b (omega arith) refl)
+    (map_named f g (k + 1) bodies (λ name i c is at. each name (suc i) c (omega (arith, is)) at))
+
+map_same : (bodies : List BodyState) → map (λ b. b) bodies ≡ bodies
+map_same [] = refl
+map_same (b ∷ bodies) = ap (λ bs. b ∷ bs) (map_same bodies)
+
+-- the bodies of groups of one are awake as they were
+woken_same : (bodies : List BodyState) → woken (own_names 0 bodies) bodies ≡ bodies
+unfolding woken
+woken_same bodies =
+    map_named (λ m. record m.1 { awake = is_active (own_names 0 bodies) bodies m.0 }) (λ b. b) 0 bodies
+    (λ name i b is at. ap (λ t. record b { awake = t }) (one_named (λ b. b.awake) 0 i name bodies b is at))
+    ∙ map_same bodies
+
+-- and sleep by their own timers
+rested_each : (bodies : List BodyState) → rested STILL_TICKS (own_names 0 bodies) bodies ≡ map asleep_if_still bodies
+unfolding rested
+rested_each bodies =
+    map_named
+    (λ m. if m.1.awake && is_resting STILL_TICKS (own_names 0 bodies) bodies m.0 then at_sleep m.1 else m.1)
+    asleep_if_still 0 bodies
+    (λ name i b is at.
+    ap (λ t. if b.awake && t then at_sleep b else b)
+    (each_named (λ b. b.timer == STILL_TICKS) 0 i name bodies b is at))
+
+-- both phases of each body
+moved_and_rested : (pull : V2) (bodies : List BodyState)
+    → map asleep_if_still (each_awake (λ b. after_timer (after_motion (after_gravity pull b))) bodies)
+    ≡ map (body_after_tick pull) bodies
+unfolding body_after_tick
+moved_and_rested pull [] = refl
+moved_and_rested pull (b ∷ bodies) = ap (λ bs. body_after_tick pull b ∷ bs) (moved_and_rested pull bodies)
+
+-- without contact points each group is one body
+own_groups : (s : Scene) (names : List ℕ) → map (group s []) names ≡ names
+unfolding group
+own_groups s [] = refl
+own_groups s (name ∷ names) = ap (λ ns. name ∷ ns) (own_groups s names)
+
+module _ (s : Scene) (bodies : List BodyState) (count : length bodies ≡ length s.fixtures) where
+  are_own : groups s [] ≡ own_names 0 bodies
+  are_own = own_groups s (range_with_len 0 (length s.fixtures)) ∙ ap (range_with_len 0) (sym count)
+
+  abbrev moved : List BodyState
+  moved = each_awake (λ b. after_timer (after_motion (after_gravity (gravity_per_tick s.gravity) b))) bodies
+
+  bodies_alone : (contacts : List Contact)
+      → rested STILL_TICKS (groups s [])
+      (solved s (woken (groups s []) bodies) (active_rows s (woken (groups s []) bodies) [] contacts)).bodies
+      ≡ map (body_after_tick (gravity_per_tick s.gravity)) bodies
+  bodies_alone contacts =
+      let awake : woken (groups s []) bodies ≡ bodies = ap (λ ns. woken ns bodies) are_own ∙ woken_same bodies in
+      let none : List Row = [] in
+      ap (λ bs. rested STILL_TICKS (groups s []) (solved s bs none).bodies) awake
+      ∙ ap (λ (b : Batch). rested STILL_TICKS (groups s []) b.bodies) (sym (free_is_solved s bodies none refl))
+      ∙ ap (λ ns. rested STILL_TICKS ns moved) (are_own ∙ ap (range_with_len 0) (sym (length-map bodies _)))
+      ∙ rested_each moved ∙ moved_and_rested (gravity_per_tick s.gravity) bodies
+
+-- the world after a tick with these contact points
+abbrev world_with : Scene → World → List BodyState → List Touch → World
+world_with s w commanded points =
+    let contacts = updated w.contacts points in
+    let names = groups s points in
+    let awake = woken names commanded in
+    let after = solved s awake (active_rows s awake points contacts) in
+    record {
+      bodies = rested STILL_TICKS names after.bodies;
+      contacts = with_rows contacts after.rows;
+    }
+
+no_contacts : (contacts : List Contact) (rows : List Row) → with_rows (updated contacts []) rows ≡ []
+unfolding updated with_rows
+no_contacts contacts rows = refl
+
+pub untouched_step : (s : Scene) (w : World) (payloads : List Payload) → length w.bodies ≡ length s.fixtures
+    → touching s (after_commands s.fixtures w.bodies payloads) ≡ []
+    → step s w payloads
+    ≡ record {
+      bodies =
+        map (body_after_tick (gravity_per_tick s.gravity)) (after_commands s.fixtures w.bodies payloads);
+      contacts = [];
+    }
+unfolding step
+untouched_step s w payloads paired none =
+    let commanded = after_commands s.fixtures w.bodies payloads in
+    ap (world_with s w commanded) none
+    ∙ ap₂ (λ bs cs. record { bodies = bs; contacts = cs })
+    (bodies_alone s commanded (commands_length s.fixtures w.bodies payloads ∙ paired) (updated w.contacts []))
+    (no_contacts w.contacts _)
