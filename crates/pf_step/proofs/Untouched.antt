@@ -169,7 +169,7 @@ pub untouched_step : (s : Scene) (w : World) (payloads : List Payload) → lengt
     → step s w payloads
     ≡ record {
       bodies =
-        map (body_after_tick (gravity_per_tick s.gravity)) (after_commands s.fixtures w.bodies payloads);
+          map (body_after_tick (gravity_per_tick s.gravity)) (after_commands s.fixtures w.bodies payloads);
       contacts = [];
     }
 unfolding step

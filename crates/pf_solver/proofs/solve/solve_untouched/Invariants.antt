@@ -1,6 +1,5 @@
 use Rattle.std.proofs.Common.{◌≡◌, map, take, drop, ◌++◌}
 use Rattle.pf_solver.specs.Alone.{body_after_tick}
-use Rattle.pf_solver.specs.Bodies.{gravity_per_tick}
 use Rattle.pf_solver.proofs.solve.solve_untouched.Given as goal
 
 abbrev pub invariant-loop-body : goal.invariant-loop-body
