@@ -1,5 +1,4 @@
-//! The phases Gravity to Timers of a list of bodies with the contacts between them, and all phases of
-//! bodies that no contact touches.
+//! The phases Gravity to Timers of a list of bodies with the contacts between them.
 
 ghost use Rattle.std.specs.Prelude.{◌≡◌, ◌<◌, All, if◌then◌else◌, length, map};
 ghost use Rattle.pf_cache.specs.Row.{IsSide};
@@ -82,7 +81,7 @@ fn prepare_all(scene: &Scene, bodies: &[BodyState], rows: &mut [Row])
     }
 }
 
-/// Gravity on a body, if it is awake.
+/// Gravity on a body, where it is awake.
 #[inline]
 fn fall_if_awake(pull: V2, body: &mut BodyState)
     ensures { body.new ≡ (if body.old.awake then after_gravity pull body.old else body.old) }
@@ -101,7 +100,7 @@ fn fall(pull: V2, bodies: &mut [BodyState])
     }
 }
 
-/// Position and timer of a body, if it is awake.
+/// Position and timer of a body, where it is awake.
 #[inline]
 fn move_if_awake(body: &mut BodyState)
     ensures { body.new
@@ -121,9 +120,9 @@ fn move_on(bodies: &mut [BodyState])
     }
 }
 
-/// The phases Gravity to Timers of a body that no contact touches, if it is awake.
+/// The phases Gravity to Timers of a body that no contact touches, where it is awake.
 #[inline(always)]
-fn move_freely(pull: V2, body: &mut BodyState)
+fn go_on_freely(pull: V2, body: &mut BodyState)
     ensures { body.new ≡ (if body.old.awake
         then after_timer (after_motion (after_gravity pull body.old)) else body.old) }
 {
@@ -135,17 +134,17 @@ fn move_freely(pull: V2, body: &mut BodyState)
 /// The phases Gravity to Sleep of a body that no contact touches.
 #[inline(always)]
 #[tactic(auto, unfolding(crate::specs::Alone::body_after_tick))]
-fn solve_untouched_body(pull: V2, body: &mut BodyState)
+fn go_on_alone(pull: V2, body: &mut BodyState)
     ensures { body.new ≡ body_after_tick pull body.old }
 {
-    move_freely(pull, body);
+    go_on_freely(pull, body);
     if body.awake && body.timer == STILL_TICKS {
         fall_asleep(body);
     }
 }
 
-/// The phases Gravity to Sleep of bodies that no contact touches, one body after the other: each body
-/// is its own group. Takes no memory.
+/// The phases Gravity to Sleep of bodies that no contact touches, one body after the other: each is
+/// a group of its own. Takes no memory.
 #[inline(never)]
 pub fn solve_untouched(scene: &Scene, bodies: &mut [BodyState])
     ensures { bodies.new
@@ -153,18 +152,17 @@ pub fn solve_untouched(scene: &Scene, bodies: &mut [BodyState])
 {
     let pull = scene.gravity().scale(Fx::TICK);
     for body in bodies.iter_mut() {
-        solve_untouched_body(pull, body);
+        go_on_alone(pull, body);
     }
 }
 
-/// The phases Gravity to Timers of bodies that no contact touches, one body after the other. Which
-/// of them go to sleep depends on their group.
+/// The phases Gravity to Timers of bodies that no contact touches, one body after the other.
 fn solve_free(pull: V2, bodies: &mut [BodyState])
     ensures { bodies.new
         ≡ each_awake (λ b. after_timer (after_motion (after_gravity pull b))) bodies.old }
 {
     for body in bodies.iter_mut() {
-        move_freely(pull, body);
+        go_on_freely(pull, body);
     }
 }
 
