@@ -76,15 +76,26 @@ fn late() -> Command
     }
 }
 
+/// What comes of the late frame, three times.
+fn taken_thrice(peer: &mut PeerCore) -> Result<[Result<Put, Refusal>; 3], AllocError> {
+    let frame = encode(&late());
+    let first = taken(peer, &frame)?;
+    let second = taken(peer, &frame)?;
+    let third = taken(peer, &frame)?;
+    Ok([first, second, third])
+}
+
 #[test]
 fn a_late_command_is_taken_once(rt: HostRuntime) -> Result<(), Fail> {
     let mut peer = peer_at(rt.alloc(), 10)?;
-    let frame = encode(&late());
-    for put in [Put::New, Put::Same, Put::Same] {
-        assert!(rt; taken(&mut peer, &frame)? == Ok(put));
-    }
-    assert!(rt; peer.commands().len() == 1 && peer.reached() == 10);
-    assert!(rt; peer.player() == 2 && peer.scene().len() == 1);
+    let puts = taken_thrice(&mut peer)?;
+    assert!(rt;
+        puts == [Ok(Put::New), Ok(Put::Same), Ok(Put::Same)]
+            && peer.commands().len() == 1
+            && peer.reached() == 10
+            && peer.player() == 2
+            && peer.scene().len() == 1
+    );
     Ok(())
 }
 
@@ -95,13 +106,25 @@ const PLACES: [(u32, Result<i64, Refusal>); 3] = [
     (11, Err(Refusal::NotReached(10))),
 ];
 
+/// Whether a peer shows the circle at these places.
+fn shows_places(alloc: Global, peer: &PeerCore) -> Result<bool, AllocError> {
+    for (tick, place) in PLACES {
+        if x_at(alloc, peer, tick)? != place {
+            return Ok(false);
+        }
+    }
+    Ok(true)
+}
+
+/// The same after the late command is put to it.
+fn shows_places_of_late(alloc: Global, peer: &mut PeerCore) -> Result<bool, AllocError> {
+    Ok(known(peer.put(&late()))?.is_ok() && shows_places(alloc, peer)?)
+}
+
 #[test]
 fn a_late_command_changes_later_worlds(rt: HostRuntime) -> Result<(), Fail> {
     let mut peer = peer_at(rt.alloc(), 10)?;
-    assert!(rt; known(peer.put(&late()))?.is_ok());
-    for (tick, place) in PLACES {
-        assert!(rt; x_at(rt.alloc(), &peer, tick)? == place, "tick {tick}");
-    }
+    assert!(rt; shows_places_of_late(rt.alloc(), &mut peer)?);
     Ok(())
 }
 

@@ -1,4 +1,4 @@
-//! Two peers that exchange commands late show the same worlds.
+//! Sessions of peers: late commands, merges, limits, and commands that are rejected.
 
 ghost use Rattle.std.specs.Prelude.{◌≡◌, ◌<◌};
 ghost use Rattle.pf_peers.specs.Session.{other_of, peer_of};
@@ -52,11 +52,11 @@ fn take(peer: u8, tick: u32, player: u8) -> Event
 }
 
 /// Peer 0 took a new command, peer 1 has not reached tick 21, and both show one world.
-fn end_equal(replies: &[Reply]) -> bool {
-    let [.., took, refused, shown, others] = replies else {
+fn both_show_one_world(replies: &[Reply]) -> bool {
+    let [.., took, refused, first, second] = replies else {
         return false;
     };
-    let (Reply::Shown { world: left, .. }, Reply::Shown { world: right, .. }) = (shown, others)
+    let (Reply::Shown { world: left, .. }, Reply::Shown { world: right, .. }) = (first, second)
     else {
         return false;
     };
@@ -83,7 +83,7 @@ fn two_peers_end_equal(rt: HostRuntime) -> Result<(), Fail> {
         Event::Show { peer: 1, tick: 20 },
     ];
     let replies = run(rt.alloc(), &scene, 2, &events)?;
-    assert!(rt; end_equal(replies.as_slice()));
+    assert!(rt; both_show_one_world(replies.as_slice()));
     Ok(())
 }
 
@@ -127,7 +127,8 @@ fn shown(reply: &Reply) -> Option<[[i64; 3]; 2]> {
     ])
 }
 
-/// Peer 0 settles tick 10, takes player 1's push at tick 4, settles again, and shows peer 1's world.
+/// Peer 0 settles tick 10, takes player 1's push at tick 4, settles again, and shows the same world
+/// as peer 1.
 fn settled_twice(replies: &[Reply]) -> bool {
     let [_, settled, _, issued, took, again, _, left, right] = replies else {
         return false;
@@ -206,7 +207,7 @@ fn merged_both_ways(replies: &[Reply]) -> bool {
     let [.., there, back, left, right] = replies else {
         return false;
     };
-    // Ten ticks at 2, and ten at 1.
+    // Ten ticks at velocity 2, and ten at velocity 1.
     let bodies = Some([[5_242_880, 33_554_432, 0], [170_393_600, 16_777_216, 0]]);
     matches!(there, Reply::Merged { peer: 0, count: 1 })
         && matches!(back, Reply::Merged { peer: 1, count: 2 })
@@ -233,13 +234,13 @@ fn merges_both_ways_make_peers_agree(rt: HostRuntime) -> Result<(), Fail> {
     Ok(())
 }
 
-/// Both peers show two sleepers at tick 300, and one of them moved at tick 437.
+/// Both peers show two sleepers at tick 300, and at tick 437 one that has moved since.
 fn moved_from_tick_300(replies: &[Reply]) -> bool {
     let [.., before, first, after, second] = replies else {
         return false;
     };
     let asleep = Some([[0, 0, 0], [167_772_160, 0, 0]]);
-    // 137 ticks at 1.
+    // 137 ticks at velocity 1.
     let moved = Some([[0, 0, 0], [203_685_888, 16_777_216, 0]]);
     shown(before) == asleep
         && shown(first) == asleep
@@ -296,14 +297,14 @@ fn stayed_at_5(replies: &[Reply]) -> bool {
 }
 
 #[test]
-fn nobody_goes_over_the_limit(rt: HostRuntime) -> Result<(), Fail> {
+fn no_peer_passes_the_last_tick(rt: HostRuntime) -> Result<(), Fail> {
     let scene = scene_of(rt.alloc(), LATE_SCENE)?;
     let events = [
         Event::Advance { peer: 0, ticks: 5 },
         Event::Show { peer: 0, tick: 6 },
         Event::Advance {
             peer: 0,
-            ticks: 1_048_572,
+            ticks: MAX_TICK - 4,
         },
         Event::Advance { peer: 0, ticks: 0 },
     ];
@@ -312,16 +313,19 @@ fn nobody_goes_over_the_limit(rt: HostRuntime) -> Result<(), Fail> {
     Ok(())
 }
 
-/// A push of a body by nothing.
+/// A push of a body by 0.
 fn nudge(body: u16) -> Payload {
-    let x = Fx::ZERO;
-    Payload::Push { body, x, y: x }
+    Payload::Push {
+        body,
+        x: Fx::ZERO,
+        y: Fx::ZERO,
+    }
 }
 
-/// A floor of nobody.
+/// A static floor, which no player owns.
 const FLOOR: &[u8] = b"gravity 0 0\nbox - 0 0 16777216 16777216 0 0 16777216 0\nend\n";
 
-/// The reply to peer 1 where it pushes a body of a scene by nothing.
+/// The replies when peer 1 pushes a body of a scene by 0.
 fn reply_to_nudge(alloc: Global, text: &[u8], body: u16) -> Result<Vec<Reply>, Fail> {
     let scene = scene_of(alloc, text)?;
     let payload = nudge(body);

@@ -51,14 +51,20 @@ fn known<T: Drop>(outcome: Result<T, Fault>) -> Result<T, Fail> {
     }
 }
 
+/// Advances a new peer to a tick, and settles it.
+fn settle_at(alloc: Global, peer: &mut PeerCore, tick: u32) -> Result<(), Fail> {
+    known(peer.advance(tick))?;
+    peer.settle_alone(alloc)?;
+    Ok(())
+}
+
 /// A peer with a ring of so many places that has reached a tick, and settled it.
 fn settled_peer(alloc: Global, ring: usize, tick: u32) -> Result<PeerCore, Fail> {
     if ring == 0 || ring > MAX_RING {
         return Err(Fail::from("a ring has 1 to 64 places"));
     }
     let mut peer = PeerCore::new(alloc, scene_of(alloc, SCENE)?, 0, ring)?;
-    known(peer.advance(tick))?;
-    peer.settle_alone(alloc)?;
+    settle_at(alloc, &mut peer, tick)?;
     Ok(peer)
 }
 
@@ -75,13 +81,19 @@ fn settled_after(peer: &mut PeerCore, frame: &[u8]) -> Result<u32, Fail> {
     Ok(peer.settled())
 }
 
-/// The settled tick after a push at a tick, and how many ticks the next settle counts, for a peer
-/// with a ring of so many places that has reached and settled a tick.
-fn after_push(alloc: Global, ring: usize, reached: u32, tick: u32) -> Result<(u32, u64), Fail> {
-    let mut peer = settled_peer(alloc, ring, reached)?;
-    let settled = settled_after(&mut peer, &frame_at(tick)?)?;
-    let count = count_of_settle(alloc, &mut peer)?;
+/// The settled tick after a frame is taken, and how many ticks the next settle counts.
+fn taken_and_settled(alloc: Global, peer: &mut PeerCore, frame: &[u8]) -> Result<(u32, u64), Fail> {
+    let settled = settled_after(peer, frame)?;
+    let count = count_of_settle(alloc, peer)?;
     Ok((settled, count))
+}
+
+/// The same after a push at a tick, for a peer with a ring of so many places that has reached and
+/// settled a tick.
+fn after_push(alloc: Global, ring: usize, reached: u32, tick: u32) -> Result<(u32, u64), Fail> {
+    let frame = frame_at(tick)?;
+    let mut peer = settled_peer(alloc, ring, reached)?;
+    taken_and_settled(alloc, &mut peer, &frame)
 }
 
 /// Where the circle is along x at a tick, and how many ticks that took to simulate.
@@ -141,34 +153,78 @@ fn a_far_too_late_command_goes_back_to_a_keyframe(rt: HostRuntime) -> Result<(),
     Ok(())
 }
 
+/// The same for a push at tick 4 that is taken twice by a peer that has settled tick 10.
+fn after_repeat(alloc: Global) -> Result<[(u32, u64); 2], Fail> {
+    let frame = frame_at(4)?;
+    let mut peer = settled_peer(alloc, 64, 10)?;
+    taken_twice(alloc, &mut peer, &frame)
+}
+
+/// What comes of a frame that is taken twice.
+fn taken_twice(alloc: Global, peer: &mut PeerCore, frame: &[u8]) -> Result<[(u32, u64); 2], Fail> {
+    let first = taken_and_settled(alloc, peer, frame)?;
+    let second = taken_and_settled(alloc, peer, frame)?;
+    Ok([first, second])
+}
+
 #[test]
 fn a_repeat_is_no_reason_to_settle_again(rt: HostRuntime) -> Result<(), Fail> {
-    let mut peer = settled_peer(rt.alloc(), 64, 10)?;
-    let frame = frame_at(4)?;
-    assert!(rt; settled_after(&mut peer, &frame)? == 4);
-    assert!(rt; count_of_settle(rt.alloc(), &mut peer)? == 6);
-    assert!(rt; settled_after(&mut peer, &frame)? == 10);
+    assert!(rt; after_repeat(rt.alloc())? == [(4, 6), (10, 0)]);
     Ok(())
+}
+
+/// How many ticks it takes to show a tick, for a peer with a ring of 4 places at tick 10.
+fn count_of_show(alloc: Global, tick: u32) -> Result<u64, Fail> {
+    let peer = settled_peer(alloc, 4, 10)?;
+    Ok(shown(alloc, &peer, tick)?.1)
 }
 
 #[test]
 fn a_shown_world_is_simulated_from_the_nearest_one(rt: HostRuntime) -> Result<(), Fail> {
-    let peer = settled_peer(rt.alloc(), 4, 10)?;
-    assert!(rt; shown(rt.alloc(), &peer, 9)?.1 == 0);
-    assert!(rt; shown(rt.alloc(), &peer, 5)?.1 == 5);
+    assert_eq!(rt; count_of_show(rt.alloc(), 9)?, 0);
+    assert_eq!(rt; count_of_show(rt.alloc(), 5)?, 5);
     Ok(())
+}
+
+/// Two pushes, at ticks 4 and 6.
+fn two_pushes(alloc: Global) -> Result<CommandMap, Fail> {
+    let mut commands = CommandMap::new(alloc);
+    commands.put(&push_at(4)?)?;
+    commands.put(&push_at(6)?)?;
+    Ok(commands)
+}
+
+/// How many commands a merge brings, the settled tick after it, and how many ticks the next settle
+/// counts.
+fn merged(
+    alloc: Global,
+    peer: &mut PeerCore,
+    commands: &CommandMap,
+) -> Result<(usize, u32, u64), Fail> {
+    let count = known(peer.merge(commands))?;
+    let settled = peer.settled();
+    Ok((count, settled, count_of_settle(alloc, peer)?))
+}
+
+/// What comes of two merges of a map into a peer that has settled tick 10, and where its circle is
+/// then.
+fn merged_twice(
+    alloc: Global,
+    peer: &mut PeerCore,
+    commands: &CommandMap,
+) -> Result<([(usize, u32, u64); 2], (i64, u64)), Fail> {
+    let first = merged(alloc, peer, commands)?;
+    let second = merged(alloc, peer, commands)?;
+    Ok(([first, second], shown(alloc, peer, 10)?))
 }
 
 #[test]
 fn merged_commands_are_late_too(rt: HostRuntime) -> Result<(), Fail> {
+    let commands = two_pushes(rt.alloc())?;
     let mut peer = settled_peer(rt.alloc(), 8, 10)?;
-    let mut commands = CommandMap::new(rt.alloc());
-    commands.put(&push_at(4)?)?;
-    commands.put(&push_at(6)?)?;
-    assert!(rt; known(peer.merge(&commands))? == 2 && peer.settled() == 4);
-    assert!(rt; count_of_settle(rt.alloc(), &mut peer)? == 6);
-    assert!(rt; known(peer.merge(&commands))? == 0 && peer.settled() == 10);
+    let (merges, circle) = merged_twice(rt.alloc(), &mut peer, &commands)?;
+    assert!(rt; merges == [(2, 4, 6), (0, 10, 0)]);
     // 4 ticks at 0, two at 1/64 a tick, and four at twice that.
-    assert!(rt; shown(rt.alloc(), &peer, 10)? == (2_621_440, 0));
+    assert!(rt; circle == (2_621_440, 0));
     Ok(())
 }

@@ -1,4 +1,4 @@
-//! The phase Sleep of a group, as Box2D 2.x's `b2Island::Solve` ends.
+//! The phase Sleep of a group, as at the end of Box2D 2.x's `b2Island::Solve`.
 
 ghost use Rattle.std.specs.Prelude.{◌≡◌, ◌==◌, ◌↔◌, IsTrue, map};
 ghost use Rattle.std.specs.List.{list_all};
@@ -8,7 +8,7 @@ use pf_num::Fx;
 use pf_rot::V2;
 use pf_shapes::BodyState;
 
-/// Stops a body and puts it to sleep.
+/// Stops a body, sets its timer to 0, and puts it to sleep.
 #[inline]
 pub fn fall_asleep(body: &mut BodyState)
     ensures { body.new ≡ at_sleep body.old }
@@ -28,7 +28,7 @@ fn fall_asleep_all(bodies: &mut [BodyState])
     }
 }
 
-/// Whether each body has this timer.
+/// Whether the timer of each body is `full`.
 #[inline]
 fn have_timer(bodies: &[BodyState], full: u8) -> bool
     ensures { result ≡ list_all (λ b. b.timer == full) bodies.now }
@@ -36,7 +36,8 @@ fn have_timer(bodies: &[BodyState], full: u8) -> bool
     bodies.iter().all(|body| body.timer == full)
 }
 
-/// The bodies of a group stop and go to sleep where each of them has this timer. Takes no memory.
+/// Stops all bodies of a group and puts them to sleep, if the timer of each is `full`. Takes no
+/// memory.
 #[inline]
 pub fn rest_alone(bodies: &mut [BodyState], full: u8)
     ensures { bodies.new ≡ rested_alone full bodies.old }

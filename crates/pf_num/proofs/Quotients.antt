@@ -1,5 +1,4 @@
--- A number whose product with the divisor is nearer to the dividend than half the divisor is the
--- rounded quotient.
+-- A number n is the rounded quotient p / b if n * b differs from p by less than b / 2.
 use Rattle.std.proofs.Common.{◌≡◌, ⊎_elim, ℕ, ◌+◌, ◌*◌, ◌-◌, ◌/◌, ◌%◌, ◌<◌, ◌≤◌, zero, suc, ap, ap₂, sym, ◌∙◌, arith}
 use Rattle.std.proofs.lemmas.Bool.{cases_lt}
 use Rattle.std.proofs.lemmas.Bool.Decides.{nat_tests}
@@ -46,7 +45,7 @@ nearest_above p b (suc m) above near =
     sym (ap₂ (λ q r. q + carry q r b) (quotient_by_product p b m low below) (remainder_by_product p b m low below)
     ∙ one_carry m (p - m * b) b great ∙ one_more)
 
--- on either side
+-- on either side; one of the two truncated differences is 0
 pub nearest_within : (p b n : ℕ) → 2 * ((n * b - p) + (p - n * b)) < b → n ≡ nearest p b
 nearest_within p b n near =
     ⊎_elim

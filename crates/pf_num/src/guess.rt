@@ -1,24 +1,25 @@
 //! Guesses by floating-point numbers, whose quotients and roots take less time than those of 64-bit
-//! numbers. No proof depends on a guess: where it is used, it is checked.
+//! numbers. A guess is checked where it is used, so no result depends on how good it is.
 
 ghost use Rattle.std.specs.Prelude.{◌≤◌, ◌<◌, ◌^◌};
 
 use std::num::{f64_to_bits_with_nan, nearest_i64_to_f64};
 
-/// 2^24, the units of the number 1.
+/// 2^24, the raw value of the number 1.
 const ONE: f64 = 16_777_216.0;
 
-/// 2^52. Floating-point numbers from here to 2^53 are whole, and their last 52 bits are what they
-/// are above it.
+/// 2^52. Floating-point numbers from here up to 2^53 are whole, and their low 52 bits are the number
+/// less 2^52.
 const WHOLE: f64 = 4_503_599_627_370_496.0;
 
-/// Somewhat less than a half: what rounding to the nearest adds where it is to round down.
-const ALMOST_HALF: f64 = 0.499_999_9;
+/// Slightly more than a half: what is added so that rounding to the nearest gives the next whole
+/// number above.
+const OVER_HALF: f64 = 0.500_000_1;
 
-/// The greatest guess at a root of 63 bits.
+/// The cap of guesses at roots, whose square fits 64 bits.
 const MAX_ROOT: u64 = 0xffff_ffff;
 
-/// The floating-point number nearest to a whole one.
+/// The floating-point number nearest to a whole number.
 #[inline(always)]
 fn nearest_float(n: u64) -> f64
     requires { n < 2 ^ 63 }
@@ -30,22 +31,24 @@ fn nearest_float(n: u64) -> f64
     }
 }
 
-/// The whole number nearest to a number from 0 to 2^52; for others any number.
+/// The whole number nearest to a number that is not below 0, and below 2^52 - 1/2; for others any
+/// number.
 #[inline(always)]
 fn nearest_whole(x: f64) -> u64 {
     f64_to_bits_with_nan(x + WHOLE) & 0xf_ffff_ffff_ffff
 }
 
-/// A guess at the root of a number below 2^63.
+/// A guess at the whole root of a number below 2^63.
 #[inline(always)]
 pub fn root_guess(n: u64) -> u64
     requires { n < 2 ^ 63 }
     ensures { result ≤ MAX_ROOT }
 {
-    nearest_whole(nearest_float(n).sqrt() - ALMOST_HALF).min(MAX_ROOT)
+    let next = nearest_whole(nearest_float(n).sqrt() + OVER_HALF);
+    next.saturating_sub(1).min(MAX_ROOT)
 }
 
-/// About 2^24 / b: what a number is multiplied by for a guess at its quotient by `b`.
+/// About 2^24 / b: a raw number times this is about its quotient by the raw number `b`.
 #[inline(always)]
 pub fn reciprocal_near(b: u64) -> f64
     requires { b < 2 ^ 63 }
@@ -53,7 +56,7 @@ pub fn reciprocal_near(b: u64) -> f64
     ONE / nearest_float(b)
 }
 
-/// A guess at the whole number nearest to a quotient.
+/// A guess at the whole number nearest to a * 2^24 / b, where `reciprocal` is about 2^24 / b.
 #[inline(always)]
 pub fn quotient_guess(a: u64, reciprocal: f64) -> u64
     requires { a < 2 ^ 63 }

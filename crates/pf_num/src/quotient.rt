@@ -35,7 +35,8 @@ fn is_below_half(n: u64, whole: u64) -> bool
     n < whole && n < whole - n
 }
 
-/// Whether `n` is nearer to `p / b` than any other whole number.
+/// Whether `n` is known to be the whole number nearest to `p / b`: not at a tie, and not where
+/// `n * b` overflows.
 #[inline(always)]
 #[tactic(auto, using(crate::proofs::Quotients::nearest_within))]
 fn is_nearest(n: u64, p: u64, b: u64) -> bool

@@ -1,5 +1,4 @@
--- What an island goes through in a tick, as Box2D 2.x's b2Island::Solve, and what a body goes
--- through that no contact touches.
+-- A tick of an island, as Box2D 2.x's b2Island::Solve, and a tick of a body that no contact touches.
 use Rattle.std.specs.Prelude.{ℕ, ◌==◌, ◌&&◌, List, if◌then◌else◌}
 use Rattle.pf_rot.specs.Vector.{V2}
 use Rattle.pf_shapes.specs.Body.{BodyState}
@@ -12,14 +11,14 @@ use Rattle.pf_solver.specs.Bodies.{after_gravity, after_motion, after_timer}
 use Rattle.pf_solver.specs.Solve.{solved}
 use Rattle.pf_solver.specs.Velocities.{Batch}
 
--- an island after a tick of its own: its bodies are solved with its contacts alone, and sleep where
--- each of them has a full timer
+-- an island after a tick of its own: its bodies are solved with no other contacts than its own, and
+-- all of them go to sleep if every timer is full
 abbrev pub island_after_tick : Scene → Island → Island
 island_after_tick s i =
     let after = solved s i.bodies i.rows in
     record i { bodies = rested_alone STILL_TICKS after.bodies; rows = after.rows }
 
--- what an island of these bodies has of a list of bodies and contacts
+-- the part of a batch that belongs to the island of these bodies
 abbrev pub seen_from : List ℕ → Batch → Batch
 seen_from numbers b = record {
   bodies = states_of numbers b.bodies;
@@ -27,14 +26,14 @@ seen_from numbers b = record {
 }
 
 -- the phases Gravity to Timers of a body that no contact touches
-abbrev pub moved_alone : V2 → BodyState → BodyState
-moved_alone pull b =
+abbrev pub moved_freely : V2 → BodyState → BodyState
+moved_freely pull b =
     if b.awake then after_timer (after_motion (after_gravity pull b)) else b
 
 -- the phase Sleep of a body that is a group of its own
 abbrev pub asleep_if_still : BodyState → BodyState
 asleep_if_still b = if b.awake && (b.timer == STILL_TICKS) then at_sleep b else b
 
--- a body that no contact touches, after a tick; `pull` is what gravity adds to its velocity
+-- a body that no contact touches, after a tick; `pull` is what gravity adds to a velocity in a tick
 unfoldable pub body_after_tick : V2 → BodyState → BodyState
-body_after_tick pull b = asleep_if_still (moved_alone pull b)
+body_after_tick pull b = asleep_if_still (moved_freely pull b)

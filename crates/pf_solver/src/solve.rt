@@ -1,4 +1,5 @@
-//! The phases Gravity to Timers of a list of bodies with the contacts between them.
+//! The phases Gravity to Timers of a list of bodies with the contacts between them, and all phases of
+//! bodies that no contact touches.
 
 ghost use Rattle.std.specs.Prelude.{◌≡◌, ◌<◌, All, if◌then◌else◌, length, map};
 ghost use Rattle.pf_cache.specs.Row.{IsSide};
@@ -81,7 +82,7 @@ fn prepare_all(scene: &Scene, bodies: &[BodyState], rows: &mut [Row])
     }
 }
 
-/// Gravity on a body, where it is awake.
+/// Gravity on a body, if it is awake.
 #[inline]
 fn fall_if_awake(pull: V2, body: &mut BodyState)
     ensures { body.new ≡ (if body.old.awake then after_gravity pull body.old else body.old) }
@@ -100,7 +101,7 @@ fn fall(pull: V2, bodies: &mut [BodyState])
     }
 }
 
-/// Position and timer of a body, where it is awake.
+/// Position and timer of a body, if it is awake.
 #[inline]
 fn move_if_awake(body: &mut BodyState)
     ensures { body.new
@@ -120,9 +121,9 @@ fn move_on(bodies: &mut [BodyState])
     }
 }
 
-/// The phases Gravity to Timers of a body that no contact touches, where it is awake.
+/// The phases Gravity to Timers of a body that no contact touches, if it is awake.
 #[inline(always)]
-fn go_on_freely(pull: V2, body: &mut BodyState)
+fn move_freely(pull: V2, body: &mut BodyState)
     ensures { body.new ≡ (if body.old.awake
         then after_timer (after_motion (after_gravity pull body.old)) else body.old) }
 {
@@ -134,17 +135,17 @@ fn go_on_freely(pull: V2, body: &mut BodyState)
 /// The phases Gravity to Sleep of a body that no contact touches.
 #[inline(always)]
 #[tactic(auto, unfolding(crate::specs::Alone::body_after_tick))]
-fn go_on_alone(pull: V2, body: &mut BodyState)
+fn solve_untouched_body(pull: V2, body: &mut BodyState)
     ensures { body.new ≡ body_after_tick pull body.old }
 {
-    go_on_freely(pull, body);
+    move_freely(pull, body);
     if body.awake && body.timer == STILL_TICKS {
         fall_asleep(body);
     }
 }
 
-/// The phases Gravity to Sleep of bodies that no contact touches, one body after the other: each is
-/// a group of its own. Takes no memory.
+/// The phases Gravity to Sleep of bodies that no contact touches, one body after the other: each body
+/// is its own group. Takes no memory.
 #[inline(never)]
 pub fn solve_untouched(scene: &Scene, bodies: &mut [BodyState])
     ensures { bodies.new
@@ -152,17 +153,18 @@ pub fn solve_untouched(scene: &Scene, bodies: &mut [BodyState])
 {
     let pull = scene.gravity().scale(Fx::TICK);
     for body in bodies.iter_mut() {
-        go_on_alone(pull, body);
+        solve_untouched_body(pull, body);
     }
 }
 
-/// The phases Gravity to Timers of bodies that no contact touches, one body after the other.
+/// The phases Gravity to Timers of bodies that no contact touches, one body after the other. Which
+/// of them go to sleep depends on their group.
 fn solve_free(pull: V2, bodies: &mut [BodyState])
     ensures { bodies.new
         ≡ each_awake (λ b. after_timer (after_motion (after_gravity pull b))) bodies.old }
 {
     for body in bodies.iter_mut() {
-        go_on_freely(pull, body);
+        move_freely(pull, body);
     }
 }
 

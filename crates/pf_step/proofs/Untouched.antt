@@ -1,4 +1,4 @@
--- A tick in which nothing touches: each body is a group of its own, and goes through it alone.
+-- A tick without contact points: each body is its own group, and is simulated on its own.
 use Rattle.std.proofs.Common.{◌≡◌, ◌∙◌, ℕ, zero, suc, ◌<◌, ◌+◌, ◌==◌, Bool, true, false, not, ◌&&◌, ◌||◌, List, [], ◌∷◌, Some, length, map, refl, sym, ap, ap₂, arith, slice_get, if◌then◌else◌}
 use Rattle.std.proofs.lemmas.Bool.{eq-eqb, ne_eqb}
 use Rattle.std.proofs.lemmas.List.{length-map}
@@ -25,7 +25,7 @@ use Rattle.pf_step.specs.Step.{step, touching}
 use Rattle.pf_step.specs.World.{World}
 use Rattle.pf_step.proofs.Commanding.{commands_length}
 
--- the names of bodies that are groups of their own, from a number on
+-- the names k, k + 1, .. of so many groups of one body
 abbrev own_names : ℕ → List BodyState → List ℕ
 own_names k bodies = range_with_len k (length bodies)
 
@@ -45,7 +45,7 @@ module _ (p : BodyState → Bool) where
   abbrev if_named : ℕ → ℕ × BodyState → Bool
   if_named name m = not (m.0 == name) || p m.1
 
-  -- no later body has this name
+  -- later bodies have other names
   none_named : (k name : ℕ) (bodies : List BodyState) → name < k
       → list_any (is_named name) (zip (own_names k bodies) bodies) ≡ false
   none_named k name [] below = refl
@@ -60,7 +60,7 @@ module _ (p : BodyState → Bool) where
       ap₂ (λ t rest. (not t || p b) && rest) (ne_eqb k name (omega (arith, below)))
       (all_unnamed (k + 1) name bodies (omega (arith, below)))
 
-  -- so one body with this name passes where it passes itself
+  -- so a test of the bodies of a name is a test of the body at its place
   one_named : (k i name : ℕ) (bodies : List BodyState) (b : BodyState) → name ≡ k + i → slice_get bodies i ≡ Some b
       → list_any (is_named name) (zip (own_names k bodies) bodies) ≡ p b
   one_named k i name [] b is at = absurd (none-some b at)
@@ -83,7 +83,7 @@ module _ (p : BodyState → Bool) where
       ap₂ (λ t rest. (not t || p c) && rest) (ne_eqb k name (omega (arith, is)))
       (each_named (k + 1) i name bodies b (omega (arith, is)) at)
 
--- what changes each body by its name and its state, and as this does, is this
+-- a map over named bodies that changes each as `g` does is the map of `g`
 map_named : (f : ℕ × BodyState → BodyState) (g : BodyState → BodyState) (k : ℕ) (bodies : List BodyState)
     → ((name i : ℕ) (b : BodyState) → name ≡ k + i → slice_get bodies i ≡ Some b → f (name, b) ≡ g b)
     → map f (zip (own_names k bodies) bodies) ≡ map g bodies
@@ -96,7 +96,7 @@ map_same : (bodies : List BodyState) → map (λ b. b) bodies ≡ bodies
 map_same [] = refl
 map_same (b ∷ bodies) = ap (λ bs. b ∷ bs) (map_same bodies)
 
--- the bodies of groups of one are awake as they were
+-- to wake groups of one body changes nothing
 woken_same : (bodies : List BodyState) → woken (own_names 0 bodies) bodies ≡ bodies
 unfolding woken
 woken_same bodies =
@@ -104,7 +104,7 @@ woken_same bodies =
     (λ name i b is at. ap (λ t. record b { awake = t }) (one_named (λ b. b.awake) 0 i name bodies b is at))
     ∙ map_same bodies
 
--- and sleep by their own timers
+-- and each body sleeps if its own timer is full
 rested_each : (bodies : List BodyState) → rested STILL_TICKS (own_names 0 bodies) bodies ≡ map asleep_if_still bodies
 unfolding rested
 rested_each bodies =
@@ -115,7 +115,7 @@ rested_each bodies =
     ap (λ t. if b.awake && t then at_sleep b else b)
     (each_named (λ b. b.timer == STILL_TICKS) 0 i name bodies b is at))
 
--- both phases of each body
+-- to move all bodies and then to let them rest is one map
 moved_and_rested : (pull : V2) (bodies : List BodyState)
     → map asleep_if_still (each_awake (λ b. after_timer (after_motion (after_gravity pull b))) bodies)
     ≡ map (body_after_tick pull) bodies

@@ -1,4 +1,5 @@
-//! The tick on one screen: from a world to the world one tick later.
+//! A tick: from a world to the world one tick later. Its definition is on one screen,
+//! `specs/Step.antt`.
 
 ghost use Rattle.std.specs.Prelude.{◌≡◌, [], All, length, map, IfOk, IsOk, OnOk, OnErr};
 ghost use Rattle.pf_manifold.specs.Key.{AreTouches};
@@ -49,8 +50,7 @@ fn narrow_phase(
     kept.update(alloc, scene, bodies, &pairs)
 }
 
-/// The same, with the points that are not reused computed by several threads, where there are many
-/// pairs.
+/// The same, but where there are many pairs, several threads compute the points that are not reused.
 #[tactic(auto, using(pf_cache::proofs::Unmoved::kept_points, pf_manifold::proofs::KeyOrder::touches_of_bodies))]
 fn narrow_phase_by_threads<R: Threads + Sync>(
     rt: &R,
@@ -154,7 +154,7 @@ fn solve_all(scene: &Scene, islands: &mut [Island])
     }
 }
 
-/// The world that solved islands leave of these bodies and contacts.
+/// These bodies and contacts, with the results of solved islands put back.
 fn world_of(bodies: Vec<BodyState>, contacts: Contacts, islands: &[Island]) -> World
     requires bodies { All (IsAtHome (length bodies.items)) islands.now }
     requires contacts { All (λ i. AreRowsAt contacts i.rows) islands.now }
@@ -167,7 +167,8 @@ fn world_of(bodies: Vec<BodyState>, contacts: Contacts, islands: &[Island]) -> W
     World { bodies, contacts }
 }
 
-/// The world after a tick in which nothing touches: each body goes through it alone.
+/// The world after a tick without contact points, of the bodies after its commands: each body is
+/// simulated on its own.
 fn untouched_world(alloc: Global, scene: &Scene, bodies: Vec<BodyState>) -> World
     ensures bodies { result.bodies
         ≡ map (body_after_tick (gravity_per_tick scene.now.gravity)) bodies.items }
@@ -183,7 +184,7 @@ fn untouched_world(alloc: Global, scene: &Scene, bodies: Vec<BodyState>) -> Worl
 
 /// The world one tick of 1/64 s later, with the payloads of the tick's commands in order of player,
 /// then number. The world has one state for each body of the scene. Its islands are solved one
-/// after the other. Counts the tick and the pairs that could not reuse kept contact points, and
+/// after the other; where nothing touches, none are made. Counts the tick and the pairs that could not reuse kept contact points, and
 /// keeps the points; after an error none are kept, and nothing is counted. Takes no memory where
 /// there are no bodies.
 #[tactic(auto, using(crate::proofs::Lengths::step_length))]

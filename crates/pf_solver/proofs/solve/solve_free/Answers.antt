@@ -9,6 +9,6 @@ pub loop-body-preserved : goal.loop-body-preserved
 loop-body-preserved c =
     let now = c.loop-body.bodies in
     let i = c.loop-body.body-index in
-    ap (set now i) c.go_on_freely.ensures
+    ap (set now i) c.move_freely.ensures
     ∙ map_over_more (λ (b : BodyState). if b.awake then after_timer (after_motion (after_gravity c.args.pull b)) else b) c.args.bodies.now now i
     (get_or now i c.body-item.result) c.loop-body-test.true c.loop-body.invariant (ap (get_or now i) c.body-item.is)
