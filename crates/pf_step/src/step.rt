@@ -184,9 +184,9 @@ fn untouched_world(alloc: Global, scene: &Scene, bodies: Vec<BodyState>) -> Worl
 
 /// The world one tick of 1/64 s later, with the payloads of the tick's commands in order of player,
 /// then number. The world has one state for each body of the scene. Its islands are solved one
-/// after the other; where nothing touches, none are made. Counts the tick and the pairs that could not reuse kept contact points, and
-/// keeps the points; after an error none are kept, and nothing is counted. Takes no memory where
-/// there are no bodies.
+/// after the other; where nothing touches, none are made. Counts the tick and the pairs that could
+/// not reuse kept contact points, and keeps the points; after an error none are kept, and nothing
+/// is counted. Takes no memory where there are no bodies.
 #[tactic(auto, using(crate::proofs::Lengths::step_length))]
 pub fn step_alone(
     alloc: Global,
