@@ -15,7 +15,6 @@ use Rattle.pf_manifold.specs.Key.{AreTouches}
 use Rattle.pf_manifold.specs.PlacedShape.{PlacedShape}
 use Rattle.pf_manifold.specs.Touches.{Touch}
 use Rattle.pf_manifold.proofs.KeyOrder.{touches_in_order}
-use Rattle.pf_cache.specs.Ahead.{missed}
 use Rattle.pf_cache.specs.Manifolds.{computed_count, has_pair, is_reusable, is_unmoved, placed_shapes, points_of_pair, shape_of_body}
 use Rattle.pf_cache.specs.Spans.{ArePlaced, AreRefreshed, AreSpans, IsKeptSpan, IsSpan, Span, are_unmoved, computed_count_by_flags, spans_from, unmoved_flags}
 use Rattle.pf_cache.proofs.Refreshing.{placed_end, placed_from, spans_here, spans_of_both}
@@ -32,13 +31,6 @@ pub counted : (old shapes : List PlacedShape) (kept pairs : List Pair)
     → computed_count_by_flags kept (unmoved_flags old shapes) pairs ≡ computed_count (record { shapes = old; pairs = kept }) shapes pairs
 counted old shapes kept pairs =
     ap (λ (test : Pair → Bool). count_by test pairs) (λ i p. not (has_pair kept p && flags_are old shapes p i))
-
--- and which these are
-pub missed_is : (old shapes : List PlacedShape) (kept pairs : List Pair)
-    → missed kept (unmoved_flags old shapes) pairs
-    ≡ filter (λ p. not (is_reusable (record { shapes = old; pairs = kept }) shapes p)) pairs
-missed_is old shapes kept pairs =
-    ap (λ (test : Pair → Bool). filter test pairs) (λ i p. not (has_pair kept p && flags_are old shapes p i))
 
 -- spans of points as the bodies stood
 module _ (old : List PlacedShape) (spans : List Span) (touches : List Touch) (are : AreSpans old spans touches) where

@@ -15,4 +15,4 @@ pub mod Refreshing
 pub mod Updating
 pub mod Keeping
 pub mod Gathering
-pub mod PointsAhead
+pub mod PointsAtOnce

@@ -9,4 +9,3 @@ pub mod Manifolds
 pub mod Spans
 pub mod Gathered
 pub mod Laws
-pub mod Ahead

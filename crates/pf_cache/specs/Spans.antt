@@ -48,6 +48,10 @@ are_unmoved unmoved p = get_or unmoved p.a false && get_or unmoved p.b false
 abbrev pub computed_count_by_flags : List Pair → List Bool → List Pair → ℕ
 computed_count_by_flags kept unmoved pairs = count_by (λ p. not (has_pair kept p && are_unmoved unmoved p)) pairs
 
+-- a contact point is of this pair
+abbrev pub is_of_pair : Pair → Touch → Bool
+is_of_pair p t = (t.a == p.a) && (t.b == p.b)
+
 -- the spans of pairs whose points stand one after the other, from a start on
 abbrev pub spans_from : ℕ → List PlacedShape → List Pair → List Span
 spans_from start shapes [] = []

@@ -8,7 +8,7 @@ ghost use Rattle.pf_manifold.specs.Key.{IsRising};
 ghost use Rattle.pf_cache.specs.Manifolds.{points_of_pair};
 ghost use Rattle.pf_cache.specs.Spans.{StandsFrom, IsKeptSpan, computed_count_by_flags, pair_rank, spans_from};
 
-use crate::ahead::BodyShapes;
+use crate::kept_shape::{KeptShape, manifold_of_pair};
 use crate::refresh::Progress;
 use crate::spans::{Span, span_of, unmoved_span};
 use pf_manifold::{Touch, push_points};
@@ -110,15 +110,9 @@ impl<'a> GatheredPoints<'a> {
         Ok(())
     }
 
-    /// Adds the contact points of a pair as the narrow phase computes them. The pair is the one at
-    /// this place of those that are computed.
+    /// Adds the contact points of a pair as the narrow phase computes them.
     #[inline(never)]
-    fn add_computed(
-        &mut self,
-        pair: &Pair,
-        shapes: &BodyShapes,
-        place: usize,
-    ) -> Result<(), AllocError>
+    fn add_computed(&mut self, pair: &Pair, shapes: &[KeptShape]) -> Result<(), AllocError>
         requires few { length shapes.now ≤ MAX_BODIES }
         requires pair { IsPairOf (length shapes.now) pair.now }
         ensures { OnOk result (self.new ≡ record self.old {
@@ -127,7 +121,7 @@ impl<'a> GatheredPoints<'a> {
     {
         copy_run(&mut self.touches, self.source, self.start, self.end)?;
         self.start = self.end;
-        push_points(&mut self.touches, pair, &shapes.manifold(pair, place))
+        push_points(&mut self.touches, pair, &manifold_of_pair(shapes, pair))
     }
 
     /// Adds the contact points of a pair: those of its span, if it has one, and else computed ones.
@@ -136,8 +130,7 @@ impl<'a> GatheredPoints<'a> {
         &mut self,
         span: Option<Span>,
         pair: &Pair,
-        shapes: &BodyShapes,
-        place: usize,
+        shapes: &[KeptShape],
     ) -> Result<(), AllocError>
         requires few { length shapes.now ≤ MAX_BODIES }
         requires pair { IsPairOf (length shapes.now) pair.now }
@@ -149,7 +142,7 @@ impl<'a> GatheredPoints<'a> {
     {
         match span {
             Some(span) => self.add_kept(span.start, span.len),
-            None => self.add_computed(pair, shapes, place),
+            None => self.add_computed(pair, shapes),
         }
     }
 
@@ -192,7 +185,7 @@ pub fn gather(
     alloc: Global,
     kept: &KeptPoints,
     done: &Progress,
-    shapes: &BodyShapes,
+    shapes: &[KeptShape],
     pairs: &[Pair],
 ) -> Result<PairPoints, AllocError>
     requires few { length shapes.now ≤ MAX_BODIES }
@@ -219,12 +212,11 @@ pub fn gather(
         let (found, behind) = span_of(kept.spans, place, pair);
         place = behind;
         let span = unmoved_span(found, pair, kept.unmoved);
-        let next = done.computed.saturating_add(computed);
         if span.is_none() {
             computed += 1;
         }
         let before = points.len()?;
-        points.add(span, pair, shapes, next)?;
+        points.add(span, pair, shapes)?;
         let start = done.points.checked_add(before).ok_or(AllocError)?;
         let len = points.len()? - before;
         let pair = *pair;

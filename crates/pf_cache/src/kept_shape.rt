@@ -1,10 +1,14 @@
 //! The shapes of bodies as they stood.
 
-ghost use Rattle.std.specs.Prelude.{◌≡◌, IfOk, false, get_or, length};
-ghost use Rattle.pf_cache.specs.Manifolds.{placed_shapes};
+ghost use Rattle.std.specs.Prelude.{◌≡◌, ◌≤◌, IfOk, false, get_or, length, map};
+ghost use Rattle.pf_shapes.specs.Pair.{IsPairOf};
+ghost use Rattle.pf_shapes.specs.declared.scene.TheConstants.{MAX_BODIES};
+ghost use Rattle.pf_manifold.specs.Manifold.{points_of};
+ghost use Rattle.pf_manifold.specs.Touches.{touch_of};
+ghost use Rattle.pf_cache.specs.Manifolds.{placed_shapes, points_of_pair};
 ghost use Rattle.pf_cache.specs.Spans.{are_unmoved, unmoved_flags};
 
-use pf_manifold::PlacedShape;
+use pf_manifold::{Manifold, PlacedShape, collide};
 use pf_rot::{Rot, V2};
 use pf_shapes::{BodyState, Fixture, Pair, Shape};
 use std::alloc::{AllocError, Global};
@@ -86,6 +90,18 @@ impl KeptShape {
             && self.position == other.position
             && self.rotation == other.rotation
     }
+}
+
+/// The contact points of a pair, as its bodies stand.
+#[inline]
+pub fn manifold_of_pair(shapes: &[KeptShape], pair: &Pair) -> Manifold
+    requires few { length shapes.now ≤ MAX_BODIES }
+    requires pair { IsPairOf (length shapes.now) pair.now }
+    ensures { map (touch_of pair.now) (points_of result) ≡ points_of_pair shapes.now pair.now }
+{
+    let a = &shapes[pair.a];
+    let b = &shapes[pair.b];
+    collide(&a.placed(), &b.placed())
 }
 
 /// The shapes of all bodies as they stand.

@@ -3,13 +3,13 @@
 //! the work done.
 #![tactic(auto)]
 
-mod ahead;
 mod constraint;
 mod contact;
 mod contacts;
 mod gathered;
 mod kept_shape;
 pub mod laws;
+mod listed;
 mod manifolds;
 mod meter;
 mod refresh;

@@ -2,16 +2,15 @@
 
 ghost use Rattle.std.specs.Prelude.{◌≡◌};
 
-use crate::ahead::{BodyShapes, PointsAhead, missed_pairs, spans_of_points};
 use crate::gathered::{KeptPoints, gather};
 use crate::kept_shape::{KeptShape, placed_shapes, refreshed_shapes, unmoved_flags};
+use crate::listed::{computed_count, spans_of_points};
 use crate::refresh::refresh;
 use crate::spans::Span;
-use pf_manifold::{PAIRS_FOR_THREADS, Touch, collide_all};
+use pf_manifold::{Collider, Touch};
 use pf_shapes::{BodyState, Pair, Scene};
 use std::alloc::{AllocError, Global};
 use std::marker::Model;
-use std::thread::Threads;
 
 /// The contact points of pairs of bodies as the bodies stood in the last narrow phase, as a
 /// `b2Contact` of Box2D 2.x keeps its manifold. They are sound for every scene and world, since they
@@ -56,13 +55,10 @@ impl Model for NarrowPhase {
 }
 
 impl Manifolds {
-    ghost use Rattle.std.specs.Prelude.{◌≡◌, [], All, length, not, IfOk, IsOk};
-    ghost use Rattle.std.specs.List.{filter};
+    ghost use Rattle.std.specs.Prelude.{◌≡◌, [], All, length, IfOk, IsOk};
     ghost use Rattle.pf_shapes.specs.Pair.{IsAscending, IsPairOf};
-    ghost use Rattle.pf_shapes.specs.declared.scene.TheConstants.{MAX_BODIES};
     ghost use Rattle.pf_manifold.specs.Key.{AreTouches};
-    ghost use Rattle.pf_cache.specs.Manifolds.{computed_count, is_reusable, kept_touches, manifolds_of, no_manifolds, placed_shapes};
-    ghost use Rattle.pf_cache.specs.Spans.{IsSpan};
+    ghost use Rattle.pf_cache.specs.Manifolds.{computed_count, kept_touches, manifolds_of, no_manifolds, placed_shapes};
 
     /// Nothing kept. Takes no memory.
     pub fn new(alloc: Global) -> Manifolds
@@ -83,21 +79,18 @@ impl Manifolds {
         self.touches.as_slice()
     }
 
-    /// The same as `update`, with the contact points of some pairs as they were computed ahead.
+    /// The same as `update`, pair by pair: the kept points are updated where they stand.
     #[inline(never)]
-    fn update_ahead(
+    fn update_in_place(
         self,
         alloc: Global,
         scene: &Scene,
         bodies: &[BodyState],
         pairs: &[Pair],
-        ahead: &PointsAhead,
     ) -> Result<NarrowPhase, AllocError>
         requires bodies { length bodies.now ≡ length scene.now.fixtures }
         requires pairs { All (IsPairOf (length bodies.now)) pairs.now }
         requires ascending { IsAscending pairs.now }
-        requires ahead { All (IsSpan (placed_shapes scene.now.fixtures bodies.now)
-            ahead.now.touches.items) ahead.now.spans.items }
         ensures manifolds { IfOk result (λ found.
             found.manifolds ≡ manifolds_of scene.now.fixtures bodies.now pairs.now) }
         ensures computed { IfOk result (λ found. found.computed
@@ -111,16 +104,15 @@ impl Manifolds {
             });
         }
         let (shapes, unmoved) = refreshed_shapes(alloc, self.shapes, scene.fixtures(), bodies)?;
-        let stand = BodyShapes::new(&shapes, ahead);
         let mut spans = self.spans;
         let mut touches = self.touches;
-        let done = refresh(&mut touches, &spans, pairs, &unmoved, &stand);
+        let done = refresh(&mut touches, &spans, pairs, &unmoved, &shapes);
         let kept = KeptPoints {
             spans: &spans,
             touches: &touches,
             unmoved: &unmoved,
         };
-        let rest = gather(alloc, &kept, &done, &stand, &pairs[done.pairs..])?;
+        let rest = gather(alloc, &kept, &done, &shapes, &pairs[done.pairs..])?;
         spans.truncate(done.pairs);
         spans.extend_from_slice(&rest.spans)?;
         touches.truncate(done.points);
@@ -136,84 +128,64 @@ impl Manifolds {
         })
     }
 
-    /// The contact points of these pairs of bodies. The points of a pair that is kept are reused if
-    /// both bodies still have the shape, position and rotation that they had; those of the other
-    /// pairs are computed, and these pairs are counted. An error drops the kept points. Takes no
-    /// memory where there are no bodies.
-    pub fn update(
-        self,
-        alloc: Global,
-        scene: &Scene,
-        bodies: &[BodyState],
-        pairs: &[Pair],
-    ) -> Result<NarrowPhase, AllocError>
-        requires bodies { length bodies.now ≡ length scene.now.fixtures }
-        requires pairs { All (IsPairOf (length bodies.now)) pairs.now }
-        requires ascending { IsAscending pairs.now }
-        ensures manifolds { IfOk result (λ found.
-            found.manifolds ≡ manifolds_of scene.now.fixtures bodies.now pairs.now) }
-        ensures computed { IfOk result (λ found. found.computed
-            ≡ computed_count self (placed_shapes scene.now.fixtures bodies.now) pairs.now) }
-        ensures no_memory { bodies.now ≡ [] → IsOk result }
-    {
-        let none = PointsAhead {
-            spans: Vec::new(alloc),
-            touches: Vec::new(alloc),
-        };
-        self.update_ahead(alloc, scene, bodies, pairs, &none)
-    }
-
-    /// The pairs that cannot reuse kept points, in their order.
-    fn missed(
+    /// How many of these pairs cannot reuse kept points.
+    fn computed_count(
         &self,
         alloc: Global,
         scene: &Scene,
         bodies: &[BodyState],
         pairs: &[Pair],
-    ) -> Result<Vec<Pair>, AllocError>
-        requires pairs { All (IsPairOf (length bodies.now)) pairs.now }
+    ) -> Result<usize, AllocError>
         requires bodies { length bodies.now ≡ length scene.now.fixtures }
+        requires pairs { All (IsPairOf (length bodies.now)) pairs.now }
         requires ascending { IsAscending pairs.now }
-        ensures missed { IfOk result (λ found. found.items ≡ filter
-            (λ p. not (is_reusable self.now (placed_shapes scene.now.fixtures bodies.now) p)) pairs.now) }
-        ensures bodies { IfOk result (λ found. All (IsPairOf MAX_BODIES) found.items) }
+        ensures { IfOk result (λ count. count
+            ≡ computed_count self.now (placed_shapes scene.now.fixtures bodies.now) pairs.now) }
     {
         let shapes = placed_shapes(alloc, scene.fixtures(), bodies)?;
         let unmoved = unmoved_flags(alloc, &self.shapes, &shapes)?;
-        missed_pairs(alloc, &self.spans, &unmoved, pairs)
+        Ok(computed_count(&self.spans, &unmoved, pairs))
     }
 
-    /// The contact points of the pairs that cannot reuse kept ones, computed by several threads.
-    fn points_ahead<R: Threads + Sync>(
-        &self,
-        rt: &R,
+    /// The contact points of these pairs, all of them computed.
+    fn of_pairs<C: Collider>(
+        collider: &C,
         alloc: Global,
         scene: &Scene,
         bodies: &[BodyState],
         pairs: &[Pair],
-    ) -> Result<PointsAhead, AllocError>
+    ) -> Result<Manifolds, AllocError>
+        requires can { C.can_collide collider.now }
         requires bodies { length bodies.now ≡ length scene.now.fixtures }
         requires pairs { All (IsPairOf (length bodies.now)) pairs.now }
         requires ascending { IsAscending pairs.now }
-        ensures { IfOk result (λ ahead. All (IsSpan (placed_shapes scene.now.fixtures bodies.now)
-            ahead.touches.items) ahead.spans.items) }
+        ensures { IfOk result (λ manifolds.
+            manifolds ≡ manifolds_of scene.now.fixtures bodies.now pairs.now) }
     {
-        let missed = self.missed(alloc, scene, bodies, pairs)?;
-        let touches = collide_all(rt, alloc, scene, bodies, &missed)?;
-        let spans = spans_of_points(alloc, &missed, &touches)?;
-        Ok(PointsAhead { spans, touches })
+        let shapes = placed_shapes(alloc, scene.fixtures(), bodies)?;
+        let touches = collider.collide(alloc, scene, bodies, pairs)?;
+        let spans = spans_of_points(alloc, pairs, &touches)?;
+        Ok(Manifolds {
+            shapes,
+            spans,
+            touches,
+        })
     }
 
-    /// The same as `update`. Where there are many pairs, several threads compute the points that are
-    /// not reused.
-    pub fn update_by_threads<R: Threads + Sync>(
+    /// The contact points of these pairs of bodies. The points of a pair that is kept are reused if
+    /// both bodies still have the shape, position and rotation that they had; those of the other
+    /// pairs are computed, and these pairs are counted. Where that are many pairs, the collider
+    /// computes the points of all pairs at once. An error drops the kept points. Takes no memory
+    /// where there are no bodies.
+    pub fn update<C: Collider>(
         self,
-        rt: &R,
+        collider: &C,
         alloc: Global,
         scene: &Scene,
         bodies: &[BodyState],
         pairs: &[Pair],
     ) -> Result<NarrowPhase, AllocError>
+        requires can { C.can_collide collider.now }
         requires bodies { length bodies.now ≡ length scene.now.fixtures }
         requires pairs { All (IsPairOf (length bodies.now)) pairs.now }
         requires ascending { IsAscending pairs.now }
@@ -223,10 +195,17 @@ impl Manifolds {
             ≡ computed_count self (placed_shapes scene.now.fixtures bodies.now) pairs.now) }
         ensures no_memory { bodies.now ≡ [] → IsOk result }
     {
-        if pairs.len() < PAIRS_FOR_THREADS {
-            return self.update(alloc, scene, bodies, pairs);
+        if bodies.is_empty() || pairs.len() < C::MANY {
+            return self.update_in_place(alloc, scene, bodies, pairs);
         }
-        let ahead = self.points_ahead(rt, alloc, scene, bodies, pairs)?;
-        self.update_ahead(alloc, scene, bodies, pairs, &ahead)
+        let computed = self.computed_count(alloc, scene, bodies, pairs)?;
+        if computed < C::MANY {
+            return self.update_in_place(alloc, scene, bodies, pairs);
+        }
+        let manifolds = Manifolds::of_pairs(collider, alloc, scene, bodies, pairs)?;
+        Ok(NarrowPhase {
+            manifolds,
+            computed,
+        })
     }
 }

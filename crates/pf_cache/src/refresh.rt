@@ -6,8 +6,7 @@ ghost use Rattle.pf_shapes.specs.declared.scene.TheConstants.{MAX_BODIES};
 ghost use Rattle.pf_cache.specs.Manifolds.{points_of_pair};
 ghost use Rattle.pf_cache.specs.Spans.{ArePlaced, AreRefreshed, IsKeptSpan, computed_count_by_flags};
 
-use crate::ahead::BodyShapes;
-use crate::kept_shape::are_unmoved;
+use crate::kept_shape::{KeptShape, are_unmoved, manifold_of_pair};
 use crate::spans::Span;
 use pf_manifold::{Touch, replace_points};
 use pf_shapes::Pair;
@@ -24,9 +23,9 @@ pub struct Progress {
 }
 
 /// Computes the contact points of a span's pair, and writes them over the old ones if they are as
-/// many. Whether they are. The pair is the one at this place of those that are computed.
+/// many. Whether they are.
 #[inline(never)]
-fn refresh_span(touches: &mut [Touch], span: &Span, shapes: &BodyShapes, place: usize) -> bool
+fn refresh_span(touches: &mut [Touch], span: &Span, shapes: &[KeptShape]) -> bool
     requires few { length shapes.now ≤ MAX_BODIES }
     requires pair { IsPairOf (length shapes.now) span.now.pair }
     requires within { span.now.start + span.now.len ≤ length touches.old }
@@ -37,7 +36,7 @@ fn refresh_span(touches: &mut [Touch], span: &Span, shapes: &BodyShapes, place: 
         ++ drop (span.now.start + span.now.len) touches.old) }
     ensures others { result ≡ false → touches.new ≡ touches.old }
 {
-    let manifold = shapes.manifold(&span.pair, place);
+    let manifold = manifold_of_pair(shapes, &span.pair);
     if manifold.count() != span.len {
         return false;
     }
@@ -55,7 +54,7 @@ pub fn refresh(
     spans: &[Span],
     pairs: &[Pair],
     unmoved: &[bool],
-    shapes: &BodyShapes,
+    shapes: &[KeptShape],
 ) -> Progress
     requires few { length shapes.now ≤ MAX_BODIES }
     requires pairs { All (IsPairOf (length shapes.now)) pairs.now }
@@ -77,7 +76,7 @@ pub fn refresh(
             break;
         }
         if !are_unmoved(unmoved, pair) {
-            if !refresh_span(touches, span, shapes, computed) {
+            if !refresh_span(touches, span, shapes) {
                 break;
             }
             computed += 1;

@@ -22,6 +22,6 @@ pub use contact_point::ContactPoint;
 pub use key::Key;
 pub use manifold::Manifold;
 pub use narrow_phase::collide;
-pub use parallel::{PAIRS_FOR_THREADS, collide_all};
+pub use parallel::{Collider, OneThread, PAIRS_FOR_THREADS, SeveralThreads, collide_all};
 pub use placed_shape::PlacedShape;
 pub use touch::{Touch, collide_list, push_points, replace_points};

@@ -1,4 +1,4 @@
-//! The contact points of a list of pairs of bodies, computed by several threads.
+//! Who computes the contact points of a list of pairs of bodies: one thread, or several.
 
 ghost use Rattle.std.specs.Prelude.{◌≡◌, ◌≤◌, All, length, map, IfOk};
 ghost use Rattle.std.specs.List.{flat_map};
@@ -83,4 +83,74 @@ pub fn collide_all<R: Threads + Sync>(
     }
     let chunks = collide_chunks(rt, alloc, fixtures, bodies, pairs)?;
     joined(alloc, &chunks)
+}
+
+/// Who computes the contact points of a list of pairs.
+pub trait Collider {
+    ghost use Rattle.std.specs.Prelude.{◌≡◌, ⊤, All, length, IfOk};
+    ghost use Rattle.pf_shapes.specs.Pair.{IsPairOf};
+    ghost use Rattle.pf_manifold.specs.Touches.{touches};
+
+    /// What a call needs beside its arguments, as a runtime that threads may share.
+    ghost can_collide: { Self → Type 0 } = { λ _. ⊤ };
+
+    /// From so many pairs on whose points have to be computed, `collide` takes less time for all
+    /// pairs than it takes to compute these points one after the other. It changes no result.
+    const MANY: usize;
+
+    /// The list of [`collide_list`].
+    fn collide(
+        &self,
+        alloc: Global,
+        scene: &Scene,
+        bodies: &[BodyState],
+        pairs: &[Pair],
+    ) -> Result<Vec<Touch>, AllocError>
+        requires can { can_collide self.now }
+        requires bodies { length bodies.now ≡ length scene.now.fixtures }
+        requires pairs { All (IsPairOf (length bodies.now)) pairs.now }
+        ensures { IfOk result
+            (λ found. found.items ≡ touches scene.now.fixtures bodies.now pairs.now) };
+}
+
+/// The thread of the caller alone.
+#[derive(Clone, Copy, Debug)]
+pub struct OneThread;
+
+impl Collider for OneThread {
+    const MANY: usize = usize::MAX;
+
+    fn collide(
+        &self,
+        alloc: Global,
+        scene: &Scene,
+        bodies: &[BodyState],
+        pairs: &[Pair],
+    ) -> Result<Vec<Touch>, AllocError> {
+        collide_list(alloc, scene, bodies, pairs)
+    }
+}
+
+/// Threads that a runtime starts.
+pub struct SeveralThreads<'r, R> {
+    /// The runtime.
+    pub rt: &'r R,
+}
+
+impl<'r, R: Threads + Sync> Collider for SeveralThreads<'r, R> {
+    ghost use Rattle.std.specs.Thread.{IsSync};
+
+    ghost can_collide = { λ _. IsSync R.row };
+
+    const MANY: usize = PAIRS_FOR_THREADS;
+
+    fn collide(
+        &self,
+        alloc: Global,
+        scene: &Scene,
+        bodies: &[BodyState],
+        pairs: &[Pair],
+    ) -> Result<Vec<Touch>, AllocError> {
+        collide_all(self.rt, alloc, scene, bodies, pairs)
+    }
 }

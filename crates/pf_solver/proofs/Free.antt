@@ -1,4 +1,4 @@
--- Bodies that no contact touches go through all phases one after the other.
+-- Bodies that no contact touches may go through all phases one after the other.
 use Rattle.std.proofs.Common.{◌≡◌, ◌∙◌, Bool, true, false, List, [], ◌∷◌, length, refl, sym, ap, ap₂, arith}
 use Rattle.std.specs.Prelude.{if◌then◌else◌}
 use Rattle.pf_rot.specs.Vector.{V2}
@@ -13,7 +13,7 @@ use Rattle.pf_solver.specs.Velocities.{Batch, pass}
 use Rattle.pf_solver.proofs.Passes.{passes_nothing}
 
 -- gravity wakes no body, and lets none sleep
-both_phases : (pull : V2) (b : BodyState)
+pub both_phases : (pull : V2) (b : BodyState)
     → (if (if b.awake then after_gravity pull b else b).awake
     then after_timer (after_motion (if b.awake then after_gravity pull b else b))
     else (if b.awake then after_gravity pull b else b))

@@ -13,6 +13,6 @@ mod velocities;
 
 pub use bodies::{STILL_SPEED, STILL_SPIN, STILL_TICKS, after_gravity, after_motion, after_timer};
 pub use constraint::{BIAS_FACTOR, SLOP};
-pub use island::Solve;
+pub use island::solve_island;
 pub use solve::solve_untouched;
 pub use velocities::ROUNDS;

@@ -121,24 +121,14 @@ fn move_on(bodies: &mut [BodyState])
     }
 }
 
-/// The phases Gravity to Timers of a body that no contact touches, if it is awake.
-#[inline(always)]
-fn move_freely(pull: V2, body: &mut BodyState)
-    ensures { body.new ≡ (if body.old.awake
-        then after_timer (after_motion (after_gravity pull body.old)) else body.old) }
-{
-    if body.awake {
-        *body = after_timer(after_motion(after_gravity(pull, *body)));
-    }
-}
-
 /// The phases Gravity to Sleep of a body that no contact touches.
 #[inline(always)]
-#[tactic(auto, unfolding(crate::specs::Alone::body_after_tick))]
+#[tactic(auto, unfolding(crate::specs::Alone::body_after_tick), using(crate::proofs::Free::both_phases))]
 fn solve_untouched_body(pull: V2, body: &mut BodyState)
     ensures { body.new ≡ body_after_tick pull body.old }
 {
-    move_freely(pull, body);
+    fall_if_awake(pull, body);
+    move_if_awake(body);
     if body.awake && body.timer == STILL_TICKS {
         fall_asleep(body);
     }
@@ -157,21 +147,12 @@ pub fn solve_untouched(scene: &Scene, bodies: &mut [BodyState])
     }
 }
 
-/// The phases Gravity to Timers of bodies that no contact touches, one body after the other. Which
-/// of them go to sleep depends on their group.
-fn solve_free(pull: V2, bodies: &mut [BodyState])
-    ensures { bodies.new
-        ≡ each_awake (λ b. after_timer (after_motion (after_gravity pull b))) bodies.old }
-{
-    for body in bodies.iter_mut() {
-        move_freely(pull, body);
-    }
-}
-
-/// The phases Gravity to Timers of bodies that contacts touch, one phase after the other.
+/// The phases Gravity to Timers: Gravity, Positions and Timers of the awake bodies, and Velocities
+/// of all bodies that rows name, in the order of the rows. All of a row but its entry is computed
+/// anew. Takes no memory.
 #[inline(never)]
 #[tactic(auto, unfolding(crate::specs::Solve::solved))]
-fn solve_touching(scene: &Scene, bodies: &mut [BodyState], rows: &mut [Row])
+pub(crate) fn solve_list(scene: &Scene, bodies: &mut [BodyState], rows: &mut [Row])
     requires { All (IsRowOf scene.now (length bodies.old)) rows.old }
     ensures { record { bodies = bodies.new; rows = rows.new }
         ≡ solved scene.now bodies.old rows.old }
@@ -181,19 +162,4 @@ fn solve_touching(scene: &Scene, bodies: &mut [BodyState], rows: &mut [Row])
     warm_start(bodies, rows);
     rounds(bodies, rows);
     move_on(bodies);
-}
-
-/// The phases Gravity to Timers: Gravity, Positions and Timers of the awake bodies, and Velocities
-/// of all bodies that rows name, in the order of the rows. All of a row but its entry is computed
-/// anew. Takes no memory.
-pub(crate) fn solve_list(scene: &Scene, bodies: &mut [BodyState], rows: &mut [Row])
-    requires { All (IsRowOf scene.now (length bodies.old)) rows.old }
-    ensures { record { bodies = bodies.new; rows = rows.new }
-        ≡ solved scene.now bodies.old rows.old }
-{
-    if rows.is_empty() {
-        solve_free(scene.gravity().scale(Fx::TICK), bodies);
-    } else {
-        solve_touching(scene, bodies, rows);
-    }
 }

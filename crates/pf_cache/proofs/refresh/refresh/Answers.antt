@@ -23,10 +23,6 @@ loop-place-preserved c =
     let kept = subst (IsKeptSpan shapes c.args.unmoved.now start) (sym s_is) (c.requires.kept i s c.if-place-spans.true) in
     record {
       within = omega (arith, within);
-      few = elim c.if-not-are_unmoved.branch [
-        | then-not-are_unmoved+else-not-refresh_span w ↦ omega (arith, w.computed-is, c.loop-place.invariant.few)
-        | else-not-are_unmoved w ↦ omega (arith, w.computed-is, c.loop-place.invariant.few)
-      ];
       same_length = c.if-not-are_unmoved.auto.touches ∙ c.loop-place.invariant.same_length;
       done = elim c.if-not-are_unmoved.branch [
         | then-not-are_unmoved+else-not-refresh_span w ↦

@@ -6,7 +6,6 @@ use Rattle.pf_cache.proofs.refresh.refresh.Given as goal
 abbrev pub invariant-loop-place : goal.invariant-loop-place
 invariant-loop-place l = record {
   within : l.place ≤ length l.pairs;
-  few : l.computed ≤ l.place;
   same_length : length l.touches ≡ length l.initial.touches;
   done : AreDone l.shapes l.spans l.pairs l.initial.touches l.place l.points l.touches;
   computed : l.computed ≡ computed_count_by_flags (map (λ s. s.pair) l.spans) l.unmoved (take l.place l.pairs);

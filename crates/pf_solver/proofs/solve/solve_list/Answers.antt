@@ -1,18 +1,12 @@
-use Rattle.std.proofs.Common.{rules, ◌∙◌, List, ap}
-use Rattle.pf_num.specs.Fx.{tick}
-use Rattle.pf_rot.specs.Vector.{scale}
-use Rattle.pf_shapes.specs.Body.{BodyState}
-use Rattle.pf_solver.specs.Bodies.{after_gravity, after_motion, after_timer, each_awake}
-use Rattle.pf_solver.specs.Velocities.{Batch}
-use Rattle.pf_solver.proofs.Free.{free_is_solved}
+use Rattle.std.proofs.Common.{length, ap, subst, sym, ◌∙◌}
+use Rattle.std.proofs.lemmas.List.{length-map}
+use Rattle.std.specs.Prelude.{All}
+use Rattle.pf_cache.specs.Row.{IsEntryOf}
+use Rattle.pf_solver.proofs.Prepared.{prepared_fit}
 use Rattle.pf_solver.proofs.solve.solve_list.Goals as goal
 
-pub returns-then-is_empty : goal.returns-then-is_empty
-returns-then-is_empty c =
-    let rows = c.args.rows.now in
-    let bodies = c.args.bodies.now in
-    ap (λ (bs : List BodyState). record { bodies = bs; rows = rows })
-    (c.solve_free.ensures
-    ∙ ap (λ pull. each_awake (λ b. after_timer (after_motion (after_gravity pull b))) bodies)
-    (c.scale.ensures ∙ ap (scale tick) c.gravity.ensures))
-    ∙ free_is_solved c.args.scene.now bodies rows (search rules)
+pub warm_start-requires : goal.warm_start-requires
+warm_start-requires c =
+    let count = ap length c.fall.ensures ∙ length-map c.args.bodies.now _ in
+    subst (λ n. All (λ r. IsEntryOf n r.entry) c.prepare_all.new.rows) (sym count)
+    (prepared_fit c.args.scene.now c.fall.new.bodies (length c.args.bodies.now) c.args.rows.now c.prepare_all.new.rows c.prepare_all.ensures c.requires)

@@ -10,6 +10,6 @@ returns c =
     on_ok_weaker c.push_points.result
     (λ e i. record {
       source = ap (λ (g : GatheredPoints). g.source) c.self.view_is i;
-      points = (empty_run c.push_points.new.touches.items c.self.inside.source.now c.self.inside.end ∙ e ∙ ap₂ (λ xs ys. xs ++ ys) before c.manifold.ensures) i;
+      points = (empty_run c.push_points.new.touches.items c.self.inside.source.now c.self.inside.end ∙ e ∙ ap₂ (λ xs ys. xs ++ ys) before c.manifold_of_pair.ensures) i;
     })
     c.push_points.ensures.added

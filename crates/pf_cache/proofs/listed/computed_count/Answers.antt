@@ -1,12 +1,12 @@
-use Rattle.std.proofs.Common.{◌≡◌, ◌∙◌, ◌&&◌, ap, map, refl, sym}
+use Rattle.std.proofs.Common.{◌≡◌, ◌∙◌, ◌&&◌, ap, arith, map, refl, sym}
 use Rattle.std.specs.Prelude.{is_some, not}
 use Rattle.pf_cache.specs.Manifolds.{has_pair}
 use Rattle.pf_cache.specs.Spans.{Span, are_unmoved}
-use Rattle.pf_cache.proofs.PointsAhead.{missed_more, missed_same}
+use Rattle.pf_cache.proofs.Refreshing.{missing_more, missing_same}
 use Rattle.pf_cache.proofs.Spanned.{pairs_rise}
 use Rattle.pf_cache.proofs.Updating.{looked_up, opposite, pair_at, reused_test, same_after}
-use Rattle.pf_cache.proofs.ahead.missed_pairs.Goals.{then-is_none+in_ok-push, else-is_none}
-use Rattle.pf_cache.proofs.ahead.missed_pairs.Goals as goal
+use Rattle.pf_cache.proofs.listed.computed_count.Goals.{then-is_none, else-is_none}
+use Rattle.pf_cache.proofs.listed.computed_count.Goals as goal
 
 pub loop-pair-preserved : goal.loop-pair-preserved
 loop-pair-preserved c =
@@ -28,12 +28,16 @@ loop-pair-preserved c =
       within = c.span_of-span.ensures.within;
       behind = same_after own own pairs i c.loop-pair.place p p within c.pair-item.is refl c.loop-pair.invariant.behind _
           c.span_of-span.ensures.later (pairs_rise pairs c.requires.ascending c.requires.pairs);
-      found = elim c.if-is_none.branch [
-        | then-is_none+in_ok-push w ↦ missed_more kept unmoved pairs i p within c.pair-item.is c.loop-pair.found.items
-            c.if-is_none.found.items c.loop-pair.invariant.found
-            (ap (λ v. v.items) w.found-is ∙ w.in_ok-push.ensures.items) (sym test ∙ w.if-is_none.true)
-        | else-is_none w ↦ ap (λ v. v.items) w.found-is
-            ∙ missed_same kept unmoved pairs i p within c.pair-item.is c.loop-pair.found.items c.loop-pair.invariant.found
-            (sym test ∙ w.if-is_none.false)
+      few = elim c.if-is_none.branch [
+        | then-is_none w ↦ omega (arith, w.count-is, c.loop-pair.invariant.few)
+        | else-is_none w ↦ omega (arith, w.count-is, c.loop-pair.invariant.few)
+      ];
+      count = elim c.if-is_none.branch [
+        | then-is_none w ↦ w.count-is
+            ∙ missing_more kept unmoved pairs i p within c.pair-item.is c.loop-pair.count
+            c.loop-pair.invariant.count (sym test ∙ w.if-is_none.true)
+        | else-is_none w ↦ w.count-is
+            ∙ missing_same kept unmoved pairs i p within c.pair-item.is c.loop-pair.count
+            c.loop-pair.invariant.count (sym test ∙ w.if-is_none.false)
       ];
     }

@@ -10,7 +10,7 @@ use Rattle.pf_manifold.specs.PlacedShape.{PlacedShape}
 use Rattle.pf_cache.specs.Spans.{Span, computed_count_by_flags, unmoved_flags}
 use Rattle.pf_cache.proofs.Keeping.{are_kept, are_placed, as_many, ascend_behind, joined_spans, others, counts_add, counted, in_order, pairs_of_shapes}
 use Rattle.pf_cache.proofs.Updating.{pairs_of_scene, same_behind, no_bodies, no_pairs, nothing_of}
-use Rattle.pf_cache.proofs.manifolds.Manifolds.update_ahead.Goals as goal
+use Rattle.pf_cache.proofs.manifolds.Manifolds.update_in_place.Goals as goal
 
 pub returns-then-is_empty-clause-manifolds : goal.returns-then-is_empty-clause-manifolds
 returns-then-is_empty-clause-manifolds c =
@@ -25,7 +25,7 @@ returns-then-is_empty-clause-computed c =
 
 pub refresh-done-requires-clause-few : goal.refresh-done-requires-clause-few
 refresh-done-requires-clause-few c =
-    let stand_is = c.new-stand.ensures ∙ c.deref.ensures.value in
+    let stand_is = c.deref-3.ensures.value in
     let long =
     as_many c.args.scene.now.fixtures c.args.bodies.now c.args.pairs.now c.in_ok-shapes.shapes.items
     (c.in_ok-shapes.ensures.shapes ∙ ap (λ fs. placed_shapes fs c.args.bodies.now) c.fixtures.ensures.value)
@@ -35,7 +35,7 @@ refresh-done-requires-clause-few c =
 
 pub refresh-done-requires-clause-pairs : goal.refresh-done-requires-clause-pairs
 refresh-done-requires-clause-pairs c =
-    let stand_is = c.new-stand.ensures ∙ c.deref.ensures.value in
+    let stand_is = c.deref-3.ensures.value in
     rw stand_is
     (pairs_of_shapes c.args.scene.now.fixtures c.args.bodies.now c.args.pairs.now c.in_ok-shapes.shapes.items
     (c.in_ok-shapes.ensures.shapes ∙ ap (λ fs. placed_shapes fs c.args.bodies.now) c.fixtures.ensures.value)
@@ -43,15 +43,15 @@ refresh-done-requires-clause-pairs c =
 
 pub refresh-done-requires-clause-placed : goal.refresh-done-requires-clause-placed
 refresh-done-requires-clause-placed c =
-    rw (c.deref-2.ensures.value, c.deref_mut.ensures.value)
+    rw (c.deref.ensures.value, c.deref_mut.ensures.value)
     (are_placed c.self.inside.shapes.items c.self.inside.spans.items c.self.inside.touches.items c.self.invariant)
 
 pub refresh-done-requires-clause-kept : goal.refresh-done-requires-clause-kept
 refresh-done-requires-clause-kept c =
-    let stand_is = c.new-stand.ensures ∙ c.deref.ensures.value in
+    let stand_is = c.deref-3.ensures.value in
     rw (
+      c.deref.ensures.value,
       c.deref-2.ensures.value,
-      c.deref-3.ensures.value,
       stand_is,
       c.deref_mut.ensures.value,
       c.in_ok-shapes.ensures.shapes,
@@ -62,7 +62,7 @@ refresh-done-requires-clause-kept c =
 
 pub gather-requires-clause-few : goal.gather-requires-clause-few
 gather-requires-clause-few c =
-    let stand_is = c.new-stand.ensures ∙ c.deref.ensures.value in
+    let stand_is = c.deref-7.ensures.value in
     let long =
     as_many c.args.scene.now.fixtures c.args.bodies.now c.args.pairs.now c.in_ok-shapes.shapes.items
     (c.in_ok-shapes.ensures.shapes ∙ ap (λ fs. placed_shapes fs c.args.bodies.now) c.fixtures.ensures.value)
@@ -72,7 +72,7 @@ gather-requires-clause-few c =
 
 pub gather-requires-clause-pairs : goal.gather-requires-clause-pairs
 gather-requires-clause-pairs c =
-    let stand_is = c.new-stand.ensures ∙ c.deref.ensures.value in
+    let stand_is = c.deref-7.ensures.value in
     let pairs = c.args.pairs.now in
     let shapes = c.in_ok-shapes.shapes.items in
     rw (others pairs c.refresh-done.result.pairs, stand_is)
@@ -88,12 +88,11 @@ gather-requires-clause-ascending c =
 
 pub gather-requires-clause-kept : goal.gather-requires-clause-kept
 gather-requires-clause-kept c =
-    let stand_is = c.new-stand.ensures ∙ c.deref.ensures.value in
     let touches_are : c.deref-5.result.now ≡ c.refresh-done.new.touches =
     c.deref-5.ensures.value
     ∙ with_items_is c.self.inside.touches c.refresh-done.new.touches (c.refresh-done.auto.touches ∙ c.deref_mut.ensures.len) in
-    rw (c.deref-4.ensures.value, c.deref-6.ensures.value, stand_is, touches_are)
-    (rw (c.deref-2.ensures.value, c.deref-3.ensures.value, stand_is) at c.refresh-done.ensures.kept)
+    rw (c.deref-4.ensures.value, c.deref-6.ensures.value, c.deref-7.ensures.value, touches_are)
+    (rw (c.deref.ensures.value, c.deref-2.ensures.value, c.deref-3.ensures.value) at c.refresh-done.ensures.kept)
 
 pub gather-requires-clause-points : goal.gather-requires-clause-points
 gather-requires-clause-points c =
@@ -107,13 +106,12 @@ gather-requires-clause-behind c =
     let few : length c.args.bodies.now ≤ MAX_BODIES = omega (arith, c.requires.bodies, c.fixtures.ensures.scene.few) in
     let pairs = c.args.pairs.now in
     rw (others pairs c.refresh-done.result.pairs, c.deref-4.ensures.value)
-    (same_behind c.new-stand.result c.self.inside.spans.items pairs c.refresh-done.result.pairs
-    (rw c.deref-2.ensures.value at c.refresh-done.ensures.refreshed.listed) c.requires.ascending
+    (same_behind c.deref-3.result.now c.self.inside.spans.items pairs c.refresh-done.result.pairs
+    (rw c.deref.ensures.value at c.refresh-done.ensures.refreshed.listed) c.requires.ascending
     (pairs_of_scene (length c.args.bodies.now) pairs few c.requires.pairs))
 
 pub invariant_of-manifolds : goal.invariant_of-manifolds
 invariant_of-manifolds c =
-    let stand_is = c.new-stand.ensures ∙ c.deref.ensures.value in
     let fixtures = c.args.scene.now.fixtures in
     let bodies = c.args.bodies.now in
     let pairs = c.args.pairs.now in
@@ -127,20 +125,19 @@ invariant_of-manifolds c =
     let joined =
     joined_spans shapes c.self.inside.spans.items c.in_ok-rest.rest.spans.items c.refresh-done.new.touches
     c.in_ok-rest.rest.touches.items pairs i n
-    (rw (c.deref-2.ensures.value, stand_is) at c.refresh-done.ensures.refreshed)
-    (rw (others pairs i, stand_is) at c.in_ok-rest.ensures.spans)
-    (rw (others pairs i, stand_is) at c.in_ok-rest.ensures.touches)
+    (rw (c.deref.ensures.value, c.deref-3.ensures.value) at c.refresh-done.ensures.refreshed)
+    (rw (others pairs i, c.deref-7.ensures.value) at c.in_ok-rest.ensures.spans)
+    (rw (others pairs i, c.deref-7.ensures.value) at c.in_ok-rest.ensures.touches)
     c.extend_from_slice.new.self.items c.extend_from_slice-2.new.self.items
-    (c.in_ok-extend_from_slice.ensures.items ∙ ap₂ (λ xs ys. xs ++ ys) c.truncate.ensures.items c.deref-7.ensures.value)
+    (c.in_ok-extend_from_slice.ensures.items ∙ ap₂ (λ xs ys. xs ++ ys) c.truncate.ensures.items c.deref-8.ensures.value)
     (c.in_ok-extend_from_slice-2.ensures.items
-    ∙ ap₂ (λ xs ys. xs ++ ys) (c.truncate-2.ensures.items ∙ ap (take n) touches_are) c.deref-8.ensures.value)
+    ∙ ap₂ (λ xs ys. xs ++ ys) (c.truncate-2.ensures.items ∙ ap (take n) touches_are) c.deref-9.ensures.value)
     (omega (arith, long, few)) (pairs_of_shapes fixtures bodies pairs shapes shapes_are c.requires.bodies c.requires.pairs)
     c.requires.ascending (in_order fixtures bodies pairs shapes shapes_are c.requires.bodies c.requires.pairs few c.requires.ascending) in
     joined.0
 
 pub returns-clause-manifolds : goal.returns-clause-manifolds
 returns-clause-manifolds c =
-    let stand_is = c.new-stand.ensures ∙ c.deref.ensures.value in
     let fixtures = c.args.scene.now.fixtures in
     let bodies = c.args.bodies.now in
     let pairs = c.args.pairs.now in
@@ -154,13 +151,13 @@ returns-clause-manifolds c =
     let joined =
     joined_spans shapes c.self.inside.spans.items c.in_ok-rest.rest.spans.items c.refresh-done.new.touches
     c.in_ok-rest.rest.touches.items pairs i n
-    (rw (c.deref-2.ensures.value, stand_is) at c.refresh-done.ensures.refreshed)
-    (rw (others pairs i, stand_is) at c.in_ok-rest.ensures.spans)
-    (rw (others pairs i, stand_is) at c.in_ok-rest.ensures.touches)
+    (rw (c.deref.ensures.value, c.deref-3.ensures.value) at c.refresh-done.ensures.refreshed)
+    (rw (others pairs i, c.deref-7.ensures.value) at c.in_ok-rest.ensures.spans)
+    (rw (others pairs i, c.deref-7.ensures.value) at c.in_ok-rest.ensures.touches)
     c.extend_from_slice.new.self.items c.extend_from_slice-2.new.self.items
-    (c.in_ok-extend_from_slice.ensures.items ∙ ap₂ (λ xs ys. xs ++ ys) c.truncate.ensures.items c.deref-7.ensures.value)
+    (c.in_ok-extend_from_slice.ensures.items ∙ ap₂ (λ xs ys. xs ++ ys) c.truncate.ensures.items c.deref-8.ensures.value)
     (c.in_ok-extend_from_slice-2.ensures.items
-    ∙ ap₂ (λ xs ys. xs ++ ys) (c.truncate-2.ensures.items ∙ ap (take n) touches_are) c.deref-8.ensures.value)
+    ∙ ap₂ (λ xs ys. xs ++ ys) (c.truncate-2.ensures.items ∙ ap (take n) touches_are) c.deref-9.ensures.value)
     (omega (arith, long, few)) (pairs_of_shapes fixtures bodies pairs shapes shapes_are c.requires.bodies c.requires.pairs)
     c.requires.ascending (in_order fixtures bodies pairs shapes shapes_are c.requires.bodies c.requires.pairs few c.requires.ascending) in
     let kept_of : List PlacedShape → List Pair → Manifolds = λ ss ps. record { shapes = ss; pairs = ps } in
@@ -178,7 +175,7 @@ returns-clause-computed c =
     let flags_are : c.in_ok-shapes.unmoved.items ≡ flags =
     c.in_ok-shapes.ensures.unmoved ∙ ap (unmoved_flags old) (sym c.in_ok-shapes.ensures.shapes) in
     let first : c.refresh-done.result.computed ≡ computed_count_by_flags kept flags (take i pairs) =
-    rw (c.deref-2.ensures.value, c.deref-3.ensures.value, flags_are) at c.refresh-done.ensures.computed in
+    rw (c.deref.ensures.value, c.deref-2.ensures.value, flags_are) at c.refresh-done.ensures.computed in
     let second : c.in_ok-rest.rest.computed ≡ computed_count_by_flags kept flags (drop i pairs) =
     rw (others pairs i, c.deref-4.ensures.value, c.deref-6.ensures.value, flags_are) at c.in_ok-rest.ensures.computed in
     let sum = counts_add kept flags pairs i in

@@ -1,6 +1,6 @@
 use Rattle.std.proofs.Common.{rules}
-use Rattle.pf_cache.proofs.PointsAhead.{span_more, start_more}
-use Rattle.pf_cache.proofs.ahead.spans_of_points.Goals as goal
+use Rattle.pf_cache.proofs.PointsAtOnce.{span_more, start_more}
+use Rattle.pf_cache.proofs.listed.spans_of_points.Goals as goal
 
 pub loop-pair-preserved : goal.loop-pair-preserved
 loop-pair-preserved c =

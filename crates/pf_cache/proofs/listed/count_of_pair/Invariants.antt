@@ -1,7 +1,7 @@
 use Rattle.std.proofs.Common.{◌≡◌, ◌+◌, ◌-◌, ◌≤◌, drop, length}
 use Rattle.std.specs.List.{prefix_len}
-use Rattle.pf_cache.specs.Ahead.{is_of_pair}
-use Rattle.pf_cache.proofs.ahead.count_of_pair.Given as goal
+use Rattle.pf_cache.specs.Spans.{is_of_pair}
+use Rattle.pf_cache.proofs.listed.count_of_pair.Given as goal
 
 abbrev pub invariant-loop-end : goal.invariant-loop-end
 invariant-loop-end l = record {

@@ -3,7 +3,7 @@ use Rattle.std.specs.List.{flat_map}
 use Rattle.pf_manifold.specs.PlacedShape.{PlacedShape}
 use Rattle.pf_cache.specs.Manifolds.{points_of_pair}
 use Rattle.pf_cache.specs.Spans.{spans_from}
-use Rattle.pf_cache.proofs.ahead.spans_of_points.Given as goal
+use Rattle.pf_cache.proofs.listed.spans_of_points.Given as goal
 
 abbrev pub invariant-loop-pair : goal.invariant-loop-pair
 invariant-loop-pair l = record {

@@ -1,4 +1,4 @@
--- Contact points that are computed ahead.
+-- Contact points that are computed all at once.
 use Rattle.std.proofs.Common.{◌≡◌, ℕ, ◌+◌, ◌<◌, ◌==◌, ◌&&◌, Bool, true, false, Option, Some, None, List, [], ◌∷◌, ◌++◌, length, map, take, refl, sym, ap, ap₂, subst, ◌∙◌, ⊎_elim, ltb-true, eqb-true, arith}
 use Rattle.std.specs.List.{AllByRecursion, filter, flat_map, prefix_len}
 use Rattle.std.specs.Prelude.{All, IfSome, cond, drop, get_or, not, slice_get}
@@ -18,37 +18,11 @@ use Rattle.pf_manifold.specs.Manifold.{points_of}
 use Rattle.pf_manifold.specs.declared.manifold.Manifold.{Manifold}
 use Rattle.pf_manifold.specs.PlacedShape.{PlacedShape}
 use Rattle.pf_manifold.specs.Touches.{Touch, touch_of, touches, touches_between}
-use Rattle.pf_cache.specs.Ahead.{is_of_pair, missed}
 use Rattle.pf_cache.specs.Manifolds.{has_pair, placed_shapes, points_of_pair}
-use Rattle.pf_cache.specs.Spans.{IsSpan, Span, are_unmoved, span_points, spans_from}
+use Rattle.pf_cache.specs.Spans.{Span, is_of_pair, spans_from}
 use Rattle.pf_cache.proofs.Keeping.{ascend_behind}
 use Rattle.pf_cache.proofs.Refreshing.{points_more, spans_here, spans_more}
 use Rattle.pf_cache.proofs.Unmoved.{kept_points}
-
--- ---- pairs that are kept in order
-
-module _ (test : Pair → Bool) where
-  later_kept : (P : Pair → Type 0) (ps : List Pair) → AllByRecursion P ps → AllByRecursion P (filter test ps)
-  later_kept P [] all = tt
-  later_kept P (p ∷ ps) all = by (test p) (later_kept P ps all.1)
-    where
-      by : (t : Bool) → AllByRecursion P (filter test ps) → AllByRecursion P (cond t (p ∷ filter test ps) (filter test ps))
-      by true rest = (all.0, rest)
-      by false rest = rest
-
-  -- some of ascending pairs ascend
-  pub ascending_kept : (ps : List Pair) → IsAscending ps → IsAscending (filter test ps)
-  ascending_kept [] up = tt
-  ascending_kept (p ∷ ps) up = by (test p) (ascending_kept ps up.1)
-    where
-      by : (t : Bool) → IsAscending (filter test ps) → IsAscending (cond t (p ∷ filter test ps) (filter test ps))
-      by true rest = (later_kept (λ q. is_before p q ≡ true) ps up.0, rest)
-      by false rest = rest
-
--- two tests that agree keep the same elements
-pub filter_alike : {X : Type 0} (s t : X → Bool) → ((x : X) → s x ≡ t x) → (xs : List X) → filter s xs ≡ filter t xs
-filter_alike s t same [] = refl
-filter_alike s t same (x ∷ xs) = ap₂ (λ b ys. cond b (x ∷ ys) ys) (same x) (filter_alike s t same xs)
 
 -- ---- points of one pair, and behind them those of later ones
 
@@ -113,59 +87,6 @@ module _ (shapes : List PlacedShape) (p : Pair) where
       ≡ length (points_of_pair shapes p)
   first_points ps later = between_first (slice_get shapes p.a) (slice_get shapes p.b) _ (none_later ps later)
 
--- ---- a manifold of points that stand in a list
-
-points_back : (p : Pair) (cs : List ContactPoint) → map (λ (t : Touch). t.point) (map (touch_of p) cs) ≡ cs
-points_back p [] = refl
-points_back p (x ∷ cs) = ap (λ ys. x ∷ ys) (points_back p cs)
-
-between_back : (p : Pair) (o m : Option PlacedShape)
-    → map (touch_of p) (map (λ t. t.point) (touches_between p o m)) ≡ touches_between p o m
-between_back p (Some a) (Some b) = ap (map (touch_of p)) (points_back p (collide a b))
-between_back p (Some a) None = refl
-between_back p None m = refl
-
-read_back : (shapes : List PlacedShape) (p : Pair)
-    → map (touch_of p) (map (λ t. t.point) (points_of_pair shapes p)) ≡ points_of_pair shapes p
-read_back shapes p = between_back p (slice_get shapes p.a) (slice_get shapes p.b)
-
--- what stands in a span is what was computed for its pair
-pub ahead_points : (shapes : List PlacedShape) (touches : List Touch) (p : Pair) (s : Span) → IsSpan shapes touches s
-    → s.pair ≡ p → (o : Option Manifold)
-    → IfSome o (λ m. points_of m ≡ map (λ t. t.point) (span_points touches s))
-    → IfSome o (λ m. map (touch_of p) (points_of m) ≡ points_of_pair shapes p)
-ahead_points shapes touches p s are same None h = tt
-ahead_points shapes touches p s are same (Some m) h =
-    ap (map (touch_of p)) (h ∙ ap (map (λ t. t.point)) (are.points ∙ ap (points_of_pair shapes) same)) ∙ read_back shapes p
-
--- ---- one pair more
-
-module _ (kept : List Pair) (unmoved : List Bool) (pairs : List Pair) (i : ℕ) (p : Pair) (within : i < length pairs)
-    (p_is : p ≡ get_or pairs i p) where
-  test : Pair → Bool
-  test q = not (has_pair kept q && are_unmoved unmoved q)
-
-  longer : filter test (take (i + 1) pairs) ≡ filter test (take i pairs) ++ filter test (p ∷ [])
-  longer =
-      ap (filter test) (take_more pairs i p within ∙ ap (λ q. take i pairs ++ q ∷ []) (sym p_is))
-      ∙ filter-append test (take i pairs) (p ∷ [])
-
-  -- it cannot reuse kept points
-  pub missed_more : (found after : List Pair) → found ≡ missed kept unmoved (take i pairs) → after ≡ found ++ p ∷ []
-      → not (has_pair kept p && are_unmoved unmoved p) ≡ true → after ≡ missed kept unmoved (take (i + 1) pairs)
-  unfolding test
-  missed_more found after done pushed e =
-      pushed ∙ ap (λ ps. ps ++ p ∷ []) done
-      ∙ ap (λ t. filter test (take i pairs) ++ cond t (p ∷ []) []) (sym e) ∙ sym longer
-
-  -- it can
-  pub missed_same : (found : List Pair) → found ≡ missed kept unmoved (take i pairs)
-      → not (has_pair kept p && are_unmoved unmoved p) ≡ false → found ≡ missed kept unmoved (take (i + 1) pairs)
-  unfolding test
-  missed_same found done e =
-      done ∙ sym (append-nil (filter test (take i pairs)))
-      ∙ ap (λ t. filter test (take i pairs) ++ cond t (p ∷ []) []) (sym e) ∙ sym longer
-
 -- the span of one pair more
 module _ (shapes : List PlacedShape) (pairs : List Pair) (touches : List Touch) (up : IsAscending pairs)
     (whole : touches ≡ flat_map (points_of_pair shapes) pairs) (i : ℕ) (p : Pair) (within : i < length pairs)
@@ -206,13 +127,3 @@ module _ (shapes : List PlacedShape) (pairs : List Pair) (touches : List Touch) 
       ∙ ap₂ (λ ss n. ss ++ record { pair = p; start = n; len = len } ∷ []) done start_is
       ∙ ap₂ (λ n m. spans_from 0 shapes (take i pairs) ++ record { pair = p; start = n; len = m } ∷ []) from many
       ∙ sym (ap (spans_from 0 shapes) taken ∙ spans_more shapes 0 (take i pairs) p)
-
--- the points of some pairs, as the bodies stand, and where they stand in their list
-pub ahead_spans : (fixtures : List Fixture) (bodies : List BodyState) (pairs : List Pair) (spans : List Span) (all : List Touch)
-    → All (IsPairOf MAX_BODIES) pairs → all ≡ touches fixtures bodies pairs
-    → spans ≡ spans_from 0 (placed_shapes fixtures bodies) pairs
-    → All (IsSpan (placed_shapes fixtures bodies) all) spans
-ahead_spans fixtures bodies pairs spans all are all_is spans_are =
-    let shapes = placed_shapes fixtures bodies in
-    subst (All (IsSpan shapes all)) (sym spans_are)
-    (spans_here shapes pairs [] [] all 0 refl (all_is ∙ sym (kept_points fixtures bodies pairs) ∙ sym (append-nil _)) are)
