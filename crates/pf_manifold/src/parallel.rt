@@ -132,6 +132,7 @@ impl Collider for OneThread {
 }
 
 /// Threads that a runtime starts.
+#[derive(Drop)]
 pub struct SeveralThreads<'r, R> {
     /// The runtime.
     pub rt: &'r R,

@@ -1,5 +1,5 @@
 -- What the type of peer cores keeps, through each call.
-use Rattle.std.proofs.Common.{◌≡◌, ℕ, zero, suc, ◌+◌, ◌<◌, ◌≤◌, ◌⊎◌, Bool, true, false, length, ◌^◌, Option, Some, None, Result, Ok, Err, OnErr, if◌then◌else◌, refl, ap, sym, ◌∙◌, subst, ⊎_elim, arith}
+use Rattle.std.proofs.Common.{◌≡◌, ℕ, zero, suc, ◌+◌, ◌<◌, ◌≤◌, ◌⊎◌, Bool, true, false, length, ◌^◌, List, Option, Some, None, Result, Ok, Err, OnErr, if◌then◌else◌, refl, ap, sym, ◌∙◌, subst, ⊎_elim, arith}
 use Rattle.std.specs.Prelude.{IfSome}
 use Rattle.std.specs.FinMap.{entries, empty}
 use Rattle.pf_shapes.specs.Scene.{Scene}
@@ -15,10 +15,11 @@ use Rattle.pf_step.specs.World.{World, start_of}
 use Rattle.pf_step.proofs.Lengths.{step_length}
 use Rattle.pf_step.proofs.Ticks.{sim_same}
 use Rattle.pf_cache.specs.Meter.{Meter, saturating_sum}
-use Rattle.pf_rollback.specs.Calls.{AreCalls}
+use Rattle.pf_islands.specs.Split.{Island}
 use Rattle.pf_rollback.specs.Core.{PeerCore, IsPeerCore, HasSettled, AreAllowed, count_after, news_tick}
 use Rattle.pf_rollback.specs.Kept.{Ticks, no_ticks, settled_tick, ticks_after_more, ticks_after_settling}
 use Rattle.pf_rollback.specs.Peer.{Peer, IsPeer, with_command, with_commands}
+use Rattle.pf_rollback.specs.Settling.{AreCalls, islands_at}
 use Rattle.pf_rollback.specs.Snapshots.{Snapshots, IsKept, ticks_of}
 use Rattle.pf_rollback.proofs.Allowed.{allowed_empty, allowed_put, allowed_merge}
 use Rattle.pf_rollback.proofs.Ticks.{sim_none, sim_more}
@@ -182,15 +183,20 @@ count_sum count (suc more) fits = let before = count_sum count more fits in omeg
 -- ---- calls
 
 -- no call changes nothing
-pub no_calls : {A : Type 0} (call : A → A → Type 0) (a : A) → AreCalls call 0 a a
+pub no_calls : {A : Type 0} (call : A → List Island → A → Type 0) (core : PeerCore) (a : A) → AreCalls call core 0 a a
 unfolding AreCalls
-no_calls call a = refl
+no_calls call core a = refl
 
 -- one call more, after some
-pub one_call_more : {A : Type 0} (call : A → A → Type 0) (n : ℕ) (first before last : A)
-    → AreCalls call n first before → call before last → AreCalls call (suc n) first last
+pub one_call_more : {A : Type 0} (call : A → List Island → A → Type 0) (core : PeerCore) (n : ℕ) (first before last : A)
+    → AreCalls call core n first before → call before (islands_at core (settled_tick core.kept + n)) last
+    → AreCalls call core (suc n) first last
 unfolding AreCalls
-one_call_more call n first before last calls one = (before, calls, one)
+one_call_more call core n first before last calls one = (before, calls, one)
+
+-- what is settled changes no islands
+pub same_islands : (old new : PeerCore) (more tick : ℕ) → HasSettled more old new → islands_at new tick ≡ islands_at old tick
+same_islands old new more tick has = ap (λ (core : PeerCore). islands_at core tick) has.rest
 
 -- what holds in any case holds after an error
 pub on_err : {A E P : Type 0} (r : Result A E) → P → OnErr r P

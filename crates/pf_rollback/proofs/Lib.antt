@@ -11,3 +11,4 @@ pub mod Ticks
 pub mod Worlds
 -- Peer cores.
 pub mod Cores
+pub mod Rising

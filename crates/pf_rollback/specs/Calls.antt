@@ -1,5 +1,5 @@
 -- How a call of a peer core follows the abstract peer's call.
-use Rattle.std.specs.Prelude.{◌≡◌, ℕ, zero, suc, Result, Ok, Err, IsOk}
+use Rattle.std.specs.Prelude.{◌≡◌, Result, Ok, Err, IsOk}
 use Rattle.pf_rollback.specs.declared.fault.Fault.{Fault}
 use Rattle.pf_rollback.specs.declared.fault.Fault.TheVariants.{Refused, OutOfMemory}
 use Rattle.pf_rollback.specs.declared.fault.Refusal.{Refusal}
@@ -17,9 +17,3 @@ abbrev pub Returns : {A : Type 0} → Result A Fault → Result A Refusal → Ty
 Returns (Ok answer) call = call ≡ Ok answer
 Returns (Err (Refused refusal)) call = call ≡ Err refusal
 Returns (Err OutOfMemory) call = IsOk call
-
--- so many calls, each of which does this, lead from one value to another
-unfoldable pub AreCalls : {A : Type 0} → (A → A → Type 0) → ℕ → A → A → Type 0
-AreCalls call zero first last = first ≡ last
-AreCalls {A} call (suc n) first last =
-    (before : A) × AreCalls call n first before × call before last

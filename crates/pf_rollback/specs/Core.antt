@@ -1,5 +1,5 @@
 -- Peer cores: a peer, and the worlds that are kept for it.
-use Rattle.std.specs.Prelude.{◌≡◌, ℕ, zero, suc, ◌+◌, ◌<◌, ◌≤◌, length, Option, Some, None, IfSome, if◌then◌else◌}
+use Rattle.std.specs.Prelude.{◌≡◌, ℕ, zero, suc, ◌+◌, ◌-◌, ◌<◌, ◌≤◌, length, Option, Some, None, IfSome, if◌then◌else◌}
 use Rattle.std.specs.FinMap.{get}
 use Rattle.pf_shapes.specs.Scene.{Scene}
 use Rattle.pf_commands.specs.declared.payload.Command.{Command}
@@ -64,6 +64,10 @@ pub record KeepsBefore (least : Option ℕ) (old new : Ticks) : Type 0 where
       (λ tick. tick ≤ settled_tick old → tick < settled_tick new + KEYFRAME_INTERVAL)
 
 -- ---- settling
+
+-- how many ticks a settle has to simulate
+abbrev pub missing_count : PeerCore → ℕ
+missing_count core = core.peer.reached - settled_tick core.kept
 
 -- a count of ticks after so many more, each of which is counted up to 2^64 - 1
 unfoldable pub count_after : ℕ → ℕ → ℕ

@@ -1,15 +1,21 @@
 -- The ticks at which a peer keeps worlds: beside the start world, the last ones that were settled,
 -- and keyframes for commands that come far too late for these.
 use Rattle.std.specs.Prelude.{ℕ, zero, suc, ◌+◌, ◌-◌, ◌%◌, List, [], ◌∷◌, ◌++◌, length, filter, max, Option, Some, None, ◌==◌, nat_le, if◌then◌else◌, slice_index}
+use Rattle.std.specs.List.Sorted.{IsStrictlyIncreasing}
 use Rattle.circular_buffer.specs.Buffer.{keep_last}
 use Rattle.pf_rollback.specs.declared.snapshots.TheConstants.{KEYFRAME_INTERVAL}
 
 -- the ticks of kept worlds beside tick 0, whose world is always kept: the last ones that were
--- settled, at most as many as the ring has places, and the keyframes; both lists rise
+-- settled, at most as many as the ring has places, and the keyframes
 pub record Ticks : Type 0 where
   pub recent : List ℕ
   pub keyframes : List ℕ
   pub ring : ℕ
+
+-- both lists rise, so the last tick of each is its greatest
+pub record AreRising (k : Ticks) : Type 0 where
+  pub recent : IsStrictlyIncreasing k.recent
+  pub keyframes : IsStrictlyIncreasing k.keyframes
 
 -- at first there are none
 abbrev pub no_ticks : ℕ → Ticks

@@ -4,3 +4,4 @@ pub mod Snapshots
 pub mod Peer
 pub mod Core
 pub mod Calls
+pub mod Settling

@@ -3,6 +3,7 @@
 
 ghost use Rattle.std.specs.Prelude.{◌≡◌, ℕ, ◌+◌, ◌^◌, ◌≤◌, ◌<◌, ◌↔◌, List, Contains, Ok, IsOk, IsSome};
 ghost use Rattle.std.specs.FinMap.{get};
+ghost use Rattle.std.specs.List.Sorted.{IsStrictlyIncreasing};
 ghost use Rattle.pf_shapes.specs.Scene.{IsScene, Scene};
 ghost use Rattle.pf_commands.specs.declared.payload.Payload.{Payload};
 ghost use Rattle.pf_commands.specs.Frame.{decode};
@@ -11,9 +12,11 @@ ghost use Rattle.pf_commands.specs.Name.{Name};
 ghost use Rattle.pf_commands.specs.Payload.{IsPayload};
 ghost use Rattle.pf_cache.specs.Meter.{saturating_sum};
 ghost use Rattle.pf_rollback.specs.Core.{count_after};
-ghost use Rattle.pf_rollback.specs.Kept.{Ticks, settled_tick, ticks_after_more, up_to};
+ghost use Rattle.pf_rollback.specs.Kept.{Ticks, last_tick, settled_tick, ticks_after_more, up_to};
 ghost use Rattle.pf_rollback.specs.Peer.{IsPeer, Peer, issue, next_command, next_number, take, world_at};
 
+use crate::peer::MAX_RING;
+use crate::snapshots::KEYFRAME_INTERVAL;
 use pf_commands::NUMBERS;
 
 /// Peers of one scene that hold the same commands show the same worlds at each tick that both have
@@ -52,6 +55,13 @@ pub fn dropping_keeps_earlier_ticks()
         → Contains (up_to last ticks) tick ↔ (Contains ticks tick × (tick ≤ last)) }
 {}
 
+/// The last of ticks that rise is the greatest of them.
+#[tactic(auto, using(crate::proofs::Rising::last_greatest))]
+pub fn last_ticks_are_greatest()
+    ensures { (ticks : List ℕ) (tick : ℕ) → IsStrictlyIncreasing ticks → Contains ticks tick
+        → tick ≤ last_tick ticks }
+{}
+
 /// After so many more ticks are settled, the settled tick is so many ticks later.
 pub fn settling_goes_on_tick_by_tick()
     ensures { (k : Ticks) (more : ℕ) → 0 < k.ring
@@ -62,4 +72,10 @@ pub fn settling_goes_on_tick_by_tick()
 pub fn counts_are_saturated_sums()
     ensures { (count more : ℕ) → count < 2 ^ 64
         → count_after count more ≡ saturating_sum count more }
+{}
+
+/// A keyframe is kept at each multiple of 256, and a ring has at most 64 places.
+pub fn named_limits()
+    ensures keyframes { KEYFRAME_INTERVAL ≡ 256 }
+    ensures ring { MAX_RING ≡ 64 }
 {}

@@ -8,9 +8,7 @@ mod fault;
 pub mod laws;
 mod peer;
 mod snapshots;
-mod steps;
 
 pub use fault::{Fault, Refusal};
 pub use peer::{MAX_RING, PeerCore};
 pub use snapshots::KEYFRAME_INTERVAL;
-pub use steps::{Alone, Steps};

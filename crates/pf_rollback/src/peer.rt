@@ -1,21 +1,18 @@
 //! One player's peer: the scene that it plays, the commands that it holds, the tick that it has
 //! reached, and the worlds that it keeps.
 
-ghost use Rattle.std.specs.Prelude.{◌≡◌, [], Some, None, IfOk, IsOk, OnErr, OnOk, if◌then◌else◌, length};
-ghost use Rattle.pf_cache.specs.Manifolds.{no_manifolds};
-ghost use Rattle.pf_cache.specs.Meter.{work_after_tick};
+ghost use Rattle.std.specs.Prelude.{◌≡◌, Some, None, if◌then◌else◌};
 ghost use Rattle.pf_commands.specs.News.{is_change};
-ghost use Rattle.pf_step.specs.Step.{narrow_phase_of_tick, step};
 
 use crate::fault::{Fault, Refusal};
 use crate::snapshots::Snapshots;
-use crate::steps::{Alone, Steps};
 use pf_cache::{Meter, Work};
 use pf_commands::{
     Command, CommandMap, FRAME_LEN, MAX_TICK, Name, Payload, Put, check, decode, encode,
 };
+use pf_manifold::{Collider, OneThread, SeveralThreads};
 use pf_shapes::{PLAYERS, Scene};
-use pf_step::{Crew, StepError, World, step_alone, step_with};
+use pf_step::{Crew, StepError, World, step_alone, step_by};
 use std::alloc::{AllocError, Global};
 use std::marker::Model;
 use std::thread::Threads;
@@ -69,30 +66,8 @@ fn tick_of_news(put: Put, tick: u32) -> Option<u32>
     if put.is_change() { Some(tick) } else { None }
 }
 
-/// The world one tick later, as [`step_alone`] makes it. The world before lends its memory to the
-/// next one that is made with `work`.
-fn step_on(
-    alloc: Global,
-    scene: &Scene,
-    world: World,
-    payloads: &[Payload],
-    work: &mut Work,
-) -> Result<World, AllocError>
-    requires { length world.bodies ≡ length scene.now.fixtures }
-    ensures value { IfOk result (λ next. next ≡ step scene.now world payloads.now) }
-    ensures bodies { IfOk result (λ next. length next.bodies ≡ length scene.now.fixtures) }
-    ensures counted { OnOk result (work.new ≡ work_after_tick
-        (narrow_phase_of_tick scene.now world payloads.now work.old.manifolds) work.old) }
-    ensures not_counted { OnErr result (work.new ≡ record work.old { manifolds = no_manifolds }) }
-    ensures no_memory { world.bodies ≡ [] → IsOk result }
-{
-    let next = step_alone(alloc, scene, &world, payloads, work)?;
-    world.lend(work);
-    Ok(next)
-}
-
 impl PeerCore {
-    ghost use Rattle.std.specs.Prelude.{◌≡◌, ◌≢◌, ◌≤◌, ◌<◌, ◌+◌, ◌-◌, ℕ, [], Ok, Err, IsOk, IsSome, IfOk, OnOk, OnErr};
+    ghost use Rattle.std.specs.Prelude.{◌≡◌, ◌≢◌, ◌≤◌, ◌<◌, ◌+◌, ◌-◌, ℕ, [], Ok, Err, IsOk, IsSome, IfErr, IfOk, OnOk, OnErr};
     ghost use Rattle.std.specs.FinMap.{get};
     ghost use Rattle.pf_commands.specs.Check.{check};
     ghost use Rattle.pf_commands.specs.Frame.{decode};
@@ -101,10 +76,12 @@ impl PeerCore {
     ghost use Rattle.pf_rollback.specs.declared.fault.Refusal.{Refusal};
     ghost use Rattle.pf_rollback.specs.declared.fault.Fault.TheVariants.{Refused};
     ghost use Rattle.pf_step.specs.Simulation.{sim};
-    ghost use Rattle.pf_rollback.specs.Kept.{nearest_tick, settled_tick};
+    ghost use Rattle.pf_rollback.specs.Kept.{AreRising, nearest_tick, settled_tick};
     ghost use Rattle.pf_rollback.specs.Peer.{put, take, next_command, next_number, with_command, IsNextNumber, issue, merge_map, advance, IsEmptyBefore, world_at};
-    ghost use Rattle.pf_rollback.specs.Core.{AreAllowed, HasSettled, KeepsBefore, count_after, new_core, news_tick};
-    ghost use Rattle.pf_rollback.specs.Calls.{AreCalls, Refines, Returns};
+    ghost use Rattle.pf_rollback.specs.Core.{AreAllowed, HasSettled, KeepsBefore, count_after, missing_count, new_core, news_tick};
+    ghost use Rattle.pf_rollback.specs.Calls.{Refines, Returns};
+    ghost use Rattle.pf_rollback.specs.Settling.{AreCalls, FailsAfter, IsSettle, islands_at};
+    ghost use Rattle.pf_step.specs.Calls.{FailsBy};
 
     /// A peer at tick 0 and without commands, which keeps this many settled worlds. Players count
     /// from 0.
@@ -159,6 +136,7 @@ impl PeerCore {
     /// The settled tick: the greatest tick of a kept world.
     pub fn settled(&self) -> u32
         ensures value { result ≡ settled_tick self.now.kept }
+        ensures rising { AreRising self.now.kept }
         ensures reached { result ≤ self.now.peer.reached }
     {
         self.snapshots.settled()
@@ -315,112 +293,95 @@ impl PeerCore {
         }
     }
 
-    /// Settles each tick up to the reached one, by steps on one thread, and returns that tick: see
-    /// [`PeerCore::settle`].
-    pub fn settle_alone(&mut self, alloc: Global) -> Result<u32, AllocError>
-        ensures answer { IfOk result (λ tick. tick ≡ self.old.peer.reached) }
-        ensures settled { OnOk result (settled_tick self.new.kept ≡ self.old.peer.reached) }
-        ensures ok { let missing = self.old.peer.reached - settled_tick self.old.kept in
-            OnOk result (HasSettled missing self.old self.new) }
-        ensures err { let missing = self.old.peer.reached - settled_tick self.old.kept in
-            OnErr result ((more : ℕ) × (more < missing) × HasSettled more self.old self.new) }
-    {
-        self.settle(alloc, &mut Alone)
-    }
-
-    /// Settles each tick up to the reached one, with the islands of each solved by one call of a
-    /// crew, and returns that tick: see [`PeerCore::settle`].
-    pub fn settle_with<R: Threads + Sync, C: Crew>(
+    /// Settles each tick up to the reached one, from the settled tick on: simulates it by one step,
+    /// and keeps its world. Returns the reached tick. After an error the ticks that were settled
+    /// stand, and so do the commands and the reached tick. Takes no memory where the reached tick
+    /// is settled.
+    fn settle_by<P: Collider, C: Crew>(
         &mut self,
-        rt: &R,
+        collider: &P,
         alloc: Global,
         crew: &mut C,
     ) -> Result<u32, StepError>
-        ensures answer { IfOk result (λ tick. tick ≡ self.old.peer.reached) }
-        ensures settled { OnOk result (settled_tick self.new.kept ≡ self.old.peer.reached) }
-        ensures ok { let missing = self.old.peer.reached - settled_tick self.old.kept in
-            OnOk result (HasSettled missing self.old self.new) }
-        ensures err { let missing = self.old.peer.reached - settled_tick self.old.kept in
-            OnErr result ((more : ℕ) × (more < missing) × HasSettled more self.old self.new) }
-        ensures called { let missing = self.old.peer.reached - settled_tick self.old.kept in
-            OnOk result (AreCalls C.is_called missing crew.old crew.new) }
+        requires { P.can_collide collider.now }
+        ensures settle { IsSettle self.old self.new result }
+        ensures called { OnOk result
+            (AreCalls C.is_called self.old (missing_count self.old) crew.old crew.new) }
+        ensures failed { IfErr result (λ error.
+            FailsAfter C.is_called C.may_fail self.old self.new crew.old error crew.new) }
     {
         let last = self.reached();
         let settled = self.settled();
         for tick in settled..last {
-            self.settle_tick_with(rt, alloc, tick, crew)?;
-        }
-        Ok(last)
-    }
-
-    /// Simulates the settled tick with a crew, and keeps the world after it. An error leaves the peer
-    /// as it was.
-    fn settle_tick_with<R: Threads + Sync, C: Crew>(
-        &mut self,
-        rt: &R,
-        alloc: Global,
-        tick: u32,
-        crew: &mut C,
-    ) -> Result<(), StepError>
-        requires next { tick ≡ settled_tick self.old.kept }
-        requires reached { tick < self.old.peer.reached }
-        ensures settled { OnOk result (settled_tick self.new.kept ≡ tick + 1) }
-        ensures ok { OnOk result (HasSettled 1 self.old self.new) }
-        ensures err { OnErr result (HasSettled 0 self.old self.new) }
-        ensures called { OnOk result (C.is_called crew.old crew.new) }
-    {
-        self.snapshots.reserve()?;
-        let payloads = self.commands.at_tick(alloc, tick)?;
-        let latest = self.snapshots.latest();
-        let work = &mut self.work;
-        let world = step_with(rt, alloc, &self.scene, latest, &payloads, work, crew)?;
-        self.snapshots.keep(world, &mut self.work);
-        Ok(())
-    }
-
-    /// Settles each tick up to the reached one, from the settled tick on: simulates it by one call
-    /// of `steps`, and keeps its world. Returns the reached tick. After an error the ticks that were
-    /// settled stand, and so do the commands and the reached tick. Takes no memory where the
-    /// reached tick is settled.
-    pub fn settle<S: Steps>(&mut self, alloc: Global, steps: &mut S) -> Result<u32, S::Error>
-        ensures answer { IfOk result (λ tick. tick ≡ self.old.peer.reached) }
-        ensures settled { OnOk result (settled_tick self.new.kept ≡ self.old.peer.reached) }
-        ensures ok { let missing = self.old.peer.reached - settled_tick self.old.kept in
-            OnOk result (HasSettled missing self.old self.new) }
-        ensures err { let missing = self.old.peer.reached - settled_tick self.old.kept in
-            OnErr result ((more : ℕ) × (more < missing) × HasSettled more self.old self.new) }
-        ensures called { let missing = self.old.peer.reached - settled_tick self.old.kept in
-            OnOk result (AreCalls S.is_called missing steps.old steps.new) }
-    {
-        let last = self.reached();
-        let settled = self.settled();
-        for tick in settled..last {
-            self.settle_tick(alloc, tick, steps)?;
+            if let Err(error) = self.settle_tick(collider, alloc, tick, crew) {
+                return Err(error);
+            }
         }
         Ok(last)
     }
 
     /// Simulates the settled tick, and keeps the world after it. The world that falls out of the ring
     /// lends its memory to the next. An error leaves the peer as it was.
-    fn settle_tick<S: Steps>(
+    fn settle_tick<P: Collider, C: Crew>(
         &mut self,
+        collider: &P,
         alloc: Global,
         tick: u32,
-        steps: &mut S,
-    ) -> Result<(), S::Error>
+        crew: &mut C,
+    ) -> Result<(), StepError>
+        requires can { P.can_collide collider.now }
         requires next { tick ≡ settled_tick self.old.kept }
         requires reached { tick < self.old.peer.reached }
         ensures settled { OnOk result (settled_tick self.new.kept ≡ tick + 1) }
         ensures ok { OnOk result (HasSettled 1 self.old self.new) }
         ensures err { OnErr result (HasSettled 0 self.old self.new) }
-        ensures called { OnOk result (S.is_called steps.old steps.new) }
+        ensures called { OnOk result
+            (C.is_called crew.old (islands_at self.old tick) crew.new) }
+        ensures failed { IfErr result (λ error.
+            FailsBy C.may_fail crew.old (islands_at self.old tick) error crew.new) }
     {
         self.snapshots.reserve()?;
         let payloads = self.commands.at_tick(alloc, tick)?;
         let latest = self.snapshots.latest();
-        let world = steps.step(alloc, &self.scene, latest, &payloads, &mut self.work)?;
-        self.snapshots.keep(world, &mut self.work);
-        Ok(())
+        let work = &mut self.work;
+        match step_by(collider, alloc, &self.scene, latest, &payloads, work, crew) {
+            Ok(world) => {
+                self.snapshots.keep(world, &mut self.work);
+                Ok(())
+            }
+            Err(error) => Err(error),
+        }
+    }
+
+    /// Settles each tick up to the reached one, by steps on one thread, and returns that tick. After
+    /// an error the ticks that were settled stand, and so do the commands and the reached tick.
+    /// Takes no memory where the reached tick is settled.
+    pub fn settle_alone(&mut self, alloc: Global) -> Result<u32, AllocError>
+        ensures { IsSettle self.old self.new result }
+    {
+        match self.settle_by(&OneThread, alloc, &mut OneThread) {
+            Ok(tick) => Ok(tick),
+            Err(StepError::OutOfMemory) => Err(AllocError),
+            Err(StepError::Crew(_)) => unreachable!(),
+        }
+    }
+
+    /// The same with a crew, which is called once for each tick that is settled, with the islands of
+    /// that tick. Where many pairs have to be computed, several threads compute their contact
+    /// points.
+    pub fn settle_with<R: Threads + Sync, C: Crew>(
+        &mut self,
+        rt: &R,
+        alloc: Global,
+        crew: &mut C,
+    ) -> Result<u32, StepError>
+        ensures settle { IsSettle self.old self.new result }
+        ensures called { OnOk result
+            (AreCalls C.is_called self.old (missing_count self.old) crew.old crew.new) }
+        ensures failed { IfErr result (λ error.
+            FailsAfter C.is_called C.may_fail self.old self.new crew.old error crew.new) }
+    {
+        self.settle_by(&SeveralThreads { rt }, alloc, crew)
     }
 
     /// The world at a tick that the peer has reached: the simulation from tick zero of the commands
@@ -462,7 +423,9 @@ impl PeerCore {
         let mut world = kept.try_clone()?;
         for at in from..tick {
             let payloads = self.commands.at_tick(alloc, at)?;
-            world = step_on(alloc, &self.scene, world, &payloads, work)?;
+            let next = step_alone(alloc, &self.scene, &world, &payloads, work)?;
+            world.lend(work);
+            world = next;
         }
         Ok(world)
     }

@@ -84,7 +84,7 @@ impl Snapshots {
     ghost use Rattle.std.specs.Prelude.{◌≡◌, ◌≤◌, ◌<◌, ◌+◌, ◌-◌, ◌%◌, ◌⊎◌, ℕ, length, IfOk, IfSome, IfNone, OnOk};
     ghost use Rattle.pf_commands.specs.declared.name.TheConstants.{MAX_TICK};
     ghost use Rattle.pf_step.specs.World.{World};
-    ghost use Rattle.pf_rollback.specs.Kept.{no_ticks, settled_tick, nearest_tick, ticks_after_news, ticks_after_settling, ticks_up_to};
+    ghost use Rattle.pf_rollback.specs.Kept.{AreRising, no_ticks, settled_tick, nearest_tick, ticks_after_news, ticks_after_settling, ticks_up_to};
     ghost use Rattle.pf_rollback.specs.Snapshots.{ticks_of, IsKept, IsRecent};
 
     /// The start world alone, with a ring of so many places.
@@ -107,6 +107,7 @@ impl Snapshots {
     /// The greatest tick of a kept world.
     pub(crate) fn settled(&self) -> u32
         ensures value { result ≡ settled_tick (ticks_of self.now) }
+        ensures rising { AreRising (ticks_of self.now) }
         ensures range { result ≤ MAX_TICK }
     {
         self.settled

@@ -9,7 +9,6 @@ use Rattle.pf_shapes.specs.Body.{BodyState, no_state}
 use Rattle.pf_shapes.specs.Scene.{Scene}
 use Rattle.pf_manifold.specs.Key.{AreTouches}
 use Rattle.pf_manifold.specs.Touches.{IsTouchOf, Touch}
-use Rattle.pf_commands.specs.declared.payload.Payload.{Payload}
 use Rattle.pf_cache.specs.Contact.{Contact}
 use Rattle.pf_cache.specs.Row.{AreRows, AreRowsAt}
 use Rattle.pf_cache.proofs.Kept.{same_keys}
@@ -31,14 +30,13 @@ use Rattle.pf_solver.specs.Solve.{solved}
 use Rattle.pf_solver.specs.Velocities.{Batch}
 use Rattle.pf_solver.proofs.AfterTick.{after_tick_at_contacts, after_tick_at_home}
 use Rattle.pf_solver.proofs.Solved.{IsAway, solved_sides, solved_touches, untouched_body}
-use Rattle.pf_step.specs.Activity.{batch_of_tick, contacts_of_tick, islands_of_tick, names_of_tick}
+use Rattle.pf_step.specs.Activity.{batch_of_bodies, contacts_of_bodies, islands_of_bodies, names_of_bodies}
 use Rattle.pf_step.specs.Commands.{after_commands}
-use Rattle.pf_step.specs.Step.{step, touching}
+use Rattle.pf_step.specs.Step.{step, touching, world_after}
 use Rattle.pf_step.specs.World.{World}
 use Rattle.pf_step.proofs.Alone.{group_after}
 use Rattle.pf_step.proofs.Apart.{groups_alone}
-use Rattle.pf_step.proofs.Commanding.{commands_length}
-use Rattle.pf_step.proofs.Lengths.{step_length, updated_length, woken_length}
+use Rattle.pf_step.proofs.Lengths.{updated_length, woken_length, world_after_length}
 use Rattle.pf_step.proofs.Touching.{points_of_bodies}
 
 -- a test of mapped elements
@@ -46,34 +44,32 @@ any_mapped : {X Y : Type 0} (p : Y → Bool) (f : X → Y) (xs : List X) → lis
 any_mapped p f [] = refl
 any_mapped p f (x ∷ xs) = ap (λ t. p (f x) || t) (any_mapped p f xs)
 
-module _ (s : Scene) (w : World) (payloads : List Payload) (paired : length w.bodies ≡ length s.fixtures) where
-  abbrev commanded : List BodyState
-  commanded = after_commands s.fixtures w.bodies payloads
+module _ (s : Scene) (before : List Contact) (commanded : List BodyState) (count : length commanded ≡ length s.fixtures) where
+  -- the laws of ticks are of worlds and commands: here there are none
+  abbrev w : World
+  w = record { bodies = commanded; contacts = before }
 
   abbrev points : List Touch
   points = touching s commanded
 
   abbrev names : List ℕ
-  names = names_of_tick s w payloads
+  names = names_of_bodies s commanded
 
   abbrev batch : Batch
-  batch = batch_of_tick s w payloads
+  batch = batch_of_bodies s before commanded
 
   abbrev contacts : List Contact
-  contacts = contacts_of_tick s w payloads
+  contacts = contacts_of_bodies s before commanded
 
   abbrev after : Batch
   after = solved s batch.bodies batch.rows
 
   abbrev found : List Island
-  found = islands_of_tick s w payloads
+  found = islands_of_bodies s before commanded
 
   -- the islands of the tick after it
   abbrev ended : List Island
   ended = map (island_after_tick s) found
-
-  count : length commanded ≡ length s.fixtures
-  count = commands_length s.fixtures w.bodies payloads ∙ paired
 
   pub awake_long : length batch.bodies ≡ length s.fixtures
   awake_long = woken_length names commanded (groups_long s points ∙ sym count) ∙ count
@@ -98,7 +94,7 @@ module _ (s : Scene) (w : World) (payloads : List Payload) (paired : length w.bo
   ended_at_contacts order =
       after_tick_at_contacts s contacts found
       (islands_at_contacts names batch.bodies batch.rows contacts
-      (rows_beside s batch.bodies points contacts (same_keys w.contacts points) (updated_length w.contacts points) order))
+      (rows_beside s batch.bodies points contacts (same_keys before points) (updated_length before points) order))
 
   -- ---- what the islands have
 
@@ -125,16 +121,18 @@ module _ (s : Scene) (w : World) (payloads : List Payload) (paired : length w.bo
       ∙ sym (woken_at s points commanded count name within) ∙ parts.1
 
   -- the states of the world after the tick
-  states_ended : All (λ (i : Island). i.bodies ≡ states_of i.numbers (step s w payloads).bodies) ended
+  states_ended : All (λ (i : Island). i.bodies ≡ states_of i.numbers (world_after s before commanded).bodies) ended
+  unfolding step after_commands
   states_ended =
-      all_ended (λ (i : Island). i.bodies ≡ states_of i.numbers (step s w payloads).bodies)
-      (λ name within active. sym (group_after s w payloads name paired (active_group name within active)))
+      all_ended (λ (i : Island). i.bodies ≡ states_of i.numbers (world_after s before commanded).bodies)
+      (λ name within active. sym (group_after s w [] name count (active_group name within active)))
 
   -- and the rows of the one list
   rows_ended : All (λ (i : Island). i.rows ≡ rows_among i.numbers after.rows) ended
+  unfolding after_commands
   rows_ended =
       all_ended (λ (i : Island). i.rows ≡ rows_among i.numbers after.rows)
-      (λ name within active. ap (λ (b : Batch). b.rows) (groups_alone s w payloads name paired))
+      (λ name within active. ap (λ (b : Batch). b.rows) (groups_alone s w [] name count))
 
   -- each of these rows is of an island
   rows_are_ended : All (λ r. list_any (λ (i : Island). touches_one i.numbers r) ended ≡ true) after.rows
@@ -175,8 +173,8 @@ module _ (s : Scene) (w : World) (payloads : List Payload) (paired : length w.bo
 
   -- so they stay as they are
   stays : (j : ℕ) → j < length s.fixtures → is_awake_at batch.bodies j ≡ false
-      → get_or batch.bodies j no_state ≡ get_or (step s w payloads).bodies j no_state
-  unfolding step rested
+      → get_or batch.bodies j no_state ≡ get_or (world_after s before commanded).bodies j no_state
+  unfolding rested
   stays j within sleeps =
       let b = get_or batch.bodies j no_state in
       let here : slice_get batch.bodies j ≡ Some b =
@@ -195,15 +193,15 @@ module _ (s : Scene) (w : World) (payloads : List Payload) (paired : length w.bo
   -- ---- the world
 
   pub ended_join : AreTouches points
-      → (joined_bodies ended batch.bodies ≡ (step s w payloads).bodies)
-      × (joined_contacts ended contacts ≡ (step s w payloads).contacts)
-  unfolding step
+      → (joined_bodies ended batch.bodies ≡ (world_after s before commanded).bodies)
+      × (joined_contacts ended contacts ≡ (world_after s before commanded).contacts)
   ended_join order =
-      let before : AreRows batch.rows = rows_in_order s batch.bodies points contacts order in (
-        joined_is (step s w payloads).bodies ended batch.bodies (step_length s w payloads paired ∙ sym awake_long) states_ended
+      let rows : AreRows batch.rows = rows_in_order s batch.bodies points contacts order in (
+        joined_is (world_after s before commanded).bodies ended batch.bodies
+            (world_after_length s before commanded count ∙ sym awake_long) states_ended
             (λ j inside none.
             let within : j < length s.fixtures = omega (arith, inside, awake_long) in
             stays j within (asleep j within none)),
         joined_contacts_are after.rows ended contacts
-            (subst AreTouches (sym (solved_touches s batch.bodies batch.rows)) before) rows_ended rows_are_ended,
+            (subst AreTouches (sym (solved_touches s batch.bodies batch.rows)) rows) rows_ended rows_are_ended,
       )

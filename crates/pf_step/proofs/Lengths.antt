@@ -17,7 +17,7 @@ use Rattle.pf_solver.proofs.Solved.{solved_length}
 use Rattle.pf_step.specs.Commands.{after_commands}
 use Rattle.pf_islands.specs.Rows.{active_rows}
 use Rattle.pf_step.specs.Simulation.{sim}
-use Rattle.pf_step.specs.Step.{step, touching}
+use Rattle.pf_step.specs.Step.{step, touching, world_after}
 use Rattle.pf_step.specs.World.{World, start_of}
 use Rattle.pf_step.proofs.Commanding.{commands_length}
 use Rattle.pf_islands.proofs.Elements.{zip_length}
@@ -43,19 +43,23 @@ unfolding updated
 updated_length old points = length-map points _
 
 -- a world has one state for each body of the scene
+pub world_after_length : (s : Scene) (before : List Contact) (bodies : List BodyState) → length bodies ≡ length s.fixtures
+    → length (world_after s before bodies).bodies ≡ length s.fixtures
+world_after_length s before bodies paired =
+    let points = touching s bodies in
+    let names = groups s points in
+    let awake = woken names bodies in
+    let rows = active_rows s awake points (updated before points) in
+    let woke : length awake ≡ length bodies = woken_length names bodies (named s points bodies paired) in
+    let moved : length (solved s awake rows).bodies ≡ length s.fixtures = solved_length s awake rows ∙ woke ∙ paired in
+    rested_length STILL_TICKS names (solved s awake rows).bodies (named s points (solved s awake rows).bodies moved) ∙ moved
+
 pub step_length : (s : Scene) (w : World) (payloads : List Payload) → length w.bodies ≡ length s.fixtures
     → length (step s w payloads).bodies ≡ length s.fixtures
 unfolding step
 step_length s w payloads paired =
-    let commanded = after_commands s.fixtures w.bodies payloads in
-    let points = touching s commanded in
-    let names = groups s points in
-    let awake = woken names commanded in
-    let rows = active_rows s awake points (updated w.contacts points) in
-    let kept : length commanded ≡ length s.fixtures = commands_length s.fixtures w.bodies payloads ∙ paired in
-    let woke : length awake ≡ length commanded = woken_length names commanded (named s points commanded kept) in
-    let moved : length (solved s awake rows).bodies ≡ length s.fixtures = solved_length s awake rows ∙ woke ∙ kept in
-    rested_length STILL_TICKS names (solved s awake rows).bodies (named s points (solved s awake rows).bodies moved) ∙ moved
+    world_after_length s w.contacts (after_commands s.fixtures w.bodies payloads)
+    (commands_length s.fixtures w.bodies payloads ∙ paired)
 
 pub sim_length : (s : Scene) (m : CommandMap) (tick : ℕ) → IsScene s → length (sim s m tick).bodies ≡ length s.fixtures
 unfolding sim start_of

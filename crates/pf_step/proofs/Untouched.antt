@@ -21,7 +21,7 @@ use Rattle.pf_solver.specs.Solve.{solved}
 use Rattle.pf_solver.specs.Velocities.{Batch}
 use Rattle.pf_solver.proofs.Free.{free_is_solved}
 use Rattle.pf_step.specs.Commands.{after_commands}
-use Rattle.pf_step.specs.Step.{step, touching}
+use Rattle.pf_step.specs.Step.{touching, world_after}
 use Rattle.pf_step.specs.World.{World}
 use Rattle.pf_step.proofs.Commanding.{commands_length}
 
@@ -149,11 +149,11 @@ module _ (s : Scene) (bodies : List BodyState) (count : length bodies ≡ length
       ∙ rested_each moved ∙ moved_and_rested (gravity_per_tick s.gravity) bodies
 
 -- the world after a tick with these contact points
-abbrev world_with : Scene → World → List BodyState → List Touch → World
-world_with s w commanded points =
-    let contacts = updated w.contacts points in
+abbrev world_with : Scene → List Contact → List BodyState → List Touch → World
+world_with s before bodies points =
+    let contacts = updated before points in
     let names = groups s points in
-    let awake = woken names commanded in
+    let awake = woken names bodies in
     let after = solved s awake (active_rows s awake points contacts) in
     record {
       bodies = rested STILL_TICKS names after.bodies;
@@ -164,18 +164,10 @@ no_contacts : (contacts : List Contact) (rows : List Row) → with_rows (updated
 unfolding updated with_rows
 no_contacts contacts rows = refl
 
-pub untouched_step : (s : Scene) (w : World) (payloads : List Payload) → length w.bodies ≡ length s.fixtures
-    → touching s (after_commands s.fixtures w.bodies payloads) ≡ []
-    → step s w payloads
-    ≡ record {
-      bodies =
-          map (body_after_tick (gravity_per_tick s.gravity)) (after_commands s.fixtures w.bodies payloads);
-      contacts = [];
-    }
-unfolding step
-untouched_step s w payloads paired none =
-    let commanded = after_commands s.fixtures w.bodies payloads in
-    ap (world_with s w commanded) none
-    ∙ ap₂ (λ bs cs. record { bodies = bs; contacts = cs })
-    (bodies_alone s commanded (commands_length s.fixtures w.bodies payloads ∙ paired) (updated w.contacts []))
-    (no_contacts w.contacts _)
+pub untouched_world : (s : Scene) (before : List Contact) (bodies : List BodyState) → length bodies ≡ length s.fixtures
+    → touching s bodies ≡ []
+    → world_after s before bodies
+    ≡ record { bodies = map (body_after_tick (gravity_per_tick s.gravity)) bodies; contacts = [] }
+untouched_world s before bodies paired none =
+    ap (world_with s before bodies) none
+    ∙ ap₂ (λ bs cs. record { bodies = bs; contacts = cs }) (bodies_alone s bodies paired (updated before [])) (no_contacts before _)

@@ -3,6 +3,7 @@ pub mod World
 pub mod WorldLaws
 pub mod Commands
 pub mod Step
+pub mod Calls
 pub mod Simulation
 pub mod Activity
 pub mod Laws

@@ -7,7 +7,7 @@ use Rattle.pf_shapes.specs.Scene.{Scene}
 use Rattle.pf_broad.specs.Pairs.{all_bounds, pairs}
 use Rattle.pf_manifold.specs.Touches.{Touch, touches}
 use Rattle.pf_commands.specs.declared.payload.Payload.{Payload}
-use Rattle.pf_cache.specs.Contact.{updated}
+use Rattle.pf_cache.specs.Contact.{Contact, updated}
 use Rattle.pf_cache.specs.Manifolds.{Manifolds, NarrowPhase, computed_count, manifolds_of, placed_shapes}
 use Rattle.pf_cache.specs.Row.{with_rows}
 use Rattle.pf_islands.specs.Group.{groups}
@@ -36,16 +36,20 @@ abbrev pub narrow_phase_of_tick : Scene → World → List Payload → Manifolds
 narrow_phase_of_tick s w payloads kept =
     narrow_phase s.fixtures (after_commands s.fixtures w.bodies payloads) kept
 
--- Commands, Points, Activity, then Gravity, Pre-step, Rounds, Positions and Timers, and Sleep
-unfoldable pub step : Scene → World → List Payload → World
-step s w payloads =
-    let commanded = after_commands s.fixtures w.bodies payloads in
-    let points = touching s commanded in
-    let contacts = updated w.contacts points in
+-- Points, Activity, then Gravity, Pre-step, Rounds, Positions and Timers, and Sleep: the world after
+-- these phases, of bodies after the commands of a tick and of the contacts of the last tick
+abbrev pub world_after : Scene → List Contact → List BodyState → World
+world_after s before bodies =
+    let points = touching s bodies in
+    let contacts = updated before points in
     let names = groups s points in
-    let awake = woken names commanded in
+    let awake = woken names bodies in
     let after = solved s awake (active_rows s awake points contacts) in
     record {
       bodies = rested STILL_TICKS names after.bodies;
       contacts = with_rows contacts after.rows;
     }
+
+-- Commands, and then the others
+unfoldable pub step : Scene → World → List Payload → World
+step s w payloads = world_after s w.contacts (after_commands s.fixtures w.bodies payloads)

@@ -1,11 +1,13 @@
 //! Who solves the islands of a tick.
 
-ghost use Rattle.std.specs.Prelude.{◌≡◌, ⊤, All, IfOk, OnOk, map};
+ghost use Rattle.std.specs.Prelude.{◌≡◌, All, map};
 ghost use Rattle.pf_islands.specs.Split.{IsIslandOf};
 ghost use Rattle.pf_solver.specs.Alone.{island_after_tick};
 
 use pf_islands::Island;
+use pf_manifold::OneThread;
 use pf_shapes::Scene;
+use pf_solver::solve_island;
 use std::alloc::AllocError;
 use thiserror::Error;
 
@@ -26,20 +28,6 @@ pub enum CrewError {
     CrewLost,
 }
 
-/// Solves the islands of a tick, in whatever order and with whatever threads.
-pub trait Crew {
-    /// What a call does to the crew itself, as a count of its calls. Nothing is said of it here.
-    ghost is_called: { Self → Self → Type 0 } = { λ _ _. ⊤ };
-
-    /// Solves each island alone: answer k is island k after a tick of 1/64 s. The islands are gone
-    /// after an error.
-    fn solve(&mut self, scene: &Scene, islands: Vec<Island>) -> Result<Vec<Island>, CrewError>
-        requires { All (IsIslandOf scene.now) islands.items }
-        ensures solved { IfOk result
-            (λ solved. solved.items ≡ map (island_after_tick scene.now) islands.items) }
-        ensures called { OnOk result (is_called self.old self.new) };
-}
-
 /// Why a step was not made.
 #[derive(Clone, Copy, Debug, PartialEq, Eq, Error)]
 pub enum StepError {
@@ -49,6 +37,64 @@ pub enum StepError {
     /// The crew did not solve the islands.
     #[error("the crew failed: {0}")]
     Crew(CrewError),
+}
+
+/// Solves the islands of a tick, in whatever order and with whatever threads.
+pub trait Crew {
+    ghost use Rattle.std.specs.Prelude.{◌≡◌, ⊤, List, All, IfErr, IfOk, IsTrue, OnOk, map};
+    ghost use Rattle.pf_islands.specs.Split.{Island, IsIslandOf};
+    ghost use Rattle.pf_solver.specs.Alone.{island_after_tick};
+    ghost use Rattle.pf_step.specs.declared.crew.CrewError.{CrewError};
+
+    /// What a call that solved these islands does to the crew itself. Nothing is said of it here.
+    ghost is_called: { Self → List Island → Self → Type 0 } = { λ _ _ _. ⊤ };
+
+    /// With which errors a call that was to solve these islands may fail, and what it then does to
+    /// the crew itself. Nothing is said of it here.
+    ghost may_fail: { Self → List Island → CrewError → Self → Type 0 } = { λ _ _ _ _. ⊤ };
+
+    /// Solves each island alone: answer k is island k after a tick of 1/64 s. The islands are gone
+    /// after an error.
+    fn solve(&mut self, scene: &Scene, islands: Vec<Island>) -> Result<Vec<Island>, CrewError>
+        requires { All (IsIslandOf scene.now) islands.items }
+        ensures solved { IfOk result
+            (λ solved. solved.items ≡ map (island_after_tick scene.now) islands.items) }
+        ensures called { OnOk result (is_called self.old islands.items self.new) }
+        ensures failed { IfErr result (λ error. may_fail self.old islands.items error self.new) };
+
+    /// Whether a tick in which nothing touches may be made without a call, each body where it
+    /// stands. Only the caller's own thread says so: a crew is called in each tick.
+    fn skips_untouched(&self) -> bool
+        ensures { IsTrue result
+            → (islands : List Island) → is_called self.now islands self.now }
+    {
+        false
+    }
+}
+
+/// Solves each island, one after the other. Takes no memory.
+pub(crate) fn solve_all(scene: &Scene, islands: &mut [Island])
+    requires { All (IsIslandOf scene.now) islands.old }
+    ensures { islands.new ≡ map (island_after_tick scene.now) islands.old }
+{
+    for island in islands.iter_mut() {
+        solve_island(scene, island);
+    }
+}
+
+/// The thread of the caller solves the islands one after the other, and cannot fail.
+impl Crew for OneThread {
+    ghost may_fail = { λ _ _ _ _. ⊥ };
+
+    fn solve(&mut self, scene: &Scene, islands: Vec<Island>) -> Result<Vec<Island>, CrewError> {
+        let mut islands = islands;
+        solve_all(scene, &mut islands);
+        Ok(islands)
+    }
+
+    fn skips_untouched(&self) -> bool {
+        true
+    }
 }
 
 impl From<AllocError> for StepError {

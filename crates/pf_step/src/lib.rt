@@ -6,11 +6,12 @@
 
 mod command;
 mod crew;
+mod ending;
 pub mod laws;
 mod step;
 mod world;
 
 pub use command::apply;
 pub use crew::{Crew, CrewError, StepError};
-pub use step::{step_alone, step_with};
+pub use step::{step_alone, step_by, step_with};
 pub use world::World;

@@ -8,7 +8,7 @@ use Rattle.pf_shapes.specs.Pair.{IsPairOf}
 use Rattle.pf_step.proofs.step.narrow_phase.Goals as goal
 
 pub returns-clause-bodies : goal.returns-clause-bodies
-returns-clause-bodies c =
+returns-clause-bodies g c =
     let n = length c.args.bodies.now in
     let fixtures = c.args.scene.now.fixtures in
     IfOk-weaker c.update.result _ _

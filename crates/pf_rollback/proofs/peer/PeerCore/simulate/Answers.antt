@@ -34,15 +34,15 @@ loop-at-init c = record {
       sym (ap (count_after c.args.work.now.meter.ticks) none ∙ count_none _);
 }
 
-pub step_on-requires : goal.step_on-requires
-step_on-requires c =
+pub step_alone-requires : goal.step_alone-requires
+step_alone-requires c =
     ap (λ (w : World). length w.bodies) c.loop-at.invariant.world ∙ sim_bodies _ _ _ c.self.invariant.paired
 
-pub returns-in_err-world-2-clause-no_memory : goal.returns-in_err-world-2-clause-no_memory
-returns-in_err-world-2-clause-no_memory c empty =
+pub returns-in_err-next-clause-no_memory : goal.returns-in_err-next-clause-no_memory
+returns-in_err-next-clause-no_memory c empty =
     let none = ap (λ (core : PeerCore). core.scene.starts) c.self.view_is ∙ empty.no_bodies in
     let bodies = ap (λ (w : World). w.bodies) c.loop-at.invariant.world ∙ sim_empty _ _ _ none in
-    let ok = c.in_err-world-2.ensures.no_memory bodies in
+    let ok = c.in_err-next.ensures.no_memory bodies in
     absurd cc
 
 pub loop-at-preserved : goal.loop-at-preserved
@@ -51,12 +51,12 @@ loop-at-preserved c =
     let m = c.self.inside.commands in
     record {
       world =
-          c.in_ok-world-2.ensures.value
+          c.in_ok-next.ensures.step.value
           ∙ ap (λ w. step s w c.deref.result.now) c.loop-at.invariant.world
           ∙ ap (step s (sim s m c.loop-at.at)) (c.deref.ensures.value ∙ c.in_ok-payloads.ensures.items)
           ∙ sym (sim_more s m c.loop-at.at);
       ticks =
-          ap (λ (w : Work). w.meter.ticks) c.in_ok-world-2.ensures.counted
+          ap (λ (w : Work). w.meter.ticks) (c.lend.ensures ∙ c.in_ok-next.ensures.step.counted)
           ∙ ap (λ n. saturating_sum n 1) c.loop-at.invariant.ticks
           ∙ sym (count_more _ (c.loop-at.at - c.nearest-from.result.0) (c.loop-at.at + 1 - c.nearest-from.result.0) (omega arith));
     }

@@ -11,7 +11,7 @@ use Rattle.pf_islands.proofs.Starting.{groups_long}
 use Rattle.pf_islands.proofs.Together.{groups_woken}
 use Rattle.pf_step.specs.Activity.{contacts_of_bodies, names_of_bodies}
 use Rattle.pf_step.specs.Step.{touching}
-use Rattle.pf_step.proofs.step.prepare.Goals as goal
+use Rattle.pf_step.proofs.ending.prepare.Goals as goal
 
 pub wake-requires : goal.wake-requires
 wake-requires c =

@@ -1,6 +1,6 @@
 use Rattle.std.proofs.Common.{◌≡◌, take, drop, ◌++◌, map}
 use Rattle.pf_solver.specs.Alone.{island_after_tick}
-use Rattle.pf_step.proofs.step.solve_all.Given as goal
+use Rattle.pf_step.proofs.crew.solve_all.Given as goal
 
 abbrev pub invariant-loop-island : goal.invariant-loop-island
 invariant-loop-island l =

@@ -1,0 +1,42 @@
+-- What a settle of a peer returns and leaves, and how it calls a crew.
+use Rattle.std.specs.Prelude.{◌≡◌, ℕ, zero, suc, ◌+◌, ◌<◌, List, Result, IfOk, OnErr, OnOk}
+use Rattle.pf_commands.specs.Merge.{payloads_at}
+use Rattle.pf_islands.specs.Split.{Island}
+use Rattle.pf_step.specs.declared.crew.CrewError.{CrewError}
+use Rattle.pf_step.specs.declared.crew.StepError.{StepError}
+use Rattle.pf_step.specs.Activity.{islands_of_tick}
+use Rattle.pf_step.specs.Calls.{FailsBy}
+use Rattle.pf_step.specs.Simulation.{sim}
+use Rattle.pf_rollback.specs.Core.{HasSettled, PeerCore, missing_count}
+use Rattle.pf_rollback.specs.Kept.{settled_tick}
+
+-- a settle returns the reached tick, and each missing tick is settled; or it returns an error, and
+-- fewer ticks are settled
+pub record IsSettle {E : Type 0} (old new : PeerCore) (result : Result ℕ E) : Type 0 where
+  pub answer : IfOk result (λ tick. tick ≡ old.peer.reached)
+  pub settled : OnOk result (settled_tick new.kept ≡ old.peer.reached)
+  pub ok : OnOk result (HasSettled (missing_count old) old new)
+  pub err : OnErr result ((more : ℕ) × (more < missing_count old) × HasSettled more old new)
+
+-- the islands of a tick of the simulation of a peer's commands
+abbrev pub islands_at : PeerCore → ℕ → List Island
+islands_at core tick =
+    let commands = core.peer.commands in
+    islands_of_tick core.scene (sim core.scene commands tick) (payloads_at commands tick)
+
+-- so many calls of a crew, the first with the islands of the peer's settled tick, and each other
+-- with those of the tick after; a call with these islands does this to the crew
+unfoldable pub AreCalls : {A : Type 0} → (A → List Island → A → Type 0) → PeerCore → ℕ → A → A → Type 0
+AreCalls call core zero first last = first ≡ last
+AreCalls {A} call core (suc n) first last =
+    (before : A) × AreCalls call core n first before
+    × call before (islands_at core (settled_tick core.kept + n)) last
+
+-- a settle with a crew failed: so many ticks were settled, each by one call, and the step of the
+-- next one failed
+abbrev pub FailsAfter : {A : Type 0} → (A → List Island → A → Type 0)
+    → (A → List Island → CrewError → A → Type 0) → PeerCore → PeerCore → A → StepError → A → Type 0
+FailsAfter {A} call may_fail old new first error last =
+    (more : ℕ) × (more < missing_count old) × HasSettled more old new
+    × ((before : A) × AreCalls call old more first before
+    × FailsBy may_fail before (islands_at old (settled_tick old.kept + more)) error last)
