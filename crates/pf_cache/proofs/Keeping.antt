@@ -15,7 +15,7 @@ use Rattle.pf_manifold.specs.Key.{AreTouches}
 use Rattle.pf_manifold.specs.PlacedShape.{PlacedShape}
 use Rattle.pf_manifold.specs.Touches.{Touch}
 use Rattle.pf_manifold.proofs.KeyOrder.{touches_in_order}
-use Rattle.pf_cache.specs.Manifolds.{computed_count, has_pair, is_reusable, is_unmoved, placed_shapes, points_of_pair, shape_of_body}
+use Rattle.pf_cache.specs.Manifolds.{computed_count, has_pair, is_unmoved, placed_shapes, points_of_pair, shape_of_body}
 use Rattle.pf_cache.specs.Spans.{ArePlaced, AreRefreshed, AreSpans, IsKeptSpan, IsSpan, Span, are_unmoved, computed_count_by_flags, spans_from, unmoved_flags}
 use Rattle.pf_cache.proofs.Refreshing.{placed_end, placed_from, spans_here, spans_of_both}
 use Rattle.pf_cache.proofs.Updating.{spans_done}

@@ -1,28 +1,21 @@
 -- Contact points that are computed all at once.
 use Rattle.std.proofs.Common.{◌≡◌, ℕ, ◌+◌, ◌<◌, ◌==◌, ◌&&◌, Bool, true, false, Option, Some, None, List, [], ◌∷◌, ◌++◌, length, map, take, refl, sym, ap, ap₂, subst, ◌∙◌, ⊎_elim, ltb-true, eqb-true, arith}
-use Rattle.std.specs.List.{AllByRecursion, filter, flat_map, prefix_len}
-use Rattle.std.specs.Prelude.{All, IfSome, cond, drop, get_or, not, slice_get}
+use Rattle.std.specs.List.{AllByRecursion, flat_map, prefix_len}
+use Rattle.std.specs.Prelude.{drop, get_or, slice_get}
 use Rattle.std.proofs.lemmas.Bool.Decides.{Decides-eqb}
 use Rattle.std.proofs.lemmas.Bool.{and_parts, or_cases}
-use Rattle.std.proofs.lemmas.List.{append-nil, drop_more, length-append, length-map, take-append-drop, take_more}
+use Rattle.std.proofs.lemmas.List.{drop_more, length-append, length-map, take-append-drop, take_more}
 use Rattle.std.proofs.lemmas.List.Concat.{flat_map-append}
-use Rattle.std.proofs.lemmas.List.Elements.{filter-append}
 use Rattle.std.proofs.Math.Seq.{drop-append_seam}
-use Rattle.pf_shapes.specs.Body.{BodyState}
-use Rattle.pf_shapes.specs.Fixture.{Fixture}
-use Rattle.pf_shapes.specs.Pair.{IsAscending, IsPairOf, Pair, is_before}
-use Rattle.pf_shapes.specs.declared.scene.TheConstants.{MAX_BODIES}
+use Rattle.pf_shapes.specs.Pair.{IsAscending, Pair, is_before}
 use Rattle.pf_manifold.specs.Collide.{collide}
 use Rattle.pf_manifold.specs.ContactPoint.{ContactPoint}
-use Rattle.pf_manifold.specs.Manifold.{points_of}
-use Rattle.pf_manifold.specs.declared.manifold.Manifold.{Manifold}
 use Rattle.pf_manifold.specs.PlacedShape.{PlacedShape}
-use Rattle.pf_manifold.specs.Touches.{Touch, touch_of, touches, touches_between}
-use Rattle.pf_cache.specs.Manifolds.{has_pair, placed_shapes, points_of_pair}
+use Rattle.pf_manifold.specs.Touches.{Touch, touch_of, touches_between}
+use Rattle.pf_cache.specs.Manifolds.{points_of_pair}
 use Rattle.pf_cache.specs.Spans.{Span, is_of_pair, spans_from}
 use Rattle.pf_cache.proofs.Keeping.{ascend_behind}
-use Rattle.pf_cache.proofs.Refreshing.{points_more, spans_here, spans_more}
-use Rattle.pf_cache.proofs.Unmoved.{kept_points}
+use Rattle.pf_cache.proofs.Refreshing.{points_more, spans_more}
 
 -- ---- points of one pair, and behind them those of later ones
 

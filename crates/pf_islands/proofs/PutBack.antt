@@ -1,11 +1,10 @@
 -- What each body and each contact has after islands were put back into their world.
-use Rattle.std.proofs.Common.{◌≡◌, ◌≢◌, ◌∙◌, ℕ, zero, suc, ◌<◌, ◌≤◌, List, [], ◌∷◌, Some, length, map, refl, sym, ap, ap₂, subst, arith, get_or, slice_get, slice_set}
+use Rattle.std.proofs.Common.{◌≡◌, ◌≢◌, ◌∙◌, ℕ, zero, suc, ◌<◌, ◌≤◌, List, [], ◌∷◌, Some, length, refl, sym, ap, subst, arith, get_or, slice_get, slice_set}
 use Rattle.std.proofs.lemmas.List.Elements.{All-head, All-tail}
 use Rattle.std.proofs.lemmas.Option.{slice_get-get_or, slice_get-map}
 use Rattle.std.specs.List.{zip}
 use Rattle.std.specs.Prelude.{All, fold, option_map}
 use Rattle.pf_shapes.specs.Body.{BodyState}
-use Rattle.pf_shapes.specs.declared.scene.TheConstants.{MAX_BODIES}
 use Rattle.pf_manifold.specs.Key.{IsKey, IsRising, Key, key_of, rank}
 use Rattle.pf_cache.specs.Contact.{AreContacts, Contact, Impulses, no_contact}
 use Rattle.pf_cache.specs.Row.{AreRows, AreRowsAt, IsRowAt, Row, impulses_or, with_rows}

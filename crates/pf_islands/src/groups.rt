@@ -28,10 +28,12 @@ impl Model for Groups {
 }
 
 impl Groups {
-    ghost use Rattle.std.specs.Prelude.{◌≡◌, ◌<◌, [], length, All, IfOk, IsOk};
-    ghost use Rattle.pf_manifold.specs.Touches.{IsTouchOf};
+    ghost use Rattle.std.specs.Prelude.{◌≡◌, ◌<◌, List, [], length, All, IfOk, IsOk};
+    ghost use Rattle.pf_shapes.specs.Scene.{Scene};
+    ghost use Rattle.pf_manifold.specs.Touches.{IsTouchOf, Touch};
     ghost use Rattle.pf_islands.specs.Group.{groups};
     ghost use Rattle.pf_islands.specs.Sleep.{woken};
+    ghost use Rattle.pf_islands.specs.Split.{AreWoken};
 
     /// The groups of the scene's bodies that these contact points connect. Takes no memory where
     /// there are no bodies.
@@ -62,6 +64,8 @@ impl Groups {
     pub fn wake(&mut self, bodies: &mut [BodyState])
         requires { length bodies.old ≡ length self.old }
         ensures bodies { bodies.new ≡ woken self.old bodies.old }
+        ensures woken { (scene : Scene) (touches : List Touch)
+            → self.old ≡ groups scene touches → AreWoken self.old bodies.new }
         ensures groups { self.new ≡ self.old }
     {
         mark_active(&mut self.marks, &self.names, bodies);

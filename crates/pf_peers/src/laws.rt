@@ -17,6 +17,8 @@ ghost use Rattle.pf_peers.specs.declared.event.Reply.TheVariants.{Refused, Shown
 ghost use Rattle.pf_peers.specs.Laws.{IsAlike, IsAllowedPeer, commands_for};
 ghost use Rattle.pf_peers.specs.Session.{Session, peer_at, replies_to, reply_to, session_after, session_after_all};
 
+use crate::session::RING;
+
 /// After any list of events, a world that a peer shows at a tick that it has reached is the
 /// simulation from tick zero of the commands that the peer held before and of those that the events
 /// brought to it, put together in whatever order they came.
@@ -80,7 +82,8 @@ pub fn repeats_change_no_reply()
         reply_to t (Take i (Ok c)) ≡ Took i put → is_change put ≡ false }
 {}
 
-/// Two peers that merge each other's commands hold the same commands.
+/// Two peers that merge each other's commands hold the same commands. `Session::core` ensures the
+/// premise for each peer of a session.
 pub fn merging_both_ways_makes_maps_equal()
     ensures { (s : Session) (i j : ℕ) → i < length s.peers → j < length s.peers
         → IsAllowedPeer s.scene (peer_at s i) → IsAllowedPeer s.scene (peer_at s j)
@@ -95,4 +98,9 @@ pub fn same_commands_show_one_world()
         → tick ≤ (peer_at s i).reached → tick ≤ (peer_at s j).reached
         → (world : World) × (reply_to s (Show i tick) ≡ Shown i tick world)
         × (reply_to s (Show j tick) ≡ Shown j tick world) }
+{}
+
+/// Each peer of a session keeps 64 settled worlds beside its keyframes.
+pub fn named_limits()
+    ensures { RING ≡ 64 }
 {}

@@ -192,6 +192,7 @@ fn answer_alone(core: &mut PeerCore, alloc: Global, event: Event) -> Result<Repl
 
 impl Session {
     ghost use Rattle.std.specs.Prelude.{◌≡◌, ◌≤◌, ◌<◌, length, IfOk, IsOk, OnErr};
+    ghost use Rattle.pf_peers.specs.Laws.{IsAllowedPeer};
     ghost use Rattle.pf_peers.specs.Session.{IsAmong, NeedsNoMemory, answer, new_session, other_commands, peer_at, peer_of};
 
     /// So many peers of the scene, at tick 0 and without commands. Takes no memory for none.
@@ -213,6 +214,19 @@ impl Session {
         ensures { result.now ≡ self.now.scene }
     {
         &self.scene
+    }
+
+    /// The core of a peer, to read. Its commands are in range, and the scene allows each of them.
+    pub fn core(&self, peer: u8) -> &PeerCore
+        requires { peer < length self.now.peers }
+        ensures peer { result.now.peer ≡ peer_at self.now peer }
+        ensures scene { result.now.scene ≡ self.now.scene }
+        ensures allowed { IsAllowedPeer self.now.scene (peer_at self.now peer) }
+    {
+        let core = &self.cores[usize::from(peer)];
+        // What these calls ensure is that the commands are allowed and in range.
+        let _count = core.commands().len();
+        core
     }
 
     /// How many peers there are.

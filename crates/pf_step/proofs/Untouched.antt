@@ -8,7 +8,6 @@ use Rattle.pf_rot.specs.Vector.{V2}
 use Rattle.pf_shapes.specs.Body.{BodyState}
 use Rattle.pf_shapes.specs.Scene.{Scene}
 use Rattle.pf_manifold.specs.Touches.{Touch}
-use Rattle.pf_commands.specs.declared.payload.Payload.{Payload}
 use Rattle.pf_cache.specs.Contact.{Contact, updated}
 use Rattle.pf_cache.specs.Row.{Row, with_rows}
 use Rattle.pf_islands.specs.Group.{group, groups}
@@ -20,10 +19,8 @@ use Rattle.pf_solver.specs.Bodies.{after_gravity, after_motion, after_timer, eac
 use Rattle.pf_solver.specs.Solve.{solved}
 use Rattle.pf_solver.specs.Velocities.{Batch}
 use Rattle.pf_solver.proofs.Free.{free_is_solved}
-use Rattle.pf_step.specs.Commands.{after_commands}
 use Rattle.pf_step.specs.Step.{touching, world_after}
 use Rattle.pf_step.specs.World.{World}
-use Rattle.pf_step.proofs.Commanding.{commands_length}
 
 -- the names k, k + 1, .. of so many groups of one body
 abbrev own_names : ℕ → List BodyState → List ℕ

@@ -1,4 +1,4 @@
-use Rattle.std.proofs.Common.{◌≡◌, ◌∙◌, ◌+◌, ap, arith, sym, true, false}
+use Rattle.std.proofs.Common.{◌∙◌, ◌+◌, ap, arith, sym, true, false}
 use Rattle.pf_islands.proofs.Dealing.{slot_more}
 use Rattle.pf_islands.proofs.splitting.active_count.Goals.{then-is_active_name, else-is_active_name}
 use Rattle.pf_islands.proofs.splitting.active_count.Goals as goal

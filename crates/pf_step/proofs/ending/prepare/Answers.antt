@@ -8,7 +8,6 @@ use Rattle.pf_islands.specs.Rows.{active_rows}
 use Rattle.pf_islands.specs.Sleep.{woken}
 use Rattle.pf_islands.specs.Split.{AreWoken, islands}
 use Rattle.pf_islands.proofs.Starting.{groups_long}
-use Rattle.pf_islands.proofs.Together.{groups_woken}
 use Rattle.pf_step.specs.Activity.{contacts_of_bodies, names_of_bodies}
 use Rattle.pf_step.specs.Step.{touching}
 use Rattle.pf_step.proofs.ending.prepare.Goals as goal
@@ -20,16 +19,11 @@ wake-requires c =
 
 pub split-requires-clause-woken : goal.split-requires-clause-woken
 split-requires-clause-woken c =
-    let s = c.args.scene.now in
-    let touches = c.touches-touches.result.now in
-    let lent = c.deref_mut.ensures.value in
-    let awake : c.deref.result.now ≡ woken c.in_ok-groups.groups c.deref_mut.result.now =
-    c.deref.ensures.value ∙ with_items_is c.args.bodies c.wake.new.bodies (c.wake.auto.bodies ∙ c.deref_mut.ensures.len)
-    ∙ c.wake.ensures.bodies in
-    let named = c.in_ok-groups.ensures.value in
-    subst (λ ns. AreWoken ns c.deref.result.now) (sym (c.wake.ensures.groups ∙ named))
-    (subst (AreWoken (groups s touches)) (sym (awake ∙ ap (λ ns. woken ns c.deref_mut.result.now) named))
-    (groups_woken s touches c.deref_mut.result.now (ap length lent ∙ c.requires.bodies)))
+    let now : c.deref.result.now ≡ c.wake.new.bodies =
+    c.deref.ensures.value ∙ with_items_is c.args.bodies c.wake.new.bodies (c.wake.auto.bodies ∙ c.deref_mut.ensures.len) in
+    subst (λ ns. AreWoken ns c.deref.result.now) (sym c.wake.ensures.groups)
+    (subst (AreWoken c.in_ok-groups.groups) (sym now)
+    (c.wake.ensures.woken c.args.scene.now c.touches-touches.result.now c.in_ok-groups.ensures.value))
 
 pub returns-clause-contacts : goal.returns-clause-contacts
 returns-clause-contacts c =

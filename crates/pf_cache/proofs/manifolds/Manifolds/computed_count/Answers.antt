@@ -1,6 +1,4 @@
-use Rattle.std.proofs.Common.{◌≡◌, ◌≤◌, ◌∙◌, All, ap, ap₂, arith, length, map, subst, sym}
-use Rattle.pf_shapes.specs.Pair.{IsPairOf}
-use Rattle.pf_shapes.specs.declared.scene.TheConstants.{MAX_BODIES}
+use Rattle.std.proofs.Common.{◌≡◌, ◌∙◌, ap, ap₂, map}
 use Rattle.pf_cache.specs.Manifolds.{computed_count, placed_shapes}
 use Rattle.pf_cache.specs.Spans.{Span, computed_count_by_flags, unmoved_flags}
 use Rattle.pf_cache.proofs.Keeping.{counted}

@@ -1,6 +1,10 @@
-use Rattle.std.proofs.Common.{◌∙◌, ap}
+use Rattle.std.proofs.Common.{◌≡◌, ◌∙◌, ap, length, subst, sym}
 use Rattle.pf_islands.specs.Marks.{woken_body}
 use Rattle.pf_islands.specs.Sleep.{is_active, woken}
+use Rattle.pf_islands.specs.Group.{groups}
+use Rattle.pf_islands.specs.Split.{AreWoken}
+use Rattle.pf_islands.proofs.Starting.{groups_long}
+use Rattle.pf_islands.proofs.Together.{groups_woken}
 use Rattle.pf_islands.proofs.Named.{changed_through, woken_is}
 use Rattle.pf_islands.proofs.groups.Groups.wake.Goals as goal
 
@@ -14,3 +18,12 @@ returns-clause-bodies c =
     (c.mark_active.auto.marks ∙ c.deref_mut.ensures.len) c.deref-2.ensures.value c.wake_marked.ensures in
     through.0 ∙ woken_is names c.mark_active.new.marks bodies c.self.invariant.named through.1
     ∙ ap (λ ns. woken ns bodies) c.self.view_is
+
+pub returns-clause-woken : goal.returns-clause-woken
+returns-clause-woken c = λ s touches named.
+    let bodies = c.args.bodies.now in
+    let long : length bodies ≡ length s.fixtures = c.requires ∙ ap length named ∙ groups_long s touches in
+    let awake : c.wake_marked.new.bodies ≡ woken (groups s touches) bodies =
+    returns-clause-bodies c ∙ ap (λ ns. woken ns bodies) named in
+    subst (λ ns. AreWoken ns c.wake_marked.new.bodies) (sym named)
+    (subst (AreWoken (groups s touches)) (sym awake) (groups_woken s touches bodies long))

@@ -1,7 +1,7 @@
-use Rattle.std.proofs.Common.{◌≡◌, ◌<◌, ◌+◌, ◌-◌, ◌∙◌, ℕ, List, suc, refl, sym, subst, ap, arith}
+use Rattle.std.proofs.Common.{◌≡◌, ◌+◌, ◌-◌, ◌∙◌, List, suc, refl, sym, subst, ap, arith}
 use Rattle.pf_islands.specs.Split.{Island}
 use Rattle.pf_step.specs.Calls.{FailsBy}
-use Rattle.pf_rollback.specs.Core.{HasSettled, missing_count}
+use Rattle.pf_rollback.specs.Core.{HasSettled}
 use Rattle.pf_rollback.specs.Kept.{settled_tick}
 use Rattle.pf_rollback.specs.Settling.{AreCalls, islands_at}
 use Rattle.pf_rollback.proofs.Cores.{no_calls, one_call_more, same_islands, settled_more, settled_none, settled_same}
