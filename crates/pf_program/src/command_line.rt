@@ -19,17 +19,22 @@ const ABOUT: &str = "An exact 2D physics core for rollback games";
 /// What the digits of a frame are called.
 const DIGITS: &str = "HEX";
 
+const DIGITS_HELP: &str = "The frame, 27 bytes as 54 hexadecimal digits";
+
 const FRAME_ABOUT: &str = "Prints the fields of one command's frame";
 
 const FRAME_HELP: &str = "\
-HEX is the 27 bytes of a frame as 54 hexadecimal digits, as the line `issue` of a run answers
-them. It prints tick, player and number of the command that they spell, and what it does:
+The reply to a line `issue` of a run holds such a frame. Printed are the tick, the player and the
+number of its command, and what it does:
 
   tick 0 player 0 number 0 push 0 16777216 0
   tick 0 player 0 number 1 turn 0 16777216
   tick 0 player 0 number 2 stop 0";
 
 const RUN_ABOUT: &str = "Answers a text on standard input, line by line";
+
+/// The usage in the help of `run` and in its errors: a stray word may be the name of a text.
+const RUN_USAGE: &str = "pf_play run < FILE";
 
 const RUN_HELP: &str = "\
 Standard input holds a scene, a line `peers N` with N from 1 to 8, and then events, a line
@@ -75,6 +80,7 @@ fn run_command<'a>(alloc: Global) -> Command<'a>
 {
     Command::new(alloc, "run")
         .about(RUN_ABOUT)
+        .override_usage(RUN_USAGE)
         .after_help(RUN_HELP)
 }
 
@@ -86,7 +92,7 @@ fn frame_command<'a>(alloc: Global) -> Result<Command<'a>, AllocError>
     Command::new(alloc, "frame")
         .about(FRAME_ABOUT)
         .after_help(FRAME_HELP)
-        .arg(Arg::new(alloc, DIGITS).required(true))
+        .arg(Arg::new(alloc, DIGITS).help(DIGITS_HELP).required(true))
 }
 
 /// The program's own words: its flags, and that a subcommand has to be there.

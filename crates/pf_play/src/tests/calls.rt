@@ -170,7 +170,7 @@ Options:
 const RUN_HELP: &str = "\
 Answers a text on standard input, line by line
 
-Usage: pf_play run
+Usage: pf_play run < FILE
 
 Options:
   -h, --help  Print help
@@ -183,12 +183,13 @@ Prints the fields of one command's frame
 Usage: pf_play frame <HEX>
 
 Arguments:
-  <HEX>  \n
+  <HEX>  The frame, 27 bytes as 54 hexadecimal digits
+
 Options:
   -h, --help  Print help
 
-HEX is the 27 bytes of a frame as 54 hexadecimal digits, as the line `issue` of a run answers
-them. It prints tick, player and number of the command that they spell, and what it does:
+The reply to a line `issue` of a run holds such a frame. Printed are the tick, the player and the
+number of its command, and what it does:
 
   tick 0 player 0 number 0 push 0 16777216 0
   tick 0 player 0 number 1 turn 0 16777216

@@ -11,7 +11,7 @@ const USAGE: &str = "\nUsage: pf_play <COMMAND>\n\nFor more information, try '--
 
 const FRAME_USAGE: &str = "\nUsage: pf_play frame <HEX>\n\nFor more information, try '--help'.\n";
 
-const RUN_USAGE: &str = "\nUsage: pf_play run\n\nFor more information, try '--help'.\n";
+const RUN_USAGE: &str = "\nUsage: pf_play run < FILE\n\nFor more information, try '--help'.\n";
 
 // The text of the mistake in these words; or an empty one, where they have none.
 fn mistake(alloc: Global, words: &[&str]) -> Result<String, AllocError> {
