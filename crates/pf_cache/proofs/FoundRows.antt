@@ -7,7 +7,7 @@ use Rattle.pf_manifold.specs.Key.{IsRising, Key, key_of, rank}
 use Rattle.pf_manifold.proofs.Rising.{rising-all}
 use Rattle.pf_cache.specs.Contact.{Impulses}
 use Rattle.pf_cache.specs.Row.{AreRows, Row, impulses_or}
-use Rattle.pf_cache.proofs.Ranked as ranked
+use Rattle.pf_cache.proofs.RankedLists as ranked
 
 abbrev pub row_rank : Row → ℕ
 row_rank r = rank (key_of r.entry.touch)

@@ -1,5 +1,5 @@
 -- The lemmas of this crate.
-pub mod Ranked
+pub mod RankedLists
 pub mod Places
 pub mod Walk
 pub mod Kept

@@ -9,7 +9,7 @@ use Rattle.pf_manifold.proofs.Rising.{rising-all}
 use Rattle.pf_cache.specs.Contact.{AreContacts, Contact, Impulses, no_contact}
 use Rattle.pf_cache.specs.Row.{AreRowsAt, Row, impulses_or, with_rows}
 use Rattle.pf_cache.proofs.FoundRows.{impulses_of, row_rank, rows_rise}
-use Rattle.pf_cache.proofs.Ranked as ranked
+use Rattle.pf_cache.proofs.RankedLists as ranked
 
 abbrev rank_of : Contact → ℕ
 rank_of c = rank c.key

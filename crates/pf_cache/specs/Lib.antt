@@ -1,4 +1,5 @@
 -- What the contracts of this crate cite.
+pub mod Ranked
 pub mod Contact
 pub mod Same
 pub mod SameLaws

@@ -1,12 +1,13 @@
 -- How kept contact points are stored: those of all pairs in one list, and for each pair where its
 -- points stand in that list.
-use Rattle.std.specs.Prelude.{◌≡◌, ℕ, ◌+◌, ◌≤◌, ◌==◌, Bool, true, false, not, ◌&&◌, Option, Some, None, List, [], ◌∷◌, length, map, All, count_by, get_or, take, drop, if◌then◌else◌}
+use Rattle.std.specs.Prelude.{◌≡◌, ℕ, ◌+◌, ◌≤◌, ◌==◌, Bool, true, false, not, ◌&&◌, Option, None, List, [], ◌∷◌, length, map, All, count_by, get_or, take, drop, if◌then◌else◌}
 use Rattle.std.specs.List.{flat_map, zip}
 use Rattle.pf_shapes.specs.Pair.{IsPairOf, Pair}
 use Rattle.pf_shapes.specs.declared.scene.TheConstants.{MAX_BODIES}
 use Rattle.pf_manifold.specs.Key.{AreTouches, IsRising, rank}
 use Rattle.pf_manifold.specs.PlacedShape.{PlacedShape}
 use Rattle.pf_manifold.specs.Touches.{Touch}
+use Rattle.pf_cache.specs.Ranked.{element_at}
 use Rattle.pf_cache.specs.Manifolds.{has_pair, points_of_pair, same_placed_shape}
 
 -- a pair, and where its points stand
@@ -25,8 +26,7 @@ span_points touches s = take s.len (drop s.start touches)
 
 -- the span of the pair of this rank, if there is one
 abbrev pub span_at : ℕ → List Span → Option Span
-span_at n [] = None
-span_at n (s ∷ spans) = if pair_rank s.pair == n then Some s else span_at n spans
+span_at n spans = element_at (λ s. pair_rank s.pair) n spans
 
 -- the span of a pair, if there is one, stands from this place on
 abbrev pub StandsFrom : List Span → ℕ → Pair → Type 0

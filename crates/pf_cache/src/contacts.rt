@@ -6,6 +6,7 @@ ghost use Rattle.pf_cache.specs.Contact.{AreContacts, impulses_at};
 ghost use Rattle.pf_cache.specs.Row.{AreRowsAt, with_rows};
 
 use crate::contact::{Contact, Impulses};
+use crate::ranked::{Ranked, find_from};
 use crate::row::Row;
 use pf_manifold::{Key, Touch};
 use std::alloc::{AllocError, Global};
@@ -29,66 +30,17 @@ impl Model for Contacts {
     ghost invariant = { λ c. AreContacts c.list.items };
 }
 
-/// A place from `start` on: from it no rank is below `least`, and look-ups of ranks from `least` on
-/// find what they did.
-#[tactic(auto, using(crate::proofs::Places::passed, crate::proofs::Places::all_reached, crate::proofs::Places::none_left))]
-fn first_from(contacts: &[Contact], start: usize, least: usize) -> usize
-    requires start { start ≤ length contacts.now }
-    requires contacts { AreContacts contacts.now }
-    ensures within { result ≤ length contacts.now }
-    ensures same { (n : ℕ) → least ≤ n
-        → impulses_at n (drop result contacts.now) ≡ impulses_at n (drop start contacts.now) }
-    ensures reached { All (λ c. least ≤ rank c.key) (drop result contacts.now) }
-{
-    let mut place = start;
-    while place < contacts.len() {
-        let contact = &contacts[place];
-        if contact.key.rank() >= least {
-            return place;
-        }
-        place += 1;
-    }
-    place
-}
+impl Ranked for Contact {
+    ghost use Rattle.pf_manifold.specs.Key.{IsKey, rank};
 
-/// The accumulated impulses of the contact of rank `wanted`, or none; and the place behind it, or
-/// `place`. No contact from `place` on is below that rank, so one look is enough. Look-ups of higher
-/// ranks find from the returned place what they find from `place`.
-#[inline]
-#[tactic(auto, using(crate::proofs::Places::found_here, crate::proofs::Places::found_other, crate::proofs::Places::found_nowhere, crate::proofs::Places::passed))]
-fn impulses_from(contacts: &[Contact], place: usize, wanted: usize) -> (Impulses, usize)
-    requires place { place ≤ length contacts.now }
-    requires contacts { AreContacts contacts.now }
-    requires reached { All (λ c. wanted ≤ rank c.key) (drop place contacts.now) }
-    ensures impulses { result.0 ≡ impulses_at wanted (drop place contacts.now) }
-    ensures within { result.1 ≤ length contacts.now }
-    ensures later { (n : ℕ) → wanted < n
-        → impulses_at n (drop result.1 contacts.now) ≡ impulses_at n (drop place contacts.now) }
-{
-    if place >= contacts.len() {
-        return (Impulses::NONE, place);
-    }
-    let contact = &contacts[place];
-    if contact.key.rank() == wanted {
-        (contact.impulses, place + 1)
-    } else {
-        (Impulses::NONE, place)
-    }
-}
+    ghost is_in_range = { λ c. IsKey c.key };
 
-/// The accumulated impulses of the contact of rank `wanted` from `start` on, or none; and a place
-/// from which look-ups of higher ranks find what they find from `start`.
-#[inline(never)]
-fn impulses_further(contacts: &[Contact], start: usize, wanted: usize) -> (Impulses, usize)
-    requires start { start ≤ length contacts.now }
-    requires contacts { AreContacts contacts.now }
-    ensures impulses { result.0 ≡ impulses_at wanted (drop start contacts.now) }
-    ensures within { result.1 ≤ length contacts.now }
-    ensures later { (n : ℕ) → wanted < n
-        → impulses_at n (drop result.1 contacts.now) ≡ impulses_at n (drop start contacts.now) }
-{
-    let place = first_from(contacts, start, wanted);
-    impulses_from(contacts, place, wanted)
+    ghost rank = { λ c. rank c.key };
+
+    #[inline]
+    fn rank(&self) -> usize {
+        self.key.rank()
+    }
 }
 
 /// The accumulated impulses of the contact of this key from `start` on, or none; and a place from
@@ -111,7 +63,11 @@ fn impulses_of(contacts: &[Contact], start: usize, key: &Key) -> (Impulses, usiz
             return (contact.impulses, start + 1);
         }
     }
-    impulses_further(contacts, start, key.rank())
+    let (found, behind) = find_from(contacts, start, key.rank());
+    match found {
+        Some(contact) => (contact.impulses, behind),
+        None => (Impulses::NONE, behind),
+    }
 }
 
 /// Gives the contact at the place of each row the accumulated impulses of the row.

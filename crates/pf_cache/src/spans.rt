@@ -7,6 +7,7 @@ ghost use Rattle.pf_manifold.specs.Key.{IsRising};
 ghost use Rattle.pf_cache.specs.Spans.{are_unmoved, pair_rank, span_at, span_if};
 
 use crate::kept_shape::are_unmoved;
+use crate::ranked::{Ranked, find_from};
 use pf_manifold::Key;
 use pf_shapes::Pair;
 use std::marker::Model;
@@ -46,7 +47,7 @@ impl Span {
 
 /// Pairs are in the order of their ranks: by the first body, then the second.
 #[inline]
-pub fn rank_of(pair: &Pair) -> usize
+fn rank_of(pair: &Pair) -> usize
     requires { IsPairOf MAX_BODIES pair.now }
     ensures { result ≡ pair_rank pair.now }
 {
@@ -58,69 +59,19 @@ pub fn rank_of(pair: &Pair) -> usize
     key.rank()
 }
 
-/// The first place from `start` on whose pair has a rank of at least `least`, or the end. Look-ups
-/// of such ranks from there find what they find from `start`.
-#[tactic(auto, using(crate::proofs::SpanPlaces::passed, crate::proofs::SpanPlaces::all_reached, crate::proofs::SpanPlaces::none_left, crate::proofs::SpanPlaces::span_bodies))]
-pub fn first_span_from(spans: &[Span], start: usize, least: usize) -> usize
-    requires start { start ≤ length spans.now }
-    requires rising { IsRising 0 (map (λ s. pair_rank s.pair) spans.now) }
-    requires bodies { All (λ s. IsPairOf MAX_BODIES s.pair) spans.now }
-    ensures within { result ≤ length spans.now }
-    ensures same { (n : ℕ) → least ≤ n
-        → span_at n (drop result spans.now) ≡ span_at n (drop start spans.now) }
-    ensures reached { All (λ s. least ≤ pair_rank s.pair) (drop result spans.now) }
-{
-    let mut place = start;
-    while place < spans.len() {
-        let span = spans[place];
-        if rank_of(&span.pair) >= least {
-            return place;
-        }
-        place += 1;
-    }
-    place
-}
+impl Ranked for Span {
+    ghost use Rattle.pf_shapes.specs.Pair.{IsPairOf};
+    ghost use Rattle.pf_shapes.specs.declared.scene.TheConstants.{MAX_BODIES};
+    ghost use Rattle.pf_cache.specs.Spans.{pair_rank};
 
-/// The span of the pair of rank `wanted`, if there is one, and the place behind it, or `place`. From
-/// `place` on no rank is below it, so one look is enough. Look-ups of higher ranks find from the
-/// returned place what they find from `place`.
-#[inline]
-#[tactic(auto, using(crate::proofs::SpanPlaces::found_here, crate::proofs::SpanPlaces::found_other, crate::proofs::SpanPlaces::found_nowhere, crate::proofs::SpanPlaces::passed, crate::proofs::SpanPlaces::span_bodies))]
-fn span_from(spans: &[Span], place: usize, wanted: usize) -> (Option<Span>, usize)
-    requires place { place ≤ length spans.now }
-    requires rising { IsRising 0 (map (λ s. pair_rank s.pair) spans.now) }
-    requires bodies { All (λ s. IsPairOf MAX_BODIES s.pair) spans.now }
-    requires reached { All (λ s. wanted ≤ pair_rank s.pair) (drop place spans.now) }
-    ensures span { result.0 ≡ span_at wanted (drop place spans.now) }
-    ensures within { result.1 ≤ length spans.now }
-    ensures later { (n : ℕ) → wanted < n
-        → span_at n (drop result.1 spans.now) ≡ span_at n (drop place spans.now) }
-{
-    if place >= spans.len() {
-        return (None, place);
-    }
-    let span = spans[place];
-    if rank_of(&span.pair) == wanted {
-        (Some(span), place + 1)
-    } else {
-        (None, place)
-    }
-}
+    ghost is_in_range = { λ s. IsPairOf MAX_BODIES s.pair };
 
-/// The span of the pair of rank `wanted` from `start` on, if there is one; and a place from which
-/// look-ups of higher ranks find what they find from `start`.
-#[inline(never)]
-fn span_further(spans: &[Span], start: usize, wanted: usize) -> (Option<Span>, usize)
-    requires start { start ≤ length spans.now }
-    requires rising { IsRising 0 (map (λ s. pair_rank s.pair) spans.now) }
-    requires bodies { All (λ s. IsPairOf MAX_BODIES s.pair) spans.now }
-    ensures span { result.0 ≡ span_at wanted (drop start spans.now) }
-    ensures within { result.1 ≤ length spans.now }
-    ensures later { (n : ℕ) → wanted < n
-        → span_at n (drop result.1 spans.now) ≡ span_at n (drop start spans.now) }
-{
-    let place = first_span_from(spans, start, wanted);
-    span_from(spans, place, wanted)
+    ghost rank = { λ s. pair_rank s.pair };
+
+    #[inline]
+    fn rank(&self) -> usize {
+        rank_of(&self.pair)
+    }
 }
 
 /// The span of a pair from `start` on, if there is one; and a place from which look-ups of higher
@@ -143,7 +94,8 @@ pub fn span_of(spans: &[Span], start: usize, pair: &Pair) -> (Option<Span>, usiz
             return (Some(span), start + 1);
         }
     }
-    span_further(spans, start, rank_of(pair))
+    let (span, behind) = find_from(spans, start, rank_of(pair));
+    (span.copied(), behind)
 }
 
 /// The span of a pair, where both bodies are unmoved.

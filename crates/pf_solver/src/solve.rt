@@ -127,11 +127,13 @@ fn move_on(bodies: &mut [BodyState])
 fn solve_untouched_body(pull: V2, body: &mut BodyState)
     ensures { body.new ≡ body_after_tick pull body.old }
 {
-    fall_if_awake(pull, body);
-    move_if_awake(body);
-    if body.awake && body.timer == STILL_TICKS {
-        fall_asleep(body);
+    let mut after = *body;
+    fall_if_awake(pull, &mut after);
+    move_if_awake(&mut after);
+    if after.awake && after.timer == STILL_TICKS {
+        fall_asleep(&mut after);
     }
+    *body = after;
 }
 
 /// The phases Gravity to Sleep of bodies that no contact touches, one body after the other: each body
