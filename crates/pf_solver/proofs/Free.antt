@@ -13,7 +13,7 @@ use Rattle.pf_solver.specs.Velocities.{Batch, pass}
 use Rattle.pf_solver.proofs.Passes.{passes_nothing}
 
 -- gravity wakes no body, and lets none sleep
-pub both_phases : (pull : V2) (b : BodyState)
+both_phases : (pull : V2) (b : BodyState)
     → (if (if b.awake then after_gravity pull b else b).awake
     then after_timer (after_motion (if b.awake then after_gravity pull b else b))
     else (if b.awake then after_gravity pull b else b))

@@ -121,19 +121,28 @@ fn move_on(bodies: &mut [BodyState])
     }
 }
 
+/// The phases Gravity to Timers of a body that no contact touches, if it is awake. In one expression
+/// the body stays in registers.
+#[inline(always)]
+fn move_freely(pull: V2, body: &mut BodyState)
+    ensures { body.new ≡ (if body.old.awake
+        then after_timer (after_motion (after_gravity pull body.old)) else body.old) }
+{
+    if body.awake {
+        *body = after_timer(after_motion(after_gravity(pull, *body)));
+    }
+}
+
 /// The phases Gravity to Sleep of a body that no contact touches.
 #[inline(always)]
-#[tactic(auto, unfolding(crate::specs::Alone::body_after_tick), using(crate::proofs::Free::both_phases))]
+#[tactic(auto, unfolding(crate::specs::Alone::body_after_tick))]
 fn solve_untouched_body(pull: V2, body: &mut BodyState)
     ensures { body.new ≡ body_after_tick pull body.old }
 {
-    let mut after = *body;
-    fall_if_awake(pull, &mut after);
-    move_if_awake(&mut after);
-    if after.awake && after.timer == STILL_TICKS {
-        fall_asleep(&mut after);
+    move_freely(pull, body);
+    if body.awake && body.timer == STILL_TICKS {
+        fall_asleep(body);
     }
-    *body = after;
 }
 
 /// The phases Gravity to Sleep of bodies that no contact touches, one body after the other: each body
