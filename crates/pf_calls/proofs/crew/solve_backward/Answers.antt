@@ -1,8 +1,8 @@
 use Rattle.std.proofs.Common.{◌≡◌, ◌∙◌, ◌+◌, ◌-◌, ◌++◌, ◌<◌, ℕ, ap, arith, drop, get_or, length, map, set, subst, sym, take}
 use Rattle.pf_islands.specs.Split.{IsIslandOf, Island}
 use Rattle.pf_solver.specs.Alone.{island_after_tick}
-use Rattle.pf_step_tests.proofs.Backward.{same_before, solved_before}
-use Rattle.pf_step_tests.proofs.crews.solve_backward.Goals as goal
+use Rattle.pf_calls.proofs.Backward.{same_before, solved_before}
+use Rattle.pf_calls.proofs.crew.solve_backward.Goals as goal
 
 pub solve_in_place-requires : goal.solve_in_place-requires
 solve_in_place-requires c =

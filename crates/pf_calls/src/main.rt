@@ -1,0 +1,104 @@
+//! Runs lists of calls on peers, and prints what each returned and what the peer has counted.
+//!
+//! Standard input holds texts, each but the last with `# next text` as its last line. A text is a
+//! scene and then lines of calls, of which the second word is the number of a peer: the next number,
+//! for `new`.
+//!
+//! | line | call |
+//! |---|---|
+//! | `new N PLAYER RING` | a peer of this player that keeps so many settled worlds |
+//! | `advance N TICKS`, `take N HEX`, `merge N OTHER` | as in the texts of `pf_play run` |
+//! | `issue N push BODY X Y`, `turn BODY X` or `stop BODY` | a command of its own |
+//! | `settle N` | settles on one thread |
+//! | `crew N` | settles with a crew, and prints what the crew was given |
+//! | `crew N NTH ERROR` | the same by a crew that fails in this solve, `OutOfMemory` or another |
+//! | `world N TICK` | the world at the tick, and how many ticks were simulated for it |
+//!
+//! After each call stands a line `state N PLAYER BODIES COMMANDS REACHED SETTLED TICKS COLLIDES`:
+//! the last two are the counts of the peer's meter. A line that begins with `#` is printed as it
+//! is. The stored run has worked cases, with values by an independent program.
+#![tactic(auto)]
+
+mod call;
+mod crew;
+mod peers;
+mod print;
+
+ghost use Rattle.std.specs.Prelude.{◌+◌, ◌<◌, length, IfSome};
+
+use crate::call::parse;
+use crate::peers::answer;
+use crate::print::state_text;
+use anyhow::{Context, Result};
+use memchr::memmem;
+use pf_rollback::PeerCore;
+use pf_shapes::Scene;
+use std::alloc::Global;
+use std::io::{BufWriter, Read, Write};
+use std::thread::Threads;
+
+/// The last line of a text that another one follows.
+const SEPARATOR: &[u8] = b"# next text\n";
+
+/// The last line of a scene.
+const END: &[u8] = b"\nend\n";
+
+/// A text up to the first mark, with the mark, and what is behind it.
+fn split_behind<'a>(text: &'a [u8], mark: &[u8]) -> Option<(&'a [u8], &'a [u8])>
+    requires { 0 < length mark.now }
+    ensures { IfSome result (λ parts. length parts.1.now < length text.now) }
+{
+    let end = memmem::find(text, mark)? + mark.len();
+    Some((&text[..end], &text[end..]))
+}
+
+/// Runs the call of a line, and prints its answer and the state of its peer.
+fn run_line<R: Threads + Sync, W: Write>(
+    rt: &R,
+    alloc: Global,
+    scene: &Scene,
+    peers: &mut Vec<PeerCore>,
+    line: &str,
+    writer: &mut W,
+) -> Result<()> {
+    let (number, call) = parse(alloc, line)?;
+    let text = answer(rt, alloc, scene, peers, number, &call)?;
+    let state = state_text(alloc, number, peers.get(number).context("no such peer")?)?;
+    writeln!(writer, "{text}\n{state}")?;
+    Ok(())
+}
+
+/// Runs the calls of a text.
+fn run<R: Threads + Sync, W: Write>(
+    rt: &R,
+    alloc: Global,
+    text: &[u8],
+    writer: &mut W,
+) -> Result<()> {
+    let (scene, calls) = split_behind(text, END).context("no end of the scene")?;
+    let scene = Scene::read(alloc, scene)?;
+    let mut peers = Vec::new(alloc);
+    for line in str::from_utf8(calls).context("calls are text")?.lines() {
+        if line.starts_with('#') {
+            writeln!(writer, "{line}")?;
+        } else {
+            run_line(rt, alloc, &scene, &mut peers, line, writer)?;
+        }
+    }
+    Ok(())
+}
+
+fn main(rt: HostRuntime) -> Result<()> {
+    let alloc = rt.alloc();
+    let mut texts = Vec::new(alloc);
+    rt.stdin().read_to_end(&mut texts)?;
+    let mut writer = BufWriter::new(alloc, std::io::writer(&rt))?;
+    let mut rest = texts.as_slice();
+    while let Some((text, others)) = split_behind(rest, SEPARATOR) {
+        run(&rt, alloc, text, &mut writer)?;
+        rest = others;
+    }
+    run(&rt, alloc, rest, &mut writer)?;
+    writer.flush()?;
+    Ok(())
+}
