@@ -30,15 +30,16 @@ fn add(
     Ok(())
 }
 
-/// Makes the next peer.
+/// Makes the next peer, which has this number.
 fn new(
     alloc: Global,
     scene: &Scene,
     peers: &mut Vec<PeerCore>,
+    number: usize,
     player: u8,
     ring: usize,
 ) -> Result<String> {
-    if player >= PLAYERS || ring == 0 || ring > MAX_RING {
+    if number != peers.len() || player >= PLAYERS || ring == 0 || ring > MAX_RING {
         bail!("no such peer");
     }
     add(alloc, scene, peers, player, ring)?;
@@ -150,7 +151,7 @@ pub fn answer<R: Threads + Sync>(
     call: &Call,
 ) -> Result<String> {
     match call {
-        Call::New { player, ring } => new(alloc, scene, peers, *player, *ring),
+        Call::New { player, ring } => new(alloc, scene, peers, number, *player, *ring),
         Call::Merge { other } => merge(alloc, peers, number, *other),
         Call::Advance { ticks } => advance(alloc, peer_of(peers, number)?, *ticks),
         Call::Issue { payload } => issue(alloc, peer_of(peers, number)?, *payload),

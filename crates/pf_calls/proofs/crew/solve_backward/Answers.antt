@@ -1,4 +1,4 @@
-use Rattle.std.proofs.Common.{◌≡◌, ◌∙◌, ◌+◌, ◌-◌, ◌++◌, ◌<◌, ℕ, ap, arith, drop, get_or, length, map, set, subst, sym, take}
+use Rattle.std.proofs.Common.{◌≡◌, ◌∙◌, ◌+◌, ◌-◌, ◌++◌, ◌<◌, ℕ, ap, arith, drop, length, map, subst, sym, take}
 use Rattle.pf_islands.specs.Split.{IsIslandOf, Island}
 use Rattle.pf_solver.specs.Alone.{island_after_tick}
 use Rattle.pf_calls.proofs.Backward.{same_before, solved_before}
