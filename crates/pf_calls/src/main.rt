@@ -4,15 +4,22 @@
 //! scene and then lines of calls, of which the second word is the number of a peer: the next number,
 //! for `new`.
 //!
-//! | line | call |
-//! |---|---|
-//! | `new N PLAYER RING` | a peer of this player that keeps so many settled worlds |
-//! | `advance N TICKS`, `take N HEX`, `merge N OTHER` | as in the texts of `pf_play run` |
-//! | `issue N push BODY X Y`, `turn BODY X` or `stop BODY` | a command of its own |
-//! | `settle N` | settles on one thread |
-//! | `crew N` | settles with a crew, and prints what the crew was given |
-//! | `crew N NTH ERROR` | the same by a crew that fails in this solve, `OutOfMemory` or another |
-//! | `world N TICK` | the world at the tick, and how many ticks were simulated for it |
+//! | line | call | printed |
+//! |---|---|---|
+//! | `new N PLAYER RING` | a peer that keeps so many settled worlds | `new PLAYER RING` |
+//! | `advance N TICKS` | goes on | `advance REACHED` |
+//! | `issue N push BODY X Y`, `turn BODY X`, `stop BODY` | issues a command | `issue FRAME` |
+//! | `take N FRAME` | takes a frame | `take new`, `same`, `greater` or `lesser` |
+//! | `merge N OTHER` | merges another peer's commands | `merge COUNT` |
+//! | `settle N` | settles on one thread | `settle REACHED` |
+//! | `crew N` | settles with a crew | `crew REACHED calls CALLS SEEN` |
+//! | `crew N NTH ERROR` | the same; this solve of the crew fails | `crew ERROR calls CALLS` |
+//! | `world N TICK` | the world at a tick | `world TICKS`, its bodies and its contacts |
+//!
+//! SEEN is what the crew was last given: the number of islands, of their bodies and of their
+//! contacts, and the least body. TICKS is how many ticks were simulated for the world. Lines of
+//! bodies are as `pf_play` shows them, and a line `contacts COUNT NORMAL TANGENT` has the sums of
+//! what contacts have accumulated. A call that is rejected prints `refused` and why.
 //!
 //! After each call stands a line `state N PLAYER BODIES COMMANDS REACHED SETTLED TICKS COLLIDES`:
 //! the last two are the counts of the peer's meter. A line that begins with `#` is printed as it
