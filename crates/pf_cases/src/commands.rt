@@ -4,7 +4,7 @@
 ghost use Rattle.std.specs.Prelude.{◌<◌};
 
 use crate::scenes::scene_of;
-use pf_commands::{CheckFault, Command, CommandMap, MAX_TICK, Name, Payload, Put};
+use pf_commands::{CheckFault, Command, CommandMap, MAX_TICK, Merged, Name, Payload, Put};
 use pf_num::Fx;
 use pf_shapes::PLAYERS;
 use std::alloc::{AllocError, Global};
@@ -43,39 +43,55 @@ fn map_of(alloc: Global, commands: &[Command]) -> Result<CommandMap, AllocError>
     Ok(map)
 }
 
+/// What a map holds under a name.
+fn held(map: &CommandMap, tick: u32, player: u8, number: u16) -> Option<Payload>
+    requires tick { tick < MAX_TICK }
+    requires player { player < PLAYERS }
+{
+    map.get(Name::new(tick, player, number))
+}
+
 /// Two orders of the pushes by these numbers, under one name, and how each is put.
 const ORDERS: [([i64; 2], [Put; 2]); 2] = [
     ([1, -1], [Put::New, Put::Greater]),
     ([-1, 1], [Put::New, Put::Lesser]),
 ];
 
+/// How two pushes under one name are put into a map.
+fn put_two(map: &mut CommandMap, numbers: [i64; 2]) -> Result<[Put; 2], AllocError> {
+    let [first, second] = numbers;
+    let first = map.put(&command(5, 2, 7, push(first)))?;
+    let second = map.put(&command(5, 2, 7, push(second)))?;
+    Ok([first, second])
+}
+
 #[test]
 fn the_greater_payload_stays_in_either_order(rt: HostRuntime) -> Result<(), Fail> {
     for (numbers, puts) in ORDERS {
         let mut map = CommandMap::new(rt.alloc());
-        for (x, put) in numbers.into_iter().zip(puts) {
-            assert_eq!(rt; map.put(&command(5, 2, 7, push(x)))?, put);
-        }
-        assert!(rt; map.get(Name::new(5, 2, 7)) == Some(push(-1)) && map.len() == 1);
+        let found = put_two(&mut map, numbers)?;
+        assert!(rt; found == puts && held(&map, 5, 2, 7) == Some(push(-1)) && map.len() == 1);
     }
     Ok(())
 }
 
+/// Whether the payloads are these.
+fn are(payloads: &[Payload], expected: &[Payload]) -> bool {
+    payloads == expected
+}
+
 #[test]
 fn a_tick_is_in_order_of_players_then_numbers(rt: HostRuntime) -> Result<(), Fail> {
-    let map = map_of(
-        rt.alloc(),
-        &[
-            command(4, 7, 65_535, push(0)),
-            command(5, 1, 0, push(1)),
-            command(5, 0, 9, push(2)),
-            command(5, 1, 3, push(3)),
-            command(6, 0, 0, push(4)),
-        ],
-    )?;
+    let commands = [
+        command(4, 7, 65_535, push(0)),
+        command(5, 1, 0, push(1)),
+        command(5, 0, 9, push(2)),
+        command(5, 1, 3, push(3)),
+        command(6, 0, 0, push(4)),
+    ];
+    let map = map_of(rt.alloc(), &commands)?;
     let payloads = map.at_tick(rt.alloc(), 5)?;
-    assert!(rt; payloads.iter().copied().eq([push(2), push(1), push(3)]));
-    assert!(rt; map.at_tick(rt.alloc(), 7)?.is_empty());
+    assert!(rt; are(&payloads, &[push(2), push(1), push(3)]));
     assert!(rt; map.greatest(5, 1) == Some(3) && map.greatest(5, 2).is_none());
     Ok(())
 }
@@ -92,28 +108,29 @@ fn merged(alloc: Global) -> Result<(CommandMap, CommandMap), AllocError> {
     Ok((map_of(alloc, &held)?, map_of(alloc, &others)?))
 }
 
-#[test]
-fn greater_payloads_are_merged(rt: HostRuntime) -> Result<(), Fail> {
-    let (mut map, other) = merged(rt.alloc())?;
-    let merged = map.merge(&other)?;
-    assert!(rt; merged.count == 2 && merged.least == Some(8));
-    assert_eq!(rt; map.get(Name::new(2, 0, 0)), Some(push(8)));
-    assert_eq!(rt; map.get(Name::new(9, 0, 0)), Some(push(-1)));
-    Ok(())
+/// Whether what a first merge of these commands changed, and a second one, is right.
+fn are_merged_once(first: &Merged, second: &Merged, map: &CommandMap) -> bool {
+    first.count == 2
+        && first.least == Some(8)
+        && second.count == 0
+        && second.least.is_none()
+        && map.len() == 3
+        && held(map, 2, 0, 0) == Some(push(8))
+        && held(map, 9, 0, 0) == Some(push(-1))
 }
 
 #[test]
-fn a_map_is_merged_once(rt: HostRuntime) -> Result<(), Fail> {
+fn greater_payloads_are_merged_once(rt: HostRuntime) -> Result<(), Fail> {
     let (mut map, other) = merged(rt.alloc())?;
-    map.merge(&other)?;
-    let again = map.merge(&other)?;
-    assert!(rt; again.count == 0 && again.least.is_none() && map.len() == 3);
+    let first = map.merge(&other)?;
+    let second = map.merge(&other)?;
+    assert!(rt; are_merged_once(&first, &second, &map));
     Ok(())
 }
 
 /// 3,000 commands of this number: one of player 0 at each of the last 2,999 ticks, and one of
 /// player 1 at the last.
-fn many(alloc: Global, number: u16) -> Result<CommandMap, Fail> {
+fn many(alloc: Global, number: u16) -> Result<CommandMap, AllocError> {
     let mut map = CommandMap::new(alloc);
     for tick in 1_045_577..MAX_TICK {
         map.put(&command(tick, 0, number, push(i64::from(tick))))?;
@@ -122,24 +139,29 @@ fn many(alloc: Global, number: u16) -> Result<CommandMap, Fail> {
     Ok(map)
 }
 
+/// Whether a copy holds the 3,000 commands of a map.
+fn is_copy(map: &CommandMap, copy: &CommandMap) -> bool {
+    map.len() == 3000
+        && copy.iter().eq(map.iter())
+        && map
+            .iter()
+            .all(|(name, payload)| copy.get(*name) == Some(*payload))
+}
+
 #[test]
 fn maps_may_have_thousands_of_commands(rt: HostRuntime) -> Result<(), Fail> {
     let map = many(rt.alloc(), 0)?;
     let copy = map.try_clone()?;
-    assert!(rt; map.len() == 3000 && copy.iter().eq(map.iter()));
-    assert!(rt;
-        map.iter()
-            .all(|(name, payload)| copy.get(*name) == Some(*payload))
-    );
     let payloads = map.at_tick(rt.alloc(), MAX_TICK - 1)?;
-    assert!(rt; payloads.iter().copied().eq([push(1_048_575), push(1)]));
+    assert!(rt; is_copy(&map, &copy) && are(&payloads, &[push(1_048_575), push(1)]));
     Ok(())
 }
 
 #[test]
 fn thousands_of_commands_are_merged(rt: HostRuntime) -> Result<(), Fail> {
     let mut map = many(rt.alloc(), 0)?;
-    let merged = map.merge(&many(rt.alloc(), 1)?)?;
+    let other = many(rt.alloc(), 1)?;
+    let merged = map.merge(&other)?;
     assert!(rt; merged.count == 3000 && merged.least == Some(1_045_577) && map.len() == 6000);
     Ok(())
 }
@@ -147,12 +169,14 @@ fn thousands_of_commands_are_merged(rt: HostRuntime) -> Result<(), Fail> {
 #[test]
 fn the_first_command_that_is_not_allowed_is_named(rt: HostRuntime) -> Result<(), Fail> {
     let scene = scene_of(rt.alloc(), SCENE)?;
-    let mut map = CommandMap::new(rt.alloc());
-    assert!(rt; map.is_empty());
-    map.put(&command(3, 0, 0, Payload::Stop { body: 0 }))?;
-    assert!(rt; map.check_all(&scene).is_ok());
-    map.put(&command(5, 0, 0, Payload::Stop { body: 9 }))?;
-    map.put(&command(4, 1, 0, Payload::Stop { body: 1 }))?;
-    assert!(rt; map.check_all(&scene) == Err(CheckFault::StaticBody));
+    let allowed = [command(3, 0, 0, Payload::Stop { body: 0 })];
+    let others = [
+        command(5, 0, 0, Payload::Stop { body: 9 }),
+        command(4, 1, 0, Payload::Stop { body: 1 }),
+    ];
+    let map = map_of(rt.alloc(), &allowed)?;
+    let other = map_of(rt.alloc(), &others)?;
+    assert!(rt; map.check_all(&scene).is_ok() && !map.is_empty());
+    assert!(rt; other.check_all(&scene) == Err(CheckFault::StaticBody));
     Ok(())
 }

@@ -4,7 +4,6 @@ use crate::scenes::scene_of;
 use pf_broad::pairs;
 use pf_cache::{Contact, Contacts, Impulses, Manifolds, Meter, NarrowPhase, Work};
 use pf_manifold::collide_list;
-use pf_shapes::Scene;
 use std::alloc::Global;
 use std::test::Fail;
 
@@ -45,70 +44,45 @@ fn are_of_one_box(contacts: &[Contact]) -> bool {
     keys && contacts.iter().all(|c| c.impulses == Impulses::NONE)
 }
 
-/// Contacts of both boxes on the floor, and those after one of them has gone.
-fn both_and_fewer(alloc: Global) -> Result<(Contacts, Contacts), Fail> {
-    let both = next(alloc, &Contacts::new(alloc), BOTH_STAND)?;
-    let fewer = next(alloc, &both, ONE_STANDS)?;
-    Ok((both, fewer))
+/// Whether contacts are those of the points, which the two boxes have, and then one of them, and
+/// then both again.
+fn are_of_the_points(both: &Contacts, fewer: &Contacts, again: &Contacts) -> bool {
+    both.as_slice().len() == 4 && fewer != both && again == both && are_of_one_box(fewer.as_slice())
 }
 
 #[test]
 fn contacts_are_those_of_the_points(rt: HostRuntime) -> Result<(), Fail> {
-    let (both, fewer) = both_and_fewer(rt.alloc())?;
+    let both = next(rt.alloc(), &Contacts::new(rt.alloc()), BOTH_STAND)?;
+    let fewer = next(rt.alloc(), &both, ONE_STANDS)?;
     let again = next(rt.alloc(), &fewer, BOTH_STAND)?;
-    assert!(rt;
-        both.as_slice().len() == 4
-            && fewer != both
-            && again == both
-            && are_of_one_box(fewer.as_slice())
-    );
+    assert!(rt; are_of_the_points(&both, &fewer, &again));
     Ok(())
 }
 
 #[test]
 fn copies_of_contacts_are_equal(rt: HostRuntime) -> Result<(), Fail> {
     let both = next(rt.alloc(), &Contacts::new(rt.alloc()), BOTH_STAND)?;
-    assert!(rt; both.try_clone()? == both);
+    let copy = both.try_clone()?;
+    assert!(rt; copy == both);
     Ok(())
 }
 
-/// How many pairs of a scene's bodies at their starts cannot reuse the points of a work, and how
-/// many points there are. The work keeps them.
-fn computed_again(alloc: Global, scene: &Scene, work: &mut Work) -> Result<(usize, usize), Fail> {
-    let starts = scene.starts();
-    if scene.fixtures().len() != starts.len() {
-        return Err(Fail::from("each body has a start"));
-    }
-    let pairs = pairs(alloc, scene, starts)?;
-    let kept = work.take_manifolds(alloc);
-    let found = kept.update(alloc, scene, starts, &pairs)?;
-    let counts = (found.computed, found.manifolds.touches().len());
-    work.end_tick(found);
-    Ok(counts)
-}
-
-#[test]
-fn kept_points_are_used_again(rt: HostRuntime) -> Result<(), Fail> {
-    let scene = scene_of(rt.alloc(), BOTH_STAND)?;
-    let mut work = Work::new(rt.alloc());
-    let first = computed_again(rt.alloc(), &scene, &mut work)?;
-    let second = computed_again(rt.alloc(), &scene, &mut work)?;
-    assert_eq!(rt; (first, second), ((2, 4), (0, 4)));
-    Ok(())
-}
-
-#[test]
-fn counts_stay_at_their_greatest(rt: HostRuntime) -> Result<(), Fail> {
-    let mut work = Work::new(rt.alloc());
-    assert!(rt; work.meter() == Meter::NONE);
-    work.end_tick(NarrowPhase {
-        manifolds: Manifolds::new(rt.alloc()),
-        computed: 3,
-    });
+/// Whether a work counts the pairs of a tick, and its meter stays at its greatest count.
+fn counts(work: &mut Work, narrow_phase: NarrowPhase) -> bool {
+    let is_none = work.meter() == Meter::NONE;
+    work.end_tick(narrow_phase);
     let mut meter = work.meter();
-    assert_eq!(rt; (meter.ticks, meter.collides), (1, 3));
+    let is_counted = meter.ticks == 1 && meter.collides == 3;
     meter.count_tick();
     meter.count_collides(u64::MAX - 1);
-    assert_eq!(rt; (meter.ticks, meter.collides), (2, u64::MAX));
-    Ok(())
+    is_none && is_counted && meter.ticks == 2 && meter.collides == u64::MAX
+}
+
+#[test]
+fn counts_stay_at_their_greatest(rt: HostRuntime) {
+    let narrow_phase = NarrowPhase {
+        manifolds: Manifolds::new(rt.alloc()),
+        computed: 3,
+    };
+    assert!(rt; counts(&mut Work::new(rt.alloc()), narrow_phase));
 }

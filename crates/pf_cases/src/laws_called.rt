@@ -125,12 +125,15 @@ fn laws_of_peers(_rt: HostRuntime) {
     laws::dropping_keeps_earlier_ticks();
     laws::settling_goes_on_tick_by_tick();
     laws::counts_are_saturated_sums();
+    laws::last_ticks_are_greatest();
+    laws::named_limits();
     sessions::shown_worlds_are_simulated();
     sessions::settles_change_no_reply();
     sessions::repeats_change_no_reply();
     sessions::merging_both_ways_makes_maps_equal();
     sessions::same_commands_show_one_world();
     sessions::refused_events_change_nothing();
+    sessions::named_limits();
     sessions::same_commands_same_replies();
     sessions::order_and_repeats_do_not_matter();
 }

@@ -1,7 +1,8 @@
-//! Pairs of bodies that may touch, and their contact points, by hand.
+//! Pairs of bodies that may touch, their contact points, and the cells in which bodies lie, by hand.
+//! The side of a cell is 67108864.
 
 use crate::scenes::scene_of;
-use pf_broad::pairs;
+use pf_broad::{CELL_SIDE, Cell, Grid, MAX_CELLS, pairs};
 use pf_manifold::{Manifold, Touch, collide_list, replace_points};
 use pf_shapes::Pair;
 use std::alloc::Global;
@@ -44,6 +45,79 @@ circle - 16777216 0 16777216 33554435 0
 end
 ";
 
+/// Circles of radius 1 whose bounds touch on the borders of cells: the first two at the lower
+/// border of column 1, the next two at that of column -1, and the last two at that of row -1.
+const BORDERS: &[u8] = b"gravity 0 0
+circle - 16777216 0 16777216 50331647 0
+circle - 16777216 0 16777216 83886081 0
+circle - 16777216 0 16777216 -83886081 0
+circle - 16777216 0 16777216 -50331647 0
+circle - 16777216 0 16777216 0 -83886081
+circle - 16777216 0 16777216 0 -50331647
+end
+";
+
+/// Two circles near 2^40 on both axes and two near -2^40, each with bounds that touch those of the
+/// other, and a circle at the origin.
+const FAR: &[u8] = b"gravity 0 0
+circle - 16777216 0 16777216 1099511627776 1099511627776
+circle - 16777216 0 16777216 -1099511627776 -1099511627776
+circle - 16777216 0 16777216 1099545182210 1099511627776
+circle - 16777216 0 16777216 -1099511627776 -1099545182210
+circle - 16777216 0 16777216 0 0
+end
+";
+
+/// A wide floor, a box whose bounds lie in 16 cells, a circle, and a box of 17 columns.
+const WIDE: &[u8] = b"gravity 0 0
+box - 0 0 17179869184 16777216 0 0 16777216 0
+box - 16777216 0 117440512 117440512 134217728 134217728 16777216 0
+circle - 16777216 0 16777216 33554432 33554432
+box - 16777216 0 553648128 16777216 570425344 33554432 16777216 0
+end
+";
+
+/// A scene, the pairs of its bodies at their starts, and the bodies and features of their contact
+/// points.
+type Case = (
+    &'static [u8],
+    &'static [(usize, usize)],
+    &'static [(u16, u16, u32)],
+);
+
+const CASES: [Case; 7] = [
+    // Box and circle stand on the floor. Of one another they touch the bounds alone.
+    (
+        TOUCHING,
+        &[(0, 1), (0, 2), (1, 2)],
+        &[(0, 1, 28), (0, 1, 29), (0, 2, 133)],
+    ),
+    (
+        APART,
+        &[(0, 1), (0, 2)],
+        &[(0, 1, 28), (0, 1, 29), (0, 2, 133)],
+    ),
+    (ROW, &[(0, 1), (1, 2), (2, 3), (3, 4), (4, 5)], &[]),
+    (STACKED, &[(0, 1), (1, 2)], &[(0, 1, 0), (1, 2, 0)]),
+    (BORDERS, &[(0, 1), (2, 3), (4, 5)], &[]),
+    (FAR, &[(0, 2), (1, 3)], &[]),
+    (
+        WIDE,
+        &[(0, 1), (0, 2), (0, 3), (1, 2), (1, 3), (2, 3)],
+        &[
+            (0, 1, 28),
+            (0, 1, 29),
+            (0, 2, 133),
+            (0, 3, 28),
+            (0, 3, 29),
+            (1, 2, 142),
+            (1, 3, 53),
+            (1, 3, 55),
+            (2, 3, 141),
+        ],
+    ),
+];
+
 /// The pairs of a scene's bodies at their starts, and their contact points.
 fn found(alloc: Global, text: &[u8]) -> Result<(Vec<Pair>, Vec<Touch>), Fail> {
     let scene = scene_of(alloc, text)?;
@@ -61,80 +135,77 @@ fn key(touch: &Touch) -> (u16, u16, u32) {
     (touch.a, touch.b, touch.point.feature)
 }
 
+/// Whether the contact points are these.
+fn are_at(touches: &[Touch], keys: &[(u16, u16, u32)]) -> bool {
+    touches.iter().map(key).eq(keys.iter().copied())
+}
+
+/// Whether the pairs are these.
+fn are_of(pairs: &[Pair], numbers: &[(usize, usize)]) -> bool {
+    pairs
+        .iter()
+        .map(|pair| (pair.a, pair.b))
+        .eq(numbers.iter().copied())
+}
+
 #[test]
-fn bounds_that_touch_are_pairs(rt: HostRuntime) -> Result<(), Fail> {
-    let (pairs, touches) = found(rt.alloc(), TOUCHING)?;
-    assert!(rt;
-        pairs
-            .iter()
-            .map(|pair| (pair.a, pair.b))
-            .eq([(0, 1), (0, 2), (1, 2)])
-    );
-    // Box and circle stand on the floor. Of one another they touch the bounds alone.
-    assert!(rt;
-        touches
-            .iter()
-            .map(key)
-            .eq([(0, 1, 28), (0, 1, 29), (0, 2, 133)])
-    );
+fn pairs_and_points_are_found(rt: HostRuntime) -> Result<(), Fail> {
+    for (text, numbers, keys) in CASES {
+        let (pairs, touches) = found(rt.alloc(), text)?;
+        assert!(rt;
+            are_of(&pairs, numbers) && are_at(&touches, keys),
+            "{numbers:?}"
+        );
+    }
     Ok(())
+}
+
+/// Whether the first two points are exchanged where they are written over one another.
+fn are_exchanged(touches: &mut [Touch]) -> bool {
+    if touches.len() < 3 {
+        return false;
+    }
+    let pair = Pair { a: 0, b: 1 };
+    let (first, second) = (&touches[0], &touches[1]);
+    let swapped = Manifold::Two(second.point, first.point);
+    replace_points(touches, 0, &pair, &swapped);
+    swapped.count() == 2 && are_at(touches, &[(0, 1, 29), (0, 1, 28), (0, 2, 133)])
 }
 
 #[test]
 fn points_are_written_over_others(rt: HostRuntime) -> Result<(), Fail> {
     let (_, mut touches) = found(rt.alloc(), TOUCHING)?;
-    if touches.len() < 3 {
-        return Err(Fail::from("three points"));
-    }
-    let pair = Pair { a: 0, b: 1 };
-    let swapped = Manifold::Two(touches[1].point, touches[0].point);
-    assert_eq!(rt; swapped.count(), 2);
-    replace_points(&mut touches, 0, &pair, &swapped);
-    assert!(rt;
-        touches
-            .iter()
-            .map(key)
-            .eq([(0, 1, 29), (0, 1, 28), (0, 2, 133)])
-    );
+    assert!(rt; are_exchanged(&mut touches));
     Ok(())
 }
 
-#[test]
-fn bounds_a_unit_apart_are_no_pair(rt: HostRuntime) -> Result<(), Fail> {
-    let (pairs, touches) = found(rt.alloc(), APART)?;
-    assert!(rt;
-        pairs
-            .iter()
-            .map(|pair| (pair.a, pair.b))
-            .eq([(0, 1), (0, 2)])
-    );
-    assert!(rt;
-        touches
-            .iter()
-            .map(key)
-            .eq([(0, 1, 28), (0, 1, 29), (0, 2, 133)])
-    );
-    Ok(())
+/// The cells of a scene's bodies at their starts.
+fn grid_of(alloc: Global, text: &[u8]) -> Result<Grid, Fail> {
+    let scene = scene_of(alloc, text)?;
+    Ok(Grid::of(alloc, &scene, scene.starts())?)
+}
+
+/// Whether a cell has these bodies.
+fn has(grid: &Grid, x: i64, y: i64, bodies: &[u16]) -> bool {
+    grid.bodies_in(Cell { x, y }) == bodies
+}
+
+fn are_cells_of_wide(grid: &Grid) -> bool {
+    grid.wide() == [0, 3].as_slice()
+        && has(grid, 0, 0, &[1, 2])
+        && has(grid, 3, 3, &[1])
+        && has(grid, 4, 3, &[])
+}
+
+fn are_cells_of_borders(grid: &Grid) -> bool {
+    has(grid, 1, -1, &[0, 1]) && has(grid, -1, 0, &[2, 3]) && has(grid, -1, -1, &[2, 3, 4, 5])
 }
 
 #[test]
-fn bodies_in_a_row_are_pairs_with_the_next(rt: HostRuntime) -> Result<(), Fail> {
-    let (pairs, touches) = found(rt.alloc(), ROW)?;
-    let all = [(0, 1), (1, 2), (2, 3), (3, 4), (4, 5)];
-    assert!(rt; pairs.iter().map(|pair| (pair.a, pair.b)).eq(all));
-    assert!(rt; touches.is_empty());
-    Ok(())
-}
-
-#[test]
-fn static_bodies_are_no_pair(rt: HostRuntime) -> Result<(), Fail> {
-    let (pairs, touches) = found(rt.alloc(), STACKED)?;
-    assert!(rt;
-        pairs
-            .iter()
-            .map(|pair| (pair.a, pair.b))
-            .eq([(0, 1), (1, 2)])
-    );
-    assert!(rt; touches.iter().map(key).eq([(0, 1, 0), (1, 2, 0)]));
+fn cells_have_the_bodies_that_lie_in_them(rt: HostRuntime) -> Result<(), Fail> {
+    assert!(rt; CELL_SIDE == 67_108_864 && MAX_CELLS == 16);
+    let wide = grid_of(rt.alloc(), WIDE)?;
+    let borders = grid_of(rt.alloc(), BORDERS)?;
+    assert!(rt; are_cells_of_wide(&wide) && are_cells_of_borders(&borders));
     Ok(())
 }

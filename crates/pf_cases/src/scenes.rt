@@ -52,30 +52,38 @@ fn is_at_rest(state: &BodyState) -> bool {
     state.velocity == V2::ZERO && state.spin == Fx::ZERO && state.timer == 0
 }
 
-#[test]
-fn a_ball_is_read(rt: HostRuntime) -> Result<(), Fail> {
-    let scene = scene_of(rt.alloc(), SCENE)?;
-    assert!(rt; scene.len() == 2 && !scene.is_empty());
-    assert_eq!(rt; scene.gravity().y.raw(), -167_772_160);
-    let ([ball, _], [start, _]) = (scene.fixtures(), scene.starts()) else {
-        panic!(rt; "there are two bodies");
+/// Whether this is the ball of the scene. Mass 2 and radius 1: inverse mass 1/2, and inverse
+/// inertia 1, since a disc has half of m r r.
+fn is_ball(ball: &Fixture, start: &BodyState) -> bool {
+    matches!(ball.shape(), Shape::Circle { .. })
+        && ball.owner() == Some(3)
+        && numbers(ball) == [8_388_608, 8_388_608, 16_777_216]
+        && placement(start) == [-5, 7, 16_777_216, 0]
+        && is_at_rest(start)
+        && start.awake
+}
+
+/// Whether this is a static body of nobody.
+fn is_nobodys(floor: &Fixture, start: &BodyState) -> bool {
+    floor.is_static() && floor.owner().is_none() && !start.awake && numbers(floor) == [0; 3]
+}
+
+/// Whether this is the scene of a ball and a static body.
+fn is_read(scene: &Scene) -> bool {
+    let ([ball, floor], [start, resting]) = (scene.fixtures(), scene.starts()) else {
+        return false;
     };
-    assert!(rt; matches!(ball.shape(), Shape::Circle { .. }) && ball.owner() == Some(3));
-    // Mass 2 and radius 1: inverse mass 1/2, and inverse inertia 1, since a disc has half of m r r.
-    assert_eq!(rt; numbers(ball), [8_388_608, 8_388_608, 16_777_216]);
-    assert_eq!(rt; placement(start), [-5, 7, 16_777_216, 0]);
-    assert!(rt; is_at_rest(start) && start.awake);
-    Ok(())
+    scene.len() == 2
+        && !scene.is_empty()
+        && scene.gravity().y.raw() == -167_772_160
+        && is_ball(ball, start)
+        && is_nobodys(floor, resting)
 }
 
 #[test]
-fn a_static_body_is_read(rt: HostRuntime) -> Result<(), Fail> {
+fn a_ball_and_a_static_body_are_read(rt: HostRuntime) -> Result<(), Fail> {
     let scene = scene_of(rt.alloc(), SCENE)?;
-    let ([_, floor], [_, resting]) = (scene.fixtures(), scene.starts()) else {
-        panic!(rt; "there are two bodies");
-    };
-    assert!(rt; floor.is_static() && floor.owner().is_none() && !resting.awake);
-    assert_eq!(rt; numbers(floor), [0; 3]);
+    assert!(rt; is_read(&scene));
     Ok(())
 }
 
@@ -87,18 +95,19 @@ fn a_scene_is_built(rt: HostRuntime) -> Result<(), Fail> {
     };
     let fixture = Fixture::new(shape, Fx::ONE, Fx::ZERO, Some(7));
     // A box is harder to spin than a disc.
-    assert_eq!(rt; fixture.inverse_inertia().raw(), 25_165_823);
+    assert!(rt; fixture.inverse_inertia().raw() == 25_165_823);
     let mut scene = Scene::new(rt.alloc(), V2::ZERO);
     scene.push(fixture, V2::ZERO, Rot::UPRIGHT)?;
-    assert_eq!(rt; scene.len(), 1);
+    assert!(rt; scene.len() == 1);
     Ok(())
 }
 
 #[test]
 fn copies_are_equal(rt: HostRuntime) -> Result<(), Fail> {
     let scene = scene_of(rt.alloc(), LEANING)?;
-    assert!(rt; scene.try_clone()? == scene);
-    assert!(rt; scene_of(rt.alloc(), SCENE)? != scene);
+    let copy = scene.try_clone()?;
+    let other = scene_of(rt.alloc(), SCENE)?;
+    assert!(rt; copy == scene && other != scene);
     Ok(())
 }
 
@@ -113,29 +122,39 @@ fn crowd(alloc: Global, count: usize, last: &[u8]) -> Result<Vec<u8>, AllocError
 }
 
 #[test]
-fn a_scene_has_at_most_1024_bodies(rt: HostRuntime) -> Result<(), Fail> {
-    let whole = scene_of(rt.alloc(), &crowd(rt.alloc(), MAX_BODIES, b"end\n")?)?;
-    assert!(rt; whole.len() == MAX_BODIES && whole.try_clone()? == whole);
-    let more = crowd(rt.alloc(), MAX_BODIES, b"box - 0 0 1 1 0 0 0 0\n")?;
-    let read = scene_of(rt.alloc(), &more).err();
-    if read == Some(ReadError::Memory) {
-        return Err(AllocError)?;
-    }
-    assert!(rt; read == Some(ReadError::Line(1026, SceneFault::TooMany)));
+fn a_scene_has_up_to_1024_bodies(rt: HostRuntime) -> Result<(), Fail> {
+    let text = crowd(rt.alloc(), MAX_BODIES, b"end\n")?;
+    let scene = scene_of(rt.alloc(), &text)?;
+    let copy = scene.try_clone()?;
+    assert!(rt; scene.len() == MAX_BODIES && copy == scene);
     Ok(())
 }
 
 #[test]
-fn no_more_bodies_are_refused_before_their_fields(rt: HostRuntime) -> Result<(), Fail> {
-    let reader = SceneReader::new(0);
+fn a_scene_has_no_more_bodies(rt: HostRuntime) -> Result<(), Fail> {
+    let text = crowd(rt.alloc(), MAX_BODIES, b"box - 0 0 1 1 0 0 0 0\n")?;
+    match scene_of(rt.alloc(), &text) {
+        Ok(_) => Err(Fail::from("a scene is read")),
+        Err(ReadError::Line(1026, SceneFault::TooMany)) => Ok(()),
+        Err(error) => Err(Fail::from(error)),
+    }
+}
+
+/// Why a reader of no bodies rejects a circle with fields that are no numbers.
+fn refused(alloc: Global) -> Result<Option<TakeRefusal<SceneFault>>, TakeRefusal<SceneFault>> {
     let fields = [b"gravity".as_slice(), b"0".as_slice(), b"0".as_slice()];
-    let Progress::More(reader) = reader.take(rt.alloc(), &fields)? else {
-        panic!(rt; "more is to come");
+    let Progress::More(reader) = SceneReader::new(0).take(alloc, &fields)? else {
+        return Ok(None);
     };
     let x = b"x".as_slice();
     let circle = [b"circle".as_slice(), x, x, x, x, x, x];
-    let refused = reader.take(rt.alloc(), &circle).err();
-    assert!(rt; refused == Some(TakeRefusal::Fault(SceneFault::TooMany)));
+    Ok(reader.take(alloc, &circle).err())
+}
+
+#[test]
+fn no_more_bodies_are_refused_before_their_fields(rt: HostRuntime) -> Result<(), Fail> {
+    let found = refused(rt.alloc())?;
+    assert!(rt; found == Some(TakeRefusal::Fault(SceneFault::TooMany)));
     Ok(())
 }
 
@@ -151,20 +170,25 @@ fn ends(bounds: &Bounds) -> [i64; 4] {
     [low.x.raw(), low.y.raw(), high.x.raw(), high.y.raw()]
 }
 
-// Ends by Python's integers.
+/// Whether a circle of radius 1 has these bounds, by Python's integers.
+fn are_of_circle(circle: &Fixture) -> bool {
+    let around = circle.bounds(&BodyState::start(circle, V2::ZERO, Rot::UPRIGHT));
+    let one = 16_777_217;
+    ends(&around) == [-one, -one, one, one] && around.overlaps(&around)
+}
+
+/// Whether the box that leans has these bounds, by Python's integers.
+fn are_of_leaning(scene: &Scene) -> bool {
+    let ([fixture], [start]) = (scene.fixtures(), scene.starts()) else {
+        return false;
+    };
+    ends(&fixture.bounds(start)) == [-16_777_212, -18_454_946, 16_777_222, 18_454_932]
+}
+
 #[test]
 fn bounds_are_a_unit_wider(rt: HostRuntime) -> Result<(), Fail> {
     let circle = Fixture::new(Shape::Circle { r: Fx::ONE }, Fx::ONE, Fx::ZERO, None);
-    let origin = BodyState::start(&circle, V2::ZERO, Rot::UPRIGHT);
-    let around = circle.bounds(&origin);
-    let one = 16_777_217;
-    assert_eq!(rt; ends(&around), [-one, -one, one, one]);
-    assert!(rt; around.overlaps(&around));
     let scene = scene_of(rt.alloc(), LEANING)?;
-    let ([fixture], [start]) = (scene.fixtures(), scene.starts()) else {
-        panic!(rt; "there is one body");
-    };
-    let leaning = [-16_777_212, -18_454_946, 16_777_222, 18_454_932];
-    assert_eq!(rt; ends(&fixture.bounds(start)), leaning);
+    assert!(rt; are_of_circle(&circle) && are_of_leaning(&scene));
     Ok(())
 }

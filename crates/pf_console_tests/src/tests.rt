@@ -1,8 +1,9 @@
-//! The texts of errors, and readers and writers that fail. Many texts with their replies stand in
-//! the stored run of `pf_runs`.
+//! The texts of errors, and readers and writers that fail. Texts with their replies and reports
+//! stand in the stored run of `pf_runs`, and what is reported of memory and of readers and writers
+//! in the tests of `pf_play`.
 
 use pf_commands::FrameFault;
-use pf_console::{DigitsFault, PlayFault, Request, finish, laws, perform, report, run_text};
+use pf_console::{DigitsFault, PlayFault, finish, laws, report, run_text};
 use pf_shapes::SceneFault;
 use pf_text::{Bytes, Collected, Input, Output};
 use std::alloc::{AllocError, Global};
@@ -21,154 +22,51 @@ const FIRST_REPLY: usize = 12;
 
 const SECOND_REPLY: usize = 69;
 
-/// A circle that lies on a box, shown once.
-const RESTING: &[u8] =
-    b"gravity 0 -167772160\nbox - 0 8388608 167772160 16777216 0 -16777216 16777216 0\ncircle 0 16777216 8388608 16777216 0 16777216\nend\npeers 1\nadvance 0 3\nshow 0 3\n";
-
-const RESTED: &[u8] =
-    b"advance 0 3\nshow 0 3\nbody 1 0 16777216 16777216 0 0 0 0 3 1\ncontact 0 1 133 2621440 0\nend\n";
-
-/// What the program writes, its report of an error, and its status. A `Collected` fails only where
-/// it is out of memory.
-type Ended = (Collected, Collected, u8);
-
-/// How the program ends with this outcome, after what it wrote.
-fn ended(
-    alloc: Global,
-    output: Collected,
-    outcome: Result<(), PlayFault>,
-) -> Result<Ended, AllocError> {
-    if matches!(outcome, Err(PlayFault::Memory | PlayFault::Write)) {
-        return Err(AllocError);
-    }
-    let is_fault = outcome.is_err();
-    let mut said = Collected::new(alloc);
-    let status = finish(outcome, &mut said);
-    if is_fault && said.bytes().is_empty() {
-        return Err(AllocError);
-    }
-    Ok((output, said, status))
-}
-
-/// How the program runs a text in memory.
-fn played(alloc: Global, text: &[u8]) -> Result<Ended, AllocError> {
-    let mut output = Collected::new(alloc);
-    let outcome = perform(alloc, Request::Run, &mut Bytes::new(text), &mut output);
-    ended(alloc, output, outcome)
-}
+/// The greatest number of a line in what is reported of it.
+const GREATEST: &[u8] = b"pf_play: line 18446744073709551615: BadNumber\n";
 
 #[test]
-fn a_text_is_run(rt: HostRuntime) -> Result<(), Fail> {
-    let (output, said, status) = played(rt.alloc(), FALLING)?;
-    assert_eq!(rt; output.bytes(), FALLEN);
-    assert!(rt; said.bytes().is_empty() && status == 0);
-    Ok(())
-}
-
-#[test]
-fn contacts_are_shown(rt: HostRuntime) -> Result<(), Fail> {
-    let (output, said, status) = played(rt.alloc(), RESTING)?;
-    assert_eq!(rt; output.bytes(), RESTED);
-    assert!(rt; said.bytes().is_empty() && status == 0);
-    Ok(())
-}
-
-#[test]
-fn an_invalid_line_is_reported(rt: HostRuntime) -> Result<(), Fail> {
-    let mut text = Vec::from_slice(rt.alloc(), FALLING)?;
-    text.extend_from_slice(b"\nadvance 0 05")?;
-    let (output, said, status) = played(rt.alloc(), &text)?;
-    assert_eq!(rt; output.bytes(), FALLEN);
-    assert_eq!(rt; said.bytes(), b"pf_play: line 9: BadNumber\n".as_slice());
-    assert_eq!(rt; status, 1);
-    Ok(())
-}
-
-/// How the program prints a frame. It reads nothing.
-fn digits_result(alloc: Global, digits: &str) -> Result<Ended, AllocError> {
-    let mut output = Collected::new(alloc);
-    let request = Request::Frame(digits);
-    let outcome = perform(alloc, request, &mut Bytes::new(FALLING), &mut output);
-    ended(alloc, output, outcome)
-}
-
-#[test]
-fn frames_are_printed(rt: HostRuntime) -> Result<(), Fail> {
-    let digits = "010000000000000002000000000000000000000000000000000000";
-    let (output, said, status) = digits_result(rt.alloc(), digits)?;
-    assert_eq!(rt;
-        output.bytes(),
-        b"tick 0 player 0 number 0 stop 0\n".as_slice()
-    );
-    assert!(rt; said.bytes().is_empty() && status == 0);
-    let (output, said, status) = digits_result(rt.alloc(), "01")?;
-    assert_eq!(rt; said.bytes(), b"pf_play: frame: Short\n".as_slice());
-    assert!(rt; output.bytes().is_empty() && status == 1);
-    Ok(())
-}
-
-#[test]
-fn other_errors_have_their_texts(rt: HostRuntime) -> Result<(), Fail> {
-    let words = String::from_str(rt.alloc(), "error: such words\n")?;
-    let rows = [
-        (
-            PlayFault::Words(words),
-            2,
-            b"error: such words\n".as_slice(),
-        ),
-        (
-            PlayFault::Line(u64::MAX, SceneFault::BadNumber),
-            1,
-            b"pf_play: line 18446744073709551615: BadNumber\n".as_slice(),
-        ),
-        (PlayFault::Memory, 3, b"pf_play: out of memory\n".as_slice()),
-        (PlayFault::Read, 3, b"pf_play: read failed\n".as_slice()),
-        (PlayFault::Write, 3, b"pf_play: write failed\n".as_slice()),
-    ];
-    for (fault, status, expected) in rows {
-        let mut said = Collected::new(rt.alloc());
-        assert_eq!(rt; report(&fault, &mut said), status);
-        if said.bytes().is_empty() {
-            return Err(AllocError)?;
-        }
-        assert_eq!(rt; said.bytes(), expected);
-    }
-    Ok(())
-}
-
-#[test]
-fn a_help_is_written(rt: HostRuntime) -> Result<(), Fail> {
-    let text = String::from_str(rt.alloc(), "help\n")?;
-    let mut output = Collected::new(rt.alloc());
-    let request = Request::Help(text);
-    let outcome = perform(rt.alloc(), request, &mut Bytes::new(FALLING), &mut output);
-    if outcome.is_err() {
+fn the_greatest_number_of_a_line_is_reported(rt: HostRuntime) -> Result<(), Fail> {
+    let fault = PlayFault::Line(u64::MAX, SceneFault::BadNumber);
+    let mut said = Collected::new(rt.alloc());
+    let status = report(&fault, &mut said);
+    if said.bytes().is_empty() {
         return Err(AllocError)?;
     }
-    assert_eq!(rt; output.bytes(), b"help\n".as_slice());
-    assert_eq!(rt; finish(outcome, &mut output), 0);
-    assert_eq!(rt; output.bytes(), b"help\n".as_slice());
+    assert!(rt; status == 1 && said.bytes() == GREATEST);
     Ok(())
+}
+
+/// Whether an error prints this text.
+fn prints(alloc: Global, fault: &PlayFault, text: &str) -> Result<bool, AllocError> {
+    Ok(fault.to_string(alloc)?.as_str() == text)
+}
+
+/// An error of each kind but words, by its number, and its text.
+fn row(number: u8) -> (PlayFault, &'static str) {
+    match number {
+        0 => (PlayFault::Line(7, SceneFault::BadMass), "line 7: BadMass"),
+        1 => (PlayFault::Frame(DigitsFault::BadNumber), "frame: BadNumber"),
+        2 => (
+            PlayFault::Frame(DigitsFault::Refused(FrameFault::Short)),
+            "frame: Short",
+        ),
+        3 => (PlayFault::Memory, "out of memory"),
+        4 => (PlayFault::Read, "read failed"),
+        _ => (PlayFault::Write, "write failed"),
+    }
 }
 
 #[test]
 fn errors_print_their_texts(rt: HostRuntime) -> Result<(), Fail> {
-    let words = String::from_str(rt.alloc(), "error: such words\n")?;
-    let rows = [
-        (PlayFault::Words(words), "error: such words\n"),
-        (PlayFault::Line(7, SceneFault::BadMass), "line 7: BadMass"),
-        (PlayFault::Frame(DigitsFault::BadNumber), "frame: BadNumber"),
-        (
-            PlayFault::Frame(DigitsFault::Refused(FrameFault::Short)),
-            "frame: Short",
-        ),
-        (PlayFault::Memory, "out of memory"),
-        (PlayFault::Read, "read failed"),
-        (PlayFault::Write, "write failed"),
-    ];
-    for (fault, text) in rows {
-        assert!(rt; fault.to_string(rt.alloc())?.as_str() == text);
+    for number in 0..6 {
+        let (fault, text) = row(number);
+        let is_printed = prints(rt.alloc(), &fault, text)?;
+        assert!(rt; is_printed, "{text}");
     }
+    let words = PlayFault::Words(String::from_str(rt.alloc(), "error: such words\n")?);
+    let is_printed = prints(rt.alloc(), &words, "error: such words\n")?;
+    assert!(rt; is_printed);
     Ok(())
 }
 
@@ -201,30 +99,49 @@ impl Read for Trickle {
     }
 }
 
+/// What is written by a run of the text whose reader fails at one call, and how it ends.
+fn run_trickle(
+    alloc: Global,
+    fails_at: usize,
+) -> Result<(Collected, Result<(), PlayFault>), AllocError> {
+    let reader = Trickle {
+        taken: 0,
+        calls: 0,
+        fails_at,
+    };
+    let mut output = Collected::new(alloc);
+    match run_text(alloc, &mut Input::new(reader), &mut output) {
+        Err(PlayFault::Memory | PlayFault::Write) => Err(AllocError),
+        outcome => Ok((output, outcome)),
+    }
+}
+
+/// Whether this is right of a reader that fails at one call: the replies to the lines that were
+/// read are written.
+fn is_cut(fails_at: usize, written: &[u8], outcome: &Result<(), PlayFault>) -> bool {
+    let calls = 2 * (FALLING.len() + 1);
+    if fails_at == 0 {
+        return false;
+    }
+    if fails_at > calls {
+        return outcome.is_ok() && written == FALLEN;
+    }
+    let read = FALLING.iter().take((fails_at - 1) / 2);
+    let lines = read.filter(|byte| **byte == b'\n').count();
+    let lengths = [0, 0, 0, 0, 0, FIRST_REPLY, SECOND_REPLY, FALLEN.len()];
+    matches!(outcome, Err(PlayFault::Read))
+        && lengths.get(lines) == Some(&written.len())
+        && FALLEN.starts_with(written)
+}
+
 #[test]
 fn a_reader_may_fail_at_each_call(rt: HostRuntime) -> Result<(), Fail> {
-    let calls = 2 * (FALLING.len() + 1);
-    for fails_at in 1..calls + 2 {
-        let reader = Trickle {
-            taken: 0,
-            calls: 0,
-            fails_at,
-        };
-        let mut output = Collected::new(rt.alloc());
-        let result = run_text(rt.alloc(), &mut Input::new(reader), &mut output);
-        if matches!(result, Err(PlayFault::Memory | PlayFault::Write)) {
-            return Err(AllocError)?;
-        }
-        if fails_at > calls {
-            assert!(rt; result.is_ok() && output.bytes() == FALLEN);
-        } else {
-            assert!(rt; matches!(result, Err(PlayFault::Read)), "call {fails_at}");
-            let read = FALLING.iter().take((fails_at - 1) / 2);
-            let lines = read.filter(|byte| **byte == b'\n').count();
-            let lengths = [0, 0, 0, 0, 0, FIRST_REPLY, SECOND_REPLY, FALLEN.len()];
-            assert_eq!(rt; lengths.get(lines), Some(&output.bytes().len()));
-            assert!(rt; FALLEN.starts_with(output.bytes()));
-        }
+    for fails_at in 1..2 * FALLING.len() + 4 {
+        let (output, outcome) = run_trickle(rt.alloc(), fails_at)?;
+        assert!(rt;
+            is_cut(fails_at, output.bytes(), &outcome),
+            "call {fails_at}"
+        );
     }
     Ok(())
 }
@@ -253,6 +170,16 @@ impl Write for Brittle {
     }
 }
 
+/// Whether this is right of a writer that fails at one call, and then at the report's.
+fn is_broken_off(writer: &mut Brittle, outcome: &Result<(), PlayFault>) -> bool {
+    if writer.calls < writer.fails_at {
+        return outcome.is_ok() && writer.taken.as_slice() == FALLEN;
+    }
+    matches!(outcome, Err(PlayFault::Write))
+        && FALLEN.starts_with(writer.taken.as_slice())
+        && finish(Err(PlayFault::Write), &mut Output::new(writer)) == 3
+}
+
 #[test]
 fn a_writer_may_fail_at_each_call(rt: HostRuntime) -> Result<(), Fail> {
     for fails_at in 1..60 {
@@ -262,18 +189,11 @@ fn a_writer_may_fail_at_each_call(rt: HostRuntime) -> Result<(), Fail> {
             fails_at,
         };
         let mut output = Output::new(&mut writer);
-        let result = run_text(rt.alloc(), &mut Bytes::new(FALLING), &mut output);
-        if writer.calls < fails_at && result.is_err() {
+        let outcome = run_text(rt.alloc(), &mut Bytes::new(FALLING), &mut output);
+        if writer.calls < fails_at && outcome.is_err() {
             return Err(AllocError)?;
         }
-        if writer.calls < fails_at {
-            assert!(rt; result.is_ok() && writer.taken.as_slice() == FALLEN);
-        } else {
-            assert!(rt; matches!(result, Err(PlayFault::Write)), "call {fails_at}");
-            assert!(rt; FALLEN.starts_with(writer.taken.as_slice()));
-            let mut closed = Output::new(&mut writer);
-            assert_eq!(rt; finish(Err(PlayFault::Write), &mut closed), 3);
-        }
+        assert!(rt; is_broken_off(&mut writer, &outcome), "call {fails_at}");
     }
     Ok(())
 }

@@ -16,12 +16,8 @@ use std::test::Fail;
 #[test]
 fn fields_are_separated_by_one_space(rt: HostRuntime) -> Result<(), Fail> {
     let fields = fields_of(rt.alloc(), b"circle - 7\t")?;
-    let [circle, dash, seven] = fields.as_slice() else {
-        panic!(rt; "there are three fields");
-    };
-    assert_eq!(rt; *circle, b"circle".as_slice());
-    assert_eq!(rt; *dash, b"-".as_slice());
-    assert_eq!(rt; *seven, b"7\t".as_slice());
+    let expected = [b"circle".as_slice(), b"-".as_slice(), b"7\t".as_slice()];
+    assert!(rt; fields.as_slice() == expected.as_slice());
     Ok(())
 }
 
@@ -41,15 +37,25 @@ fn other_spaces_are_errors(rt: HostRuntime) {
     }
 }
 
-#[test]
-fn a_line_may_have_2000_fields(rt: HostRuntime) -> Result<(), Fail> {
-    let mut line = Vec::from_slice(rt.alloc(), b"x")?;
+/// Whether these are 2,000 fields of one byte.
+fn are_2000(fields: &[&[u8]]) -> bool {
+    fields.len() == 2000 && fields.iter().all(|field| *field == b"x".as_slice())
+}
+
+/// A line of 2,000 fields.
+fn line_of_2000(alloc: Global) -> Result<Vec<u8>, AllocError> {
+    let mut line = Vec::from_slice(alloc, b"x")?;
     for _ in 1..2000 {
         line.extend_from_slice(b" x")?;
     }
+    Ok(line)
+}
+
+#[test]
+fn a_line_may_have_2000_fields(rt: HostRuntime) -> Result<(), Fail> {
+    let line = line_of_2000(rt.alloc())?;
     let fields = fields_of(rt.alloc(), &line)?;
-    assert_eq!(rt; fields.len(), 2000);
-    assert!(rt; fields.iter().all(|field| *field == b"x".as_slice()));
+    assert!(rt; are_2000(&fields));
     Ok(())
 }
 
@@ -103,23 +109,34 @@ const LINES: [(&[u8], &[usize]); 3] = [(b"", &[]), (b"\n", &[0]), (b"ab\r\n\0\x7
 fn lines_end_with_a_line_feed(rt: HostRuntime) -> Result<(), Fail> {
     for (text, expected) in LINES {
         let found = lengths(&rt, rt.alloc(), text)?;
-        assert_eq!(rt; found.as_slice(), expected);
+        assert!(rt; found.as_slice() == expected);
     }
     Ok(())
+}
+
+/// A line of so many bytes, with this behind it.
+fn long_line(alloc: Global, length: usize, end: &[u8]) -> Result<Vec<u8>, AllocError> {
+    let mut line = vec![in alloc; b'x'; length]?;
+    line.extend_from_slice(end)?;
+    Ok(line)
 }
 
 #[test]
 fn a_line_has_up_to_4096_bytes(rt: HostRuntime) -> Result<(), Fail> {
     for end in [b"".as_slice(), b"\n".as_slice()] {
-        let mut text = vec![in rt.alloc(); b'x'; MAX_LINE]?;
-        text.extend_from_slice(end)?;
+        let text = long_line(rt.alloc(), MAX_LINE, end)?;
         let found = lengths(&rt, rt.alloc(), &text)?;
-        assert_eq!(rt; found.as_slice(), [MAX_LINE].as_slice());
+        assert!(rt; found.as_slice() == [MAX_LINE].as_slice());
     }
+    Ok(())
+}
+
+#[test]
+fn a_line_has_no_more_bytes(rt: HostRuntime) -> Result<(), Fail> {
+    let long = long_line(rt.alloc(), MAX_LINE + 9, b"")?;
     let mut line = LineBuffer::new();
-    let long = vec![in rt.alloc(); b'x'; MAX_LINE + 9]?;
-    assert!(rt; take_line(&mut Bytes::new(&long), &mut line)? == Taken::TooLong);
-    assert_eq!(rt; line.len(), LINE_ROOM);
+    let taken = take_line(&mut Bytes::new(&long), &mut line)?;
+    assert!(rt; taken == Taken::TooLong && line.len() == LINE_ROOM);
     Ok(())
 }
 
@@ -178,24 +195,42 @@ fn driven(alloc: Global, text: &[u8]) -> Result<Driven, AllocError> {
     Ok((result, sink, lent))
 }
 
+/// Whether a parrot ends so, has written this and took so many lines.
+fn is_so(
+    driven: &Driven,
+    outcome: &Result<(u64, Parrot), DriveFault<LineFault>>,
+    written: &[u8],
+    lines: u32,
+) -> bool {
+    driven.0 == *outcome && driven.1.bytes() == written && driven.2 == lines
+}
+
 #[test]
 fn a_text_has_replies(rt: HostRuntime) -> Result<(), Fail> {
-    let (result, sink, lent) = driven(rt.alloc(), TEXT)?;
-    assert!(rt; result == Ok((7, Parrot)));
-    assert_eq!(rt; sink.bytes(), OUTPUT);
-    assert_eq!(rt; lent, 4);
-    let (result, sink, _) = driven(rt.alloc(), b"")?;
-    assert!(rt; result == Ok((1, Parrot)) && sink.bytes().is_empty());
+    for (text, number, written, lines) in [
+        (TEXT, 7, OUTPUT, 4),
+        (b"".as_slice(), 1, b"".as_slice(), 0),
+    ] {
+        let driven = driven(rt.alloc(), text)?;
+        assert!(rt; is_so(&driven, &Ok((number, Parrot)), written, lines));
+    }
     Ok(())
+}
+
+/// A text of 70,000 lines.
+fn many_lines(alloc: Global) -> Result<Vec<u8>, AllocError> {
+    let mut text = Vec::new(alloc);
+    for _ in 0..70_000 {
+        text.extend_from_slice(b"#\n")?;
+    }
+    Ok(text)
 }
 
 #[test]
 fn a_text_may_have_70000_lines(rt: HostRuntime) -> Result<(), Fail> {
-    let mut text = Vec::new(rt.alloc());
-    for _ in 0..70_000 {
-        text.extend_from_slice(b"#\n")?;
-    }
-    assert!(rt; driven(rt.alloc(), &text)?.0 == Ok((70_001, Parrot)));
+    let text = many_lines(rt.alloc())?;
+    let driven = driven(rt.alloc(), &text)?;
+    assert!(rt; is_so(&driven, &Ok((70_001, Parrot)), b"", 0));
     Ok(())
 }
 
@@ -210,29 +245,38 @@ fn a_sink_in_memory_keeps_5000_bytes(rt: HostRuntime) -> Result<(), Fail> {
     Ok(())
 }
 
-/// Texts with an invalid line, its number, and its error.
-const INVALID: [(&[u8], u64, LineFault); 3] = [
-    (b"a\n\nb c d\ne", 3, LineFault::BadNumber),
-    (b"a\nb  c\n", 2, LineFault::BadLine),
-    (b"a\n# \xff\n", 2, LineFault::BadLine),
+/// Texts with an invalid line, its number and its error, and how many lines were taken.
+const INVALID: [(&[u8], u64, LineFault, u32); 3] = [
+    (b"a\n\nb c d\ne", 3, LineFault::BadNumber, 2),
+    (b"a\nb  c\n", 2, LineFault::BadLine, 1),
+    (b"a\n# \xff\n", 2, LineFault::BadLine, 1),
 ];
 
 #[test]
 fn replies_before_an_invalid_line_stand(rt: HostRuntime) -> Result<(), Fail> {
-    for (text, number, fault) in INVALID {
-        let (result, sink, _) = driven(rt.alloc(), text)?;
-        assert!(rt; result == Err(DriveFault::Line(number, fault)), "{text:?}");
-        assert_eq!(rt; sink.bytes(), b"ok\n".as_slice());
+    for (text, number, fault, lines) in INVALID {
+        let driven = driven(rt.alloc(), text)?;
+        let error = DriveFault::Line(number, fault);
+        assert!(rt; is_so(&driven, &Err(error), b"ok\n", lines), "{text:?}");
     }
     Ok(())
 }
 
+/// A comment of so many bytes.
+fn comment(alloc: Global, length: usize) -> Result<Vec<u8>, AllocError> {
+    Ok(vec![in alloc; b'#'; length]?)
+}
+
 #[test]
 fn a_comment_may_be_too_long(rt: HostRuntime) -> Result<(), Fail> {
-    let mut long = vec![in rt.alloc(); b'#'; MAX_LINE]?;
-    assert!(rt; driven(rt.alloc(), &long)?.0 == Ok((2, Parrot)));
-    long.push(b'#')?;
-    assert!(rt; driven(rt.alloc(), &long)?.0 == Err(DriveFault::Line(1, LineFault::BadLine)));
+    for (length, result) in [
+        (MAX_LINE, Ok((2, Parrot))),
+        (MAX_LINE + 1, Err(DriveFault::Line(1, LineFault::BadLine))),
+    ] {
+        let text = comment(rt.alloc(), length)?;
+        let driven = driven(rt.alloc(), &text)?;
+        assert!(rt; is_so(&driven, &result, b"", 0));
+    }
     Ok(())
 }
 
@@ -272,33 +316,39 @@ impl Read for Trickle<'_> {
     }
 }
 
+/// How a parrot ends whose reader fails at one call, and what it wrote.
+fn driven_by_trickle(alloc: Global, fails_at: usize) -> Result<Driven, AllocError> {
+    let reader = Trickle {
+        bytes: TEXT,
+        calls: 0,
+        fails_at,
+    };
+    let mut lent = 0;
+    let mut sink = Collected::new(alloc);
+    let result = drive(alloc, &mut lent, &mut Input::new(reader), &mut sink, Parrot);
+    if matches!(result, Err(DriveFault::Memory | DriveFault::Write)) {
+        return Err(AllocError);
+    }
+    Ok((result, sink, lent))
+}
+
+/// Whether the replies to whole lines are written, and the failure of a reader at this call, if
+/// it comes, is the result.
+fn is_cut(driven: &Driven, fails_at: usize) -> bool {
+    let written = driven.1.bytes();
+    let is_right = if fails_at > 4 * (TEXT.len() + 1) {
+        driven.0 == Ok((7, Parrot)) && written == OUTPUT
+    } else {
+        driven.0 == Err(DriveFault::Read)
+    };
+    is_right && OUTPUT.starts_with(written) && written.len() % 3 == 0
+}
+
 #[test]
 fn a_reader_may_fail_at_each_call(rt: HostRuntime) -> Result<(), Fail> {
-    let calls = 4 * (TEXT.len() + 1);
-    for fails_at in 1..calls + 2 {
-        let reader = Trickle {
-            bytes: TEXT,
-            calls: 0,
-            fails_at,
-        };
-        let mut sink = Collected::new(rt.alloc());
-        let result = drive(
-            rt.alloc(),
-            &mut 0,
-            &mut Input::new(reader),
-            &mut sink,
-            Parrot,
-        );
-        if matches!(result, Err(DriveFault::Memory | DriveFault::Write)) {
-            return Err(AllocError)?;
-        }
-        let written = sink.bytes();
-        assert!(rt; OUTPUT.starts_with(written) && written.len() % 3 == 0);
-        if fails_at > calls {
-            assert!(rt; result == Ok((7, Parrot)) && written == OUTPUT);
-        } else {
-            assert!(rt; result == Err(DriveFault::Read), "call {fails_at}");
-        }
+    for fails_at in 1..4 * (TEXT.len() + 1) + 2 {
+        let driven = driven_by_trickle(rt.alloc(), fails_at)?;
+        assert!(rt; is_cut(&driven, fails_at), "call {fails_at}");
     }
     Ok(())
 }
@@ -338,10 +388,21 @@ impl Write for Brittle {
     }
 }
 
+/// Whether the failure of a writer at its call, if it comes, is the result, after a beginning of
+/// the output.
+fn is_broken_off(writer: &Brittle, outcome: &Result<(u64, Parrot), DriveFault<LineFault>>) -> bool {
+    let taken = writer.taken.as_slice();
+    let is_right = if writer.fails_at > 25 {
+        *outcome == Ok((7, Parrot)) && taken == OUTPUT
+    } else {
+        *outcome == Err(DriveFault::Write)
+    };
+    is_right && OUTPUT.starts_with(taken)
+}
+
 #[test]
 fn a_writer_may_fail_at_each_call(rt: HostRuntime) -> Result<(), Fail> {
-    let calls = 25;
-    for fails_at in 1..calls + 2 {
+    for fails_at in 1..27 {
         let mut writer = Brittle {
             taken: Vec::new(rt.alloc()),
             calls: 0,
@@ -352,13 +413,7 @@ fn a_writer_may_fail_at_each_call(rt: HostRuntime) -> Result<(), Fail> {
         if writer.calls < fails_at && result.is_err() {
             return Err(AllocError)?;
         }
-        let taken = writer.taken.as_slice();
-        assert!(rt; OUTPUT.starts_with(taken));
-        if fails_at > calls {
-            assert!(rt; result == Ok((7, Parrot)) && taken == OUTPUT);
-        } else {
-            assert!(rt; result == Err(DriveFault::Write), "call {fails_at}");
-        }
+        assert!(rt; is_broken_off(&writer, &result), "call {fails_at}");
     }
     Ok(())
 }
@@ -377,6 +432,16 @@ fn long_text(alloc: Global) -> Result<Vec<u8>, AllocError> {
     Ok(text)
 }
 
+/// Whether these are the replies to the long text.
+fn are_of_long_text(taken: &[u8]) -> bool {
+    taken.len() == 3 * 1000 + 5
+        && taken
+            .chunks(3)
+            .take(1000)
+            .all(|reply| reply == b"ok\n".as_slice())
+        && taken.ends_with(b"many\n")
+}
+
 #[test]
 fn a_text_longer_than_a_buffer_has_its_replies(rt: HostRuntime) -> Result<(), Fail> {
     let text = long_text(rt.alloc())?;
@@ -387,15 +452,7 @@ fn a_text_longer_than_a_buffer_has_its_replies(rt: HostRuntime) -> Result<(), Fa
     if matches!(result, Err(DriveFault::Memory | DriveFault::Write)) {
         return Err(AllocError)?;
     }
-    assert!(rt; result == Ok((3002, Parrot)));
-    assert_eq!(rt; taken.len(), 3 * 1000 + 5);
-    assert!(rt;
-        taken
-            .chunks(3)
-            .take(1000)
-            .all(|reply| reply == b"ok\n".as_slice())
-    );
-    assert!(rt; taken.ends_with(b"many\n"));
+    assert!(rt; result == Ok((3002, Parrot)) && are_of_long_text(&taken));
     Ok(())
 }
 
@@ -432,8 +489,7 @@ fn each_reply_is_flushed(rt: HostRuntime) -> Result<(), Fail> {
     if matches!(result, Err(DriveFault::Memory | DriveFault::Write)) {
         return Err(AllocError)?;
     }
-    assert!(rt; writer.held.is_empty());
-    assert_eq!(rt; writer.written.len(), 3 * 1000 + 5);
+    assert!(rt; writer.held.is_empty() && writer.written.len() == 3 * 1000 + 5);
     Ok(())
 }
 
@@ -462,13 +518,18 @@ fn a_writer_that_takes_nothing_has_failed(rt: HostRuntime) -> Result<(), Fail> {
     Ok(())
 }
 
+/// The errors of lines, and the others.
+fn names(alloc: Global) -> Result<String, AllocError> {
+    let (bad, number) = (LineFault::BadLine, LineError::Fault(LineFault::BadNumber));
+    let memory = LineError::Memory;
+    Ok(format!(in alloc; "{bad} {number}, {memory}, {ReadFailed}, {WriteFailed}")?)
+}
+
 #[test]
 fn errors_are_shown_by_their_names(rt: HostRuntime) -> Result<(), Fail> {
-    let fault = LineError::Fault(LineFault::BadNumber);
-    let text = format!(in rt.alloc(); "{} {fault}", LineFault::BadLine)?;
-    assert_eq!(rt; text.as_str(), "BadLine BadNumber");
-    let text = format!(in rt.alloc(); "{}, {ReadFailed}, {WriteFailed}", LineError::Memory)?;
-    assert_eq!(rt; text.as_str(), "out of memory, read failed, write failed");
+    let names = names(rt.alloc())?;
+    let expected = "BadLine BadNumber, out of memory, read failed, write failed";
+    assert!(rt; names.as_str() == expected);
     Ok(())
 }
 

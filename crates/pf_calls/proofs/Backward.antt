@@ -1,5 +1,5 @@
 -- A list whose elements are changed from the last to the first.
-use Rattle.std.proofs.Common.{◌≡◌, ◌∙◌, ℕ, ◌+◌, ◌<◌, List, [], ◌∷◌, ◌++◌, length, map, take, drop, get_or, set, sym, ap, ap₂, append_assoc, length-take, arith}
+use Rattle.std.proofs.Common.{◌≡◌, ◌∙◌, ℕ, ◌+◌, ◌<◌, List, [], ◌∷◌, ◌++◌, length, map, take, drop, get_or, set, sym, ap, append_assoc, length-take, arith}
 use Rattle.std.proofs.lemmas.List.{drop_more, get_or_at, set_at, take_more}
 
 module _ {X : Type 0} (f : X → X) (xs ys : List X) (m place : ℕ) (d : X) (next : m ≡ place + 1) (within : place < length xs)

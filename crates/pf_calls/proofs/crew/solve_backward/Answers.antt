@@ -1,11 +1,11 @@
-use Rattle.std.proofs.Common.{◌≡◌, ◌∙◌, ◌+◌, ◌-◌, ◌++◌, ◌<◌, ℕ, ap, arith, drop, get_or, length, map, set, subst, sym, take}
+use Rattle.std.proofs.Common.{◌≡◌, ◌∙◌, ◌+◌, ◌-◌, ◌++◌, ◌<◌, ℕ, ap, arith, drop, length, map, subst, sym, take}
 use Rattle.pf_islands.specs.Split.{IsIslandOf, Island}
 use Rattle.pf_solver.specs.Alone.{island_after_tick}
-use Rattle.pf_step_tests.proofs.Backward.{same_before, solved_before}
-use Rattle.pf_step_tests.proofs.crews.solve_backward.Goals as goal
+use Rattle.pf_calls.proofs.Backward.{same_before, solved_before}
+use Rattle.pf_calls.proofs.crew.solve_backward.Goals as goal
 
-pub solve_in_place-requires : goal.solve_in_place-requires
-solve_in_place-requires c =
+pub solve_island-requires : goal.solve_island-requires
+solve_island-requires c =
     let xs = c.args.islands.now in
     let ys = c.loop-done.islands in
     let d : Island = c.index-islands-place.result in
@@ -28,7 +28,7 @@ loop-done-preserved c =
     let within : place < length xs = omega (arith, same, c.loop-done-test.true) in
     let next : length xs - c.loop-done.done ≡ place + 1 = omega (arith, same, c.loop-done-test.true) in
     let left : place ≡ length xs - (c.loop-done.done + 1) = omega (arith, same, c.loop-done-test.true) in
-    solved_before f xs ys (length xs - c.loop-done.done) place d next within c.loop-done.invariant c.solve_in_place.new.self
-    (c.solve_in_place.ensures
+    solved_before f xs ys (length xs - c.loop-done.done) place d next within c.loop-done.invariant c.solve_island.new.island
+    (c.solve_island.ensures
     ∙ ap f (same_before f xs ys (length xs - c.loop-done.done) place d next within c.loop-done.invariant))
     ∙ ap (λ n. take n xs ++ map f (drop n xs)) left

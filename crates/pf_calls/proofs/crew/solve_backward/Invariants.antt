@@ -1,6 +1,6 @@
 use Rattle.std.proofs.Common.{◌≡◌, ◌-◌, take, drop, ◌++◌, length, map}
 use Rattle.pf_solver.specs.Alone.{island_after_tick}
-use Rattle.pf_step_tests.proofs.crews.solve_backward.Given as goal
+use Rattle.pf_calls.proofs.crew.solve_backward.Given as goal
 
 abbrev pub invariant-loop-done : goal.invariant-loop-done
 invariant-loop-done l =

@@ -1,0 +1,107 @@
+//! Calls, and the lines that encode them.
+
+use anyhow::{Context, Result, bail};
+use pf_commands::Payload;
+use pf_num::Fx;
+use pf_step::CrewError;
+use std::alloc::Global;
+
+/// A call on a peer.
+#[derive(Debug, Drop)]
+pub enum Call {
+    /// Makes the peer of a player, with a ring of so many places.
+    New { player: u8, ring: usize },
+    Advance { ticks: u32 },
+    Issue { payload: Payload },
+    Take { frame: Vec<u8> },
+    /// Merges the commands of another peer.
+    Merge { other: usize },
+    Settle,
+    /// Settles with a crew, which fails in this solve, if one is given.
+    SettleWith { failure: Option<(u64, CrewError)> },
+    World { tick: u32 },
+}
+
+/// The number that a word encodes.
+fn number(word: &str) -> Result<u32> {
+    word.parse::<u32>().context("reading a number")
+}
+
+/// The number in units of 2^-24 that a word encodes.
+fn raw(word: &str) -> Result<Fx> {
+    let raw = word.parse::<i64>().context("reading a number")?;
+    Fx::from_raw(raw).context("a number is out of range")
+}
+
+/// The number of a body that a word encodes.
+fn body_number(word: &str) -> Result<u16> {
+    word.parse::<u16>().context("reading a body's number")
+}
+
+/// The command that words encode.
+fn payload_of(words: &[&str]) -> Result<Payload> {
+    Ok(match words {
+        ["push", body, x, y] => Payload::Push {
+            body: body_number(body)?,
+            x: raw(x)?,
+            y: raw(y)?,
+        },
+        ["turn", body, x] => Payload::Turn {
+            body: body_number(body)?,
+            x: raw(x)?,
+        },
+        ["stop", body] => Payload::Stop {
+            body: body_number(body)?,
+        },
+        _ => bail!("no such command"),
+    })
+}
+
+/// The error of this name.
+fn crew_error(name: &str) -> Result<CrewError> {
+    Ok(match name {
+        "OutOfMemory" => CrewError::OutOfMemory,
+        "NoThread" => CrewError::NoThread,
+        "GateShut" => CrewError::GateShut,
+        "CrewLost" => CrewError::CrewLost,
+        _ => bail!("no such error of a crew"),
+    })
+}
+
+/// The call that words encode, of which the second is the number of the peer.
+fn call_of(alloc: Global, words: &[&str]) -> Result<Call> {
+    Ok(match words {
+        ["new", _, player, ring] => Call::New {
+            player: player.parse::<u8>().context("reading a player")?,
+            ring: number(ring)? as usize,
+        },
+        ["advance", _, ticks] => Call::Advance {
+            ticks: number(ticks)?,
+        },
+        ["issue", _, payload @ ..] => Call::Issue {
+            payload: payload_of(payload)?,
+        },
+        ["take", _, digits] => Call::Take {
+            frame: hex::decode(alloc, digits).context("reading digits")?,
+        },
+        ["merge", _, other] => Call::Merge {
+            other: number(other)? as usize,
+        },
+        ["settle", _] => Call::Settle,
+        ["crew", _] => Call::SettleWith { failure: None },
+        ["crew", _, nth, error] => Call::SettleWith {
+            failure: Some((u64::from(number(nth)?), crew_error(error)?)),
+        },
+        ["world", _, tick] => Call::World {
+            tick: number(tick)?,
+        },
+        _ => bail!("no such call"),
+    })
+}
+
+/// The number of the peer and the call of a line.
+pub fn parse(alloc: Global, line: &str) -> Result<(usize, Call)> {
+    let words: Vec<&str> = line.split_whitespace().collect(alloc)?;
+    let peer = words.get(1).context("no peer")?;
+    Ok((number(peer)? as usize, call_of(alloc, words.as_slice())?))
+}

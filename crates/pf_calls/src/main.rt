@@ -1,0 +1,111 @@
+//! Runs lists of calls on peers, and prints what each returned and what the peer has counted.
+//!
+//! Standard input holds texts, each but the last with `# next text` as its last line. A text is a
+//! scene and then lines of calls, of which the second word is the number of a peer: the next number,
+//! for `new`.
+//!
+//! | line | call | printed |
+//! |---|---|---|
+//! | `new N PLAYER RING` | a peer that keeps so many settled worlds | `new PLAYER RING` |
+//! | `advance N TICKS` | goes on | `advance REACHED` |
+//! | `issue N push BODY X Y`, `turn BODY X`, `stop BODY` | issues a command | `issue FRAME` |
+//! | `take N FRAME` | takes a frame | `take new`, `same`, `greater` or `lesser` |
+//! | `merge N OTHER` | merges another peer's commands | `merge COUNT` |
+//! | `settle N` | settles on one thread | `settle REACHED` |
+//! | `crew N` | settles with a crew | `crew REACHED calls CALLS SEEN` |
+//! | `crew N NTH ERROR` | the same; this solve of the crew fails | `crew ERROR calls CALLS` |
+//! | `world N TICK` | the world at a tick | `world TICKS`, its bodies and its contacts |
+//!
+//! SEEN is what the crew was last given: the number of islands, of their bodies and of their
+//! contacts, and the least body. TICKS is how many ticks were simulated for the world. Lines of
+//! bodies are as `pf_play` shows them, and a line `contacts COUNT NORMAL TANGENT` has the sums of
+//! what contacts have accumulated. A call that is rejected prints `refused` and why.
+//!
+//! After each call stands a line `state N PLAYER BODIES COMMANDS REACHED SETTLED TICKS COLLIDES`:
+//! the last two are the counts of the peer's meter. A line that begins with `#` is printed as it
+//! is. The stored run has worked cases, with values by an independent program.
+#![tactic(auto)]
+
+mod call;
+mod crew;
+mod peers;
+mod print;
+
+ghost use Rattle.std.specs.Prelude.{◌+◌, ◌<◌, length, IfSome};
+
+use crate::call::parse;
+use crate::peers::answer;
+use crate::print::state_text;
+use anyhow::{Context, Result};
+use memchr::memmem;
+use pf_rollback::PeerCore;
+use pf_shapes::Scene;
+use std::alloc::Global;
+use std::io::{BufWriter, Read, Write};
+use std::thread::Threads;
+
+/// The last line of a text that another one follows.
+const SEPARATOR: &[u8] = b"# next text\n";
+
+/// The last line of a scene.
+const END: &[u8] = b"\nend\n";
+
+/// A text up to the first mark, with the mark, and what is behind it.
+fn split_behind<'a>(text: &'a [u8], mark: &[u8]) -> Option<(&'a [u8], &'a [u8])>
+    requires { 0 < length mark.now }
+    ensures { IfSome result (λ parts. length parts.1.now < length text.now) }
+{
+    let end = memmem::find(text, mark)? + mark.len();
+    Some((&text[..end], &text[end..]))
+}
+
+/// Runs the call of a line, and prints its answer and the state of its peer.
+fn run_line<R: Threads + Sync, W: Write>(
+    rt: &R,
+    alloc: Global,
+    scene: &Scene,
+    peers: &mut Vec<PeerCore>,
+    line: &str,
+    writer: &mut W,
+) -> Result<()> {
+    let (number, call) = parse(alloc, line)?;
+    let text = answer(rt, alloc, scene, peers, number, &call)?;
+    let state = state_text(alloc, number, peers.get(number).context("no such peer")?)?;
+    writeln!(writer, "{text}\n{state}")?;
+    Ok(())
+}
+
+/// Runs the calls of a text.
+fn run<R: Threads + Sync, W: Write>(
+    rt: &R,
+    alloc: Global,
+    text: &[u8],
+    writer: &mut W,
+) -> Result<()> {
+    let (scene, calls) = split_behind(text, END).context("no end of the scene")?;
+    let scene = Scene::read(alloc, scene)?;
+    let mut peers = Vec::new(alloc);
+    for line in str::from_utf8(calls).context("calls are text")?.lines() {
+        if line.starts_with('#') {
+            writeln!(writer, "{line}")?;
+        } else {
+            run_line(rt, alloc, &scene, &mut peers, line, writer)?;
+        }
+    }
+    Ok(())
+}
+
+fn main(rt: HostRuntime) -> Result<()> {
+    let alloc = rt.alloc();
+    let mut texts = Vec::new(alloc);
+    rt.stdin().read_to_end(&mut texts)?;
+    let mut writer = BufWriter::new(alloc, std::io::writer(&rt))?;
+    let mut rest = texts.as_slice();
+    while let Some((text, others)) = split_behind(rest, SEPARATOR) {
+        run(&rt, alloc, text, &mut writer)?;
+        rest = others;
+    }
+    run(&rt, alloc, rest, &mut writer)?;
+    writer.flush()?;
+    Ok(())
+}

@@ -1,0 +1,165 @@
+//! The calls on peers.
+
+ghost use Rattle.std.specs.Prelude.{◌<◌, ◌≤◌};
+
+use crate::call::Call;
+use crate::crew::BackwardCrew;
+use crate::print::{refused, world_text};
+use anyhow::{Context, Result, bail};
+use pf_cache::Work;
+use pf_commands::{Payload, Put};
+use pf_rollback::{MAX_RING, PeerCore};
+use pf_shapes::{PLAYERS, Scene};
+use pf_step::{CrewError, StepError};
+use std::alloc::{AllocError, Global};
+use std::thread::Threads;
+
+/// Adds the peer of a player.
+fn add(
+    alloc: Global,
+    scene: &Scene,
+    peers: &mut Vec<PeerCore>,
+    player: u8,
+    ring: usize,
+) -> Result<(), AllocError>
+    requires player { player < PLAYERS }
+    requires ring { (0 < ring) × (ring ≤ MAX_RING) }
+{
+    let peer = PeerCore::new(alloc, scene.try_clone()?, player, ring)?;
+    peers.push(peer)?;
+    Ok(())
+}
+
+/// Makes the next peer, which has this number.
+fn new(
+    alloc: Global,
+    scene: &Scene,
+    peers: &mut Vec<PeerCore>,
+    number: usize,
+    player: u8,
+    ring: usize,
+) -> Result<String> {
+    if number != peers.len() || player >= PLAYERS || ring == 0 || ring > MAX_RING {
+        bail!("no such peer");
+    }
+    add(alloc, scene, peers, player, ring)?;
+    Ok(format!(in alloc; "new {player} {ring}")?)
+}
+
+fn advance(alloc: Global, peer: &mut PeerCore, ticks: u32) -> Result<String> {
+    match peer.advance(ticks) {
+        Ok(reached) => Ok(format!(in alloc; "advance {reached}")?),
+        Err(fault) => refused(alloc, fault),
+    }
+}
+
+fn issue(alloc: Global, peer: &mut PeerCore, payload: Payload) -> Result<String> {
+    match peer.issue(payload) {
+        Ok(frame) => {
+            let digits = hex::encode(alloc, frame.as_slice())?;
+            Ok(format!(in alloc; "issue {digits}")?)
+        }
+        Err(fault) => refused(alloc, fault),
+    }
+}
+
+/// The name of how a command was put.
+fn put_name(put: Put) -> &'static str {
+    match put {
+        Put::New => "new",
+        Put::Same => "same",
+        Put::Greater => "greater",
+        Put::Lesser => "lesser",
+    }
+}
+
+fn take(alloc: Global, peer: &mut PeerCore, frame: &[u8]) -> Result<String> {
+    match peer.take(frame) {
+        Ok(put) => {
+            let name = put_name(put);
+            Ok(format!(in alloc; "take {name}")?)
+        }
+        Err(fault) => refused(alloc, fault),
+    }
+}
+
+/// Merges the commands of one peer into another, or into itself.
+fn merge(alloc: Global, peers: &mut [PeerCore], number: usize, other: usize) -> Result<String> {
+    let commands = peers
+        .get(other)
+        .context("no other peer")?
+        .commands()
+        .try_clone()?;
+    let peer = peers.get_mut(number).context("no such peer")?;
+    match peer.merge(&commands) {
+        Ok(count) => Ok(format!(in alloc; "merge {count}")?),
+        Err(fault) => refused(alloc, fault),
+    }
+}
+
+/// Settles with a crew. The line ends with how often the crew was called, and with what it was
+/// last given: how many islands, of how many bodies and contacts, and the least body.
+fn settle_with<R: Threads + Sync>(
+    rt: &R,
+    alloc: Global,
+    peer: &mut PeerCore,
+    failure: Option<(u64, CrewError)>,
+) -> Result<String> {
+    let mut crew = BackwardCrew::new(failure);
+    let outcome = peer.settle_with(rt, alloc, &mut crew);
+    let (calls, seen) = (crew.calls, crew.seen);
+    match outcome {
+        Ok(reached) => {
+            let (islands, bodies, contacts) = (seen.islands, seen.bodies, seen.contacts);
+            let least = seen.least;
+            Ok(format!(in alloc;
+                "crew {reached} calls {calls} {islands} {bodies} {contacts} {least:?}"
+            )?)
+        }
+        Err(StepError::Crew(error)) => Ok(format!(in alloc; "crew {error:?} calls {calls}")?),
+        Err(StepError::OutOfMemory) => bail!("out of memory"),
+    }
+}
+
+/// Shows the world at a tick.
+fn world(alloc: Global, peer: &PeerCore, tick: u32) -> Result<String> {
+    let mut work = Work::new(alloc);
+    match peer.world_at(alloc, tick, &mut work) {
+        Ok(world) => world_text(alloc, peer.scene(), &world, work.meter().ticks),
+        Err(fault) => refused(alloc, fault),
+    }
+}
+
+/// Settles on one thread.
+fn settle(alloc: Global, peer: &mut PeerCore) -> Result<String> {
+    let reached = peer.settle_alone(alloc)?;
+    Ok(format!(in alloc; "settle {reached}")?)
+}
+
+/// The peer of a number.
+fn peer_of(peers: &mut [PeerCore], number: usize) -> Result<&mut PeerCore> {
+    peers.get_mut(number).context("no such peer")
+}
+
+/// The text of what a call returned.
+pub fn answer<R: Threads + Sync>(
+    rt: &R,
+    alloc: Global,
+    scene: &Scene,
+    peers: &mut Vec<PeerCore>,
+    number: usize,
+    call: &Call,
+) -> Result<String> {
+    match call {
+        Call::New { player, ring } => new(alloc, scene, peers, number, *player, *ring),
+        Call::Merge { other } => merge(alloc, peers, number, *other),
+        Call::Advance { ticks } => advance(alloc, peer_of(peers, number)?, *ticks),
+        Call::Issue { payload } => issue(alloc, peer_of(peers, number)?, *payload),
+        Call::Take { frame } => take(alloc, peer_of(peers, number)?, frame),
+        Call::Settle => settle(alloc, peer_of(peers, number)?),
+        Call::SettleWith { failure } => {
+            settle_with(rt, alloc, peer_of(peers, number)?, *failure)
+        }
+        Call::World { tick } => world(alloc, peer_of(peers, number)?, *tick),
+    }
+}
