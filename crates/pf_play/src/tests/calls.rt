@@ -46,33 +46,41 @@ fn ended(alloc: Global, words: &[&str], text: &str) -> Result<Ended, AllocError>
     Ok((status, output, errors))
 }
 
+/// Whether a call ends with this status, this output and this report.
+fn is_so(ended: &Ended, status: u8, output: &[u8], errors: &[u8]) -> bool {
+    ended.0 == ExitCode::from(status) && ended.1.bytes() == output && ended.2.bytes() == errors
+}
+
 #[test]
 fn a_text_has_replies(rt: HostRuntime) -> Result<(), Fail> {
-    let (status, output, errors) = ended(rt.alloc(), &["pf_play", "run"], FALLING)?;
-    assert_eq!(rt; status, ExitCode::from(0));
-    assert_eq!(rt; output.bytes(), FALLEN.as_bytes());
-    assert!(rt; errors.bytes().is_empty());
+    let ended = ended(rt.alloc(), &["pf_play", "run"], FALLING)?;
+    assert!(rt; is_so(&ended, 0, FALLEN.as_bytes(), b""));
     Ok(())
 }
 
 #[test]
 fn an_invalid_line_is_reported(rt: HostRuntime) -> Result<(), Fail> {
     let text = format!(in rt.alloc(); "{FALLING}advance 0 05\nshow 0 1\n")?;
-    let (status, output, errors) = ended(rt.alloc(), &["pf_play", "run"], text.as_str())?;
-    assert_eq!(rt; status, ExitCode::from(1));
-    assert_eq!(rt; output.bytes(), FALLEN.as_bytes());
-    assert_eq!(rt; errors.bytes(), b"pf_play: line 7: BadNumber\n".as_slice());
+    let ended = ended(rt.alloc(), &["pf_play", "run"], text.as_str())?;
+    assert!(rt;
+        is_so(
+            &ended,
+            1,
+            FALLEN.as_bytes(),
+            b"pf_play: line 7: BadNumber\n"
+        )
+    );
     Ok(())
 }
 
+/// What is reported of a word that is no subcommand.
+const UNRECOGNIZED: &[u8] = b"error: unrecognized subcommand 'fall'\n\n\
+Usage: pf_play <COMMAND>\n\nFor more information, try '--help'.\n";
+
 #[test]
 fn wrong_words_are_reported(rt: HostRuntime) -> Result<(), Fail> {
-    let (status, output, errors) = ended(rt.alloc(), &["pf_play", "fall"], FALLING)?;
-    let expected = "error: unrecognized subcommand 'fall'\n\n\
-Usage: pf_play <COMMAND>\n\nFor more information, try '--help'.\n";
-    assert_eq!(rt; status, ExitCode::from(2));
-    assert_eq!(rt; errors.bytes(), expected.as_bytes());
-    assert!(rt; output.bytes().is_empty());
+    let ended = ended(rt.alloc(), &["pf_play", "fall"], FALLING)?;
+    assert!(rt; is_so(&ended, 2, b"", UNRECOGNIZED));
     Ok(())
 }
 
@@ -95,10 +103,8 @@ const FRAMES: [(&str, &str); 3] = [
 #[test]
 fn frames_are_printed(rt: HostRuntime) -> Result<(), Fail> {
     for (digits, line) in FRAMES {
-        let (status, output, errors) = ended(rt.alloc(), &["pf_play", "frame", digits], FALLING)?;
-        assert_eq!(rt; status, ExitCode::from(0));
-        assert_eq!(rt; output.bytes(), line.as_bytes());
-        assert!(rt; errors.bytes().is_empty());
+        let ended = ended(rt.alloc(), &["pf_play", "frame", digits], FALLING)?;
+        assert!(rt; is_so(&ended, 0, line.as_bytes(), b""));
         assert!(rt; FRAME_HELP.contains(line.trim_end()));
     }
     Ok(())
@@ -106,10 +112,8 @@ fn frames_are_printed(rt: HostRuntime) -> Result<(), Fail> {
 
 #[test]
 fn a_short_frame_is_reported(rt: HostRuntime) -> Result<(), Fail> {
-    let (status, output, errors) = ended(rt.alloc(), &["pf_play", "frame", "01"], FALLING)?;
-    assert_eq!(rt; status, ExitCode::from(1));
-    assert_eq!(rt; errors.bytes(), b"pf_play: frame: Short\n".as_slice());
-    assert!(rt; output.bytes().is_empty());
+    let ended = ended(rt.alloc(), &["pf_play", "frame", "01"], FALLING)?;
+    assert!(rt; is_so(&ended, 1, b"", b"pf_play: frame: Short\n"));
     Ok(())
 }
 
@@ -204,11 +208,9 @@ fn texts_that_are_asked_for_are_written(rt: HostRuntime) -> Result<(), Fail> {
         (["pf_play", "run", "--help"].as_slice(), RUN_HELP, RUN_TEXT),
         (["pf_play", "frame", "--help"].as_slice(), FRAME_HELP, ""),
     ] {
-        let (status, output, errors) = ended(rt.alloc(), words, FALLING)?;
+        let ended = ended(rt.alloc(), words, FALLING)?;
         let expected = format!(in rt.alloc(); "{head}{tail}")?;
-        assert_eq!(rt; status, ExitCode::from(0));
-        assert_eq!(rt; output.bytes(), expected.as_str().as_bytes());
-        assert!(rt; errors.bytes().is_empty());
+        assert!(rt; is_so(&ended, 0, expected.as_str().as_bytes(), b""));
     }
     Ok(())
 }
@@ -229,11 +231,8 @@ fn set_in(alloc: Global, after: &str, before: &str) -> Result<String, AllocError
 fn the_scene_of_the_help_has_its_answer(rt: HostRuntime) -> Result<(), Fail> {
     let scene = set_in(rt.alloc(), "gravity 10:\n\n", "\n\nand run it")?;
     let answer = set_in(rt.alloc(), "the answers are:\n\n", "\n\n")?;
-    assert_eq!(rt; scene.as_str(), FALLING);
-    let (status, output, errors) = ended(rt.alloc(), &["pf_play", "run"], scene.as_str())?;
-    assert_eq!(rt; status, ExitCode::from(0));
-    assert_eq!(rt; output.bytes(), answer.as_str().as_bytes());
-    assert!(rt; errors.bytes().is_empty());
+    let ended = ended(rt.alloc(), &["pf_play", "run"], scene.as_str())?;
+    assert!(rt; scene.as_str() == FALLING && is_so(&ended, 0, answer.as_str().as_bytes(), b""));
     Ok(())
 }
 
@@ -272,11 +271,10 @@ fn a_reader_that_fails_is_reported(rt: HostRuntime) -> Result<(), Fail> {
     let mut output = Collected::new(rt.alloc());
     let mut errors = Collected::new(rt.alloc());
     let status = program(rt.alloc(), words, &mut reader, &mut output, &mut errors);
-    assert_eq!(rt; status, ExitCode::from(3));
     if errors.bytes() != b"pf_play: read failed\n".as_slice() {
         return Err(AllocError)?;
     }
-    assert_eq!(rt; output.bytes(), FALLEN.as_bytes());
+    assert!(rt; status == ExitCode::from(3) && output.bytes() == FALLEN.as_bytes());
     Ok(())
 }
 
@@ -287,24 +285,25 @@ fn a_writer_that_fails_is_reported(rt: HostRuntime) -> Result<(), Fail> {
     let mut output = Output::new(Broken { is_read: true });
     let mut errors = Collected::new(rt.alloc());
     let status = program(rt.alloc(), words, &mut reader, &mut output, &mut errors);
-    assert_eq!(rt; status, ExitCode::from(3));
     if errors.bytes() != b"pf_play: write failed\n".as_slice() {
         return Err(AllocError)?;
     }
+    assert!(rt; status == ExitCode::from(3));
     Ok(())
 }
 
 #[test]
-fn words_that_cannot_be_read_are_reported(rt: HostRuntime) -> Result<(), Fail> {
-    let (status, output, errors) = answered(rt.alloc(), Err(PlayFault::Memory), FALLING)?;
-    assert_eq!(rt; status, ExitCode::from(3));
-    assert_eq!(rt; errors.bytes(), b"pf_play: out of memory\n".as_slice());
-    assert!(rt; output.bytes().is_empty());
+fn words_without_memory_are_reported(rt: HostRuntime) -> Result<(), Fail> {
+    let ended = answered(rt.alloc(), Err(PlayFault::Memory), FALLING)?;
+    assert!(rt; is_so(&ended, 3, b"", b"pf_play: out of memory\n"));
+    Ok(())
+}
+
+#[test]
+fn words_that_are_mistaken_are_reported(rt: HostRuntime) -> Result<(), Fail> {
     let text = String::from_str(rt.alloc(), "error: such words\n")?;
-    let (status, output, errors) = answered(rt.alloc(), Err(PlayFault::Words(text)), FALLING)?;
-    assert_eq!(rt; status, ExitCode::from(2));
-    assert_eq!(rt; errors.bytes(), b"error: such words\n".as_slice());
-    assert!(rt; output.bytes().is_empty());
+    let ended = answered(rt.alloc(), Err(PlayFault::Words(text)), FALLING)?;
+    assert!(rt; is_so(&ended, 2, b"", b"error: such words\n"));
     Ok(())
 }
 
@@ -315,6 +314,6 @@ fn an_error_that_cannot_be_reported_keeps_its_status(rt: HostRuntime) -> Result<
     let mut output = Collected::new(rt.alloc());
     let mut errors = Output::new(Broken { is_read: true });
     let status = program(rt.alloc(), words, &mut reader, &mut output, &mut errors);
-    assert_eq!(rt; status, ExitCode::from(3));
+    assert!(rt; status == ExitCode::from(3));
     Ok(())
 }

@@ -22,38 +22,61 @@ fn mistake(alloc: Global, words: &[&str]) -> Result<String, AllocError> {
     }
 }
 
+/// Whether words ask for a run.
+fn is_run(alloc: Global, words: &[&str]) -> Result<bool, PlayFault> {
+    Ok(matches!(options(alloc, words)?, Request::Run))
+}
+
 #[test]
 fn runs(rt: HostRuntime) -> Result<(), Fail> {
-    assert!(rt; matches!(options(rt.alloc(), &["pf_play", "run"])?, Request::Run));
-    assert!(rt;
-        matches!(
-            options(rt.alloc(), &["./out/pf_play", "run", "--"])?,
-            Request::Run
-        )
-    );
+    for words in [
+        ["pf_play", "run"].as_slice(),
+        ["./out/pf_play", "run", "--"].as_slice(),
+    ] {
+        let is_run = is_run(rt.alloc(), words)?;
+        assert!(rt; is_run);
+    }
     Ok(())
+}
+
+/// Whether words ask for the frame of these digits.
+fn is_frame(alloc: Global, words: &[&str], digits: &str) -> Result<bool, PlayFault> {
+    Ok(matches!(options(alloc, words)?, Request::Frame(found) if found == digits))
 }
 
 #[test]
 fn takes_the_digits_of_a_frame(rt: HostRuntime) -> Result<(), Fail> {
     for digits in ["01ff", "", "no digits"] {
-        let words = ["pf_play", "frame", digits];
-        let request = options(rt.alloc(), &words)?;
-        assert!(rt;
-            matches!(request, Request::Frame(found) if found == digits),
-            "{digits}"
-        );
+        let is_frame = is_frame(rt.alloc(), &["pf_play", "frame", digits], digits)?;
+        assert!(rt; is_frame, "{digits}");
+    }
+    Ok(())
+}
+
+/// Whether words ask for the version.
+fn is_version(alloc: Global, words: &[&str]) -> Result<bool, PlayFault> {
+    Ok(matches!(options(alloc, words)?, Request::Version))
+}
+
+/// Whether words ask for a help.
+fn is_help(alloc: Global, words: &[&str]) -> Result<bool, PlayFault> {
+    Ok(match options(alloc, words)? {
+        Request::Help(text) => text.contains("Usage: pf_play"),
+        _ => false,
+    })
+}
+
+#[test]
+fn tells_the_version(rt: HostRuntime) -> Result<(), Fail> {
+    for word in ["--version", "-V"] {
+        let is_version = is_version(rt.alloc(), &["pf_play", word])?;
+        assert!(rt; is_version, "{word}");
     }
     Ok(())
 }
 
 #[test]
 fn tells_help_from_version(rt: HostRuntime) -> Result<(), Fail> {
-    for word in ["--version", "-V"] {
-        let words = ["pf_play", word];
-        let request = options(rt.alloc(), &words)?;
-        assert!(rt; matches!(request, Request::Version), "{word}");
-    }
     for words in [
         ["pf_play", "--help"].as_slice(),
         ["pf_play", "-h"].as_slice(),
@@ -61,10 +84,8 @@ fn tells_help_from_version(rt: HostRuntime) -> Result<(), Fail> {
         ["pf_play", "frame", "-h"].as_slice(),
         ["pf_play", "-h", "-V"].as_slice(),
     ] {
-        let Request::Help(text) = options(rt.alloc(), words)? else {
-            return Err(Fail::from("a help"));
-        };
-        assert!(rt; text.contains("Usage: pf_play"));
+        let is_help = is_help(rt.alloc(), words)?;
+        assert!(rt; is_help);
     }
     Ok(())
 }
@@ -114,13 +135,18 @@ const MISTAKES: [(&[&str], &str, &str); 8] = [
     ),
 ];
 
+/// Whether words have this mistake, and show this usage.
+fn is_mistake(alloc: Global, words: &[&str], error: &str, usage: &str) -> Result<bool, AllocError> {
+    let text = mistake(alloc, words)?;
+    let expected = format!(in alloc; "{error}{usage}")?;
+    Ok(text.as_str() == expected.as_str())
+}
+
 #[test]
 fn wrong_words_are_mistakes(rt: HostRuntime) -> Result<(), Fail> {
-    let alloc = rt.alloc();
     for (words, error, usage) in MISTAKES {
-        let text = mistake(alloc, words)?;
-        let expected = format!(in alloc; "{error}{usage}")?;
-        assert_eq!(rt; text.as_str(), expected.as_str());
+        let is_mistake = is_mistake(rt.alloc(), words, error, usage)?;
+        assert!(rt; is_mistake, "{error}");
     }
     Ok(())
 }
@@ -152,14 +178,19 @@ impl Env for Call<'_> {
     }
 }
 
+/// Whether words are these.
+fn are(found: &[String], words: &[&[u8]]) -> bool {
+    found
+        .iter()
+        .map(|word| word.as_bytes())
+        .eq(words.iter().copied())
+}
+
 #[test]
 fn all_words_are_read_in_order(rt: HostRuntime) -> Result<(), Fail> {
     let words = [b"pf_play".as_slice(), b"frame", b"", b"\xc3\xa4 \n\0"];
     let found = words_of(&(Call { words: &words }, rt.alloc()))?;
-    assert_eq!(rt; found.len(), 4);
-    for (word, expected) in found.iter().zip(words.iter()) {
-        assert_eq!(rt; word.as_bytes(), *expected);
-    }
+    assert!(rt; are(&found, &words));
     Ok(())
 }
 
@@ -171,12 +202,7 @@ fn long_words_are_read_whole(rt: HostRuntime) -> Result<(), Fail> {
         words.push(&long[..50 * length])?;
     }
     let found = words_of(&(Call { words: &words }, rt.alloc()))?;
-    assert!(rt;
-        found
-            .iter()
-            .map(|word| word.as_bytes())
-            .eq(words.iter().copied())
-    );
+    assert!(rt; are(&found, &words));
     Ok(())
 }
 
