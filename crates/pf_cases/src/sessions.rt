@@ -5,6 +5,7 @@ ghost use Rattle.std.specs.Prelude.{◌≡◌};
 ghost use Rattle.pf_peers.specs.Session.{other_of, peer_of};
 
 use crate::scenes::scene_of;
+use pf_cache::Work;
 use pf_commands::Payload;
 use pf_peers::{Event, Reply, Session, run};
 use pf_rollback::Refusal;
@@ -72,8 +73,20 @@ fn settled_of_first(session: &Session) -> u32 {
     session.core(0).settled()
 }
 
+/// How many ticks are simulated for the world of the first peer at a tick.
+fn ticks_for_world(session: &Session, alloc: Global, tick: u32) -> Result<u64, Fail> {
+    if session.peer_count() == 0 {
+        return Err(Fail::from("no peer"));
+    }
+    let mut work = Work::new(alloc);
+    match session.core(0).world_at(alloc, tick, &mut work) {
+        Ok(_) => Ok(work.meter().ticks),
+        Err(_) => Err(Fail::from("no world")),
+    }
+}
+
 #[test]
-fn a_settle_settles(rt: HostRuntime) -> Result<(), Fail> {
+fn a_settle_keeps_worlds(rt: HostRuntime) -> Result<(), Fail> {
     let mut session = Session::new(rt.alloc(), scene_of(rt.alloc(), SCENE)?, 1)?;
     answer_first(
         &mut session,
@@ -82,5 +95,6 @@ fn a_settle_settles(rt: HostRuntime) -> Result<(), Fail> {
     )?;
     answer_first(&mut session, rt.alloc(), Event::Settle { peer: 0 })?;
     assert_eq!(rt; settled_of_first(&session), 4);
+    assert_eq!(rt; ticks_for_world(&session, rt.alloc(), 2)?, 0);
     Ok(())
 }
