@@ -79,10 +79,8 @@ fn ticks_for_world(session: &Session, alloc: Global, tick: u32) -> Result<u64, F
         return Err(Fail::from("no peer"));
     }
     let mut work = Work::new(alloc);
-    match session.core(0).world_at(alloc, tick, &mut work) {
-        Ok(_) => Ok(work.meter().ticks),
-        Err(_) => Err(Fail::from("no world")),
-    }
+    session.core(0).world_at(alloc, tick, &mut work)?;
+    Ok(work.meter().ticks)
 }
 
 #[test]
