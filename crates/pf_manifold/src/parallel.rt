@@ -94,8 +94,8 @@ pub trait Collider {
     /// What a call needs beside its arguments, as a runtime that threads may share.
     ghost can_collide: { Self → Type 0 } = { λ _. ⊤ };
 
-    /// From so many pairs on whose points have to be computed, `collide` takes less time for all
-    /// pairs than it takes to compute these points one after the other. It changes no result.
+    /// How many pairs must have lost their points before `collide` is called, which computes those
+    /// of all pairs. Where fewer have, they are computed one after the other. It changes no result.
     const MANY: usize;
 
     /// The list of [`collide_list`].
