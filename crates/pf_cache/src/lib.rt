@@ -16,7 +16,6 @@ mod ranked;
 mod refresh;
 mod row;
 mod spans;
-mod work;
 
 pub use constraint::{Constraint, InverseMass, Prepared};
 pub use contact::{Contact, Impulses};
@@ -24,4 +23,3 @@ pub use contacts::Contacts;
 pub use manifolds::{Manifolds, NarrowPhase};
 pub use meter::Meter;
 pub use row::{Entry, Row, Side};
-pub use work::Work;

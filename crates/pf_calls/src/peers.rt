@@ -6,11 +6,10 @@ use crate::call::Call;
 use crate::crew::BackwardCrew;
 use crate::print::{refused, world_text};
 use anyhow::{Context, Result, bail};
-use pf_cache::Work;
 use pf_commands::{Payload, Put};
 use pf_rollback::{MAX_RING, PeerCore};
 use pf_shapes::{PLAYERS, Scene};
-use pf_step::{CrewError, StepError};
+use pf_step::{CrewError, StepError, Work};
 use std::alloc::{AllocError, Global};
 use std::thread::Threads;
 

@@ -2,7 +2,7 @@
 
 use crate::scenes::scene_of;
 use pf_broad::pairs;
-use pf_cache::{Contact, Contacts, Impulses, Manifolds, Meter, NarrowPhase, Work};
+use pf_cache::{Contact, Contacts, Impulses, Meter};
 use pf_manifold::collide_list;
 use std::alloc::Global;
 use std::test::Fail;
@@ -67,22 +67,17 @@ fn copies_of_contacts_are_equal(rt: HostRuntime) -> Result<(), Fail> {
     Ok(())
 }
 
-/// Whether a work counts the pairs of a tick, and its meter stays at its greatest count.
-fn counts(work: &mut Work, narrow_phase: NarrowPhase) -> bool {
-    let is_none = work.meter() == Meter::NONE;
-    work.end_tick(narrow_phase);
-    let mut meter = work.meter();
+/// Whether a meter counts ticks and pairs, and stays at its greatest count.
+fn counts(meter: &mut Meter) -> bool {
+    meter.count_tick();
+    meter.count_collides(3);
     let is_counted = meter.ticks == 1 && meter.collides == 3;
     meter.count_tick();
     meter.count_collides(u64::MAX - 1);
-    is_none && is_counted && meter.ticks == 2 && meter.collides == u64::MAX
+    is_counted && meter.ticks == 2 && meter.collides == u64::MAX
 }
 
 #[test]
 fn counts_stay_at_their_greatest(rt: HostRuntime) {
-    let narrow_phase = NarrowPhase {
-        manifolds: Manifolds::new(rt.alloc()),
-        computed: 3,
-    };
-    assert!(rt; counts(&mut Work::new(rt.alloc()), narrow_phase));
+    assert!(rt; counts(&mut Meter { ..Meter::NONE }));
 }

@@ -5,10 +5,10 @@ ghost use Rattle.std.specs.Prelude.{◌≡◌};
 ghost use Rattle.pf_peers.specs.Session.{other_of, peer_of};
 
 use crate::scenes::scene_of;
-use pf_cache::Work;
 use pf_commands::Payload;
 use pf_peers::{Event, Reply, Session, run};
 use pf_rollback::Refusal;
+use pf_step::Work;
 use std::alloc::Global;
 use std::test::Fail;
 

@@ -1,9 +1,8 @@
 //! Worlds are compared and copied. Many ticks stand in the stored runs of `pf_runs` and `pf_calls`.
 
 use crate::scenes::scene_of;
-use pf_cache::Work;
 use pf_shapes::Scene;
-use pf_step::{World, step_alone};
+use pf_step::{Work, World, step_alone};
 use std::alloc::{AllocError, Global};
 use std::test::Fail;
 

@@ -72,24 +72,31 @@ impl Island {
     ghost use Rattle.std.specs.Prelude.{◌≡◌, ◌≤◌, ◌++◌, ◌∷◌, [], IfOk, IsOk, OnOk, length};
     ghost use Rattle.pf_islands.specs.Split.{no_island};
 
-    /// Without bodies, with room for so many bodies and contacts. Takes no memory for one body
-    /// without contacts.
-    pub(crate) fn with_room(alloc: Global, room: Room) -> Result<Island, AllocError>
-        ensures value { IfOk result (λ made. made ≡ no_island) }
+    /// Without bodies. Takes no memory.
+    pub(crate) fn new(alloc: Global) -> Island
+        ensures { result ≡ no_island }
+    {
+        Island {
+            numbers: SmallVec::new(alloc),
+            bodies: SmallVec::new(alloc),
+            rows: Vec::new(alloc),
+        }
+    }
+
+    /// Drops its bodies and contacts, and makes room for so many others in the same memory. Takes no
+    /// memory for one body without contacts.
+    pub(crate) fn clear(&mut self, room: Room) -> Result<(), AllocError>
+        ensures value { OnOk result (self.new ≡ no_island) }
         ensures no_memory { room.bodies ≤ 1 → room.rows ≡ 0 → IsOk result }
     {
-        let mut numbers = SmallVec::new(alloc);
-        let mut bodies = SmallVec::new(alloc);
+        self.numbers.clear();
+        self.bodies.clear();
+        self.rows.clear();
         if room.bodies > 1 {
-            numbers.reserve(room.bodies)?;
-            bodies.reserve(room.bodies)?;
+            self.numbers.reserve(room.bodies)?;
+            self.bodies.reserve(room.bodies)?;
         }
-        let rows = Vec::with_capacity(alloc, room.rows)?;
-        Ok(Island {
-            numbers,
-            bodies,
-            rows,
-        })
+        self.rows.reserve(room.rows)
     }
 
     /// A copy. Takes no memory for one body without contacts.

@@ -1,6 +1,6 @@
 //! The islands of a tick.
 
-ghost use Rattle.std.specs.Prelude.{◌≡◌, ◌<◌, [], All, IfOk, IsOk, OnOk, length, map, slice_index_or, slice_set};
+ghost use Rattle.std.specs.Prelude.{◌≡◌, ◌<◌, ◌≤◌, ◌+◌, ◌++◌, ◌∷◌, [], All, IfOk, IsOk, OnOk, length, map, slice_index_or, slice_set, take};
 ghost use Rattle.std.specs.List.{range_with_len};
 ghost use Rattle.pf_cache.specs.Row.{IsSide};
 ghost use Rattle.pf_manifold.specs.Touches.{IsTouchOf};
@@ -30,24 +30,30 @@ fn is_active_name(names: &[usize], bodies: &[BodyState], number: usize) -> bool
     names[number] == number && body.awake
 }
 
-/// How many groups are simulated.
-fn active_count(names: &[usize], bodies: &[BodyState]) -> usize
-    requires { length bodies.now ≡ length names.now }
-    ensures { result ≡ length (active_names names.now bodies.now) }
+/// Clears the island at a place, or adds one without bodies at the end.
+fn clear_at(
+    alloc: Global,
+    islands: &mut Vec<Island>,
+    place: usize,
+    room: Room,
+) -> Result<(), AllocError>
+    requires { place ≤ length islands.old.items }
+    ensures cleared { OnOk result
+        (take (place + 1) islands.new.items ≡ take place islands.old.items ++ no_island ∷ []) }
+    ensures within { OnOk result (place < length islands.new.items) }
 {
-    let mut count = 0;
-    for number in 0..names.len() {
-        if is_active_name(names, bodies, number) {
-            count += 1;
-        }
+    if place == islands.len() {
+        islands.push(Island::new(alloc))?;
     }
-    count
+    let island = &mut islands[place];
+    island.clear(room)
 }
 
-/// An island without bodies for each group that is simulated, in the order of their names; and for
-/// each body how many of these names are less than its number.
+/// An island without bodies for each group that is simulated, in the order of their names and the
+/// memory of the spare ones; and for each body how many of these names are less than its number.
 fn empty_islands(
     alloc: Global,
+    spare: Vec<Island>,
     names: &[usize],
     bodies: &[BodyState],
     rooms: &[Room],
@@ -60,14 +66,17 @@ fn empty_islands(
         ≡ map (slot_of names.now bodies.now) (range_with_len 0 (length names.now))) }
     ensures no_memory { length names.now ≡ 0 → IsOk result }
 {
-    let mut islands = Vec::with_capacity(alloc, active_count(names, bodies))?;
+    let mut islands = spare;
     let mut slots = Vec::with_capacity(alloc, names.len())?;
+    let mut count = 0;
     for number in 0..names.len() {
-        slots.push_reserved(islands.len());
+        slots.push_reserved(count);
         if is_active_name(names, bodies, number) {
-            islands.push(Island::with_room(alloc, rooms[number])?)?;
+            clear_at(alloc, &mut islands, count, rooms[number])?;
+            count += 1;
         }
     }
+    islands.truncate(count);
     Ok((islands, slots))
 }
 
@@ -189,11 +198,13 @@ fn deal_row(
 /// The islands of a tick, as Box2D 2.x's `b2World::Solve` makes them: one for each group that is
 /// simulated, in the order of their least bodies, with copies of the bodies of the group and with
 /// the contacts that touch them. The groups are those of the contact points, and awake as wholes;
-/// the contacts are those of the contact points. Takes no memory where there are no bodies and no
+/// the contacts are those of the contact points. The islands are made in the memory of the spare
+/// ones, whose bodies and contacts are gone. Takes no memory where there are no bodies and no
 /// contact points.
 #[inline(never)]
 pub fn split(
     alloc: Global,
+    spare: Vec<Island>,
     scene: &Scene,
     groups: &Groups,
     bodies: &[BodyState],
@@ -213,7 +224,7 @@ pub fn split(
     let names = groups.names();
     let active = active_places(alloc, scene, bodies, touches)?;
     let rooms = rooms(alloc, names, bodies, touches, &active)?;
-    let (mut made, slots) = empty_islands(alloc, names, bodies, &rooms)?;
+    let (mut made, slots) = empty_islands(alloc, spare, names, bodies, &rooms)?;
     let mut places = Vec::with_capacity(alloc, names.len())?;
     places.resize(names.len(), 0)?;
     deal_bodies(&mut made, &mut places, &slots, names, bodies)?;

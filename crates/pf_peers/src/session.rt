@@ -12,10 +12,10 @@ ghost use Rattle.pf_rollback.specs.Kept.{settled_tick};
 ghost use Rattle.pf_rollback.specs.Peer.{IsEmptyBefore, advance, issue, take, world_at};
 
 use crate::event::{Event, Reply};
-use pf_cache::Work;
 use pf_commands::{Command, CommandMap, FrameFault, Payload};
 use pf_rollback::{Fault, MAX_RING, PeerCore, Refusal};
 use pf_shapes::{PLAYERS, Scene};
+use pf_step::Work;
 use std::alloc::{AllocError, Global};
 use std::marker::Model;
 

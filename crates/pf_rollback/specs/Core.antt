@@ -8,8 +8,9 @@ use Rattle.pf_commands.specs.Check.{IsAllowed}
 use Rattle.pf_commands.specs.Merge.{CommandMap}
 use Rattle.pf_commands.specs.Name.{Name}
 use Rattle.pf_commands.specs.News.{is_news}
-use Rattle.pf_cache.specs.Meter.{Meter, no_work, saturating_sum}
+use Rattle.pf_cache.specs.Meter.{Meter, saturating_sum}
 use Rattle.pf_step.specs.Simulation.{sim}
+use Rattle.pf_step.specs.Work.{no_work}
 use Rattle.pf_step.specs.World.{World}
 use Rattle.pf_rollback.specs.declared.snapshots.TheConstants.{KEYFRAME_INTERVAL}
 use Rattle.pf_rollback.specs.Kept.{Ticks, no_ticks, settled_tick, ticks_after_news, ticks_after_more}

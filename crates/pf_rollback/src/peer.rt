@@ -6,13 +6,13 @@ ghost use Rattle.pf_commands.specs.News.{is_change};
 
 use crate::fault::{Fault, Refusal};
 use crate::snapshots::Snapshots;
-use pf_cache::{Meter, Work};
+use pf_cache::Meter;
 use pf_commands::{
     Command, CommandMap, FRAME_LEN, MAX_TICK, Name, Payload, Put, check, decode, encode,
 };
 use pf_manifold::{Collider, OneThread, SeveralThreads};
 use pf_shapes::{PLAYERS, Scene};
-use pf_step::{Crew, StepError, World, step_alone, step_by};
+use pf_step::{Crew, StepError, Work, World, step_alone, step_by};
 use std::alloc::{AllocError, Global};
 use std::marker::Model;
 use std::thread::Threads;

@@ -4,8 +4,7 @@ ghost use Rattle.std.specs.Prelude.{◌≡◌, ◌<◌, ◌%◌, ◌==◌, [], �
 ghost use Rattle.circular_buffer.specs.Buffer.{buffer, keep_last};
 
 use circular_buffer::HeapCircularBuffer;
-use pf_cache::Work;
-use pf_step::World;
+use pf_step::{Work, World};
 use std::alloc::{AllocError, Global};
 use std::marker::Model;
 

@@ -1,5 +1,6 @@
 -- What the contracts of this crate cite.
 pub mod World
+pub mod Work
 pub mod WorldLaws
 pub mod Commands
 pub mod Step

@@ -15,8 +15,9 @@ ghost use Rattle.pf_step.specs.Calls.{FailsBy};
 ghost use Rattle.pf_step.specs.Step.{touching, world_after};
 
 use crate::crew::{Crew, StepError};
+use crate::work::Work;
 use crate::world::World;
-use pf_cache::{Contacts, NarrowPhase, Work};
+use pf_cache::{Contacts, NarrowPhase};
 use pf_islands::{Groups, Island, join_back, split};
 use pf_shapes::{BodyState, Scene};
 use pf_solver::solve_untouched;
@@ -33,15 +34,21 @@ struct Tick {
     islands: Vec<Island>,
 }
 
-/// The phases Points and Activity, after the narrow phase of these bodies. The next contacts are
-/// made in the memory of `room`.
+/// The memory that is kept for the contacts and islands of a tick.
+#[derive(Drop)]
+struct Spare {
+    contacts: Contacts,
+    islands: Vec<Island>,
+}
+
+/// The phases Points and Activity, after the narrow phase of these bodies.
 #[tactic(auto, using(crate::proofs::Joined::awake_long, crate::proofs::Lengths::updated_length))]
 fn prepare(
     alloc: Global,
     scene: &Scene,
     contacts: &Contacts,
     bodies: Vec<BodyState>,
-    room: Contacts,
+    spare: Spare,
     found: &NarrowPhase,
 ) -> Result<Tick, AllocError>
     requires bodies { length bodies.items ≡ length scene.now.fixtures }
@@ -59,10 +66,11 @@ fn prepare(
 {
     let mut bodies = bodies;
     let touches = found.manifolds.touches();
-    let contacts = contacts.update(room, touches)?;
+    let contacts = contacts.update(spare.contacts, touches)?;
     let mut groups = Groups::new(alloc, scene, touches)?;
     groups.wake(&mut bodies);
-    let islands = split(alloc, scene, &groups, &bodies, touches, contacts.as_slice())?;
+    let contacts_now = contacts.as_slice();
+    let islands = split(alloc, spare.islands, scene, &groups, &bodies, touches, contacts_now)?;
     Ok(Tick {
         bodies,
         contacts,
@@ -124,8 +132,13 @@ pub(crate) fn finish<C: Crew>(
     if found.manifolds.touches().is_empty() && crew.skips_untouched() {
         return Ok(untouched_world(alloc, scene, bodies));
     }
-    let room = work.take_contacts(alloc);
-    let tick = prepare(alloc, scene, contacts, bodies, room, found)?;
+    let spare = Spare {
+        contacts: work.take_contacts(alloc),
+        islands: work.take_islands(alloc),
+    };
+    let tick = prepare(alloc, scene, contacts, bodies, spare, found)?;
     let solved = crew.solve(scene, tick.islands)?;
-    Ok(world_of(tick.bodies, tick.contacts, &solved))
+    let next = world_of(tick.bodies, tick.contacts, &solved);
+    work.keep_islands(solved);
+    Ok(next)
 }

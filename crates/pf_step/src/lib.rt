@@ -9,9 +9,11 @@ mod crew;
 mod ending;
 pub mod laws;
 mod step;
+mod work;
 mod world;
 
 pub use command::apply;
 pub use crew::{Crew, CrewError, StepError};
 pub use step::{step_alone, step_by, step_with};
+pub use work::Work;
 pub use world::World;

@@ -2,7 +2,8 @@
 
 ghost use Rattle.std.specs.Prelude.{◌≡◌, [], IfOk, IsOk};
 
-use pf_cache::{Contacts, Work};
+use crate::work::Work;
+use pf_cache::Contacts;
 use pf_shapes::{BodyState, Scene};
 use std::alloc::{AllocError, Global};
 use std::marker::Model;
@@ -85,7 +86,7 @@ impl World {
     pub fn lend(self, work: &mut Work)
         ensures { work.new ≡ work.old }
     {
-        work.lend(self.bodies, self.contacts);
+        work.keep_world(self.bodies, self.contacts);
     }
 
     /// A copy. Takes time and memory for all bodies and contacts, and no memory where there are

@@ -2,7 +2,7 @@ use Rattle.std.proofs.Common.{◌≡◌, ◌∙◌, List, ap, ap₂, length, sub
 use Rattle.pf_shapes.specs.Body.{BodyState}
 use Rattle.pf_cache.specs.Contact.{Contact}
 use Rattle.pf_cache.specs.Manifolds.{Manifolds}
-use Rattle.pf_cache.specs.Meter.{work_after_tick}
+use Rattle.pf_step.specs.Work.{work_after_tick}
 use Rattle.pf_islands.specs.Split.{Island}
 use Rattle.pf_step.specs.Activity.{islands_of_bodies}
 use Rattle.pf_step.specs.Calls.{FailsBy}

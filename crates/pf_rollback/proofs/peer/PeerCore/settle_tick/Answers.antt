@@ -1,6 +1,6 @@
 use Rattle.std.proofs.Common.{◌≡◌, ◌+◌, List, length, ap, ap₂, sym, subst, refl, ◌∙◌, arith}
 use Rattle.pf_commands.specs.declared.payload.Payload.{Payload}
-use Rattle.pf_cache.specs.Meter.{Work}
+use Rattle.pf_step.specs.Work.{Work}
 use Rattle.pf_step.specs.World.{World}
 use Rattle.pf_islands.specs.Split.{Island}
 use Rattle.pf_step.specs.Activity.{islands_of_tick}

@@ -1,17 +1,16 @@
 //! What steps of one simulation share.
 
-use crate::contacts::Contacts;
-use crate::manifolds::{Manifolds, NarrowPhase};
-use crate::meter::Meter;
 use pf_broad::BroadPhase;
+use pf_cache::{Contacts, Manifolds, Meter, NarrowPhase};
+use pf_islands::Island;
 use pf_shapes::{BodyState, Pair, Scene};
 use std::alloc::{AllocError, Global};
 use std::marker::Model;
 use std::mem;
 
 /// What one step of a simulation leaves to the next beside the world: how much work was done, and
-/// for reuse the contact points of the last tick, what the broad phase keeps, and the memory of a
-/// world that is gone.
+/// for reuse the contact points of the last tick, what the broad phase keeps, and the memory of
+/// islands that were solved and of a world that is gone.
 ///
 /// Contracts see neither the broad phase nor that memory, since they change no result.
 #[derive(Debug, Drop)]
@@ -22,10 +21,12 @@ pub struct Work {
     /// Of a world that is gone, for those of the next one.
     spare_bodies: Vec<BodyState>,
     spare_contacts: Contacts,
+    /// Of the last tick that made some, for those of the next one.
+    spare_islands: Vec<Island>,
 }
 
 impl Model for Work {
-    ghost use Rattle.pf_cache.specs.Meter.{Work};
+    ghost use Rattle.pf_step.specs.Work.{Work};
 
     ghost Value = { Work };
 
@@ -37,7 +38,7 @@ impl Work {
     ghost use Rattle.pf_shapes.specs.Pair.{IsAscending, IsPairOf};
     ghost use Rattle.pf_broad.specs.Pairs.{all_bounds, pairs};
     ghost use Rattle.pf_cache.specs.Manifolds.{no_manifolds};
-    ghost use Rattle.pf_cache.specs.Meter.{work_after_tick, no_work};
+    ghost use Rattle.pf_step.specs.Work.{no_work, work_after_tick};
 
     /// With nothing counted and nothing kept. Takes no memory.
     pub fn new(alloc: Global) -> Work
@@ -49,6 +50,7 @@ impl Work {
             broad_phase: BroadPhase::new(alloc),
             spare_bodies: Vec::new(alloc),
             spare_contacts: Contacts::new(alloc),
+            spare_islands: Vec::new(alloc),
         }
     }
 
@@ -67,42 +69,55 @@ impl Work {
         &self.manifolds
     }
 
-    /// Takes the contact points of the last tick, so that the next tick can reuse their memory. None
-    /// are kept from then on. Takes no memory.
-    pub fn take_manifolds(&mut self, alloc: Global) -> Manifolds
+    /// Takes the contact points of the last tick, so that the next tick can reuse them and their
+    /// memory. None are kept from then on. Takes no memory.
+    pub(crate) fn take_manifolds(&mut self, alloc: Global) -> Manifolds
         ensures taken { result ≡ self.old.manifolds }
         ensures rest { self.new ≡ record self.old { manifolds = no_manifolds } }
     {
         mem::replace(&mut self.manifolds, Manifolds::new(alloc))
     }
 
-    /// Lends the memory of these bodies and contacts, of a world that is gone, to the next world.
-    /// What contracts see of the work stays as it is.
-    pub fn lend(&mut self, bodies: Vec<BodyState>, contacts: Contacts)
+    /// Keeps the memory of these bodies and contacts for the next world.
+    pub(crate) fn keep_world(&mut self, bodies: Vec<BodyState>, contacts: Contacts)
         ensures { self.new ≡ self.old }
     {
         self.spare_bodies = bodies;
         self.spare_contacts = contacts;
     }
 
-    /// Takes the memory that was lent for bodies. What it holds is of no use. Takes no memory.
-    pub fn take_bodies(&mut self, alloc: Global) -> Vec<BodyState>
+    /// Keeps the memory of these islands for those of the next tick.
+    pub(crate) fn keep_islands(&mut self, islands: Vec<Island>)
+        ensures { self.new ≡ self.old }
+    {
+        self.spare_islands = islands;
+    }
+
+    /// Takes the memory that is kept for bodies. What it holds is of no use. Takes no memory.
+    pub(crate) fn take_bodies(&mut self, alloc: Global) -> Vec<BodyState>
         ensures { self.new ≡ self.old }
     {
         mem::replace(&mut self.spare_bodies, Vec::new(alloc))
     }
 
-    /// Takes the memory that was lent for contacts. What it holds is of no use. Takes no memory.
-    pub fn take_contacts(&mut self, alloc: Global) -> Contacts
+    /// Takes the memory that is kept for contacts. What it holds is of no use. Takes no memory.
+    pub(crate) fn take_contacts(&mut self, alloc: Global) -> Contacts
         ensures { self.new ≡ self.old }
     {
         mem::replace(&mut self.spare_contacts, Contacts::new(alloc))
     }
 
+    /// Takes the memory that is kept for islands. What it holds is of no use. Takes no memory.
+    pub(crate) fn take_islands(&mut self, alloc: Global) -> Vec<Island>
+        ensures { self.new ≡ self.old }
+    {
+        mem::replace(&mut self.spare_islands, Vec::new(alloc))
+    }
+
     /// The pairs of bodies, at most one of them static, whose bounds overlap in these states: in
     /// ascending order, each once, whatever is kept. For fewer than two bodies it takes no memory,
     /// and can't fail. What contracts see of the work stays as it is.
-    pub fn pairs(
+    pub(crate) fn pairs(
         &mut self,
         alloc: Global,
         scene: &Scene,
@@ -121,7 +136,7 @@ impl Work {
 
     /// Counts a tick and its pairs that could not reuse kept points, and keeps the contact points of
     /// its pairs.
-    pub fn end_tick(&mut self, found: NarrowPhase)
+    pub(crate) fn end_tick(&mut self, found: NarrowPhase)
         ensures { self.new ≡ work_after_tick found self.old }
     {
         self.meter.count_tick();
