@@ -5,13 +5,13 @@ use Rattle.pf_islands.specs.Split.{Island}
 use Rattle.pf_step.specs.declared.crew.CrewError.{CrewError}
 use Rattle.pf_step.specs.declared.crew.StepError.{StepError}
 use Rattle.pf_step.specs.Activity.{islands_of_tick}
-use Rattle.pf_step.specs.Calls.{FailsBy}
+use Rattle.pf_step.specs.Stepping.{FailsBy}
 use Rattle.pf_step.specs.Simulation.{sim}
 use Rattle.pf_rollback.specs.Core.{HasSettled, PeerCore, missing_count}
 use Rattle.pf_rollback.specs.Kept.{settled_tick}
 
--- a settle returns the reached tick, and each missing tick is settled; or it returns an error, and
--- fewer ticks are settled
+-- what a settle returns: the reached tick, with each missing tick settled; or an error, with fewer
+-- ticks settled
 pub record IsSettle {E : Type 0} (old new : PeerCore) (result : Result ℕ E) : Type 0 where
   pub answer : IfOk result (λ tick. tick ≡ old.peer.reached)
   pub settled : OnOk result (settled_tick new.kept ≡ old.peer.reached)
@@ -24,16 +24,16 @@ islands_at core tick =
     let commands = core.peer.commands in
     islands_of_tick core.scene (sim core.scene commands tick) (payloads_at commands tick)
 
--- so many calls of a crew, the first with the islands of the peer's settled tick, and each other
--- with those of the tick after; a call with these islands does this to the crew
+-- so many calls of a crew, one for each tick from the peer's settled tick on, in their order, and
+-- each with the islands of its tick
 unfoldable pub AreCalls : {A : Type 0} → (A → List Island → A → Type 0) → PeerCore → ℕ → A → A → Type 0
 AreCalls call core zero first last = first ≡ last
 AreCalls {A} call core (suc n) first last =
     (before : A) × AreCalls call core n first before
     × call before (islands_at core (settled_tick core.kept + n)) last
 
--- a settle with a crew failed: so many ticks were settled, each by one call, and the step of the
--- next one failed
+-- why a settle with a crew failed: after so many ticks, each settled with one call of the crew, the
+-- step of the next tick failed
 abbrev pub FailsAfter : {A : Type 0} → (A → List Island → A → Type 0)
     → (A → List Island → CrewError → A → Type 0) → PeerCore → PeerCore → A → StepError → A → Type 0
 FailsAfter {A} call may_fail old new first error last =

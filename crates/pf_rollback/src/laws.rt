@@ -55,7 +55,7 @@ pub fn dropping_keeps_earlier_ticks()
         → Contains (up_to last ticks) tick ↔ (Contains ticks tick × (tick ≤ last)) }
 {}
 
-/// The last of ticks that rise is the greatest of them.
+/// The last tick of a rising list is its greatest.
 #[tactic(auto, using(crate::proofs::Rising::last_greatest))]
 pub fn last_ticks_are_greatest()
     ensures { (ticks : List ℕ) (tick : ℕ) → IsStrictlyIncreasing ticks → Contains ticks tick

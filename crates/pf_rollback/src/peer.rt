@@ -81,7 +81,7 @@ impl PeerCore {
     ghost use Rattle.pf_rollback.specs.Core.{AreAllowed, HasSettled, KeepsBefore, count_after, missing_count, new_core, news_tick};
     ghost use Rattle.pf_rollback.specs.Calls.{Refines, Returns};
     ghost use Rattle.pf_rollback.specs.Settling.{AreCalls, FailsAfter, IsSettle, islands_at};
-    ghost use Rattle.pf_step.specs.Calls.{FailsBy};
+    ghost use Rattle.pf_step.specs.Stepping.{FailsBy};
 
     /// A peer at tick 0 and without commands, which keeps this many settled worlds. Players count
     /// from 0.
@@ -293,10 +293,9 @@ impl PeerCore {
         }
     }
 
-    /// Settles each tick up to the reached one, from the settled tick on: simulates it by one step,
-    /// and keeps its world. Returns the reached tick. After an error the ticks that were settled
-    /// stand, and so do the commands and the reached tick. Takes no memory where the reached tick
-    /// is settled.
+    /// Settles the ticks up to the reached one, in their order, each by one step, and returns the
+    /// reached tick. After an error the ticks before it stay settled. The commands and the reached
+    /// tick stay as they are. Takes no memory where the reached tick is settled.
     fn settle_by<P: Collider, C: Crew>(
         &mut self,
         collider: &P,
@@ -353,9 +352,9 @@ impl PeerCore {
         }
     }
 
-    /// Settles each tick up to the reached one, by steps on one thread, and returns that tick. After
-    /// an error the ticks that were settled stand, and so do the commands and the reached tick.
-    /// Takes no memory where the reached tick is settled.
+    /// Settles the ticks up to the reached one, in their order, by steps on one thread, and returns
+    /// the reached tick. After an error the ticks before it stay settled. The commands and the
+    /// reached tick stay as they are. Takes no memory where the reached tick is settled.
     pub fn settle_alone(&mut self, alloc: Global) -> Result<u32, AllocError>
         ensures { IsSettle self.old self.new result }
     {
@@ -366,9 +365,8 @@ impl PeerCore {
         }
     }
 
-    /// The same with a crew, which is called once for each tick that is settled, with the islands of
-    /// that tick. Where many pairs have to be computed, several threads compute their contact
-    /// points.
+    /// The same with a crew, which is called once for each tick, with its islands. Where 16,384 pairs
+    /// or more need new contact points, several threads compute them.
     pub fn settle_with<R: Threads + Sync, C: Crew>(
         &mut self,
         rt: &R,

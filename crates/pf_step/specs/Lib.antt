@@ -4,7 +4,7 @@ pub mod Work
 pub mod WorldLaws
 pub mod Commands
 pub mod Step
-pub mod Calls
+pub mod Stepping
 pub mod Simulation
 pub mod Activity
 pub mod Laws

@@ -46,11 +46,11 @@ pub trait Crew {
     ghost use Rattle.pf_solver.specs.Alone.{island_after_tick};
     ghost use Rattle.pf_step.specs.declared.crew.CrewError.{CrewError};
 
-    /// What a call that solved these islands does to the crew itself. Nothing is said of it here.
+    /// What a call that solved these islands does to the crew itself. By default it says nothing.
     ghost is_called: { Self → List Island → Self → Type 0 } = { λ _ _ _. ⊤ };
 
     /// With which errors a call that was to solve these islands may fail, and what it then does to
-    /// the crew itself. Nothing is said of it here.
+    /// the crew itself. By default it says nothing.
     ghost may_fail: { Self → List Island → CrewError → Self → Type 0 } = { λ _ _ _ _. ⊤ };
 
     /// Solves each island alone: answer k is island k after a tick of 1/64 s. The islands are gone

@@ -11,7 +11,7 @@ ghost use Rattle.pf_solver.specs.Alone.{body_after_tick};
 ghost use Rattle.pf_solver.specs.Bodies.{gravity_per_tick};
 ghost use Rattle.pf_step.specs.declared.crew.StepError.TheVariants.{OutOfMemory};
 ghost use Rattle.pf_step.specs.Activity.{batch_of_bodies, contacts_of_bodies, islands_of_bodies};
-ghost use Rattle.pf_step.specs.Calls.{FailsBy};
+ghost use Rattle.pf_step.specs.Stepping.{FailsBy};
 ghost use Rattle.pf_step.specs.Step.{touching, world_after};
 
 use crate::crew::{Crew, StepError};
@@ -41,7 +41,8 @@ struct Spare {
     islands: Vec<Island>,
 }
 
-/// The phases Points and Activity, after the narrow phase of these bodies.
+/// The bodies, contacts and islands of a tick after its phases Points and Activity. `found` is what
+/// the narrow phase found for these bodies, and `contacts` are those of the last tick.
 #[tactic(auto, using(crate::proofs::Joined::awake_long, crate::proofs::Lengths::updated_length))]
 fn prepare(
     alloc: Global,
@@ -106,9 +107,10 @@ fn untouched_world(alloc: Global, scene: &Scene, bodies: Vec<BodyState>) -> Worl
     }
 }
 
-/// The world at the end of a tick, of its bodies after the commands, their contact points and the
-/// contacts of the last tick: its islands are made, solved by one call of the crew, and put back.
-/// Takes no memory of its own where there are no bodies.
+/// The world at the end of a tick: makes its islands, has them solved by one call of the crew, and
+/// puts them back. Where nothing touches, a crew that allows it is not called. `bodies` are those
+/// after the commands of the tick, `found` is what the narrow phase found for them, and `contacts`
+/// are those of the last tick. Takes no memory of its own where there are no bodies.
 pub(crate) fn finish<C: Crew>(
     alloc: Global,
     scene: &Scene,

@@ -6,7 +6,7 @@ ghost use Rattle.pf_manifold.specs.Touches.{IsTouchOf};
 ghost use Rattle.pf_cache.specs.Manifolds.{kept_touches};
 ghost use Rattle.pf_step.specs.declared.crew.StepError.TheVariants.{OutOfMemory};
 ghost use Rattle.pf_step.specs.Activity.{islands_of_tick};
-ghost use Rattle.pf_step.specs.Calls.{FailsBy, IsStep};
+ghost use Rattle.pf_step.specs.Stepping.{FailsBy, IsStep};
 ghost use Rattle.pf_step.specs.Commands.{after_commands};
 ghost use Rattle.pf_step.specs.Step.{narrow_phase, touching};
 
@@ -129,8 +129,8 @@ pub fn step_alone(
     }
 }
 
-/// [`step_by`] with the islands solved by a crew. Where many pairs have to be computed, several threads
-/// compute their contact points.
+/// [`step_by`] with a crew. Where 16,384 pairs or more need new contact points, several threads
+/// compute them.
 pub fn step_with<R: Threads + Sync, C: Crew>(
     rt: &R,
     alloc: Global,

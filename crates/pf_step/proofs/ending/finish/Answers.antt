@@ -13,8 +13,8 @@ use Rattle.pf_step.proofs.Untouched.{untouched_world}
 use Rattle.pf_step.proofs.Joined.{ended_at_contacts, ended_at_home, ended_join}
 use Rattle.pf_step.proofs.ending.finish.Goals as goal
 
-pub world_of-requires-clause-bodies : goal.world_of-requires-clause-bodies
-world_of-requires-clause-bodies g c =
+pub world_of-next-requires-clause-bodies : goal.world_of-next-requires-clause-bodies
+world_of-next-requires-clause-bodies g c =
     let s = c.args.scene.now in
     let before = c.args.contacts.now in
     let bodies = c.args.bodies.items in
@@ -24,8 +24,8 @@ world_of-requires-clause-bodies g c =
     (sym c.in_ok-tick.ensures.bodies) (ended_at_home s before bodies c.requires.bodies) in
     subst (All (IsAtHome (length c.in_ok-tick.tick.bodies.items))) (sym ended) home
 
-pub world_of-requires-clause-contacts : goal.world_of-requires-clause-contacts
-world_of-requires-clause-contacts g c =
+pub world_of-next-requires-clause-contacts : goal.world_of-next-requires-clause-contacts
+world_of-next-requires-clause-contacts g c =
     let s = c.args.scene.now in
     let before = c.args.contacts.now in
     let bodies = c.args.bodies.items in
@@ -44,8 +44,8 @@ returns-clause-value g c =
     c.deref.ensures.value ∙ c.in_ok-solved.ensures.solved ∙ ap (map (island_after_tick s)) c.in_ok-tick.ensures.islands in
     let joined = ended_join s before bodies c.requires.bodies c.in_ok-tick.ensures.order in
     ap₂ (λ bs cs. record { bodies = bs; contacts = cs })
-    (c.world_of.ensures.bodies ∙ ap₂ joined_bodies ended c.in_ok-tick.ensures.bodies ∙ joined.0)
-    (c.world_of.ensures.contacts ∙ ap₂ joined_contacts ended c.in_ok-tick.ensures.contacts ∙ joined.1)
+    (c.world_of-next.ensures.bodies ∙ ap₂ joined_bodies ended c.in_ok-tick.ensures.bodies ∙ joined.0)
+    (c.world_of-next.ensures.contacts ∙ ap₂ joined_contacts ended c.in_ok-tick.ensures.contacts ∙ joined.1)
 
 -- ---- a tick in which nothing touches
 

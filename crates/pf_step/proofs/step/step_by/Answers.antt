@@ -5,7 +5,7 @@ use Rattle.pf_cache.specs.Manifolds.{Manifolds}
 use Rattle.pf_step.specs.Work.{work_after_tick}
 use Rattle.pf_islands.specs.Split.{Island}
 use Rattle.pf_step.specs.Activity.{islands_of_bodies}
-use Rattle.pf_step.specs.Calls.{FailsBy}
+use Rattle.pf_step.specs.Stepping.{FailsBy}
 use Rattle.pf_step.specs.Step.{narrow_phase, step, world_after}
 use Rattle.pf_step.specs.World.{World}
 use Rattle.pf_step.proofs.Lengths.{step_length}

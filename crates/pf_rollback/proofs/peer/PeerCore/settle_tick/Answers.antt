@@ -4,7 +4,7 @@ use Rattle.pf_step.specs.Work.{Work}
 use Rattle.pf_step.specs.World.{World}
 use Rattle.pf_islands.specs.Split.{Island}
 use Rattle.pf_step.specs.Activity.{islands_of_tick}
-use Rattle.pf_step.specs.Calls.{FailsBy}
+use Rattle.pf_step.specs.Stepping.{FailsBy}
 use Rattle.pf_step.specs.Simulation.{sim}
 use Rattle.pf_step.specs.Step.{step}
 use Rattle.pf_commands.specs.Merge.{payloads_at}

@@ -11,9 +11,8 @@ use Rattle.pf_step.specs.declared.crew.StepError.TheVariants.{Crew, OutOfMemory}
 use Rattle.pf_step.specs.Step.{narrow_phase_of_tick, step}
 use Rattle.pf_step.specs.World.{World}
 
--- what a step from a world with the payloads of the tick's commands returns, and the work after it:
--- the next world, and a tick that is counted; or an error, and then nothing is counted and no
--- contact points are kept
+-- what a step from a world with the payloads of a tick returns: the next world, with the tick
+-- counted and its contact points kept; or an error, with nothing counted and no points kept
 pub record IsStep {E : Type 0} (s : Scene) (w : World) (payloads : List Payload) (old new : Work)
     (result : Result World E) : Type 0 where
   pub value : IfOk result (λ next. next ≡ step s w payloads)
