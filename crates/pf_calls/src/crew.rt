@@ -73,6 +73,15 @@ fn solve_backward(scene: &Scene, islands: &mut [Island])
 }
 
 impl Crew for BackwardCrew {
+    ghost use Rattle.std.specs.Prelude.{◌≡◌, Some};
+    ghost use Rattle.pf_cache.specs.Meter.{saturating_sum};
+
+    ghost is_called = { λ before islands after.
+        (after.calls ≡ saturating_sum before.calls 1) × (after.failure ≡ before.failure) };
+
+    ghost may_fail = { λ before islands error after.
+        before.failure ≡ Some (after.calls, error) };
+
     fn solve(&mut self, scene: &Scene, islands: Vec<Island>) -> Result<Vec<Island>, CrewError> {
         let mut islands = islands;
         self.calls = self.calls.saturating_add(1);

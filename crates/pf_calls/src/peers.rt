@@ -1,6 +1,9 @@
 //! The calls on peers.
 
-ghost use Rattle.std.specs.Prelude.{◌<◌, ◌≤◌};
+ghost use Rattle.std.specs.Prelude.{◌≡◌, ◌<◌, ◌≤◌, Err, OnOk, Some};
+ghost use Rattle.pf_rollback.specs.Core.{count_after, missing_count};
+ghost use Rattle.pf_step.specs.declared.crew.CrewError.{CrewError};
+ghost use Rattle.pf_step.specs.declared.crew.StepError.TheVariants.{Crew};
 
 use crate::call::Call;
 use crate::crew::BackwardCrew;
@@ -96,6 +99,22 @@ fn merge(alloc: Global, peers: &mut [PeerCore], number: usize, other: usize) -> 
     }
 }
 
+/// Settles with a crew that counts its calls: one for each tick. It fails in the call that it was
+/// told to fail in, with that error.
+fn settle_counted<R: Threads + Sync>(
+    rt: &R,
+    alloc: Global,
+    peer: &mut PeerCore,
+    crew: &mut BackwardCrew,
+) -> Result<u32, StepError>
+    ensures counted { OnOk result
+        (crew.new.calls ≡ count_after crew.old.calls (missing_count peer.old)) }
+    ensures failed { (error : CrewError) → result ≡ Err (Crew error)
+        → crew.old.failure ≡ Some (crew.new.calls, error) }
+{
+    peer.settle_with(rt, alloc, crew)
+}
+
 /// Settles with a crew. The line ends with how often the crew was called, and with what it was
 /// last given: how many islands, of how many bodies and contacts, and the least body.
 fn settle_with<R: Threads + Sync>(
@@ -105,7 +124,7 @@ fn settle_with<R: Threads + Sync>(
     failure: Option<(u64, CrewError)>,
 ) -> Result<String> {
     let mut crew = BackwardCrew::new(failure);
-    let outcome = peer.settle_with(rt, alloc, &mut crew);
+    let outcome = settle_counted(rt, alloc, peer, &mut crew);
     let (calls, seen) = (crew.calls, crew.seen);
     match outcome {
         Ok(reached) => {
