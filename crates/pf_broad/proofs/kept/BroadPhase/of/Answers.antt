@@ -2,7 +2,7 @@ use Rattle.std.proofs.Common.{All, List, ap, sym, subst, ◌∙◌}
 use Rattle.pf_shapes.specs.Bounds.{Bounds, IsOrdered}
 use Rattle.pf_broad.specs.Pairs.{pairs}
 use Rattle.pf_broad.proofs.Loosening.{candidates_of, loosened-IsOrdered}
-use Rattle.pf_broad.proofs.kept.Candidates.of.Goals as goal
+use Rattle.pf_broad.proofs.kept.BroadPhase.of.Goals as goal
 
 pub of_bounds-requires-clause-ordered : goal.of_bounds-requires-clause-ordered
 of_bounds-requires-clause-ordered c =
@@ -16,5 +16,5 @@ all_pairs-requires-clause-ordered c =
 
 pub invariant_of-result : goal.invariant_of-result
 invariant_of-result c =
-    candidates_of c.in_ok-loose.loose.items c.args.bounds.now c.in_ok-pairs.pairs.items c.in_ok-loose.ensures c.requires.ordered c.requires.few
-    (c.in_ok-pairs.ensures ∙ ap pairs c.deref-2.ensures.value)
+    candidates_of c.in_ok-loose.loose.items c.args.bounds.now c.in_ok-candidates.candidates.items c.in_ok-loose.ensures c.requires.ordered c.requires.few
+    (c.in_ok-candidates.ensures ∙ ap pairs c.deref-2.ensures.value)

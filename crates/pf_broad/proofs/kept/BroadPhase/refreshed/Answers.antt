@@ -6,7 +6,7 @@ use Rattle.pf_broad.specs.Loose.{contains, left_bodies}
 use Rattle.pf_broad.proofs.Leaving.{none_left}
 use Rattle.pf_broad.proofs.Loosening.{candidates_of}
 use Rattle.pf_broad.proofs.Partnering.{filter-AreBodies}
-use Rattle.pf_broad.proofs.kept.Candidates.refreshed.Goals as goal
+use Rattle.pf_broad.proofs.kept.BroadPhase.refreshed.Goals as goal
 
 no_elements : (xs : List ℕ) → length xs ≡ 0 → xs ≡ []
 no_elements [] h = refl
@@ -31,5 +31,5 @@ updated-requires-clause-left c =
 
 pub invariant_of-result : goal.invariant_of-result
 invariant_of-result c =
-    candidates_of c.in_ok-loose.loose.items c.args.bounds.now c.in_ok-pairs.pairs.items c.in_ok-loose.ensures.loosened c.requires.ordered c.requires.few
-    (c.in_ok-pairs.ensures ∙ ap pairs c.deref-3.ensures.value)
+    candidates_of c.in_ok-loose.loose.items c.args.bounds.now c.in_ok-candidates.candidates.items c.in_ok-loose.ensures.loosened c.requires.ordered c.requires.few
+    (c.in_ok-candidates.ensures ∙ ap pairs c.deref-3.ensures.value)

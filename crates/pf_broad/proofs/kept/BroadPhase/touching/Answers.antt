@@ -5,7 +5,7 @@ use Rattle.pf_shapes.specs.Pair.{Pair}
 use Rattle.pf_broad.specs.Pairs.{bounds_at, may_touch, pairs}
 use Rattle.pf_broad.proofs.Loosening.{touching-pairs}
 use Rattle.pf_broad.proofs.Within.{pairs-IsPairOf}
-use Rattle.pf_broad.proofs.kept.Candidates.touching.Goals as goal
+use Rattle.pf_broad.proofs.kept.BroadPhase.touching.Goals as goal
 
 -- the candidates are the pairs of the enlarged bounds
 all_candidates : (c : goal.After-deref) → c.deref.result.now ≡ pairs c.args.self.now
