@@ -17,4 +17,3 @@ pub mod Partnering
 pub mod SharedCells
 pub mod Loosening
 pub mod Leaving
-pub mod Placed

@@ -5,6 +5,5 @@ pub mod CellHasher
 pub mod Grid
 pub mod Stored
 pub mod Partners
-pub mod KeptBounds
 pub mod Loose
 pub mod Laws

@@ -7,9 +7,9 @@ ghost use Rattle.pf_broad.specs.Pairs.{all_bounds};
 use pf_shapes::{BodyState, Bounds, MAX_BODIES, Scene};
 use std::alloc::{AllocError, Global};
 
-/// The bounds of each body.
+/// The bounds of each body. It takes memory for their list.
 #[inline(never)]
-pub(crate) fn all_bounds(
+pub fn all_bounds(
     alloc: Global,
     scene: &Scene,
     bodies: &[BodyState],

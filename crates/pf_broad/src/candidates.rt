@@ -6,7 +6,6 @@ ghost use Rattle.pf_broad.specs.Pairs.{bounds_at, is_pair, may_touch, partners_o
 ghost use Rattle.pf_broad.specs.Partners.{has_body, AreBodies};
 ghost use Rattle.pf_broad.specs.Loose.{behind, seconds};
 
-use crate::kept_bounds::KeptBounds;
 use crate::partners::{add_later, add_touching, may_touch};
 use pf_shapes::{Bounds, MAX_BODIES, Pair};
 use std::alloc::{AllocError, Global};
@@ -16,7 +15,7 @@ use std::alloc::{AllocError, Global};
 pub(crate) fn touching(
     alloc: Global,
     candidates: &[Pair],
-    bounds: &[KeptBounds],
+    bounds: &[Bounds],
 ) -> Result<Vec<Pair>, AllocError>
     requires { All (IsPairOf (length bounds.now)) candidates.now }
     ensures { IfOk result (λ found. found.items
@@ -24,7 +23,7 @@ pub(crate) fn touching(
 {
     let mut found = Vec::with_capacity(alloc, candidates.len())?;
     for pair in candidates {
-        if may_touch(bounds[pair.a].bounds(), bounds[pair.b].bounds()) {
+        if may_touch(&bounds[pair.a], &bounds[pair.b]) {
             found.push_reserved(*pair);
         }
     }

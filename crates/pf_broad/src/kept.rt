@@ -3,9 +3,8 @@
 use crate::broad_phase::{add_pairs, all_pairs};
 use crate::candidates::{add_candidates, complete, touching};
 use crate::grid::Grid;
-use crate::kept_bounds::{KeptBounds, refreshed_bounds};
 use crate::loose::{all_loosened, left_bodies, refitted};
-use pf_shapes::{BodyState, Bounds, Pair, Scene};
+use pf_shapes::{BodyState, Bounds, Pair};
 use std::alloc::{AllocError, Global};
 use std::marker::Model;
 use std::mem;
@@ -13,116 +12,84 @@ use std::mem;
 /// How many bodies may leave their enlarged bounds at once before all get new ones.
 const MAX_LEFT: usize = 16;
 
-/// What the broad phase keeps from tick to tick, as Box2D's `b2BroadPhase` does: the bounds of all
-/// bodies, enlarged bounds, and the pairs of bodies whose enlarged bounds overlap. It is sound for
+/// What the broad phase keeps from tick to tick, as Box2D's `b2BroadPhase` does: enlarged bounds of
+/// all bodies, and as candidates the pairs of bodies whose enlarged bounds overlap. It is sound for
 /// every scene and world: what is kept changes no result, only time.
 ///
-/// Contracts see the bounds of the bodies as they stood.
+/// Contracts see the enlarged bounds.
 #[derive(Debug, Drop)]
 pub struct BroadPhase {
-    bounds: Vec<KeptBounds>,
-    candidates: Candidates,
+    loose: Vec<Bounds>,
+    candidates: Vec<Pair>,
 }
 
 impl Model for BroadPhase {
-    ghost use Rattle.std.specs.Prelude.{List};
-    ghost use Rattle.pf_shapes.specs.Bounds.{Bounds};
-
-    ghost Value = { List Bounds };
-
-    ghost view = { λ b. b.bounds.items };
-}
-
-impl BroadPhase {
-    ghost use Rattle.std.specs.Prelude.{◌≡◌, ◌<◌, ◌≤◌, [], length, All, IfOk, IsOk, OnErr, OnOk};
-    ghost use Rattle.pf_shapes.specs.Pair.{IsAscending, IsPairOf};
-    ghost use Rattle.pf_broad.specs.Pairs.{all_bounds, pairs};
-
-    /// Nothing kept. Takes no memory.
-    pub fn new(alloc: Global) -> BroadPhase
-        ensures { result ≡ [] }
-    {
-        BroadPhase {
-            bounds: Vec::new(alloc),
-            candidates: Candidates::new(alloc),
-        }
-    }
-
-    /// The pairs of bodies, at most one of them static, whose bounds overlap in these states: in
-    /// ascending order, each once, whatever is kept. For fewer than two bodies it takes no memory,
-    /// and can't fail. An error drops what is kept.
-    pub fn pairs(
-        &mut self,
-        alloc: Global,
-        scene: &Scene,
-        bodies: &[BodyState],
-    ) -> Result<Vec<Pair>, AllocError>
-        requires { length bodies.now ≡ length scene.now.fixtures }
-        ensures pairs { IfOk result
-            (λ found. found.items ≡ pairs (all_bounds scene.now.fixtures bodies.now)) }
-        ensures ascending { IfOk result (λ found. IsAscending found.items) }
-        ensures bodies { IfOk result (λ found. All (IsPairOf (length bodies.now)) found.items) }
-        ensures kept { OnOk result (2 ≤ length bodies.now
-            → self.new ≡ all_bounds scene.now.fixtures bodies.now) }
-        ensures dropped { OnErr result (self.new ≡ []) }
-        ensures no_memory { length bodies.now < 2 → IsOk result }
-    {
-        if bodies.len() < 2 {
-            return Ok(Vec::new(alloc));
-        }
-        let kept = mem::replace(self, BroadPhase::new(alloc));
-        let bounds = refreshed_bounds(alloc, kept.bounds, scene, bodies)?;
-        let candidates = kept.candidates.refreshed(alloc, &bounds, bodies)?;
-        let found = candidates.touching(alloc, &bounds)?;
-        *self = BroadPhase { bounds, candidates };
-        Ok(found)
-    }
-}
-
-/// Enlarged bounds of all bodies, and the pairs of bodies whose enlarged bounds overlap. Contracts
-/// see the enlarged bounds.
-#[derive(Debug, Drop)]
-struct Candidates {
-    loose: Vec<Bounds>,
-    pairs: Vec<Pair>,
-}
-
-impl Model for Candidates {
     ghost use Rattle.std.specs.Prelude.{List};
     ghost use Rattle.pf_shapes.specs.Bounds.{Bounds};
     ghost use Rattle.pf_broad.specs.Loose.{AreCandidates};
 
     ghost Value = { List Bounds };
 
-    ghost view = { λ c. c.loose.items };
+    ghost view = { λ b. b.loose.items };
 
-    ghost invariant = { λ c. AreCandidates c.loose.items c.pairs.items };
+    ghost invariant = { λ b. AreCandidates b.loose.items b.candidates.items };
 }
 
-impl Candidates {
-    ghost use Rattle.std.specs.Prelude.{◌≡◌, ◌≤◌, [], length, All, IfOk};
+impl BroadPhase {
+    ghost use Rattle.std.specs.Prelude.{◌≡◌, ◌<◌, ◌≤◌, [], length, All, IfOk, IsOk, OnErr, OnOk};
     ghost use Rattle.pf_shapes.specs.Bounds.{IsOrdered};
+    ghost use Rattle.pf_shapes.specs.Pair.{IsAscending, IsPairOf};
     ghost use Rattle.pf_shapes.specs.declared.scene.TheConstants.{MAX_BODIES};
     ghost use Rattle.pf_broad.specs.Pairs.{pairs};
     ghost use Rattle.pf_broad.specs.Loose.{AreLoosened, AreSameBut};
     ghost use Rattle.pf_broad.specs.Partners.{AreBodies};
 
-    /// Of no bodies. Takes no memory.
-    fn new(alloc: Global) -> Candidates
+    /// Nothing kept. Takes no memory.
+    pub fn new(alloc: Global) -> BroadPhase
         ensures { result ≡ [] }
     {
-        Candidates {
+        BroadPhase {
             loose: Vec::new(alloc),
-            pairs: Vec::new(alloc),
+            candidates: Vec::new(alloc),
         }
     }
 
+    /// The pairs of bodies, at most one of them static, whose bounds overlap: in ascending order,
+    /// each once, whatever is kept. How the bodies move changes only by how much bounds are
+    /// enlarged. For fewer than two bodies it takes no memory, and can't fail. An error drops what
+    /// is kept.
+    pub fn pairs(
+        &mut self,
+        alloc: Global,
+        bounds: &[Bounds],
+        bodies: &[BodyState],
+    ) -> Result<Vec<Pair>, AllocError>
+        requires bodies { length bodies.now ≡ length bounds.now }
+        requires few { length bounds.now ≤ MAX_BODIES }
+        requires ordered { All IsOrdered bounds.now }
+        ensures pairs { IfOk result (λ found. found.items ≡ pairs bounds.now) }
+        ensures ascending { IfOk result (λ found. IsAscending found.items) }
+        ensures bodies { IfOk result (λ found. All (IsPairOf (length bounds.now)) found.items) }
+        ensures kept { OnOk result (2 ≤ length bounds.now → AreLoosened self.new bounds.now) }
+        ensures dropped { OnErr result (self.new ≡ []) }
+        ensures no_memory { length bounds.now < 2 → IsOk result }
+    {
+        if bounds.len() < 2 {
+            return Ok(Vec::new(alloc));
+        }
+        let kept = mem::replace(self, BroadPhase::new(alloc));
+        let next = kept.refreshed(alloc, bounds, bodies)?;
+        let found = next.touching(alloc, bounds)?;
+        *self = next;
+        Ok(found)
+    }
+
     /// Of the candidates those whose bodies may touch.
-    fn touching(&self, alloc: Global, bounds: &[KeptBounds]) -> Result<Vec<Pair>, AllocError>
+    fn touching(&self, alloc: Global, bounds: &[Bounds]) -> Result<Vec<Pair>, AllocError>
         requires { AreLoosened self.now bounds.now }
         ensures { IfOk result (λ found. found.items ≡ pairs bounds.now) }
     {
-        touching(alloc, &self.pairs, bounds)
+        touching(alloc, &self.candidates, bounds)
     }
 
     /// Enlarged bounds that contain these, and their pairs. Where few bodies have left their
@@ -130,27 +97,27 @@ impl Candidates {
     fn refreshed(
         self,
         alloc: Global,
-        bounds: &[KeptBounds],
+        bounds: &[Bounds],
         bodies: &[BodyState],
-    ) -> Result<Candidates, AllocError>
+    ) -> Result<BroadPhase, AllocError>
         requires bodies { length bodies.now ≡ length bounds.now }
         requires few { length bounds.now ≤ MAX_BODIES }
         requires ordered { All IsOrdered bounds.now }
         ensures { IfOk result (λ kept. AreLoosened kept bounds.now) }
     {
         if self.loose.len() != bounds.len() {
-            return Candidates::of(alloc, bounds, bodies);
+            return BroadPhase::of(alloc, bounds, bodies);
         }
         let left = left_bodies(alloc, &self.loose, bounds)?;
         if left.is_empty() {
             return Ok(self);
         }
         if left.len() > MAX_LEFT {
-            return Candidates::of(alloc, bounds, bodies);
+            return BroadPhase::of(alloc, bounds, bodies);
         }
         let loose = refitted(alloc, &self.loose, bounds, bodies)?;
-        let pairs = self.updated(alloc, &loose, &left)?;
-        Ok(Candidates { loose, pairs })
+        let candidates = self.updated(alloc, &loose, &left)?;
+        Ok(BroadPhase { loose, candidates })
     }
 
     /// The candidates after these bodies left their enlarged bounds and got others: those of the
@@ -168,7 +135,7 @@ impl Candidates {
         requires same { AreSameBut left.now self.now loose.now }
         ensures { IfOk result (λ found. found.items ≡ pairs loose.now) }
     {
-        let candidates = self.pairs.as_slice();
+        let candidates = self.candidates.as_slice();
         let mut found = Vec::with_capacity(alloc, candidates.len())?;
         let mut partners = Vec::new(alloc);
         let mut place = 0;
@@ -182,11 +149,7 @@ impl Candidates {
     }
 
     /// New enlarged bounds of all bodies, and their pairs by a grid.
-    fn of(
-        alloc: Global,
-        bounds: &[KeptBounds],
-        bodies: &[BodyState],
-    ) -> Result<Candidates, AllocError>
+    fn of(alloc: Global, bounds: &[Bounds], bodies: &[BodyState]) -> Result<BroadPhase, AllocError>
         requires bodies { length bodies.now ≡ length bounds.now }
         requires few { length bounds.now ≤ MAX_BODIES }
         requires ordered { All IsOrdered bounds.now }
@@ -194,7 +157,7 @@ impl Candidates {
     {
         let loose = all_loosened(alloc, bounds, bodies)?;
         let grid = Grid::of_bounds(alloc, &loose)?;
-        let pairs = all_pairs(alloc, &grid, &loose)?;
-        Ok(Candidates { loose, pairs })
+        let candidates = all_pairs(alloc, &grid, &loose)?;
+        Ok(BroadPhase { loose, candidates })
     }
 }

@@ -9,11 +9,11 @@ mod cells;
 mod grid;
 mod hasher;
 mod kept;
-mod kept_bounds;
 pub mod laws;
 mod loose;
 mod partners;
 
+pub use bodies::all_bounds;
 pub use broad_phase::pairs;
 pub use cell::{CELL_SIDE, Cell, MAX_CELLS};
 pub use grid::Grid;

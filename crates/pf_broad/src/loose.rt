@@ -4,7 +4,6 @@
 ghost use Rattle.std.specs.Prelude.{◌≡◌, ◌≤◌, ◌≤ℤ◌, length, true, IfOk};
 ghost use Rattle.pf_broad.specs.Loose.{contains, is_within, left_bodies, AreLoosened, AreSameBut};
 
-use crate::kept_bounds::KeptBounds;
 use pf_num::Fx;
 use pf_rot::V2;
 use pf_shapes::{BodyState, Bounds, MAX_BODIES};
@@ -77,7 +76,7 @@ fn loosened(bounds: &Bounds, body: &BodyState) -> Bounds
 #[inline(never)]
 pub(crate) fn all_loosened(
     alloc: Global,
-    bounds: &[KeptBounds],
+    bounds: &[Bounds],
     bodies: &[BodyState],
 ) -> Result<Vec<Bounds>, AllocError>
     requires { length bodies.now ≡ length bounds.now }
@@ -85,7 +84,7 @@ pub(crate) fn all_loosened(
 {
     let mut loose = Vec::with_capacity(alloc, bounds.len())?;
     for i in 0..bounds.len() {
-        loose.push(loosened(bounds[i].bounds(), &bodies[i]))?;
+        loose.push(loosened(&bounds[i], &bodies[i]))?;
     }
     Ok(loose)
 }
@@ -95,7 +94,7 @@ pub(crate) fn all_loosened(
 pub(crate) fn left_bodies(
     alloc: Global,
     loose: &[Bounds],
-    bounds: &[KeptBounds],
+    bounds: &[Bounds],
 ) -> Result<Vec<u16>, AllocError>
     requires few { length bounds.now ≤ MAX_BODIES }
     requires loose { length loose.now ≡ length bounds.now }
@@ -103,7 +102,7 @@ pub(crate) fn left_bodies(
 {
     let mut left = Vec::new(alloc);
     for i in 0..bounds.len() {
-        if !contains(&loose[i], bounds[i].bounds()) {
+        if !contains(&loose[i], &bounds[i]) {
             left.push(i as u16)?;
         }
     }
@@ -115,7 +114,7 @@ pub(crate) fn left_bodies(
 pub(crate) fn refitted(
     alloc: Global,
     loose: &[Bounds],
-    bounds: &[KeptBounds],
+    bounds: &[Bounds],
     bodies: &[BodyState],
 ) -> Result<Vec<Bounds>, AllocError>
     requires loose { length loose.now ≡ length bounds.now }
@@ -126,10 +125,10 @@ pub(crate) fn refitted(
 {
     let mut next = Vec::with_capacity(alloc, bounds.len())?;
     for i in 0..bounds.len() {
-        if contains(&loose[i], bounds[i].bounds()) {
+        if contains(&loose[i], &bounds[i]) {
             next.push(loose[i])?;
         } else {
-            next.push(loosened(bounds[i].bounds(), &bodies[i]))?;
+            next.push(loosened(&bounds[i], &bodies[i]))?;
         }
     }
     Ok(next)

@@ -17,6 +17,7 @@ use Rattle.pf_manifold.specs.Touches.{Touch}
 use Rattle.pf_manifold.proofs.KeyOrder.{touches_in_order}
 use Rattle.pf_cache.specs.Manifolds.{computed_count, has_pair, is_unmoved, placed_shapes, points_of_pair, shape_of_body}
 use Rattle.pf_cache.specs.Spans.{ArePlaced, AreRefreshed, AreSpans, IsKeptSpan, IsSpan, Span, are_unmoved, computed_count_by_flags, spans_from, unmoved_flags}
+use Rattle.pf_cache.proofs.Bounded.{length-placed_shapes}
 use Rattle.pf_cache.proofs.Refreshing.{placed_end, placed_from, spans_here, spans_of_both}
 use Rattle.pf_cache.proofs.Updating.{spans_done}
 use Rattle.pf_cache.proofs.Unmoved.{flag_at, kept_points, unmoved_points}
@@ -56,25 +57,19 @@ module _ (old : List PlacedShape) (spans : List Span) (touches : List Touch) (ar
       (spans_here old kept [] [] touches 0 refl (are.whole ∙ sym (append-nil _))
       (All-map (IsPairOf MAX_BODIES) (λ (s : Span). s.pair) spans are.bodies)))
 
--- pairs of a scene's bodies
-module _ (fixtures : List Fixture) (bodies : List BodyState) (pairs : List Pair) (shapes : List PlacedShape)
-    (shapes_are : shapes ≡ placed_shapes fixtures bodies) (paired : length bodies ≡ length fixtures)
-    (are : All (IsPairOf (length bodies)) pairs) where
-  pub as_many : length shapes ≡ length bodies
-  as_many =
-      let zipped =
-      ap length shapes_are ∙ length-map (zip fixtures bodies) (λ (m : Fixture × BodyState). shape_of_body m.0 m.1)
-      ∙ length-zip fixtures bodies in
-      omega (arith, zipped, paired)
-
-  pub pairs_of_shapes : All (IsPairOf (length shapes)) pairs
-  pairs_of_shapes = subst (λ n. All (IsPairOf n) pairs) (sym as_many) are
-
-  pub in_order : length bodies ≤ MAX_BODIES → IsAscending pairs → AreTouches (flat_map (points_of_pair shapes) pairs)
-  in_order few up =
-      subst AreTouches
-      (sym (ap (λ ss. flat_map (points_of_pair ss) pairs) shapes_are ∙ kept_points fixtures bodies pairs))
-      (touches_in_order fixtures bodies (length bodies) pairs few up are)
+-- spans and points of all pairs, by the shapes of the bodies as they stand, are as they are kept
+pub kept_spans : (fixtures : List Fixture) (bodies : List BodyState) (shapes : List PlacedShape) (pairs : List Pair)
+    → shapes ≡ placed_shapes fixtures bodies → length bodies ≡ length fixtures → length bodies ≤ MAX_BODIES
+    → All (IsPairOf (length bodies)) pairs → IsAscending pairs → (spans : List Span) (points : List Touch)
+    → spans ≡ spans_from 0 shapes pairs → points ≡ flat_map (points_of_pair shapes) pairs → AreSpans shapes spans points
+kept_spans fixtures bodies shapes pairs shapes_are paired few are up spans points spans_are points_are =
+    let long = ap length shapes_are ∙ length-placed_shapes fixtures bodies paired in
+    let order : AreTouches (flat_map (points_of_pair shapes) pairs) =
+    subst AreTouches
+    (sym (ap (λ ss. flat_map (points_of_pair ss) pairs) shapes_are ∙ kept_points fixtures bodies pairs))
+    (touches_in_order fixtures bodies (length bodies) pairs few up are) in
+    (spans_done shapes pairs spans points (omega (arith, long, few)) (subst (λ n. All (IsPairOf n) pairs) (sym long) are)
+    up order spans_are points_are).0
 
 -- ---- the points that are up to date, and behind them those of the other pairs
 
@@ -86,13 +81,13 @@ module _ (shapes : List PlacedShape) (spans rest_spans : List Span) (touches res
   pub ends_within : n ≤ length touches
   ends_within = placed_end n (length touches) (drop i spans) done.rest
 
-  whole_points : take n touches ++ rest ≡ flat_map (points_of_pair shapes) pairs
+  pub whole_points : take n touches ++ rest ≡ flat_map (points_of_pair shapes) pairs
   whole_points =
       ap₂ (λ xs ys. xs ++ ys) done.stored rest_is
       ∙ sym (flat_map-append (points_of_pair shapes) (take i pairs) (drop i pairs))
       ∙ ap (flat_map (points_of_pair shapes)) (take-append-drop i pairs)
 
-  whole_spans : take i spans ++ rest_spans ≡ spans_from 0 shapes pairs
+  pub whole_spans : take i spans ++ rest_spans ≡ spans_from 0 shapes pairs
   whole_spans =
       let within = ends_within in
       let taken = length-take n touches in
@@ -101,13 +96,6 @@ module _ (shapes : List PlacedShape) (spans rest_spans : List Span) (touches res
       ap₂ (λ xs ys. xs ++ ys) done.listed (spans_are ∙ ap (λ m. spans_from m shapes (drop i pairs)) count)
       ∙ sym (spans_of_both shapes 0 (take i pairs) (drop i pairs))
       ∙ ap (spans_from 0 shapes) (take-append-drop i pairs)
-
-  pub joined_spans : (all_spans : List Span) (all_touches : List Touch) → all_spans ≡ take i spans ++ rest_spans
-      → all_touches ≡ take n touches ++ rest → length shapes ≤ MAX_BODIES → All (IsPairOf (length shapes)) pairs
-      → IsAscending pairs → AreTouches (flat_map (points_of_pair shapes) pairs)
-      → AreSpans shapes all_spans all_touches × (map (λ s. s.pair) all_spans ≡ pairs)
-  joined_spans all_spans all_touches spans_joined touches_joined few are up order =
-      spans_done shapes pairs all_spans all_touches few are up order (spans_joined ∙ whole_spans) (touches_joined ∙ whole_points)
 
 -- counts of the first pairs and of the others
 pub counts_add : (kept : List Pair) (unmoved : List Bool) (pairs : List Pair) (i : ℕ)

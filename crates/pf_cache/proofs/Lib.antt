@@ -11,6 +11,7 @@ pub mod Spanned
 pub mod Unmoved
 pub mod Reusable
 pub mod Placing
+pub mod Bounded
 pub mod Refreshing
 pub mod Updating
 pub mod Keeping

@@ -33,21 +33,6 @@ module _ {X : Type 0} where
       let next : suc n ≡ n + 1 = omega arith in
       ap (λ xs. set xs n x) now_is ∙ put new old n x long within is ∙ ap (joined new old) next
 
-  left : (new old : List X) (n : ℕ) (x : X) → length new ≡ length old → n < length old → x ≡ get_or new n x
-      → x ≡ get_or old n x → joined new old n ≡ joined new old (suc n)
-  left new [] n x long within is was = absurd (omega (arith, within))
-  left [] (y ∷ old) n x long within is was = absurd (omega (arith, long))
-  left (z ∷ new) (y ∷ old) zero x long within is was = ap (λ w. w ∷ old) (sym was ∙ is)
-  left (z ∷ new) (y ∷ old) (suc n) x long within is was =
-      ap (λ ws. z ∷ ws) (left new old n x (omega (arith, long)) (omega (arith, within)) is was)
-
-  -- the element at n is left, since both lists have the same
-  pub joined_left : (new old : List X) (n : ℕ) (x : X) → length new ≡ length old → n < length old
-      → x ≡ get_or new n x → x ≡ get_or old n x → joined new old n ≡ joined new old (n + 1)
-  joined_left new old n x long within is was =
-      let next : suc n ≡ n + 1 = omega arith in
-      left new old n x long within is was ∙ ap (joined new old) next
-
   -- all are new
   pub joined_all : (new old : List X) (n : ℕ) → length new ≡ length old → length old ≤ n → joined new old n ≡ new
   joined_all new old n long over =
@@ -62,3 +47,11 @@ zip_at f (a ∷ xs) [] n x y d first second x_is y_is = absurd (omega (arith, se
 zip_at f (a ∷ xs) (b ∷ ys) zero x y d first second x_is y_is = ap₂ (λ v w. f (v, w)) x_is y_is
 zip_at f (a ∷ xs) (b ∷ ys) (suc n) x y d first second x_is y_is =
     zip_at f xs ys n x y d (omega (arith, first)) (omega (arith, second)) x_is y_is
+
+pub both_at : {X Y : Type 0} (xs : List X) (ys : List Y) (n : ℕ) (x : X) (y : Y) → n < length xs → n < length ys
+    → x ≡ get_or xs n x → y ≡ get_or ys n y → (x, y) ≡ get_or (zip xs ys) n (x, y)
+both_at [] ys n x y first second x_is y_is = absurd (omega (arith, first))
+both_at (a ∷ xs) [] n x y first second x_is y_is = absurd (omega (arith, second))
+both_at (a ∷ xs) (b ∷ ys) zero x y first second x_is y_is = λ i. (x_is i, y_is i)
+both_at (a ∷ xs) (b ∷ ys) (suc n) x y first second x_is y_is =
+    both_at xs ys n x y (omega (arith, first)) (omega (arith, second)) x_is y_is

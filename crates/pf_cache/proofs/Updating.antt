@@ -1,8 +1,8 @@
 -- The walk along the kept spans and the pairs of a tick.
-use Rattle.std.proofs.Common.{◌≡◌, ℕ, zero, suc, ◌+◌, ◌-◌, ◌≤◌, ◌<◌, ◌==◌, Bool, true, false, ◌&&◌, Option, Some, None, List, [], ◌∷◌, ◌++◌, length, map, take, refl, sym, ap, ap₂, subst, ◌∙◌, arith}
+use Rattle.std.proofs.Common.{◌≡◌, ℕ, zero, suc, ◌+◌, ◌-◌, ◌≤◌, ◌<◌, ◌==◌, Bool, true, false, ◌&&◌, Option, Some, None, List, [], ◌∷◌, ◌++◌, length, map, take, refl, sym, ap, ap₂, subst, ◌∙◌, true≢false, arith}
 use Rattle.std.specs.List.{flat_map}
 use Rattle.std.proofs.lemmas.Bool.Decides.{Decides-eqb}
-use Rattle.std.specs.Prelude.{All, IfSome, drop, get_or, is_some, not}
+use Rattle.std.specs.Prelude.{All, IfSome, drop, get_or, is_some, not, unwrap_or, if◌then◌else◌}
 use Rattle.std.proofs.lemmas.List.{append-nil, length-append, take_more}
 use Rattle.std.proofs.lemmas.Simd.{map-map}
 use Rattle.std.proofs.lemmas.List.Concat.{flat_map-append}
@@ -95,6 +95,11 @@ pub opposite : (a b : Bool) → a ≡ not b → b ≡ not a
 opposite a true e = sym (ap not e)
 opposite a false e = sym (ap not e)
 
+-- a count that was made
+pub count_is : (below : Bool) (n count : ℕ) → Some n ≡ (if below then None else Some count) → n ≡ count
+count_is true n count e = absurd (true≢false (ap is_some e))
+count_is false n count e = ap (λ o. unwrap_or o 0) e
+
 -- one pair more
 module _ (shapes : List PlacedShape) (pairs : List Pair) (i : ℕ) (d p : Pair) (within : i < length pairs)
     (p_is : p ≡ get_or pairs i d) where
@@ -125,32 +130,6 @@ module _ (shapes : List PlacedShape) (pairs : List Pair) (i : ℕ) (d p : Pair) 
       ∙ ap₂ (λ n m. spans ++ record { pair = p; start = n; len = m } ∷ []) place count
       ∙ ap (λ ss. ss ++ record { pair = p; start = from + length front; len = length more } ∷ []) listed
       ∙ sym (ap (spans_from from shapes) pairs_are ∙ spans_more shapes from (take i pairs) p)
-
--- where there are no bodies, there are no pairs
-pub no_pairs : {X : Type 0} (bodies : List X) (pairs : List Pair) → bodies ≡ [] → All (IsPairOf (length bodies)) pairs
-    → pairs ≡ []
-no_pairs bodies [] none are = refl
-no_pairs bodies (p ∷ pairs) none are =
-    let few = ap length none in
-    let first = All-head (IsPairOf (length bodies)) p pairs are in
-    absurd (omega (arith, few, first.1))
-
--- a list that is tested to be empty
-pub no_bodies : {X : Type 0} (bodies : List X) (b : Bool) → b ≡ (length bodies == 0) → b ≡ true → bodies ≡ []
-no_bodies [] b is tested = refl
-no_bodies (x ∷ bodies) b is tested =
-    let none : length (x ∷ bodies) ≡ 0 = (Decides-eqb (length (x ∷ bodies)) 0).0 (sym is ∙ tested) in
-    absurd (omega (arith, none))
-
--- where there are no bodies, nothing is kept
-pub nothing_of : (fixtures : List Fixture) (bodies : List BodyState) (pairs : List Pair) → bodies ≡ []
-    → All (IsPairOf (length bodies)) pairs → manifolds_of fixtures bodies pairs ≡ no_manifolds
-nothing_of fixtures bodies pairs none are =
-    ap₂ (λ bs ps. manifolds_of fixtures bs ps) none (no_pairs bodies pairs none are) ∙ empty fixtures
-  where
-    empty : (fs : List Fixture) → manifolds_of fs [] [] ≡ no_manifolds
-    empty [] = refl
-    empty (f ∷ fs) = refl
 
 -- the pair p at i is of two bodies
 pub pair_of_bodies : (n : ℕ) (pairs : List Pair) (i : ℕ) (p : Pair) → n ≤ MAX_BODIES → All (IsPairOf n) pairs

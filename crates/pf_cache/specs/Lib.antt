@@ -7,6 +7,7 @@ pub mod Row
 pub mod Small
 pub mod Meter
 pub mod Manifolds
+pub mod PlacedBodies
 pub mod Spans
 pub mod Gathered
 pub mod Laws

@@ -170,7 +170,7 @@ pub struct KeptPoints<'a> {
 /// The contact points of pairs, with the span of each.
 #[derive(Drop)]
 pub struct PairPoints {
-    /// Where the points of each pair will stand, after the points that are already updated.
+    /// Where the points of each pair stand.
     pub spans: Vec<Span>,
     /// The points.
     pub touches: Vec<Touch>,

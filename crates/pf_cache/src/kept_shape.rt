@@ -1,4 +1,4 @@
-//! The shapes of bodies as they stood.
+//! The shape of a body as it stood.
 
 ghost use Rattle.std.specs.Prelude.{◌≡◌, ◌≤◌, IfOk, false, get_or, length, map};
 ghost use Rattle.pf_shapes.specs.Pair.{IsPairOf};
@@ -47,7 +47,7 @@ impl KeptShape {
 
     /// The shape of a body as it stands.
     #[inline]
-    fn of(fixture: &Fixture, body: &BodyState) -> KeptShape
+    pub fn of(fixture: &Fixture, body: &BodyState) -> KeptShape
         ensures { result ≡ shape_of_body fixture.now body.now }
     {
         KeptShape {
@@ -72,7 +72,7 @@ impl KeptShape {
     /// Whether it is the shape of a body as it stands.
     #[inline]
     #[tactic(auto, unfolding(crate::specs::Manifolds::same_placed_shape))]
-    fn is_of(&self, fixture: &Fixture, body: &BodyState) -> bool
+    pub fn is_of(&self, fixture: &Fixture, body: &BodyState) -> bool
         ensures { result ≡ same_placed_shape self.now (shape_of_body fixture.now body.now) }
     {
         self.shape == *fixture.shape()
@@ -133,58 +133,6 @@ pub fn unmoved_flags(
         .zip(shapes)
         .map(|(before, shape)| before.is_same(shape))
         .collect(alloc)
-}
-
-/// Writes the shape of each body that moved over its old one, and sets for each number whether the
-/// body is unmoved.
-#[inline(never)]
-fn refresh_shapes(
-    shapes: &mut [KeptShape],
-    unmoved: &mut [bool],
-    fixtures: &[Fixture],
-    bodies: &[BodyState],
-)
-    requires fixtures { length fixtures.now ≡ length shapes.old }
-    requires bodies { length bodies.now ≡ length shapes.old }
-    requires unmoved { length unmoved.old ≡ length shapes.old }
-    ensures shapes { shapes.new ≡ placed_shapes fixtures.now bodies.now }
-    ensures unmoved { unmoved.new
-        ≡ unmoved_flags shapes.old (placed_shapes fixtures.now bodies.now) }
-{
-    for number in 0..shapes.len() {
-        let fixture = &fixtures[number];
-        let body = &bodies[number];
-        let is_same = shapes[number].is_of(fixture, body);
-        unmoved[number] = is_same;
-        if !is_same {
-            shapes[number] = KeptShape::of(fixture, body);
-        }
-    }
-}
-
-/// The shapes of all bodies as they stand, in the list of the old ones where these are as many; and
-/// for each number in both lists whether the body is unmoved.
-pub fn refreshed_shapes(
-    alloc: Global,
-    old: Vec<KeptShape>,
-    fixtures: &[Fixture],
-    bodies: &[BodyState],
-) -> Result<(Vec<KeptShape>, Vec<bool>), AllocError>
-    requires { length bodies.now ≡ length fixtures.now }
-    ensures shapes { IfOk result (λ found. found.0.items ≡ placed_shapes fixtures.now bodies.now) }
-    ensures unmoved { IfOk result (λ found. found.1.items
-        ≡ unmoved_flags old.items (placed_shapes fixtures.now bodies.now)) }
-{
-    let mut shapes = old;
-    if shapes.len() != bodies.len() {
-        let placed = placed_shapes(alloc, fixtures, bodies)?;
-        let unmoved = unmoved_flags(alloc, &shapes, &placed)?;
-        return Ok((placed, unmoved));
-    }
-    let mut unmoved = Vec::with_capacity(alloc, bodies.len())?;
-    unmoved.resize(bodies.len(), false)?;
-    refresh_shapes(&mut shapes, &mut unmoved, fixtures, bodies);
-    Ok((shapes, unmoved))
 }
 
 /// Whether the body with this number is unmoved; one beyond the list is not.

@@ -12,6 +12,7 @@ pub mod laws;
 mod listed;
 mod manifolds;
 mod meter;
+mod placed_bodies;
 mod ranked;
 mod refresh;
 mod row;

@@ -1,7 +1,7 @@
 //! Contact points that are computed all at once: for how many pairs they have to be computed, and
 //! where those of each pair stand in the list of all.
 
-ghost use Rattle.std.specs.Prelude.{◌≡◌, ◌+◌, ◌≤◌, All, IfOk, List, drop, length, map};
+ghost use Rattle.std.specs.Prelude.{◌≡◌, ◌+◌, ◌≤◌, All, IfOk, List, drop, length, map, nat_lt, if◌then◌else◌};
 ghost use Rattle.std.specs.List.{flat_map, prefix_len};
 ghost use Rattle.pf_shapes.specs.Pair.{IsAscending, IsPairOf};
 ghost use Rattle.pf_shapes.specs.declared.scene.TheConstants.{MAX_BODIES};
@@ -16,7 +16,7 @@ use pf_shapes::Pair;
 use std::alloc::{AllocError, Global};
 
 /// How many of these pairs cannot reuse kept points.
-pub fn computed_count(spans: &[Span], unmoved: &[bool], pairs: &[Pair]) -> usize
+fn computed_count(spans: &[Span], unmoved: &[bool], pairs: &[Pair]) -> usize
     requires pairs { All (IsPairOf MAX_BODIES) pairs.now }
     requires ascending { IsAscending pairs.now }
     requires rising { IsRising 0 (map (λ s. pair_rank s.pair) spans.now) }
@@ -34,6 +34,27 @@ pub fn computed_count(spans: &[Span], unmoved: &[bool], pairs: &[Pair]) -> usize
         }
     }
     count
+}
+
+/// How many of these pairs cannot reuse kept points, where that are at least `many`.
+pub fn computed_if_many(
+    spans: &[Span],
+    unmoved: &[bool],
+    pairs: &[Pair],
+    many: usize,
+) -> Option<usize>
+    requires pairs { All (IsPairOf MAX_BODIES) pairs.now }
+    requires ascending { IsAscending pairs.now }
+    requires rising { IsRising 0 (map (λ s. pair_rank s.pair) spans.now) }
+    requires bodies { All (λ s. IsPairOf MAX_BODIES s.pair) spans.now }
+    ensures { result ≡ (let count = computed_count_by_flags (map (λ s. s.pair) spans.now) unmoved.now
+        pairs.now in if nat_lt count many then None else Some count) }
+{
+    if pairs.len() < many {
+        return None;
+    }
+    let count = computed_count(spans, unmoved, pairs);
+    if count < many { None } else { Some(count) }
 }
 
 /// Whether a contact point is of this pair.

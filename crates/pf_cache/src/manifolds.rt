@@ -1,12 +1,20 @@
 //! Contact points that are kept from tick to tick.
 
-ghost use Rattle.std.specs.Prelude.{◌≡◌};
+ghost use Rattle.std.specs.Prelude.{◌≡◌, ◌≤◌, All, IfOk, length, map};
+ghost use Rattle.std.specs.List.{flat_map};
+ghost use Rattle.pf_shapes.specs.Pair.{IsAscending, IsPairOf};
+ghost use Rattle.pf_shapes.specs.declared.scene.TheConstants.{MAX_BODIES};
+ghost use Rattle.pf_manifold.specs.Key.{IsRising};
+ghost use Rattle.pf_cache.specs.Manifolds.{placed_shapes, points_of_pair};
+ghost use Rattle.pf_cache.specs.Spans.{ArePlaced, IsKeptSpan, computed_count_by_flags, pair_rank, spans_from};
 
-use crate::gathered::{KeptPoints, gather};
-use crate::kept_shape::{KeptShape, placed_shapes, refreshed_shapes, unmoved_flags};
-use crate::listed::{computed_count, spans_of_points};
+use crate::gathered::{KeptPoints, PairPoints, gather};
+use crate::kept_shape::KeptShape;
+use crate::listed::{computed_if_many, spans_of_points};
+use crate::placed_bodies::PlacedBodies;
 use crate::refresh::refresh;
 use crate::spans::Span;
+use pf_broad::BroadPhase;
 use pf_manifold::{Collider, Touch};
 use pf_shapes::{BodyState, Pair, Scene};
 use std::alloc::{AllocError, Global};
@@ -15,9 +23,13 @@ use std::marker::Model;
 /// The contact points of pairs of bodies as the bodies stood in the last narrow phase, as a
 /// `b2Contact` of Box2D 2.x keeps its manifold. They are sound for every scene and world, since they
 /// are kept with the shapes, positions and rotations that they were computed from.
+///
+/// With them stands the broad phase that found the pairs. Contracts do not see what it keeps, since
+/// that changes no result.
 #[derive(Debug, Drop)]
 pub struct Manifolds {
-    shapes: Vec<KeptShape>,
+    placed: PlacedBodies,
+    broad_phase: BroadPhase,
     spans: Vec<Span>,
     touches: Vec<Touch>,
 }
@@ -30,11 +42,11 @@ impl Model for Manifolds {
     ghost Value = { Manifolds };
 
     ghost view = { λ m. record {
-      shapes = m.shapes.items;
+      shapes = m.placed.shapes;
       pairs = map (λ s. s.pair) m.spans.items;
     } };
 
-    ghost invariant = { λ m. AreSpans m.shapes.items m.spans.items m.touches.items };
+    ghost invariant = { λ m. AreSpans m.placed.shapes m.spans.items m.touches.items };
 }
 
 /// What the narrow phase of a tick found.
@@ -54,9 +66,82 @@ impl Model for NarrowPhase {
     ghost view = { λ n. record { manifolds = n.manifolds; computed = n.computed } };
 }
 
+/// The contact points of these pairs. Those that are kept are updated where they stand, and those of
+/// the pairs that follow are gathered.
+#[inline(never)]
+fn updated_points(
+    alloc: Global,
+    kept_spans: Vec<Span>,
+    kept_touches: Vec<Touch>,
+    pairs: &[Pair],
+    unmoved: &[bool],
+    shapes: &[KeptShape],
+) -> Result<PairPoints, AllocError>
+    requires few { length shapes.now ≤ MAX_BODIES }
+    requires pairs { All (IsPairOf (length shapes.now)) pairs.now }
+    requires ascending { IsAscending pairs.now }
+    requires rising { IsRising 0 (map (λ s. pair_rank s.pair) kept_spans.items) }
+    requires placed { ArePlaced 0 kept_spans.items (length kept_touches.items) }
+    requires kept { All (IsKeptSpan shapes.now unmoved.now kept_touches.items) kept_spans.items }
+    ensures spans { IfOk result (λ found. found.spans.items ≡ spans_from 0 shapes.now pairs.now) }
+    ensures touches { IfOk result
+        (λ found. found.touches.items ≡ flat_map (points_of_pair shapes.now) pairs.now) }
+    ensures computed { IfOk result (λ found. found.computed
+        ≡ computed_count_by_flags (map (λ s. s.pair) kept_spans.items) unmoved.now pairs.now) }
+{
+    let mut spans = kept_spans;
+    let mut touches = kept_touches;
+    let done = refresh(&mut touches, &spans, pairs, unmoved, shapes);
+    let kept = KeptPoints {
+        spans: &spans,
+        touches: &touches,
+        unmoved,
+    };
+    let rest = gather(alloc, &kept, &done, shapes, &pairs[done.pairs..])?;
+    spans.truncate(done.pairs);
+    spans.extend_from_slice(&rest.spans)?;
+    touches.truncate(done.points);
+    touches.extend_from_slice(&rest.touches)?;
+    let computed = done.computed + rest.computed;
+    Ok(PairPoints {
+        spans,
+        touches,
+        computed,
+    })
+}
+
+/// The contact points of these pairs, so many of which cannot reuse kept points: all of them are
+/// computed by the collider.
+fn points_at_once<C: Collider>(
+    collider: &C,
+    alloc: Global,
+    scene: &Scene,
+    bodies: &[BodyState],
+    pairs: &[Pair],
+    computed: usize,
+) -> Result<PairPoints, AllocError>
+    requires can { C.can_collide collider.now }
+    requires bodies { length bodies.now ≡ length scene.now.fixtures }
+    requires pairs { All (IsPairOf (length bodies.now)) pairs.now }
+    requires ascending { IsAscending pairs.now }
+    ensures spans { IfOk result (λ found. found.spans.items
+        ≡ spans_from 0 (placed_shapes scene.now.fixtures bodies.now) pairs.now) }
+    ensures touches { IfOk result (λ found. found.touches.items
+        ≡ flat_map (points_of_pair (placed_shapes scene.now.fixtures bodies.now)) pairs.now) }
+    ensures computed { IfOk result (λ found. found.computed ≡ computed) }
+{
+    let touches = collider.collide(alloc, scene, bodies, pairs)?;
+    let spans = spans_of_points(alloc, pairs, &touches)?;
+    Ok(PairPoints {
+        spans,
+        touches,
+        computed,
+    })
+}
+
 impl Manifolds {
-    ghost use Rattle.std.specs.Prelude.{◌≡◌, [], All, length, IfOk, IsOk};
-    ghost use Rattle.pf_shapes.specs.Pair.{IsAscending, IsPairOf};
+    ghost use Rattle.std.specs.Prelude.{◌≡◌, [], length, IfOk, IsOk};
+    ghost use Rattle.pf_broad.specs.Pairs.{all_bounds, pairs};
     ghost use Rattle.pf_manifold.specs.Key.{AreTouches};
     ghost use Rattle.pf_cache.specs.Manifolds.{computed_count, kept_touches, manifolds_of, no_manifolds, placed_shapes};
 
@@ -65,7 +150,8 @@ impl Manifolds {
         ensures { result ≡ no_manifolds }
     {
         Manifolds {
-            shapes: Vec::new(alloc),
+            placed: PlacedBodies::new(alloc),
+            broad_phase: BroadPhase::new(alloc),
             spans: Vec::new(alloc),
             touches: Vec::new(alloc),
         }
@@ -79,22 +165,26 @@ impl Manifolds {
         self.touches.as_slice()
     }
 
-    /// The same as `update`, pair by pair: the kept points are updated where they stand.
-    #[inline(never)]
-    fn update_in_place(
+    /// The contact points of all pairs of bodies, at most one of them static, whose bounds overlap.
+    /// The points of a pair that is kept are reused if both bodies still have the shape, position and
+    /// rotation that they had; those of the other pairs are computed, and these pairs are counted.
+    /// Where that are many pairs, the collider computes the points of all pairs at once. An error
+    /// drops what is kept. Takes no memory where there are no bodies.
+    pub fn update<C: Collider>(
         self,
+        collider: &C,
         alloc: Global,
         scene: &Scene,
         bodies: &[BodyState],
-        pairs: &[Pair],
     ) -> Result<NarrowPhase, AllocError>
+        requires can { C.can_collide collider.now }
         requires bodies { length bodies.now ≡ length scene.now.fixtures }
-        requires pairs { All (IsPairOf (length bodies.now)) pairs.now }
-        requires ascending { IsAscending pairs.now }
-        ensures manifolds { IfOk result (λ found.
-            found.manifolds ≡ manifolds_of scene.now.fixtures bodies.now pairs.now) }
+        ensures manifolds { IfOk result (λ found. found.manifolds
+            ≡ manifolds_of scene.now.fixtures bodies.now
+            (pairs (all_bounds scene.now.fixtures bodies.now))) }
         ensures computed { IfOk result (λ found. found.computed
-            ≡ computed_count self (placed_shapes scene.now.fixtures bodies.now) pairs.now) }
+            ≡ computed_count self (placed_shapes scene.now.fixtures bodies.now)
+            (pairs (all_bounds scene.now.fixtures bodies.now))) }
         ensures no_memory { bodies.now ≡ [] → IsOk result }
     {
         if bodies.is_empty() {
@@ -103,106 +193,25 @@ impl Manifolds {
                 computed: 0,
             });
         }
-        let (shapes, unmoved) = refreshed_shapes(alloc, self.shapes, scene.fixtures(), bodies)?;
-        let mut spans = self.spans;
-        let mut touches = self.touches;
-        let done = refresh(&mut touches, &spans, pairs, &unmoved, &shapes);
-        let kept = KeptPoints {
-            spans: &spans,
-            touches: &touches,
-            unmoved: &unmoved,
+        let (placed, unmoved) = self.placed.refreshed(alloc, scene, bodies)?;
+        let kept_spans = self.spans;
+        let kept_touches = self.touches;
+        let mut broad_phase = self.broad_phase;
+        let pairs = broad_phase.pairs(alloc, placed.bounds(), bodies)?;
+        let points = match computed_if_many(&kept_spans, &unmoved, &pairs, C::MANY) {
+            Some(computed) => points_at_once(collider, alloc, scene, bodies, &pairs, computed)?,
+            None => {
+                let shapes = placed.shapes();
+                updated_points(alloc, kept_spans, kept_touches, &pairs, &unmoved, shapes)?
+            }
         };
-        let rest = gather(alloc, &kept, &done, &shapes, &pairs[done.pairs..])?;
-        spans.truncate(done.pairs);
-        spans.extend_from_slice(&rest.spans)?;
-        touches.truncate(done.points);
-        touches.extend_from_slice(&rest.touches)?;
+        let computed = points.computed;
         let manifolds = Manifolds {
-            shapes,
-            spans,
-            touches,
+            placed,
+            broad_phase,
+            spans: points.spans,
+            touches: points.touches,
         };
-        Ok(NarrowPhase {
-            manifolds,
-            computed: done.computed + rest.computed,
-        })
-    }
-
-    /// How many of these pairs cannot reuse kept points.
-    fn computed_count(
-        &self,
-        alloc: Global,
-        scene: &Scene,
-        bodies: &[BodyState],
-        pairs: &[Pair],
-    ) -> Result<usize, AllocError>
-        requires bodies { length bodies.now ≡ length scene.now.fixtures }
-        requires pairs { All (IsPairOf (length bodies.now)) pairs.now }
-        requires ascending { IsAscending pairs.now }
-        ensures { IfOk result (λ count. count
-            ≡ computed_count self.now (placed_shapes scene.now.fixtures bodies.now) pairs.now) }
-    {
-        let shapes = placed_shapes(alloc, scene.fixtures(), bodies)?;
-        let unmoved = unmoved_flags(alloc, &self.shapes, &shapes)?;
-        Ok(computed_count(&self.spans, &unmoved, pairs))
-    }
-
-    /// The contact points of these pairs, all of them computed.
-    fn of_pairs<C: Collider>(
-        collider: &C,
-        alloc: Global,
-        scene: &Scene,
-        bodies: &[BodyState],
-        pairs: &[Pair],
-    ) -> Result<Manifolds, AllocError>
-        requires can { C.can_collide collider.now }
-        requires bodies { length bodies.now ≡ length scene.now.fixtures }
-        requires pairs { All (IsPairOf (length bodies.now)) pairs.now }
-        requires ascending { IsAscending pairs.now }
-        ensures { IfOk result (λ manifolds.
-            manifolds ≡ manifolds_of scene.now.fixtures bodies.now pairs.now) }
-    {
-        let shapes = placed_shapes(alloc, scene.fixtures(), bodies)?;
-        let touches = collider.collide(alloc, scene, bodies, pairs)?;
-        let spans = spans_of_points(alloc, pairs, &touches)?;
-        Ok(Manifolds {
-            shapes,
-            spans,
-            touches,
-        })
-    }
-
-    /// The contact points of these pairs of bodies. The points of a pair that is kept are reused if
-    /// both bodies still have the shape, position and rotation that they had; those of the other
-    /// pairs are computed, and these pairs are counted. Where that are many pairs, the collider
-    /// computes the points of all pairs at once. An error drops the kept points. Takes no memory
-    /// where there are no bodies.
-    pub fn update<C: Collider>(
-        self,
-        collider: &C,
-        alloc: Global,
-        scene: &Scene,
-        bodies: &[BodyState],
-        pairs: &[Pair],
-    ) -> Result<NarrowPhase, AllocError>
-        requires can { C.can_collide collider.now }
-        requires bodies { length bodies.now ≡ length scene.now.fixtures }
-        requires pairs { All (IsPairOf (length bodies.now)) pairs.now }
-        requires ascending { IsAscending pairs.now }
-        ensures manifolds { IfOk result (λ found.
-            found.manifolds ≡ manifolds_of scene.now.fixtures bodies.now pairs.now) }
-        ensures computed { IfOk result (λ found. found.computed
-            ≡ computed_count self (placed_shapes scene.now.fixtures bodies.now) pairs.now) }
-        ensures no_memory { bodies.now ≡ [] → IsOk result }
-    {
-        if bodies.is_empty() || pairs.len() < C::MANY {
-            return self.update_in_place(alloc, scene, bodies, pairs);
-        }
-        let computed = self.computed_count(alloc, scene, bodies, pairs)?;
-        if computed < C::MANY {
-            return self.update_in_place(alloc, scene, bodies, pairs);
-        }
-        let manifolds = Manifolds::of_pairs(collider, alloc, scene, bodies, pairs)?;
         Ok(NarrowPhase {
             manifolds,
             computed,

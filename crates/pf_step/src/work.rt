@@ -1,23 +1,21 @@
 //! What steps of one simulation share.
 
-use pf_broad::BroadPhase;
 use pf_cache::{Contacts, Manifolds, Meter, NarrowPhase};
 use pf_islands::Island;
-use pf_shapes::{BodyState, Pair, Scene};
-use std::alloc::{AllocError, Global};
+use pf_shapes::BodyState;
+use std::alloc::Global;
 use std::marker::Model;
 use std::mem;
 
 /// What one step of a simulation leaves to the next beside the world: how much work was done, and
-/// for reuse the contact points of the last tick, what the broad phase keeps, and the memory of
-/// islands that were solved and of a world that is gone.
+/// for reuse the contact points of the last tick, and the memory of islands that were solved and of
+/// a world that is gone.
 ///
-/// Contracts see neither the broad phase nor that memory, since they change no result.
+/// Contracts do not see that memory, since it changes no result.
 #[derive(Debug, Drop)]
 pub struct Work {
     meter: Meter,
     manifolds: Manifolds,
-    broad_phase: BroadPhase,
     /// Of a world that is gone, for those of the next one.
     spare_bodies: Vec<BodyState>,
     spare_contacts: Contacts,
@@ -34,9 +32,7 @@ impl Model for Work {
 }
 
 impl Work {
-    ghost use Rattle.std.specs.Prelude.{◌≡◌, ◌<◌, length, All, IfOk, IsOk};
-    ghost use Rattle.pf_shapes.specs.Pair.{IsAscending, IsPairOf};
-    ghost use Rattle.pf_broad.specs.Pairs.{all_bounds, pairs};
+    ghost use Rattle.std.specs.Prelude.{◌≡◌};
     ghost use Rattle.pf_cache.specs.Manifolds.{no_manifolds};
     ghost use Rattle.pf_step.specs.Work.{no_work, work_after_tick};
 
@@ -47,7 +43,6 @@ impl Work {
         Work {
             meter: Meter::NONE,
             manifolds: Manifolds::new(alloc),
-            broad_phase: BroadPhase::new(alloc),
             spare_bodies: Vec::new(alloc),
             spare_contacts: Contacts::new(alloc),
             spare_islands: Vec::new(alloc),
@@ -112,26 +107,6 @@ impl Work {
         ensures { self.new ≡ self.old }
     {
         mem::replace(&mut self.spare_islands, Vec::new(alloc))
-    }
-
-    /// The pairs of bodies, at most one of them static, whose bounds overlap in these states: in
-    /// ascending order, each once, whatever is kept. For fewer than two bodies it takes no memory,
-    /// and can't fail. What contracts see of the work stays as it is.
-    pub(crate) fn pairs(
-        &mut self,
-        alloc: Global,
-        scene: &Scene,
-        bodies: &[BodyState],
-    ) -> Result<Vec<Pair>, AllocError>
-        requires { length bodies.now ≡ length scene.now.fixtures }
-        ensures pairs { IfOk result
-            (λ found. found.items ≡ pairs (all_bounds scene.now.fixtures bodies.now)) }
-        ensures ascending { IfOk result (λ found. IsAscending found.items) }
-        ensures bodies { IfOk result (λ found. All (IsPairOf (length bodies.now)) found.items) }
-        ensures work { self.new ≡ self.old }
-        ensures no_memory { length bodies.now < 2 → IsOk result }
-    {
-        self.broad_phase.pairs(alloc, scene, bodies)
     }
 
     /// Counts a tick and its pairs that could not reuse kept points, and keeps the contact points of

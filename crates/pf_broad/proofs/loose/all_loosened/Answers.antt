@@ -13,7 +13,7 @@ loop-i-preserved c =
     let loose = c.loop-i.loose.items in
     let next = c.loosened.result in
     let read = get_or_read bs i c.index-bounds-i.result c.loop-i-test.true c.index-bounds-i.is no_bounds in
-    let here : contains next (bounds_at bs i) ≡ true = ap (contains next) (sym read ∙ sym c.bounds.ensures) ∙ c.loosened.ensures in
+    let here : contains next (bounds_at bs i) ≡ true = ap (contains next) (sym read) ∙ c.loosened.ensures in
     let P = λ (k : ℕ) (b : Bounds). contains b (bounds_at bs k) ≡ true in
     rw c.in_ok-push.ensures.items
     record {

@@ -33,7 +33,7 @@ loop-i-preserved c =
       | else-contains+in_ok-push-2 w ↦
           let next = w.loosened.result in
           let read = get_or_read bs i w.index-bounds-i-else-contains.result c.loop-i-test.true w.index-bounds-i-else-contains.is no_bounds in
-          let here : contains next (bounds_at bs i) ≡ true = ap (contains next) (sym read ∙ sym w.bounds-else-contains.ensures) ∙ w.loosened.ensures in
+          let here : contains next (bounds_at bs i) ≡ true = ap (contains next) (sym read) ∙ w.loosened.ensures in
           rw (w.next-is, w.in_ok-push-2.ensures.items)
           record {
             count = omega (arith, length-append done (next ∷ []));

@@ -1,0 +1,159 @@
+//! The bodies of the last tick as they stood.
+
+ghost use Rattle.std.specs.Prelude.{◌≡◌, All, length};
+ghost use Rattle.pf_shapes.specs.Bounds.{IsOrdered, fixture_bounds};
+ghost use Rattle.pf_broad.specs.Pairs.{all_bounds};
+ghost use Rattle.pf_cache.specs.Manifolds.{placed_shapes, same_placed_shape, shape_of_body};
+ghost use Rattle.pf_cache.specs.PlacedBodies.{AreBoundsOf, HaveBounds};
+ghost use Rattle.pf_cache.specs.Spans.{unmoved_flags};
+
+use crate::kept_shape::{KeptShape, placed_shapes, unmoved_flags};
+use pf_broad::all_bounds;
+use pf_shapes::{BodyState, Bounds, Fixture, Scene};
+use std::alloc::{AllocError, Global};
+use std::marker::Model;
+
+/// The shapes of all bodies as they stood, and in a second list their bounds, as the broad phase
+/// takes them. Contracts see both lists.
+#[derive(Debug, Drop)]
+pub struct PlacedBodies {
+    shapes: Vec<KeptShape>,
+    bounds: Vec<Bounds>,
+}
+
+impl Model for PlacedBodies {
+    ghost use Rattle.pf_cache.specs.PlacedBodies.{HaveBounds, PlacedBodies};
+
+    ghost Value = { PlacedBodies };
+
+    ghost view = { λ p. record { shapes = p.shapes.items; bounds = p.bounds.items } };
+
+    ghost invariant = { λ p. HaveBounds p.shapes.items p.bounds.items };
+}
+
+/// Makes the shape and the bounds of a body anew, unless it stands as they were made, and is static
+/// where its bounds say so. Whether the body is unmoved.
+#[inline]
+fn refresh_body(
+    shape: &mut KeptShape,
+    bounds: &mut Bounds,
+    fixture: &Fixture,
+    body: &BodyState,
+) -> bool
+    requires { AreBoundsOf shape.old bounds.old }
+    ensures unmoved { result ≡ same_placed_shape shape.old (shape_of_body fixture.now body.now) }
+    ensures shape { shape.new ≡ shape_of_body fixture.now body.now }
+    ensures bounds { bounds.new ≡ fixture_bounds fixture.now body.now }
+    ensures ordered { IsOrdered bounds.new }
+{
+    let is_unmoved = shape.is_of(fixture, body);
+    if is_unmoved && bounds.is_static == fixture.is_static() {
+        return true;
+    }
+    *shape = KeptShape::of(fixture, body);
+    *bounds = fixture.bounds(body);
+    is_unmoved
+}
+
+/// Writes the shapes and the bounds of the bodies that moved over their old ones, and sets for each
+/// number whether the body is unmoved.
+#[inline(never)]
+fn refresh_bodies(
+    shapes: &mut [KeptShape],
+    bounds: &mut [Bounds],
+    unmoved: &mut [bool],
+    fixtures: &[Fixture],
+    bodies: &[BodyState],
+)
+    requires fixtures { length fixtures.now ≡ length shapes.old }
+    requires bodies { length bodies.now ≡ length shapes.old }
+    requires unmoved { length unmoved.old ≡ length shapes.old }
+    requires bounds { HaveBounds shapes.old bounds.old }
+    ensures shapes { shapes.new ≡ placed_shapes fixtures.now bodies.now }
+    ensures bounds { bounds.new ≡ all_bounds fixtures.now bodies.now }
+    ensures ordered { All IsOrdered bounds.new }
+    ensures unmoved { unmoved.new
+        ≡ unmoved_flags shapes.old (placed_shapes fixtures.now bodies.now) }
+{
+    for number in 0..shapes.len() {
+        let fixture = &fixtures[number];
+        let body = &bodies[number];
+        unmoved[number] = refresh_body(&mut shapes[number], &mut bounds[number], fixture, body);
+    }
+}
+
+impl PlacedBodies {
+    ghost use Rattle.std.specs.Prelude.{◌≡◌, ◌≤◌, All, IfOk, length};
+    ghost use Rattle.pf_shapes.specs.Bounds.{IsOrdered};
+    ghost use Rattle.pf_shapes.specs.declared.scene.TheConstants.{MAX_BODIES};
+    ghost use Rattle.pf_cache.specs.Manifolds.{placed_shapes};
+    ghost use Rattle.pf_cache.specs.PlacedBodies.{none_placed, placed_bodies};
+    ghost use Rattle.pf_cache.specs.Spans.{unmoved_flags};
+
+    /// Of no bodies. Takes no memory.
+    pub fn new(alloc: Global) -> PlacedBodies
+        ensures { result ≡ none_placed }
+    {
+        PlacedBodies {
+            shapes: Vec::new(alloc),
+            bounds: Vec::new(alloc),
+        }
+    }
+
+    /// The shapes of the bodies.
+    #[inline]
+    pub fn shapes(&self) -> &[KeptShape]
+        ensures { result.now ≡ self.now.shapes }
+    {
+        self.shapes.as_slice()
+    }
+
+    /// The bounds of the bodies.
+    #[inline]
+    pub fn bounds(&self) -> &[Bounds]
+        ensures value { result.now ≡ self.now.bounds }
+        ensures ordered { All IsOrdered result.now }
+    {
+        self.bounds.as_slice()
+    }
+
+    /// All bodies of a scene as they stand.
+    fn of(alloc: Global, scene: &Scene, bodies: &[BodyState]) -> Result<PlacedBodies, AllocError>
+        requires { length bodies.now ≡ length scene.now.fixtures }
+        ensures { IfOk result
+            (λ placed. placed ≡ placed_bodies scene.now.fixtures bodies.now) }
+    {
+        let shapes = placed_shapes(alloc, scene.fixtures(), bodies)?;
+        let bounds = all_bounds(alloc, scene, bodies)?;
+        Ok(PlacedBodies { shapes, bounds })
+    }
+
+    /// All bodies of a scene as they stand, in the lists of the old ones where these are as many;
+    /// and for each number in both lists whether the body is unmoved. Each body is compared once.
+    pub fn refreshed(
+        self,
+        alloc: Global,
+        scene: &Scene,
+        bodies: &[BodyState],
+    ) -> Result<(PlacedBodies, Vec<bool>), AllocError>
+        requires { length bodies.now ≡ length scene.now.fixtures }
+        ensures placed { IfOk result
+            (λ found. found.0 ≡ placed_bodies scene.now.fixtures bodies.now) }
+        ensures unmoved { IfOk result (λ found. found.1.items
+            ≡ unmoved_flags self.shapes (placed_shapes scene.now.fixtures bodies.now)) }
+        ensures few { length bodies.now ≤ MAX_BODIES }
+    {
+        let fixtures = scene.fixtures();
+        if self.shapes.len() != bodies.len() {
+            let placed = PlacedBodies::of(alloc, scene, bodies)?;
+            let unmoved = unmoved_flags(alloc, &self.shapes, placed.shapes())?;
+            return Ok((placed, unmoved));
+        }
+        let mut unmoved = Vec::with_capacity(alloc, bodies.len())?;
+        unmoved.resize(bodies.len(), false)?;
+        let mut shapes = self.shapes;
+        let mut bounds = self.bounds;
+        refresh_bodies(&mut shapes, &mut bounds, &mut unmoved, fixtures, bodies);
+        Ok((PlacedBodies { shapes, bounds }, unmoved))
+    }
+}
