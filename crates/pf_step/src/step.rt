@@ -39,8 +39,7 @@ fn bodies_after_commands(
     Ok(bodies)
 }
 
-/// The contact points of the bodies of a scene as they stand; kept ones are reused. What contracts
-/// see of the work stays as it is.
+/// The contact points of the bodies of a scene as they stand; kept ones are reused.
 #[tactic(auto, using(pf_cache::proofs::Unmoved::kept_points, pf_manifold::proofs::KeyOrder::touches_of_bodies))]
 fn narrow_phase<P: Collider>(
     collider: &P,
@@ -48,7 +47,6 @@ fn narrow_phase<P: Collider>(
     scene: &Scene,
     bodies: &[BodyState],
     kept: Manifolds,
-    work: &mut Work,
 ) -> Result<NarrowPhase, AllocError>
     requires can { P.can_collide collider.now }
     requires bodies { length bodies.now ≡ length scene.now.fixtures }
@@ -58,11 +56,9 @@ fn narrow_phase<P: Collider>(
         (λ found. kept_touches found.manifolds ≡ touching scene.now bodies.now) }
     ensures bodies { IfOk result
         (λ found. All (IsTouchOf (length bodies.now)) (kept_touches found.manifolds)) }
-    ensures work { work.new ≡ work.old }
     ensures no_memory { bodies.now ≡ [] → IsOk result }
 {
-    let pairs = work.pairs(alloc, scene, bodies)?;
-    kept.update(collider, alloc, scene, bodies, &pairs)
+    kept.update(collider, alloc, scene, bodies)
 }
 
 /// The world one tick of 1/64 s later, with the payloads of the tick's commands in order of player,
@@ -91,7 +87,7 @@ pub fn step_by<P: Collider, C: Crew>(
     let kept = work.take_manifolds(alloc);
     let room = work.take_bodies(alloc);
     let bodies = bodies_after_commands(room, scene, world, payloads)?;
-    let found = narrow_phase(collider, alloc, scene, &bodies, kept, work)?;
+    let found = narrow_phase(collider, alloc, scene, &bodies, kept)?;
     match finish(alloc, scene, world.contacts(), bodies, &found, work, crew) {
         Ok(next) => {
             work.end_tick(found);

@@ -34,7 +34,7 @@ returns-in-Ok-clause-step g c =
       bodies = ap (λ (next : World). length next.bodies) value ∙ step_length s w payloads c.requires.world;
       counted = c.end_tick.ensures
           ∙ ap₂ work_after_tick (c.in_ok-found.ensures.value ∙ found)
-          (c.finish.ensures.work ∙ c.in_ok-found.ensures.work ∙ c.take_bodies-room.ensures ∙ c.take_manifolds-kept.ensures.rest);
+          (c.finish.ensures.work ∙ c.take_bodies-room.ensures ∙ c.take_manifolds-kept.ensures.rest);
       not_counted = tt;
     }
 
