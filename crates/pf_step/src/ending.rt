@@ -70,8 +70,15 @@ fn prepare(
     let contacts = contacts.update(spare.contacts, touches)?;
     let mut groups = Groups::new(alloc, scene, touches)?;
     groups.wake(&mut bodies);
-    let contacts_now = contacts.as_slice();
-    let islands = split(alloc, spare.islands, scene, &groups, &bodies, touches, contacts_now)?;
+    let islands = split(
+        alloc,
+        spare.islands,
+        scene,
+        &groups,
+        &bodies,
+        touches,
+        contacts.as_slice(),
+    )?;
     Ok(Tick {
         bodies,
         contacts,

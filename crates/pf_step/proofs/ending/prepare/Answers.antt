@@ -43,10 +43,10 @@ returns-clause-islands c =
     let awake : c.deref.result.now ≡ woken (names_of_bodies s bodies) bodies =
     c.deref.ensures.value ∙ with_items_is c.args.bodies c.wake.new.bodies (c.wake.auto.bodies ∙ c.deref_mut.ensures.len)
     ∙ c.wake.ensures.bodies ∙ ap₂ woken (c.in_ok-groups.ensures.value ∙ ap (groups s) points) c.deref_mut.ensures.value in
-    let contacts : c.as_slice-contacts_now.result.now ≡ contacts_of_bodies s before bodies =
-    c.as_slice-contacts_now.ensures.value ∙ c.in_ok-contacts.ensures.value ∙ ap (updated before) points in
+    let contacts : c.as_slice.result.now ≡ contacts_of_bodies s before bodies =
+    c.as_slice.ensures.value ∙ c.in_ok-contacts.ensures.value ∙ ap (updated before) points in
     c.in_ok-islands.ensures.value
-    ∙ ap₂ (λ ns bs. islands ns bs (active_rows s bs c.touches-touches.result.now c.as_slice-contacts_now.result.now)) names awake
+    ∙ ap₂ (λ ns bs. islands ns bs (active_rows s bs c.touches-touches.result.now c.as_slice.result.now)) names awake
     ∙ ap₂ (λ ts cs. islands (names_of_bodies s bodies) (woken (names_of_bodies s bodies) bodies)
     (active_rows s (woken (names_of_bodies s bodies) bodies) ts cs)) points contacts
 
