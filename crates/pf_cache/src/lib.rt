@@ -1,6 +1,6 @@
 //! Contacts from tick to tick: the accumulated impulses that a world keeps of each, by its key; the
-//! rows that the solver makes of them; the contact points that are kept for reuse; and the meter of
-//! the work done.
+//! rows that the solver makes of them; the bodies as they stood, and the contact points of their
+//! pairs, which are kept for reuse; and the meter of the work done.
 #![tactic(auto)]
 
 mod constraint;

@@ -1,11 +1,10 @@
-use Rattle.std.proofs.Common.{◌≡◌, ◌+◌, ◌++◌, ◌∙◌, ap, ap₂, map, sym, take, arith}
+use Rattle.std.proofs.Common.{◌≡◌, ◌++◌, ◌∙◌, ap, ap₂, map, take, arith}
 use Rattle.std.specs.Prelude.{drop}
 use Rattle.std.proofs.lemmas.List.{with_items_is}
 use Rattle.pf_cache.specs.Spans.{Span, computed_count_by_flags}
 use Rattle.pf_cache.proofs.Keeping.{ascend_behind, counts_add, others, whole_points, whole_spans}
 use Rattle.pf_cache.proofs.Refreshing.{placed_end}
 use Rattle.pf_cache.proofs.Updating.{pairs_of_scene, same_behind}
-use Rattle.pf_shapes.specs.Pair.{Pair}
 use Rattle.std.specs.Prelude.{length}
 use Rattle.pf_cache.proofs.manifolds.updated_points.Goals as goal
 

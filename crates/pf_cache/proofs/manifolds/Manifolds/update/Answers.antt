@@ -1,4 +1,4 @@
-use Rattle.std.proofs.Common.{◌≡◌, ◌∙◌, All, List, ap, ap₂, arith, length, map, subst, sym}
+use Rattle.std.proofs.Common.{◌≡◌, ◌∙◌, All, List, ap, ap₂, arith, map, subst, sym}
 use Rattle.std.specs.List.{flat_map}
 use Rattle.pf_shapes.specs.Pair.{IsPairOf, Pair}
 use Rattle.pf_broad.specs.Pairs.{all_bounds, pairs}
