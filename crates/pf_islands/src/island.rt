@@ -9,6 +9,9 @@ use smallvec::SmallVec;
 use std::alloc::{AllocError, Global};
 use std::marker::Model;
 
+/// How many times the room that it needs an island may have before its memory is given back.
+const MOST_ROOM: usize = 4;
+
 /// Some bodies of a world that contacts connect, and the contacts that touch them, as Box2D 2.x's
 /// `b2Island`. It has its own copies of all, so it can be solved apart from the others. Its rows
 /// name its bodies by their places in the island. A body without contacts needs no memory beside
@@ -83,12 +86,21 @@ impl Island {
         }
     }
 
-    /// Drops its bodies and contacts, and makes room for so many others in the same memory. Takes no
-    /// memory for one body without contacts.
+    /// Whether it has far more room than this.
+    fn has_too_much_room(&self, room: Room) -> bool {
+        self.bodies.capacity() / MOST_ROOM > room.bodies
+            || self.rows.capacity() / MOST_ROOM > room.rows
+    }
+
+    /// Drops its bodies and contacts, and makes room for so many others. Its memory stays, unless it is
+    /// far too much. Takes no memory for one body without contacts.
     pub(crate) fn clear(&mut self, room: Room) -> Result<(), AllocError>
         ensures value { OnOk result (self.new ≡ no_island) }
         ensures no_memory { room.bodies ≤ 1 → room.rows ≡ 0 → IsOk result }
     {
+        if self.has_too_much_room(room) {
+            *self = Island::new(*self.rows.allocator());
+        }
         self.numbers.clear();
         self.bodies.clear();
         self.rows.clear();
