@@ -1,9 +1,13 @@
 -- What a settle does to a crew that counts its calls.
-use Rattle.std.proofs.Common.{◌≡◌, ◌∙◌, ℕ, zero, suc, List, ap, sym}
+use Rattle.std.proofs.Common.{◌≡◌, ◌∙◌, ℕ, zero, suc, Err, List, ap, subst, sym}
+use Rattle.std.specs.Prelude.{IfErr, Result}
 use Rattle.pf_cache.specs.Meter.{saturating_sum}
 use Rattle.pf_islands.specs.Split.{Island}
+use Rattle.pf_step.specs.declared.crew.CrewError.{CrewError}
+use Rattle.pf_step.specs.declared.crew.StepError.{StepError}
+use Rattle.pf_step.specs.declared.crew.StepError.TheVariants.{Crew}
 use Rattle.pf_rollback.specs.Core.{PeerCore, count_after}
-use Rattle.pf_rollback.specs.Settling.{AreCalls}
+use Rattle.pf_rollback.specs.Settling.{AreCalls, FailsAfter}
 
 module _ {A : Type 0} (call : A → List Island → A → Type 0) (core : PeerCore) where
   -- so many calls are counted
@@ -13,7 +17,7 @@ module _ {A : Type 0} (call : A → List Island → A → Type 0) (core : PeerCo
   unfolding AreCalls count_after
   calls_counted calls counts zero first last done = ap calls (sym done)
   calls_counted calls counts (suc n) first last done =
-      counts done.0 last _ done.1.1 ∙ ap (λ count. saturating_sum count 1) (calls_counted calls counts n first done.0 done.1.0)
+      counts done.0 last _ done.2 ∙ ap (λ count. saturating_sum count 1) (calls_counted calls counts n first done.0 done.1)
 
   -- what no call changes stays
   pub same_after_calls : {B : Type 0} (part : A → B)
@@ -22,4 +26,17 @@ module _ {A : Type 0} (call : A → List Island → A → Type 0) (core : PeerCo
   unfolding AreCalls
   same_after_calls part same zero first last done = ap part (sym done)
   same_after_calls part same (suc n) first last done =
-      same done.0 last _ done.1.1 ∙ same_after_calls part same n first done.0 done.1.0
+      same done.0 last _ done.2 ∙ same_after_calls part same n first done.0 done.1
+
+-- a settle that returns an error of the crew failed in a call, of a crew whose calls before it returned
+pub failed_call : {A B : Type 0} {call : A → List Island → A → Type 0} {may_fail : A → List Island → CrewError → A → Type 0}
+    (old new : PeerCore) (first last : A) (part : A → B)
+    → ((a b : A) (is : List Island) → call a is b → part b ≡ part a)
+    → (wanted : A → CrewError → B)
+    → ((a b : A) (is : List Island) (error : CrewError) → may_fail a is error b → part a ≡ wanted b error)
+    → (result : Result ℕ StepError) (error : CrewError) → result ≡ Err (Crew error)
+    → IfErr result (λ e. FailsAfter call may_fail old new first e last) → part first ≡ wanted last error
+failed_call {call = call} {may_fail = may_fail} old new first last part same wanted fails result error is failed =
+    let at : FailsAfter call may_fail old new first (Crew error) last =
+    subst (λ r. IfErr r (λ e. FailsAfter call may_fail old new first e last)) is failed in
+    sym (same_after_calls call old part same at.0 first at.3.0 at.3.1) ∙ fails at.3.0 last _ error at.3.2
