@@ -5,8 +5,8 @@ use Rattle.pf_cache.specs.Meter.{saturating_sum}
 use Rattle.pf_islands.specs.Split.{Island}
 use Rattle.pf_step.specs.declared.crew.CrewError.{CrewError}
 use Rattle.pf_step.specs.declared.crew.StepError.{StepError}
-use Rattle.pf_step.specs.declared.crew.StepError.TheVariants.{Crew}
-use Rattle.pf_rollback.specs.Core.{PeerCore, count_after}
+use Rattle.pf_step.specs.declared.crew.StepError.TheVariants.{Crew, OutOfMemory}
+use Rattle.pf_rollback.specs.Core.{HasSettled, PeerCore, count_after}
 use Rattle.pf_rollback.specs.Settling.{AreCalls, FailsAfter}
 
 module _ {A : Type 0} (call : A → List Island → A → Type 0) (core : PeerCore) where
@@ -28,15 +28,25 @@ module _ {A : Type 0} (call : A → List Island → A → Type 0) (core : PeerCo
   same_after_calls part same (suc n) first last done =
       same done.0 last _ done.2 ∙ same_after_calls part same n first done.0 done.1
 
--- a settle that returns an error of the crew failed in a call, of a crew whose calls before it returned
-pub failed_call : {A B : Type 0} {call : A → List Island → A → Type 0} {may_fail : A → List Island → CrewError → A → Type 0}
-    (old new : PeerCore) (first last : A) (part : A → B)
-    → ((a b : A) (is : List Island) → call a is b → part b ≡ part a)
-    → (wanted : A → CrewError → B)
-    → ((a b : A) (is : List Island) (error : CrewError) → may_fail a is error b → part a ≡ wanted b error)
-    → (result : Result ℕ StepError) (error : CrewError) → result ≡ Err (Crew error)
-    → IfErr result (λ e. FailsAfter call may_fail old new first e last) → part first ≡ wanted last error
-failed_call {call = call} {may_fail = may_fail} old new first last part same wanted fails result error is failed =
-    let at : FailsAfter call may_fail old new first (Crew error) last =
-    subst (λ r. IfErr r (λ e. FailsAfter call may_fail old new first e last)) is failed in
-    sym (same_after_calls call old part same at.0 first at.3.0 at.3.1) ∙ fails at.3.0 last _ error at.3.2
+module _ {A : Type 0} {call : A → List Island → A → Type 0} (old new : PeerCore) (first last : A)
+    (may_fail : A → List Island → CrewError → A → Type 0) (result : Result ℕ StepError)
+    (failed : IfErr result (λ e. FailsAfter call may_fail old new first e last)) where
+  -- a settle that returns an error of the crew failed in a call, after calls that returned
+  pub failed_call : {B : Type 0} (part : A → B)
+      → ((a b : A) (is : List Island) → call a is b → part b ≡ part a)
+      → (error : CrewError) → result ≡ Err (Crew error)
+      → (before : A) × (part before ≡ part first) × ((is : List Island) × may_fail before is error last)
+  failed_call part same error is =
+      let at : FailsAfter call may_fail old new first (Crew error) last =
+      subst (λ r. IfErr r (λ e. FailsAfter call may_fail old new first e last)) is failed in
+      (at.3.0, same_after_calls call old part same at.0 first at.3.0 at.3.1, (_, at.3.2))
+
+  -- one that is out of memory has called the crew for each tick that it settled
+  pub calls_before : (calls : A → ℕ)
+      → ((a b : A) (is : List Island) → call a is b → calls b ≡ saturating_sum (calls a) 1)
+      → result ≡ Err OutOfMemory
+      → (more : ℕ) × HasSettled more old new × (calls last ≡ count_after (calls first) more)
+  calls_before calls counts is =
+      let at : FailsAfter call may_fail old new first OutOfMemory last =
+      subst (λ r. IfErr r (λ e. FailsAfter call may_fail old new first e last)) is failed in
+      (at.0, at.2, ap calls at.3.2 ∙ calls_counted call old calls counts at.0 first at.3.0 at.3.1)

@@ -3,6 +3,7 @@
 ghost use Rattle.std.specs.Prelude.{◌≡◌, All, map};
 ghost use Rattle.pf_islands.specs.Split.{IsIslandOf};
 ghost use Rattle.pf_solver.specs.Alone.{island_after_tick};
+ghost use Rattle.pf_calls.specs.Failure.{failure_at};
 
 use pf_islands::Island;
 use pf_shapes::Scene;
@@ -58,6 +59,22 @@ impl BackwardCrew {
             failure,
         }
     }
+
+    /// The error of the call that was counted last, if that is the call to fail in.
+    fn failure_of_call(&self) -> Option<CrewError>
+        ensures { result ≡ failure_at self.now.failure self.now.calls }
+    {
+        match self.failure {
+            Some((call, error)) => {
+                if call == self.calls {
+                    Some(error)
+                } else {
+                    None
+                }
+            }
+            None => None,
+        }
+    }
 }
 
 /// Solves each island, the last one first.
@@ -73,22 +90,25 @@ fn solve_backward(scene: &Scene, islands: &mut [Island])
 }
 
 impl Crew for BackwardCrew {
-    ghost use Rattle.std.specs.Prelude.{◌≡◌, Some};
+    ghost use Rattle.std.specs.Prelude.{◌≡◌, None, Some};
     ghost use Rattle.pf_cache.specs.Meter.{saturating_sum};
+    ghost use Rattle.pf_calls.specs.Failure.{failure_at};
 
     ghost is_called = { λ before islands after.
-        (after.calls ≡ saturating_sum before.calls 1) × (after.failure ≡ before.failure) };
+        (after.calls ≡ saturating_sum before.calls 1) × (after.failure ≡ before.failure)
+        × (failure_at before.failure after.calls ≡ None) };
 
     ghost may_fail = { λ before islands error after.
-        before.failure ≡ Some (after.calls, error) };
+        (after.calls ≡ saturating_sum before.calls 1)
+        × (failure_at before.failure after.calls ≡ Some error) };
 
     fn solve(&mut self, scene: &Scene, islands: Vec<Island>) -> Result<Vec<Island>, CrewError> {
         let mut islands = islands;
         self.calls = self.calls.saturating_add(1);
         self.seen = Seen::of(&islands);
-        match self.failure {
-            Some((nth, error)) if nth == self.calls => Err(error),
-            _ => {
+        match self.failure_of_call() {
+            Some(error) => Err(error),
+            None => {
                 solve_backward(scene, &mut islands);
                 Ok(islands)
             }

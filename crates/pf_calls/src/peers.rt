@@ -1,9 +1,11 @@
 //! The calls on peers.
 
-ghost use Rattle.std.specs.Prelude.{◌≡◌, ◌<◌, ◌≤◌, Err, OnOk, Some};
-ghost use Rattle.pf_rollback.specs.Core.{count_after, missing_count};
+ghost use Rattle.std.specs.Prelude.{ℕ, ◌≡◌, ◌<◌, ◌≤◌, Err, OnOk, Some};
+ghost use Rattle.pf_rollback.specs.Core.{HasSettled, count_after, missing_count};
+ghost use Rattle.pf_rollback.specs.Settling.{IsSettle};
 ghost use Rattle.pf_step.specs.declared.crew.CrewError.{CrewError};
-ghost use Rattle.pf_step.specs.declared.crew.StepError.TheVariants.{Crew};
+ghost use Rattle.pf_step.specs.declared.crew.StepError.TheVariants.{Crew, OutOfMemory};
+ghost use Rattle.pf_calls.specs.Failure.{failure_at};
 
 use crate::call::Call;
 use crate::crew::BackwardCrew;
@@ -99,18 +101,22 @@ fn merge(alloc: Global, peers: &mut [PeerCore], number: usize, other: usize) -> 
     }
 }
 
-/// Settles with a crew that counts its calls: one for each tick. It fails in the call that it was
-/// told to fail in, with that error.
+/// Settles with a crew that counts its calls: one for each tick. An error of the crew is that of the
+/// call that it was told to fail in. Where memory is out, each tick that was settled has its call.
 fn settle_counted<R: Threads + Sync>(
     rt: &R,
     alloc: Global,
     peer: &mut PeerCore,
     crew: &mut BackwardCrew,
 ) -> Result<u32, StepError>
+    ensures settle { IsSettle peer.old peer.new result }
     ensures counted { OnOk result
         (crew.new.calls ≡ count_after crew.old.calls (missing_count peer.old)) }
     ensures failed { (error : CrewError) → result ≡ Err (Crew error)
-        → crew.old.failure ≡ Some (crew.new.calls, error) }
+        → failure_at crew.old.failure crew.new.calls ≡ Some error }
+    ensures out_of_memory { result ≡ Err OutOfMemory
+        → (more : ℕ) × HasSettled more peer.old peer.new
+        × (crew.new.calls ≡ count_after crew.old.calls more) }
 {
     peer.settle_with(rt, alloc, crew)
 }
