@@ -7,7 +7,7 @@ ghost use Rattle.pf_broad.specs.Pairs.{all_bounds};
 use pf_shapes::{BodyState, Bounds, MAX_BODIES, Scene};
 use std::alloc::{AllocError, Global};
 
-/// The bounds of each body. It takes memory for their list.
+/// The bounds of each body. Allocates the list.
 #[inline(never)]
 pub fn all_bounds(
     alloc: Global,

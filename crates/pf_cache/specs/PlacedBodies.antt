@@ -21,8 +21,7 @@ abbrev pub placed_bodies : List Fixture → List BodyState → PlacedBodies
 placed_bodies fixtures bodies =
     record { shapes = placed_shapes fixtures bodies; bounds = all_bounds fixtures bodies }
 
--- the bounds of this shape at its position and rotation, in order; whether their body is static is
--- their own
+-- these are the bounds of this shape at its position and rotation, of a static or of a dynamic body
 pub record AreBoundsOf (s : PlacedShape) (b : Bounds) : Type 0 where
   pub value : b ≡ shape_bounds s.shape s.position s.rotation b.is_static
   pub ordered : IsOrdered b

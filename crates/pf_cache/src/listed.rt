@@ -36,7 +36,7 @@ fn computed_count(spans: &[Span], unmoved: &[bool], pairs: &[Pair]) -> usize
     count
 }
 
-/// How many of these pairs cannot reuse kept points, where that are at least `many`.
+/// How many of these pairs cannot reuse kept points, if they are at least `many`; else none.
 pub fn computed_if_many(
     spans: &[Span],
     unmoved: &[bool],

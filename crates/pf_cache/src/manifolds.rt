@@ -110,8 +110,8 @@ fn updated_points(
     })
 }
 
-/// The contact points of these pairs, so many of which cannot reuse kept points: all of them are
-/// computed by the collider.
+/// The contact points of these pairs, all of them computed by the collider. `computed` of the pairs
+/// cannot reuse kept points.
 fn points_at_once<C: Collider>(
     collider: &C,
     alloc: Global,
@@ -167,9 +167,9 @@ impl Manifolds {
 
     /// The contact points of all pairs of bodies, at most one of them static, whose bounds overlap.
     /// The points of a pair that is kept are reused if both bodies still have the shape, position and
-    /// rotation that they had; those of the other pairs are computed, and these pairs are counted.
-    /// Where that are many pairs, the collider computes the points of all pairs at once. An error
-    /// drops what is kept. Takes no memory where there are no bodies.
+    /// rotation that they had. The other pairs cannot reuse kept points: theirs are computed, and
+    /// these pairs are counted. If these are many, the collider computes the points of all pairs at
+    /// once. An error drops what is kept. Takes no memory where there are no bodies.
     pub fn update<C: Collider>(
         self,
         collider: &C,

@@ -31,8 +31,8 @@ impl Model for PlacedBodies {
     ghost invariant = { λ p. HaveBounds p.shapes.items p.bounds.items };
 }
 
-/// Makes the shape and the bounds of a body anew, unless it stands as they were made, and is static
-/// where its bounds say so. Whether the body is unmoved.
+/// Brings the shape and the bounds of a body up to date. They stay if its shape, position and
+/// rotation are the same, and it is still static or still dynamic. Returns whether it is unmoved.
 #[inline]
 fn refresh_body(
     shape: &mut KeptShape,
@@ -55,8 +55,8 @@ fn refresh_body(
     is_unmoved
 }
 
-/// Writes the shapes and the bounds of the bodies that moved over their old ones, and sets for each
-/// number whether the body is unmoved.
+/// Brings the shapes and the bounds of all bodies up to date, and sets for each whether it is
+/// unmoved.
 #[inline(never)]
 fn refresh_bodies(
     shapes: &mut [KeptShape],
@@ -128,8 +128,8 @@ impl PlacedBodies {
         Ok(PlacedBodies { shapes, bounds })
     }
 
-    /// All bodies of a scene as they stand, in the lists of the old ones where these are as many;
-    /// and for each number in both lists whether the body is unmoved. Each body is compared once.
+    /// All bodies of a scene as they stand, in the lists of the old ones if these are as many; and
+    /// for each whether it is unmoved. Each body is compared once.
     pub fn refreshed(
         self,
         alloc: Global,

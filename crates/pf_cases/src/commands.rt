@@ -12,7 +12,10 @@ use std::test::Fail;
 
 /// Circles: one of player 0, a static one of player 1, and one of nobody.
 const SCENE: &[u8] =
-    b"gravity 0 0\ncircle 0 16777216 0 16777216 0 0\ncircle 1 0 0 16777216 0 0\ncircle - 16777216 0 16777216 0 0\nend\n";
+    b"gravity 0 0\n\
+    circle 0 16777216 0 16777216 0 0\n\
+    circle 1 0 0 16777216 0 0\n\
+    circle - 16777216 0 16777216 0 0\nend\n";
 
 /// A command of the tick, the player and the number.
 fn command(tick: u32, player: u8, number: u16, payload: Payload) -> Command

@@ -15,7 +15,9 @@ const FALLING: &[u8] =
     b"gravity 0 -167772160\ncircle 0 16777216 0 16777216 0 0\nend\npeers 1\nadvance 0 2\nshow 0 1\nshow 0 2\n";
 
 const FALLEN: &[u8] =
-    b"advance 0 2\nshow 0 1\nbody 0 0 -40960 16777216 0 0 -2621440 0 0 1\nend\nshow 0 2\nbody 0 0 -122880 16777216 0 0 -5242880 0 0 1\nend\n";
+    b"advance 0 2\n\
+    show 0 1\nbody 0 0 -40960 16777216 0 0 -2621440 0 0 1\nend\n\
+    show 0 2\nbody 0 0 -122880 16777216 0 0 -5242880 0 0 1\nend\n";
 
 /// Where the first and the second reply to that text end.
 const FIRST_REPLY: usize = 12;

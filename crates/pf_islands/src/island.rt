@@ -9,7 +9,7 @@ use smallvec::SmallVec;
 use std::alloc::{AllocError, Global};
 use std::marker::Model;
 
-/// How many times the room that it needs an island may have before its memory is given back.
+/// An island keeps its memory up to so many times what it needs, and gives back more than that.
 const MOST_ROOM: usize = 4;
 
 /// Some bodies of a world that contacts connect, and the contacts that touch them, as Box2D 2.x's

@@ -30,7 +30,8 @@ fn is_active_name(names: &[usize], bodies: &[BodyState], number: usize) -> bool
     names[number] == number && body.awake
 }
 
-/// Clears the island at a place, or adds one without bodies at the end.
+/// Clears the island at a place, with room for so many bodies and contacts; or adds such an island,
+/// if `place` is the length of the list.
 fn clear_at(
     alloc: Global,
     islands: &mut Vec<Island>,
@@ -49,8 +50,9 @@ fn clear_at(
     island.clear(room)
 }
 
-/// An island without bodies for each group that is simulated, in the order of their names and the
-/// memory of the spare ones; and for each body how many of these names are less than its number.
+/// An island without bodies for each group that is simulated, in the order of their names, made in
+/// the memory of the spare islands; and for each body how many of these names are less than its
+/// number.
 fn empty_islands(
     alloc: Global,
     spare: Vec<Island>,

@@ -365,8 +365,9 @@ impl PeerCore {
         }
     }
 
-    /// The same with a crew, which is called once for each tick, with its islands. Where 16,384 pairs
-    /// or more need new contact points, several threads compute them.
+    /// The same with a crew, which is called once for each tick, with its islands, or not at all in a
+    /// tick where nothing touches, if the crew allows that. If [`pf_manifold::PAIRS_FOR_THREADS`]
+    /// pairs or more cannot reuse kept points, several threads compute the points.
     pub fn settle_with<R: Threads + Sync, C: Crew>(
         &mut self,
         rt: &R,

@@ -21,8 +21,8 @@ pub record IsStep {E : Type 0} (s : Scene) (w : World) (payloads : List Payload)
       (new ≡ work_after_tick (narrow_phase_of_tick s w payloads old.manifolds) old)
   pub not_counted : OnErr result (new ≡ record old { manifolds = no_manifolds })
 
--- why a step failed that calls a crew with these islands: it was out of memory before the call, or
--- the call failed with this error
+-- why a step that calls a crew failed: it was out of memory before the call, or the call with these
+-- islands failed with this error
 abbrev pub FailsBy : {A : Type 0} → (A → List Island → CrewError → A → Type 0)
     → A → List Island → StepError → A → Type 0
 FailsBy may_fail old islands OutOfMemory new = new ≡ old

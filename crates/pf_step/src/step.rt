@@ -64,9 +64,10 @@ fn narrow_phase<P: Collider>(
 
 /// The world one tick of 1/64 s later, with the payloads of the tick's commands in order of player,
 /// then number. The world has one state for each body of the scene. The collider computes contact
-/// points, and the crew is called once, with the islands of the tick. Counts the tick and the pairs
-/// that could not reuse kept contact points, and keeps the points; after an error none are kept,
-/// and nothing is counted. Takes no memory of its own where there are no bodies.
+/// points. The crew is called once, with the islands of the tick, or not at all where nothing
+/// touches and the crew allows that. Counts the tick and the pairs that cannot reuse kept points,
+/// and keeps the points; after an error none are kept, and nothing is counted. Takes no memory of
+/// its own where there are no bodies.
 pub fn step_by<P: Collider, C: Crew>(
     collider: &P,
     alloc: Global,
@@ -125,8 +126,8 @@ pub fn step_alone(
     }
 }
 
-/// [`step_by`] with a crew. Where 16,384 pairs or more need new contact points, several threads
-/// compute them.
+/// [`step_by`] with a crew. If [`pf_manifold::PAIRS_FOR_THREADS`] pairs or more cannot reuse kept
+/// points, several threads compute the points.
 pub fn step_with<R: Threads + Sync, C: Crew>(
     rt: &R,
     alloc: Global,

@@ -7,19 +7,19 @@ use std::alloc::Global;
 use std::marker::Model;
 use std::mem;
 
-/// What one step of a simulation leaves to the next beside the world: how much work was done, and
-/// for reuse the contact points of the last tick, and the memory of islands that were solved and of
-/// a world that is gone.
+/// What one step of a simulation leaves to the next beside the world: how much work was done, the
+/// contact points of the last tick, and spare memory of worlds and islands that are gone.
 ///
-/// Contracts do not see that memory, since it changes no result.
+/// Contracts do not see the spare memory, since it changes no result.
 #[derive(Debug, Drop)]
 pub struct Work {
     meter: Meter,
     manifolds: Manifolds,
-    /// Of a world that is gone, for those of the next one.
+    /// The memory for the bodies of the next world.
     spare_bodies: Vec<BodyState>,
+    /// The memory for its contacts.
     spare_contacts: Contacts,
-    /// Of the last tick that made some, for those of the next one.
+    /// The memory for the islands of the next tick.
     spare_islands: Vec<Island>,
 }
 
@@ -56,8 +56,7 @@ impl Work {
         self.meter
     }
 
-    /// The contact points of the last tick; none before the first, and none after a step that was out
-    /// of memory.
+    /// The contact points of the last tick; none before the first, and none after a step that failed.
     pub fn manifolds(&self) -> &Manifolds
         ensures { result.now ≡ self.now.manifolds }
     {
