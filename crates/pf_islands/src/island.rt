@@ -1,6 +1,6 @@
 //! Islands: bodies that contacts connect, with these contacts.
 
-ghost use Rattle.std.specs.Prelude.{◌≡◌, [], IfOk, IsOk};
+ghost use Rattle.std.specs.Prelude.{◌≡◌, ◌++◌, [], IsOk, OnOk};
 
 use crate::rooms::Room;
 use pf_cache::Row;
@@ -26,16 +26,15 @@ pub struct Island {
     pub rows: Vec<Row>,
 }
 
-/// A copy of some rows. Takes no memory for none.
-fn copy_of_rows(alloc: Global, rows: &[Row]) -> Result<Vec<Row>, AllocError>
-    ensures value { IfOk result (λ copy. copy.items ≡ rows.now) }
-    ensures no_memory { rows.now ≡ [] → IsOk result }
+/// Adds copies of these rows. Takes no memory for none.
+fn add_rows(rows: &mut Vec<Row>, others: &[Row]) -> Result<(), AllocError>
+    ensures value { OnOk result (rows.new.items ≡ rows.old.items ++ others.now) }
+    ensures no_memory { others.now ≡ [] → IsOk result }
 {
-    let mut copy = Vec::with_capacity(alloc, rows.len())?;
-    for row in rows {
-        copy.push(row.clone()?)?;
+    for row in others {
+        rows.push(row.clone()?)?;
     }
-    Ok(copy)
+    Ok(())
 }
 
 impl Model for Island {
@@ -111,18 +110,31 @@ impl Island {
         self.rows.reserve(room.rows)
     }
 
+    /// Copies another island into the memory of this one. After an error a part of it may have been
+    /// copied. Takes no memory for one body without contacts.
+    pub fn copy_from(&mut self, other: &Island) -> Result<(), AllocError>
+        ensures value { OnOk result (self.new ≡ other.now) }
+        ensures no_memory { length other.now.numbers ≤ 1 → length other.now.bodies ≤ 1
+            → other.now.rows ≡ [] → IsOk result }
+    {
+        self.clear(Room {
+            bodies: other.bodies.len(),
+            rows: other.rows.len(),
+        })?;
+        self.numbers.extend_from_slice(other.numbers.as_slice())?;
+        self.bodies.extend_from_slice(other.bodies.as_slice())?;
+        add_rows(&mut self.rows, &other.rows)
+    }
+
     /// A copy. Takes no memory for one body without contacts.
     pub fn try_clone(&self) -> Result<Island, AllocError>
         ensures value { IfOk result (λ copy. copy ≡ self.now) }
         ensures no_memory { length self.now.numbers ≤ 1 → length self.now.bodies ≤ 1
             → self.now.rows ≡ [] → IsOk result }
     {
-        let alloc = *self.rows.allocator();
-        Ok(Island {
-            numbers: SmallVec::from_slice(alloc, self.numbers.as_slice())?,
-            bodies: SmallVec::from_slice(alloc, self.bodies.as_slice())?,
-            rows: copy_of_rows(alloc, &self.rows)?,
-        })
+        let mut copy = Island::new(*self.rows.allocator());
+        copy.copy_from(self)?;
+        Ok(copy)
     }
 
     /// Adds a body with this number. After an error a part of it may have been added.

@@ -294,9 +294,10 @@ impl PeerCore {
     }
 
     /// Settles the ticks up to the reached one, in their order, each by one step, and returns the
-    /// reached tick. After an error the ticks before it stay settled. The commands and the reached
-    /// tick stay as they are. Takes no memory where the reached tick is settled.
-    fn settle_by<P: Collider, C: Crew>(
+    /// reached tick. The collider computes contact points, and the crew solves islands. After an
+    /// error the ticks before it stay settled. The commands and the reached tick stay as they are.
+    /// Takes no memory where the reached tick is settled.
+    pub fn settle_by<P: Collider, C: Crew>(
         &mut self,
         collider: &P,
         alloc: Global,
