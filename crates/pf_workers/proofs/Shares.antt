@@ -1,0 +1,112 @@
+-- What workers have of islands that are dealt to them in turn.
+use Rattle.std.proofs.Common.{◌≡◌, ◌∙◌, ℕ, zero, suc, ◌+◌, ◌<◌, ◌==◌, ◌%◌, Bool, true, false, cond, List, [], ◌∷◌, ◌++◌, length, map, set, get_or, refl, sym, ap, ap₂, subst, arith, ◌≢◌, absurd, take, ◌×◌, ◌-◌}
+use Rattle.std.proofs.lemmas.Bool.{eq-eqb, eqb-true, ne_eqb, true≢false}
+use Rattle.std.proofs.lemmas.List.{get_or-set_other, get_or-set_same, length-append, length-map, length-set, map-append}
+use Rattle.std.proofs.Math.ListN.{get_or-map}
+use Rattle.std.proofs.Math.Seq.{get_or-append_seam, take-append_seam}
+use Rattle.std.specs.Prelude.{All, slice_index_or, if◌then◌else◌}
+use Rattle.pf_workers.specs.Dealing.{share, AreShares, AreSharesFrom}
+
+module _ {X : Type 0} where
+  -- the first element is the worker's
+  pub share_own : (n w k : ℕ) (x : X) (xs : List X) → k % n ≡ w → share n w k (x ∷ xs) ≡ share n w (k + 1) xs ++ x ∷ []
+  share_own n w k x xs own = ap (λ b. if b then share n w (k + 1) xs ++ x ∷ [] else share n w (k + 1) xs) (eq-eqb (k % n) w own)
+
+  -- the first element is another worker's
+  pub share_other : (n w k : ℕ) (x : X) (xs : List X) → k % n ≢ w → share n w k (x ∷ xs) ≡ share n w (k + 1) xs
+  share_other n w k x xs other = ap (λ b. if b then share n w (k + 1) xs ++ x ∷ [] else share n w (k + 1) xs) (ne_eqb (k % n) w other)
+
+  -- one more is dealt
+  pub dealt_more : (k who : ℕ) (x : X) (xs pile : List X) (piles : List (List X)) → k % length piles ≡ who → who < length piles
+      → AreSharesFrom (k + 1) xs piles → pile ≡ get_or piles who [] ++ x ∷ []
+      → AreSharesFrom k (x ∷ xs) (set piles who pile)
+  dealt_more k who x xs pile piles turn within shares pile_is w low =
+      let n = length piles in
+      let same : length (set piles who pile) ≡ n = length-set piles who pile in
+      let below : w < n = omega (arith, low, same) in
+      subst (λ m. get_or (set piles who pile) w [] ≡ share m w k (x ∷ xs)) (sym same)
+      (by (who == w) refl below)
+    where
+      by : (b : Bool) → (who == w) ≡ b → w < length piles → get_or (set piles who pile) w [] ≡ share (length piles) w k (x ∷ xs)
+      by true is below =
+          let own : who ≡ w = eqb-true who w is in
+          subst (λ v. get_or (set piles who pile) v [] ≡ share (length piles) v k (x ∷ xs)) own
+          (get_or-set_same piles who pile [] within ∙ pile_is ∙ ap (λ p. p ++ x ∷ []) (shares who within)
+          ∙ sym (share_own (length piles) who k x xs turn))
+      by false is below =
+          let other : who ≢ w = λ same. absurd (true≢false (sym (eq-eqb who w same) ∙ is)) in
+          get_or-set_other piles who w pile [] (λ same. other (sym same)) ∙ shares w below
+          ∙ sym (share_other (length piles) w k x xs (λ same. other (sym turn ∙ same)))
+
+  -- lists that differ in front of their last elements, or in these, differ
+  last_same : (xs ys : List X) (x y : X) → xs ++ x ∷ [] ≡ ys ++ y ∷ [] → (xs ≡ ys) × (x ≡ y)
+  last_same xs ys x y same =
+      let long : length xs ≡ length ys = omega (arith, ap length same, length-append xs (x ∷ []), length-append ys (y ∷ [])) in
+      (sym (take-append_seam xs (x ∷ [])) ∙ ap₂ take long same ∙ take-append_seam ys (y ∷ []),
+      sym (get_or-append_seam xs x [] x) ∙ ap₂ (λ l i. get_or l i x) same long ∙ get_or-append_seam ys y [] x)
+
+  -- the first of those that are left is the last in the pile of the worker whose turn it is
+  pub taken_next : (k who : ℕ) (x y : X) (xs pile : List X) (piles : List (List X)) → k % length piles ≡ who → who < length piles
+      → AreSharesFrom k (x ∷ xs) piles → get_or piles who [] ≡ pile ++ y ∷ []
+      → (y ≡ x) × AreSharesFrom (k + 1) xs (set piles who pile)
+  taken_next k who x y xs pile piles turn within shares pile_is =
+      let n = length piles in
+      let both = last_same pile (share n who (k + 1) xs) y x
+          (sym pile_is ∙ shares who within ∙ share_own n who k x xs turn) in
+      (both.1, λ w low.
+          let same : length (set piles who pile) ≡ n = length-set piles who pile in
+          let below : w < n = omega (arith, low, same) in
+          subst (λ m. get_or (set piles who pile) w [] ≡ share m w (k + 1) xs) (sym same) (by w both.0 (who == w) refl below))
+    where
+      by : (w : ℕ) → pile ≡ share (length piles) who (k + 1) xs → (b : Bool) → (who == w) ≡ b → w < length piles
+          → get_or (set piles who pile) w [] ≡ share (length piles) w (k + 1) xs
+      by w own true is below =
+          subst (λ v. get_or (set piles who pile) v [] ≡ share (length piles) v (k + 1) xs) (eqb-true who w is)
+          (get_or-set_same piles who pile [] within ∙ own)
+      by w own false is below =
+          let other : who ≢ w = λ same. absurd (true≢false (sym (eq-eqb who w same) ∙ is)) in
+          get_or-set_other piles who w pile [] (λ same. other (sym same)) ∙ shares w below
+          ∙ share_other (length piles) w k x xs (λ same. other (sym turn ∙ same))
+
+  -- the pile of the worker whose turn it is has an island, if one is left
+  pub some_left : (k who : ℕ) (x : X) (xs : List X) (piles : List (List X)) → k % length piles ≡ who → who < length piles
+      → AreSharesFrom k (x ∷ xs) piles → get_or piles who [] ≢ []
+  some_left k who x xs piles turn within shares none =
+      let rest = share (length piles) who (k + 1) xs in
+      let long = ap length (sym none ∙ shares who within ∙ share_own (length piles) who k x xs turn) in
+      absurd (omega (arith, long, length-append rest (x ∷ [])))
+
+  -- piles without islands are the shares of none
+  pub shares_of_none : (k : ℕ) (piles : List (List X)) → All (λ pile. pile ≡ []) piles → AreSharesFrom k [] piles
+  shares_of_none k piles empty w low = empty w [] low
+
+  pub none_left : (k : ℕ) (piles : List (List X)) → AreSharesFrom k [] piles → All (λ pile. pile ≡ []) piles
+  none_left k piles shares w d low = get_or_default piles w d low ∙ shares w low
+    where
+      get_or_default : (ps : List (List X)) (i : ℕ) (d : List X) → i < length ps → get_or ps i d ≡ get_or ps i []
+      get_or_default [] i d low = absurd (omega arith)
+      get_or_default (p ∷ ps) zero d low = refl
+      get_or_default (p ∷ ps) (suc i) d low = get_or_default ps i d (omega (arith, low))
+
+module _ {X Y : Type 0} (f : X → Y) where
+  share-map : (n w k : ℕ) (xs : List X) → share n w k (map f xs) ≡ map f (share n w k xs)
+  share-map n w k [] = refl
+  share-map n w k (x ∷ xs) = by (k % n == w) refl
+    where
+      by : (b : Bool) → (k % n == w) ≡ b → share n w k (map f (x ∷ xs)) ≡ map f (share n w k (x ∷ xs))
+      by true is =
+          let own = eqb-true (k % n) w is in
+          share_own n w k (f x) (map f xs) own ∙ ap (λ ys. ys ++ f x ∷ []) (share-map n w (k + 1) xs)
+          ∙ sym (map-append f (share n w (k + 1) xs) (x ∷ [])) ∙ ap (map f) (sym (share_own n w k x xs own))
+      by false is =
+          let other : k % n ≢ w = λ same. true≢false (sym (eq-eqb (k % n) w same) ∙ is) in
+          share_other n w k (f x) (map f xs) other ∙ share-map n w (k + 1) xs ∙ ap (map f) (sym (share_other n w k x xs other))
+
+  -- what all workers make of their shares are the shares of what is made of all
+  pub shares_mapped : (k : ℕ) (xs : List X) (piles : List (List X)) → AreSharesFrom k xs piles
+      → AreSharesFrom k (map f xs) (map (map f) piles)
+  shares_mapped k xs piles shares w low =
+      let same = length-map piles (map f) in
+      let below : w < length piles = omega (arith, low, same) in
+      subst (λ m. get_or (map (map f) piles) w [] ≡ share m w k (map f xs)) (sym same)
+      (get_or-map (map f) piles w [] ∙ ap (map f) (shares w below) ∙ sym (share-map (length piles) w k xs))

@@ -1,0 +1,17 @@
+-- How islands are dealt to the workers of a crew: in turn, island k to worker k mod n.
+use Rattle.std.specs.Prelude.{◌≡◌, ℕ, ◌+◌, ◌%◌, ◌<◌, ◌==◌, List, [], ◌∷◌, ◌++◌, length, map, if◌then◌else◌, slice_index_or}
+
+-- of a list whose first element has the number k, what worker w of n has, from last to first
+unfoldable pub share : {X : Type 0} → (n w k : ℕ) → List X → List X
+share n w k [] = []
+share n w k (x ∷ xs) =
+    if k % n == w then share n w (k + 1) xs ++ x ∷ [] else share n w (k + 1) xs
+
+-- these piles are what the workers have of a list whose first element has the number k
+abbrev pub AreSharesFrom : {X : Type 0} → ℕ → List X → List (List X) → Type 0
+AreSharesFrom k all piles =
+    (w : ℕ) → w < length piles → slice_index_or piles w [] ≡ share (length piles) w k all
+
+-- these piles are what the workers have of all
+abbrev pub AreShares : {X : Type 0} → List X → List (List X) → Type 0
+AreShares all piles = AreSharesFrom 0 all piles

@@ -1,0 +1,5 @@
+-- What the contracts of this crate cite.
+pub mod Dealing
+pub mod Worker
+pub mod Slots
+pub mod Crew

@@ -1,0 +1,169 @@
+//! The islands of the workers: dealt in turn, island k to worker k mod n.
+
+ghost use Rattle.std.specs.Prelude.{◌≡◌, ◌<◌, ◌++◌, [], All, List, OnOk, length};
+ghost use Rattle.pf_islands.specs.Split.{Island};
+ghost use Rattle.pf_workers.specs.Dealing.{AreShares};
+
+use pf_islands::Island;
+use pf_shapes::Scene;
+use pf_solver::solve_island;
+use pf_step::solve_all;
+use std::alloc::{AllocError, Global};
+use std::marker::Model;
+
+/// The islands of a worker, from last to first.
+#[derive(Debug, Drop)]
+pub(crate) struct Pile {
+    islands: Vec<Island>,
+}
+
+impl Model for Pile {
+    ghost use Rattle.std.specs.Prelude.{List};
+    ghost use Rattle.pf_islands.specs.Split.{Island};
+
+    ghost Value = { List Island };
+
+    ghost view = { λ p. p.islands.items };
+}
+
+impl Pile {
+    ghost use Rattle.std.specs.Prelude.{◌≡◌, ◌+◌, ◌<◌, ◌≤◌, ◌++◌, ◌∷◌, [], All, IfOk, IfSome, IsNone, OnOk, length, map, take};
+    ghost use Rattle.pf_islands.specs.Split.{IsIslandOf};
+    ghost use Rattle.pf_solver.specs.Alone.{island_after_tick};
+    ghost use Rattle.pf_workers.specs.Dealing.{share};
+
+    /// Without islands. Takes no memory.
+    pub(crate) fn new(alloc: Global) -> Pile
+        ensures { result ≡ [] }
+    {
+        Pile {
+            islands: Vec::new(alloc),
+        }
+    }
+
+    /// Adds an island that comes before the others. An error loses it.
+    fn push(&mut self, island: Island) -> Result<(), AllocError>
+        ensures { OnOk result (self.new ≡ self.old ++ island ∷ []) }
+    {
+        self.islands.push(island)?;
+        Ok(())
+    }
+
+    /// Takes the first island, which is the last of the pile.
+    fn pop(&mut self) -> Option<Island>
+        ensures some { IfSome result (λ island. self.old ≡ self.new ++ island ∷ []) }
+        ensures none { IsNone result → self.old ≡ [] }
+    {
+        self.islands.pop()
+    }
+
+    /// Puts a copy of an island after a tick at a place, in the memory of the island there, if there
+    /// is one.
+    fn solve_copy(
+        &mut self,
+        place: usize,
+        scene: &Scene,
+        island: &Island,
+    ) -> Result<(), AllocError>
+        requires place { place ≤ length self.old }
+        requires island { IsIslandOf scene.now island.now }
+        ensures { OnOk result (take (place + 1) self.new
+            ≡ take place self.old ++ island_after_tick scene.now island.now ∷ []) }
+        ensures within { OnOk result (place < length self.new) }
+    {
+        if place == self.islands.len() {
+            self.islands.push(island.try_clone()?)?;
+        } else {
+            self.islands[place].copy_from(island)?;
+        }
+        solve_island(scene, &mut self.islands[place]);
+        Ok(())
+    }
+
+    /// The islands of a worker after a tick: copies, in the memory of this pile.
+    pub(crate) fn solve_share(
+        self,
+        scene: &Scene,
+        islands: &[Island],
+        workers: usize,
+        worker: usize,
+    ) -> Result<Pile, AllocError>
+        requires workers { 0 < workers }
+        requires islands { All (IsIslandOf scene.now) islands.now }
+        ensures { IfOk result (λ pile. pile
+            ≡ share workers worker 0 (map (island_after_tick scene.now) islands.now)) }
+    {
+        let mut pile = self;
+        let mut count = 0;
+        for done in 0..islands.len() {
+            let number = islands.len() - 1 - done;
+            if number % workers == worker {
+                pile.solve_copy(count, scene, &islands[number])?;
+                count += 1;
+            }
+        }
+        pile.islands.truncate(count);
+        Ok(pile)
+    }
+
+    /// Solves each island. Takes no memory.
+    pub(crate) fn solve(&mut self, scene: &Scene)
+        requires { All (IsIslandOf scene.now) self.old }
+        ensures { self.new ≡ map (island_after_tick scene.now) self.old }
+    {
+        solve_all(scene, &mut self.islands);
+    }
+}
+
+/// So many piles without islands.
+pub(crate) fn empty_piles(alloc: Global, count: usize) -> Result<Vec<Pile>, AllocError>
+    ensures count { IfOk result (λ piles. length piles.items ≡ count) }
+    ensures empty { IfOk result (λ piles. All (λ pile. pile ≡ []) piles.items) }
+{
+    let mut piles = Vec::with_capacity(alloc, count)?;
+    for _ in 0..count {
+        piles.push(Pile::new(alloc))?;
+    }
+    Ok(piles)
+}
+
+/// Deals islands to the workers, whose piles are empty.
+pub(crate) fn deal(islands: &mut Vec<Island>, piles: &mut [Pile]) -> Result<(), AllocError>
+    requires some { 0 < length piles.old }
+    requires empty { All (λ pile. pile ≡ []) piles.old }
+    ensures shares { OnOk result (AreShares islands.old.items piles.new) }
+    ensures count { length piles.new ≡ length piles.old }
+    ensures rest { OnOk result (islands.new.items ≡ []) }
+{
+    while let Some(island) = islands.pop() {
+        let worker = islands.len() % piles.len();
+        let pile = &mut piles[worker];
+        pile.push(island)?;
+    }
+    Ok(())
+}
+
+/// Puts so many islands of the workers behind those of a list, in the order in which they were
+/// dealt.
+pub(crate) fn gather(
+    piles: &mut [Pile],
+    count: usize,
+    islands: &mut Vec<Island>,
+) -> Result<(), AllocError>
+    requires { 0 < length piles.old }
+    ensures gathered { (all : List Island) → AreShares all piles.old → length all ≡ count
+        → OnOk result (islands.new.items ≡ islands.old.items ++ all) }
+    ensures count { length piles.new ≡ length piles.old }
+    ensures empty { (all : List Island) → AreShares all piles.old → length all ≡ count
+        → OnOk result (All (λ pile. pile ≡ []) piles.new) }
+{
+    for number in 0..count {
+        let worker = number % piles.len();
+        let pile = &mut piles[worker];
+        let Some(island) = pile.pop() else {
+            return Ok(());
+        };
+        islands.push(island)?;
+    }
+    Ok(())
+}

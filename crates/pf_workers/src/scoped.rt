@@ -1,0 +1,205 @@
+//! A crew that starts its workers anew for each tick, in a scope.
+
+ghost use Rattle.std.specs.Prelude.{◌≡◌, All, IfErr, OnOk, map};
+ghost use Rattle.pf_islands.specs.Split.{IsIslandOf};
+ghost use Rattle.pf_solver.specs.Alone.{island_after_tick};
+ghost use Rattle.pf_workers.specs.Crew.{IsScopedError};
+ghost use Rattle.pf_workers.specs.Worker.{IsSolved};
+
+use crate::MAX_WORKERS;
+use crate::gate::{Gate, OpenGate};
+use crate::pile::{Pile, deal, empty_piles, gather};
+use pf_islands::Island;
+use pf_shapes::Scene;
+use pf_step::{Crew, CrewError};
+use std::alloc::{AllocError, Global};
+use std::marker::{Model, PhantomData};
+use std::mem;
+use std::snapshot::Snapshot;
+use std::sync::Wait;
+use std::thread;
+use std::thread::{Promise, Scope, Threads};
+
+/// What a worker returns: its islands after a tick of this scene, unless the gate is shut.
+#[derive(Drop)]
+struct Solves<G> {
+    scene: Snapshot<Scene>,
+    pile: Snapshot<Pile>,
+    gate: PhantomData<G>,
+}
+
+impl<G: Gate> Promise<Result<Pile, CrewError>> for Solves<G> {
+    ghost use Rattle.pf_workers.specs.Worker.{IsSolved};
+
+    ghost kept_by = { λ p r. IsSolved G.ALWAYS p.scene.value p.pile.value r };
+}
+
+/// Passes the gate, and solves the islands of a worker.
+fn work<G: Gate>(
+    scene: &Scene,
+    gate: &G,
+    worker: usize,
+    turn: usize,
+    pile: Pile,
+) -> Result<Pile, CrewError>
+    requires { All (IsIslandOf scene.now) pile }
+    ensures { IsSolved G.ALWAYS scene.now pile result }
+{
+    if !gate.pass(worker, turn) {
+        return Err(CrewError::GateShut);
+    }
+    let mut pile = pile;
+    pile.solve(scene);
+    Ok(pile)
+}
+
+/// Starts a worker for each pile, from the last to the first, and joins those that it started. Each
+/// pile then holds its islands after a tick. Returns an error where a thread could not be started,
+/// and else that of the least worker that failed.
+fn run_workers<'s, 'e: 's, R: Threads, G: Gate + Sync>(
+    rt: &R,
+    alloc: Global,
+    scope: &'s Scope<'s, &'e ()>,
+    scene: &'e Scene,
+    gate: &'e G,
+    turn: usize,
+    piles: &mut [Pile],
+) -> Result<(), CrewError>
+    requires { All (All (IsIslandOf scene.now)) piles.old }
+    ensures solved { OnOk result
+        (piles.new ≡ map (map (island_after_tick scene.now)) piles.old) }
+    ensures failed { IfErr result (IsScopedError G.ALWAYS) }
+{
+    let Some((pile, others)) = piles.split_last_mut() else {
+        return Ok(());
+    };
+    let worker = others.len();
+    let given = mem::replace(pile, Pile::new(alloc));
+    let promise = Solves::<G> {
+        scene: Snapshot::of(scene),
+        pile: Snapshot::of(&given),
+        gate: PhantomData,
+    };
+    let started = scope.spawn_with(promise, move || work(scene, gate, worker, turn, given));
+    let Ok(thread) = started else {
+        return Err(CrewError::NoThread);
+    };
+    let lesser = run_workers(rt, alloc, scope, scene, gate, turn, others);
+    let done = thread.join(rt);
+    lesser?;
+    *pile = done?;
+    Ok(())
+}
+
+/// A crew that starts its workers in each solve, and joins them. They borrow the scene, and their
+/// islands are moved into them and back.
+///
+/// Contracts see how many workers there are, and the turn of the next solve.
+#[derive(Debug, Drop)]
+pub struct ScopedCrew<'r, R, G> {
+    rt: &'r R,
+    alloc: Global,
+    workers: usize,
+    gate: G,
+    turn: usize,
+}
+
+impl<'r, R, G> Model for ScopedCrew<'r, R, G> {
+    ghost use Rattle.std.specs.Prelude.{◌<◌, ◌≤◌};
+    ghost use Rattle.pf_workers.specs.Crew.{ScopedCrew};
+    ghost use Rattle.pf_workers.specs.declared.TheConstants.{MAX_WORKERS};
+
+    ghost Value = { ScopedCrew };
+
+    ghost view = { λ c. record { workers = c.workers; turn = c.turn } };
+
+    ghost invariant = { λ c. (0 < c.workers) × (c.workers ≤ MAX_WORKERS) };
+}
+
+impl<'r, R: Threads + Wait, G: Gate + Sync> ScopedCrew<'r, R, G> {
+    ghost use Rattle.std.specs.Prelude.{◌≡◌, ◌<◌, ◌≤◌, All, IfErr, IfOk, OnOk, map};
+    ghost use Rattle.pf_islands.specs.Split.{IsIslandOf};
+    ghost use Rattle.pf_solver.specs.Alone.{island_after_tick};
+    ghost use Rattle.pf_workers.specs.Crew.{IsScopedError, after_solve};
+
+    /// A crew of so many workers, each of which passes the gate in each solve. Takes no memory.
+    pub fn new(rt: &'r R, alloc: Global, workers: usize, gate: G) -> ScopedCrew<'r, R, G>
+        requires { (0 < workers) × (workers ≤ MAX_WORKERS) }
+        ensures { result ≡ record { workers = workers; turn = 0 } }
+    {
+        ScopedCrew {
+            rt,
+            alloc,
+            workers,
+            gate,
+            turn: 0,
+        }
+    }
+
+    /// Lets the workers solve their piles in a scope of their own.
+    fn run(&self, scene: &Scene, turn: usize, piles: Vec<Pile>) -> Result<Vec<Pile>, CrewError>
+        requires { All (All (IsIslandOf scene.now)) piles.items }
+        ensures solved { IfOk result
+            (λ solved. solved.items ≡ map (map (island_after_tick scene.now)) piles.items) }
+        ensures failed { IfErr result (IsScopedError G.ALWAYS) }
+    {
+        let rt = self.rt;
+        let alloc = self.alloc;
+        let gate = &self.gate;
+        thread::scope(
+            thread::scope_env(),
+            rt,
+            |scope| -> Result<Vec<Pile>, CrewError>
+                requires { All (All (IsIslandOf scene.now)) piles.items }
+                ensures solved { IfOk result
+                    (λ solved. solved.items
+                    ≡ map (map (island_after_tick scene.entry.now)) piles.entry.items) }
+                ensures failed { IfErr result (IsScopedError G.ALWAYS) }
+            {
+                let mut piles = piles;
+                run_workers(rt, alloc, scope, scene, gate, turn, &mut piles)?;
+                Ok(piles)
+            },
+        )
+    }
+
+    /// Solves each island alone: answer k is island k after a tick of 1/64 s. Island k is solved by
+    /// worker k mod n. Returns an error where it is out of memory, where a thread could not be
+    /// started, and where the gate was shut for a worker. The islands are gone after an error. The
+    /// crew can solve again.
+    pub fn solve(
+        &mut self,
+        scene: &Scene,
+        islands: Vec<Island>,
+    ) -> Result<Vec<Island>, CrewError>
+        requires { All (IsIslandOf scene.now) islands.items }
+        ensures solved { IfOk result
+            (λ solved. solved.items ≡ map (island_after_tick scene.now) islands.items) }
+        ensures turn { self.new ≡ after_solve self.old }
+        ensures failed { IfErr result (IsScopedError G.ALWAYS) }
+    {
+        let turn = self.turn;
+        self.turn = turn.saturating_add(1);
+        let mut islands = islands;
+        let count = islands.len();
+        let mut piles = empty_piles(self.alloc, self.workers)?;
+        deal(&mut islands, &mut piles)?;
+        let mut solved = self.run(scene, turn, piles)?;
+        gather(&mut solved, count, &mut islands)?;
+        Ok(islands)
+    }
+}
+
+impl<'r, R: Threads + Wait> Crew for ScopedCrew<'r, R, OpenGate> {
+    ghost use Rattle.std.specs.Prelude.{◌≡◌, true};
+    ghost use Rattle.pf_workers.specs.Crew.{IsScopedError, after_solve};
+
+    ghost is_called = { λ before islands after. after ≡ after_solve before };
+
+    ghost may_fail = { λ before islands error after.
+        (after ≡ after_solve before) × IsScopedError true error };
+
+    fn solve(&mut self, scene: &Scene, islands: Vec<Island>) -> Result<Vec<Island>, CrewError> {
+        ScopedCrew::solve(self, scene, islands)
+    }
+}

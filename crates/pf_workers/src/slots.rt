@@ -1,0 +1,137 @@
+//! What the workers of a standing crew have answered in a solve.
+
+ghost use Rattle.std.specs.Prelude.{◌≡◌, ◌≢◌, ◌<◌, All, IfErr, IfOk, IsTrue, length};
+ghost use Rattle.std.specs.Arc.{arc_value};
+ghost use Rattle.pf_workers.specs.Dealing.{AreShares, share};
+ghost use Rattle.pf_workers.specs.Slots.{AreAnswers, IsFirstError, IsThere};
+
+use crate::gate::Gate;
+use crate::pile::Pile;
+use crate::task::{Answer, Solved, Task};
+use pf_islands::Island;
+use pf_step::CrewError;
+use std::alloc::{AllocError, Global};
+
+/// What a worker has answered in a solve.
+#[derive(Debug, Drop)]
+pub(crate) enum Slot {
+    Missing,
+    Failed(CrewError),
+    Done(Pile),
+}
+
+impl Slot {
+    /// Whether the worker has answered.
+    fn is_there(&self) -> bool
+        ensures { IsTrue result → IsThere self.now }
+    {
+        !matches!(self, Slot::Missing)
+    }
+}
+
+/// So many workers, none of which has answered.
+pub(crate) fn no_answers(alloc: Global, workers: usize) -> Result<Vec<Slot>, AllocError>
+    ensures count { IfOk result (λ slots. length slots.items ≡ workers) }
+    ensures missing { IfOk result (λ slots. All (λ slot. slot ≡ Missing) slots.items) }
+{
+    let mut slots = Vec::with_capacity(alloc, workers)?;
+    for _ in 0..workers {
+        slots.push(Slot::Missing)?;
+    }
+    Ok(slots)
+}
+
+/// Whether the first so many workers have answered.
+pub(crate) fn have_answered(slots: &[Slot]) -> bool
+    ensures { IsTrue result → All IsThere slots.now }
+{
+    for slot in slots {
+        if !slot.is_there() {
+            return false;
+        }
+    }
+    true
+}
+
+/// Whether a worker has the same islands in two lists. 
+fn is_share(ours: &[Island], theirs: &[Island], workers: usize, worker: usize) -> bool
+    requires { 0 < workers }
+    ensures { IsTrue result → share workers worker 0 ours.now ≡ share workers worker 0 theirs.now }
+{
+    if ours.len() != theirs.len() {
+        return false;
+    }
+    for number in 0..ours.len() {
+        if number % workers == worker && ours[number] != theirs[number] {
+            return false;
+        }
+    }
+    true
+}
+
+impl Solved {
+    ghost use Rattle.std.specs.Prelude.{◌≡◌, ◌<◌, IfSome, map};
+    ghost use Rattle.std.specs.Arc.{arc_value};
+    ghost use Rattle.pf_solver.specs.Alone.{island_after_tick};
+    ghost use Rattle.pf_workers.specs.Dealing.{share};
+
+    /// What the worker of this number made of its islands, if it was given them in this task.
+    fn into_pile(self, task: &Task, workers: usize, worker: usize) -> Option<Pile>
+        requires { 0 < workers }
+        ensures { IfSome result (λ pile. pile ≡ share workers worker 0
+            (map (island_after_tick (arc_value task.now.scene)) (arc_value task.now.islands).items)) }
+    {
+        let is_ours = self.workers == workers
+            && self.worker == worker
+            && *self.task.scene == *task.scene
+            && is_share(&task.islands, &self.task.islands, workers, worker);
+        if is_ours { Some(self.pile) } else { None }
+    }
+}
+
+/// Notes the answer of a worker. Drops an answer of another solve or another task, of a worker that
+/// is none, and a second one of a worker.
+pub(crate) fn accept<G: Gate>(
+    answer: Answer<G>,
+    turn: usize,
+    task: &Task,
+    slots: &mut [Slot],
+)
+    requires { AreAnswers G.ALWAYS (arc_value task.now.scene) (arc_value task.now.islands).items
+        slots.old }
+    ensures answers { AreAnswers G.ALWAYS (arc_value task.now.scene)
+        (arc_value task.now.islands).items slots.new }
+    ensures count { length slots.new ≡ length slots.old }
+{
+    let workers = slots.len();
+    let worker = answer.worker;
+    if answer.turn != turn || worker >= workers || slots[worker].is_there() {
+        return;
+    }
+    match answer.outcome {
+        Ok(solved) => {
+            if let Some(pile) = solved.into_pile(task, workers, worker) {
+                slots[worker] = Slot::Done(pile);
+            }
+        }
+        Err(error) => slots[worker] = Slot::Failed(error),
+    }
+}
+
+/// The piles of workers that have all answered, or the error of the least that failed.
+pub(crate) fn finish(alloc: Global, slots: Vec<Slot>) -> Result<Vec<Pile>, CrewError>
+    requires { All IsThere slots.items }
+    ensures piles { IfOk result (λ piles. slots.items ≡ map Done piles.items) }
+    ensures failed { IfErr result (λ error.
+        (error ≡ OutOfMemory) ⊎ (least_error slots.items ≡ Some error)) }
+{
+    let mut piles = Vec::with_capacity(alloc, slots.len())?;
+    for slot in slots {
+        match slot {
+            Slot::Done(pile) => piles.push(pile)?,
+            Slot::Failed(error) => return Err(error),
+            Slot::Missing => unreachable!(),
+        }
+    }
+    Ok(piles)
+}
