@@ -34,7 +34,7 @@ unwrap_map f (Some x) d = refl
 -- valid words are parsed as what they ask for
 pub request_parses : (errors : Kinds) (entered : Option (Text × List Row)) (r : Request) → errors ≡ [] → AsksFor entered r
     → ParsesAs errors entered (Ok r)
-request_parses errors entered Run fit asked = (fit, asked)
+request_parses errors entered (Run workers) fit asked = (fit, asked)
 request_parses errors entered (Frame digits) fit asked = (fit, asked)
 request_parses errors entered (Help text) fit asked = elim asked [ ]
 request_parses errors entered Version fit asked = elim asked [ ]

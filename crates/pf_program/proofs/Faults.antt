@@ -13,7 +13,7 @@ use Rattle.pf_console.specs.declared.request.Request.TheVariants.{Run, Frame, He
 module _ (fault : ErrorKind) (others : Kinds) (entered : Option (Text × List Row)) where
   pub parses_among : (r : Result Request PlayFault) → ParsesAs (fault ∷ []) None r
       → (fault ≡ kind.OutOfMemory) ⊎ IsAmong fault others → ParsesAs others entered r
-  parses_among (Ok Run) h e = search rules
+  parses_among (Ok (Run workers)) h e = search rules
   parses_among (Ok (Frame digits)) h e = search rules
   parses_among (Ok (Help text)) h e = search rules
   parses_among (Ok Version) h e = search rules
@@ -21,6 +21,7 @@ module _ (fault : ErrorKind) (others : Kinds) (entered : Option (Text × List Ro
   parses_among (Err faults.Memory) h e = search rules
   parses_among (Err (faults.Line number name)) h e = elim h [ ]
   parses_among (Err (faults.Frame name)) h e = elim h [ ]
+  parses_among (Err (faults.Crew error)) h e = elim h [ ]
   parses_among (Err faults.Read) h e = elim h [ ]
   parses_among (Err faults.Write) h e = elim h [ ]
 

@@ -5,7 +5,7 @@ use Rattle.pf_rollback.specs.Core.{PeerCore}
 use Rattle.pf_rollback.specs.Peer.{Peer}
 use Rattle.pf_peers.specs.Session.{Session, other_of, peer_of}
 use Rattle.pf_peers.proofs.Sessions.{AreCoresAfter, merged_cores, on_err, peer_answer_is, same_peers}
-use Rattle.pf_peers.proofs.session.Session.answer.Goals as goal
+use Rattle.pf_peers.proofs.session.Session.answer_by.Goals as goal
 
 -- both peers of the event have cores
 module _ (c : goal.After-self-1) where
