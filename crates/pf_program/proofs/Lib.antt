@@ -1,3 +1,4 @@
 -- The lemmas of this crate.
 mod Entered
 mod Faults
+mod Sizes

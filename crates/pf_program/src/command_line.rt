@@ -140,7 +140,8 @@ fn command<'a>(alloc: Global) -> Result<Command<'a>, AllocError>
 /// What an error of `clap` means here: a request for help or the version, a mistake in the words,
 /// or a lack of memory.
 fn request_of<'a>(alloc: Global, error: &Error) -> Result<Request<'a>, PlayFault>
-    ensures { ParsesAs (kind_of error.now ∷ []) None result }
+    ensures parses { ParsesAs (kind_of error.now ∷ []) None result }
+    ensures crew_size { IfOk result HasCrewSize }
 {
     match error.kind() {
         ErrorKind::OutOfMemory => Err(PlayFault::Memory),
