@@ -96,6 +96,6 @@ pub runs_alike : (t u : Transfer) (first second : Result (Unit {0}) PlayFault) �
     → t.input ≡ u.input → t.before ≡ u.before → (t.after ≡ u.after) × (first ≡ second)
 runs_alike t u first second h k fine good input before = (
   runs_write_all t first h fine ∙ ap (λ (b : List ℕ). Some (b ++ (text_of t.input).written)) before
-  ∙ ap (λ (i : List ℕ). Some (u.before ++ (text_of i).written)) input ∙ sym (runs_write_all u second k good),
+      ∙ ap (λ (i : List ℕ). Some (u.before ++ (text_of i).written)) input ∙ sym (runs_write_all u second k good),
   runs_end t first h fine ∙ ap (λ (i : List ℕ). ending_of (text_of i).fault) input ∙ sym (runs_end u second k good),
 )

@@ -18,8 +18,7 @@ use std::thread::Threads;
 const FALLING: &[u8] =
     b"gravity 0 -167772160\ncircle 0 16777216 0 16777216 0 0\nend\npeers 1\nadvance 0 2\nshow 0 1\nshow 0 2\n";
 
-const FALLEN: &[u8] =
-    b"advance 0 2\n\
+const FALLEN: &[u8] = b"advance 0 2\n\
     show 0 1\nbody 0 0 -40960 16777216 0 0 -2621440 0 0 1\nend\n\
     show 0 2\nbody 0 0 -122880 16777216 0 0 -5242880 0 0 1\nend\n";
 
@@ -323,9 +322,7 @@ fn a_crew_that_fails_is_reported(rt: HostRuntime) -> Result<(), Fail> {
         if errors.bytes() == b"pf_play: out of memory\n".as_slice() {
             return Err(AllocError)?;
         }
-        assert!(rt;
-            status == 3 && output.bytes() == BEFORE && errors.bytes() == report
-        );
+        assert!(rt; status == 3 && output.bytes() == BEFORE && errors.bytes() == report);
     }
     Ok(())
 }

@@ -293,14 +293,7 @@ fn a_reader_that_fails_is_reported(rt: HostRuntime) -> Result<(), Fail> {
     let mut reader = Input::new(Broken { is_read: false });
     let mut output = Collected::new(rt.alloc());
     let mut errors = Collected::new(rt.alloc());
-    let status = program(
-        rt,
-        rt.alloc(),
-        words,
-        &mut reader,
-        &mut output,
-        &mut errors,
-    );
+    let status = program(rt, rt.alloc(), words, &mut reader, &mut output, &mut errors);
     if errors.bytes() != b"pf_play: read failed\n".as_slice() {
         return Err(AllocError)?;
     }
@@ -314,14 +307,7 @@ fn a_writer_that_fails_is_reported(rt: HostRuntime) -> Result<(), Fail> {
     let mut reader = Bytes::new(FALLING.as_bytes());
     let mut output = Output::new(Broken { is_read: true });
     let mut errors = Collected::new(rt.alloc());
-    let status = program(
-        rt,
-        rt.alloc(),
-        words,
-        &mut reader,
-        &mut output,
-        &mut errors,
-    );
+    let status = program(rt, rt.alloc(), words, &mut reader, &mut output, &mut errors);
     if errors.bytes() != b"pf_play: write failed\n".as_slice() {
         return Err(AllocError)?;
     }
@@ -350,14 +336,7 @@ fn an_error_that_cannot_be_reported_keeps_its_status(rt: HostRuntime) -> Result<
     let mut reader = Bytes::new(FALLING.as_bytes());
     let mut output = Collected::new(rt.alloc());
     let mut errors = Output::new(Broken { is_read: true });
-    let status = program(
-        rt,
-        rt.alloc(),
-        words,
-        &mut reader,
-        &mut output,
-        &mut errors,
-    );
+    let status = program(rt, rt.alloc(), words, &mut reader, &mut output, &mut errors);
     assert!(rt; status == ExitCode::from(3));
     Ok(())
 }

@@ -13,7 +13,8 @@ const NO_USAGE: &str = "\nFor more information, try '--help'.\n";
 
 const FRAME_USAGE: &str = "\nUsage: pf_play frame <HEX>\n\nFor more information, try '--help'.\n";
 
-const RUN_USAGE: &str = "\nUsage: pf_play run [--crew N] < FILE\n\nFor more information, try '--help'.\n";
+const RUN_USAGE: &str =
+    "\nUsage: pf_play run [--crew N] < FILE\n\nFor more information, try '--help'.\n";
 
 // The text of the mistake in these words; or an empty one, where they have none.
 fn mistake(alloc: Global, words: &[&str]) -> Result<String, AllocError> {
