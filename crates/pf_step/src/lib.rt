@@ -13,7 +13,7 @@ mod work;
 mod world;
 
 pub use command::apply;
-pub use crew::{Crew, CrewError, StepError};
+pub use crew::{Crew, CrewError, StepError, solve_all};
 pub use step::{step_alone, step_by, step_with};
 pub use work::Work;
 pub use world::World;
