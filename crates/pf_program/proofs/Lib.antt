@@ -2,3 +2,4 @@
 mod Entered
 mod Faults
 mod Sizes
+mod Crews

@@ -1,0 +1,45 @@
+-- What a contract sees of a crew of threads, and with which errors it fails.
+use Rattle.std.specs.Prelude.{◌≡◌, ℕ, ⊤, Bool, true, false, List, All, replicate}
+use Rattle.pf_cache.specs.Meter.{saturating_sum}
+use Rattle.pf_islands.specs.Split.{Island}
+use Rattle.pf_step.specs.declared.crew.CrewError.{CrewError}
+use Rattle.pf_step.specs.declared.crew.CrewError.TheVariants.{OutOfMemory, NoThread, GateShut, CrewLost}
+
+-- for each worker of a crew whether it is still there, the turn of the next solve, and whether the
+-- crew is lost
+pub record StandingCrew : Type 0 where
+  pub workers : List Bool
+  pub turn : ℕ
+  pub lost : Bool
+
+abbrev pub new_crew : ℕ → StandingCrew
+new_crew workers = record { workers = replicate workers true; turn = 0; lost = false }
+
+-- no worker was dismissed
+abbrev pub HasAllWorkers : StandingCrew → Type 0
+HasAllWorkers c = All (λ there. there ≡ true) c.workers
+
+-- the crew after a solve: a turn is over; the last turn stays
+abbrev pub turned : StandingCrew → StandingCrew
+turned c = record c { turn = saturating_sum c.turn 1 }
+
+-- an error with which a crew may fail to start
+abbrev pub IsStartError : CrewError → Type 0
+IsStartError OutOfMemory = ⊤
+IsStartError NoThread = ⊤
+IsStartError GateShut = ⊥
+IsStartError CrewLost = ⊥
+
+-- an error that a solve by standing workers may return: a gate that lets everybody through is never
+-- shut, and no thread is started
+abbrev pub IsStandingError : Bool → CrewError → Type 0
+IsStandingError always OutOfMemory = ⊤
+IsStandingError always NoThread = ⊥
+IsStandingError always GateShut = always ≡ false
+IsStandingError always CrewLost = ⊤
+
+-- with which error a solve fails, and the crew after it: once a worker is lost, for good
+abbrev pub FailsStanding : Bool → StandingCrew → CrewError → StandingCrew → Type 0
+FailsStanding always before CrewLost after = (after.lost ≡ true) × (after.workers ≡ before.workers)
+FailsStanding always before error after =
+    (before.lost ≡ false) × IsStandingError always error × (after ≡ turned before)

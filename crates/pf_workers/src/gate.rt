@@ -1,0 +1,46 @@
+//! What each worker of a crew passes before it works.
+
+ghost use Rattle.std.specs.Prelude.{◌≡◌, true, IsTrue};
+
+/// Says whether a worker may work. Each worker of a crew passes it once in each solve, also where it
+/// has no island. A test or a debugger holds workers up by it, or sees that they meet.
+pub trait Gate {
+    ghost use Rattle.std.specs.Prelude.{◌≡◌, Bool, true, IsTrue};
+
+    /// Whether the gate lets everybody through, so that a crew never fails by it.
+    const ALWAYS: bool;
+
+    /// The same, for contracts.
+    ghost ALWAYS: { Bool };
+
+    /// Whether the worker of this number may go on in this turn. Workers and turns count from 0; the
+    /// turn stays at `usize::MAX`. It may wait.
+    fn pass(&self, worker: usize, turn: usize) -> bool
+        ensures { ALWAYS ≡ true → IsTrue result };
+
+    /// Whether a pass may wait for another worker, or be seen by anybody. If not, a crew may pass the
+    /// gate for its workers, and solve on the thread of the caller what is too little to be dealt.
+    fn is_watched(&self) -> bool {
+        true
+    }
+}
+
+/// Lets everybody through, and waits for nobody.
+#[derive(Clone, Copy, Debug, Drop)]
+pub struct OpenGate;
+
+impl Gate for OpenGate {
+    ghost use Rattle.std.specs.Prelude.{true};
+
+    const ALWAYS: bool = true;
+
+    ghost ALWAYS = { true };
+
+    fn pass(&self, _worker: usize, _turn: usize) -> bool {
+        true
+    }
+
+    fn is_watched(&self) -> bool {
+        false
+    }
+}
