@@ -1,15 +1,16 @@
 -- How the reply to an event uses a crew.
-use Rattle.std.proofs.Common.{◌≡◌, ◌≢◌, ℕ, List, Result, Ok, Err, refl}
+use Rattle.std.proofs.Common.{◌≡◌, ℕ, List, Result, Ok, Err, refl}
+use Rattle.std.specs.Prelude.{IfErr, OnOk}
 use Rattle.pf_islands.specs.Split.{Island}
 use Rattle.pf_step.specs.declared.crew.CrewError.{CrewError}
 use Rattle.pf_step.specs.declared.crew.StepError.{StepError}
 use Rattle.pf_step.specs.declared.crew.StepError.TheVariants.{Crew, OutOfMemory}
-use Rattle.pf_rollback.specs.Core.{PeerCore}
+use Rattle.pf_rollback.specs.Core.{PeerCore, missing_count}
+use Rattle.pf_rollback.specs.Settling.{AreCalls, FailsAfter}
 use Rattle.pf_peers.specs.declared.event.Event.{Event}
 use Rattle.pf_peers.specs.declared.event.Event.TheVariants.{Issue, Take, Merge, Advance, Settle, Show}
 use Rattle.pf_peers.specs.declared.event.Reply.{Reply}
 use Rattle.pf_peers.specs.Crews.{CanFail, UsesCrew}
-use Rattle.pf_peers.specs.Session.{other_of, peer_of}
 
 module _ {A : Type 0} (call : A → List Island → A → Type 0) (may_fail : A → List Island → CrewError → A → Type 0) where
   -- what is known of the core that a settle settles can be weakened
@@ -28,24 +29,13 @@ module _ {A : Type 0} (call : A → List Island → A → Type 0) (may_fail : A 
   uses_weaker P Q weaker (Show peer tick) first (Ok reply) last h = h
   uses_weaker P Q weaker (Show peer tick) first (Err error) last h = h
 
-  -- an event on two peers, which is a merge, leaves the crew as it is
-  pub unused_ok : (P : PeerCore → Type 0) (event : Event) (crew : A) (reply : Reply) → other_of event ≢ peer_of event
-      → UsesCrew call may_fail P event crew (Ok reply) crew
-  unused_ok P (Issue peer payload) crew reply two = refl
-  unused_ok P (Take peer frame) crew reply two = refl
-  unused_ok P (Merge peer other) crew reply two = refl
-  unused_ok P (Advance peer ticks) crew reply two = refl
-  unused_ok P (Settle peer) crew reply two = absurd (two refl)
-  unused_ok P (Show peer tick) crew reply two = refl
-
-  pub unused_err : (P : PeerCore → Type 0) (event : Event) (crew : A) (error : StepError) → other_of event ≢ peer_of event → error ≡ OutOfMemory
-      → UsesCrew call may_fail P event crew (Err error) crew
-  unused_err P (Issue peer payload) crew error two is = (is, refl)
-  unused_err P (Take peer frame) crew error two is = (is, refl)
-  unused_err P (Merge peer other) crew error two is = (is, refl)
-  unused_err P (Advance peer ticks) crew error two is = (is, refl)
-  unused_err P (Settle peer) crew error two is = absurd (two refl)
-  unused_err P (Show peer tick) crew error two is = (is, refl)
+  -- a settle of a core
+  pub settle_uses : (core new : PeerCore) (peer : ℕ) (first : A) (result : Result Reply StepError) (last : A)
+      → OnOk result (AreCalls call core (missing_count core) first last)
+      → IfErr result (λ error. FailsAfter call may_fail core new first error last)
+      → UsesCrew call may_fail (λ used. used ≡ core) (Settle peer) first result last
+  settle_uses core new peer first (Ok reply) last called failed = (core, refl, called)
+  settle_uses core new peer first (Err error) last called failed = (core, new, refl, failed)
 
   -- a crew's error is one with which it may fail, and the event is a settle
   pub crew_error : (P : PeerCore → Type 0) (event : Event) (first : A) (error : CrewError) (last : A)

@@ -135,6 +135,10 @@ pub on_err : {A E : Type 0} (result : Result A E) (P Q : Type 0) → (P → Q) �
 on_err (Ok value) P Q more is = tt
 on_err (Err error) P Q more is = more is
 
+pub err_anyway : {A E : Type 0} (result : Result A E) (P : Type 0) → P → OnErr result P
+err_anyway (Ok value) P is = tt
+err_anyway (Err error) P is = is
+
 pub merged_cores : (scene : Scene) (cores after : List PeerCore) (event : Event) (result : Result Reply AllocError)
     → AreCores scene cores → IsAmong (length cores) event → other_of event ≢ peer_of event
     → ((old others : PeerCore) → slice_get cores (peer_of event) ≡ Some old → slice_get cores (other_of event) ≡ Some others

@@ -9,7 +9,7 @@ use Rattle.pf_rollback.specs.Settling.{AreCalls, FailsAfter}
 use Rattle.pf_peers.specs.declared.event.Event.{Event}
 use Rattle.pf_peers.specs.declared.event.Event.TheVariants.{Settle}
 use Rattle.pf_peers.specs.declared.event.Reply.{Reply}
-use Rattle.pf_peers.specs.Session.{Session, peer_at, peer_of}
+use Rattle.pf_peers.specs.Session.{Session, peer_at}
 
 -- some call of a crew of this kind may fail with this error
 abbrev pub CanFail : {A : Type 0} → (A → List Island → CrewError → A → Type 0) → CrewError → Type 0
