@@ -1,7 +1,7 @@
 -- What a run has written is a prefix of the text that belongs to its input.
-use Rattle.std.proofs.Common.{◌≡◌, ℕ, ◌+◌, List, [], ◌++◌, length, Option, Some, None, Result, Ok, Err, refl, sym, ap, ◌∙◌, subst, append_assoc, inl, inr}
+use Rattle.std.proofs.Common.{◌≡◌, ◌⊎◌, ℕ, ◌+◌, List, [], ◌++◌, length, Option, Some, None, Result, Ok, Err, refl, sym, ap, ◌∙◌, subst, append_assoc, inl, inr}
 use Rattle.std.proofs.lemmas.List.{append-nil}
-use Rattle.pf_text.specs.Driver.{LeadTo, Output, StopsForMemory, StopsForRead, StopsForWrite, lines_output, text_output}
+use Rattle.pf_text.specs.Driver.{LeadTo, Output, SpendsNumbers, StopsAtValidLine, StopsForMemory, StopsForRead, StopsForWrite, lines_output, text_output}
 use Rattle.pf_text.specs.Lines.{AreLines, lines_of}
 use Rattle.pf_text.specs.Laws.{output_then}
 use Rattle.pf_text.specs.Streams.{Transfer}
@@ -33,7 +33,8 @@ stopped_prefix : (t : Transfer) → StopsForMemory text_rules first_phase t → 
 unfolding text_of
 stopped_prefix t stops = by stops.cause
   where
-    by : _ → WritesPrefix t (text_of t.input).written
+    by : StopsAtValidLine text_rules first_phase t stops.lines stops.state ⊎ SpendsNumbers text_rules first_phase t stops.lines
+        → WritesPrefix t (text_output text_rules first_phase t.input).text
     by (inl at) =
         let rest = output_stands t stops.lines stops.text stops.state at.takes.bytes at.takes.lines_are stops.valid in
         (stops.text, rest.0, rest.1, stops.after_is)
@@ -52,8 +53,8 @@ unfolding text_of
 write_prefix t stops = (
   stops.text ++ stops.part,
   stops.rest,
-  append_assoc stops.text stops.part stops.rest ∙ stops.output_is,
-  stops.after_is,
+  stops.output_is,
+  stops.after_is ∙ ap (λ (bytes : List ℕ). Some bytes) (append_assoc t.before stops.text stops.part),
 )
 
 pub runs_write_prefix : (t : Transfer) (result : Result (Unit {0}) PlayFault) → Runs t result → WritesPrefix t (text_of t.input).written
