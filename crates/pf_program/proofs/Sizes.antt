@@ -1,5 +1,5 @@
 -- The sizes of crews that words spell.
-use Rattle.std.proofs.Common.{◌≡◌, ℕ, suc, ◌<◌, ◌≤◌, ◌^◌, Bool, true, false, List, Option, Some, None, refl, ap, ◌∙◌, sym, arith, ¬_, if◌then◌else◌}
+use Rattle.std.proofs.Common.{◌≡◌, ℕ, ◌<◌, ◌≤◌, ◌^◌, Bool, true, false, Some, None, refl, ap, sym, arith}
 use Rattle.std.specs.Str.Parse.{IsNumeral, digits_value, without_leading_plus}
 use Rattle.clap.specs.Words.{Text}
 use Rattle.clap.specs.ValueTests.{is_unsigned_in}
@@ -23,15 +23,10 @@ size_in word n spells is some few =
     rw test (ap (λ (m : ℕ). Some m) is)
 
 not_in : (word : Text) (b : Bool) → is_unsigned_in 1 MAX_WORKERS word ≡ b → (is_unsigned_in 1 MAX_WORKERS word ≡ true → ⊥) → size_of word ≡ None
-not_in word true test no = absurd (no test)
-not_in word false test no = rw test refl
-
-pub size_out : (word : Text) (n : ℕ) → n ≡ value_of word → ((0 < n) × (n ≤ MAX_WORKERS) → ⊥) → None ≡ size_of word
-size_out word n is out = sym (not_in word _ refl (λ test.
-    let taken = accepts-Accepts false (Unsigned 1 MAX_WORKERS) word test in
-    out (omega (arith, is, taken.2), omega (arith, is, taken.3))))
+not_in word true test out = absurd (out test)
+not_in word false test out = rw test refl
 
 pub size_none : (word : Text) → (Spells word → ⊥) → None ≡ size_of word
-size_none word no = sym (not_in word _ refl (λ test.
+size_none word out = sym (not_in word _ refl (λ test.
     let taken = accepts-Accepts false (Unsigned 1 MAX_WORKERS) word test in
-    no (taken.0, taken.1)))
+    out (taken.0, taken.1)))

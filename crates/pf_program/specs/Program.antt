@@ -1,5 +1,5 @@
 -- What the program does, from the words of its call to its status.
-use Rattle.std.specs.Prelude.{◌≡◌, ◌≢◌, ◌⊎◌, ℕ, List, map, Option, Some, None, IsSome, Result, Ok, Err, Vec}
+use Rattle.std.specs.Prelude.{◌≡◌, ◌≢◌, ◌⊎◌, ℕ, List, map, Option, Some, IsSome, Result, Ok, Err, Vec}
 use Rattle.clap.specs.Words.{fault_of, subcommand_of}
 use Rattle.pf_text.specs.Streams.{Streams, IfExposed}
 use Rattle.pf_step.specs.declared.crew.CrewError.{CrewError}
