@@ -49,7 +49,7 @@ impl<'a, P: Collider, C: Crew> Settler<'a, P, C> {
         }
     }
 
-    /// The reply of a session to an event. Where the crew fails, which it can only for a settle, its
+    /// The reply of a session to an event. Where the crew fails, which only a settle can do, its
     /// error is remembered, and the call is out of memory. An `Err` leaves what all peers hold and
     /// show as it was.
     pub fn answer(
@@ -74,7 +74,7 @@ impl<'a, P: Collider, C: Crew> Settler<'a, P, C> {
         }
     }
 
-    /// Why a valid line had no reply: the crew's error, or out of memory where it has not failed. An
+    /// Why a valid line had no reply: the crew's error, or out of memory if it has not failed. An
     /// error of the crew is one with which a call of it may fail.
     pub fn fault(&self) -> PlayFault
         ensures value { result ≡ fault_of_want self.now }

@@ -280,9 +280,9 @@ impl Session {
         }
     }
 
-    /// The reply to an event. For a settle the collider computes contact points, and the crew solves
-    /// islands; no other event uses them. An `Err` leaves what all peers hold and show as it was. An
-    /// error of the crew comes only where a call of it failed, for a settle.
+    /// The reply to an event. For a settle the collider computes contact points and the crew solves
+    /// islands; no other event uses them. An `Err` leaves what all peers hold and show as it was.
+    /// An error of the crew comes only where a call of it failed, for a settle.
     pub fn answer_by<P: Collider, C: Crew>(
         &mut self,
         collider: &P,

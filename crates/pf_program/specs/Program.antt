@@ -41,8 +41,8 @@ pub record Fails (fault : PlayFault) (s : Streams) (outcome : Result (Unit {0}) 
   pub left_is : s.left ≡ s.unread
   pub after_is : s.after ≡ s.before
 
--- A request was performed, where reader and writer expose their bytes, or else the crew that it asks
--- for could not be made. An error of what is asked for is the outcome.
+-- A request was performed, where reader and writer expose their bytes, or else the crew that it
+-- asks for could not be made. An error of what is asked for is the outcome.
 abbrev pub Does : Result Request PlayFault → Streams → Result (Unit {0}) PlayFault → Type 0
 Does (Ok request) s outcome =
     IfExposed s (λ transfer. Performs request transfer outcome)

@@ -1,8 +1,8 @@
 //! Runs many texts. They stand on standard input, separated by a line that no text has; for each,
 //! the program prints its replies, the line that reports its error, if it has one, and `status N`.
 //! It runs each text without a crew and then with one, and ends where these differ. A text `frame
-//! DIGITS` is printed as a frame. The stored run has what an independent program prints for the same
-//! texts.
+//! DIGITS` is printed as a frame. The stored run has what an independent program prints for the
+//! same texts.
 #![tactic(auto)]
 
 ghost use Rattle.std.specs.Prelude.{◌+◌, ◌<◌, length, IfSome};
@@ -32,8 +32,8 @@ fn split_once(texts: &[u8]) -> Option<(&[u8], &[u8])>
     }
 }
 
-/// The replies to a text, its error and its status. Settles have the crew solve islands, if there is
-/// one.
+/// The replies to a text, its error and its status. Settles have the crew solve islands, if there
+/// is one.
 fn run<T: Threads + Sync>(
     rt: &T,
     alloc: Global,
