@@ -1,7 +1,10 @@
--- A call that reads nothing counts no failure of a reader.
-use Rattle.std.proofs.Common.{ℕ, Result, Ok, Err, refl}
+-- A call that reads nothing counts no failure of a reader, and has no error of a crew.
+use Rattle.std.proofs.Common.{ℕ, List, Option, Result, Ok, Err, refl, subst}
 use Rattle.pf_console.specs.declared.fault.PlayFault.{PlayFault}
-use Rattle.pf_console.specs.declared.fault.PlayFault.TheVariants.{Words, Line, Frame, Memory, Read, Write}
+use Rattle.pf_console.specs.declared.fault.PlayFault.TheVariants.{Words, Line, Frame, Memory, Crew, Read, Write}
+use Rattle.pf_islands.specs.Split.{Island}
+use Rattle.pf_step.specs.declared.crew.CrewError.{CrewError}
+use Rattle.pf_console.specs.Crews.{FailsByCrew}
 use Rattle.pf_console.specs.Text.{CountsReads, ReadsNothing}
 
 pub counts_nothing : (failures : ℕ) (result : Result (Unit {0}) PlayFault) → ReadsNothing result → CountsReads failures result failures
@@ -11,4 +14,9 @@ counts_nothing failures (Err (Line number fault)) h = refl
 counts_nothing failures (Err (Frame fault)) h = refl
 counts_nothing failures (Err Memory) h = refl
 counts_nothing failures (Err Write) h = refl
+counts_nothing failures (Err (Crew error)) h = elim h [ ]
 counts_nothing failures (Err Read) h = elim h [ ]
+
+pub fails_by_no_crew : {A : Type 0} (may_fail : A → List Island → CrewError → A → Type 0) (crew : Option A) (result : Result (Unit {0}) PlayFault)
+    → ReadsNothing result → FailsByCrew may_fail crew result
+fails_by_no_crew may_fail crew result h = λ error is. elim (subst ReadsNothing is h) [ ]

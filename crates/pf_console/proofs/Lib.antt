@@ -4,4 +4,5 @@ pub mod Events
 pub mod EventFields
 pub mod EventLines
 pub mod Counting
+pub mod Prefixes
 pub mod FrameDigits

@@ -4,6 +4,7 @@ pub mod Print
 pub mod Grammar
 pub mod Phase
 pub mod Text
+pub mod Crews
 pub mod Digits
 pub mod FrameText
 pub mod Report

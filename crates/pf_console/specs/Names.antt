@@ -6,6 +6,8 @@ use Rattle.pf_commands.specs.declared.fault.FrameFault.{FrameFault}
 use Rattle.pf_commands.specs.declared.fault.FrameFault.TheVariants.{Short, Long, BadVersion, BadKind, NotCanonical, OutOfRange}
 use Rattle.pf_commands.specs.declared.map.Put.{Put}
 use Rattle.pf_commands.specs.declared.map.Put.TheVariants.{New, Same, Greater, Lesser}
+use Rattle.pf_step.specs.declared.crew.CrewError.{CrewError}
+use Rattle.pf_step.specs.declared.crew.CrewError.TheVariants.{OutOfMemory, NoThread, GateShut, CrewLost}
 
 abbrev pub frame_fault_name : FrameFault → List ℕ
 frame_fault_name Short = codes "Short"
@@ -19,6 +21,12 @@ abbrev pub check_fault_name : CheckFault → List ℕ
 check_fault_name UnknownBody = codes "UnknownBody"
 check_fault_name StaticBody = codes "StaticBody"
 check_fault_name NotOwner = codes "NotOwner"
+
+abbrev pub crew_error_name : CrewError → List ℕ
+crew_error_name OutOfMemory = codes "OutOfMemory"
+crew_error_name NoThread = codes "NoThread"
+crew_error_name GateShut = codes "GateShut"
+crew_error_name CrewLost = codes "CrewLost"
 
 -- what a put did
 abbrev pub put_name : Put → List ℕ

@@ -5,11 +5,12 @@ use Rattle.pf_text.specs.Lines.{AppendsPrefix}
 use Rattle.pf_text.specs.Streams.{SinkCall}
 use Rattle.pf_shapes.specs.declared.fault.SceneFault.{SceneFault}
 use Rattle.pf_shapes.specs.declared.fault.SceneFault.TheVariants.{BadLine, BadNumber, TooMany, BadMass, BadSize}
-use Rattle.pf_console.specs.Names.{frame_fault_name}
+use Rattle.pf_step.specs.declared.crew.CrewError.{CrewError}
+use Rattle.pf_console.specs.Names.{crew_error_name, frame_fault_name}
 use Rattle.pf_console.specs.declared.fault.DigitsFault.{DigitsFault}
 use Rattle.pf_console.specs.declared.fault.DigitsFault.TheVariants as digits
 use Rattle.pf_console.specs.declared.fault.PlayFault.{PlayFault}
-use Rattle.pf_console.specs.declared.fault.PlayFault.TheVariants.{Words, Line, Frame, Memory, Read, Write}
+use Rattle.pf_console.specs.declared.fault.PlayFault.TheVariants.{Words, Line, Frame, Memory, Crew, Read, Write}
 
 abbrev pub fault_name : SceneFault → List ℕ
 fault_name BadLine = codes "BadLine"
@@ -31,11 +32,16 @@ unfoldable pub invalid_line_text : ℕ → SceneFault → List ℕ
 invalid_line_text number fault =
     codes "pf_play: line " ++ decimal number ++ codes ": " ++ fault_name fault ++ codes "\n"
 
+-- the text about a crew that failed
+unfoldable pub crew_error_text : CrewError → List ℕ
+crew_error_text error = codes "pf_play: crew: " ++ crew_error_name error ++ codes "\n"
+
 abbrev pub fault_text : PlayFault → List ℕ
 fault_text (Words text) = string_bytes text
 fault_text (Line number fault) = invalid_line_text number fault
 fault_text (Frame fault) = invalid_frame_text fault
 fault_text Memory = codes "pf_play: out of memory\n"
+fault_text (Crew error) = crew_error_text error
 fault_text Read = codes "pf_play: read failed\n"
 fault_text Write = codes "pf_play: write failed\n"
 
@@ -44,6 +50,7 @@ status_of (Words text) = 2
 status_of (Line number fault) = 1
 status_of (Frame fault) = 1
 status_of Memory = 3
+status_of (Crew error) = 3
 status_of Read = 3
 status_of Write = 3
 

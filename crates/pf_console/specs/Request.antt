@@ -19,7 +19,7 @@ Writes text w (Err other) = ⊥
 -- What was done for a request: a run of the input, the line of a frame, a help or the version. Only
 -- a run reads.
 abbrev pub Performs : Request → Transfer → Result (Unit {0}) PlayFault → Type 0
-Performs Run t result = Runs t result
+Performs (Run workers) t result = Runs t result
 Performs (Frame digits) t result =
     (t.left ≡ Some t.input) × PrintsFrame digits.now (written t) result
 Performs (Help text) t result =

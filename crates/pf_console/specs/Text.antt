@@ -5,7 +5,7 @@ use Rattle.pf_text.specs.Streams.{Transfer}
 use Rattle.pf_shapes.specs.declared.fault.SceneFault.{SceneFault}
 use Rattle.pf_shapes.specs.declared.fault.SceneFault.TheVariants.{BadLine}
 use Rattle.pf_console.specs.declared.fault.PlayFault.{PlayFault}
-use Rattle.pf_console.specs.declared.fault.PlayFault.TheVariants.{Words, Line, Frame, Memory, Read, Write}
+use Rattle.pf_console.specs.declared.fault.PlayFault.TheVariants.{Words, Line, Frame, Memory, Crew, Read, Write}
 use Rattle.pf_console.specs.declared.phase.Phase.{Phase}
 use Rattle.pf_console.specs.declared.phase.Phase.TheVariants.{Reading, Seating, Playing}
 use Rattle.pf_console.specs.Phase.{text_rules, first_phase}
@@ -37,9 +37,9 @@ StopsAt t number =
     × TakesLine t.input lines line t.left)
     ⊎ ((t.left ≡ Some []) × IsOk (text_output text_rules first_phase t.input).ending)
 
--- How a run ended, and what it read and wrote. It runs out of memory only at a valid line; there,
--- and where the reader failed, the lines before are valid and their output was written; where the
--- writer failed, a part of the next reply stands behind that.
+-- How a run ended, and what it read and wrote. It runs out of memory, or its crew fails, only at a
+-- valid line; there, and where the reader failed, the lines before are valid and their output was
+-- written; where the writer failed, a part of the next reply stands behind that.
 abbrev pub Runs : Transfer → Result (Unit {0}) PlayFault → Type 0
 Runs t (Ok done) =
     (t.left ≡ Some []) × (t.after ≡ Some (t.before ++ (text_of t.input).written))
@@ -48,6 +48,7 @@ Runs t (Err (Line number fault)) =
     StopsAt t number × (t.after ≡ Some (t.before ++ (text_of t.input).written))
     × ((text_of t.input).fault ≡ Some (number, fault))
 Runs t (Err Memory) = StopsForMemory text_rules first_phase t
+Runs t (Err (Crew error)) = StopsForMemory text_rules first_phase t
 Runs t (Err Read) = StopsForRead text_rules first_phase t
 Runs t (Err Write) = StopsForWrite text_rules first_phase t
 Runs t (Err (Words text)) = ⊥
@@ -63,7 +64,8 @@ abbrev pub CountsWrites : ℕ → Result (Unit {0}) PlayFault → ℕ → Type 0
 CountsWrites before (Err Write) after = after ≡ before + 1
 CountsWrites before result after = after ≡ before
 
--- a call that reads nothing has no error of a reader
+-- a call that reads nothing has no error of a reader, nor of a crew, which a text alone uses
 abbrev pub ReadsNothing : Result (Unit {0}) PlayFault → Type 0
 ReadsNothing (Err Read) = ⊥
+ReadsNothing (Err (Crew error)) = ⊥
 ReadsNothing result = Unit {0}

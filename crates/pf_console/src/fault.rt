@@ -5,6 +5,7 @@ ghost use Rattle.pf_console.specs.declared.fault.PlayFault.TheVariants.{Memory, 
 
 use pf_commands::FrameFault;
 use pf_shapes::SceneFault;
+use pf_step::CrewError;
 use pf_text::WriteFailed;
 use std::alloc::{AllocError, AllocFailed};
 use thiserror::Error;
@@ -35,6 +36,9 @@ pub enum PlayFault {
     /// No memory is left.
     #[error("out of memory")]
     Memory,
+    /// The crew failed in a settle, or could not be made.
+    #[error("crew: {0}")]
+    Crew(CrewError),
     /// The reader failed.
     #[error("read failed")]
     Read,

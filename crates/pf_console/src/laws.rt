@@ -1,17 +1,20 @@
 //! Laws of texts. These functions compute nothing: their clauses are the statements.
 
-ghost use Rattle.std.specs.Prelude.{◌≡◌, ℕ, ◌+◌, ◌≤◌, List, length, Ok, map, All};
+ghost use Rattle.std.specs.Prelude.{◌≡◌, ℕ, ◌+◌, ◌≤◌, List, ◌++◌, length, Some, Result, Ok, map, All};
 ghost use Rattle.hex.specs.Hex.{encode_lower};
 ghost use Rattle.pf_text.specs.Driver.{lines_output};
+ghost use Rattle.pf_text.specs.Streams.{Transfer};
 ghost use Rattle.pf_commands.specs.declared.payload.Command.{Command};
 ghost use Rattle.pf_commands.specs.Frame.{IsFrameable, encoding};
 ghost use Rattle.pf_peers.specs.declared.event.Event.{Event};
 ghost use Rattle.pf_peers.specs.Session.{Session};
+ghost use Rattle.pf_console.specs.declared.fault.PlayFault.{PlayFault};
 ghost use Rattle.pf_console.specs.declared.phase.Phase.TheVariants.{Playing};
 ghost use Rattle.pf_console.specs.Digits.{frame_of};
 ghost use Rattle.pf_console.specs.EventEncoding.{event_line, IsEncodable};
-ghost use Rattle.pf_console.specs.Laws.{AreLinesOf, IsLineOf, session_output};
+ghost use Rattle.pf_console.specs.Laws.{AreLinesOf, IsLineOf, NothingFailed, WritesPrefix, session_output};
 ghost use Rattle.pf_console.specs.Phase.{text_rules};
+ghost use Rattle.pf_console.specs.Text.{Runs, text_of};
 
 use crate::phase::MAX_TEXT_PEERS;
 use pf_shapes::PLAYERS;
@@ -33,6 +36,20 @@ pub fn event_lines_have_replies()
 pub fn event_lines_encode_events()
     ensures { (peers : ℕ) (event : Event) → peers ≤ PLAYERS → IsEncodable peers event
         → IsLineOf peers (event_line event) event }
+{}
+
+/// What a run writes depends on its text alone, and not on the crew, its size, or whether there is
+/// one: it is a prefix of the one text that belongs to the input, and all of it where nothing
+/// failed. So two runs of one text in which nothing failed wrote the same and ended alike.
+pub fn runs_write_one_text()
+    ensures prefix { (t : Transfer) (result : Result (Unit {0}) PlayFault) → Runs t result
+        → WritesPrefix t (text_of t.input).written }
+    ensures all { (t : Transfer) (result : Result (Unit {0}) PlayFault) → Runs t result
+        → NothingFailed result → t.after ≡ Some (t.before ++ (text_of t.input).written) }
+    ensures alike { (t u : Transfer) (first second : Result (Unit {0}) PlayFault)
+        → Runs t first → Runs u second → NothingFailed first → NothingFailed second
+        → t.input ≡ u.input → t.before ≡ u.before
+        → (t.after ≡ u.after) × (first ≡ second) }
 {}
 
 /// The digits of a command's frame, as `issue` prints them, parse as the command.

@@ -12,6 +12,7 @@ mod print;
 mod reporting;
 mod request;
 mod run;
+mod settler;
 
 pub use fault::{DigitsFault, PlayFault};
 pub use frame::frame_text;

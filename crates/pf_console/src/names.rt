@@ -1,9 +1,10 @@
 //! The names of errors and outcomes, as texts print them.
 
 ghost use Rattle.std.specs.Prelude.{◌≡◌};
-ghost use Rattle.pf_console.specs.Names.{frame_fault_name, check_fault_name, put_name};
+ghost use Rattle.pf_console.specs.Names.{frame_fault_name, check_fault_name, crew_error_name, put_name};
 
 use pf_commands::{CheckFault, FrameFault, Put};
+use pf_step::CrewError;
 
 /// The name of a frame's error.
 pub fn frame_fault_name(fault: FrameFault) -> &'static str
@@ -27,6 +28,18 @@ pub fn check_fault_name(fault: CheckFault) -> &'static str
         CheckFault::UnknownBody => "UnknownBody",
         CheckFault::StaticBody => "StaticBody",
         CheckFault::NotOwner => "NotOwner",
+    }
+}
+
+/// The name of a crew's error.
+pub fn crew_error_name(error: CrewError) -> &'static str
+    ensures { result.now ≡ crew_error_name error }
+{
+    match error {
+        CrewError::OutOfMemory => "OutOfMemory",
+        CrewError::NoThread => "NoThread",
+        CrewError::GateShut => "GateShut",
+        CrewError::CrewLost => "CrewLost",
     }
 }
 

@@ -8,8 +8,11 @@ ghost use Rattle.pf_console.specs.Phase.{after_event, after_scene_line, peer_cou
 
 use crate::grammar::event;
 use crate::print::reply_text;
+use crate::settler::Settler;
+use pf_manifold::Collider;
 use pf_peers::{Event, Session};
 use pf_shapes::{MAX_BODIES, Progress, Scene, SceneFault, SceneReader};
+use pf_step::Crew;
 use pf_text::{LineFault, Machine, TakeRefusal, integer};
 use std::alloc::Global;
 
@@ -80,8 +83,9 @@ fn after_peers_line(
 }
 
 /// The reply to an event, and the phase after it.
-fn after_known_event(
+fn after_known_event<P: Collider, C: Crew>(
     alloc: Global,
+    settler: &mut Settler<P, C>,
     session: Session,
     event: Event,
 ) -> Result<(String, Phase), TakeRefusal<SceneFault>>
@@ -89,14 +93,15 @@ fn after_known_event(
     ensures { Produces result (after_event session (Ok event)) }
 {
     let mut session = session;
-    let reply = session.answer(alloc, event)?;
+    let reply = settler.answer(alloc, &mut session, event)?;
     let text = reply_text(alloc, session.scene().fixtures(), &reply)?;
     Ok((text, Phase::Playing(session)))
 }
 
 /// The reply to the event of a line, and the phase after it.
-fn after_event(
+fn after_event<P: Collider, C: Crew>(
     alloc: Global,
+    settler: &mut Settler<P, C>,
     session: Session,
     fields: &[&[u8]],
 ) -> Result<(String, Phase), TakeRefusal<SceneFault>>
@@ -104,12 +109,12 @@ fn after_event(
         (event_of (length session.peers) (map (λ field. field.now) fields.now))) }
 {
     match event(session.peer_count(), fields) {
-        Ok(event) => after_known_event(alloc, session, event),
+        Ok(event) => after_known_event(alloc, settler, session, event),
         Err(fault) => Err(TakeRefusal::Fault(SceneFault::from(fault))),
     }
 }
 
-impl Machine<()> for Phase {
+impl<P: Collider, C: Crew> Machine<Settler<'_, P, C>> for Phase {
     type Fault = SceneFault;
 
     ghost rules = { text_rules };
@@ -122,7 +127,7 @@ impl Machine<()> for Phase {
     fn take(
         self,
         alloc: Global,
-        _lent: &mut (),
+        settler: &mut Settler<'_, P, C>,
         fields: &[&[u8]],
     ) -> Result<(String, Self), TakeRefusal<SceneFault>> {
         match self {
@@ -131,7 +136,7 @@ impl Machine<()> for Phase {
                 Ok((String::new(alloc), after_scene_line(progress)))
             }
             Phase::Seating(scene) => after_peers_line(alloc, scene, fields),
-            Phase::Playing(session) => after_event(alloc, session, fields),
+            Phase::Playing(session) => after_event(alloc, settler, session, fields),
         }
     }
 }

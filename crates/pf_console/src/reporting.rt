@@ -1,13 +1,14 @@
 //! What the program prints about an error, and the status that it ends with.
 
 ghost use Rattle.std.specs.Prelude.{◌≡◌, ◌+◌, ◌^◌, ◌<◌};
-ghost use Rattle.pf_console.specs.Report.{fault_name, digits_fault_name, invalid_line_text, invalid_frame_text, fault_text, status_of, outcome_text, outcome_status, Reports};
+ghost use Rattle.pf_console.specs.Report.{fault_name, digits_fault_name, invalid_line_text, invalid_frame_text, crew_error_text, fault_text, status_of, outcome_text, outcome_status, Reports};
 
 use crate::fault::{DigitsFault, PlayFault};
-use crate::names::frame_fault_name;
+use crate::names::{crew_error_name, frame_fault_name};
 use arrayvec::ArrayString;
 use itoa::Buffer;
 use pf_shapes::SceneFault;
+use pf_step::CrewError;
 use pf_text::Sink;
 
 /// More bytes than the text about an invalid line can have.
@@ -44,6 +45,18 @@ fn invalid_frame_text(fault: DigitsFault) -> ArrayString<FAULT_ROOM>
     let mut line = ArrayString::new();
     line.push_str("pf_play: frame: ");
     line.push_str(digits_fault_name(fault));
+    line.push_str("\n");
+    line
+}
+
+/// The text about a crew that failed.
+#[tactic(auto, unfolding(crate::specs::Report::crew_error_text))]
+fn crew_error_text(error: CrewError) -> ArrayString<FAULT_ROOM>
+    ensures { result.bytes ≡ crew_error_text error }
+{
+    let mut line = ArrayString::new();
+    line.push_str("pf_play: crew: ");
+    line.push_str(crew_error_name(error));
     line.push_str("\n");
     line
 }
@@ -102,6 +115,7 @@ pub fn report<W: Sink>(fault: &PlayFault, writer: &mut W) -> u8
         }
         PlayFault::Frame(name) => writer.write_all(invalid_frame_text(*name).as_str().as_bytes()),
         PlayFault::Memory => writer.write_all(b"pf_play: out of memory\n"),
+        PlayFault::Crew(error) => writer.write_all(crew_error_text(*error).as_str().as_bytes()),
         PlayFault::Read => writer.write_all(b"pf_play: read failed\n"),
         PlayFault::Write => writer.write_all(b"pf_play: write failed\n"),
     };
@@ -115,6 +129,6 @@ fn status(fault: &PlayFault) -> u8
     match fault {
         PlayFault::Line(_, _) | PlayFault::Frame(_) => 1,
         PlayFault::Words(_) => 2,
-        PlayFault::Memory | PlayFault::Read | PlayFault::Write => 3,
+        PlayFault::Memory | PlayFault::Crew(_) | PlayFault::Read | PlayFault::Write => 3,
     }
 }

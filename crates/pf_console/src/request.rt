@@ -2,14 +2,17 @@
 
 ghost use Rattle.std.specs.Prelude.{◌≡◌, ℕ, ◌+◌, ◌^◌, ◌<◌, List, Some};
 ghost use Rattle.pf_text.specs.Streams.{IfExposed};
+ghost use Rattle.pf_console.specs.Crews.{FailsByCrew};
 ghost use Rattle.pf_console.specs.Request.{Performs, Writes};
 ghost use Rattle.pf_console.specs.Text.{CountsReads, CountsWrites, ReadsNothing};
 
 use crate::fault::PlayFault;
 use crate::frame::frame_text;
 use crate::run::run_text;
+use pf_step::Crew;
 use pf_text::{Sink, Source};
 use std::alloc::Global;
+use std::thread::Threads;
 
 /// The line of the program's version.
 pub const VERSION: &str = "pf_play 0.1.0\n";
@@ -17,8 +20,8 @@ pub const VERSION: &str = "pf_play 0.1.0\n";
 /// What a command line asks for.
 #[derive(Debug, Drop)]
 pub enum Request<'a> {
-    /// Process a text line by line.
-    Run,
+    /// Process a text line by line, with a crew of so many workers, or without one.
+    Run { workers: Option<usize> },
     /// Print the fields of the frame that these digits encode.
     Frame(&'a str),
     /// Write this text, a help.
@@ -38,13 +41,16 @@ fn say<W: Sink>(text: &str, writer: &mut W) -> Result<(), PlayFault>
     Ok(writer.write_all(text.as_bytes())?)
 }
 
-/// Does what a request asks for. A run reads the reader; the other requests leave it as it was.
-#[tactic(auto, using(crate::proofs::Counting::counts_nothing))]
-pub fn perform<R: Source, W: Sink>(
+/// Does what a request asks for. A run reads the reader, and its settles use the crew that is here;
+/// the other requests leave both as they were.
+#[tactic(auto, using(crate::proofs::Counting::counts_nothing, crate::proofs::Counting::fails_by_no_crew))]
+pub fn perform<R: Source, W: Sink, T: Threads + Sync, C: Crew>(
+    rt: &T,
     alloc: Global,
     request: Request,
     reader: &mut R,
     writer: &mut W,
+    crew: &mut Option<C>,
 ) -> Result<(), PlayFault>
     requires reads { R.failures reader.old + 1 < 2 ^ 64 }
     requires writes { W.failures writer.old + 1 < 2 ^ 64 }
@@ -57,9 +63,10 @@ pub fn perform<R: Source, W: Sink>(
         (λ transfer. Performs request.entry transfer result) }
     ensures reads_counted { CountsReads (R.failures reader.old) result (R.failures reader.new) }
     ensures writes_counted { CountsWrites (W.failures writer.old) result (W.failures writer.new) }
+    ensures crew { FailsByCrew C.may_fail crew.old result }
 {
     match request {
-        Request::Run => run_text(alloc, reader, writer),
+        Request::Run { .. } => run_text(rt, alloc, reader, writer, crew),
         Request::Frame(digits) => frame_text(alloc, digits, writer),
         Request::Help(text) => say(&text, writer),
         Request::Version => say(VERSION, writer),

@@ -1,21 +1,24 @@
-//! The texts of errors, and readers and writers that fail. Texts with their replies and reports
+//! The texts of errors, and readers, writers and crews that fail. Texts with their replies and reports
 //! stand in the stored run of `pf_runs`, and what is reported of memory and of readers and writers
 //! in the tests of `pf_play`.
 
 use pf_commands::FrameFault;
 use pf_console::{DigitsFault, PlayFault, finish, laws, report, run_text};
-use pf_shapes::SceneFault;
+use pf_islands::Island;
+use pf_manifold::OneThread;
+use pf_shapes::{Scene, SceneFault};
+use pf_step::{Crew, CrewError};
 use pf_text::{Bytes, Collected, Input, Output};
 use std::alloc::{AllocError, Global};
 use std::io::{Error, ErrorKind, Read, Write};
 use std::test::Fail;
+use std::thread::Threads;
 
 /// A circle that falls, shown twice.
 const FALLING: &[u8] =
     b"gravity 0 -167772160\ncircle 0 16777216 0 16777216 0 0\nend\npeers 1\nadvance 0 2\nshow 0 1\nshow 0 2\n";
 
-const FALLEN: &[u8] =
-    b"advance 0 2\n\
+const FALLEN: &[u8] = b"advance 0 2\n\
     show 0 1\nbody 0 0 -40960 16777216 0 0 -2621440 0 0 1\nend\n\
     show 0 2\nbody 0 0 -122880 16777216 0 0 -5242880 0 0 1\nend\n";
 
@@ -55,13 +58,14 @@ fn row(number: u8) -> (PlayFault, &'static str) {
         ),
         3 => (PlayFault::Memory, "out of memory"),
         4 => (PlayFault::Read, "read failed"),
+        5 => (PlayFault::Crew(CrewError::GateShut), "crew: a gate is shut"),
         _ => (PlayFault::Write, "write failed"),
     }
 }
 
 #[test]
 fn errors_print_their_texts(rt: HostRuntime) -> Result<(), Fail> {
-    for number in 0..6 {
+    for number in 0..7 {
         let (fault, text) = row(number);
         let is_printed = prints(rt.alloc(), &fault, text)?;
         assert!(rt; is_printed, "{text}");
@@ -102,7 +106,8 @@ impl Read for Trickle {
 }
 
 /// What is written by a run of the text whose reader fails at one call, and how it ends.
-fn run_trickle(
+fn run_trickle<T: Threads + Sync>(
+    rt: &T,
     alloc: Global,
     fails_at: usize,
 ) -> Result<(Collected, Result<(), PlayFault>), AllocError> {
@@ -112,7 +117,8 @@ fn run_trickle(
         fails_at,
     };
     let mut output = Collected::new(alloc);
-    match run_text(alloc, &mut Input::new(reader), &mut output) {
+    let mut crew: Option<OneThread> = None;
+    match run_text(rt, alloc, &mut Input::new(reader), &mut output, &mut crew) {
         Err(PlayFault::Memory | PlayFault::Write) => Err(AllocError),
         outcome => Ok((output, outcome)),
     }
@@ -139,7 +145,7 @@ fn is_cut(fails_at: usize, written: &[u8], outcome: &Result<(), PlayFault>) -> b
 #[test]
 fn a_reader_may_fail_at_each_call(rt: HostRuntime) -> Result<(), Fail> {
     for fails_at in 1..2 * FALLING.len() + 4 {
-        let (output, outcome) = run_trickle(rt.alloc(), fails_at)?;
+        let (output, outcome) = run_trickle(&rt, rt.alloc(), fails_at)?;
         assert!(rt;
             is_cut(fails_at, output.bytes(), &outcome),
             "call {fails_at}"
@@ -191,11 +197,132 @@ fn a_writer_may_fail_at_each_call(rt: HostRuntime) -> Result<(), Fail> {
             fails_at,
         };
         let mut output = Output::new(&mut writer);
-        let outcome = run_text(rt.alloc(), &mut Bytes::new(FALLING), &mut output);
+        let mut crew: Option<OneThread> = None;
+        let mut reader = Bytes::new(FALLING);
+        let outcome = run_text(&rt, rt.alloc(), &mut reader, &mut output, &mut crew);
         if writer.calls < fails_at && outcome.is_err() {
             return Err(AllocError)?;
         }
         assert!(rt; is_broken_off(&mut writer, &outcome), "call {fails_at}");
+    }
+    Ok(())
+}
+
+/// Texts with several peers, late commands and rejected events, and the replies to them.
+const TEXTS: [(&[u8], &[u8]); 4] = [
+    (
+        b"gravity 0 0\ncircle 0 16777216 0 16777216 0 0\n\
+        circle 1 16777216 0 16777216 167772160 0\nend\npeers 2\n\
+        advance 0 10\nsettle 0\nadvance 1 4\nissue 1 push 1 16777216 0\n\
+        take 0 010000000401000000000100000000010000000000000000000000\n\
+        settle 0\nadvance 1 6\nshow 0 10\nshow 1 10\n",
+        b"advance 0 10\nsettle 0 10\nadvance 1 4\n\
+        issue 1 010000000401000000000100000000010000000000000000000000\n\
+        take 0 new\nsettle 0 10\nadvance 1 10\n\
+        show 0 10\nbody 0 0 0 16777216 0 0 0 0 10 1\n\
+        body 1 169345024 0 16777216 0 16777216 0 0 0 1\nend\n\
+        show 1 10\nbody 0 0 0 16777216 0 0 0 0 10 1\n\
+        body 1 169345024 0 16777216 0 16777216 0 0 0 1\nend\n",
+    ),
+    (
+        b"gravity 0 0\ncircle 0 16777216 0 16777216 0 0\n\
+        circle 1 16777216 0 16777216 167772160 0\nend\npeers 2\n\
+        advance 0 10\nsettle 0\nadvance 1 4\nissue 1 push 1 16777216 0\n\
+        take 0 010000000401000000000100000000010000000000000000000000\nsettle 0\n\
+        take 0 010000000401000000000100000000010000000000000000000000\n\
+        take 0 010000000401000000000100000000010000000000000000000000\nmerge 0 1\nsettle 0\n",
+        b"advance 0 10\nsettle 0 10\nadvance 1 4\n\
+        issue 1 010000000401000000000100000000010000000000000000000000\n\
+        take 0 new\nsettle 0 10\ntake 0 same\ntake 0 same\nmerge 0 0\nsettle 0 10\n",
+    ),
+    (
+        b"gravity 0 0\nend\npeers 1\nadvance 0 5\nshow 0 6\nadvance 0 1048572\nadvance 0 0\n\
+        settle 0\n",
+        b"advance 0 5\nrefused NotReached 5\nrefused TickLimit\nadvance 0 5\nsettle 0 5\n",
+    ),
+    (
+        b"gravity 0 0\ncircle 0 16777216 0 16777216 0 0\n\
+        circle 1 16777216 0 16777216 167772160 0\n\
+        box - 0 8388608 167772160 16777216 0 -167772160 16777216 0\nend\npeers 2\n\
+        advance 1 1\nsettle 1\nissue 1 push 0 16777216 0\nissue 1 push 7 16777216 0\n\
+        issue 0 push 2 16777216 0\nsettle 1\n",
+        b"advance 1 1\nsettle 1 1\nrefused NotOwner\nrefused UnknownBody\n\
+        refused StaticBody\nsettle 1 1\n",
+    ),
+];
+
+/// Whether a text has these replies, by a crew or without one.
+fn is_answered<T: Threads + Sync>(
+    rt: &T,
+    alloc: Global,
+    text: &[u8],
+    replies: &[u8],
+    crew: Option<OneThread>,
+) -> Result<bool, AllocError> {
+    let mut crew = crew;
+    let mut output = Collected::new(alloc);
+    match run_text(rt, alloc, &mut Bytes::new(text), &mut output, &mut crew) {
+        Err(PlayFault::Memory | PlayFault::Write) => Err(AllocError),
+        outcome => Ok(outcome.is_ok() && output.bytes() == replies),
+    }
+}
+
+#[test]
+fn replies_are_the_same_with_a_crew(rt: HostRuntime) -> Result<(), Fail> {
+    for (text, replies) in TEXTS {
+        for crew in [None, Some(OneThread)] {
+            let is_answered = is_answered(&rt, rt.alloc(), text, replies, crew)?;
+            assert!(rt; is_answered);
+        }
+    }
+    Ok(())
+}
+
+/// A crew that fails after so many calls.
+#[derive(Drop)]
+struct Failing {
+    calls: usize,
+    error: CrewError,
+}
+
+impl Crew for Failing {
+    fn solve(&mut self, scene: &Scene, islands: Vec<Island>) -> Result<Vec<Island>, CrewError> {
+        if self.calls == 0 {
+            return Err(self.error);
+        }
+        self.calls = self.calls.saturating_sub(1);
+        OneThread.solve(scene, islands)
+    }
+}
+
+/// A text whose second settle makes the fourth to the sixth call of a crew.
+const SETTLED: &[u8] = b"gravity 0 0\ncircle 0 16777216 0 16777216 0 0\nend\npeers 1\n\
+    advance 0 3\nsettle 0\nadvance 0 3\nsettle 0\nshow 0 6\n";
+
+/// The replies before that settle.
+const BEFORE: &[u8] = b"advance 0 3\nsettle 0 3\nadvance 0 6\n";
+
+/// The errors of a crew, and what is reported of each.
+const CREW_ERRORS: [(CrewError, &[u8]); 4] = [
+    (CrewError::OutOfMemory, b"pf_play: crew: OutOfMemory\n"),
+    (CrewError::NoThread, b"pf_play: crew: NoThread\n"),
+    (CrewError::GateShut, b"pf_play: crew: GateShut\n"),
+    (CrewError::CrewLost, b"pf_play: crew: CrewLost\n"),
+];
+
+#[test]
+fn a_crew_that_fails_is_reported(rt: HostRuntime) -> Result<(), Fail> {
+    for (error, report) in CREW_ERRORS {
+        let mut crew = Some(Failing { calls: 4, error });
+        let mut output = Collected::new(rt.alloc());
+        let mut errors = Collected::new(rt.alloc());
+        let mut reader = Bytes::new(SETTLED);
+        let outcome = run_text(&rt, rt.alloc(), &mut reader, &mut output, &mut crew);
+        let status = finish(outcome, &mut errors);
+        if errors.bytes() == b"pf_play: out of memory\n".as_slice() {
+            return Err(AllocError)?;
+        }
+        assert!(rt; status == 3 && output.bytes() == BEFORE && errors.bytes() == report);
     }
     Ok(())
 }
@@ -205,5 +332,6 @@ fn laws_are_called(_rt: HostRuntime) {
     laws::event_lines_have_replies();
     laws::event_lines_encode_events();
     laws::printed_frames_are_parsed();
+    laws::runs_write_one_text();
     laws::named_limits();
 }

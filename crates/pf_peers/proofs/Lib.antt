@@ -1,6 +1,7 @@
 -- The lemmas of this crate.
 pub mod Parts
 pub mod Sessions
+pub mod Crews
 pub mod Maps
 pub mod Calls
 pub mod Shown

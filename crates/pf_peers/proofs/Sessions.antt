@@ -21,6 +21,7 @@ use Rattle.pf_peers.specs.declared.event.Event.TheVariants.{Issue, Take, Merge, 
 use Rattle.pf_peers.specs.declared.event.Reply.{Reply}
 use Rattle.pf_peers.specs.declared.event.Reply.TheVariants.{Merged}
 use Rattle.pf_peers.specs.Answers.{IsMergeReply}
+use Rattle.pf_peers.specs.Crews.{IsCoreAt}
 use Rattle.pf_peers.specs.Session.{AreCores, IsAmong, NeedsNoMemory, Session, answer, other_commands, other_of, peer_answer, peer_at, peer_of, replies_to, reply_and_peer, reply_to, session_after}
 
 -- the core of a peer that begins
@@ -48,6 +49,15 @@ peer_of_core : (scene : Scene) (cores : List PeerCore) (i : ℕ) (core : PeerCor
     → peer_at (record { scene = scene; peers = peers_of cores }) i ≡ core.peer
 peer_of_core scene cores i core within is =
     get_or-map (λ (core : PeerCore). core.peer) cores i core (new_peer 0) within ∙ ap (λ (core : PeerCore). core.peer) (sym is)
+
+-- a core among others of one scene is that of the peer of its place
+pub core_at : (scene : Scene) (cores : List PeerCore) (i : ℕ) (core : PeerCore) → i < length cores → core ≡ get_or cores i core
+    → ((k : ℕ) (d : PeerCore) → k < length cores → (get_or cores k d).scene ≡ scene)
+    → IsCoreAt (record { scene = scene; peers = peers_of cores }) i core
+core_at scene cores i core within is scenes = record {
+  scene = ap (λ (core : PeerCore). core.scene) is ∙ scenes i core within;
+  peer = sym (peer_of_core scene cores i core within is);
+}
 
 -- the reply of one peer is that of the session, and its core after it goes to its place
 pub peer_answer_is : (scene : Scene) (cores : List PeerCore) (event : Event) (old other new : PeerCore) (reply : Reply)
@@ -121,9 +131,13 @@ pub record AreCoresAfter (scene : Scene) (cores after : List PeerCore) (event : 
       NeedsNoMemory scene (other_commands s event) (peer_at s (peer_of event)) event → IsOk result
   pub err : OnErr result (session_of scene after ≡ session_of scene cores)
 
-pub on_err : {A : Type 0} (result : Result A AllocError) (P Q : Type 0) → (P → Q) → OnErr result P → OnErr result Q
+pub on_err : {A E : Type 0} (result : Result A E) (P Q : Type 0) → (P → Q) → OnErr result P → OnErr result Q
 on_err (Ok value) P Q more is = tt
 on_err (Err error) P Q more is = more is
+
+pub err_anyway : {A E : Type 0} (result : Result A E) (P : Type 0) → P → OnErr result P
+err_anyway (Ok value) P is = tt
+err_anyway (Err error) P is = is
 
 pub merged_cores : (scene : Scene) (cores after : List PeerCore) (event : Event) (result : Result Reply AllocError)
     → AreCores scene cores → IsAmong (length cores) event → other_of event ≢ peer_of event

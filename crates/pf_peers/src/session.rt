@@ -1,21 +1,24 @@
 //! Peers of one scene, which are asked one event after the other.
 
-ghost use Rattle.std.specs.Prelude.{◌≡◌, ◌≢◌, ◌<◌, ℕ, Ok, Some, IfOk, OnErr, OnOk, IsErr, IsOk, IsSome, length, slice_get, slice_set};
+ghost use Rattle.std.specs.Prelude.{◌≡◌, ◌≢◌, ◌<◌, ℕ, Ok, Some, IfErr, IfOk, OnErr, OnOk, IsErr, IsOk, IsSome, length, slice_get, slice_set};
 ghost use Rattle.std.specs.FinMap.{get};
 ghost use Rattle.pf_peers.specs.Answers.{IsMergeReply, IsReplyOf};
+ghost use Rattle.pf_peers.specs.Crews.{UsesCrew};
 ghost use Rattle.pf_peers.specs.Session.{NeedsNoMemory, other_of, peer_answer, peer_of, reply_and_peer, world_reply};
 ghost use Rattle.pf_peers.specs.declared.event.Event.TheVariants.{Settle};
 ghost use Rattle.pf_peers.specs.declared.event.Reply.TheVariants.{Advanced, Issued, Settled, Took};
 ghost use Rattle.pf_commands.specs.declared.payload.Command.{Command};
-ghost use Rattle.pf_rollback.specs.Core.{PeerCore};
+ghost use Rattle.pf_rollback.specs.Core.{PeerCore, missing_count};
 ghost use Rattle.pf_rollback.specs.Kept.{settled_tick};
 ghost use Rattle.pf_rollback.specs.Peer.{IsEmptyBefore, advance, issue, take, world_at};
+ghost use Rattle.pf_rollback.specs.Settling.{AreCalls, FailsAfter};
 
 use crate::event::{Event, Reply};
 use pf_commands::{Command, CommandMap, FrameFault, Payload};
+use pf_manifold::{Collider, OneThread};
 use pf_rollback::{Fault, MAX_RING, PeerCore, Refusal};
 use pf_shapes::{PLAYERS, Scene};
-use pf_step::Work;
+use pf_step::{Crew, StepError, Work};
 use std::alloc::{AllocError, Global};
 use std::marker::Model;
 
@@ -141,16 +144,30 @@ fn advance(core: &mut PeerCore, peer: u8, ticks: u32) -> Result<Reply, AllocErro
     }
 }
 
-/// The reply of a peer to Settle. An `Err` may leave more ticks settled, and no other change.
-fn settle(core: &mut PeerCore, alloc: Global, peer: u8) -> Result<Reply, AllocError>
+/// The reply of a peer to Settle, by a collider and a crew. An `Err` may leave more ticks settled,
+/// and no other change.
+fn settle<P: Collider, C: Crew>(
+    core: &mut PeerCore,
+    collider: &P,
+    alloc: Global,
+    peer: u8,
+    crew: &mut C,
+) -> Result<Reply, StepError>
+    requires { P.can_collide collider.now }
     ensures reply { IfOk result (λ reply. reply ≡ Settled peer core.old.peer.reached) }
     ensures settled { OnOk result (settled_tick core.new.kept ≡ core.old.peer.reached) }
     ensures peer { core.new.peer ≡ core.old.peer }
     ensures scene { core.new.scene ≡ core.old.scene }
     ensures no_memory { core.old.peer.reached ≡ 0 → IsOk result }
+    ensures called { OnOk result
+        (AreCalls C.is_called core.old (missing_count core.old) crew.old crew.new) }
+    ensures failed { IfErr result (λ error.
+        FailsAfter C.is_called C.may_fail core.old core.new crew.old error crew.new) }
 {
-    let reached = core.settle_alone(alloc)?;
-    Ok(Reply::Settled { peer, reached })
+    match core.settle_by(collider, alloc, crew) {
+        Ok(reached) => Ok(Reply::Settled { peer, reached }),
+        Err(error) => Err(error),
+    }
 }
 
 /// The reply of a peer to Show.
@@ -166,11 +183,18 @@ fn show(core: &PeerCore, alloc: Global, peer: u8, tick: u32) -> Result<Reply, Al
     }
 }
 
-/// The reply of a peer to an event on it alone. An `Err` changes neither what it holds nor what it
-/// shows.
+/// The reply of a peer to an event on it alone, whose crew only a settle calls. An `Err` changes
+/// neither what the peer holds nor what it shows.
 #[tactic(auto, unfolding(crate::specs::Session::peer_answer))]
-fn answer_alone(core: &mut PeerCore, alloc: Global, event: Event) -> Result<Reply, AllocError>
-    requires { other_of event ≡ peer_of event }
+fn answer_alone<P: Collider, C: Crew>(
+    core: &mut PeerCore,
+    collider: &P,
+    alloc: Global,
+    event: Event,
+    crew: &mut C,
+) -> Result<Reply, StepError>
+    requires can { P.can_collide collider.now }
+    requires alone { other_of event ≡ peer_of event }
     ensures reply { let p = core.old.peer in IfOk result (λ reply.
         (reply, core.new.peer) ≡ peer_answer core.old.scene p.commands p event) }
     ensures settled { (peer : ℕ) → event ≡ Settle peer
@@ -179,19 +203,22 @@ fn answer_alone(core: &mut PeerCore, alloc: Global, event: Event) -> Result<Repl
     ensures no_memory { let p = core.old.peer in
         NeedsNoMemory core.old.scene p.commands p event → IsOk result }
     ensures err { OnErr result (core.new.peer ≡ core.old.peer) }
+    ensures crew { UsesCrew C.is_called C.may_fail (λ used. used ≡ core.old) event
+        crew.old result crew.new }
 {
     match event {
-        Event::Issue { peer, payload } => issue(core, peer, payload),
-        Event::Take { peer, frame } => take(core, peer, frame),
+        Event::Issue { peer, payload } => Ok(issue(core, peer, payload)?),
+        Event::Take { peer, frame } => Ok(take(core, peer, frame)?),
         Event::Merge { peer, .. } => Ok(Reply::Merged { peer, count: 0 }),
-        Event::Advance { peer, ticks } => advance(core, peer, ticks),
-        Event::Settle { peer } => settle(core, alloc, peer),
-        Event::Show { peer, tick } => show(core, alloc, peer, tick),
+        Event::Advance { peer, ticks } => Ok(advance(core, peer, ticks)?),
+        Event::Settle { peer } => settle(core, collider, alloc, peer, crew),
+        Event::Show { peer, tick } => Ok(show(core, alloc, peer, tick)?),
     }
 }
 
 impl Session {
     ghost use Rattle.std.specs.Prelude.{◌≡◌, ◌≤◌, ◌<◌, length, IfOk, IsOk, OnErr};
+    ghost use Rattle.pf_peers.specs.Crews.{IsCoreAt};
     ghost use Rattle.pf_peers.specs.Laws.{IsAllowedPeer};
     ghost use Rattle.pf_peers.specs.Session.{IsAmong, NeedsNoMemory, answer, new_session, other_commands, peer_at, peer_of};
 
@@ -237,7 +264,7 @@ impl Session {
         self.cores.len() as u8
     }
 
-    /// The reply to an event. An `Err` leaves what all peers hold as it was.
+    /// The reply to an event, on one thread. An `Err` leaves what all peers hold as it was.
     pub fn answer(&mut self, alloc: Global, event: Event) -> Result<Reply, AllocError>
         requires { IsAmong (length self.old.peers) event }
         ensures reply { IfOk result (λ reply. (reply, self.new) ≡ answer self.old event) }
@@ -246,12 +273,39 @@ impl Session {
             → IsOk result }
         ensures err { OnErr result (self.new ≡ self.old) }
     {
+        match self.answer_by(&OneThread, alloc, event, &mut OneThread) {
+            Ok(reply) => Ok(reply),
+            Err(StepError::OutOfMemory) => Err(AllocError),
+            Err(StepError::Crew(_)) => unreachable!(),
+        }
+    }
+
+    /// The reply to an event. For a settle the collider computes contact points and the crew solves
+    /// islands; no other event uses them. An `Err` leaves what all peers hold and show as it was.
+    /// An error of the crew comes only where a call of it failed, for a settle.
+    pub fn answer_by<P: Collider, C: Crew>(
+        &mut self,
+        collider: &P,
+        alloc: Global,
+        event: Event,
+        crew: &mut C,
+    ) -> Result<Reply, StepError>
+        requires can { P.can_collide collider.now }
+        requires among { IsAmong (length self.old.peers) event }
+        ensures reply { IfOk result (λ reply. (reply, self.new) ≡ answer self.old event) }
+        ensures no_memory { let s = self.old in
+            NeedsNoMemory s.scene (other_commands s event) (peer_at s (peer_of event)) event
+            → IsOk result }
+        ensures err { OnErr result (self.new ≡ self.old) }
+        ensures crew { UsesCrew C.is_called C.may_fail (IsCoreAt self.old (peer_of event)) event
+            crew.old result crew.new }
+    {
         let peer = event.peer();
         let other = event.other();
         if other != peer {
-            return merge_among(&mut self.cores, peer, other);
+            return Ok(merge_among(&mut self.cores, peer, other)?);
         }
         let core = &mut self.cores[usize::from(peer)];
-        answer_alone(core, alloc, event)
+        answer_alone(core, collider, alloc, event, crew)
     }
 }

@@ -12,6 +12,7 @@ fn main(rt: HostRuntime) -> ExitCode {
     let mut output: Output<Stdout> = Output::new(rt.stdout());
     let mut errors: Output<Stderr> = Output::new(rt.stderr());
     program(
+        rt,
         rt.alloc(),
         words_of(&rt),
         &mut input,

@@ -1,3 +1,5 @@
 -- The lemmas of this crate.
 mod Entered
 mod Faults
+mod Sizes
+mod Crews

@@ -1,16 +1,20 @@
 -- How the words of the command line are parsed. `clap` says which errors words have, a request for
 -- help or the version among them, and which subcommand they enter. The texts of help and of
 -- mistakes are its own.
-use Rattle.std.specs.Prelude.{◌≡◌, ◌⊎◌, Bool, true, false, List, [], Option, Some, None, unwrap_or, codes, Result, Ok, Err, if◌then◌else◌}
+use Rattle.std.specs.Prelude.{◌≡◌, ◌⊎◌, ◌<◌, ◌≤◌, ℕ, Bool, true, false, List, [], Option, Some, None, IfSome, unwrap_or, codes, Result, Ok, Err, if◌then◌else◌}
 use Rattle.std.specs.Str.{bytes_eq}
-use Rattle.clap.specs.Words.{App, IsAmong, Kinds, Row, Text, first_of, new_app, new_rule, with_rule, with_subcommand}
+use Rattle.std.specs.Str.Parse.{digits_value, without_leading_plus}
+use Rattle.clap.specs.Words.{App, IsAmong, Kinds, Row, Rule, Text, first_of, new_app, new_rule, with_rule, with_subcommand}
 use Rattle.clap.specs.Simple.{new_shape}
+use Rattle.clap.specs.ValueTests.{is_unsigned_in}
+use Rattle.clap.specs.declared.builder.value_parser.ValueParser.TheVariants.{Unsigned}
 use Rattle.clap.specs.declared.error.kind.ErrorKind.{ErrorKind}
 use Rattle.clap.specs.declared.error.kind.ErrorKind.TheVariants as kind
 use Rattle.pf_console.specs.declared.request.Request.{Request}
 use Rattle.pf_console.specs.declared.request.Request.TheVariants.{Run, Frame, Help, Version}
 use Rattle.pf_console.specs.declared.fault.PlayFault.{PlayFault}
 use Rattle.pf_console.specs.declared.fault.PlayFault.TheVariants.{Words, Memory}
+use Rattle.pf_workers.specs.declared.TheConstants.{MAX_WORKERS}
 
 -- the flags `--help` and `--version`, and a subcommand, which has to be there
 abbrev pub own_words : App
@@ -23,6 +27,18 @@ own_words = record {
   subs = [];
 }
 
+-- the option `--crew N`, whose word spells a number from 1 to 16
+abbrev pub crew_option : Rule
+crew_option = record (new_rule (codes "crew")) {
+  long = Some (codes "crew");
+  value_names = 1;
+  parser = Some (Unsigned 1 MAX_WORKERS);
+}
+
+-- the subcommand `run` has that option
+abbrev pub run_words : App
+run_words = with_rule (new_app (codes "run")) crew_option
+
 -- the subcommand `frame` has one word, which has to be there
 abbrev pub frame_words : App
 frame_words =
@@ -30,7 +46,7 @@ frame_words =
 
 -- what a command line may hold: the subcommand `run` or `frame`
 abbrev pub command_line : App
-command_line = with_subcommand (with_subcommand own_words (new_shape (codes "run"))) frame_words.top
+command_line = with_subcommand (with_subcommand own_words run_words.top) frame_words.top
 
 -- a request for help or the version is no mistake, nor is a lack of memory
 abbrev pub is_mistake : ErrorKind → Bool
@@ -46,9 +62,33 @@ digits_in (Some entered) =
     if bytes_eq entered.0 (codes "frame")
     then Some (unwrap_or (first_of (codes "HEX") entered.1) []) else None
 
+-- the count of workers that a word spells, in decimal digits, if it is 1 to 16
+abbrev pub size_of : Text → Option ℕ
+size_of word =
+    if is_unsigned_in 1 MAX_WORKERS word then Some (digits_value 10 (without_leading_plus word))
+    else None
+
+abbrev pub size_of_word : Option Text → Option ℕ
+size_of_word (Some word) = size_of word
+size_of_word None = None
+
+-- the count of workers behind `--crew`, where `run` is the subcommand that was entered
+abbrev pub workers_in : Option (Text × List Row) → Option ℕ
+workers_in None = None
+workers_in (Some entered) =
+    if bytes_eq entered.0 (codes "run") then size_of_word (first_of (codes "crew") entered.1)
+    else None
+
+-- a run has a crew of 1 to 16 workers, or none
+abbrev pub HasCrewSize : Request → Type 0
+HasCrewSize (Run workers) = IfSome workers (λ size. (0 < size) × (size ≤ MAX_WORKERS))
+HasCrewSize (Frame digits) = Unit {0}
+HasCrewSize (Help text) = Unit {0}
+HasCrewSize Version = Unit {0}
+
 -- what valid words ask for, by the subcommand that they enter
 abbrev pub AsksFor : Option (Text × List Row) → Request → Type 0
-AsksFor entered Run = digits_in entered ≡ None
+AsksFor entered (Run workers) = (digits_in entered ≡ None) × (workers ≡ workers_in entered)
 AsksFor entered (Frame digits) = digits_in entered ≡ Some digits.now
 AsksFor entered (Help text) = ⊥
 AsksFor entered Version = ⊥
@@ -65,7 +105,7 @@ ParsesAs errors entered (Err Memory) = Unit {0}
 ParsesAs errors entered (Err other) = ⊥
 
 abbrev pub RunsUnlessMemory : Result Request PlayFault → Type 0
-RunsUnlessMemory r = (r ≡ Ok Run) ⊎ (r ≡ Err Memory)
+RunsUnlessMemory r = (r ≡ Ok (Run None)) ⊎ (r ≡ Err Memory)
 
 -- words that could not be read are no text, or memory ran out
 abbrev pub FailsByWordsOrMemory : {X : Type 0} → Result X PlayFault → Type 0

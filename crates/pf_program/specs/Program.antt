@@ -1,9 +1,13 @@
 -- What the program does, from the words of its call to its status.
-use Rattle.std.specs.Prelude.{◌≡◌, ℕ, List, map, Result, Ok, Err, Vec}
+use Rattle.std.specs.Prelude.{◌≡◌, ◌≢◌, ◌⊎◌, ℕ, List, map, Option, Some, IsSome, Result, Ok, Err, Vec}
 use Rattle.clap.specs.Words.{fault_of, subcommand_of}
 use Rattle.pf_text.specs.Streams.{Streams, IfExposed}
+use Rattle.pf_step.specs.declared.crew.CrewError.{CrewError}
+use Rattle.pf_step.specs.declared.crew.CrewError.TheVariants.{GateShut}
 use Rattle.pf_console.specs.declared.request.Request.{Request}
+use Rattle.pf_console.specs.declared.request.Request.TheVariants.{Run}
 use Rattle.pf_console.specs.declared.fault.PlayFault.{PlayFault}
+use Rattle.pf_console.specs.declared.fault.PlayFault.TheVariants.{Crew}
 use Rattle.pf_console.specs.Report.{outcome_status, outcome_text}
 use Rattle.pf_console.specs.Request.{Performs}
 use Rattle.pf_program.specs.Options.{ParsesAs, command_line}
@@ -17,11 +21,39 @@ Asks text (Ok words) asked =
     ParsesAs (fault_of command_line them) (subcommand_of command_line them) asked
 Asks text (Err fault) asked = asked ≡ Err fault
 
--- a request was performed, where reader and writer expose their bytes; an error is the outcome, and
--- nothing was read or written
+-- a request asks for a crew of so many workers
+abbrev pub WantsCrew : Request → Type 0
+WantsCrew request = (size : ℕ) × (request ≡ Run (Some size))
+
+-- a crew that was made for a request
+abbrev pub IsCrewOf : {C : Type 0} → Request → Option C → Type 0
+IsCrewOf request crew = IsSome crew → WantsCrew request
+
+-- an error of the crew that a request asks for, whose gates are open
+abbrev pub IsCrewFault : Request → PlayFault → Type 0
+IsCrewFault request fault =
+    WantsCrew request × ((error : CrewError) × (fault ≡ Crew error) × (error ≢ GateShut))
+
+-- an error is the outcome, and nothing was read or written
+pub record Fails (fault : PlayFault) (s : Streams) (outcome : Result (Unit {0}) PlayFault)
+    : Type 0 where
+  pub outcome_is : outcome ≡ Err fault
+  pub left_is : s.left ≡ s.unread
+  pub after_is : s.after ≡ s.before
+
+-- A request was performed, where reader and writer expose their bytes, or else the crew that it
+-- asks for could not be made. An error of what is asked for is the outcome.
 abbrev pub Does : Result Request PlayFault → Streams → Result (Unit {0}) PlayFault → Type 0
-Does (Ok request) s outcome = IfExposed s (λ transfer. Performs request transfer outcome)
-Does (Err fault) s outcome = (outcome ≡ Err fault) × (s.left ≡ s.unread) × (s.after ≡ s.before)
+Does (Ok request) s outcome =
+    IfExposed s (λ transfer. Performs request transfer outcome)
+    ⊎ ((fault : PlayFault) × IsCrewFault request fault × Fails fault s outcome)
+Does (Err fault) s outcome = Fails fault s outcome
+
+-- an error of a crew comes only where a request asks for one, and never from a gate
+abbrev pub NamesCrew : Result Request PlayFault → Result (Unit {0}) PlayFault → Type 0
+NamesCrew (Ok request) outcome =
+    (error : CrewError) → outcome ≡ Err (Crew error) → IsCrewFault request (Crew error)
+NamesCrew (Err fault) outcome = (error : CrewError) → outcome ≢ Err (Crew error)
 
 -- the outcome of a call: one thing that its words ask for was done
 pub record Plays {S A : Type 0} (text : S → List ℕ) (words : Result (Vec S A) PlayFault)
@@ -29,6 +61,7 @@ pub record Plays {S A : Type 0} (text : S → List ℕ) (words : Result (Vec S A
   pub asked : Result Request PlayFault
   pub asks : Asks text words asked
   pub does : Does asked s outcome
+  pub crew : NamesCrew asked outcome
 
 -- how a call ends: it has one outcome, whose failures were counted, whose text was reported and
 -- whose status is returned

@@ -1,21 +1,47 @@
 //! The program, from the words of its call to its status.
 
-ghost use Rattle.std.specs.Prelude.{◌≡◌, ◌+◌, ◌^◌, ◌<◌};
+ghost use Rattle.std.specs.Prelude.{◌≡◌, ◌+◌, ◌^◌, ◌<◌, IfErr, IfOk};
 ghost use Rattle.std.specs.Process.{exit_status};
 ghost use Rattle.pf_console.specs.Report.{Reports};
 ghost use Rattle.pf_console.specs.Text.{CountsReads, CountsWrites};
-ghost use Rattle.pf_program.specs.Options.{FailsByWordsOrMemory};
-ghost use Rattle.pf_program.specs.Program.{Ends, Plays};
+ghost use Rattle.pf_program.specs.Options.{FailsByWordsOrMemory, HasCrewSize};
+ghost use Rattle.pf_program.specs.Program.{Ends, IsCrewFault, IsCrewOf, Plays};
 
 use crate::command_line::options;
-use pf_console::{PlayFault, finish, perform};
+use pf_console::{PlayFault, Request, finish, perform};
 use pf_text::{Sink, Source};
+use pf_workers::{OpenGate, StandingCrew};
 use std::alloc::Global;
 use std::convert::AsStr;
 use std::process::ExitCode;
+use std::sync::Wait;
+use std::thread::Threads;
 
-/// Does what the words of a call ask for.
-fn play<S: AsStr + Drop, R: Source, W: Sink>(
+/// The crew that a run asks for, if it asks for one.
+fn crew_of<T: Threads + Wait + Copy + Send + 'static>(
+    rt: T,
+    alloc: Global,
+    request: &Request,
+) -> Result<Option<StandingCrew<T, OpenGate>>, PlayFault>
+    requires { HasCrewSize request.now }
+    ensures crew { IfOk result (IsCrewOf request.now) }
+    ensures fault { IfErr result (IsCrewFault request.now) }
+{
+    match request {
+        Request::Run {
+            workers: Some(workers),
+        } => match StandingCrew::new(rt, alloc, *workers, OpenGate) {
+            Ok(crew) => Ok(Some(crew)),
+            Err(error) => Err(PlayFault::Crew(error)),
+        },
+        _ => Ok(None),
+    }
+}
+
+/// Does what the words of a call ask for. Where they ask for a crew, it is made before anything is
+/// read, and closed at the end.
+fn play<S: AsStr + Drop, R: Source, W: Sink, T: Threads + Wait + Sync + Copy + Send + 'static>(
+    rt: T,
     alloc: Global,
     words: Result<Vec<S>, PlayFault>,
     reader: &mut R,
@@ -36,11 +62,23 @@ fn play<S: AsStr + Drop, R: Source, W: Sink>(
 {
     let words = words?;
     let request = options(alloc, words.as_slice())?;
-    perform(alloc, request, reader, writer)
+    let mut crew = crew_of(rt, alloc, &request)?;
+    let outcome = perform(&rt, alloc, request, reader, writer, &mut crew);
+    if let Some(crew) = crew {
+        crew.close();
+    }
+    outcome
 }
 
 /// Does what the words of a call ask for, reports an error, and returns the status to end with.
-pub fn program<S: AsStr + Drop, R: Source, W: Sink, E: Sink>(
+pub fn program<
+    S: AsStr + Drop,
+    R: Source,
+    W: Sink,
+    E: Sink,
+    T: Threads + Wait + Sync + Copy + Send + 'static,
+>(
+    rt: T,
     alloc: Global,
     words: Result<Vec<S>, PlayFault>,
     reader: &mut R,
@@ -68,5 +106,5 @@ pub fn program<S: AsStr + Drop, R: Source, W: Sink, E: Sink>(
         }))
         (exit_status result) }
 {
-    ExitCode::from(finish(play(alloc, words, reader, writer), errors))
+    ExitCode::from(finish(play(rt, alloc, words, reader, writer), errors))
 }

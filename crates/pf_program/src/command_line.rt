@@ -1,14 +1,14 @@
 //! The command line: what the words of a call ask for.
 
 ghost use Rattle.std.specs.Prelude.{◌≡◌, ℕ, List, [], ◌∷◌, None, false, codes, map, IfOk};
-ghost use Rattle.clap.specs.Words.{app_of, fault_of, kind_of, shape_of, subcommand_of, subcommand_rows_of};
-ghost use Rattle.clap.specs.Simple.{new_shape};
+ghost use Rattle.clap.specs.Words.{app_of, fault_of, kind_of, rule_of, subcommand_of, subcommand_rows_of};
 ghost use Rattle.clap.specs.declared.builder.command.Command.TheViews.{out-Command as fields_of};
-ghost use Rattle.pf_program.specs.Options.{ParsesAs, AsksFor, FailsByWordsOrMemory, RunsUnlessMemory, command_line, frame_words, own_words};
+ghost use Rattle.pf_program.specs.Options.{ParsesAs, AsksFor, FailsByWordsOrMemory, HasCrewSize, RunsUnlessMemory, command_line, crew_option, frame_words, own_words, run_words, size_of, workers_in};
 
 use clap::error::ErrorKind;
-use clap::{Arg, ArgMatches, Command, Error};
+use clap::{Arg, ArgMatches, Command, Error, value_parser};
 use pf_console::{PlayFault, Request};
+use pf_workers::MAX_WORKERS;
 use std::alloc::{AllocError, Global};
 use std::convert::AsStr;
 use std::rt::Env;
@@ -31,10 +31,15 @@ number of its command, and what it does:
   tick 0 player 0 number 1 turn 0 16777216
   tick 0 player 0 number 2 stop 0";
 
+/// The option of `run` that asks for a crew.
+const CREW: &str = "crew";
+
+const CREW_HELP: &str = "Settle with N threads, 1 to 16; the output is the same";
+
 const RUN_ABOUT: &str = "Answers a text on standard input, line by line";
 
 /// The usage in the help of `run` and in its errors: a stray word may be the name of a text.
-const RUN_USAGE: &str = "pf_play run < FILE";
+const RUN_USAGE: &str = "pf_play run [--crew N] < FILE";
 
 const RUN_HELP: &str = "\
 Standard input holds a scene, a line `peers N` with N from 1 to 8, and then events, a line
@@ -73,15 +78,28 @@ that it has accumulated along its normal and its tangent. Here the answers are:
   body 0 0 -122880 16777216 0 0 -5242880 0 0 1
   end";
 
-/// The subcommand `run`.
-fn run_command<'a>(alloc: Global) -> Command<'a>
-    ensures shape { shape_of result ≡ new_shape (codes "run") }
-    ensures local { (fields_of result).has_globals ≡ false }
+/// The option `--crew N`.
+fn crew_argument<'a>(alloc: Global) -> Arg<'a>
+    ensures rule { rule_of result ≡ crew_option }
+    ensures local { result.global ≡ false }
+{
+    Arg::new(alloc, CREW)
+        .long(CREW)
+        .value_name("N")
+        .help(CREW_HELP)
+        .value_parser(value_parser!(usize).range(1..=MAX_WORKERS as i64))
+}
+
+/// The subcommand `run`, with its option.
+fn run_command<'a>(alloc: Global) -> Result<Command<'a>, AllocError>
+    ensures words { IfOk result (λ command. app_of command ≡ run_words) }
+    ensures local { IfOk result (λ command. (fields_of command).has_globals ≡ false) }
 {
     Command::new(alloc, "run")
         .about(RUN_ABOUT)
         .override_usage(RUN_USAGE)
         .after_help(RUN_HELP)
+        .arg(crew_argument(alloc))
 }
 
 /// The subcommand `frame`, with its one word.
@@ -115,14 +133,15 @@ fn command<'a>(alloc: Global) -> Result<Command<'a>, AllocError>
     ensures { IfOk result (λ command. app_of command ≡ command_line) }
 {
     own_command(alloc)?
-        .subcommand(run_command(alloc))?
+        .subcommand(run_command(alloc)?)?
         .subcommand(frame_command(alloc)?)
 }
 
 /// What an error of `clap` means here: a request for help or the version, a mistake in the words,
 /// or a lack of memory.
 fn request_of<'a>(alloc: Global, error: &Error) -> Result<Request<'a>, PlayFault>
-    ensures { ParsesAs (kind_of error.now ∷ []) None result }
+    ensures parses { ParsesAs (kind_of error.now ∷ []) None result }
+    ensures crew_size { IfOk result HasCrewSize }
 {
     match error.kind() {
         ErrorKind::OutOfMemory => Err(PlayFault::Memory),
@@ -136,13 +155,34 @@ fn request_of<'a>(alloc: Global, error: &Error) -> Result<Request<'a>, PlayFault
 const NOT_TEXT: &str = "error: invalid UTF-8 was detected in one or more arguments\n\n\
 Usage: pf_play <COMMAND>\n\nFor more information, try '--help'.\n";
 
+/// The count of workers that a word spells. The command line takes no other word.
+fn size(word: &str) -> Option<usize>
+    ensures { result ≡ size_of word.now }
+{
+    match word.parse::<usize>() {
+        Ok(size) if 0 < size && size <= MAX_WORKERS => Some(size),
+        _ => None,
+    }
+}
+
+/// The count of workers that a run asks for, if it asks for a crew.
+fn workers(matches: &ArgMatches) -> Option<usize>
+    ensures { result ≡ workers_in (subcommand_rows_of matches.now) }
+{
+    let run = matches.subcommand_matches("run")?;
+    size(run.get_str(CREW)?)
+}
+
 /// What valid words ask for.
 fn request_for<'a>(matches: &ArgMatches<'a>) -> Request<'a>
-    ensures { AsksFor (subcommand_rows_of matches.now) result }
+    ensures asked { AsksFor (subcommand_rows_of matches.now) result }
+    ensures size { HasCrewSize result }
 {
     match matches.subcommand_matches("frame") {
         Some(frame) => Request::Frame(frame.get_str(DIGITS).unwrap_or("")),
-        None => Request::Run,
+        None => Request::Run {
+            workers: workers(matches),
+        },
     }
 }
 
@@ -161,6 +201,7 @@ pub fn words_of<R: Env + Alloc<A = Global>>(rt: &R) -> Result<Vec<String>, PlayF
 pub fn options<'a, S: AsStr>(alloc: Global, words: &'a [S]) -> Result<Request<'a>, PlayFault>
     ensures parses { let them = map S.text words.now in
         ParsesAs (fault_of command_line them) (subcommand_of command_line them) result }
+    ensures crew_size { IfOk result HasCrewSize }
     ensures runs { (program : List ℕ) → map S.text words.now ≡ program ∷ codes "run" ∷ []
         → RunsUnlessMemory result }
 {

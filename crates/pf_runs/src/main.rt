@@ -1,7 +1,8 @@
 //! Runs many texts. They stand on standard input, separated by a line that no text has; for each,
 //! the program prints its replies, the line that reports its error, if it has one, and `status N`.
-//! A text `frame DIGITS` is printed as a frame. The stored run has what an independent program
-//! prints for the same texts.
+//! It runs each text without a crew and then with one, and ends where these differ. A text `frame
+//! DIGITS` is printed as a frame. The stored run has what an independent program prints for the
+//! same texts.
 #![tactic(auto)]
 
 ghost use Rattle.std.specs.Prelude.{◌+◌, ◌<◌, length, IfSome};
@@ -9,9 +10,11 @@ ghost use Rattle.std.specs.Prelude.{◌+◌, ◌<◌, length, IfSome};
 use anyhow::{Context, Result, bail};
 use memchr::memmem;
 use pf_console::{finish, frame_text, run_text};
-use pf_text::{Bytes, Output, Sink};
+use pf_manifold::OneThread;
+use pf_text::{Bytes, Collected, Sink};
 use std::alloc::Global;
 use std::io::{Read, Write};
+use std::thread::Threads;
 
 /// What stands between two texts.
 const SEPARATOR: &[u8] = b"\n= next text =\n";
@@ -29,21 +32,44 @@ fn split_once(texts: &[u8]) -> Option<(&[u8], &[u8])>
     }
 }
 
-/// Prints the replies to a text, its error and its status.
-fn run<W: Write + Drop>(alloc: Global, text: &[u8], writer: W) -> Result<()> {
-    let mut output = Output::new(writer);
+/// The replies to a text, its error and its status. Settles have the crew solve islands, if there
+/// is one.
+fn run<T: Threads + Sync>(
+    rt: &T,
+    alloc: Global,
+    text: &[u8],
+    crew: Option<OneThread>,
+) -> Result<Collected> {
+    let mut crew = crew;
+    let mut output = Collected::new(alloc);
     let outcome = match text.strip_prefix(FRAME) {
         Some(digits) => {
             let digits = str::from_utf8(digits).context("digits are text")?;
             frame_text(alloc, digits, &mut output)
         }
-        None => run_text(alloc, &mut Bytes::new(text), &mut output),
+        None => run_text(rt, alloc, &mut Bytes::new(text), &mut output, &mut crew),
     };
     let status = finish(outcome, &mut output);
     let line = format!(in alloc; "status {status}\n")?;
     if output.write_all(line.as_bytes()).is_err() {
-        bail!("write failed");
+        bail!("out of memory");
     }
+    Ok(output)
+}
+
+/// Prints the replies to a text, its error and its status, which no crew changes.
+fn print<T: Threads + Sync, W: Write>(
+    rt: &T,
+    alloc: Global,
+    text: &[u8],
+    writer: &mut W,
+) -> Result<()> {
+    let alone = run(rt, alloc, text, None)?;
+    let with_crew = run(rt, alloc, text, Some(OneThread))?;
+    if alone.bytes() != with_crew.bytes() {
+        bail!("a crew changes what is written");
+    }
+    writer.write_all(alone.bytes())?;
     Ok(())
 }
 
@@ -53,8 +79,8 @@ fn main(rt: HostRuntime) -> Result<()> {
     rt.stdin().read_to_end(&mut texts)?;
     let mut rest = texts.as_slice();
     while let Some((text, others)) = split_once(rest) {
-        run(alloc, text, rt.stdout())?;
+        print(&rt, alloc, text, &mut rt.stdout())?;
         rest = others;
     }
-    run(alloc, rest, rt.stdout())
+    print(&rt, alloc, rest, &mut rt.stdout())
 }

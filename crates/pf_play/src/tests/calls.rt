@@ -8,7 +8,9 @@ use pf_text::{Bytes, Collected, Input, Output};
 use std::alloc::{AllocError, Global};
 use std::io::{Error, ErrorKind, Read, Write};
 use std::process::ExitCode;
+use std::sync::Wait;
 use std::test::Fail;
+use std::thread::Threads;
 
 const FALLING: &str =
     "gravity 0 -167772160\ncircle 0 16777216 0 16777216 0 0\nend\npeers 1\nadvance 0 2\nshow 0 2\n";
@@ -19,7 +21,8 @@ const FALLEN: &str = "advance 0 2\nshow 0 2\nbody 0 0 -122880 16777216 0 0 -5242
 type Ended = (ExitCode, Collected, Collected);
 
 /// How a call ends on a text in memory. A sink in memory fails only where no memory is left.
-fn answered(
+fn answered<T: Threads + Wait + Sync + Copy + Send + 'static>(
+    rt: T,
     alloc: Global,
     words: Result<Vec<&str>, PlayFault>,
     text: &str,
@@ -29,7 +32,7 @@ fn answered(
     let mut reader = Bytes::new(text.as_bytes());
     let mut output = Collected::new(alloc);
     let mut errors = Collected::new(alloc);
-    let status = program(alloc, words, &mut reader, &mut output, &mut errors);
+    let status = program(rt, alloc, words, &mut reader, &mut output, &mut errors);
     if status != ExitCode::SUCCESS && errors.bytes().is_empty() {
         return Err(AllocError);
     }
@@ -37,9 +40,14 @@ fn answered(
 }
 
 /// The same of a call that has its words and memory.
-fn ended(alloc: Global, words: &[&str], text: &str) -> Result<Ended, AllocError> {
+fn ended<T: Threads + Wait + Sync + Copy + Send + 'static>(
+    rt: T,
+    alloc: Global,
+    words: &[&str],
+    text: &str,
+) -> Result<Ended, AllocError> {
     let words = Vec::from_slice(alloc, words)?;
-    let (status, output, errors) = answered(alloc, Ok(words), text)?;
+    let (status, output, errors) = answered(rt, alloc, Ok(words), text)?;
     if status == ExitCode::from(3) {
         return Err(AllocError);
     }
@@ -53,15 +61,29 @@ fn is_so(ended: &Ended, status: u8, output: &[u8], errors: &[u8]) -> bool {
 
 #[test]
 fn a_text_has_replies(rt: HostRuntime) -> Result<(), Fail> {
-    let ended = ended(rt.alloc(), &["pf_play", "run"], FALLING)?;
+    let ended = ended(rt, rt.alloc(), &["pf_play", "run"], FALLING)?;
     assert!(rt; is_so(&ended, 0, FALLEN.as_bytes(), b""));
+    Ok(())
+}
+
+#[test]
+fn a_crew_of_any_size_changes_no_reply(rt: HostRuntime) -> Result<(), Fail> {
+    let text = FALLING.trim_end_matches("show 0 2\n");
+    let text = format!(in rt.alloc(); "{text}settle 0\nshow 0 2\n")?;
+    let replies = FALLEN.as_bytes();
+    for size in ["1", "2", "7", "16"] {
+        let words = ["pf_play", "run", "--crew", size];
+        let (status, output, _) = ended(rt, rt.alloc(), &words, text.as_str())?;
+        let written = output.bytes();
+        assert!(rt; status == ExitCode::SUCCESS && written.ends_with(&replies[12..]));
+    }
     Ok(())
 }
 
 #[test]
 fn an_invalid_line_is_reported(rt: HostRuntime) -> Result<(), Fail> {
     let text = format!(in rt.alloc(); "{FALLING}advance 0 05\nshow 0 1\n")?;
-    let ended = ended(rt.alloc(), &["pf_play", "run"], text.as_str())?;
+    let ended = ended(rt, rt.alloc(), &["pf_play", "run"], text.as_str())?;
     assert!(rt;
         is_so(
             &ended,
@@ -79,7 +101,7 @@ Usage: pf_play <COMMAND>\n\nFor more information, try '--help'.\n";
 
 #[test]
 fn wrong_words_are_reported(rt: HostRuntime) -> Result<(), Fail> {
-    let ended = ended(rt.alloc(), &["pf_play", "fall"], FALLING)?;
+    let ended = ended(rt, rt.alloc(), &["pf_play", "fall"], FALLING)?;
     assert!(rt; is_so(&ended, 2, b"", UNRECOGNIZED));
     Ok(())
 }
@@ -103,7 +125,7 @@ const FRAMES: [(&str, &str); 3] = [
 #[test]
 fn frames_are_printed(rt: HostRuntime) -> Result<(), Fail> {
     for (digits, line) in FRAMES {
-        let ended = ended(rt.alloc(), &["pf_play", "frame", digits], FALLING)?;
+        let ended = ended(rt, rt.alloc(), &["pf_play", "frame", digits], FALLING)?;
         assert!(rt; is_so(&ended, 0, line.as_bytes(), b""));
         assert!(rt; FRAME_HELP.contains(line.trim_end()));
     }
@@ -112,7 +134,7 @@ fn frames_are_printed(rt: HostRuntime) -> Result<(), Fail> {
 
 #[test]
 fn a_short_frame_is_reported(rt: HostRuntime) -> Result<(), Fail> {
-    let ended = ended(rt.alloc(), &["pf_play", "frame", "01"], FALLING)?;
+    let ended = ended(rt, rt.alloc(), &["pf_play", "frame", "01"], FALLING)?;
     assert!(rt; is_so(&ended, 1, b"", b"pf_play: frame: Short\n"));
     Ok(())
 }
@@ -174,10 +196,11 @@ Options:
 const RUN_HELP: &str = "\
 Answers a text on standard input, line by line
 
-Usage: pf_play run < FILE
+Usage: pf_play run [--crew N] < FILE
 
 Options:
-  -h, --help  Print help
+      --crew <N>  Settle with N threads, 1 to 16; the output is the same
+  -h, --help      Print help
 
 ";
 
@@ -208,7 +231,7 @@ fn texts_that_are_asked_for_are_written(rt: HostRuntime) -> Result<(), Fail> {
         (["pf_play", "run", "--help"].as_slice(), RUN_HELP, RUN_TEXT),
         (["pf_play", "frame", "--help"].as_slice(), FRAME_HELP, ""),
     ] {
-        let ended = ended(rt.alloc(), words, FALLING)?;
+        let ended = ended(rt, rt.alloc(), words, FALLING)?;
         let expected = format!(in rt.alloc(); "{head}{tail}")?;
         assert!(rt; is_so(&ended, 0, expected.as_str().as_bytes(), b""));
     }
@@ -231,7 +254,7 @@ fn set_in(alloc: Global, after: &str, before: &str) -> Result<String, AllocError
 fn the_scene_of_the_help_has_its_answer(rt: HostRuntime) -> Result<(), Fail> {
     let scene = set_in(rt.alloc(), "gravity 10:\n\n", "\n\nand run it")?;
     let answer = set_in(rt.alloc(), "the answers are:\n\n", "\n\n")?;
-    let ended = ended(rt.alloc(), &["pf_play", "run"], scene.as_str())?;
+    let ended = ended(rt, rt.alloc(), &["pf_play", "run"], scene.as_str())?;
     assert!(rt; scene.as_str() == FALLING && is_so(&ended, 0, answer.as_str().as_bytes(), b""));
     Ok(())
 }
@@ -270,7 +293,7 @@ fn a_reader_that_fails_is_reported(rt: HostRuntime) -> Result<(), Fail> {
     let mut reader = Input::new(Broken { is_read: false });
     let mut output = Collected::new(rt.alloc());
     let mut errors = Collected::new(rt.alloc());
-    let status = program(rt.alloc(), words, &mut reader, &mut output, &mut errors);
+    let status = program(rt, rt.alloc(), words, &mut reader, &mut output, &mut errors);
     if errors.bytes() != b"pf_play: read failed\n".as_slice() {
         return Err(AllocError)?;
     }
@@ -284,7 +307,7 @@ fn a_writer_that_fails_is_reported(rt: HostRuntime) -> Result<(), Fail> {
     let mut reader = Bytes::new(FALLING.as_bytes());
     let mut output = Output::new(Broken { is_read: true });
     let mut errors = Collected::new(rt.alloc());
-    let status = program(rt.alloc(), words, &mut reader, &mut output, &mut errors);
+    let status = program(rt, rt.alloc(), words, &mut reader, &mut output, &mut errors);
     if errors.bytes() != b"pf_play: write failed\n".as_slice() {
         return Err(AllocError)?;
     }
@@ -294,7 +317,7 @@ fn a_writer_that_fails_is_reported(rt: HostRuntime) -> Result<(), Fail> {
 
 #[test]
 fn words_without_memory_are_reported(rt: HostRuntime) -> Result<(), Fail> {
-    let ended = answered(rt.alloc(), Err(PlayFault::Memory), FALLING)?;
+    let ended = answered(rt, rt.alloc(), Err(PlayFault::Memory), FALLING)?;
     assert!(rt; is_so(&ended, 3, b"", b"pf_play: out of memory\n"));
     Ok(())
 }
@@ -302,7 +325,7 @@ fn words_without_memory_are_reported(rt: HostRuntime) -> Result<(), Fail> {
 #[test]
 fn words_that_are_mistaken_are_reported(rt: HostRuntime) -> Result<(), Fail> {
     let text = String::from_str(rt.alloc(), "error: such words\n")?;
-    let ended = answered(rt.alloc(), Err(PlayFault::Words(text)), FALLING)?;
+    let ended = answered(rt, rt.alloc(), Err(PlayFault::Words(text)), FALLING)?;
     assert!(rt; is_so(&ended, 2, b"", b"error: such words\n"));
     Ok(())
 }
@@ -313,7 +336,7 @@ fn an_error_that_cannot_be_reported_keeps_its_status(rt: HostRuntime) -> Result<
     let mut reader = Bytes::new(FALLING.as_bytes());
     let mut output = Collected::new(rt.alloc());
     let mut errors = Output::new(Broken { is_read: true });
-    let status = program(rt.alloc(), words, &mut reader, &mut output, &mut errors);
+    let status = program(rt, rt.alloc(), words, &mut reader, &mut output, &mut errors);
     assert!(rt; status == ExitCode::from(3));
     Ok(())
 }

@@ -9,9 +9,12 @@ use std::test::Fail;
 
 const USAGE: &str = "\nUsage: pf_play <COMMAND>\n\nFor more information, try '--help'.\n";
 
+const NO_USAGE: &str = "\nFor more information, try '--help'.\n";
+
 const FRAME_USAGE: &str = "\nUsage: pf_play frame <HEX>\n\nFor more information, try '--help'.\n";
 
-const RUN_USAGE: &str = "\nUsage: pf_play run < FILE\n\nFor more information, try '--help'.\n";
+const RUN_USAGE: &str =
+    "\nUsage: pf_play run [--crew N] < FILE\n\nFor more information, try '--help'.\n";
 
 // The text of the mistake in these words; or an empty one, where they have none.
 fn mistake(alloc: Global, words: &[&str]) -> Result<String, AllocError> {
@@ -22,18 +25,21 @@ fn mistake(alloc: Global, words: &[&str]) -> Result<String, AllocError> {
     }
 }
 
-/// Whether words ask for a run.
-fn is_run(alloc: Global, words: &[&str]) -> Result<bool, PlayFault> {
-    Ok(matches!(options(alloc, words)?, Request::Run))
+/// Whether words ask for a run with a crew of so many workers, or with none.
+fn is_run(alloc: Global, words: &[&str], size: Option<usize>) -> Result<bool, PlayFault> {
+    Ok(matches!(options(alloc, words)?, Request::Run { workers } if workers == size))
 }
 
 #[test]
 fn runs(rt: HostRuntime) -> Result<(), Fail> {
-    for words in [
-        ["pf_play", "run"].as_slice(),
-        ["./out/pf_play", "run", "--"].as_slice(),
+    for (words, size) in [
+        (["pf_play", "run"].as_slice(), None),
+        (["./out/pf_play", "run", "--"].as_slice(), None),
+        (["pf_play", "run", "--crew", "1"].as_slice(), Some(1)),
+        (["pf_play", "run", "--crew=4"].as_slice(), Some(4)),
+        (["pf_play", "run", "--crew", "16"].as_slice(), Some(16)),
     ] {
-        let is_run = is_run(rt.alloc(), words)?;
+        let is_run = is_run(rt.alloc(), words, size)?;
         assert!(rt; is_run);
     }
     Ok(())
@@ -91,7 +97,7 @@ fn tells_help_from_version(rt: HostRuntime) -> Result<(), Fail> {
 }
 
 /// Words, and the mistake in them with the usage that is shown.
-const MISTAKES: [(&[&str], &str, &str); 8] = [
+const MISTAKES: [(&[&str], &str, &str); 11] = [
     (
         &["pf_play"],
         "error: 'pf_play' requires a subcommand but one was not provided\n  \
@@ -115,8 +121,23 @@ const MISTAKES: [(&[&str], &str, &str); 8] = [
     ),
     (
         &["pf_play", "run", "--crew"],
-        "error: unexpected argument '--crew' found\n",
-        RUN_USAGE,
+        "error: a value is required for '--crew <N>' but none was supplied\n",
+        NO_USAGE,
+    ),
+    (
+        &["pf_play", "run", "--crew", "0"],
+        "error: invalid value '0' for '--crew <N>': 0 is not in 1..=16\n",
+        NO_USAGE,
+    ),
+    (
+        &["pf_play", "run", "--crew=17"],
+        "error: invalid value '17' for '--crew <N>': 17 is not in 1..=16\n",
+        NO_USAGE,
+    ),
+    (
+        &["pf_play", "run", "--crew", "two"],
+        "error: invalid value 'two' for '--crew <N>': invalid digit found in string\n",
+        NO_USAGE,
     ),
     (
         &["pf_play", "frame"],

@@ -17,9 +17,10 @@ returns-in-Ok g c =
     let same : app_of c.in_ok-command.field-0 ≡ command_line = c.in_ok-command.ensures in
     let fit = subst (λ app. fault_of app words ≡ []) same (c.in-Ok.ensures.kinds (ap is_simple_and_free same ∙ is_fit)) in
     let entered = (c.in-Ok.ensures.matches (ap is_simple same ∙ is_plain)).1 ∙ ap (λ (a : App). subcommand_of a words) same in
-    let parsed = request_parses (fault_of command_line words) (subcommand_of command_line words) c.request_for.result fit (subst (λ e. AsksFor e c.request_for.result) entered c.request_for.ensures) in
+    let parsed = request_parses (fault_of command_line words) (subcommand_of command_line words) c.request_for.result fit (subst (λ e. AsksFor e c.request_for.result) entered c.request_for.ensures.asked) in
     record {
       parses = parsed;
+      crew_size = c.request_for.ensures.size;
       runs = λ program e. run_alone program (Ok c.request_for.result)
           (subst (λ them. ParsesAs (fault_of command_line them) (subcommand_of command_line them) (Ok c.request_for.result)) e parsed);
     }
@@ -28,11 +29,12 @@ pub returns-in-Err : goal.returns-in-Err
 returns-in-Err g c =
     let same : app_of c.in_ok-command.field-0 ≡ command_line = c.in_ok-command.ensures in
     let words = map g.S.AsStr.text c.args.words.now in
-    let parsed = parses_among _ _ (subcommand_of command_line words) c.request_of.result c.request_of.ensures
+    let parsed = parses_among _ _ (subcommand_of command_line words) c.request_of.result c.request_of.ensures.parses
     (subst (λ app. HasKind (fault_of app words) c.in-Err.error) same
     (c.in-Err.ensures.kinds (ap is_simple_and_free same ∙ is_fit))) in
     record {
       parses = parsed;
+      crew_size = c.request_of.ensures.crew_size;
       runs = λ program e. run_alone program c.request_of.result
           (subst (λ them. ParsesAs (fault_of command_line them) (subcommand_of command_line them) c.request_of.result) e parsed);
     }

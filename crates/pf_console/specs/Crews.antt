@@ -1,0 +1,18 @@
+-- What errors of a crew mean for a text.
+use Rattle.std.specs.Prelude.{◌≡◌, Option, Some, None, IsSome, Result, Err, List}
+use Rattle.pf_islands.specs.Split.{Island}
+use Rattle.pf_step.specs.declared.crew.CrewError.{CrewError}
+use Rattle.pf_peers.specs.Crews.{CanFail}
+use Rattle.pf_console.specs.declared.fault.PlayFault.{PlayFault}
+use Rattle.pf_console.specs.declared.fault.PlayFault.TheVariants.{Crew, Memory}
+
+-- why a valid line had no reply, by the error with which the crew has failed, if it has
+abbrev pub fault_of_want : Option CrewError → PlayFault
+fault_of_want (Some error) = Crew error
+fault_of_want None = Memory
+
+-- an error of a crew is returned only where there is one, and only one with which it may fail
+abbrev pub FailsByCrew : {A : Type 0} → (A → List Island → CrewError → A → Type 0) → Option A
+    → Result (Unit {0}) PlayFault → Type 0
+FailsByCrew may_fail crew result =
+    (error : CrewError) → result ≡ Err (Crew error) → IsSome crew × CanFail may_fail error
