@@ -14,6 +14,11 @@
 //! | `settle N` | settles on one thread | `settle REACHED` |
 //! | `crew N` | settles with a crew | `crew REACHED calls CALLS SEEN` |
 //! | `crew N NTH ERROR` | the same; this solve of the crew fails | `crew ERROR calls CALLS` |
+//! | `crews N scoped WORKERS GATE` | a crew of threads for a peer, in place of its last one | `crews WORKERS` |
+//! | `crews N standing WORKERS GATE` | the same, with workers that are started now | `crews WORKERS` or `crews ERROR` |
+//! | `threads N` | settles with the crew of threads | `threads REACHED NOTED` or `threads ERROR NOTED` |
+//! | `dismiss N WORKER` | ends a worker of a standing crew | `dismiss WORKER` |
+//! | `close N` | ends the crew of threads | `close` |
 //! | `world N TICK` | the world at a tick | `world TICKS`, its bodies and its contacts |
 //!
 //! SEEN is what the crew was last given: the number of islands, of their bodies and of their
@@ -28,20 +33,22 @@
 
 mod call;
 mod crew;
+mod gate;
 mod peers;
+mod plan;
 mod print;
+mod threads;
 
 ghost use Rattle.std.specs.Prelude.{◌+◌, ◌<◌, length, IfSome};
 
 use crate::call::parse;
-use crate::peers::answer;
-use crate::print::state_text;
+use crate::peers::Peers;
 use anyhow::{Context, Result};
 use memchr::memmem;
-use pf_rollback::PeerCore;
 use pf_shapes::Scene;
 use std::alloc::Global;
 use std::io::{BufWriter, Read, Write};
+use std::sync::Wait;
 use std::thread::Threads;
 
 /// The last line of a text that another one follows.
@@ -60,36 +67,32 @@ fn split_behind<'a>(text: &'a [u8], mark: &[u8]) -> Option<(&'a [u8], &'a [u8])>
 }
 
 /// Runs the call of a line, and prints its answer and the state of its peer.
-fn run_line<R: Threads + Sync, W: Write>(
-    rt: &R,
-    alloc: Global,
-    scene: &Scene,
-    peers: &mut Vec<PeerCore>,
-    line: &str,
-    writer: &mut W,
-) -> Result<()> {
+fn run_line<R, W>(alloc: Global, peers: &mut Peers<R>, line: &str, writer: &mut W) -> Result<()>
+where
+    R: Threads + Wait + Sync + Copy + Send + 'static,
+    W: Write,
+{
     let (number, call) = parse(alloc, line)?;
-    let text = answer(rt, alloc, scene, peers, number, &call)?;
-    let state = state_text(alloc, number, peers.get(number).context("no such peer")?)?;
+    let text = peers.answer(number, &call)?;
+    let state = peers.state(number)?;
     writeln!(writer, "{text}\n{state}")?;
     Ok(())
 }
 
 /// Runs the calls of a text.
-fn run<R: Threads + Sync, W: Write>(
-    rt: &R,
-    alloc: Global,
-    text: &[u8],
-    writer: &mut W,
-) -> Result<()> {
+fn run<R, W>(rt: &R, alloc: Global, text: &[u8], writer: &mut W) -> Result<()>
+where
+    R: Threads + Wait + Sync + Copy + Send + 'static,
+    W: Write,
+{
     let (scene, calls) = split_behind(text, END).context("no end of the scene")?;
     let scene = Scene::read(alloc, scene)?;
-    let mut peers = Vec::new(alloc);
+    let mut peers = Peers::new(rt, alloc, scene);
     for line in str::from_utf8(calls).context("calls are text")?.lines() {
         if line.starts_with('#') {
             writeln!(writer, "{line}")?;
         } else {
-            run_line(rt, alloc, &scene, &mut peers, line, writer)?;
+            run_line(alloc, &mut peers, line, writer)?;
         }
     }
     Ok(())

@@ -9,13 +9,16 @@ ghost use Rattle.pf_calls.specs.Failure.{failure_at};
 
 use crate::call::Call;
 use crate::crew::BackwardCrew;
-use crate::print::{refused, world_text};
+use crate::print::{refused, state_text, world_text};
+use crate::threads;
+use crate::threads::ThreadCrew;
 use anyhow::{Context, Result, bail};
 use pf_commands::{Payload, Put};
 use pf_rollback::{MAX_RING, PeerCore};
 use pf_shapes::{PLAYERS, Scene};
 use pf_step::{CrewError, StepError, Work};
 use std::alloc::{AllocError, Global};
+use std::sync::Wait;
 use std::thread::Threads;
 
 /// Adds the peer of a player.
@@ -160,30 +163,68 @@ fn settle(alloc: Global, peer: &mut PeerCore) -> Result<String> {
     Ok(format!(in alloc; "settle {reached}")?)
 }
 
-/// The peer of a number.
-fn peer_of(peers: &mut [PeerCore], number: usize) -> Result<&mut PeerCore> {
-    peers.get_mut(number).context("no such peer")
+/// The peers of a text, and their crews of threads.
+#[derive(Drop)]
+pub struct Peers<'r, R> {
+    rt: &'r R,
+    alloc: Global,
+    scene: Scene,
+    peers: Vec<PeerCore>,
+    crews: Vec<Option<ThreadCrew<'r, R>>>,
 }
 
-/// The text of what a call returned.
-pub fn answer<R: Threads + Sync>(
-    rt: &R,
+impl<'r, R: Threads + Wait + Sync + Copy + Send + 'static> Peers<'r, R> {
+    pub fn new(rt: &'r R, alloc: Global, scene: Scene) -> Peers<'r, R> {
+        Peers {
+            rt,
+            alloc,
+            scene,
+            peers: Vec::new(alloc),
+            crews: Vec::new(alloc),
+        }
+    }
+
+    /// The line of a peer.
+    pub fn state(&self, number: usize) -> Result<String> {
+        let peer = self.peers.get(number).context("no such peer")?;
+        Ok(state_text(self.alloc, number, peer)?)
+    }
+
+    /// The text of what a call returned.
+    pub fn answer(&mut self, number: usize, call: &Call) -> Result<String> {
+        let (rt, alloc) = (self.rt, self.alloc);
+        if let Call::New { player, ring } = call {
+            self.crews.push(None)?;
+            return new(alloc, &self.scene, &mut self.peers, number, *player, *ring);
+        }
+        if let Call::Merge { other } = call {
+            return merge(alloc, &mut self.peers, number, *other);
+        }
+        let peer = self.peers.get_mut(number).context("no such peer")?;
+        let crew = self.crews.get_mut(number).context("no such peer")?;
+        answer(rt, alloc, peer, crew, call)
+    }
+}
+
+/// The text of what a call on one peer returned.
+fn answer<'r, R: Threads + Wait + Sync + Copy + Send + 'static>(
+    rt: &'r R,
     alloc: Global,
-    scene: &Scene,
-    peers: &mut Vec<PeerCore>,
-    number: usize,
+    peer: &mut PeerCore,
+    crew: &mut Option<ThreadCrew<'r, R>>,
     call: &Call,
 ) -> Result<String> {
     match call {
-        Call::New { player, ring } => new(alloc, scene, peers, number, *player, *ring),
-        Call::Merge { other } => merge(alloc, peers, number, *other),
-        Call::Advance { ticks } => advance(alloc, peer_of(peers, number)?, *ticks),
-        Call::Issue { payload } => issue(alloc, peer_of(peers, number)?, *payload),
-        Call::Take { frame } => take(alloc, peer_of(peers, number)?, frame),
-        Call::Settle => settle(alloc, peer_of(peers, number)?),
-        Call::SettleWith { failure } => {
-            settle_with(rt, alloc, peer_of(peers, number)?, *failure)
-        }
-        Call::World { tick } => world(alloc, peer_of(peers, number)?, *tick),
+        Call::New { .. } | Call::Merge { .. } => bail!("a call on more than one peer"),
+        Call::Advance { ticks } => advance(alloc, peer, *ticks),
+        Call::Issue { payload } => issue(alloc, peer, *payload),
+        Call::Take { frame } => take(alloc, peer, frame),
+        Call::Settle => settle(alloc, peer),
+        Call::SettleWith { failure } => settle_with(rt, alloc, peer, *failure),
+        Call::Crews { plan } => threads::make(rt, alloc, crew, *plan),
+        Call::Threads => threads::settle(rt, alloc, peer, crew),
+        Call::Dismiss { worker } => threads::dismiss(alloc, crew, *worker),
+        Call::Close => threads::close(alloc, crew),
+        Call::World { tick } => world(alloc, peer, *tick),
     }
 }
