@@ -31,6 +31,7 @@ fn add_rows(rows: &mut Vec<Row>, others: &[Row]) -> Result<(), AllocError>
     ensures value { OnOk result (rows.new.items ≡ rows.old.items ++ others.now) }
     ensures no_memory { others.now ≡ [] → IsOk result }
 {
+    rows.reserve(others.len())?;
     for row in others {
         rows.push(row.clone()?)?;
     }
@@ -110,12 +111,10 @@ impl Island {
         self.rows.reserve(room.rows)
     }
 
-    /// Copies another island into the memory of this one. After an error a part of it may have been
-    /// copied. Takes no memory for one body without contacts.
+    /// Copies another island into the memory of this one, and takes more only where that is too
+    /// little. After an error a part of it may have been copied.
     pub fn copy_from(&mut self, other: &Island) -> Result<(), AllocError>
-        ensures value { OnOk result (self.new ≡ other.now) }
-        ensures no_memory { length other.now.numbers ≤ 1 → length other.now.bodies ≤ 1
-            → other.now.rows ≡ [] → IsOk result }
+        ensures { OnOk result (self.new ≡ other.now) }
     {
         self.clear(Room {
             bodies: other.bodies.len(),
@@ -132,9 +131,14 @@ impl Island {
         ensures no_memory { length self.now.numbers ≤ 1 → length self.now.bodies ≤ 1
             → self.now.rows ≡ [] → IsOk result }
     {
-        let mut copy = Island::new(*self.rows.allocator());
-        copy.copy_from(self)?;
-        Ok(copy)
+        let alloc = *self.rows.allocator();
+        let mut rows = Vec::new(alloc);
+        add_rows(&mut rows, &self.rows)?;
+        Ok(Island {
+            numbers: SmallVec::from_slice(alloc, self.numbers.as_slice())?,
+            bodies: SmallVec::from_slice(alloc, self.bodies.as_slice())?,
+            rows,
+        })
     }
 
     /// Adds a body with this number. After an error a part of it may have been added.

@@ -8,7 +8,7 @@ use pf_islands::Island;
 use pf_manifold::OneThread;
 use pf_shapes::Scene;
 use pf_solver::solve_island;
-use std::alloc::AllocError;
+use std::alloc::{AllocError, AllocFailed};
 use thiserror::Error;
 
 /// Why a crew did not solve the islands of a tick.
@@ -115,6 +115,17 @@ impl From<AllocError> for CrewError {
     ghost from_gives = { λ error result. result ≡ OutOfMemory };
 
     fn from(_: AllocError) -> CrewError {
+        CrewError::OutOfMemory
+    }
+}
+
+impl<T: Drop> From<AllocFailed<T>> for CrewError {
+    ghost use Rattle.std.specs.Prelude.{◌≡◌};
+    ghost use Rattle.pf_step.specs.declared.crew.CrewError.TheVariants.{OutOfMemory};
+
+    ghost from_gives = { λ error result. result ≡ OutOfMemory };
+
+    fn from(_: AllocFailed<T>) -> CrewError {
         CrewError::OutOfMemory
     }
 }

@@ -80,13 +80,13 @@ module _ {X : Type 0} where
   pub shares_of_none : (k : ℕ) (piles : List (List X)) → All (λ pile. pile ≡ []) piles → AreSharesFrom k [] piles
   shares_of_none k piles empty w low = empty w [] low
 
+  pub default_same : (ps : List (List X)) (i : ℕ) (d : List X) → i < length ps → get_or ps i d ≡ get_or ps i []
+  default_same [] i d low = absurd (omega arith)
+  default_same (p ∷ ps) zero d low = refl
+  default_same (p ∷ ps) (suc i) d low = default_same ps i d (omega (arith, low))
+
   pub none_left : (k : ℕ) (piles : List (List X)) → AreSharesFrom k [] piles → All (λ pile. pile ≡ []) piles
-  none_left k piles shares w d low = get_or_default piles w d low ∙ shares w low
-    where
-      get_or_default : (ps : List (List X)) (i : ℕ) (d : List X) → i < length ps → get_or ps i d ≡ get_or ps i []
-      get_or_default [] i d low = absurd (omega arith)
-      get_or_default (p ∷ ps) zero d low = refl
-      get_or_default (p ∷ ps) (suc i) d low = get_or_default ps i d (omega (arith, low))
+  none_left k piles shares w d low = default_same piles w d low ∙ shares w low
 
 module _ {X Y : Type 0} (f : X → Y) where
   share-map : (n w k : ℕ) (xs : List X) → share n w k (map f xs) ≡ map f (share n w k xs)
@@ -110,3 +110,29 @@ module _ {X Y : Type 0} (f : X → Y) where
       let below : w < length piles = omega (arith, low, same) in
       subst (λ m. get_or (map (map f) piles) w [] ≡ share m w k (map f xs)) (sym same)
       (get_or-map (map f) piles w [] ∙ ap (map f) (shares w below) ∙ sym (share-map (length piles) w k xs))
+
+module _ {X : Type 0} (P : X → Type 0) where
+  all_more : (xs : List X) (x : X) → All P xs → P x → All P (xs ++ x ∷ [])
+  all_more [] x ps p zero d low = p
+  all_more [] x ps p (suc i) d low = absurd (omega arith)
+  all_more (y ∷ ys) x ps p zero d low = ps 0 d (omega arith)
+  all_more (y ∷ ys) x ps p (suc i) d low =
+      all_more ys x (λ j e below. ps (suc j) e (omega (arith, below))) p i d (omega (arith, low))
+
+  share_all : (n w k : ℕ) (xs : List X) → All P xs → All P (share n w k xs)
+  share_all n w k [] ps = ps
+  share_all n w k (x ∷ xs) ps = by (k % n == w) refl
+    where
+      rest : All P (share n w (k + 1) xs)
+      rest = share_all n w (k + 1) xs (λ j e below. ps (suc j) e (omega (arith, below)))
+      by : (b : Bool) → (k % n == w) ≡ b → All P (share n w k (x ∷ xs))
+      by true is =
+          subst (All P) (sym (share_own n w k x xs (eqb-true (k % n) w is)))
+          (all_more (share n w (k + 1) xs) x rest (ps 0 x (omega arith)))
+      by false is =
+          subst (All P) (sym (share_other n w k x xs (λ same. true≢false (sym (eq-eqb (k % n) w same) ∙ is)))) rest
+
+  -- what holds of all islands holds of each worker's
+  pub shares_all : (k : ℕ) (xs : List X) (piles : List (List X)) → All P xs → AreSharesFrom k xs piles → All (All P) piles
+  shares_all k xs piles ps shares w d low =
+      subst (All P) (sym (default_same piles w d low ∙ shares w low)) (share_all (length piles) w k xs ps)

@@ -67,7 +67,7 @@ impl Pile {
     ) -> Result<(), AllocError>
         requires place { place ≤ length self.old }
         requires island { IsIslandOf scene.now island.now }
-        ensures { OnOk result (take (place + 1) self.new
+        ensures solved { OnOk result (take (place + 1) self.new
             ≡ take place self.old ++ island_after_tick scene.now island.now ∷ []) }
         ensures within { OnOk result (place < length self.new) }
     {

@@ -193,7 +193,7 @@ impl<R: Wait, G: Gate> StandingCrew<R, G> {
     /// Closes the channels of all workers, and joins them.
     pub fn close(self)
     where
-        R: Threads,
+        R: Threads + Copy,
     {
         let mut workers = self.workers;
         for worker in workers.iter_mut() {
