@@ -29,6 +29,8 @@ pub enum Call {
     /// Ends the crew of threads.
     Close,
     World { tick: u32 },
+    /// Compares the worlds of another peer at each tick from a first to a last one.
+    Same { other: usize, first: u32, last: u32 },
 }
 
 /// The number that a word encodes.
@@ -111,6 +113,11 @@ fn call_of(alloc: Global, words: &[&str]) -> Result<Call> {
         ["close", _] => Call::Close,
         ["world", _, tick] => Call::World {
             tick: number(tick)?,
+        },
+        ["same", _, other, first, last] => Call::Same {
+            other: number(other)? as usize,
+            first: number(first)?,
+            last: number(last)?,
         },
         _ => bail!("no such call"),
     })

@@ -19,6 +19,7 @@
 //! | `threads N` | settles with the crew of threads | `threads REACHED NOTED` or `threads ERROR NOTED` |
 //! | `dismiss N WORKER` | ends a worker of a standing crew | `dismiss WORKER` |
 //! | `close N` | ends the crew of threads | `close` |
+//! | `same N OTHER FIRST LAST` | compares the worlds of two peers from tick to tick | `same COUNT` |
 //! | `world N TICK` | the world at a tick | `world TICKS`, its bodies and its contacts |
 //!
 //! SEEN is what the crew was last given: the number of islands, of their bodies and of their
@@ -37,19 +38,19 @@ mod gate;
 mod peers;
 mod plan;
 mod print;
+mod table;
 mod threads;
 
 ghost use Rattle.std.specs.Prelude.{◌+◌, ◌<◌, length, IfSome};
 
 use crate::call::parse;
-use crate::peers::Peers;
+use crate::table::Table;
+use crate::threads::Handle;
 use anyhow::{Context, Result};
 use memchr::memmem;
 use pf_shapes::Scene;
 use std::alloc::Global;
 use std::io::{BufWriter, Read, Write};
-use std::sync::Wait;
-use std::thread::Threads;
 
 /// The last line of a text that another one follows.
 const SEPARATOR: &[u8] = b"# next text\n";
@@ -67,32 +68,29 @@ fn split_behind<'a>(text: &'a [u8], mark: &[u8]) -> Option<(&'a [u8], &'a [u8])>
 }
 
 /// Runs the call of a line, and prints its answer and the state of its peer.
-fn run_line<R, W>(alloc: Global, peers: &mut Peers<R>, line: &str, writer: &mut W) -> Result<()>
-where
-    R: Threads + Wait + Sync + Copy + Send + 'static,
-    W: Write,
-{
+fn run_line<R: Handle, W: Write>(
+    alloc: Global,
+    table: &mut Table<'_, R>,
+    line: &str,
+    writer: &mut W,
+) -> Result<()> {
     let (number, call) = parse(alloc, line)?;
-    let text = peers.answer(number, &call)?;
-    let state = peers.state(number)?;
+    let text = table.answer(number, &call)?;
+    let state = table.state(number)?;
     writeln!(writer, "{text}\n{state}")?;
     Ok(())
 }
 
 /// Runs the calls of a text.
-fn run<R, W>(rt: &R, alloc: Global, text: &[u8], writer: &mut W) -> Result<()>
-where
-    R: Threads + Wait + Sync + Copy + Send + 'static,
-    W: Write,
-{
+fn run<R: Handle, W: Write>(rt: &R, alloc: Global, text: &[u8], writer: &mut W) -> Result<()> {
     let (scene, calls) = split_behind(text, END).context("no end of the scene")?;
     let scene = Scene::read(alloc, scene)?;
-    let mut peers = Peers::new(rt, alloc, scene);
+    let mut table = Table::new(rt, alloc, scene);
     for line in str::from_utf8(calls).context("calls are text")?.lines() {
         if line.starts_with('#') {
             writeln!(writer, "{line}")?;
         } else {
-            run_line(alloc, &mut peers, line, writer)?;
+            run_line(alloc, &mut table, line, writer)?;
         }
     }
     Ok(())

@@ -7,18 +7,14 @@ ghost use Rattle.pf_step.specs.declared.crew.CrewError.{CrewError};
 ghost use Rattle.pf_step.specs.declared.crew.StepError.TheVariants.{Crew, OutOfMemory};
 ghost use Rattle.pf_calls.specs.Failure.{failure_at};
 
-use crate::call::Call;
 use crate::crew::BackwardCrew;
-use crate::print::{refused, state_text, world_text};
-use crate::threads;
-use crate::threads::ThreadCrew;
+use crate::print::{refused, world_text};
 use anyhow::{Context, Result, bail};
 use pf_commands::{Payload, Put};
 use pf_rollback::{MAX_RING, PeerCore};
 use pf_shapes::{PLAYERS, Scene};
 use pf_step::{CrewError, StepError, Work};
 use std::alloc::{AllocError, Global};
-use std::sync::Wait;
 use std::thread::Threads;
 
 /// Adds the peer of a player.
@@ -38,7 +34,7 @@ fn add(
 }
 
 /// Makes the next peer, which has this number.
-fn new(
+pub fn new(
     alloc: Global,
     scene: &Scene,
     peers: &mut Vec<PeerCore>,
@@ -53,14 +49,14 @@ fn new(
     Ok(format!(in alloc; "new {player} {ring}")?)
 }
 
-fn advance(alloc: Global, peer: &mut PeerCore, ticks: u32) -> Result<String> {
+pub fn advance(alloc: Global, peer: &mut PeerCore, ticks: u32) -> Result<String> {
     match peer.advance(ticks) {
         Ok(reached) => Ok(format!(in alloc; "advance {reached}")?),
         Err(fault) => refused(alloc, fault),
     }
 }
 
-fn issue(alloc: Global, peer: &mut PeerCore, payload: Payload) -> Result<String> {
+pub fn issue(alloc: Global, peer: &mut PeerCore, payload: Payload) -> Result<String> {
     match peer.issue(payload) {
         Ok(frame) => {
             let digits = hex::encode(alloc, frame.as_slice())?;
@@ -80,7 +76,7 @@ fn put_name(put: Put) -> &'static str {
     }
 }
 
-fn take(alloc: Global, peer: &mut PeerCore, frame: &[u8]) -> Result<String> {
+pub fn take(alloc: Global, peer: &mut PeerCore, frame: &[u8]) -> Result<String> {
     match peer.take(frame) {
         Ok(put) => {
             let name = put_name(put);
@@ -91,7 +87,7 @@ fn take(alloc: Global, peer: &mut PeerCore, frame: &[u8]) -> Result<String> {
 }
 
 /// Merges the commands of one peer into another, or into itself.
-fn merge(alloc: Global, peers: &mut [PeerCore], number: usize, other: usize) -> Result<String> {
+pub fn merge(alloc: Global, peers: &mut [PeerCore], number: usize, other: usize) -> Result<String> {
     let commands = peers
         .get(other)
         .context("no other peer")?
@@ -126,7 +122,7 @@ fn settle_counted<R: Threads + Sync>(
 
 /// Settles with a crew. The line ends with how often the crew was called, and with what it was
 /// last given: how many islands, of how many bodies and contacts, and the least body.
-fn settle_with<R: Threads + Sync>(
+pub fn settle_with<R: Threads + Sync>(
     rt: &R,
     alloc: Global,
     peer: &mut PeerCore,
@@ -149,7 +145,7 @@ fn settle_with<R: Threads + Sync>(
 }
 
 /// Shows the world at a tick.
-fn world(alloc: Global, peer: &PeerCore, tick: u32) -> Result<String> {
+pub fn world(alloc: Global, peer: &PeerCore, tick: u32) -> Result<String> {
     let mut work = Work::new(alloc);
     match peer.world_at(alloc, tick, &mut work) {
         Ok(world) => world_text(alloc, peer.scene(), &world, work.meter().ticks),
@@ -157,74 +153,33 @@ fn world(alloc: Global, peer: &PeerCore, tick: u32) -> Result<String> {
     }
 }
 
+/// Whether two peers show the same world at a tick.
+fn is_same_at(alloc: Global, peer: &PeerCore, other: &PeerCore, tick: u32) -> Result<bool> {
+    let mut work = Work::new(alloc);
+    let ours = peer.world_at(alloc, tick, &mut work)?;
+    let theirs = other.world_at(alloc, tick, &mut work)?;
+    Ok(ours == theirs)
+}
+
+/// At how many ticks from a first to a last one two peers show the same world.
+pub fn same(
+    alloc: Global,
+    peer: &PeerCore,
+    other: &PeerCore,
+    first: u32,
+    last: u32,
+) -> Result<String> {
+    let mut count = 0u32;
+    for tick in first..=last {
+        if is_same_at(alloc, peer, other, tick)? {
+            count = count.saturating_add(1);
+        }
+    }
+    Ok(format!(in alloc; "same {count}")?)
+}
+
 /// Settles on one thread.
-fn settle(alloc: Global, peer: &mut PeerCore) -> Result<String> {
+pub fn settle(alloc: Global, peer: &mut PeerCore) -> Result<String> {
     let reached = peer.settle_alone(alloc)?;
     Ok(format!(in alloc; "settle {reached}")?)
-}
-
-/// The peers of a text, and their crews of threads.
-#[derive(Drop)]
-pub struct Peers<'r, R> {
-    rt: &'r R,
-    alloc: Global,
-    scene: Scene,
-    peers: Vec<PeerCore>,
-    crews: Vec<Option<ThreadCrew<'r, R>>>,
-}
-
-impl<'r, R: Threads + Wait + Sync + Copy + Send + 'static> Peers<'r, R> {
-    pub fn new(rt: &'r R, alloc: Global, scene: Scene) -> Peers<'r, R> {
-        Peers {
-            rt,
-            alloc,
-            scene,
-            peers: Vec::new(alloc),
-            crews: Vec::new(alloc),
-        }
-    }
-
-    /// The line of a peer.
-    pub fn state(&self, number: usize) -> Result<String> {
-        let peer = self.peers.get(number).context("no such peer")?;
-        Ok(state_text(self.alloc, number, peer)?)
-    }
-
-    /// The text of what a call returned.
-    pub fn answer(&mut self, number: usize, call: &Call) -> Result<String> {
-        let (rt, alloc) = (self.rt, self.alloc);
-        if let Call::New { player, ring } = call {
-            self.crews.push(None)?;
-            return new(alloc, &self.scene, &mut self.peers, number, *player, *ring);
-        }
-        if let Call::Merge { other } = call {
-            return merge(alloc, &mut self.peers, number, *other);
-        }
-        let peer = self.peers.get_mut(number).context("no such peer")?;
-        let crew = self.crews.get_mut(number).context("no such peer")?;
-        answer(rt, alloc, peer, crew, call)
-    }
-}
-
-/// The text of what a call on one peer returned.
-fn answer<'r, R: Threads + Wait + Sync + Copy + Send + 'static>(
-    rt: &'r R,
-    alloc: Global,
-    peer: &mut PeerCore,
-    crew: &mut Option<ThreadCrew<'r, R>>,
-    call: &Call,
-) -> Result<String> {
-    match call {
-        Call::New { .. } | Call::Merge { .. } => bail!("a call on more than one peer"),
-        Call::Advance { ticks } => advance(alloc, peer, *ticks),
-        Call::Issue { payload } => issue(alloc, peer, *payload),
-        Call::Take { frame } => take(alloc, peer, frame),
-        Call::Settle => settle(alloc, peer),
-        Call::SettleWith { failure } => settle_with(rt, alloc, peer, *failure),
-        Call::Crews { plan } => threads::make(rt, alloc, crew, *plan),
-        Call::Threads => threads::settle(rt, alloc, peer, crew),
-        Call::Dismiss { worker } => threads::dismiss(alloc, crew, *worker),
-        Call::Close => threads::close(alloc, crew),
-        Call::World { tick } => world(alloc, peer, *tick),
-    }
 }

@@ -15,6 +15,11 @@ use std::alloc::{AllocError, Global};
 use std::sync::{Arc, Wait};
 use std::thread::Threads;
 
+/// What starts the threads of crews, and waits for them.
+pub trait Handle: Threads + Wait + Sync + Copy + Send + 'static {}
+
+impl<R: Threads + Wait + Sync + Copy + Send + 'static> Handle for R {}
+
 /// A crew that starts its workers in each solve, with a gate that keeps a book.
 #[derive(Debug, Drop)]
 pub struct Scoped<'r, R, const IS_OPEN: bool> {
@@ -41,11 +46,8 @@ impl<R: Wait, G: Gate> Crew for Standing<R, G> {
     }
 }
 
-impl<R: Threads + Wait, G: Gate> Standing<R, G> {
+impl<R: Handle, G: Gate + Send + Sync + Drop + 'static> Standing<R, G> {
     fn new(rt: &R, alloc: Global, workers: usize, gate: G) -> Result<Standing<R, G>, CrewError>
-    where
-        R: Copy + Send + 'static,
-        G: Send + Sync + Drop + 'static,
         requires { (0 < workers) × (workers ≤ MAX_WORKERS) }
     {
         let crew = StandingCrew::new(*rt, alloc, workers, gate)?;
@@ -71,7 +73,7 @@ enum Kind<'r, R> {
     StandingCounting(Standing<R, TrialGate<true>>),
 }
 
-impl<'r, R: Threads + Wait> Kind<'r, R> {
+impl<'r, R: Handle> Kind<'r, R> {
     /// A crew that starts its workers in each solve.
     fn scoped(rt: &'r R, alloc: Global, plan: Plan, book: Arc<Book, Global>) -> Kind<'r, R> {
         let workers = plan.workers;
@@ -79,20 +81,26 @@ impl<'r, R: Threads + Wait> Kind<'r, R> {
             GateKind::Open => Kind::Scoped(ScopedCrew::new(rt, alloc, workers, OpenGate)),
             GateKind::Ruled(rule) => {
                 let gate = TrialGate::new(rule, book);
-                Kind::ScopedTrial(Scoped { crew: ScopedCrew::new(rt, alloc, workers, gate) })
+                Kind::ScopedTrial(Scoped {
+                    crew: ScopedCrew::new(rt, alloc, workers, gate),
+                })
             }
             GateKind::Counting => {
                 let gate = TrialGate::new(Rule::Meeting, book);
-                Kind::ScopedCounting(Scoped { crew: ScopedCrew::new(rt, alloc, workers, gate) })
+                Kind::ScopedCounting(Scoped {
+                    crew: ScopedCrew::new(rt, alloc, workers, gate),
+                })
             }
         }
     }
 
     /// A crew that starts its workers now.
-    fn standing(rt: &'r R, alloc: Global, plan: Plan, book: Arc<Book, Global>) -> Result<Kind<'r, R>, CrewError>
-    where
-        R: Copy + Send + 'static,
-    {
+    fn standing(
+        rt: &'r R,
+        alloc: Global,
+        plan: Plan,
+        book: Arc<Book, Global>,
+    ) -> Result<Kind<'r, R>, CrewError> {
         let workers = plan.workers;
         Ok(match plan.gate {
             GateKind::Open => Kind::Standing(Standing::new(rt, alloc, workers, OpenGate)?),
@@ -115,12 +123,10 @@ pub struct ThreadCrew<'r, R> {
     book: Arc<Book, Global>,
 }
 
-impl<'r, R: Threads + Wait> ThreadCrew<'r, R> {
-    pub fn new(rt: &'r R, alloc: Global, plan: Plan) -> Result<ThreadCrew<'r, R>, CrewError>
-    where
-        R: Copy + Send + 'static,
-    {
-        let book = Arc::new(alloc, Book::new(alloc, plan.workers)?)?;
+impl<'r, R: Handle> ThreadCrew<'r, R> {
+    pub fn new(rt: &'r R, alloc: Global, plan: Plan) -> Result<ThreadCrew<'r, R>, CrewError> {
+        let book = Book::new(alloc, plan.workers)?;
+        let book = Arc::new(alloc, book)?;
         let own = Arc::try_clone(&book)?;
         let kind = match plan.life {
             Life::Scoped => Kind::scoped(rt, alloc, plan, own),
@@ -130,10 +136,7 @@ impl<'r, R: Threads + Wait> ThreadCrew<'r, R> {
     }
 
     /// Settles a peer with this crew.
-    fn settle(&mut self, rt: &R, alloc: Global, peer: &mut PeerCore) -> Result<u32, StepError>
-    where
-        R: Sync,
-    {
+    fn settle(&mut self, rt: &R, alloc: Global, peer: &mut PeerCore) -> Result<u32, StepError> {
         match &mut self.kind {
             Kind::Scoped(crew) => peer.settle_with(rt, alloc, crew),
             Kind::ScopedTrial(crew) => peer.settle_with(rt, alloc, crew),
@@ -174,7 +177,7 @@ impl<'r, R: Threads + Wait> ThreadCrew<'r, R> {
 }
 
 /// Makes the crew of a peer, in place of the one that it has.
-pub fn make<'r, R: Threads + Wait + Copy + Send + 'static>(
+pub fn make<'r, R: Handle>(
     rt: &'r R,
     alloc: Global,
     crew: &mut Option<ThreadCrew<'r, R>>,
@@ -194,7 +197,7 @@ pub fn make<'r, R: Threads + Wait + Copy + Send + 'static>(
 }
 
 /// Settles a peer with its crew. The line ends with what the gate has noted.
-pub fn settle<'r, R: Threads + Wait + Sync>(
+pub fn settle<'r, R: Handle>(
     rt: &'r R,
     alloc: Global,
     peer: &mut PeerCore,
@@ -213,7 +216,7 @@ pub fn settle<'r, R: Threads + Wait + Sync>(
 }
 
 /// Ends a worker of a peer's crew.
-pub fn dismiss<'r, R: Threads + Wait>(
+pub fn dismiss<'r, R: Handle>(
     alloc: Global,
     crew: &mut Option<ThreadCrew<'r, R>>,
     worker: usize,
@@ -225,10 +228,7 @@ pub fn dismiss<'r, R: Threads + Wait>(
 }
 
 /// Ends a peer's crew.
-pub fn close<'r, R: Threads + Wait>(
-    alloc: Global,
-    crew: &mut Option<ThreadCrew<'r, R>>,
-) -> Result<String> {
+pub fn close<'r, R: Handle>(alloc: Global, crew: &mut Option<ThreadCrew<'r, R>>) -> Result<String> {
     if let Some(crew) = crew.take() {
         crew.close();
     }
