@@ -1,9 +1,9 @@
 -- What workers have of islands that are dealt to them in turn.
-use Rattle.std.proofs.Common.{◌≡◌, ◌∙◌, ℕ, zero, suc, ◌+◌, ◌<◌, ◌==◌, ◌%◌, Bool, true, false, cond, List, [], ◌∷◌, ◌++◌, length, map, set, get_or, refl, sym, ap, ap₂, subst, arith, ◌≢◌, absurd, take, ◌×◌, ◌-◌}
+use Rattle.std.proofs.Common.{◌≡◌, ◌∙◌, ℕ, zero, suc, ◌+◌, ◌<◌, ◌==◌, ◌%◌, Bool, true, false, cond, List, [], ◌∷◌, ◌++◌, length, map, set, get_or, refl, sym, ap, ap₂, subst, arith, ◌≢◌, absurd, drop, take, ◌≤◌}
 use Rattle.std.proofs.lemmas.Bool.{eq-eqb, eqb-true, ne_eqb, true≢false}
-use Rattle.std.proofs.lemmas.List.{get_or-set_other, get_or-set_same, length-append, length-map, length-set, map-append}
+use Rattle.std.proofs.lemmas.List.{append_assoc, drop_more, get_or-set_other, get_or-set_same, length-append, length-map, length-set, map-append, take-append-drop, take_more}
 use Rattle.std.proofs.Math.ListN.{get_or-map}
-use Rattle.std.proofs.Math.Seq.{get_or-append_seam, take-append_seam}
+use Rattle.std.proofs.Math.Seq.{drop-append_seam, get_or-append_seam, take-append_seam}
 use Rattle.std.specs.Prelude.{All, slice_index_or, if◌then◌else◌}
 use Rattle.pf_workers.specs.Dealing.{share, AreShares, AreSharesFrom}
 
@@ -87,6 +87,48 @@ module _ {X : Type 0} where
 
   pub none_left : (k : ℕ) (piles : List (List X)) → AreSharesFrom k [] piles → All (λ pile. pile ≡ []) piles
   none_left k piles shares w d low = default_same piles w d low ∙ shares w low
+
+  -- ---- the loops
+
+  -- the last of those that are left is dealt
+  pub deal_step : (all now after : List X) (x : X) (who : ℕ) (pile : List X) (piles : List (List X))
+      → now ≡ take (length now) all → length now ≤ length all → now ≡ after ++ x ∷ []
+      → AreSharesFrom (length now) (drop (length now) all) piles
+      → length after % length piles ≡ who → who < length piles → pile ≡ get_or piles who [] ++ x ∷ []
+      → (after ≡ take (length after) all) × AreSharesFrom (length after) (drop (length after) all) (set piles who pile)
+  deal_step all now after x who pile piles now_is few split shares turn within pile_is =
+      let m = length after in
+      let long : length now ≡ m + 1 = omega (arith, ap length split, length-append after (x ∷ [])) in
+      let whole : all ≡ after ++ x ∷ drop (m + 1) all =
+          sym (take-append-drop (m + 1) all) ∙ ap (λ l. l ++ drop (m + 1) all) (sym (ap (λ i. take i all) long) ∙ sym now_is ∙ split)
+          ∙ append_assoc after (x ∷ []) (drop (m + 1) all) in
+      let rest : drop m all ≡ x ∷ drop (m + 1) all =
+          ap (drop m) whole ∙ drop-append_seam after (x ∷ drop (m + 1) all) in
+      (sym (ap (take m) whole ∙ take-append_seam after (x ∷ drop (m + 1) all)),
+      subst (λ l. AreSharesFrom m l (set piles who pile)) (sym rest)
+      (dealt_more m who x (drop (m + 1) all) pile piles turn within (subst (λ i. AreSharesFrom i (drop i all) piles) long shares) pile_is))
+
+  -- the first of those that are left is put behind those before
+  pub gather_step : (all before : List X) (k who : ℕ) (x : X) (pile : List X) (piles : List (List X)) → k < length all
+      → k % length piles ≡ who → who < length piles → AreSharesFrom k (drop k all) piles → get_or piles who [] ≡ pile ++ x ∷ []
+      → ((before ++ take k all) ++ x ∷ [] ≡ before ++ take (k + 1) all) × AreSharesFrom (k + 1) (drop (k + 1) all) (set piles who pile)
+  gather_step all before k who x pile piles low turn within shares pile_is =
+      let next = taken_next k who (get_or all k x) x (drop (k + 1) all) pile piles turn within
+          (subst (λ l. AreSharesFrom k l piles) (drop_more all k x low) shares) pile_is in
+      (append_assoc before (take k all) (x ∷ [])
+      ∙ ap (λ l. before ++ l) (ap (λ y. take k all ++ y ∷ []) next.0 ∙ sym (take_more all k x low)),
+      next.1)
+
+  -- one more of a list that is gone through from its end
+  pub share_more : (n w k : ℕ) (xs : List X) (d : X) → k < length xs → k % n ≡ w
+      → share n w (k + 1) (drop (k + 1) xs) ++ get_or xs k d ∷ [] ≡ share n w k (drop k xs)
+  share_more n w k xs d low own =
+      sym (ap (share n w k) (drop_more xs k d low) ∙ share_own n w k (get_or xs k d) (drop (k + 1) xs) own)
+
+  pub share_same : (n w k : ℕ) (xs : List X) → k < length xs → k % n ≢ w → share n w (k + 1) (drop (k + 1) xs) ≡ share n w k (drop k xs)
+  share_same n w k [] low other = absurd (omega (arith, low))
+  share_same n w k (x ∷ xs) low other =
+      sym (ap (share n w k) (drop_more (x ∷ xs) k x low) ∙ share_other n w k (get_or (x ∷ xs) k x) (drop (k + 1) (x ∷ xs)) other)
 
 module _ {X Y : Type 0} (f : X → Y) where
   share-map : (n w k : ℕ) (xs : List X) → share n w k (map f xs) ≡ map f (share n w k xs)

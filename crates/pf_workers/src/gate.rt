@@ -17,6 +17,12 @@ pub trait Gate {
     /// turn stays at `usize::MAX`. It may wait.
     fn pass(&self, worker: usize, turn: usize) -> bool
         ensures { ALWAYS ≡ true → IsTrue result };
+
+    /// Whether a pass may wait for another worker, or be seen by anybody. If not, a crew may pass the
+    /// gate for its workers, and solve on the thread of the caller what is too little to be dealt.
+    fn is_watched(&self) -> bool {
+        true
+    }
 }
 
 /// Lets everybody through, and waits for nobody.
@@ -32,5 +38,9 @@ impl Gate for OpenGate {
 
     fn pass(&self, _worker: usize, _turn: usize) -> bool {
         true
+    }
+
+    fn is_watched(&self) -> bool {
+        false
     }
 }

@@ -53,7 +53,7 @@ pub(crate) fn have_answered(slots: &[Slot]) -> bool
     true
 }
 
-/// Whether a worker has the same islands in two lists. 
+/// Whether a worker has the same islands of two lists.
 fn is_share(ours: &[Island], theirs: &[Island], workers: usize, worker: usize) -> bool
     requires { 0 < workers }
     ensures { IsTrue result → share workers worker 0 ours.now ≡ share workers worker 0 theirs.now }
@@ -61,7 +61,8 @@ fn is_share(ours: &[Island], theirs: &[Island], workers: usize, worker: usize) -
     if ours.len() != theirs.len() {
         return false;
     }
-    for number in 0..ours.len() {
+    for done in 0..ours.len() {
+        let number = ours.len() - 1 - done;
         if number % workers == worker && ours[number] != theirs[number] {
             return false;
         }

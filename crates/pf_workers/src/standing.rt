@@ -11,7 +11,7 @@ use crate::task::{Answer, Job, Task};
 use crossbeam_channel::{Receiver, SendError, Sender};
 use pf_islands::Island;
 use pf_shapes::Scene;
-use pf_step::{Crew, CrewError};
+use pf_step::{Crew, CrewError, solve_all};
 use std::alloc::{AllocError, Global};
 use std::marker::Model;
 use std::mem;
@@ -41,6 +41,21 @@ fn serve<R: Wait, G: Gate>(
     }
 }
 
+/// The contacts of a tick from which on threads pay.
+const CONTACTS_FOR_THREADS: usize = 64;
+
+/// Whether islands are too little to be dealt: solving them takes no longer than waking threads.
+fn is_little(islands: &[Island]) -> bool {
+    let mut contacts = 0;
+    for island in islands {
+        contacts = island.rows.len().saturating_add(contacts);
+        if contacts >= CONTACTS_FOR_THREADS {
+            return false;
+        }
+    }
+    true
+}
+
 /// A worker: the channel of its jobs, its thread, and the memory for its next islands. A worker that
 /// was dismissed has neither channel nor thread.
 ///
@@ -63,6 +78,13 @@ impl Model for Worker {
 impl Worker {
     ghost use Rattle.std.specs.Prelude.{◌≡◌, true, false, IfErr, OnOk};
     ghost use Rattle.pf_workers.specs.Crew.{IsAskError};
+
+    /// Whether its channel is open.
+    fn is_open(&self) -> bool
+        ensures { result ≡ self.now }
+    {
+        self.jobs.is_some()
+    }
 
     /// Sends a job. Returns an error if the channel is closed.
     fn ask<R: Wait>(&mut self, rt: &R, job: Job) -> Result<(), CrewError>
@@ -102,6 +124,7 @@ pub struct StandingCrew<R, G: Gate> {
     alloc: Global,
     workers: Vec<Worker>,
     answers: Receiver<Answer<G>, Global>,
+    gate: Arc<G, Global>,
     /// The scene of the last solve.
     scene: Option<Arc<Scene, Global>>,
     /// The memory for the list of islands of the next solve.
@@ -128,18 +151,17 @@ fn start<R: Threads + Wait + Copy + Send + 'static, G: Gate + Send + Sync + Drop
     rt: &R,
     alloc: Global,
     count: usize,
-    gate: G,
+    gate: &Arc<G, Global>,
     answers: Sender<Answer<G>, Global>,
 ) -> Result<Vec<Worker>, CrewError>
     requires { 0 < count }
     ensures open { IfOk result (λ workers. workers.items ≡ replicate count true) }
     ensures failed { IfErr result IsStartError }
 {
-    let gate = Arc::new(alloc, gate)?;
     let mut workers = Vec::with_capacity(alloc, count)?;
     for worker in 0..count {
         let (jobs, received) = crossbeam_channel::bounded(alloc, 1)?;
-        let gate = Arc::try_clone(&gate)?;
+        let gate = Arc::try_clone(gate)?;
         let answers = answers.clone()?;
         let own = *rt;
         let started = thread::spawn(rt, move || {
@@ -177,12 +199,14 @@ impl<R: Wait, G: Gate> StandingCrew<R, G> {
         ensures failed { IfErr result IsStartError }
     {
         let (sender, answers) = crossbeam_channel::bounded(alloc, workers)?;
-        let workers = start(&rt, alloc, workers, gate, sender)?;
+        let gate = Arc::new(alloc, gate)?;
+        let workers = start(&rt, alloc, workers, &gate, sender)?;
         Ok(StandingCrew {
             rt,
             alloc,
             workers,
             answers,
+            gate,
             scene: None,
             spare: Vec::new(alloc),
             turn: 0,
@@ -194,6 +218,7 @@ impl<R: Wait, G: Gate> StandingCrew<R, G> {
     pub fn close(self)
     where
         R: Threads + Copy,
+        G: Drop,
     {
         let mut workers = self.workers;
         for worker in workers.iter_mut() {
@@ -297,6 +322,32 @@ impl<R: Wait, G: Gate> StandingCrew<R, G> {
         }
     }
 
+    /// Passes the gate for each worker, and solves the islands on the thread of the caller.
+    fn solve_here(
+        &self,
+        scene: &Scene,
+        islands: Vec<Island>,
+        turn: usize,
+    ) -> Result<Vec<Island>, CrewError>
+        requires { All (IsIslandOf scene.now) islands.items }
+        ensures solved { IfOk result
+            (λ solved. solved.items ≡ map (island_after_tick scene.now) islands.items) }
+        ensures open { OnOk result (AreOpen self.now) }
+        ensures failed { IfErr result (IsStandingError G.ALWAYS) }
+    {
+        for number in 0..self.workers.len() {
+            if !self.workers[number].is_open() {
+                return Err(CrewError::CrewLost);
+            }
+            if !self.gate.pass(number, turn) {
+                return Err(CrewError::GateShut);
+            }
+        }
+        let mut islands = islands;
+        solve_all(scene, &mut islands);
+        Ok(islands)
+    }
+
     /// Solves each island, in a turn that was counted.
     fn solve_in_turn(
         &mut self,
@@ -311,6 +362,9 @@ impl<R: Wait, G: Gate> StandingCrew<R, G> {
         ensures open { OnOk result (AreOpen self.old) }
         ensures failed { IfErr result (IsStandingError G.ALWAYS) }
     {
+        if is_little(&islands) && !self.gate.is_watched() {
+            return self.solve_here(scene, islands, turn);
+        }
         let count = islands.len();
         let shared = self.shared_scene(scene)?;
         let task = Task::new(shared, Arc::new(self.alloc, islands)?);

@@ -1,0 +1,14 @@
+use Rattle.std.proofs.Common.{◌≡◌, ◌++◌, ℕ, List, length, take, drop}
+use Rattle.pf_workers.specs.Dealing.{AreSharesFrom}
+use Rattle.pf_workers.proofs.pile.deal.Given as goal
+
+abbrev pub invariant-loop-island : goal.invariant-loop-island
+invariant-loop-island l = record {
+  rest : l.islands.items ≡ take (length l.islands.items) l.initial.islands.items;
+  few : length l.islands.items ≤ length l.initial.islands.items;
+  shares : AreSharesFrom (length l.islands.items) (drop (length l.islands.items) l.initial.islands.items) l.piles;
+  count : length l.piles ≡ length l.initial.piles;
+}
+
+abbrev pub decreases-loop-island : goal.decreases-loop-island
+decreases-loop-island l = length l.islands.items
