@@ -1,5 +1,5 @@
-//! Gates that try what no contract says: workers work side by side, and each passes its gate once in
-//! each solve.
+//! Gates that try what no contract says: workers work side by side, and each passes its gate once
+//! in each solve.
 
 use pf_workers::Gate;
 use std::alloc::{AllocError, Global};

@@ -14,18 +14,23 @@
 //! | `settle N` | settles on one thread | `settle REACHED` |
 //! | `crew N` | settles with a crew | `crew REACHED calls CALLS SEEN` |
 //! | `crew N NTH ERROR` | the same; this solve of the crew fails | `crew ERROR calls CALLS` |
-//! | `crews N scoped WORKERS GATE` | a crew of threads for a peer, in place of its last one | `crews WORKERS` |
-//! | `crews N standing WORKERS GATE` | the same, with workers that are started now | `crews WORKERS` or `crews ERROR` |
-//! | `threads N` | settles with the crew of threads | `threads REACHED NOTED` or `threads ERROR NOTED` |
-//! | `dismiss N WORKER` | ends a worker of a standing crew | `dismiss WORKER` |
-//! | `close N` | ends the crew of threads | `close` |
-//! | `same N OTHER FIRST LAST` | compares the worlds of two peers from tick to tick | `same COUNT` |
+//! | `crews N LIFE WORKERS GATE` | makes a crew of threads | `crews WORKERS` or `crews ERROR` |
+//! | `threads N` | settles with it | `threads REACHED NOTED` or `threads ERROR NOTED` |
+//! | `dismiss N WORKER` | ends a worker of it, if that was started once | `dismiss WORKER` |
+//! | `close N` | ends it | `close` |
+//! | `same N OTHER FIRST LAST` | compares worlds of peers | `same COUNT`: the ticks with one world |
 //! | `world N TICK` | the world at a tick | `world TICKS`, its bodies and its contacts |
 //!
 //! SEEN is what the crew was last given: the number of islands, of their bodies and of their
 //! contacts, and the least body. TICKS is how many ticks were simulated for the world. Lines of
 //! bodies are as `pf_play` shows them, and a line `contacts COUNT NORMAL TANGENT` has the sums of
 //! what contacts have accumulated. A call that is rejected prints `refused` and why.
+//!
+//! LIFE is `scoped` or `standing`. GATE is `open`; `meeting`, where each worker waits in each solve
+//! until each other worker has come; `counting`, the same, but open also where one did not come; or
+//! `shut WORKER TURN`, which is shut for this worker in this turn. NOTED is `shut COUNT`, how often
+//! the gate should have been shut, and for each worker how often it came, and for how many turns.
+//! The open gate notes nothing.
 //!
 //! After each call stands a line `state N PLAYER BODIES COMMANDS REACHED SETTLED TICKS COLLIDES`:
 //! the last two are the counts of the peer's meter. A line that begins with `#` is printed as it

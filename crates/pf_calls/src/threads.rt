@@ -37,7 +37,7 @@ impl<'r, R: Threads + Wait, const IS_OPEN: bool> Crew for Scoped<'r, R, IS_OPEN>
 pub struct Standing<R, G: Gate> {
     crew: StandingCrew<R, G>,
     workers: usize,
-    ghost counted: { length crew.open ≡ workers },
+    ghost counted: { length crew.workers ≡ workers },
 }
 
 impl<R: Wait, G: Gate> Crew for Standing<R, G> {
@@ -59,6 +59,11 @@ impl<R: Handle, G: Gate + Send + Sync + Drop + 'static> Standing<R, G> {
         if worker < self.workers {
             self.crew.dismiss(worker);
         }
+    }
+
+    fn close(self) {
+        let Standing { crew, workers: _ } = self;
+        crew.close();
     }
 }
 
@@ -159,10 +164,11 @@ impl<'r, R: Handle> ThreadCrew<'r, R> {
 
     /// Ends the workers that were started once.
     fn close(self) {
-        match self.kind {
-            Kind::Standing(crew) => crew.crew.close(),
-            Kind::StandingTrial(crew) => crew.crew.close(),
-            Kind::StandingCounting(crew) => crew.crew.close(),
+        let ThreadCrew { kind, book: _ } = self;
+        match kind {
+            Kind::Standing(crew) => crew.close(),
+            Kind::StandingTrial(crew) => crew.close(),
+            Kind::StandingCounting(crew) => crew.close(),
             _ => (),
         }
     }
