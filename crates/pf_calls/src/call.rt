@@ -1,5 +1,6 @@
 //! Calls, and the lines that encode them.
 
+use crate::plan::{Plan, plan_of};
 use anyhow::{Context, Result, bail};
 use pf_commands::Payload;
 use pf_num::Fx;
@@ -19,7 +20,17 @@ pub enum Call {
     Settle,
     /// Settles with a crew, which fails in this solve, if one is given.
     SettleWith { failure: Option<(u64, CrewError)> },
+    /// Makes a crew of threads.
+    Crews { plan: Plan },
+    /// Settles with the crew of threads.
+    Threads,
+    /// Ends a worker of the crew of threads.
+    Dismiss { worker: usize },
+    /// Ends the crew of threads.
+    Close,
     World { tick: u32 },
+    /// Compares the worlds of another peer at each tick from a first to a last one.
+    Same { other: usize, first: u32, last: u32 },
 }
 
 /// The number that a word encodes.
@@ -92,8 +103,21 @@ fn call_of(alloc: Global, words: &[&str]) -> Result<Call> {
         ["crew", _, nth, error] => Call::SettleWith {
             failure: Some((u64::from(number(nth)?), crew_error(error)?)),
         },
+        ["crews", _, life, workers, gate @ ..] => Call::Crews {
+            plan: plan_of(life, workers, gate)?,
+        },
+        ["threads", _] => Call::Threads,
+        ["dismiss", _, worker] => Call::Dismiss {
+            worker: number(worker)? as usize,
+        },
+        ["close", _] => Call::Close,
         ["world", _, tick] => Call::World {
             tick: number(tick)?,
+        },
+        ["same", _, other, first, last] => Call::Same {
+            other: number(other)? as usize,
+            first: number(first)?,
+            last: number(last)?,
         },
         _ => bail!("no such call"),
     })

@@ -14,12 +14,23 @@
 //! | `settle N` | settles on one thread | `settle REACHED` |
 //! | `crew N` | settles with a crew | `crew REACHED calls CALLS SEEN` |
 //! | `crew N NTH ERROR` | the same; this solve of the crew fails | `crew ERROR calls CALLS` |
+//! | `crews N LIFE WORKERS GATE` | makes a crew of threads | `crews WORKERS` or `crews ERROR` |
+//! | `threads N` | settles with it | `threads REACHED NOTED` or `threads ERROR NOTED` |
+//! | `dismiss N WORKER` | ends a worker of it, if that was started once | `dismiss WORKER` |
+//! | `close N` | ends it | `close` |
+//! | `same N OTHER FIRST LAST` | compares worlds of peers | `same COUNT`: the ticks with one world |
 //! | `world N TICK` | the world at a tick | `world TICKS`, its bodies and its contacts |
 //!
 //! SEEN is what the crew was last given: the number of islands, of their bodies and of their
 //! contacts, and the least body. TICKS is how many ticks were simulated for the world. Lines of
 //! bodies are as `pf_play` shows them, and a line `contacts COUNT NORMAL TANGENT` has the sums of
 //! what contacts have accumulated. A call that is rejected prints `refused` and why.
+//!
+//! LIFE is `scoped` or `standing`. GATE is `open`; `meeting`, where each worker waits in each solve
+//! until each other worker has come; `counting`, the same, but open also where one did not come; or
+//! `shut WORKER TURN`, which is shut for this worker in this turn. NOTED is `shut COUNT`, how often
+//! the gate should have been shut, and for each worker how often it came, and for how many turns.
+//! The open gate notes nothing.
 //!
 //! After each call stands a line `state N PLAYER BODIES COMMANDS REACHED SETTLED TICKS COLLIDES`:
 //! the last two are the counts of the peer's meter. A line that begins with `#` is printed as it
@@ -28,21 +39,23 @@
 
 mod call;
 mod crew;
+mod gate;
 mod peers;
+mod plan;
 mod print;
+mod table;
+mod threads;
 
 ghost use Rattle.std.specs.Prelude.{◌+◌, ◌<◌, length, IfSome};
 
 use crate::call::parse;
-use crate::peers::answer;
-use crate::print::state_text;
+use crate::table::Table;
+use crate::threads::Handle;
 use anyhow::{Context, Result};
 use memchr::memmem;
-use pf_rollback::PeerCore;
 use pf_shapes::Scene;
 use std::alloc::Global;
 use std::io::{BufWriter, Read, Write};
-use std::thread::Threads;
 
 /// The last line of a text that another one follows.
 const SEPARATOR: &[u8] = b"# next text\n";
@@ -60,36 +73,29 @@ fn split_behind<'a>(text: &'a [u8], mark: &[u8]) -> Option<(&'a [u8], &'a [u8])>
 }
 
 /// Runs the call of a line, and prints its answer and the state of its peer.
-fn run_line<R: Threads + Sync, W: Write>(
-    rt: &R,
+fn run_line<R: Handle, W: Write>(
     alloc: Global,
-    scene: &Scene,
-    peers: &mut Vec<PeerCore>,
+    table: &mut Table<'_, R>,
     line: &str,
     writer: &mut W,
 ) -> Result<()> {
     let (number, call) = parse(alloc, line)?;
-    let text = answer(rt, alloc, scene, peers, number, &call)?;
-    let state = state_text(alloc, number, peers.get(number).context("no such peer")?)?;
+    let text = table.answer(number, &call)?;
+    let state = table.state(number)?;
     writeln!(writer, "{text}\n{state}")?;
     Ok(())
 }
 
 /// Runs the calls of a text.
-fn run<R: Threads + Sync, W: Write>(
-    rt: &R,
-    alloc: Global,
-    text: &[u8],
-    writer: &mut W,
-) -> Result<()> {
+fn run<R: Handle, W: Write>(rt: &R, alloc: Global, text: &[u8], writer: &mut W) -> Result<()> {
     let (scene, calls) = split_behind(text, END).context("no end of the scene")?;
     let scene = Scene::read(alloc, scene)?;
-    let mut peers = Vec::new(alloc);
+    let mut table = Table::new(rt, alloc, scene);
     for line in str::from_utf8(calls).context("calls are text")?.lines() {
         if line.starts_with('#') {
             writeln!(writer, "{line}")?;
         } else {
-            run_line(rt, alloc, &scene, &mut peers, line, writer)?;
+            run_line(alloc, &mut table, line, writer)?;
         }
     }
     Ok(())

@@ -7,7 +7,6 @@ ghost use Rattle.pf_step.specs.declared.crew.CrewError.{CrewError};
 ghost use Rattle.pf_step.specs.declared.crew.StepError.TheVariants.{Crew, OutOfMemory};
 ghost use Rattle.pf_calls.specs.Failure.{failure_at};
 
-use crate::call::Call;
 use crate::crew::BackwardCrew;
 use crate::print::{refused, world_text};
 use anyhow::{Context, Result, bail};
@@ -35,7 +34,7 @@ fn add(
 }
 
 /// Makes the next peer, which has this number.
-fn new(
+pub fn new(
     alloc: Global,
     scene: &Scene,
     peers: &mut Vec<PeerCore>,
@@ -50,14 +49,14 @@ fn new(
     Ok(format!(in alloc; "new {player} {ring}")?)
 }
 
-fn advance(alloc: Global, peer: &mut PeerCore, ticks: u32) -> Result<String> {
+pub fn advance(alloc: Global, peer: &mut PeerCore, ticks: u32) -> Result<String> {
     match peer.advance(ticks) {
         Ok(reached) => Ok(format!(in alloc; "advance {reached}")?),
         Err(fault) => refused(alloc, fault),
     }
 }
 
-fn issue(alloc: Global, peer: &mut PeerCore, payload: Payload) -> Result<String> {
+pub fn issue(alloc: Global, peer: &mut PeerCore, payload: Payload) -> Result<String> {
     match peer.issue(payload) {
         Ok(frame) => {
             let digits = hex::encode(alloc, frame.as_slice())?;
@@ -77,7 +76,7 @@ fn put_name(put: Put) -> &'static str {
     }
 }
 
-fn take(alloc: Global, peer: &mut PeerCore, frame: &[u8]) -> Result<String> {
+pub fn take(alloc: Global, peer: &mut PeerCore, frame: &[u8]) -> Result<String> {
     match peer.take(frame) {
         Ok(put) => {
             let name = put_name(put);
@@ -88,7 +87,7 @@ fn take(alloc: Global, peer: &mut PeerCore, frame: &[u8]) -> Result<String> {
 }
 
 /// Merges the commands of one peer into another, or into itself.
-fn merge(alloc: Global, peers: &mut [PeerCore], number: usize, other: usize) -> Result<String> {
+pub fn merge(alloc: Global, peers: &mut [PeerCore], number: usize, other: usize) -> Result<String> {
     let commands = peers
         .get(other)
         .context("no other peer")?
@@ -123,7 +122,7 @@ fn settle_counted<R: Threads + Sync>(
 
 /// Settles with a crew. The line ends with how often the crew was called, and with what it was
 /// last given: how many islands, of how many bodies and contacts, and the least body.
-fn settle_with<R: Threads + Sync>(
+pub fn settle_with<R: Threads + Sync>(
     rt: &R,
     alloc: Global,
     peer: &mut PeerCore,
@@ -146,7 +145,7 @@ fn settle_with<R: Threads + Sync>(
 }
 
 /// Shows the world at a tick.
-fn world(alloc: Global, peer: &PeerCore, tick: u32) -> Result<String> {
+pub fn world(alloc: Global, peer: &PeerCore, tick: u32) -> Result<String> {
     let mut work = Work::new(alloc);
     match peer.world_at(alloc, tick, &mut work) {
         Ok(world) => world_text(alloc, peer.scene(), &world, work.meter().ticks),
@@ -154,36 +153,33 @@ fn world(alloc: Global, peer: &PeerCore, tick: u32) -> Result<String> {
     }
 }
 
+/// Whether two peers show the same world at a tick.
+fn is_same_at(alloc: Global, peer: &PeerCore, other: &PeerCore, tick: u32) -> Result<bool> {
+    let mut work = Work::new(alloc);
+    let ours = peer.world_at(alloc, tick, &mut work)?;
+    let theirs = other.world_at(alloc, tick, &mut work)?;
+    Ok(ours == theirs)
+}
+
+/// At how many ticks from a first to a last one two peers show the same world.
+pub fn same(
+    alloc: Global,
+    peer: &PeerCore,
+    other: &PeerCore,
+    first: u32,
+    last: u32,
+) -> Result<String> {
+    let mut count = 0u32;
+    for tick in first..=last {
+        if is_same_at(alloc, peer, other, tick)? {
+            count = count.saturating_add(1);
+        }
+    }
+    Ok(format!(in alloc; "same {count}")?)
+}
+
 /// Settles on one thread.
-fn settle(alloc: Global, peer: &mut PeerCore) -> Result<String> {
+pub fn settle(alloc: Global, peer: &mut PeerCore) -> Result<String> {
     let reached = peer.settle_alone(alloc)?;
     Ok(format!(in alloc; "settle {reached}")?)
-}
-
-/// The peer of a number.
-fn peer_of(peers: &mut [PeerCore], number: usize) -> Result<&mut PeerCore> {
-    peers.get_mut(number).context("no such peer")
-}
-
-/// The text of what a call returned.
-pub fn answer<R: Threads + Sync>(
-    rt: &R,
-    alloc: Global,
-    scene: &Scene,
-    peers: &mut Vec<PeerCore>,
-    number: usize,
-    call: &Call,
-) -> Result<String> {
-    match call {
-        Call::New { player, ring } => new(alloc, scene, peers, number, *player, *ring),
-        Call::Merge { other } => merge(alloc, peers, number, *other),
-        Call::Advance { ticks } => advance(alloc, peer_of(peers, number)?, *ticks),
-        Call::Issue { payload } => issue(alloc, peer_of(peers, number)?, *payload),
-        Call::Take { frame } => take(alloc, peer_of(peers, number)?, frame),
-        Call::Settle => settle(alloc, peer_of(peers, number)?),
-        Call::SettleWith { failure } => {
-            settle_with(rt, alloc, peer_of(peers, number)?, *failure)
-        }
-        Call::World { tick } => world(alloc, peer_of(peers, number)?, *tick),
-    }
 }

@@ -1,0 +1,242 @@
+//! Crews of threads.
+
+ghost use Rattle.std.specs.Prelude.{◌≡◌, ◌<◌, ◌≤◌, length};
+ghost use Rattle.pf_workers.specs.declared.TheConstants.{MAX_WORKERS};
+
+use crate::gate::{Book, Rule, TrialGate};
+use crate::plan::{GateKind, Life, Plan};
+use anyhow::{Result, bail};
+use pf_islands::Island;
+use pf_rollback::PeerCore;
+use pf_shapes::Scene;
+use pf_step::{Crew, CrewError, StepError};
+use pf_workers::{Gate, MAX_WORKERS, OpenGate, ScopedCrew, StandingCrew};
+use std::alloc::{AllocError, Global};
+use std::sync::{Arc, Wait};
+use std::thread::Threads;
+
+/// What starts the threads of crews, and waits for them.
+pub trait Handle: Threads + Wait + Sync + Copy + Send + 'static {}
+
+impl<R: Threads + Wait + Sync + Copy + Send + 'static> Handle for R {}
+
+/// A crew that starts its workers in each solve, with a gate that keeps a book.
+#[derive(Debug, Drop)]
+pub struct Scoped<'r, R, const IS_OPEN: bool> {
+    crew: ScopedCrew<'r, R, TrialGate<IS_OPEN>>,
+}
+
+impl<'r, R: Threads + Wait, const IS_OPEN: bool> Crew for Scoped<'r, R, IS_OPEN> {
+    fn solve(&mut self, scene: &Scene, islands: Vec<Island>) -> Result<Vec<Island>, CrewError> {
+        self.crew.solve(scene, islands)
+    }
+}
+
+/// A crew whose workers are started once.
+#[derive(Drop)]
+pub struct Standing<R, G: Gate> {
+    crew: StandingCrew<R, G>,
+    workers: usize,
+    ghost counted: { length crew.workers ≡ workers },
+}
+
+impl<R: Wait, G: Gate> Crew for Standing<R, G> {
+    fn solve(&mut self, scene: &Scene, islands: Vec<Island>) -> Result<Vec<Island>, CrewError> {
+        self.crew.solve(scene, islands)
+    }
+}
+
+impl<R: Handle, G: Gate + Send + Sync + Drop + 'static> Standing<R, G> {
+    fn new(rt: &R, alloc: Global, workers: usize, gate: G) -> Result<Standing<R, G>, CrewError>
+        requires { (0 < workers) × (workers ≤ MAX_WORKERS) }
+    {
+        let crew = StandingCrew::new(*rt, alloc, workers, gate)?;
+        Ok(Standing { crew, workers })
+    }
+
+    /// Ends a worker, if there is one of this number.
+    fn dismiss(&mut self, worker: usize) {
+        if worker < self.workers {
+            self.crew.dismiss(worker);
+        }
+    }
+
+    fn close(self) {
+        let Standing { crew, workers: _ } = self;
+        crew.close();
+    }
+}
+
+/// A crew of threads, by when it starts its workers and by the type of its gate.
+#[derive(Drop)]
+enum Kind<'r, R> {
+    Scoped(ScopedCrew<'r, R, OpenGate>),
+    ScopedTrial(Scoped<'r, R, false>),
+    ScopedCounting(Scoped<'r, R, true>),
+    Standing(Standing<R, OpenGate>),
+    StandingTrial(Standing<R, TrialGate<false>>),
+    StandingCounting(Standing<R, TrialGate<true>>),
+}
+
+impl<'r, R: Handle> Kind<'r, R> {
+    /// A crew that starts its workers in each solve.
+    fn scoped(rt: &'r R, alloc: Global, plan: Plan, book: Arc<Book, Global>) -> Kind<'r, R> {
+        let workers = plan.workers;
+        match plan.gate {
+            GateKind::Open => Kind::Scoped(ScopedCrew::new(rt, alloc, workers, OpenGate)),
+            GateKind::Ruled(rule) => {
+                let gate = TrialGate::new(rule, book);
+                Kind::ScopedTrial(Scoped {
+                    crew: ScopedCrew::new(rt, alloc, workers, gate),
+                })
+            }
+            GateKind::Counting => {
+                let gate = TrialGate::new(Rule::Meeting, book);
+                Kind::ScopedCounting(Scoped {
+                    crew: ScopedCrew::new(rt, alloc, workers, gate),
+                })
+            }
+        }
+    }
+
+    /// A crew that starts its workers now.
+    fn standing(
+        rt: &'r R,
+        alloc: Global,
+        plan: Plan,
+        book: Arc<Book, Global>,
+    ) -> Result<Kind<'r, R>, CrewError> {
+        let workers = plan.workers;
+        Ok(match plan.gate {
+            GateKind::Open => Kind::Standing(Standing::new(rt, alloc, workers, OpenGate)?),
+            GateKind::Ruled(rule) => {
+                let gate = TrialGate::new(rule, book);
+                Kind::StandingTrial(Standing::new(rt, alloc, workers, gate)?)
+            }
+            GateKind::Counting => {
+                let gate = TrialGate::new(Rule::Meeting, book);
+                Kind::StandingCounting(Standing::new(rt, alloc, workers, gate)?)
+            }
+        })
+    }
+}
+
+/// A crew of threads, and the book that its gate keeps, unless that is the open gate.
+#[derive(Drop)]
+pub struct ThreadCrew<'r, R> {
+    kind: Kind<'r, R>,
+    book: Arc<Book, Global>,
+}
+
+impl<'r, R: Handle> ThreadCrew<'r, R> {
+    pub fn new(rt: &'r R, alloc: Global, plan: Plan) -> Result<ThreadCrew<'r, R>, CrewError> {
+        let book = Book::new(alloc, plan.workers)?;
+        let book = Arc::new(alloc, book)?;
+        let own = Arc::try_clone(&book)?;
+        let kind = match plan.life {
+            Life::Scoped => Kind::scoped(rt, alloc, plan, own),
+            Life::Standing => Kind::standing(rt, alloc, plan, own)?,
+        };
+        Ok(ThreadCrew { kind, book })
+    }
+
+    /// Settles a peer with this crew.
+    fn settle(&mut self, rt: &R, alloc: Global, peer: &mut PeerCore) -> Result<u32, StepError> {
+        match &mut self.kind {
+            Kind::Scoped(crew) => peer.settle_with(rt, alloc, crew),
+            Kind::ScopedTrial(crew) => peer.settle_with(rt, alloc, crew),
+            Kind::ScopedCounting(crew) => peer.settle_with(rt, alloc, crew),
+            Kind::Standing(crew) => peer.settle_with(rt, alloc, crew),
+            Kind::StandingTrial(crew) => peer.settle_with(rt, alloc, crew),
+            Kind::StandingCounting(crew) => peer.settle_with(rt, alloc, crew),
+        }
+    }
+
+    /// Ends a worker of a crew that started it once.
+    fn dismiss(&mut self, worker: usize) {
+        match &mut self.kind {
+            Kind::Standing(crew) => crew.dismiss(worker),
+            Kind::StandingTrial(crew) => crew.dismiss(worker),
+            Kind::StandingCounting(crew) => crew.dismiss(worker),
+            _ => (),
+        }
+    }
+
+    /// Ends the workers that were started once.
+    fn close(self) {
+        let ThreadCrew { kind, book: _ } = self;
+        match kind {
+            Kind::Standing(crew) => crew.close(),
+            Kind::StandingTrial(crew) => crew.close(),
+            Kind::StandingCounting(crew) => crew.close(),
+            _ => (),
+        }
+    }
+
+    /// What the gate has noted.
+    fn noted(&self, alloc: Global) -> Result<String, AllocError> {
+        match &self.kind {
+            Kind::Scoped(_) | Kind::Standing(_) => Ok(String::new(alloc)),
+            _ => self.book.text(alloc),
+        }
+    }
+}
+
+/// Makes the crew of a peer, in place of the one that it has.
+pub fn make<'r, R: Handle>(
+    rt: &'r R,
+    alloc: Global,
+    crew: &mut Option<ThreadCrew<'r, R>>,
+    plan: Plan,
+) -> Result<String> {
+    let workers = plan.workers;
+    match ThreadCrew::new(rt, alloc, plan) {
+        Ok(made) => {
+            *crew = Some(made);
+            Ok(format!(in alloc; "crews {workers}")?)
+        }
+        Err(error) => {
+            *crew = None;
+            Ok(format!(in alloc; "crews {error:?}")?)
+        }
+    }
+}
+
+/// Settles a peer with its crew. The line ends with what the gate has noted.
+pub fn settle<'r, R: Handle>(
+    rt: &'r R,
+    alloc: Global,
+    peer: &mut PeerCore,
+    crew: &mut Option<ThreadCrew<'r, R>>,
+) -> Result<String> {
+    let Some(crew) = crew else {
+        return Ok(format!(in alloc; "threads none")?);
+    };
+    let outcome = crew.settle(rt, alloc, peer);
+    let noted = crew.noted(alloc)?;
+    match outcome {
+        Ok(reached) => Ok(format!(in alloc; "threads {reached}{noted}")?),
+        Err(StepError::Crew(error)) => Ok(format!(in alloc; "threads {error:?}{noted}")?),
+        Err(StepError::OutOfMemory) => bail!("out of memory"),
+    }
+}
+
+/// Ends a worker of a peer's crew.
+pub fn dismiss<'r, R: Handle>(
+    alloc: Global,
+    crew: &mut Option<ThreadCrew<'r, R>>,
+    worker: usize,
+) -> Result<String> {
+    if let Some(crew) = crew {
+        crew.dismiss(worker);
+    }
+    Ok(format!(in alloc; "dismiss {worker}")?)
+}
+
+/// Ends a peer's crew.
+pub fn close<'r, R: Handle>(alloc: Global, crew: &mut Option<ThreadCrew<'r, R>>) -> Result<String> {
+    if let Some(crew) = crew.take() {
+        crew.close();
+    }
+    Ok(format!(in alloc; "close")?)
+}
