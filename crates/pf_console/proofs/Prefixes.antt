@@ -1,5 +1,5 @@
 -- What a run has written is a prefix of the text that belongs to its input.
-use Rattle.std.proofs.Common.{◌≡◌, ◌⊎◌, ℕ, ◌+◌, List, [], ◌++◌, length, Option, Some, None, Result, Ok, Err, refl, sym, ap, ◌∙◌, subst, append_assoc, inl, inr}
+use Rattle.std.proofs.Common.{◌≡◌, ◌⊎◌, ℕ, ◌+◌, List, [], ◌++◌, length, Option, Some, None, Result, Ok, Err, sym, ap, ◌∙◌, append_assoc, inl, inr}
 use Rattle.std.proofs.lemmas.List.{append-nil}
 use Rattle.pf_text.specs.Driver.{LeadTo, Output, SpendsNumbers, StopsAtValidLine, StopsForMemory, StopsForRead, StopsForWrite, lines_output, text_output}
 use Rattle.pf_text.specs.Lines.{AreLines, lines_of}
