@@ -11,8 +11,7 @@ use std::alloc::{AllocError, Global};
 use std::test::Fail;
 
 /// Circles: one of player 0, a static one of player 1, and one of nobody.
-const SCENE: &[u8] =
-    b"gravity 0 0\n\
+const SCENE: &[u8] = b"gravity 0 0\n\
     circle 0 16777216 0 16777216 0 0\n\
     circle 1 0 0 16777216 0 0\n\
     circle - 16777216 0 16777216 0 0\nend\n";
