@@ -1,11 +1,11 @@
 -- What workers have of islands that are dealt to them in turn.
-use Rattle.std.proofs.Common.{◌≡◌, ◌∙◌, ℕ, zero, suc, ◌+◌, ◌<◌, ◌==◌, ◌%◌, Bool, true, false, cond, List, [], ◌∷◌, ◌++◌, length, map, set, get_or, refl, sym, ap, ap₂, subst, arith, ◌≢◌, drop, take, ◌≤◌}
+use Rattle.std.proofs.Common.{◌≡◌, ◌∙◌, ℕ, zero, suc, ◌+◌, ◌<◌, ◌==◌, ◌%◌, Bool, true, false, List, [], ◌∷◌, ◌++◌, length, map, set, get_or, refl, sym, ap, ap₂, subst, arith, ◌≢◌, drop, take, ◌≤◌}
 use Rattle.std.proofs.lemmas.Bool.{eq-eqb, eqb-true, ne_eqb, true≢false}
 use Rattle.std.proofs.lemmas.List.{append_assoc, drop_all, drop_more, get_or-set_other, get_or-set_same, length-append, length-map, length-set, map-append, take-append-drop, take_more}
 use Rattle.std.proofs.Math.ListN.{get_or-map}
 use Rattle.std.proofs.Math.Seq.{drop-append_seam, get_or-append_seam, take-append_seam}
-use Rattle.std.specs.Prelude.{All, slice_index_or, if◌then◌else◌}
-use Rattle.pf_workers.specs.Dealing.{share, AreShares, AreSharesFrom}
+use Rattle.std.specs.Prelude.{All, if◌then◌else◌}
+use Rattle.pf_workers.specs.Dealing.{share, AreSharesFrom}
 
 module _ {X : Type 0} where
   -- what stands in a list does not depend on what stands for nothing

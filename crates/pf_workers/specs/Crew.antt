@@ -1,7 +1,6 @@
 -- What a contract sees of a crew of threads, and with which errors it fails.
 use Rattle.std.specs.Prelude.{◌≡◌, ℕ, ⊤, Bool, true, false, List, All, replicate}
 use Rattle.pf_cache.specs.Meter.{saturating_sum}
-use Rattle.pf_islands.specs.Split.{Island}
 use Rattle.pf_step.specs.declared.crew.CrewError.{CrewError}
 use Rattle.pf_step.specs.declared.crew.CrewError.TheVariants.{OutOfMemory, NoThread, GateShut, CrewLost}
 

@@ -1,4 +1,4 @@
-use Rattle.std.proofs.Common.{rules, ◌≡◌, ◌∙◌, ◌++◌, ◌∷◌, ◌%◌, ◌<◌, [], ap, length, refl, sym, subst, arith, get_or}
+use Rattle.std.proofs.Common.{rules, ◌≡◌, ◌∙◌, ◌++◌, ◌∷◌, ◌%◌, ◌<◌, [], ap, length, refl, sym, subst, arith}
 use Rattle.std.proofs.lemmas.Nat.{mod_below}
 use Rattle.std.proofs.lemmas.List.{drop_all, length-set}
 use Rattle.pf_workers.specs.Dealing.{AreSharesFrom}

@@ -1,4 +1,4 @@
-use Rattle.std.proofs.Common.{◌≡◌, ◌++◌, ℕ, List, length, take, drop}
+use Rattle.std.proofs.Common.{◌≡◌, ◌++◌, List, length, take, drop}
 use Rattle.pf_islands.specs.Split.{Island}
 use Rattle.pf_workers.specs.Dealing.{AreShares, AreSharesFrom}
 use Rattle.pf_workers.proofs.pile.gather.Given as goal

@@ -1,4 +1,4 @@
-use Rattle.std.proofs.Common.{◌≡◌, ◌∙◌, sym, arith}
+use Rattle.std.proofs.Common.{◌∙◌, sym, arith}
 use Rattle.pf_islands.specs.Same.{Decides-island}
 use Rattle.pf_islands.specs.Split.{no_island}
 use Rattle.pf_workers.proofs.Shares.{default_same}

@@ -1,6 +1,6 @@
-use Rattle.std.proofs.Common.{◌≡◌, ◌∙◌, ◌++◌, ◌∷◌, ap, map, inr}
+use Rattle.std.proofs.Common.{◌∙◌, ◌++◌, ◌∷◌, ap, map, inr}
 use Rattle.std.specs.Vec.Iter.{into_iter_items}
-use Rattle.pf_workers.specs.declared.slots.Slot.TheVariants.{Done, Failed}
+use Rattle.pf_workers.specs.declared.slots.Slot.TheVariants.{Done}
 use Rattle.pf_workers.specs.Slots.{least_error}
 use Rattle.pf_workers.proofs.Answered.{least_after}
 use Rattle.pf_workers.proofs.slots.finish.Goals as goal

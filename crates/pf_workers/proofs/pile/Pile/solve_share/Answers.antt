@@ -1,4 +1,4 @@
-use Rattle.std.proofs.Common.{◌≡◌, ◌≤◌, length, map, arith}
+use Rattle.std.proofs.Common.{length, map, arith}
 use Rattle.std.proofs.lemmas.List.{length-map}
 use Rattle.pf_solver.specs.Alone.{island_after_tick}
 use Rattle.pf_workers.proofs.Shares.{share_end}

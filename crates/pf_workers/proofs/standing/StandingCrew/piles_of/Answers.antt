@@ -1,4 +1,3 @@
-use Rattle.std.proofs.Common.{◌≡◌}
 use Rattle.pf_workers.proofs.Answered.{all_done, failed_standing, if_err, if_ok}
 use Rattle.pf_workers.proofs.standing.StandingCrew.piles_of.Goals as goal
 

@@ -1,4 +1,4 @@
-use Rattle.std.proofs.Common.{◌≡◌, ◌∙◌, ap, ap₂, map, refl, sym}
+use Rattle.std.proofs.Common.{◌∙◌, ap, ap₂, map, refl, sym}
 use Rattle.pf_solver.specs.Alone.{island_after_tick}
 use Rattle.pf_workers.specs.Dealing.{share}
 use Rattle.pf_workers.proofs.Answered.{same_made}
