@@ -1,19 +1,28 @@
 -- What workers have of islands that are dealt to them in turn.
-use Rattle.std.proofs.Common.{◌≡◌, ◌∙◌, ℕ, zero, suc, ◌+◌, ◌<◌, ◌==◌, ◌%◌, Bool, true, false, cond, List, [], ◌∷◌, ◌++◌, length, map, set, get_or, refl, sym, ap, ap₂, subst, arith, ◌≢◌, absurd, drop, take, ◌≤◌}
+use Rattle.std.proofs.Common.{◌≡◌, ◌∙◌, ℕ, zero, suc, ◌+◌, ◌<◌, ◌==◌, ◌%◌, Bool, true, false, List, [], ◌∷◌, ◌++◌, length, map, set, get_or, refl, sym, ap, ap₂, subst, arith, ◌≢◌, drop, take, ◌≤◌}
 use Rattle.std.proofs.lemmas.Bool.{eq-eqb, eqb-true, ne_eqb, true≢false}
-use Rattle.std.proofs.lemmas.List.{append_assoc, drop_more, get_or-set_other, get_or-set_same, length-append, length-map, length-set, map-append, take-append-drop, take_more}
+use Rattle.std.proofs.lemmas.List.{append_assoc, drop_all, drop_more, get_or-set_other, get_or-set_same, length-append, length-map, length-set, map-append, take-append-drop, take_more}
 use Rattle.std.proofs.Math.ListN.{get_or-map}
 use Rattle.std.proofs.Math.Seq.{drop-append_seam, get_or-append_seam, take-append_seam}
-use Rattle.std.specs.Prelude.{All, slice_index_or, if◌then◌else◌}
-use Rattle.pf_workers.specs.Dealing.{share, AreShares, AreSharesFrom}
+use Rattle.std.specs.Prelude.{All, if◌then◌else◌}
+use Rattle.pf_workers.specs.Dealing.{share, AreSharesFrom}
+
+module _ {X : Type 0} where
+  -- what stands in a list does not depend on what stands for nothing
+  pub default_same : (xs : List X) (i : ℕ) (d e : X) → i < length xs → get_or xs i d ≡ get_or xs i e
+  default_same [] i d e low = absurd (omega (arith, low))
+  default_same (x ∷ xs) zero d e low = refl
+  default_same (x ∷ xs) (suc i) d e low = default_same xs i d e (omega (arith, low))
 
 module _ {X : Type 0} where
   -- the first element is the worker's
   pub share_own : (n w k : ℕ) (x : X) (xs : List X) → k % n ≡ w → share n w k (x ∷ xs) ≡ share n w (k + 1) xs ++ x ∷ []
+  unfolding share
   share_own n w k x xs own = ap (λ b. if b then share n w (k + 1) xs ++ x ∷ [] else share n w (k + 1) xs) (eq-eqb (k % n) w own)
 
   -- the first element is another worker's
   pub share_other : (n w k : ℕ) (x : X) (xs : List X) → k % n ≢ w → share n w k (x ∷ xs) ≡ share n w (k + 1) xs
+  unfolding share
   share_other n w k x xs other = ap (λ b. if b then share n w (k + 1) xs ++ x ∷ [] else share n w (k + 1) xs) (ne_eqb (k % n) w other)
 
   -- one more is dealt
@@ -41,9 +50,10 @@ module _ {X : Type 0} where
   -- lists that differ in front of their last elements, or in these, differ
   last_same : (xs ys : List X) (x y : X) → xs ++ x ∷ [] ≡ ys ++ y ∷ [] → (xs ≡ ys) × (x ≡ y)
   last_same xs ys x y same =
-      let long : length xs ≡ length ys = omega (arith, ap length same, length-append xs (x ∷ []), length-append ys (y ∷ [])) in
-      (sym (take-append_seam xs (x ∷ [])) ∙ ap₂ take long same ∙ take-append_seam ys (y ∷ []),
-      sym (get_or-append_seam xs x [] x) ∙ ap₂ (λ l i. get_or l i x) same long ∙ get_or-append_seam ys y [] x)
+      let long : length xs ≡ length ys = omega (arith, ap length same, length-append xs (x ∷ []), length-append ys (y ∷ [])) in (
+        sym (take-append_seam xs (x ∷ [])) ∙ ap₂ take long same ∙ take-append_seam ys (y ∷ []),
+        sym (get_or-append_seam xs x [] x) ∙ ap₂ (λ l i. get_or l i x) same long ∙ get_or-append_seam ys y [] x,
+      )
 
   -- the first of those that are left is the last in the pile of the worker whose turn it is
   pub taken_next : (k who : ℕ) (x y : X) (xs pile : List X) (piles : List (List X)) → k % length piles ≡ who → who < length piles
@@ -52,11 +62,13 @@ module _ {X : Type 0} where
   taken_next k who x y xs pile piles turn within shares pile_is =
       let n = length piles in
       let both = last_same pile (share n who (k + 1) xs) y x
-          (sym pile_is ∙ shares who within ∙ share_own n who k x xs turn) in
-      (both.1, λ w low.
-          let same : length (set piles who pile) ≡ n = length-set piles who pile in
-          let below : w < n = omega (arith, low, same) in
-          subst (λ m. get_or (set piles who pile) w [] ≡ share m w (k + 1) xs) (sym same) (by w both.0 (who == w) refl below))
+      (sym pile_is ∙ shares who within ∙ share_own n who k x xs turn) in (
+        both.1,
+        λ w low.
+            let same : length (set piles who pile) ≡ n = length-set piles who pile in
+            let below : w < n = omega (arith, low, same) in
+            subst (λ m. get_or (set piles who pile) w [] ≡ share m w (k + 1) xs) (sym same) (by w both.0 (who == w) refl below),
+      )
     where
       by : (w : ℕ) → pile ≡ share (length piles) who (k + 1) xs → (b : Bool) → (who == w) ≡ b → w < length piles
           → get_or (set piles who pile) w [] ≡ share (length piles) w (k + 1) xs
@@ -78,17 +90,27 @@ module _ {X : Type 0} where
 
   -- piles without islands are the shares of none
   pub shares_of_none : (k : ℕ) (piles : List (List X)) → All (λ pile. pile ≡ []) piles → AreSharesFrom k [] piles
+  unfolding share
   shares_of_none k piles empty w low = empty w [] low
 
-  pub default_same : (ps : List (List X)) (i : ℕ) (d : List X) → i < length ps → get_or ps i d ≡ get_or ps i []
-  default_same [] i d low = absurd (omega arith)
-  default_same (p ∷ ps) zero d low = refl
-  default_same (p ∷ ps) (suc i) d low = default_same ps i d (omega (arith, low))
-
   pub none_left : (k : ℕ) (piles : List (List X)) → AreSharesFrom k [] piles → All (λ pile. pile ≡ []) piles
-  none_left k piles shares w d low = default_same piles w d low ∙ shares w low
+  unfolding share
+  none_left k piles shares w d low = default_same piles w d [] low ∙ shares w low
 
   -- ---- the loops
+
+  -- a list that is at its end has no share
+  pub share_end : (n w k m : ℕ) (xs : List X) → length xs ≤ m → [] ≡ share n w k (drop m xs)
+  unfolding share
+  share_end n w k m xs end = sym (ap (share n w k) (drop_all m xs end))
+
+  -- the pile of the worker whose turn it is has an island, if one is left of all
+  pub still_some : (all : List X) (k who : ℕ) (piles : List (List X)) → k < length all → k % length piles ≡ who → who < length piles
+      → AreSharesFrom k (drop k all) piles → get_or piles who [] ≢ []
+  still_some [] k who piles low turn within shares = absurd (omega (arith, low))
+  still_some (x ∷ xs) k who piles low turn within shares =
+      some_left k who (get_or (x ∷ xs) k x) (drop (k + 1) (x ∷ xs)) piles turn within
+      (subst (λ l. AreSharesFrom k l piles) (drop_more (x ∷ xs) k x low) shares)
 
   -- the last of those that are left is dealt
   pub deal_step : (all now after : List X) (x : X) (who : ℕ) (pile : List X) (piles : List (List X))
@@ -100,13 +122,14 @@ module _ {X : Type 0} where
       let m = length after in
       let long : length now ≡ m + 1 = omega (arith, ap length split, length-append after (x ∷ [])) in
       let whole : all ≡ after ++ x ∷ drop (m + 1) all =
-          sym (take-append-drop (m + 1) all) ∙ ap (λ l. l ++ drop (m + 1) all) (sym (ap (λ i. take i all) long) ∙ sym now_is ∙ split)
-          ∙ append_assoc after (x ∷ []) (drop (m + 1) all) in
+      sym (take-append-drop (m + 1) all) ∙ ap (λ l. l ++ drop (m + 1) all) (sym (ap (λ i. take i all) long) ∙ sym now_is ∙ split)
+      ∙ append_assoc after (x ∷ []) (drop (m + 1) all) in
       let rest : drop m all ≡ x ∷ drop (m + 1) all =
-          ap (drop m) whole ∙ drop-append_seam after (x ∷ drop (m + 1) all) in
-      (sym (ap (take m) whole ∙ take-append_seam after (x ∷ drop (m + 1) all)),
-      subst (λ l. AreSharesFrom m l (set piles who pile)) (sym rest)
-      (dealt_more m who x (drop (m + 1) all) pile piles turn within (subst (λ i. AreSharesFrom i (drop i all) piles) long shares) pile_is))
+      ap (drop m) whole ∙ drop-append_seam after (x ∷ drop (m + 1) all) in (
+        sym (ap (take m) whole ∙ take-append_seam after (x ∷ drop (m + 1) all)),
+        subst (λ l. AreSharesFrom m l (set piles who pile)) (sym rest)
+            (dealt_more m who x (drop (m + 1) all) pile piles turn within (subst (λ i. AreSharesFrom i (drop i all) piles) long shares) pile_is),
+      )
 
   -- the first of those that are left is put behind those before
   pub gather_step : (all before : List X) (k who : ℕ) (x : X) (pile : List X) (piles : List (List X)) → k < length all
@@ -114,35 +137,53 @@ module _ {X : Type 0} where
       → ((before ++ take k all) ++ x ∷ [] ≡ before ++ take (k + 1) all) × AreSharesFrom (k + 1) (drop (k + 1) all) (set piles who pile)
   gather_step all before k who x pile piles low turn within shares pile_is =
       let next = taken_next k who (get_or all k x) x (drop (k + 1) all) pile piles turn within
-          (subst (λ l. AreSharesFrom k l piles) (drop_more all k x low) shares) pile_is in
-      (append_assoc before (take k all) (x ∷ [])
-      ∙ ap (λ l. before ++ l) (ap (λ y. take k all ++ y ∷ []) next.0 ∙ sym (take_more all k x low)),
-      next.1)
+      (subst (λ l. AreSharesFrom k l piles) (drop_more all k x low) shares) pile_is in (
+        append_assoc before (take k all) (x ∷ [])
+            ∙ ap (λ l. before ++ l) (ap (λ y. take k all ++ y ∷ []) next.0 ∙ sym (take_more all k x low)),
+        next.1,
+      )
 
   -- one more of a list that is gone through from its end
   pub share_more : (n w k : ℕ) (xs : List X) (d : X) → k < length xs → k % n ≡ w
-      → share n w (k + 1) (drop (k + 1) xs) ++ get_or xs k d ∷ [] ≡ share n w k (drop k xs)
+      → share n w k (drop k xs) ≡ share n w (k + 1) (drop (k + 1) xs) ++ get_or xs k d ∷ []
   share_more n w k xs d low own =
-      sym (ap (share n w k) (drop_more xs k d low) ∙ share_own n w k (get_or xs k d) (drop (k + 1) xs) own)
+      ap (share n w k) (drop_more xs k d low) ∙ share_own n w k (get_or xs k d) (drop (k + 1) xs) own
 
-  pub share_same : (n w k : ℕ) (xs : List X) → k < length xs → k % n ≢ w → share n w (k + 1) (drop (k + 1) xs) ≡ share n w k (drop k xs)
-  share_same n w k [] low other = absurd (omega (arith, low))
-  share_same n w k (x ∷ xs) low other =
-      sym (ap (share n w k) (drop_more (x ∷ xs) k x low) ∙ share_other n w k (get_or (x ∷ xs) k x) (drop (k + 1) (x ∷ xs)) other)
+  pub share_same : (n w k : ℕ) (xs : List X) (d : X) → k < length xs → k % n ≢ w
+      → share n w k (drop k xs) ≡ share n w (k + 1) (drop (k + 1) xs)
+  share_same n w k xs d low other =
+      ap (share n w k) (drop_more xs k d low) ∙ share_other n w k (get_or xs k d) (drop (k + 1) xs) other
 
-module _ {X Y : Type 0} (f : X → Y) where
-  share-map : (n w k : ℕ) (xs : List X) → share n w k (map f xs) ≡ map f (share n w k xs)
-  share-map n w k [] = refl
-  share-map n w k (x ∷ xs) = by (k % n == w) refl
+  -- where the elements of a number agree, or are not the worker's, one more is the same
+  pub agree_more : (n w k : ℕ) (xs ys : List X) (d : X) → k < length xs → length ys ≡ length xs
+      → share n w (k + 1) (drop (k + 1) xs) ≡ share n w (k + 1) (drop (k + 1) ys)
+      → (k % n ≡ w → get_or xs k d ≡ get_or ys k d) → share n w k (drop k xs) ≡ share n w k (drop k ys)
+  agree_more n w k xs ys d low long later agree = by (k % n == w) refl
     where
-      by : (b : Bool) → (k % n == w) ≡ b → share n w k (map f (x ∷ xs)) ≡ map f (share n w k (x ∷ xs))
+      by : (b : Bool) → (k % n == w) ≡ b → share n w k (drop k xs) ≡ share n w k (drop k ys)
       by true is =
           let own = eqb-true (k % n) w is in
-          share_own n w k (f x) (map f xs) own ∙ ap (λ ys. ys ++ f x ∷ []) (share-map n w (k + 1) xs)
-          ∙ sym (map-append f (share n w (k + 1) xs) (x ∷ [])) ∙ ap (map f) (sym (share_own n w k x xs own))
+          share_more n w k xs d low own ∙ ap₂ (λ l x. l ++ x ∷ []) later (agree own)
+          ∙ sym (share_more n w k ys d (omega (arith, low, long)) own)
       by false is =
           let other : k % n ≢ w = λ same. true≢false (sym (eq-eqb (k % n) w same) ∙ is) in
-          share_other n w k (f x) (map f xs) other ∙ share-map n w (k + 1) xs ∙ ap (map f) (sym (share_other n w k x xs other))
+          share_same n w k xs d low other ∙ later ∙ sym (share_same n w k ys d (omega (arith, low, long)) other)
+
+module _ {X Y : Type 0} (f : X → Y) where
+  mapped_more : (n w k : ℕ) (x : X) (xs : List X) → share n w (k + 1) (map f xs) ≡ map f (share n w (k + 1) xs)
+      → (b : Bool) → (k % n == w) ≡ b → share n w k (f x ∷ map f xs) ≡ map f (share n w k (x ∷ xs))
+  mapped_more n w k x xs rest true is =
+      let own = eqb-true (k % n) w is in
+      share_own n w k (f x) (map f xs) own ∙ ap (λ ys. ys ++ f x ∷ []) rest
+      ∙ sym (map-append f (share n w (k + 1) xs) (x ∷ [])) ∙ ap (map f) (sym (share_own n w k x xs own))
+  mapped_more n w k x xs rest false is =
+      let other : k % n ≢ w = λ same. true≢false (sym (eq-eqb (k % n) w same) ∙ is) in
+      share_other n w k (f x) (map f xs) other ∙ rest ∙ ap (map f) (sym (share_other n w k x xs other))
+
+  pub share-map : (n w k : ℕ) (xs : List X) → share n w k (map f xs) ≡ map f (share n w k xs)
+  unfolding share
+  share-map n w k [] = refl
+  share-map n w k (x ∷ xs) = mapped_more n w k x xs (share-map n w (k + 1) xs) (k % n == w) refl
 
   -- what all workers make of their shares are the shares of what is made of all
   pub shares_mapped : (k : ℕ) (xs : List X) (piles : List (List X)) → AreSharesFrom k xs piles
@@ -154,27 +195,28 @@ module _ {X Y : Type 0} (f : X → Y) where
       (get_or-map (map f) piles w [] ∙ ap (map f) (shares w below) ∙ sym (share-map (length piles) w k xs))
 
 module _ {X : Type 0} (P : X → Type 0) where
-  all_more : (xs : List X) (x : X) → All P xs → P x → All P (xs ++ x ∷ [])
+  pub all_more : (xs : List X) (x : X) → All P xs → P x → All P (xs ++ x ∷ [])
   all_more [] x ps p zero d low = p
   all_more [] x ps p (suc i) d low = absurd (omega arith)
   all_more (y ∷ ys) x ps p zero d low = ps 0 d (omega arith)
   all_more (y ∷ ys) x ps p (suc i) d low =
       all_more ys x (λ j e below. ps (suc j) e (omega (arith, below))) p i d (omega (arith, low))
 
+  all_of_more : (n w k : ℕ) (x : X) (xs : List X) → P x → All P (share n w (k + 1) xs)
+      → (b : Bool) → (k % n == w) ≡ b → All P (share n w k (x ∷ xs))
+  all_of_more n w k x xs p rest true is =
+      subst (All P) (sym (share_own n w k x xs (eqb-true (k % n) w is))) (all_more (share n w (k + 1) xs) x rest p)
+  all_of_more n w k x xs p rest false is =
+      subst (All P) (sym (share_other n w k x xs (λ same. true≢false (sym (eq-eqb (k % n) w same) ∙ is)))) rest
+
   share_all : (n w k : ℕ) (xs : List X) → All P xs → All P (share n w k xs)
-  share_all n w k [] ps = ps
-  share_all n w k (x ∷ xs) ps = by (k % n == w) refl
-    where
-      rest : All P (share n w (k + 1) xs)
-      rest = share_all n w (k + 1) xs (λ j e below. ps (suc j) e (omega (arith, below)))
-      by : (b : Bool) → (k % n == w) ≡ b → All P (share n w k (x ∷ xs))
-      by true is =
-          subst (All P) (sym (share_own n w k x xs (eqb-true (k % n) w is)))
-          (all_more (share n w (k + 1) xs) x rest (ps 0 x (omega arith)))
-      by false is =
-          subst (All P) (sym (share_other n w k x xs (λ same. true≢false (sym (eq-eqb (k % n) w same) ∙ is)))) rest
+  unfolding share
+  share_all n w k [] ps = λ i d low. absurd (omega (arith, low))
+  share_all n w k (x ∷ xs) ps =
+      all_of_more n w k x xs (ps 0 x (omega arith)) (share_all n w (k + 1) xs (λ j e below. ps (suc j) e (omega (arith, below))))
+      (k % n == w) refl
 
   -- what holds of all islands holds of each worker's
   pub shares_all : (k : ℕ) (xs : List X) (piles : List (List X)) → All P xs → AreSharesFrom k xs piles → All (All P) piles
   shares_all k xs piles ps shares w d low =
-      subst (All P) (sym (default_same piles w d low ∙ shares w low)) (share_all (length piles) w k xs ps)
+      subst (All P) (sym (default_same piles w d [] low ∙ shares w low)) (share_all (length piles) w k xs ps)

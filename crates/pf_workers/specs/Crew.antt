@@ -1,7 +1,6 @@
 -- What a contract sees of a crew of threads, and with which errors it fails.
-use Rattle.std.specs.Prelude.{◌≡◌, ℕ, ⊤, ⊥, Bool, true, false, List, All, replicate}
+use Rattle.std.specs.Prelude.{◌≡◌, ℕ, ⊤, Bool, true, false, List, All, replicate}
 use Rattle.pf_cache.specs.Meter.{saturating_sum}
-use Rattle.pf_islands.specs.Split.{Island}
 use Rattle.pf_step.specs.declared.crew.CrewError.{CrewError}
 use Rattle.pf_step.specs.declared.crew.CrewError.TheVariants.{OutOfMemory, NoThread, GateShut, CrewLost}
 
@@ -22,18 +21,19 @@ IsScopedError always NoThread = ⊤
 IsScopedError always GateShut = always ≡ false
 IsScopedError always CrewLost = ⊥
 
--- which workers of a crew still are there, the turn of its next solve, and whether it is lost
+-- for each worker of a crew whether it is still there, the turn of the next solve, and whether the
+-- crew is lost
 pub record StandingCrew : Type 0 where
-  pub open : List Bool
+  pub workers : List Bool
   pub turn : ℕ
   pub lost : Bool
 
 abbrev pub new_crew : ℕ → StandingCrew
-new_crew workers = record { open = replicate workers true; turn = 0; lost = false }
+new_crew workers = record { workers = replicate workers true; turn = 0; lost = false }
 
 -- no worker was dismissed
-abbrev pub AreOpen : StandingCrew → Type 0
-AreOpen c = All (λ open. open ≡ true) c.open
+abbrev pub HasAllWorkers : StandingCrew → Type 0
+HasAllWorkers c = All (λ there. there ≡ true) c.workers
 
 -- the crew after a solve: a turn is over; the last turn stays
 abbrev pub turned : StandingCrew → StandingCrew
@@ -63,6 +63,6 @@ IsStandingError always CrewLost = ⊤
 
 -- with which error a solve fails, and the crew after it: once a worker is lost, for good
 abbrev pub FailsStanding : Bool → StandingCrew → CrewError → StandingCrew → Type 0
-FailsStanding always before CrewLost after = (after.lost ≡ true) × (after.open ≡ before.open)
+FailsStanding always before CrewLost after = (after.lost ≡ true) × (after.workers ≡ before.workers)
 FailsStanding always before error after =
     (before.lost ≡ false) × IsStandingError always error × (after ≡ turned before)

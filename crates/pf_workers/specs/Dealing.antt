@@ -1,5 +1,5 @@
 -- How islands are dealt to the workers of a crew: in turn, island k to worker k mod n.
-use Rattle.std.specs.Prelude.{◌≡◌, ℕ, ◌+◌, ◌%◌, ◌<◌, ◌==◌, List, [], ◌∷◌, ◌++◌, length, map, if◌then◌else◌, slice_index_or}
+use Rattle.std.specs.Prelude.{◌≡◌, ℕ, ◌+◌, ◌%◌, ◌<◌, ◌==◌, List, [], ◌∷◌, ◌++◌, length, if◌then◌else◌, slice_index_or}
 
 -- of a list whose first element has the number k, what worker w of n has, from last to first
 unfoldable pub share : {X : Type 0} → (n w k : ℕ) → List X → List X

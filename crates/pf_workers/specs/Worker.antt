@@ -1,5 +1,5 @@
 -- What a worker of a crew makes of its islands.
-use Rattle.std.specs.Prelude.{◌≡◌, ◌⊎◌, ⊤, ⊥, Bool, false, List, map, Result, Ok, Err}
+use Rattle.std.specs.Prelude.{◌≡◌, ⊤, Bool, false, List, map, Result, Ok, Err}
 use Rattle.pf_shapes.specs.Scene.{Scene}
 use Rattle.pf_islands.specs.Split.{Island}
 use Rattle.pf_solver.specs.Alone.{island_after_tick}

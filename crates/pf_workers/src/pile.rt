@@ -1,6 +1,6 @@
 //! The islands of the workers: dealt in turn, island k to worker k mod n.
 
-ghost use Rattle.std.specs.Prelude.{◌≡◌, ◌<◌, ◌++◌, [], All, List, OnOk, length};
+ghost use Rattle.std.specs.Prelude.{◌≡◌, ◌<◌, ◌++◌, [], All, IfOk, List, OnOk, length};
 ghost use Rattle.pf_islands.specs.Split.{Island};
 ghost use Rattle.pf_workers.specs.Dealing.{AreShares};
 
@@ -27,7 +27,7 @@ impl Model for Pile {
 }
 
 impl Pile {
-    ghost use Rattle.std.specs.Prelude.{◌≡◌, ◌+◌, ◌<◌, ◌≤◌, ◌++◌, ◌∷◌, [], All, IfOk, IfSome, IsNone, OnOk, length, map, take};
+    ghost use Rattle.std.specs.Prelude.{◌≡◌, ◌+◌, ◌<◌, ◌≤◌, ◌++◌, ◌∷◌, [], All, IfOk, IfSome, IsNone, OnOk, drop, length, map, take};
     ghost use Rattle.pf_islands.specs.Split.{IsIslandOf};
     ghost use Rattle.pf_solver.specs.Alone.{island_after_tick};
     ghost use Rattle.pf_workers.specs.Dealing.{share};
@@ -59,12 +59,7 @@ impl Pile {
 
     /// Puts a copy of an island after a tick at a place, in the memory of the island there, if there
     /// is one.
-    fn solve_copy(
-        &mut self,
-        place: usize,
-        scene: &Scene,
-        island: &Island,
-    ) -> Result<(), AllocError>
+    fn solve_copy(&mut self, place: usize, scene: &Scene, island: &Island) -> Result<(), AllocError>
         requires place { place ≤ length self.old }
         requires island { IsIslandOf scene.now island.now }
         ensures solved { OnOk result (take (place + 1) self.new
@@ -78,6 +73,36 @@ impl Pile {
         }
         solve_island(scene, &mut self.islands[place]);
         Ok(())
+    }
+
+    /// Puts a copy of the island of a number at a place, after a tick, if it is dealt to the worker.
+    /// Returns the next place.
+    fn solve_if_own(
+        &mut self,
+        place: usize,
+        scene: &Scene,
+        islands: &[Island],
+        number: usize,
+        workers: usize,
+        worker: usize,
+    ) -> Result<usize, AllocError>
+        requires place { place ≤ length self.old }
+        requires workers { 0 < workers }
+        requires number { number < length islands.now }
+        requires few { place + number < length islands.now }
+        requires islands { All (IsIslandOf scene.now) islands.now }
+        requires later { take place self.old ≡ share workers worker (number + 1)
+            (drop (number + 1) (map (island_after_tick scene.now) islands.now)) }
+        ensures solved { IfOk result (λ next. take next self.new ≡ share workers worker number
+            (drop number (map (island_after_tick scene.now) islands.now))) }
+        ensures within { IfOk result (λ next. next ≤ length self.new) }
+        ensures few { IfOk result (λ next. next + number ≤ length islands.now) }
+    {
+        if number % workers != worker {
+            return Ok(place);
+        }
+        self.solve_copy(place, scene, &islands[number])?;
+        Ok(place + 1)
     }
 
     /// The islands of a worker after a tick: copies, in the memory of this pile.
@@ -94,15 +119,13 @@ impl Pile {
             ≡ share workers worker 0 (map (island_after_tick scene.now) islands.now)) }
     {
         let mut pile = self;
-        let mut count = 0;
-        for done in 0..islands.len() {
-            let number = islands.len() - 1 - done;
-            if number % workers == worker {
-                pile.solve_copy(count, scene, &islands[number])?;
-                count += 1;
-            }
+        let mut place = 0;
+        let mut number = islands.len();
+        while number > 0 {
+            number -= 1;
+            place = pile.solve_if_own(place, scene, islands, number, workers, worker)?;
         }
-        pile.islands.truncate(count);
+        pile.islands.truncate(place);
         Ok(pile)
     }
 
@@ -121,49 +144,49 @@ pub(crate) fn empty_piles(alloc: Global, count: usize) -> Result<Vec<Pile>, Allo
     ensures empty { IfOk result (λ piles. All (λ pile. pile ≡ []) piles.items) }
 {
     let mut piles = Vec::with_capacity(alloc, count)?;
-    for _ in 0..count {
+    for _made in 0..count {
         piles.push(Pile::new(alloc))?;
     }
     Ok(piles)
 }
 
 /// Deals islands to the workers, whose piles are empty.
-pub(crate) fn deal(islands: &mut Vec<Island>, piles: &mut [Pile]) -> Result<(), AllocError>
-    requires some { 0 < length piles.old }
-    requires empty { All (λ pile. pile ≡ []) piles.old }
-    ensures shares { OnOk result (AreShares islands.old.items piles.new) }
-    ensures count { length piles.new ≡ length piles.old }
+pub(crate) fn deal(islands: &mut Vec<Island>, piles: Vec<Pile>) -> Result<Vec<Pile>, AllocError>
+    requires some { 0 < length piles.items }
+    requires empty { All (λ pile. pile ≡ []) piles.items }
+    ensures shares { IfOk result (λ dealt. AreShares islands.old.items dealt.items) }
+    ensures count { IfOk result (λ dealt. length dealt.items ≡ length piles.items) }
     ensures rest { OnOk result (islands.new.items ≡ []) }
 {
+    let mut piles = piles;
     while let Some(island) = islands.pop() {
         let worker = islands.len() % piles.len();
-        let pile = &mut piles[worker];
-        pile.push(island)?;
+        piles[worker].push(island)?;
     }
-    Ok(())
+    Ok(piles)
 }
 
 /// Puts so many islands of the workers behind those of a list, in the order in which they were
-/// dealt.
+/// dealt. Returns the piles, which are empty then.
 pub(crate) fn gather(
-    piles: &mut [Pile],
+    piles: Vec<Pile>,
     count: usize,
     islands: &mut Vec<Island>,
-) -> Result<(), AllocError>
-    requires { 0 < length piles.old }
-    ensures gathered { (all : List Island) → AreShares all piles.old → length all ≡ count
+) -> Result<Vec<Pile>, AllocError>
+    requires { 0 < length piles.items }
+    ensures gathered { (all : List Island) → AreShares all piles.items → length all ≡ count
         → OnOk result (islands.new.items ≡ islands.old.items ++ all) }
-    ensures count { length piles.new ≡ length piles.old }
-    ensures empty { (all : List Island) → AreShares all piles.old → length all ≡ count
-        → OnOk result (All (λ pile. pile ≡ []) piles.new) }
+    ensures count { IfOk result (λ rest. length rest.items ≡ length piles.items) }
+    ensures empty { (all : List Island) → AreShares all piles.items → length all ≡ count
+        → IfOk result (λ rest. All (λ pile. pile ≡ []) rest.items) }
 {
+    let mut piles = piles;
     for number in 0..count {
         let worker = number % piles.len();
-        let pile = &mut piles[worker];
-        let Some(island) = pile.pop() else {
-            return Ok(());
-        };
-        islands.push(island)?;
+        match piles[worker].pop() {
+            Some(island) => islands.push(island)?,
+            None => return Ok(piles),
+        }
     }
-    Ok(())
+    Ok(piles)
 }

@@ -14,11 +14,10 @@ use pf_shapes::Scene;
 use pf_step::{Crew, CrewError};
 use std::alloc::{AllocError, Global};
 use std::marker::{Model, PhantomData};
-use std::mem;
 use std::snapshot::Snapshot;
 use std::sync::Wait;
-use std::thread;
 use std::thread::{Promise, Scope, Threads};
+use std::{mem, thread};
 
 /// What a worker returns: its islands after a tick of this scene, unless the gate is shut.
 #[derive(Drop)]
@@ -153,7 +152,7 @@ impl<'r, R: Threads + Wait, G: Gate + Sync> ScopedCrew<'r, R, G> {
                 requires { All (All (IsIslandOf scene.now)) piles.items }
                 ensures solved { IfOk result
                     (λ solved. solved.items
-                    ≡ map (map (island_after_tick scene.entry.now)) piles.entry.items) }
+                    ≡ map (map (island_after_tick scene.entry.now)) piles.items) }
                 ensures failed { IfErr result (IsScopedError G.ALWAYS) }
             {
                 let mut piles = piles;
@@ -167,11 +166,7 @@ impl<'r, R: Threads + Wait, G: Gate + Sync> ScopedCrew<'r, R, G> {
     /// worker k mod n. Returns an error where it is out of memory, where a thread could not be
     /// started, and where the gate was shut for a worker. The islands are gone after an error. The
     /// crew can solve again.
-    pub fn solve(
-        &mut self,
-        scene: &Scene,
-        islands: Vec<Island>,
-    ) -> Result<Vec<Island>, CrewError>
+    pub fn solve(&mut self, scene: &Scene, islands: Vec<Island>) -> Result<Vec<Island>, CrewError>
         requires { All (IsIslandOf scene.now) islands.items }
         ensures solved { IfOk result
             (λ solved. solved.items ≡ map (island_after_tick scene.now) islands.items) }
@@ -182,10 +177,10 @@ impl<'r, R: Threads + Wait, G: Gate + Sync> ScopedCrew<'r, R, G> {
         self.turn = turn.saturating_add(1);
         let mut islands = islands;
         let count = islands.len();
-        let mut piles = empty_piles(self.alloc, self.workers)?;
-        deal(&mut islands, &mut piles)?;
-        let mut solved = self.run(scene, turn, piles)?;
-        gather(&mut solved, count, &mut islands)?;
+        let empty = empty_piles(self.alloc, self.workers)?;
+        let piles = deal(&mut islands, empty)?;
+        let solved = self.run(scene, turn, piles)?;
+        let _empty = gather(solved, count, &mut islands)?;
         Ok(islands)
     }
 }

@@ -1,9 +1,11 @@
 //! What the workers of a standing crew have answered in a solve.
 
-ghost use Rattle.std.specs.Prelude.{◌≡◌, ◌≢◌, ◌<◌, All, IfErr, IfOk, IsTrue, length};
-ghost use Rattle.std.specs.Arc.{arc_value};
-ghost use Rattle.pf_workers.specs.Dealing.{AreShares, share};
-ghost use Rattle.pf_workers.specs.Slots.{AreAnswers, IsFirstError, IsThere};
+ghost use Rattle.std.specs.Prelude.{◌≡◌, ◌<◌, ◌%◌, ◌⊎◌, All, IfErr, IfOk, IsTrue, Some, length, map, slice_index_or};
+ghost use Rattle.pf_islands.specs.Split.{no_island};
+ghost use Rattle.pf_step.specs.declared.crew.CrewError.TheVariants.{OutOfMemory};
+ghost use Rattle.pf_workers.specs.Dealing.{share};
+ghost use Rattle.pf_workers.specs.Slots.{AreAnswers, IsThere, least_error};
+ghost use Rattle.pf_workers.specs.declared.slots.Slot.TheVariants.{Done, Missing};
 
 use crate::gate::Gate;
 use crate::pile::Pile;
@@ -21,6 +23,9 @@ pub(crate) enum Slot {
 }
 
 impl Slot {
+    ghost use Rattle.std.specs.Prelude.{IsTrue};
+    ghost use Rattle.pf_workers.specs.Slots.{IsThere};
+
     /// Whether the worker has answered.
     fn is_there(&self) -> bool
         ensures { IsTrue result → IsThere self.now }
@@ -35,7 +40,7 @@ pub(crate) fn no_answers(alloc: Global, workers: usize) -> Result<Vec<Slot>, All
     ensures missing { IfOk result (λ slots. All (λ slot. slot ≡ Missing) slots.items) }
 {
     let mut slots = Vec::with_capacity(alloc, workers)?;
-    for _ in 0..workers {
+    for _made in 0..workers {
         slots.push(Slot::Missing)?;
     }
     Ok(slots)
@@ -53,6 +58,26 @@ pub(crate) fn have_answered(slots: &[Slot]) -> bool
     true
 }
 
+/// Whether the islands of a number are the same in two lists, or not dealt to the worker.
+fn agree_at(
+    ours: &[Island],
+    theirs: &[Island],
+    number: usize,
+    workers: usize,
+    worker: usize,
+) -> bool
+    requires workers { 0 < workers }
+    requires number { number < length ours.now }
+    requires long { length theirs.now ≡ length ours.now }
+    ensures { IsTrue result → number % workers ≡ worker
+        → slice_index_or ours.now number no_island ≡ slice_index_or theirs.now number no_island }
+{
+    if number % workers != worker {
+        return true;
+    }
+    ours[number] == theirs[number]
+}
+
 /// Whether a worker has the same islands of two lists.
 fn is_share(ours: &[Island], theirs: &[Island], workers: usize, worker: usize) -> bool
     requires { 0 < workers }
@@ -61,9 +86,10 @@ fn is_share(ours: &[Island], theirs: &[Island], workers: usize, worker: usize) -
     if ours.len() != theirs.len() {
         return false;
     }
-    for done in 0..ours.len() {
-        let number = ours.len() - 1 - done;
-        if number % workers == worker && ours[number] != theirs[number] {
+    let mut number = ours.len();
+    while number > 0 {
+        number -= 1;
+        if !agree_at(ours, theirs, number, workers, worker) {
             return false;
         }
     }
@@ -72,7 +98,6 @@ fn is_share(ours: &[Island], theirs: &[Island], workers: usize, worker: usize) -
 
 impl Solved {
     ghost use Rattle.std.specs.Prelude.{◌≡◌, ◌<◌, IfSome, map};
-    ghost use Rattle.std.specs.Arc.{arc_value};
     ghost use Rattle.pf_solver.specs.Alone.{island_after_tick};
     ghost use Rattle.pf_workers.specs.Dealing.{share};
 
@@ -80,36 +105,44 @@ impl Solved {
     fn into_pile(self, task: &Task, workers: usize, worker: usize) -> Option<Pile>
         requires { 0 < workers }
         ensures { IfSome result (λ pile. pile ≡ share workers worker 0
-            (map (island_after_tick (arc_value task.now.scene)) (arc_value task.now.islands).items)) }
+            (map (island_after_tick task.now.scene) task.now.islands)) }
     {
-        let is_ours = self.workers == workers
-            && self.worker == worker
-            && *self.task.scene == *task.scene
-            && is_share(&task.islands, &self.task.islands, workers, worker);
-        if is_ours { Some(self.pile) } else { None }
+        if self.workers != workers {
+            return None;
+        }
+        if self.worker != worker {
+            return None;
+        }
+        let has_our_scene = *self.task.scene() == *task.scene();
+        if !has_our_scene {
+            return None;
+        }
+        if is_share(task.islands(), self.task.islands(), workers, worker) {
+            Some(self.pile)
+        } else {
+            None
+        }
     }
 }
 
 /// Notes the answer of a worker. Drops an answer of another solve or another task, of a worker that
 /// is none, and a second one of a worker.
-pub(crate) fn accept<G: Gate>(
-    answer: Answer<G>,
-    turn: usize,
-    task: &Task,
-    slots: &mut [Slot],
-)
-    requires { AreAnswers G.ALWAYS (arc_value task.now.scene) (arc_value task.now.islands).items
-        slots.old }
-    ensures answers { AreAnswers G.ALWAYS (arc_value task.now.scene)
-        (arc_value task.now.islands).items slots.new }
+pub(crate) fn accept<G: Gate>(answer: Answer<G>, turn: usize, task: &Task, slots: &mut [Slot])
+    requires { AreAnswers G.ALWAYS task.now slots.old }
+    ensures answers { AreAnswers G.ALWAYS task.now slots.new }
     ensures count { length slots.new ≡ length slots.old }
 {
     let workers = slots.len();
-    let worker = answer.worker;
-    if answer.turn != turn || worker >= workers || slots[worker].is_there() {
+    let Answer {
+        turn: answered,
+        worker,
+        outcome,
+        ..
+    } = answer;
+    if answered != turn || worker >= workers || slots[worker].is_there() {
         return;
     }
-    match answer.outcome {
+    match outcome {
         Ok(solved) => {
             if let Some(pile) = solved.into_pile(task, workers, worker) {
                 slots[worker] = Slot::Done(pile);

@@ -1,7 +1,7 @@
 //! A crew whose workers are started once.
 
-ghost use Rattle.std.specs.Prelude.{◌≡◌, ◌<◌, All, IfErr, IfOk, OnOk, length, map};
-ghost use Rattle.std.specs.Arc.{arc_value};
+ghost use Rattle.std.specs.Prelude.{◌≡◌, ◌<◌, ◌≤◌, All, IfErr, IfOk, OnOk, length, replicate, true};
+ghost use Rattle.pf_workers.specs.Crew.{IsAskError, IsStartError};
 
 use crate::MAX_WORKERS;
 use crate::gate::Gate;
@@ -14,10 +14,9 @@ use pf_shapes::Scene;
 use pf_step::{Crew, CrewError, solve_all};
 use std::alloc::{AllocError, Global};
 use std::marker::Model;
-use std::mem;
 use std::sync::{Arc, Wait};
-use std::thread;
 use std::thread::{JoinHandle, Threads};
+use std::{mem, thread};
 
 /// What a worker thread does until its channel is closed: it waits for a job, and answers it.
 fn serve<R: Wait, G: Gate>(
@@ -86,20 +85,35 @@ impl Worker {
         self.jobs.is_some()
     }
 
-    /// Sends a job. Returns an error if the channel is closed.
-    fn ask<R: Wait>(&mut self, rt: &R, job: Job) -> Result<(), CrewError>
-        ensures open { OnOk result (self.old ≡ true) }
+    /// Sends a task, with the memory for its islands. Returns an error if the channel is closed.
+    fn ask<R: Wait>(
+        &mut self,
+        rt: &R,
+        alloc: Global,
+        turn: usize,
+        task: &Task,
+    ) -> Result<(), CrewError>
+        ensures there { OnOk result (self.old ≡ true) }
         ensures same { self.new ≡ self.old }
         ensures failed { IfErr result IsAskError }
     {
+        let task = task.share()?;
+        let spare = mem::replace(&mut self.spare, Pile::new(alloc));
         let Some(jobs) = &self.jobs else {
             return Err(CrewError::CrewLost);
         };
-        match jobs.send(rt, job) {
+        match jobs.send(rt, Job { turn, task, spare }) {
             Ok(()) => Ok(()),
             Err(SendError::OutOfMemory(_)) => Err(CrewError::OutOfMemory),
             Err(SendError::Disconnected(_)) => Err(CrewError::CrewLost),
         }
+    }
+
+    /// Keeps a pile, whose memory its next islands may use.
+    fn keep(&mut self, pile: Pile)
+        ensures { self.new ≡ self.old }
+    {
+        self.spare = pile;
     }
 
     /// Closes its channel, and joins its thread.
@@ -110,6 +124,40 @@ impl Worker {
         if let Some(thread) = self.thread.take() {
             thread.join(rt);
         }
+    }
+}
+
+/// Sends each worker a task, and returns how many were sent; and the error at which it stopped, if it
+/// did.
+fn ask_all<R: Wait>(
+    rt: &R,
+    alloc: Global,
+    workers: &mut [Worker],
+    turn: usize,
+    task: &Task,
+) -> (usize, Result<(), CrewError>)
+    ensures same { workers.new ≡ workers.old }
+    ensures asked { result.0 ≤ length workers.old }
+    ensures all { OnOk result.1 (result.0 ≡ length workers.old) }
+    ensures there { OnOk result.1 (All (λ there. there ≡ true) workers.old) }
+    ensures failed { IfErr result.1 IsAskError }
+{
+    for number in 0..workers.len() {
+        if let Err(error) = workers[number].ask(rt, alloc, turn, task) {
+            return (number, Err(error));
+        }
+    }
+    (workers.len(), Ok(()))
+}
+
+/// Gives each worker the memory of a pile for its next islands.
+fn keep_piles(alloc: Global, workers: &mut [Worker], piles: &mut [Pile])
+    requires { length piles.old ≡ length workers.old }
+    ensures { workers.new ≡ workers.old }
+{
+    for number in 0..workers.len() {
+        let pile = mem::replace(&mut piles[number], Pile::new(alloc));
+        workers[number].keep(pile);
     }
 }
 
@@ -140,7 +188,7 @@ impl<R, G: Gate> Model for StandingCrew<R, G> {
 
     ghost Value = { StandingCrew };
 
-    ghost view = { λ c. record { open = c.workers.items; turn = c.turn; lost = c.lost } };
+    ghost view = { λ c. record { workers = c.workers.items; turn = c.turn; lost = c.lost } };
 
     ghost invariant = { λ c.
         (0 < length c.workers.items) × (length c.workers.items ≤ MAX_WORKERS) };
@@ -164,9 +212,12 @@ fn start<R: Threads + Wait + Copy + Send + 'static, G: Gate + Send + Sync + Drop
         let gate = Arc::try_clone(gate)?;
         let answers = answers.clone()?;
         let own = *rt;
-        let started = thread::spawn(rt, move || {
-            serve(&own, &*gate, count, worker, &received, &answers)
-        });
+        let started = thread::spawn(
+            rt,
+            move || -> ()
+                requires { 0 < count }
+            { serve(&own, &*gate, count, worker, &received, &answers) },
+        );
         let Ok(thread) = started else {
             return Err(CrewError::NoThread);
         };
@@ -184,13 +235,19 @@ impl<R: Wait, G: Gate> StandingCrew<R, G> {
     ghost use Rattle.std.specs.Arc.{arc_value};
     ghost use Rattle.pf_islands.specs.Split.{IsIslandOf};
     ghost use Rattle.pf_solver.specs.Alone.{island_after_tick};
-    ghost use Rattle.pf_step.specs.declared.crew.CrewError.TheVariants.{CrewLost};
-    ghost use Rattle.pf_workers.specs.Crew.{AreOpen, IsAskError, IsStandingError, IsStartError, new_crew};
+    ghost use Rattle.pf_step.specs.declared.crew.CrewError.TheVariants.{CrewLost, OutOfMemory};
+    ghost use Rattle.pf_workers.specs.Dealing.{AreShares};
+    ghost use Rattle.pf_workers.specs.Crew.{HasAllWorkers, IsStandingError, IsStartError, new_crew};
     ghost use Rattle.pf_workers.specs.Slots.{AreAnswers, IsThere};
 
     /// A crew of so many workers, which pass the gate in each solve. Returns an error where it is out
     /// of memory or a thread could not be started; the workers that were started end by themselves.
-    pub fn new(rt: R, alloc: Global, workers: usize, gate: G) -> Result<StandingCrew<R, G>, CrewError>
+    pub fn new(
+        rt: R,
+        alloc: Global,
+        workers: usize,
+        gate: G,
+    ) -> Result<StandingCrew<R, G>, CrewError>
     where
         R: Threads + Copy + Send + 'static,
         G: Send + Sync + Drop + 'static,
@@ -231,8 +288,8 @@ impl<R: Wait, G: Gate> StandingCrew<R, G> {
     pub fn dismiss(&mut self, worker: usize)
     where
         R: Threads,
-        requires { worker < length self.old.open }
-        ensures { self.new ≡ record self.old { open = slice_set self.old.open worker false } }
+        requires { worker < length self.old.workers }
+        ensures { self.new ≡ record self.old { workers = slice_set self.old.workers worker false } }
     {
         self.workers[worker].dismiss(&self.rt);
     }
@@ -252,27 +309,6 @@ impl<R: Wait, G: Gate> StandingCrew<R, G> {
         Ok(copy)
     }
 
-    /// Sends each worker its job, and returns how many were sent; and the error at which it stopped,
-    /// if it did.
-    fn ask(&mut self, task: &Task, turn: usize) -> (usize, Result<(), CrewError>)
-        ensures same { self.new ≡ self.old }
-        ensures asked { result.0 ≤ length self.old.open }
-        ensures all { OnOk result.1 ((result.0 ≡ length self.old.open) × AreOpen self.old) }
-        ensures failed { IfErr result.1 IsAskError }
-    {
-        for number in 0..self.workers.len() {
-            let Ok(task) = task.share() else {
-                return (number, Err(CrewError::OutOfMemory));
-            };
-            let worker = &mut self.workers[number];
-            let spare = mem::replace(&mut worker.spare, Pile::new(self.alloc));
-            if let Err(error) = worker.ask(&self.rt, Job { turn, task, spare }) {
-                return (number, Err(error));
-            }
-        }
-        (self.workers.len(), Ok(()))
-    }
-
     /// Waits until the first so many workers have answered.
     fn collect(
         &self,
@@ -282,11 +318,9 @@ impl<R: Wait, G: Gate> StandingCrew<R, G> {
         slots: &mut [Slot],
     ) -> Result<(), CrewError>
         requires asked { asked ≤ length slots.old }
-        requires slots { AreAnswers G.ALWAYS (arc_value task.now.scene)
-            (arc_value task.now.islands).items slots.old }
+        requires slots { AreAnswers G.ALWAYS task.now slots.old }
         ensures count { length slots.new ≡ length slots.old }
-        ensures answers { AreAnswers G.ALWAYS (arc_value task.now.scene)
-            (arc_value task.now.islands).items slots.new }
+        ensures answers { AreAnswers G.ALWAYS task.now slots.new }
         ensures there { OnOk result (All IsThere (take asked slots.new)) }
         ensures lost { IfErr result (λ error. error ≡ CrewLost) }
     {
@@ -302,24 +336,43 @@ impl<R: Wait, G: Gate> StandingCrew<R, G> {
         Err(CrewError::CrewLost)
     }
 
+    /// The slots of the workers after the first so many have answered.
+    fn slots_after(
+        &self,
+        task: &Task,
+        turn: usize,
+        asked: usize,
+        slots: Vec<Slot>,
+    ) -> Result<Vec<Slot>, CrewError>
+        requires asked { asked ≤ length slots.items }
+        requires slots { AreAnswers G.ALWAYS task.now slots.items }
+        ensures count { IfOk result (λ after. length after.items ≡ length slots.items) }
+        ensures answers { IfOk result (λ after. AreAnswers G.ALWAYS task.now after.items) }
+        ensures there { IfOk result (λ after. All IsThere (take asked after.items)) }
+        ensures lost { IfErr result (λ error. error ≡ CrewLost) }
+    {
+        let mut slots = slots;
+        self.collect(task, turn, asked, &mut slots)?;
+        Ok(slots)
+    }
+
     /// Keeps the memory of the islands of a solve, and of the piles that are empty after it, for the
     /// next one.
     fn keep_memory(&mut self, task: Task, piles: Vec<Pile>)
-        requires count { length piles.items ≡ length self.old.open }
+        requires some { 0 < length self.old.workers }
+        requires count { length piles.items ≡ length self.old.workers }
         requires empty { All (λ pile. pile ≡ []) piles.items }
         ensures { self.new ≡ self.old }
     {
-        let Ok(mut islands) = Arc::try_unwrap(task.islands) else {
+        let Some(mut islands) = task.into_islands() else {
             return;
         };
-        let mut piles = piles;
-        if deal(&mut islands, &mut piles).is_err() {
+        let Ok(piles) = deal(&mut islands, piles) else {
             return;
-        }
+        };
         self.spare = islands;
-        for (worker, pile) in self.workers.iter_mut().zip(piles) {
-            worker.spare = pile;
-        }
+        let mut piles = piles;
+        keep_piles(self.alloc, &mut self.workers, &mut piles);
     }
 
     /// Passes the gate for each worker, and solves the islands on the thread of the caller.
@@ -332,7 +385,7 @@ impl<R: Wait, G: Gate> StandingCrew<R, G> {
         requires { All (IsIslandOf scene.now) islands.items }
         ensures solved { IfOk result
             (λ solved. solved.items ≡ map (island_after_tick scene.now) islands.items) }
-        ensures open { OnOk result (AreOpen self.now) }
+        ensures there { OnOk result (HasAllWorkers self.now) }
         ensures failed { IfErr result (IsStandingError G.ALWAYS) }
     {
         for number in 0..self.workers.len() {
@@ -348,6 +401,58 @@ impl<R: Wait, G: Gate> StandingCrew<R, G> {
         Ok(islands)
     }
 
+    /// The task of a solve.
+    fn task(&mut self, scene: &Scene, islands: Vec<Island>) -> Result<Task, CrewError>
+        requires { All (IsIslandOf scene.now) islands.items }
+        ensures scene { IfOk result (λ task. task.scene ≡ scene.now) }
+        ensures islands { IfOk result (λ task. task.islands ≡ islands.items) }
+        ensures same { self.new ≡ self.old }
+        ensures failed { IfErr result (λ error. error ≡ OutOfMemory) }
+    {
+        let shared = self.shared_scene(scene)?;
+        Ok(Task::new(shared, Arc::new(self.alloc, islands)?))
+    }
+
+    /// What each worker makes of its islands of a task.
+    fn piles_of(&mut self, task: &Task, turn: usize) -> Result<Vec<Pile>, CrewError>
+        ensures shares { IfOk result (λ piles. AreShares
+            (map (island_after_tick task.now.scene) task.now.islands) piles.items) }
+        ensures count { IfOk result (λ piles. length piles.items ≡ length self.old.workers) }
+        ensures there { OnOk result (HasAllWorkers self.old) }
+        ensures same { self.new ≡ self.old }
+        ensures failed { IfErr result (IsStandingError G.ALWAYS) }
+    {
+        let slots = no_answers(self.alloc, self.workers.len())?;
+        let (asked, sent) = ask_all(&self.rt, self.alloc, &mut self.workers, turn, task);
+        let answered = self.slots_after(task, turn, asked, slots)?;
+        sent?;
+        finish(self.alloc, answered)
+    }
+
+    /// Solves each island by the workers, in a turn that was counted.
+    fn solve_by_workers(
+        &mut self,
+        scene: &Scene,
+        islands: Vec<Island>,
+        turn: usize,
+    ) -> Result<Vec<Island>, CrewError>
+        requires { All (IsIslandOf scene.now) islands.items }
+        ensures solved { IfOk result
+            (λ solved. solved.items ≡ map (island_after_tick scene.now) islands.items) }
+        ensures same { self.new ≡ self.old }
+        ensures there { OnOk result (HasAllWorkers self.old) }
+        ensures failed { IfErr result (IsStandingError G.ALWAYS) }
+    {
+        let count = islands.len();
+        let task = self.task(scene, islands)?;
+        let piles = self.piles_of(&task, turn)?;
+        let mut solved = mem::replace(&mut self.spare, Vec::new(self.alloc));
+        solved.clear();
+        let rest = gather(piles, count, &mut solved)?;
+        self.keep_memory(task, rest);
+        Ok(solved)
+    }
+
     /// Solves each island, in a turn that was counted.
     fn solve_in_turn(
         &mut self,
@@ -359,33 +464,22 @@ impl<R: Wait, G: Gate> StandingCrew<R, G> {
         ensures solved { IfOk result
             (λ solved. solved.items ≡ map (island_after_tick scene.now) islands.items) }
         ensures same { self.new ≡ self.old }
-        ensures open { OnOk result (AreOpen self.old) }
+        ensures there { OnOk result (HasAllWorkers self.old) }
         ensures failed { IfErr result (IsStandingError G.ALWAYS) }
     {
         if is_little(&islands) && !self.gate.is_watched() {
             return self.solve_here(scene, islands, turn);
         }
-        let count = islands.len();
-        let shared = self.shared_scene(scene)?;
-        let task = Task::new(shared, Arc::new(self.alloc, islands)?);
-        let mut slots = no_answers(self.alloc, self.workers.len())?;
-        let (asked, sent) = self.ask(&task, turn);
-        self.collect(&task, turn, asked, &mut slots)?;
-        sent?;
-        let mut piles = finish(self.alloc, slots)?;
-        let mut solved = mem::replace(&mut self.spare, Vec::new(self.alloc));
-        gather(&mut piles, count, &mut solved)?;
-        self.keep_memory(task, piles);
-        Ok(solved)
+        self.solve_by_workers(scene, islands, turn)
     }
 }
 
 impl<R: Wait, G: Gate> Crew for StandingCrew<R, G> {
     ghost use Rattle.std.specs.Prelude.{◌≡◌, false};
-    ghost use Rattle.pf_workers.specs.Crew.{AreOpen, FailsStanding, turned};
+    ghost use Rattle.pf_workers.specs.Crew.{HasAllWorkers, FailsStanding, turned};
 
     ghost is_called = { λ before islands after.
-        (before.lost ≡ false) × AreOpen before × (after ≡ turned before) };
+        (before.lost ≡ false) × HasAllWorkers before × (after ≡ turned before) };
 
     ghost may_fail = { λ before islands error after. FailsStanding G.ALWAYS before error after };
 

@@ -1,11 +1,11 @@
-use Rattle.std.proofs.Common.{◌≡◌, ◌++◌, ℕ, List, length, take, drop}
+use Rattle.std.proofs.Common.{◌≡◌, ◌++◌, List, length, take, drop}
 use Rattle.pf_islands.specs.Split.{Island}
 use Rattle.pf_workers.specs.Dealing.{AreShares, AreSharesFrom}
 use Rattle.pf_workers.proofs.pile.gather.Given as goal
 
 abbrev pub invariant-loop-number : goal.invariant-loop-number
 invariant-loop-number l = record {
-  gathered : (all : List Island) → AreShares all l.initial.piles → length all ≡ l.count
-      → (l.islands.items ≡ l.initial.islands.items ++ take l.number all) × AreSharesFrom l.number (drop l.number all) l.piles;
-  long : length l.piles ≡ length l.initial.piles;
+  gathered : (all : List Island) → AreShares all l.fn.piles.items → length all ≡ l.count
+      → (l.islands.items ≡ l.initial.islands.items ++ take l.number all) × AreSharesFrom l.number (drop l.number all) l.piles.items;
+  long : length l.piles.items ≡ length l.fn.piles.items;
 }

@@ -1,0 +1,58 @@
+use Rattle.std.proofs.Common.{rules, ◌≡◌, ◌∙◌, ◌++◌, ◌∷◌, ◌%◌, ◌<◌, [], ap, length, refl, sym, subst, arith}
+use Rattle.std.proofs.lemmas.Nat.{mod_below}
+use Rattle.std.proofs.lemmas.List.{drop_all, length-set}
+use Rattle.pf_workers.specs.Dealing.{AreSharesFrom}
+use Rattle.pf_workers.proofs.Shares.{default_same, gather_step, none_left, still_some}
+use Rattle.pf_workers.proofs.pile.gather.Goals as goal
+
+pub loop-number-preserved : goal.loop-number-preserved
+loop-number-preserved c =
+    let is = c.loop-number.invariant in
+    let k = c.loop-number.number in
+    let piles = c.loop-number.piles.items in
+    let n = c.len.result in
+    let who = k % n in
+    let long : n ≡ length piles = search rules in
+    let within : who < length piles = omega (arith, mod_below k n (omega (arith, long, c.requires, is.long)), long) in
+    record {
+      gathered = λ all shares many.
+          let g = is.gathered all shares many in
+          let step = gather_step all c.args.islands.now.items k who c.in-Some.island c.pop.new.self piles
+          (omega (arith, c.loop-number-test.true, many)) (ap (λ m. k % m) (sym long)) within g.1
+          (default_same piles who [] _ within ∙ sym c.index_mut.ensures.value ∙ c.in-Some.ensures.some) in
+          (c.in_ok-push-in-Some.ensures.items ∙ ap (λ l. l ++ c.in-Some.island ∷ []) g.0 ∙ step.0, step.1);
+      long = length-set piles who c.pop.new.self ∙ is.long;
+    }
+
+pub returns-in-None-clause-gathered : goal.returns-in-None-clause-gathered
+returns-in-None-clause-gathered c all shares many =
+    let is = c.loop-number.invariant in
+    let k = c.loop-number.number in
+    let piles = c.loop-number.piles.items in
+    let n = c.len.result in
+    let who = k % n in
+    let long : n ≡ length piles = search rules in
+    let within : who < length piles = omega (arith, mod_below k n (omega (arith, long, c.requires, is.long)), long) in
+    absurd (still_some all k who piles (omega (arith, c.loop-number-test.true, many)) (ap (λ m. k % m) (sym long)) within
+    (is.gathered all shares many).1
+    (default_same piles who [] _ within ∙ sym c.index_mut.ensures.value ∙ c.in-None.ensures.none refl))
+
+pub returns-in-None-clause-empty : goal.returns-in-None-clause-empty
+returns-in-None-clause-empty c all shares many =
+    let is = c.loop-number.invariant in
+    let k = c.loop-number.number in
+    let piles = c.loop-number.piles.items in
+    let n = c.len.result in
+    let who = k % n in
+    let long : n ≡ length piles = search rules in
+    let within : who < length piles = omega (arith, mod_below k n (omega (arith, long, c.requires, is.long)), long) in
+    absurd (still_some all k who piles (omega (arith, c.loop-number-test.true, many)) (ap (λ m. k % m) (sym long)) within
+    (is.gathered all shares many).1
+    (default_same piles who [] _ within ∙ sym c.index_mut.ensures.value ∙ c.in-None.ensures.none refl))
+
+pub returns-clause-empty : goal.returns-clause-empty
+returns-clause-empty c all shares many =
+    let k = c.loop-number.number in
+    none_left k c.loop-number.piles.items
+    (subst (λ l. AreSharesFrom k l c.loop-number.piles.items) (drop_all k all (omega (arith, c.loop-number-test.false, many)))
+    (c.loop-number.invariant.gathered all shares many).1)
