@@ -2,4 +2,4 @@ use Rattle.std.proofs.Common.{length}
 use Rattle.pf_runs.proofs.main.Given as goal
 
 abbrev pub decreases-loop-text : goal.decreases-loop-text
-decreases-loop-text l = length l.rest
+decreases-loop-text g l = length l.rest
