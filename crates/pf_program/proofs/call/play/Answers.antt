@@ -1,7 +1,9 @@
-use Rattle.std.proofs.Common.{◌≡◌, refl, Err}
+use Rattle.std.proofs.Common.{◌≡◌, refl, Ok, Err, inl, map, subst}
 use Rattle.std.proofs.lemmas.Result.{err_from_is_err_and}
 use Rattle.pf_console.specs.declared.fault.PlayFault.TheVariants.{Crew}
-use Rattle.pf_program.proofs.Crews.{words_name_none}
+use Rattle.clap.specs.Words.{fault_of, subcommand_of}
+use Rattle.pf_program.specs.Options.{ParsesAs, command_line}
+use Rattle.pf_program.proofs.Crews.{never_shut, words_name_none}
 use Rattle.pf_program.proofs.call.play.Goals as goal
 
 pub returns-in_err-words-clause-plays : goal.returns-in_err-words-clause-plays
@@ -16,4 +18,19 @@ returns-in_err-words-clause-plays g c =
       crew = λ name is.
           let same : fault ≡ Crew name = cc in
           words_name_none c.args.words c.requires.words fault c.in_err-words.was name same;
+    }
+
+pub returns-clause-plays : goal.returns-clause-plays
+returns-clause-plays g c =
+    let text = g.S.AsStr.text in
+    record {
+      asked = Ok c.in_ok-request.request;
+      asks = rw c.in_ok-words.was (subst (λ l. ParsesAs (fault_of command_line (map text l))
+          (subcommand_of command_line (map text l)) (Ok c.in_ok-request.request))
+          c.as_slice.ensures.value c.in_ok-request.ensures.parses);
+      does = inl c.perform-outcome.ensures.done;
+      crew = λ error is.
+          let fails = c.perform-outcome.ensures.crew error is in
+          let can = fails.1 in
+          (c.in_ok-crew.ensures.crew fails.0, (error, refl, never_shut can.0 can.2 error can.3));
     }
