@@ -1,5 +1,5 @@
 -- What a contract sees of a crew of threads, and with which errors it fails.
-use Rattle.std.specs.Prelude.{◌≡◌, ℕ, ⊤, Bool, true, false, List, All, replicate}
+use Rattle.std.specs.Prelude.{◌≡◌, ℕ, ⊤, Bool, true, false, List, All, replicate, if◌then◌else◌}
 use Rattle.pf_cache.specs.Meter.{saturating_sum}
 use Rattle.pf_step.specs.declared.crew.CrewError.{CrewError}
 use Rattle.pf_step.specs.declared.crew.CrewError.TheVariants.{OutOfMemory, NoThread, GateShut, CrewLost}
@@ -61,8 +61,12 @@ IsStandingError always NoThread = ⊥
 IsStandingError always GateShut = always ≡ false
 IsStandingError always CrewLost = ⊤
 
--- with which error a solve fails, and the crew after it: once a worker is lost, for good
+-- a crew after a solve that found a worker lost: it is lost for good, and counts no more turns
+abbrev pub lost_after : StandingCrew → StandingCrew
+lost_after c = if c.lost then c else record (turned c) { lost = true }
+
+-- with which error a solve fails, and the crew after it
 abbrev pub FailsStanding : Bool → StandingCrew → CrewError → StandingCrew → Type 0
-FailsStanding always before CrewLost after = (after.lost ≡ true) × (after.workers ≡ before.workers)
+FailsStanding always before CrewLost after = after ≡ lost_after before
 FailsStanding always before error after =
     (before.lost ≡ false) × IsStandingError always error × (after ≡ turned before)

@@ -2,8 +2,8 @@
 
 ghost use Rattle.std.specs.Prelude.{◌≡◌, true, IsTrue};
 
-/// Says whether a worker may work. Each worker of a crew passes it once in each solve, also where it
-/// has no island. A test or a debugger holds workers up by it, or sees that they meet.
+/// Says whether a worker may work. In a solve that succeeds each worker has passed it once, also
+/// one that has no island. A test or a debugger holds workers up by it, or sees that they meet.
 pub trait Gate {
     ghost use Rattle.std.specs.Prelude.{◌≡◌, Bool, true, IsTrue};
 
@@ -14,7 +14,8 @@ pub trait Gate {
     ghost ALWAYS: { Bool };
 
     /// Whether the worker of this number may go on in this turn. Workers and turns count from 0; the
-    /// turn stays at `usize::MAX`. It may wait.
+    /// turn stays at `usize::MAX`. It may wait; where it waits for all workers without a limit, a
+    /// solve hangs if one of them was dismissed or is not asked for want of memory.
     fn pass(&self, worker: usize, turn: usize) -> bool
         ensures { ALWAYS ≡ true → IsTrue result };
 

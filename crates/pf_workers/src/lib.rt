@@ -7,6 +7,7 @@ mod scoped;
 mod slots;
 mod standing;
 mod task;
+mod worker;
 
 pub use gate::{Gate, OpenGate};
 pub use scoped::ScopedCrew;

@@ -57,8 +57,8 @@ impl Pile {
         self.islands.pop()
     }
 
-    /// Puts a copy of an island after a tick at a place, in the memory of the island there, if there
-    /// is one.
+    /// Writes at a place what an island is after a tick, in the memory of the island that is there,
+    /// if there is one.
     fn solve_copy(&mut self, place: usize, scene: &Scene, island: &Island) -> Result<(), AllocError>
         requires place { place ≤ length self.old }
         requires island { IsIslandOf scene.now island.now }
@@ -75,8 +75,8 @@ impl Pile {
         Ok(())
     }
 
-    /// Puts a copy of the island of a number at a place, after a tick, if it is dealt to the worker.
-    /// Returns the next place.
+    /// If the island of this number is dealt to the worker, writes it, after a tick, at the place, and
+    /// returns the next place; else returns the place.
     fn solve_if_own(
         &mut self,
         place: usize,

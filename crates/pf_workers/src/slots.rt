@@ -1,6 +1,6 @@
 //! What the workers of a standing crew have answered in a solve.
 
-ghost use Rattle.std.specs.Prelude.{◌≡◌, ◌<◌, ◌%◌, ◌⊎◌, All, IfErr, IfOk, IsTrue, Some, length, map, slice_index_or};
+ghost use Rattle.std.specs.Prelude.{◌≡◌, ◌≢◌, ◌<◌, ◌%◌, ◌⊎◌, All, IfErr, IfOk, IsTrue, Some, length, map, slice_index_or};
 ghost use Rattle.pf_islands.specs.Split.{no_island};
 ghost use Rattle.pf_step.specs.declared.crew.CrewError.TheVariants.{OutOfMemory};
 ghost use Rattle.pf_workers.specs.Dealing.{share};
@@ -34,7 +34,7 @@ impl Slot {
     }
 }
 
-/// So many workers, none of which has answered.
+/// A `Missing` slot for each worker.
 pub(crate) fn no_answers(alloc: Global, workers: usize) -> Result<Vec<Slot>, AllocError>
     ensures count { IfOk result (λ slots. length slots.items ≡ workers) }
     ensures missing { IfOk result (λ slots. All (λ slot. slot ≡ Missing) slots.items) }
@@ -46,7 +46,7 @@ pub(crate) fn no_answers(alloc: Global, workers: usize) -> Result<Vec<Slot>, All
     Ok(slots)
 }
 
-/// Whether the first so many workers have answered.
+/// Whether all these workers have answered.
 pub(crate) fn have_answered(slots: &[Slot]) -> bool
     ensures { IsTrue result → All IsThere slots.now }
 {
@@ -125,12 +125,13 @@ impl Solved {
     }
 }
 
-/// Notes the answer of a worker. Drops an answer of another solve or another task, of a worker that
-/// is none, and a second one of a worker.
+/// Notes the answer of a worker. Drops an answer of another solve or another task, of no worker of
+/// this crew, and a second one of a worker.
 pub(crate) fn accept<G: Gate>(answer: Answer<G>, turn: usize, task: &Task, slots: &mut [Slot])
     requires { AreAnswers G.ALWAYS task.now slots.old }
     ensures answers { AreAnswers G.ALWAYS task.now slots.new }
     ensures count { length slots.new ≡ length slots.old }
+    ensures other { answer.turn ≢ turn → slots.new ≡ slots.old }
 {
     let workers = slots.len();
     let Answer {

@@ -1,49 +1,26 @@
 //! A crew whose workers are started once.
 
-ghost use Rattle.std.specs.Prelude.{◌≡◌, ◌<◌, ◌≤◌, All, IfErr, IfOk, OnOk, length, replicate, true};
-ghost use Rattle.pf_workers.specs.Crew.{IsAskError, IsStartError};
-
 use crate::MAX_WORKERS;
 use crate::gate::Gate;
 use crate::pile::{Pile, deal, gather};
 use crate::slots::{Slot, accept, finish, have_answered, no_answers};
-use crate::task::{Answer, Job, Task};
-use crossbeam_channel::{Receiver, SendError, Sender};
+use crate::task::{Answer, Task};
+use crate::worker::{Worker, ask_all, keep_piles, start};
+use crossbeam_channel::Receiver;
 use pf_islands::Island;
 use pf_shapes::Scene;
 use pf_step::{Crew, CrewError, solve_all};
 use std::alloc::{AllocError, Global};
 use std::marker::Model;
+use std::mem;
 use std::sync::{Arc, Wait};
-use std::thread::{JoinHandle, Threads};
-use std::{mem, thread};
+use std::thread::Threads;
 
-/// What a worker thread does until its channel is closed: it waits for a job, and answers it.
-fn serve<R: Wait, G: Gate>(
-    rt: &R,
-    gate: &G,
-    workers: usize,
-    worker: usize,
-    jobs: &Receiver<Job, Global>,
-    answers: &Sender<Answer<G>, Global>,
-)
-    requires { 0 < workers }
-{
-    for _ in rt.forever() {
-        let Ok(job) = jobs.recv(rt) else {
-            return;
-        };
-        let answer = job.answer(gate, workers, worker);
-        if answers.send(rt, answer).is_err() {
-            return;
-        }
-    }
-}
-
-/// The contacts of a tick from which on threads pay.
+/// From this many contacts in a tick on, islands are dealt to the workers.
 const CONTACTS_FOR_THREADS: usize = 64;
 
-/// Whether islands are too little to be dealt: solving them takes no longer than waking threads.
+/// Whether there are too few contacts for threads to pay: solving them takes no longer than waking
+/// the workers.
 fn is_little(islands: &[Island]) -> bool {
     let mut contacts = 0;
     for island in islands {
@@ -53,112 +30,6 @@ fn is_little(islands: &[Island]) -> bool {
         }
     }
     true
-}
-
-/// A worker: the channel of its jobs, its thread, and the memory for its next islands. A worker that
-/// was dismissed has neither channel nor thread.
-///
-/// Contracts see whether its channel is open.
-#[derive(Drop)]
-struct Worker {
-    jobs: Option<Sender<Job, Global>>,
-    thread: Option<JoinHandle<()>>,
-    spare: Pile,
-}
-
-impl Model for Worker {
-    ghost use Rattle.std.specs.Prelude.{Bool, is_some};
-
-    ghost Value = { Bool };
-
-    ghost view = { λ w. is_some w.jobs };
-}
-
-impl Worker {
-    ghost use Rattle.std.specs.Prelude.{◌≡◌, true, false, IfErr, OnOk};
-    ghost use Rattle.pf_workers.specs.Crew.{IsAskError};
-
-    /// Whether its channel is open.
-    fn is_open(&self) -> bool
-        ensures { result ≡ self.now }
-    {
-        self.jobs.is_some()
-    }
-
-    /// Sends a task, with the memory for its islands. Returns an error if the channel is closed.
-    fn ask<R: Wait>(
-        &mut self,
-        rt: &R,
-        alloc: Global,
-        turn: usize,
-        task: &Task,
-    ) -> Result<(), CrewError>
-        ensures there { OnOk result (self.old ≡ true) }
-        ensures same { self.new ≡ self.old }
-        ensures failed { IfErr result IsAskError }
-    {
-        let task = task.share()?;
-        let spare = mem::replace(&mut self.spare, Pile::new(alloc));
-        let Some(jobs) = &self.jobs else {
-            return Err(CrewError::CrewLost);
-        };
-        match jobs.send(rt, Job { turn, task, spare }) {
-            Ok(()) => Ok(()),
-            Err(SendError::OutOfMemory(_)) => Err(CrewError::OutOfMemory),
-            Err(SendError::Disconnected(_)) => Err(CrewError::CrewLost),
-        }
-    }
-
-    /// Keeps a pile, whose memory its next islands may use.
-    fn keep(&mut self, pile: Pile)
-        ensures { self.new ≡ self.old }
-    {
-        self.spare = pile;
-    }
-
-    /// Closes its channel, and joins its thread.
-    fn dismiss<R: Threads>(&mut self, rt: &R)
-        ensures { self.new ≡ false }
-    {
-        self.jobs = None;
-        if let Some(thread) = self.thread.take() {
-            thread.join(rt);
-        }
-    }
-}
-
-/// Sends each worker a task, and returns how many were sent; and the error at which it stopped, if it
-/// did.
-fn ask_all<R: Wait>(
-    rt: &R,
-    alloc: Global,
-    workers: &mut [Worker],
-    turn: usize,
-    task: &Task,
-) -> (usize, Result<(), CrewError>)
-    ensures same { workers.new ≡ workers.old }
-    ensures asked { result.0 ≤ length workers.old }
-    ensures all { OnOk result.1 (result.0 ≡ length workers.old) }
-    ensures there { OnOk result.1 (All (λ there. there ≡ true) workers.old) }
-    ensures failed { IfErr result.1 IsAskError }
-{
-    for number in 0..workers.len() {
-        if let Err(error) = workers[number].ask(rt, alloc, turn, task) {
-            return (number, Err(error));
-        }
-    }
-    (workers.len(), Ok(()))
-}
-
-/// Gives each worker the memory of a pile for its next islands.
-fn keep_piles(alloc: Global, workers: &mut [Worker], piles: &mut [Pile])
-    requires { length piles.old ≡ length workers.old }
-    ensures { workers.new ≡ workers.old }
-{
-    for number in 0..workers.len() {
-        let pile = mem::replace(&mut piles[number], Pile::new(alloc));
-        workers[number].keep(pile);
-    }
 }
 
 /// A crew that starts its workers once. In a solve each is sent one message, with the scene and the
@@ -194,44 +65,8 @@ impl<R, G: Gate> Model for StandingCrew<R, G> {
         (0 < length c.workers.items) × (length c.workers.items ≤ MAX_WORKERS) };
 }
 
-/// Starts the workers of a crew. After an error those that were started end by themselves.
-fn start<R: Threads + Wait + Copy + Send + 'static, G: Gate + Send + Sync + Drop + 'static>(
-    rt: &R,
-    alloc: Global,
-    count: usize,
-    gate: &Arc<G, Global>,
-    answers: Sender<Answer<G>, Global>,
-) -> Result<Vec<Worker>, CrewError>
-    requires { 0 < count }
-    ensures open { IfOk result (λ workers. workers.items ≡ replicate count true) }
-    ensures failed { IfErr result IsStartError }
-{
-    let mut workers = Vec::with_capacity(alloc, count)?;
-    for worker in 0..count {
-        let (jobs, received) = crossbeam_channel::bounded(alloc, 1)?;
-        let gate = Arc::try_clone(gate)?;
-        let answers = answers.clone()?;
-        let own = *rt;
-        let started = thread::spawn(
-            rt,
-            move || -> ()
-                requires { 0 < count }
-            { serve(&own, &*gate, count, worker, &received, &answers) },
-        );
-        let Ok(thread) = started else {
-            return Err(CrewError::NoThread);
-        };
-        workers.push(Worker {
-            jobs: Some(jobs),
-            thread: Some(thread),
-            spare: Pile::new(alloc),
-        })?;
-    }
-    Ok(workers)
-}
-
 impl<R: Wait, G: Gate> StandingCrew<R, G> {
-    ghost use Rattle.std.specs.Prelude.{◌≡◌, ◌<◌, ◌≤◌, [], All, IfErr, IfOk, OnOk, false, length, map, slice_set, take};
+    ghost use Rattle.std.specs.Prelude.{◌≡◌, ◌<◌, ◌≤◌, [], All, IfErr, IfOk, IsTrue, OnOk, false, length, map, slice_set, take, true};
     ghost use Rattle.std.specs.Arc.{arc_value};
     ghost use Rattle.pf_islands.specs.Split.{IsIslandOf};
     ghost use Rattle.pf_solver.specs.Alone.{island_after_tick};
@@ -271,7 +106,7 @@ impl<R: Wait, G: Gate> StandingCrew<R, G> {
         })
     }
 
-    /// Closes the channels of all workers, and joins them.
+    /// Closes the channels of all workers, and joins them. It may wait.
     pub fn close(self)
     where
         R: Threads + Copy,
@@ -284,7 +119,7 @@ impl<R: Wait, G: Gate> StandingCrew<R, G> {
     }
 
     /// Ends a worker, and joins it. Does nothing if that was done before. From then on no solve
-    /// succeeds.
+    /// succeeds. It may wait.
     pub fn dismiss(&mut self, worker: usize)
     where
         R: Threads,
@@ -375,6 +210,29 @@ impl<R: Wait, G: Gate> StandingCrew<R, G> {
         keep_piles(self.alloc, &mut self.workers, &mut piles);
     }
 
+    /// Whether no worker was dismissed.
+    fn has_all_workers(&self) -> bool
+        ensures { IsTrue result → HasAllWorkers self.now }
+    {
+        for number in 0..self.workers.len() {
+            if !self.workers[number].is_open() {
+                return false;
+            }
+        }
+        true
+    }
+
+    /// Passes the gate for each worker, and returns whether it was open for all.
+    fn pass_for_all(&self, turn: usize) -> bool
+        ensures { G.ALWAYS ≡ true → IsTrue result }
+    {
+        let mut is_open = true;
+        for number in 0..self.workers.len() {
+            is_open = self.gate.pass(number, turn) && is_open;
+        }
+        is_open
+    }
+
     /// Passes the gate for each worker, and solves the islands on the thread of the caller.
     fn solve_here(
         &self,
@@ -388,13 +246,11 @@ impl<R: Wait, G: Gate> StandingCrew<R, G> {
         ensures there { OnOk result (HasAllWorkers self.now) }
         ensures failed { IfErr result (IsStandingError G.ALWAYS) }
     {
-        for number in 0..self.workers.len() {
-            if !self.workers[number].is_open() {
-                return Err(CrewError::CrewLost);
-            }
-            if !self.gate.pass(number, turn) {
-                return Err(CrewError::GateShut);
-            }
+        if !self.has_all_workers() {
+            return Err(CrewError::CrewLost);
+        }
+        if !self.pass_for_all(turn) {
+            return Err(CrewError::GateShut);
         }
         let mut islands = islands;
         solve_all(scene, &mut islands);

@@ -1,6 +1,6 @@
 //! What the workers of a standing crew are given, and what they answer.
 
-ghost use Rattle.std.specs.Prelude.{◌≡◌, ◌≢◌, ◌<◌, Err, false, IfErr, map};
+ghost use Rattle.std.specs.Prelude.{◌≡◌, ◌≢◌, ◌<◌, Err, false, IfErr, IfOk, map};
 ghost use Rattle.pf_step.specs.declared.crew.CrewError.TheVariants.{CrewLost, GateShut, NoThread, OutOfMemory};
 ghost use Rattle.pf_solver.specs.Alone.{island_after_tick};
 ghost use Rattle.pf_workers.specs.Dealing.{share};
@@ -128,9 +128,16 @@ pub(crate) struct Answer<G: Gate> {
 }
 
 impl Job {
+    ghost use Rattle.std.specs.Prelude.{◌≡◌, ◌<◌, IfOk};
+
     /// Passes the gate, and solves the islands of a worker.
     pub(crate) fn answer<G: Gate>(self, gate: &G, workers: usize, worker: usize) -> Answer<G>
         requires { 0 < workers }
+        ensures turn { result.turn ≡ self.turn }
+        ensures worker { result.worker ≡ worker }
+        ensures task { IfOk result.outcome (λ solved. solved.task ≡ self.task) }
+        ensures numbers { IfOk result.outcome
+            (λ solved. (solved.workers ≡ workers) × (solved.worker ≡ worker)) }
     {
         let turn = self.turn;
         let outcome = if gate.pass(worker, turn) {
@@ -150,7 +157,10 @@ impl Job {
 /// Solves the islands of a worker.
 fn solve_task(task: Task, workers: usize, worker: usize, spare: Pile) -> Result<Solved, CrewError>
     requires { 0 < workers }
-    ensures { IfErr result (λ error. error ≡ OutOfMemory) }
+    ensures task { IfOk result (λ solved. solved.task ≡ task) }
+    ensures numbers { IfOk result
+        (λ solved. (solved.workers ≡ workers) × (solved.worker ≡ worker)) }
+    ensures failed { IfErr result (λ error. error ≡ OutOfMemory) }
 {
     let pile = task.solve_share(workers, worker, spare)?;
     Ok(Solved {

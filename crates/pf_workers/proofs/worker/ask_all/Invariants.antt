@@ -1,5 +1,5 @@
 use Rattle.std.proofs.Common.{◌≡◌, ℕ, ◌<◌, false, true, get_or}
-use Rattle.pf_workers.proofs.standing.ask_all.Given as goal
+use Rattle.pf_workers.proofs.worker.ask_all.Given as goal
 
 abbrev pub invariant-loop-number : goal.invariant-loop-number
 invariant-loop-number g l = record {

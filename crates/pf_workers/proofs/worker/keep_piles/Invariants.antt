@@ -1,5 +1,5 @@
 use Rattle.std.proofs.Common.{◌≡◌, length}
-use Rattle.pf_workers.proofs.standing.keep_piles.Given as goal
+use Rattle.pf_workers.proofs.worker.keep_piles.Given as goal
 
 abbrev pub invariant-loop-number : goal.invariant-loop-number
 invariant-loop-number l = record {
