@@ -62,14 +62,6 @@ pub record Row : Type 0 where
   pub second_mass : InverseMass
   pub constraint : Constraint
 
--- what a pre-step left in a row
-abbrev pub prepared_of : Row → Prepared
-prepared_of r = record {
-  first_mass = r.first_mass;
-  second_mass = r.second_mass;
-  constraint = r.constraint;
-}
-
 -- an entry before its pre-step
 abbrev pub new_row : Entry → Row
 new_row e = record {

@@ -46,26 +46,6 @@ impl Model for InverseMass {
     } };
 }
 
-impl PartialEq for InverseMass {
-    ghost use Rattle.std.specs.Cmp.{partial_equiv_from_equiv};
-    ghost use Rattle.pf_cache.specs.Same.{same_mass};
-    ghost use Rattle.pf_cache.specs.SameLaws.{masses_equivalent};
-
-    ghost eq = { same_mass };
-
-    ghost laws = { partial_equiv_from_equiv masses_equivalent };
-
-    fn eq(&self, other: &InverseMass) -> bool {
-        self.inverse_mass == other.inverse_mass && self.inverse_inertia == other.inverse_inertia
-    }
-}
-
-impl Eq for InverseMass {
-    ghost use Rattle.pf_cache.specs.SameLaws.{masses_equivalent};
-
-    ghost laws = { masses_equivalent };
-}
-
 impl InverseMass {
     /// That of a static body.
     pub const NONE: InverseMass = InverseMass {
@@ -124,34 +104,6 @@ impl Model for Constraint {
     } };
 }
 
-impl PartialEq for Constraint {
-    ghost use Rattle.std.specs.Cmp.{partial_equiv_from_equiv};
-    ghost use Rattle.pf_cache.specs.Same.{same_constraint};
-    ghost use Rattle.pf_cache.specs.SameLaws.{constraints_equivalent};
-
-    ghost eq = { same_constraint };
-
-    ghost laws = { partial_equiv_from_equiv constraints_equivalent };
-
-    #[tactic(auto, unfolding(crate::specs::Same::same_constraint))]
-    fn eq(&self, other: &Constraint) -> bool {
-        self.normal == other.normal
-            && self.tangent == other.tangent
-            && self.first_arm == other.first_arm
-            && self.second_arm == other.second_arm
-            && self.normal_mass == other.normal_mass
-            && self.tangent_mass == other.tangent_mass
-            && self.bias == other.bias
-            && self.friction == other.friction
-    }
-}
-
-impl Eq for Constraint {
-    ghost use Rattle.pf_cache.specs.SameLaws.{constraints_equivalent};
-
-    ghost laws = { constraints_equivalent };
-}
-
 impl Constraint {
     /// That of a row before its pre-step.
     pub const NONE: Constraint = Constraint {
@@ -168,7 +120,7 @@ impl Constraint {
 
 /// What the rounds need of a contact beside its impulses: the inverse masses of its bodies, and its
 /// constraint. With it stands whether all of that is small enough for the fast path.
-#[derive(Clone, Debug, Drop)]
+#[derive(Debug, Drop)]
 pub struct Prepared {
     first_mass: InverseMass,
     second_mass: InverseMass,
@@ -196,28 +148,6 @@ impl Model for Prepared {
           second_mass = p.second_mass;
           constraint = p.constraint;
         }) };
-}
-
-impl PartialEq for Prepared {
-    ghost use Rattle.std.specs.Cmp.{partial_equiv_from_equiv};
-    ghost use Rattle.pf_cache.specs.Same.{same_prepared};
-    ghost use Rattle.pf_cache.specs.SameLaws.{prepared_equivalent};
-
-    ghost eq = { same_prepared };
-
-    ghost laws = { partial_equiv_from_equiv prepared_equivalent };
-
-    fn eq(&self, other: &Prepared) -> bool {
-        self.first_mass == other.first_mass
-            && self.second_mass == other.second_mass
-            && self.constraint == other.constraint
-    }
-}
-
-impl Eq for Prepared {
-    ghost use Rattle.pf_cache.specs.SameLaws.{prepared_equivalent};
-
-    ghost laws = { prepared_equivalent };
 }
 
 /// Whether a number is at most this in magnitude.

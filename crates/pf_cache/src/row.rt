@@ -17,30 +17,6 @@ pub enum Side {
     Dynamic(usize),
 }
 
-impl PartialEq for Side {
-    ghost use Rattle.std.specs.Cmp.{partial_equiv_from_equiv};
-    ghost use Rattle.pf_cache.specs.Same.{same_side};
-    ghost use Rattle.pf_cache.specs.SameLaws.{sides_equivalent};
-
-    ghost eq = { same_side };
-
-    ghost laws = { partial_equiv_from_equiv sides_equivalent };
-
-    fn eq(&self, other: &Side) -> bool {
-        match (self, other) {
-            (Side::Static, Side::Static) => true,
-            (Side::Dynamic(place), Side::Dynamic(other_place)) => place == other_place,
-            _ => false,
-        }
-    }
-}
-
-impl Eq for Side {
-    ghost use Rattle.pf_cache.specs.SameLaws.{sides_equivalent};
-
-    ghost laws = { sides_equivalent };
-}
-
 /// A contact of a tick: its point, its accumulated impulses, its place among the contacts of the
 /// tick, and where its bodies stand.
 #[derive(Clone, Copy, Debug)]
@@ -79,33 +55,8 @@ impl Model for Entry {
     } };
 }
 
-impl PartialEq for Entry {
-    ghost use Rattle.std.specs.Cmp.{partial_equiv_from_equiv};
-    ghost use Rattle.pf_cache.specs.Same.{same_entry};
-    ghost use Rattle.pf_cache.specs.SameLaws.{entries_equivalent};
-
-    ghost eq = { same_entry };
-
-    ghost laws = { partial_equiv_from_equiv entries_equivalent };
-
-    #[tactic(auto, unfolding(crate::specs::Same::same_entry))]
-    fn eq(&self, other: &Entry) -> bool {
-        self.touch == other.touch
-            && self.impulses == other.impulses
-            && self.place == other.place
-            && self.first == other.first
-            && self.second == other.second
-    }
-}
-
-impl Eq for Entry {
-    ghost use Rattle.pf_cache.specs.SameLaws.{entries_equivalent};
-
-    ghost laws = { entries_equivalent };
-}
-
 /// An entry, and what a pre-step made of it.
-#[derive(Clone, Debug, Drop)]
+#[derive(Debug, Drop)]
 pub struct Row {
     /// The entry.
     pub entry: Entry,
@@ -124,27 +75,6 @@ impl Model for Row {
       second_mass = r.prepared.second_mass;
       constraint = r.prepared.constraint;
     } };
-}
-
-impl PartialEq for Row {
-    ghost use Rattle.std.specs.Cmp.{partial_equiv_from_equiv};
-    ghost use Rattle.pf_cache.specs.Same.{same_row};
-    ghost use Rattle.pf_cache.specs.SameLaws.{rows_equivalent};
-
-    ghost eq = { same_row };
-
-    ghost laws = { partial_equiv_from_equiv rows_equivalent };
-
-    #[tactic(auto, unfolding(crate::specs::Same::same_row))]
-    fn eq(&self, other: &Row) -> bool {
-        self.entry == other.entry && self.prepared == other.prepared
-    }
-}
-
-impl Eq for Row {
-    ghost use Rattle.pf_cache.specs.SameLaws.{rows_equivalent};
-
-    ghost laws = { rows_equivalent };
 }
 
 impl Row {

@@ -9,5 +9,4 @@ pub mod Rows
 pub mod Split
 pub mod Dealing
 pub mod Join
-pub mod Same
 pub mod Laws

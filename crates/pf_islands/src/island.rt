@@ -1,6 +1,6 @@
 //! Islands: bodies that contacts connect, with these contacts.
 
-ghost use Rattle.std.specs.Prelude.{◌≡◌, ◌++◌, [], IsOk, OnOk};
+ghost use Rattle.std.specs.Prelude.{◌≡◌};
 
 use crate::rooms::Room;
 use pf_cache::Row;
@@ -26,18 +26,6 @@ pub struct Island {
     pub rows: Vec<Row>,
 }
 
-/// Adds copies of these rows. Takes no memory for none.
-fn add_rows(rows: &mut Vec<Row>, others: &[Row]) -> Result<(), AllocError>
-    ensures value { OnOk result (rows.new.items ≡ rows.old.items ++ others.now) }
-    ensures no_memory { others.now ≡ [] → IsOk result }
-{
-    rows.reserve(others.len())?;
-    for row in others {
-        rows.push(row.clone()?)?;
-    }
-    Ok(())
-}
-
 impl Model for Island {
     ghost use Rattle.pf_islands.specs.Split.{Island};
 
@@ -50,29 +38,8 @@ impl Model for Island {
     } };
 }
 
-impl PartialEq for Island {
-    ghost use Rattle.std.specs.Cmp.{partial_equiv_from_equiv};
-    ghost use Rattle.pf_islands.specs.Same.{same_island, islands_equivalent};
-
-    ghost eq = { same_island };
-
-    ghost laws = { partial_equiv_from_equiv islands_equivalent };
-
-    fn eq(&self, other: &Island) -> bool {
-        self.numbers.as_slice() == other.numbers.as_slice()
-            && self.bodies.as_slice() == other.bodies.as_slice()
-            && self.rows.as_slice() == other.rows.as_slice()
-    }
-}
-
-impl Eq for Island {
-    ghost use Rattle.pf_islands.specs.Same.{islands_equivalent};
-
-    ghost laws = { islands_equivalent };
-}
-
 impl Island {
-    ghost use Rattle.std.specs.Prelude.{◌≡◌, ◌≤◌, ◌++◌, ◌∷◌, [], IfOk, IsOk, OnOk, length};
+    ghost use Rattle.std.specs.Prelude.{◌≡◌, ◌≤◌, ◌++◌, ◌∷◌, [], IsOk, OnOk};
     ghost use Rattle.pf_islands.specs.Split.{no_island};
 
     /// Without bodies. Takes no memory.
@@ -109,36 +76,6 @@ impl Island {
             self.bodies.reserve(room.bodies)?;
         }
         self.rows.reserve(room.rows)
-    }
-
-    /// Copies another island into the memory of this one, and takes more only where that is too
-    /// little. After an error a part of it may have been copied.
-    pub fn copy_from(&mut self, other: &Island) -> Result<(), AllocError>
-        ensures { OnOk result (self.new ≡ other.now) }
-    {
-        self.clear(Room {
-            bodies: other.bodies.len(),
-            rows: other.rows.len(),
-        })?;
-        self.numbers.extend_from_slice(other.numbers.as_slice())?;
-        self.bodies.extend_from_slice(other.bodies.as_slice())?;
-        add_rows(&mut self.rows, &other.rows)
-    }
-
-    /// A copy. Takes no memory for one body without contacts.
-    pub fn try_clone(&self) -> Result<Island, AllocError>
-        ensures value { IfOk result (λ copy. copy ≡ self.now) }
-        ensures no_memory { length self.now.numbers ≤ 1 → length self.now.bodies ≤ 1
-            → self.now.rows ≡ [] → IsOk result }
-    {
-        let alloc = *self.rows.allocator();
-        let mut rows = Vec::new(alloc);
-        add_rows(&mut rows, &self.rows)?;
-        Ok(Island {
-            numbers: SmallVec::from_slice(alloc, self.numbers.as_slice())?,
-            bodies: SmallVec::from_slice(alloc, self.bodies.as_slice())?,
-            rows,
-        })
     }
 
     /// Adds a body with this number. After an error a part of it may have been added.

@@ -1,113 +1,76 @@
 -- What the answers of all workers are together.
-use Rattle.std.proofs.Common.{◌≡◌, ◌≢◌, ◌∙◌, ◌⊎◌, inl, inr, ℕ, suc, Option, Some, None, ◌+◌, ◌<◌, ◌≤◌, ◌==◌, Bool, true, false, List, [], ◌∷◌, ◌++◌, Result, Ok, Err, IfOk, IfErr, length, map, get_or, take, refl, ap, subst, sym, arith}
-use Rattle.std.proofs.lemmas.Bool.{eq-eqb, eqb-true, true≢false}
-use Rattle.std.proofs.lemmas.List.{get_or-map, length-map, take_more}
-use Rattle.std.specs.Prelude.{All, IfSome, ⊤}
-use Rattle.pf_shapes.specs.Scene.{Scene}
+use Rattle.std.proofs.Common.{◌≡◌, ◌∙◌, ℕ, suc, ◌+◌, ◌<◌, ◌≤◌, Bool, true, false, List, [], ◌∷◌, ◌++◌, Option, None, Some, Result, Ok, Err, IfOk, OnOk, append-nil, drop, take, map, length, get_or, refl, ap, ap₂, subst, sym, arith}
+use Rattle.std.proofs.lemmas.Bool.{true≢false}
+use Rattle.std.proofs.lemmas.List.{drop_all, get_or-map, length-map, take_all, take_more}
+use Rattle.std.specs.Prelude.{All, IsNone}
 use Rattle.pf_islands.specs.Split.{Island}
 use Rattle.pf_solver.specs.Alone.{island_after_tick}
 use Rattle.pf_step.specs.declared.crew.CrewError.{CrewError}
-use Rattle.pf_step.specs.declared.crew.CrewError.TheVariants.{OutOfMemory, NoThread, GateShut, CrewLost}
-use Rattle.pf_workers.specs.Crew.{IsStandingError}
-use Rattle.pf_workers.specs.Worker.{IsWorkerError}
-use Rattle.pf_workers.specs.declared.slots.Slot.{Slot}
-use Rattle.pf_workers.specs.declared.slots.Slot.TheVariants.{Missing, Failed, Done}
-use Rattle.pf_workers.specs.Dealing.{AreShares, share}
-use Rattle.pf_workers.proofs.Shares.{all_more, default_same, share-map}
-use Rattle.pf_workers.specs.Task.{Task}
-use Rattle.pf_workers.specs.Slots.{AreAnswers, IsAnswer, IsThere, least_error}
-
--- where all workers are done, their piles are their shares of all islands after a tick
-pub all_done : (always : Bool) (t : Task) (slots : List Slot) (piles : List (List Island))
-    → AreAnswers always t slots → slots ≡ map Done piles → AreShares (map (island_after_tick t.scene) t.islands) piles
-all_done always t slots piles answers done w low =
-    let same : length slots ≡ length piles = ap length done ∙ length-map piles Done in
-    let at : get_or slots w Missing ≡ Done (get_or piles w []) = ap (λ xs. get_or xs w Missing) done ∙ get_or-map Done piles w [] Missing low in
-    subst (λ n. get_or piles w [] ≡ share n w 0 (map (island_after_tick t.scene) t.islands)) same
-    (subst (IsAnswer always t (length slots) w) at (answers w (omega (arith, low, same))))
-
--- a worker fails by want of memory or by its gate alone
-pub worker_error : {X : Type 0} (always : Bool) (outcome : Result X CrewError) (error : CrewError) → outcome ≡ Err error
-    → (outcome ≡ Err GateShut → always ≡ false) → outcome ≢ Err NoThread → outcome ≢ Err CrewLost → IsWorkerError always error
-worker_error always outcome OutOfMemory is shut started here = tt
-worker_error always outcome GateShut is shut started here = shut is
-worker_error always outcome NoThread is shut started here = absurd (started is)
-worker_error always outcome CrewLost is shut started here = absurd (here is)
-
--- a worker that was given the same scene and the same islands of its own made the same of them
-pub same_made : (n w : ℕ) (s s' : Scene) (ours theirs : List Island) → s' ≡ s → share n w 0 ours ≡ share n w 0 theirs
-    → share n w 0 (map (island_after_tick s') theirs) ≡ share n w 0 (map (island_after_tick s) ours)
-same_made n w s s' ours theirs scene same =
-    ap (λ z. share n w 0 (map (island_after_tick z) theirs)) scene
-    ∙ share-map (island_after_tick s) n w 0 theirs ∙ ap (map (island_after_tick s)) (sym same)
-    ∙ sym (share-map (island_after_tick s) n w 0 ours)
-
--- one more worker has answered
-pub there_more : (slots : List Slot) (i : ℕ) (d : Slot) → i < length slots → All IsThere (take i slots) → IsThere (get_or slots i d)
-    → All IsThere (take (i + 1) slots)
-there_more slots i d low before there =
-    subst (All IsThere) (sym (take_more slots i d low)) (all_more IsThere (take i slots) (get_or slots i d) before there)
-
--- the error of the least worker is that of the first that is not done
-pub least_after : (piles : List (List Island)) (slots : List Slot) → least_error (map Done piles ++ slots) ≡ least_error slots
-least_after [] slots = refl
-least_after (pile ∷ piles) slots = least_after piles slots
+use Rattle.pf_workers.specs.Slots.{AreAnswers, IsAnswer}
+use Rattle.pf_workers.specs.declared.reply.Dealt.{Dealt}
+use Rattle.pf_workers.proofs.Shares.{all_more, default_same}
 
 -- a crew whose workers were found there one by one has them all
 pub all_there : (workers : List Bool) (n : ℕ) → length workers ≤ n
     → ((i : ℕ) → i < n → get_or workers i false ≡ true) → All (λ there. there ≡ true) workers
 all_there workers n long there i d low = default_same workers i d false low ∙ there i (omega (arith, low, long))
 
--- one more worker was found there
-pub there_next : (workers : List Bool) (k : ℕ) (x : Bool) → ((i : ℕ) → i < k → get_or workers i false ≡ true)
-    → get_or workers k false ≡ true → (i : ℕ) → i < k + 1 → get_or workers i false ≡ true
-there_next workers k x before there i low = by (i == k) refl
+module _ {X : Type 0} (P : X → Type 0) where
+  -- where it holds of the elements before one, and of that one, it holds of one more
+  pub all_next : (xs : List X) (i : ℕ) (d : X) → i < length xs → All P (take i xs) → P (get_or xs i d) → All P (take (i + 1) xs)
+  all_next xs i d low before own = subst (All P) (sym (take_more xs i d low)) (all_more P (take i xs) (get_or xs i d) before own)
+
+-- a list whose elements are made of those of another is made of it
+made_of : {X Y : Type 0} (f : Y → X) (xs : List X) (ys : List Y) (d : X) (e : Y) → length xs ≡ length ys
+    → ((w : ℕ) → w < length xs → get_or xs w d ≡ f (get_or ys w e)) → xs ≡ map f ys
+made_of f [] [] d e long at = refl
+made_of f [] (y ∷ ys) d e long at = absurd (omega (arith, long))
+made_of f (x ∷ xs) [] d e long at = absurd (omega (arith, long))
+made_of f (x ∷ xs) (y ∷ ys) d e long at =
+    ap₂ (λ z zs. z ∷ zs) (at 0 (omega arith))
+    (made_of f xs ys d e (omega (arith, long)) (λ w low. at (suc w) (omega (arith, low))))
+
+-- before any answer all are as they may be
+pub none_answered : (always : Bool) (d : Dealt) (slots : List (Option (Result (List Island) CrewError))) → All IsNone slots
+    → AreAnswers always d slots
+none_answered always d slots none w low = by (get_or slots w None) (none w None low)
   where
-    by : (b : Bool) → (i == k) ≡ b → get_or workers i false ≡ true
-    by true is = ap (λ j. get_or workers j false) (eqb-true i k is) ∙ there
-    by false is = before i (omega (arith, low, (λ (same : i ≡ k). true≢false (sym (eq-eqb i k same) ∙ is))))
+    by : (slot : Option (Result (List Island) CrewError)) → IsNone slot → IsAnswer always d w slot
+    by None is = tt
+    by (Some outcome) is = absurd (true≢false is)
 
--- a worker's error may be returned by a crew
-pub as_standing : (always : Bool) (error : CrewError) → IsWorkerError always error → IsStandingError always error
-as_standing always OutOfMemory is = is
-as_standing always GateShut is = is
-as_standing always NoThread is = is
-as_standing always CrewLost is = tt
+-- where all workers are done, their piles are those that were dealt, after a tick
+pub all_done : (always : Bool) (d : Dealt) (slots : List (Option (Result (List Island) CrewError))) (piles : List (List Island))
+    → AreAnswers always d slots → length slots ≡ length d.piles.value.items → slots ≡ map (λ pile. Some (Ok pile)) piles
+    → piles ≡ map (map (island_after_tick d.scene.value)) d.piles.value.items
+all_done always d slots piles answers count done =
+    let same : length slots ≡ length piles = ap length done ∙ length-map piles (λ pile. Some (Ok pile)) in
+    made_of (map (island_after_tick d.scene.value)) piles d.piles.value.items [] [] (sym same ∙ count)
+    (λ w low.
+    let at : get_or slots w None ≡ Some (Ok (get_or piles w [])) =
+    ap (λ xs. get_or xs w None) done ∙ get_or-map (λ pile. Some (Ok pile)) piles w [] None low in
+    subst (IsAnswer always d w) at (answers w (omega (arith, low, same))))
 
-least_is : (always : Bool) (t : Task) (n k : ℕ) (slots : List Slot) (error : CrewError)
-    → ((w : ℕ) → w < length slots → IsAnswer always t n (k + w) (get_or slots w Missing)) → least_error slots ≡ Some error
-    → IsWorkerError always error
-least_is always t n k [] error answers is = absurd (no_error error is)
-  where
-    no_error : (e : CrewError) → None ≢ Some e
-    no_error e same = subst is_none_type same tt
-      where
-        is_none_type : Option CrewError → Type 0
-        is_none_type None = ⊤
-        is_none_type (Some e) = ⊥
-least_is always t n k (Missing ∷ slots) error answers is =
-    least_is always t n (suc k) slots error (λ w low. subst (λ j. IsAnswer always t n j (get_or slots w Missing)) (omega arith) (answers (suc w) (omega (arith, low)))) is
-least_is always t n k (Done pile ∷ slots) error answers is =
-    least_is always t n (suc k) slots error (λ w low. subst (λ j. IsAnswer always t n j (get_or slots w Missing)) (omega arith) (answers (suc w) (omega (arith, low)))) is
-least_is always t n k (Failed other ∷ slots) error answers is =
-    subst (λ o. IfSome o (IsWorkerError always)) is (answers 0 (omega arith))
+-- a pile that is taken while those behind it stand is the one that was given
+pub taken : (piles left : List (List Island)) (w : ℕ) (d : List Island) → w < length piles → length left ≡ length piles
+    → ((i : ℕ) → w ≤ i → get_or left i [] ≡ get_or piles i []) → {pile : List Island} → pile ≡ get_or left w d → pile ≡ get_or piles w []
+taken piles left w d low count same is =
+    is ∙ default_same left w d [] (omega (arith, low, count)) ∙ same w (omega arith)
 
--- the error of the least worker that failed may be returned by a crew
-pub least_standing : (always : Bool) (t : Task) (slots : List Slot) (error : CrewError) → AreAnswers always t slots
-    → least_error slots ≡ Some error → IsStandingError always error
-least_standing always t slots error answers is =
-    as_standing always error (least_is always t (length slots) 0 slots error
-    (λ w low. subst (λ j. IsAnswer always t (length slots) j (get_or slots w Missing)) (omega arith) (answers w low)) is)
-
-pub failed_standing : (always : Bool) (t : Task) (slots : List Slot) → AreAnswers always t slots → (error : CrewError)
-    → (error ≡ OutOfMemory) ⊎ (least_error slots ≡ Some error) → IsStandingError always error
-failed_standing always t slots answers error (inl memory) = subst (IsStandingError always) (sym memory) tt
-failed_standing always t slots answers error (inr least) = least_standing always t slots error answers least
+pub none_left : {X : Type 0} (xs : List X) → length xs ≡ 0 → xs ≡ []
+none_left [] none = refl
+none_left (x ∷ xs) none = absurd (omega (arith, none))
 
 pub if_ok : {A E : Type 0} {P Q : A → Type 0} → ((x : A) → P x → Q x) → (r : Result A E) → IfOk r P → IfOk r Q
 if_ok f (Ok x) p = f x p
 if_ok f (Err e) p = tt
 
-pub if_err : {A E : Type 0} {P Q : E → Type 0} → ((e : E) → P e → Q e) → (r : Result A E) → IfErr r P → IfErr r Q
-if_err f (Ok x) p = tt
-if_err f (Err e) p = f e p
+pub on_ok : {A E P : Type 0} (r : Result A E) (x : A) → r ≡ Ok x → OnOk r P → P
+on_ok {A} {E} {P} r x is p = subst (λ s. OnOk s P) is p
+
+-- a list whose elements were all written in place
+pub written_back : {X : Type 0} (count : ℕ) (new old : List X) → length new ≡ length old → count ≡ length old
+    → take count (new ++ drop (length new) old) ≡ new
+written_back count new old long all =
+    ap (λ rest. take count (new ++ rest)) (drop_all (length new) old (omega (arith, long)))
+    ∙ ap (take count) (append-nil new) ∙ take_all count new (omega (arith, long, all))

@@ -1,7 +1,7 @@
 -- What workers have of islands that are dealt to them in turn.
 use Rattle.std.proofs.Common.{◌≡◌, ◌∙◌, ℕ, zero, suc, ◌+◌, ◌<◌, ◌==◌, ◌%◌, Bool, true, false, List, [], ◌∷◌, ◌++◌, length, map, set, get_or, refl, sym, ap, ap₂, subst, arith, ◌≢◌, drop, take, ◌≤◌}
 use Rattle.std.proofs.lemmas.Bool.{eq-eqb, eqb-true, ne_eqb, true≢false}
-use Rattle.std.proofs.lemmas.List.{append_assoc, drop_all, drop_more, get_or-set_other, get_or-set_same, length-append, length-map, length-set, map-append, take-append-drop, take_more}
+use Rattle.std.proofs.lemmas.List.{append_assoc, drop_more, get_or-set_other, get_or-set_same, length-append, length-map, length-set, map-append, take-append-drop, take_more}
 use Rattle.std.proofs.Math.ListN.{get_or-map}
 use Rattle.std.proofs.Math.Seq.{drop-append_seam, get_or-append_seam, take-append_seam}
 use Rattle.std.specs.Prelude.{All, if◌then◌else◌}
@@ -99,11 +99,6 @@ module _ {X : Type 0} where
 
   -- ---- the loops
 
-  -- a list that is at its end has no share
-  pub share_end : (n w k m : ℕ) (xs : List X) → length xs ≤ m → [] ≡ share n w k (drop m xs)
-  unfolding share
-  share_end n w k m xs end = sym (ap (share n w k) (drop_all m xs end))
-
   -- the pile of the worker whose turn it is has an island, if one is left of all
   pub still_some : (all : List X) (k who : ℕ) (piles : List (List X)) → k < length all → k % length piles ≡ who → who < length piles
       → AreSharesFrom k (drop k all) piles → get_or piles who [] ≢ []
@@ -143,32 +138,6 @@ module _ {X : Type 0} where
         next.1,
       )
 
-  -- one more of a list that is gone through from its end
-  pub share_more : (n w k : ℕ) (xs : List X) (d : X) → k < length xs → k % n ≡ w
-      → share n w k (drop k xs) ≡ share n w (k + 1) (drop (k + 1) xs) ++ get_or xs k d ∷ []
-  share_more n w k xs d low own =
-      ap (share n w k) (drop_more xs k d low) ∙ share_own n w k (get_or xs k d) (drop (k + 1) xs) own
-
-  pub share_same : (n w k : ℕ) (xs : List X) (d : X) → k < length xs → k % n ≢ w
-      → share n w k (drop k xs) ≡ share n w (k + 1) (drop (k + 1) xs)
-  share_same n w k xs d low other =
-      ap (share n w k) (drop_more xs k d low) ∙ share_other n w k (get_or xs k d) (drop (k + 1) xs) other
-
-  -- where the elements of a number agree, or are not the worker's, one more is the same
-  pub agree_more : (n w k : ℕ) (xs ys : List X) (d : X) → k < length xs → length ys ≡ length xs
-      → share n w (k + 1) (drop (k + 1) xs) ≡ share n w (k + 1) (drop (k + 1) ys)
-      → (k % n ≡ w → get_or xs k d ≡ get_or ys k d) → share n w k (drop k xs) ≡ share n w k (drop k ys)
-  agree_more n w k xs ys d low long later agree = by (k % n == w) refl
-    where
-      by : (b : Bool) → (k % n == w) ≡ b → share n w k (drop k xs) ≡ share n w k (drop k ys)
-      by true is =
-          let own = eqb-true (k % n) w is in
-          share_more n w k xs d low own ∙ ap₂ (λ l x. l ++ x ∷ []) later (agree own)
-          ∙ sym (share_more n w k ys d (omega (arith, low, long)) own)
-      by false is =
-          let other : k % n ≢ w = λ same. true≢false (sym (eq-eqb (k % n) w same) ∙ is) in
-          share_same n w k xs d low other ∙ later ∙ sym (share_same n w k ys d (omega (arith, low, long)) other)
-
 module _ {X Y : Type 0} (f : X → Y) where
   mapped_more : (n w k : ℕ) (x : X) (xs : List X) → share n w (k + 1) (map f xs) ≡ map f (share n w (k + 1) xs)
       → (b : Bool) → (k % n == w) ≡ b → share n w k (f x ∷ map f xs) ≡ map f (share n w k (x ∷ xs))
@@ -193,6 +162,10 @@ module _ {X Y : Type 0} (f : X → Y) where
       let below : w < length piles = omega (arith, low, same) in
       subst (λ m. get_or (map (map f) piles) w [] ≡ share m w k (map f xs)) (sym same)
       (get_or-map (map f) piles w [] ∙ ap (map f) (shares w below) ∙ sym (share-map (length piles) w k xs))
+
+  pub shares_after : (xs : List X) (piles : List (List X)) (after : List (List Y)) → AreSharesFrom 0 xs piles → after ≡ map (map f) piles
+      → AreSharesFrom 0 (map f xs) after
+  shares_after xs piles after shares same = subst (AreSharesFrom 0 (map f xs)) (sym same) (shares_mapped 0 xs piles shares)
 
 module _ {X : Type 0} (P : X → Type 0) where
   pub all_more : (xs : List X) (x : X) → All P xs → P x → All P (xs ++ x ∷ [])

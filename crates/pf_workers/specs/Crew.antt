@@ -4,14 +4,14 @@ use Rattle.pf_cache.specs.Meter.{saturating_sum}
 use Rattle.pf_step.specs.declared.crew.CrewError.{CrewError}
 use Rattle.pf_step.specs.declared.crew.CrewError.TheVariants.{OutOfMemory, NoThread, GateShut, CrewLost}
 
+-- the turn after a solve; the last turn stays
+abbrev pub next_turn : ℕ → ℕ
+next_turn turn = saturating_sum turn 1
+
 -- how many workers a crew has, and the turn of its next solve
 pub record ScopedCrew : Type 0 where
   pub workers : ℕ
   pub turn : ℕ
-
--- the crew after a solve: a turn is over; the last turn stays
-abbrev pub after_solve : ScopedCrew → ScopedCrew
-after_solve c = record c { turn = saturating_sum c.turn 1 }
 
 -- an error that a solve by scoped workers may return: a gate that lets everybody through is never
 -- shut, and no worker is lost
@@ -34,10 +34,6 @@ new_crew workers = record { workers = replicate workers true; turn = 0; lost = f
 -- no worker was dismissed
 abbrev pub HasAllWorkers : StandingCrew → Type 0
 HasAllWorkers c = All (λ there. there ≡ true) c.workers
-
--- the crew after a solve: a turn is over; the last turn stays
-abbrev pub turned : StandingCrew → StandingCrew
-turned c = record c { turn = saturating_sum c.turn 1 }
 
 -- an error with which a crew may fail to start
 abbrev pub IsStartError : CrewError → Type 0
@@ -63,10 +59,10 @@ IsStandingError always CrewLost = ⊤
 
 -- a crew after a solve that found a worker lost: it is lost for good, and counts no more turns
 abbrev pub lost_after : StandingCrew → StandingCrew
-lost_after c = if c.lost then c else record (turned c) { lost = true }
+lost_after c = if c.lost then c else record c { turn = next_turn c.turn; lost = true }
 
 -- with which error a solve fails, and the crew after it
 abbrev pub FailsStanding : Bool → StandingCrew → CrewError → StandingCrew → Type 0
 FailsStanding always before CrewLost after = after ≡ lost_after before
 FailsStanding always before error after =
-    (before.lost ≡ false) × IsStandingError always error × (after ≡ turned before)
+    (before.lost ≡ false) × IsStandingError always error × (after ≡ record before { turn = next_turn before.turn })

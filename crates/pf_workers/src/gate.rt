@@ -15,12 +15,12 @@ pub trait Gate {
 
     /// Whether the worker of this number may go on in this turn. Workers and turns count from 0; the
     /// turn stays at `usize::MAX`. It may wait; where it waits for all workers without a limit, a
-    /// solve hangs if one of them was dismissed or is not asked for want of memory.
+    /// solve hangs if one of them was dismissed, or was not asked since there was no memory.
     fn pass(&self, worker: usize, turn: usize) -> bool
         ensures { ALWAYS ≡ true → IsTrue result };
 
-    /// Whether a pass may wait for another worker, or be seen by anybody. If not, a crew may pass the
-    /// gate for its workers, and solve on the thread of the caller what is too little to be dealt.
+    /// Whether a pass may wait for another worker, or be seen by anybody. If not, the caller of a
+    /// standing crew may pass the gate for a worker, and do its job.
     fn is_watched(&self) -> bool {
         true
     }

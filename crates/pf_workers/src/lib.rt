@@ -3,10 +3,10 @@
 
 mod gate;
 mod pile;
+mod reply;
 mod scoped;
 mod slots;
 mod standing;
-mod task;
 mod worker;
 
 pub use gate::{Gate, OpenGate};

@@ -6,7 +6,6 @@ ghost use Rattle.pf_workers.specs.Dealing.{AreShares};
 
 use pf_islands::Island;
 use pf_shapes::Scene;
-use pf_solver::solve_island;
 use pf_step::solve_all;
 use std::alloc::{AllocError, Global};
 use std::marker::Model;
@@ -55,78 +54,6 @@ impl Pile {
         ensures none { IsNone result → self.old ≡ [] }
     {
         self.islands.pop()
-    }
-
-    /// Writes at a place what an island is after a tick, in the memory of the island that is there,
-    /// if there is one.
-    fn solve_copy(&mut self, place: usize, scene: &Scene, island: &Island) -> Result<(), AllocError>
-        requires place { place ≤ length self.old }
-        requires island { IsIslandOf scene.now island.now }
-        ensures solved { OnOk result (take (place + 1) self.new
-            ≡ take place self.old ++ island_after_tick scene.now island.now ∷ []) }
-        ensures within { OnOk result (place < length self.new) }
-    {
-        if place == self.islands.len() {
-            self.islands.push(island.try_clone()?)?;
-        } else {
-            self.islands[place].copy_from(island)?;
-        }
-        solve_island(scene, &mut self.islands[place]);
-        Ok(())
-    }
-
-    /// If the island of this number is dealt to the worker, writes it, after a tick, at the place, and
-    /// returns the next place; else returns the place.
-    fn solve_if_own(
-        &mut self,
-        place: usize,
-        scene: &Scene,
-        islands: &[Island],
-        number: usize,
-        workers: usize,
-        worker: usize,
-    ) -> Result<usize, AllocError>
-        requires place { place ≤ length self.old }
-        requires workers { 0 < workers }
-        requires number { number < length islands.now }
-        requires few { place + number < length islands.now }
-        requires islands { All (IsIslandOf scene.now) islands.now }
-        requires later { take place self.old ≡ share workers worker (number + 1)
-            (drop (number + 1) (map (island_after_tick scene.now) islands.now)) }
-        ensures solved { IfOk result (λ next. take next self.new ≡ share workers worker number
-            (drop number (map (island_after_tick scene.now) islands.now))) }
-        ensures within { IfOk result (λ next. next ≤ length self.new) }
-        ensures few { IfOk result (λ next. next + number ≤ length islands.now) }
-    {
-        if number % workers != worker {
-            return Ok(place);
-        }
-        self.solve_copy(place, scene, &islands[number])?;
-        Ok(place + 1)
-    }
-
-    /// The islands of a worker after a tick: copies, in the memory of this pile.
-    pub(crate) fn solve_share(
-        self,
-        scene: &Scene,
-        islands: &[Island],
-        workers: usize,
-        worker: usize,
-    ) -> Result<Pile, AllocError>
-        requires workers { 0 < workers }
-        requires islands { All (IsIslandOf scene.now) islands.now }
-        ensures { IfOk result (λ pile. pile
-            ≡ share workers worker 0 (map (island_after_tick scene.now) islands.now)) }
-    {
-        let mut pile = self;
-        let mut place = 0;
-        let mut number = islands.len();
-        while number > 0 {
-            number -= 1;
-            place = pile.solve_if_own(place, scene, islands, number, workers, worker)?;
-        }
-        pile.islands.truncate(place);
-        Ok(pile)
     }
 
     /// Solves each island. Takes no memory.

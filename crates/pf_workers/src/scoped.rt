@@ -4,11 +4,11 @@ ghost use Rattle.std.specs.Prelude.{◌≡◌, All, IfErr, OnOk, map};
 ghost use Rattle.pf_islands.specs.Split.{IsIslandOf};
 ghost use Rattle.pf_solver.specs.Alone.{island_after_tick};
 ghost use Rattle.pf_workers.specs.Crew.{IsScopedError};
-ghost use Rattle.pf_workers.specs.Worker.{IsSolved};
 
 use crate::MAX_WORKERS;
 use crate::gate::{Gate, OpenGate};
 use crate::pile::{Pile, deal, empty_piles, gather};
+use crate::worker::work;
 use pf_islands::Island;
 use pf_shapes::Scene;
 use pf_step::{Crew, CrewError};
@@ -21,35 +21,16 @@ use std::{mem, thread};
 
 /// What a worker returns: its islands after a tick of this scene, unless the gate is shut.
 #[derive(Drop)]
-struct Solves<G> {
+struct WorkerPromise<G> {
     scene: Snapshot<Scene>,
     pile: Snapshot<Pile>,
     gate: PhantomData<G>,
 }
 
-impl<G: Gate> Promise<Result<Pile, CrewError>> for Solves<G> {
+impl<G: Gate> Promise<Result<Pile, CrewError>> for WorkerPromise<G> {
     ghost use Rattle.pf_workers.specs.Worker.{IsSolved};
 
     ghost kept_by = { λ p r. IsSolved G.ALWAYS p.scene.value p.pile.value r };
-}
-
-/// Passes the gate, and solves the islands of a worker.
-fn work<G: Gate>(
-    scene: &Scene,
-    gate: &G,
-    worker: usize,
-    turn: usize,
-    pile: Pile,
-) -> Result<Pile, CrewError>
-    requires { All (IsIslandOf scene.now) pile }
-    ensures { IsSolved G.ALWAYS scene.now pile result }
-{
-    if !gate.pass(worker, turn) {
-        return Err(CrewError::GateShut);
-    }
-    let mut pile = pile;
-    pile.solve(scene);
-    Ok(pile)
 }
 
 /// Starts a worker for each pile, from the last to the first, and joins those that it started. Each
@@ -74,7 +55,7 @@ fn run_workers<'s, 'e: 's, R: Threads, G: Gate + Sync>(
     };
     let worker = others.len();
     let given = mem::replace(pile, Pile::new(alloc));
-    let promise = Solves::<G> {
+    let promise = WorkerPromise::<G> {
         scene: Snapshot::of(scene),
         pile: Snapshot::of(&given),
         gate: PhantomData,
@@ -119,7 +100,7 @@ impl<'r, R: Threads + Wait, G: Gate + Sync> ScopedCrew<'r, R, G> {
     ghost use Rattle.std.specs.Prelude.{◌≡◌, ◌<◌, ◌≤◌, All, IfErr, IfOk, OnOk, map};
     ghost use Rattle.pf_islands.specs.Split.{IsIslandOf};
     ghost use Rattle.pf_solver.specs.Alone.{island_after_tick};
-    ghost use Rattle.pf_workers.specs.Crew.{IsScopedError, after_solve};
+    ghost use Rattle.pf_workers.specs.Crew.{IsScopedError, next_turn};
 
     /// A crew of so many workers, each of which passes the gate in each solve. Takes no memory.
     pub fn new(rt: &'r R, alloc: Global, workers: usize, gate: G) -> ScopedCrew<'r, R, G>
@@ -162,7 +143,7 @@ impl<'r, R: Threads + Wait, G: Gate + Sync> ScopedCrew<'r, R, G> {
         )
     }
 
-    /// Solves each island alone: answer k is island k after a tick of 1/64 s. Island k is solved by
+    /// WorkerPromise each island alone: answer k is island k after a tick of 1/64 s. Island k is solved by
     /// worker k mod n. Returns an error where it is out of memory, where a thread could not be
     /// started, and where the gate was shut for a worker. The islands are gone after an error. The
     /// crew can solve again. It may wait.
@@ -170,7 +151,7 @@ impl<'r, R: Threads + Wait, G: Gate + Sync> ScopedCrew<'r, R, G> {
         requires { All (IsIslandOf scene.now) islands.items }
         ensures solved { IfOk result
             (λ solved. solved.items ≡ map (island_after_tick scene.now) islands.items) }
-        ensures turn { self.new ≡ after_solve self.old }
+        ensures turn { self.new ≡ record self.old { turn = next_turn self.old.turn } }
         ensures failed { IfErr result (IsScopedError G.ALWAYS) }
     {
         let turn = self.turn;
@@ -187,12 +168,13 @@ impl<'r, R: Threads + Wait, G: Gate + Sync> ScopedCrew<'r, R, G> {
 
 impl<'r, R: Threads + Wait> Crew for ScopedCrew<'r, R, OpenGate> {
     ghost use Rattle.std.specs.Prelude.{◌≡◌, true};
-    ghost use Rattle.pf_workers.specs.Crew.{IsScopedError, after_solve};
+    ghost use Rattle.pf_workers.specs.Crew.{IsScopedError, next_turn};
 
-    ghost is_called = { λ before islands after. after ≡ after_solve before };
+    ghost is_called = { λ before islands after.
+        after ≡ record before { turn = next_turn before.turn } };
 
     ghost may_fail = { λ before islands error after.
-        (after ≡ after_solve before) × IsScopedError true error };
+        (after ≡ record before { turn = next_turn before.turn }) × IsScopedError true error };
 
     fn solve(&mut self, scene: &Scene, islands: Vec<Island>) -> Result<Vec<Island>, CrewError> {
         ScopedCrew::solve(self, scene, islands)

@@ -1,171 +1,75 @@
 //! What the workers of a standing crew have answered in a solve.
 
-ghost use Rattle.std.specs.Prelude.{◌≡◌, ◌≢◌, ◌<◌, ◌%◌, ◌⊎◌, All, IfErr, IfOk, IsTrue, Some, length, map, slice_index_or};
-ghost use Rattle.pf_islands.specs.Split.{no_island};
-ghost use Rattle.pf_step.specs.declared.crew.CrewError.TheVariants.{OutOfMemory};
-ghost use Rattle.pf_workers.specs.Dealing.{share};
-ghost use Rattle.pf_workers.specs.Slots.{AreAnswers, IsThere, least_error};
-ghost use Rattle.pf_workers.specs.declared.slots.Slot.TheVariants.{Done, Missing};
+ghost use Rattle.std.specs.Prelude.{◌≡◌, All, IfErr, IfOk, IsNone, IsSome, IsTrue, length, map};
+ghost use Rattle.pf_solver.specs.Alone.{island_after_tick};
+ghost use Rattle.pf_workers.specs.Crew.{IsStandingError};
+ghost use Rattle.pf_workers.specs.Reply.{IsReply};
+ghost use Rattle.pf_workers.specs.Slots.{AreAnswers};
+ghost use Rattle.pf_workers.specs.declared.reply.Dealt.{Dealt};
 
 use crate::gate::Gate;
 use crate::pile::Pile;
-use crate::task::{Answer, Solved, Task};
-use pf_islands::Island;
+use crate::reply::Message;
 use pf_step::CrewError;
 use std::alloc::{AllocError, Global};
 
-/// What a worker has answered in a solve.
-#[derive(Debug, Drop)]
-pub(crate) enum Slot {
-    Missing,
-    Failed(CrewError),
-    Done(Pile),
-}
+/// What a worker has answered in a solve, if it has.
+pub(crate) type Slot = Option<Result<Pile, CrewError>>;
 
-impl Slot {
-    ghost use Rattle.std.specs.Prelude.{IsTrue};
-    ghost use Rattle.pf_workers.specs.Slots.{IsThere};
-
-    /// Whether the worker has answered.
-    fn is_there(&self) -> bool
-        ensures { IsTrue result → IsThere self.now }
-    {
-        !matches!(self, Slot::Missing)
-    }
-}
-
-/// A `Missing` slot for each worker.
+/// A slot without an answer for each worker.
 pub(crate) fn no_answers(alloc: Global, workers: usize) -> Result<Vec<Slot>, AllocError>
     ensures count { IfOk result (λ slots. length slots.items ≡ workers) }
-    ensures missing { IfOk result (λ slots. All (λ slot. slot ≡ Missing) slots.items) }
+    ensures none { IfOk result (λ slots. All IsNone slots.items) }
 {
     let mut slots = Vec::with_capacity(alloc, workers)?;
     for _made in 0..workers {
-        slots.push(Slot::Missing)?;
+        slots.push(None)?;
     }
     Ok(slots)
 }
 
 /// Whether all these workers have answered.
 pub(crate) fn have_answered(slots: &[Slot]) -> bool
-    ensures { IsTrue result → All IsThere slots.now }
+    ensures { IsTrue result → All IsSome slots.now }
 {
     for slot in slots {
-        if !slot.is_there() {
+        if slot.is_none() {
             return false;
         }
     }
     true
 }
 
-/// Whether the islands of a number are the same in two lists, or not dealt to the worker.
-fn agree_at(
-    ours: &[Island],
-    theirs: &[Island],
-    number: usize,
-    workers: usize,
-    worker: usize,
-) -> bool
-    requires workers { 0 < workers }
-    requires number { number < length ours.now }
-    requires long { length theirs.now ≡ length ours.now }
-    ensures { IsTrue result → number % workers ≡ worker
-        → slice_index_or ours.now number no_island ≡ slice_index_or theirs.now number no_island }
-{
-    if number % workers != worker {
-        return true;
-    }
-    ours[number] == theirs[number]
-}
-
-/// Whether a worker has the same islands of two lists.
-fn is_share(ours: &[Island], theirs: &[Island], workers: usize, worker: usize) -> bool
-    requires { 0 < workers }
-    ensures { IsTrue result → share workers worker 0 ours.now ≡ share workers worker 0 theirs.now }
-{
-    if ours.len() != theirs.len() {
-        return false;
-    }
-    let mut number = ours.len();
-    while number > 0 {
-        number -= 1;
-        if !agree_at(ours, theirs, number, workers, worker) {
-            return false;
-        }
-    }
-    true
-}
-
-impl Solved {
-    ghost use Rattle.std.specs.Prelude.{◌≡◌, ◌<◌, IfSome, map};
-    ghost use Rattle.pf_solver.specs.Alone.{island_after_tick};
-    ghost use Rattle.pf_workers.specs.Dealing.{share};
-
-    /// What the worker of this number made of its islands, if it was given them in this task.
-    fn into_pile(self, task: &Task, workers: usize, worker: usize) -> Option<Pile>
-        requires { 0 < workers }
-        ensures { IfSome result (λ pile. pile ≡ share workers worker 0
-            (map (island_after_tick task.now.scene) task.now.islands)) }
-    {
-        if self.workers != workers {
-            return None;
-        }
-        if self.worker != worker {
-            return None;
-        }
-        let has_our_scene = *self.task.scene() == *task.scene();
-        if !has_our_scene {
-            return None;
-        }
-        if is_share(task.islands(), self.task.islands(), workers, worker) {
-            Some(self.pile)
-        } else {
-            None
-        }
-    }
-}
-
-/// Notes the answer of a worker. Drops an answer of another solve or another task, of no worker of
-/// this crew, and a second one of a worker.
-pub(crate) fn accept<G: Gate>(answer: Answer<G>, turn: usize, task: &Task, slots: &mut [Slot])
-    requires { AreAnswers G.ALWAYS task.now slots.old }
-    ensures answers { AreAnswers G.ALWAYS task.now slots.new }
+/// Notes an answer in the slot of its worker. Drops a second one of a worker, and one of no worker
+/// of this crew.
+pub(crate) fn accept<G: Gate>(message: Message, slots: &mut [Slot])
+    ensures answers { (d : Dealt) → IsReply G.ALWAYS d message
+        → AreAnswers G.ALWAYS d slots.old → AreAnswers G.ALWAYS d slots.new }
     ensures count { length slots.new ≡ length slots.old }
-    ensures other { answer.turn ≢ turn → slots.new ≡ slots.old }
 {
-    let workers = slots.len();
-    let Answer {
-        turn: answered,
-        worker,
-        outcome,
-        ..
-    } = answer;
-    if answered != turn || worker >= workers || slots[worker].is_there() {
-        return;
-    }
-    match outcome {
-        Ok(solved) => {
-            if let Some(pile) = solved.into_pile(task, workers, worker) {
-                slots[worker] = Slot::Done(pile);
-            }
+    if let Message::Answer(worker, outcome) = message {
+        if worker < slots.len() && slots[worker].is_none() {
+            slots[worker] = Some(outcome);
         }
-        Err(error) => slots[worker] = Slot::Failed(error),
     }
 }
 
 /// The piles of workers that have all answered, or the error of the least that failed.
-pub(crate) fn finish(alloc: Global, slots: Vec<Slot>) -> Result<Vec<Pile>, CrewError>
-    requires { All IsThere slots.items }
-    ensures piles { IfOk result (λ piles. slots.items ≡ map Done piles.items) }
-    ensures failed { IfErr result (λ error.
-        (error ≡ OutOfMemory) ⊎ (least_error slots.items ≡ Some error)) }
+pub(crate) fn finish<G: Gate>(alloc: Global, slots: Vec<Slot>) -> Result<Vec<Pile>, CrewError>
+    requires { All IsSome slots.items }
+    ensures piles { (d : Dealt) → AreAnswers G.ALWAYS d slots.items
+        → length slots.items ≡ length d.piles.value.items
+        → IfOk result (λ piles. piles.items
+        ≡ map (map (island_after_tick d.scene.value)) d.piles.value.items) }
+    ensures failed { (d : Dealt) → AreAnswers G.ALWAYS d slots.items
+        → IfErr result (IsStandingError G.ALWAYS) }
 {
     let mut piles = Vec::with_capacity(alloc, slots.len())?;
     for slot in slots {
         match slot {
-            Slot::Done(pile) => piles.push(pile)?,
-            Slot::Failed(error) => return Err(error),
-            Slot::Missing => unreachable!(),
+            Some(Ok(pile)) => piles.push(pile)?,
+            Some(Err(error)) => return Err(error),
+            None => unreachable!(),
         }
     }
     Ok(piles)

@@ -2,17 +2,17 @@
 
 use crate::MAX_WORKERS;
 use crate::gate::Gate;
-use crate::pile::{Pile, deal, gather};
+use crate::pile::{Pile, deal, empty_piles, gather};
+use crate::reply::{Collector, Dealt};
 use crate::slots::{Slot, accept, finish, have_answered, no_answers};
-use crate::task::{Answer, Task};
-use crate::worker::{Worker, ask_all, keep_piles, start};
-use crossbeam_channel::Receiver;
+use crate::worker::{Worker, ask_all, start};
 use pf_islands::Island;
 use pf_shapes::Scene;
 use pf_step::{Crew, CrewError, solve_all};
 use std::alloc::{AllocError, Global};
 use std::marker::Model;
 use std::mem;
+use std::snapshot::Snapshot;
 use std::sync::{Arc, Wait};
 use std::thread::Threads;
 
@@ -32,8 +32,9 @@ fn is_little(islands: &[Island]) -> bool {
     true
 }
 
-/// A crew that starts its workers once. In a solve each is sent one message, with the scene and the
-/// islands, which all share, and sends one answer, with copies of its own islands after a tick.
+/// A crew that starts its workers once. In a solve each is sent one message, with its islands and the
+/// scene, which all share, and sends one answer, with its islands after a tick. The caller does the
+/// job of the first, while the others work, if nobody watches the gate.
 ///
 /// Contracts see which workers there still are, the turn of the next solve, and whether the crew is
 /// lost.
@@ -41,19 +42,18 @@ fn is_little(islands: &[Island]) -> bool {
 pub struct StandingCrew<R, G: Gate> {
     rt: R,
     alloc: Global,
-    workers: Vec<Worker>,
-    answers: Receiver<Answer<G>, Global>,
+    workers: Vec<Worker<G>>,
     gate: Arc<G, Global>,
     /// The scene of the last solve.
     scene: Option<Arc<Scene, Global>>,
-    /// The memory for the list of islands of the next solve.
-    spare: Vec<Island>,
+    /// The memory for the piles of the next solve.
+    piles: Vec<Pile>,
     turn: usize,
     lost: bool,
 }
 
 impl<R, G: Gate> Model for StandingCrew<R, G> {
-    ghost use Rattle.std.specs.Prelude.{◌<◌, ◌≤◌, length};
+    ghost use Rattle.std.specs.Prelude.{◌≡◌, ◌<◌, ◌≤◌, [], All, length};
     ghost use Rattle.pf_workers.specs.Crew.{StandingCrew};
     ghost use Rattle.pf_workers.specs.declared.TheConstants.{MAX_WORKERS};
 
@@ -61,19 +61,19 @@ impl<R, G: Gate> Model for StandingCrew<R, G> {
 
     ghost view = { λ c. record { workers = c.workers.items; turn = c.turn; lost = c.lost } };
 
-    ghost invariant = { λ c.
-        (0 < length c.workers.items) × (length c.workers.items ≤ MAX_WORKERS) };
+    ghost invariant = { λ c. (0 < length c.workers.items)
+        × (length c.workers.items ≤ MAX_WORKERS) × All (λ pile. pile ≡ []) c.piles.items };
 }
 
 impl<R: Wait, G: Gate> StandingCrew<R, G> {
-    ghost use Rattle.std.specs.Prelude.{◌≡◌, ◌<◌, ◌≤◌, [], All, IfErr, IfOk, IsTrue, OnOk, false, length, map, slice_set, take, true};
+    ghost use Rattle.std.specs.Prelude.{◌≡◌, ◌<◌, ◌≤◌, [], All, IfErr, IfOk, IsSome, IsTrue, OnOk, Some, false, length, map, slice_set, take, true};
     ghost use Rattle.std.specs.Arc.{arc_value};
     ghost use Rattle.pf_islands.specs.Split.{IsIslandOf};
     ghost use Rattle.pf_solver.specs.Alone.{island_after_tick};
     ghost use Rattle.pf_step.specs.declared.crew.CrewError.TheVariants.{CrewLost, OutOfMemory};
-    ghost use Rattle.pf_workers.specs.Dealing.{AreShares};
     ghost use Rattle.pf_workers.specs.Crew.{HasAllWorkers, IsStandingError, IsStartError, new_crew};
-    ghost use Rattle.pf_workers.specs.Slots.{AreAnswers, IsThere};
+    ghost use Rattle.pf_workers.specs.Slots.{AreAnswers};
+    ghost use Rattle.pf_workers.specs.declared.reply.Dealt.{Dealt};
 
     /// A crew of so many workers, which pass the gate in each solve. Returns an error where it is out
     /// of memory or a thread could not be started; the workers that were started end by themselves.
@@ -90,17 +90,15 @@ impl<R: Wait, G: Gate> StandingCrew<R, G> {
         ensures crew { IfOk result (λ crew. crew ≡ new_crew workers) }
         ensures failed { IfErr result IsStartError }
     {
-        let (sender, answers) = crossbeam_channel::bounded(alloc, workers)?;
         let gate = Arc::new(alloc, gate)?;
-        let workers = start(&rt, alloc, workers, &gate, sender)?;
+        let workers = start(&rt, alloc, workers, &gate)?;
         Ok(StandingCrew {
             rt,
             alloc,
             workers,
-            answers,
             gate,
             scene: None,
-            spare: Vec::new(alloc),
+            piles: Vec::new(alloc),
             turn: 0,
             lost: false,
         })
@@ -147,67 +145,45 @@ impl<R: Wait, G: Gate> StandingCrew<R, G> {
     /// Waits until the first so many workers have answered.
     fn collect(
         &self,
-        task: &Task,
-        turn: usize,
+        collector: Collector<G>,
         asked: usize,
         slots: &mut [Slot],
     ) -> Result<(), CrewError>
-        requires asked { asked ≤ length slots.old }
-        requires slots { AreAnswers G.ALWAYS task.now slots.old }
+        requires { asked ≤ length slots.old }
         ensures count { length slots.new ≡ length slots.old }
-        ensures answers { AreAnswers G.ALWAYS task.now slots.new }
-        ensures there { OnOk result (All IsThere (take asked slots.new)) }
+        ensures answers { (d : Dealt) → collector ≡ Some d → AreAnswers G.ALWAYS d slots.old
+            → AreAnswers G.ALWAYS d slots.new }
+        ensures all { OnOk result (All IsSome (take asked slots.new)) }
         ensures lost { IfErr result (λ error. error ≡ CrewLost) }
     {
+        let mut collector = collector;
         for _ in self.rt.forever() {
             if have_answered(&slots[..asked]) {
                 return Ok(());
             }
-            let Ok(answer) = self.answers.recv(&self.rt) else {
-                break;
-            };
-            accept(answer, turn, task, slots);
+            let message = collector.receive(&self.rt)?;
+            accept::<G>(message, slots);
         }
         Err(CrewError::CrewLost)
     }
 
     /// The slots of the workers after the first so many have answered.
-    fn slots_after(
+    fn answers(
         &self,
-        task: &Task,
-        turn: usize,
+        collector: Collector<G>,
         asked: usize,
         slots: Vec<Slot>,
     ) -> Result<Vec<Slot>, CrewError>
-        requires asked { asked ≤ length slots.items }
-        requires slots { AreAnswers G.ALWAYS task.now slots.items }
+        requires { asked ≤ length slots.items }
         ensures count { IfOk result (λ after. length after.items ≡ length slots.items) }
-        ensures answers { IfOk result (λ after. AreAnswers G.ALWAYS task.now after.items) }
-        ensures there { IfOk result (λ after. All IsThere (take asked after.items)) }
+        ensures answers { (d : Dealt) → collector ≡ Some d → AreAnswers G.ALWAYS d slots.items
+            → IfOk result (λ after. AreAnswers G.ALWAYS d after.items) }
+        ensures all { IfOk result (λ after. All IsSome (take asked after.items)) }
         ensures lost { IfErr result (λ error. error ≡ CrewLost) }
     {
         let mut slots = slots;
-        self.collect(task, turn, asked, &mut slots)?;
+        self.collect(collector, asked, &mut slots)?;
         Ok(slots)
-    }
-
-    /// Keeps the memory of the islands of a solve, and of the piles that are empty after it, for the
-    /// next one.
-    fn keep_memory(&mut self, task: Task, piles: Vec<Pile>)
-        requires some { 0 < length self.old.workers }
-        requires count { length piles.items ≡ length self.old.workers }
-        requires empty { All (λ pile. pile ≡ []) piles.items }
-        ensures { self.new ≡ self.old }
-    {
-        let Some(mut islands) = task.into_islands() else {
-            return;
-        };
-        let Ok(piles) = deal(&mut islands, piles) else {
-            return;
-        };
-        self.spare = islands;
-        let mut piles = piles;
-        keep_piles(self.alloc, &mut self.workers, &mut piles);
     }
 
     /// Whether no worker was dismissed.
@@ -257,32 +233,50 @@ impl<R: Wait, G: Gate> StandingCrew<R, G> {
         Ok(islands)
     }
 
-    /// The task of a solve.
-    fn task(&mut self, scene: &Scene, islands: Vec<Island>) -> Result<Task, CrewError>
-        requires { All (IsIslandOf scene.now) islands.items }
-        ensures scene { IfOk result (λ task. task.scene ≡ scene.now) }
-        ensures islands { IfOk result (λ task. task.islands ≡ islands.items) }
-        ensures same { self.new ≡ self.old }
-        ensures failed { IfErr result (λ error. error ≡ OutOfMemory) }
-    {
-        let shared = self.shared_scene(scene)?;
-        Ok(Task::new(shared, Arc::new(self.alloc, islands)?))
-    }
-
-    /// What each worker makes of its islands of a task.
-    fn piles_of(&mut self, task: &Task, turn: usize) -> Result<Vec<Pile>, CrewError>
-        ensures shares { IfOk result (λ piles. AreShares
-            (map (island_after_tick task.now.scene) task.now.islands) piles.items) }
-        ensures count { IfOk result (λ piles. length piles.items ≡ length self.old.workers) }
+    /// Lets the workers solve their piles.
+    fn run(&mut self, scene: &Scene, turn: usize, piles: Vec<Pile>) -> Result<Vec<Pile>, CrewError>
+        requires count { length piles.items ≡ length self.old.workers }
+        requires islands { All (All (IsIslandOf scene.now)) piles.items }
+        ensures solved { IfOk result
+            (λ solved. solved.items ≡ map (map (island_after_tick scene.now)) piles.items) }
         ensures there { OnOk result (HasAllWorkers self.old) }
         ensures same { self.new ≡ self.old }
         ensures failed { IfErr result (IsStandingError G.ALWAYS) }
     {
+        let shared = self.shared_scene(scene)?;
         let slots = no_answers(self.alloc, self.workers.len())?;
-        let (asked, sent) = ask_all(&self.rt, self.alloc, &mut self.workers, turn, task);
-        let answered = self.slots_after(task, turn, asked, slots)?;
+        let dealt = Dealt {
+            scene: Snapshot::of(scene),
+            piles: Snapshot::of(&piles),
+        };
+        let (replier, collector) = Collector::open(
+            &self.rt,
+            self.alloc,
+            self.workers.len(),
+            dealt,
+        )?;
+        let gate = &*self.gate;
+        let workers = self.workers.as_slice();
+        let (asked, sent) = ask_all(
+            &self.rt, self.alloc, gate, workers, turn, &shared, piles, replier,
+        );
+        let answers = self.answers(collector, asked, slots)?;
         sent?;
-        finish(self.alloc, answered)
+        finish::<G>(self.alloc, answers)
+    }
+
+    /// Piles without islands for all workers, in the memory of the last ones.
+    fn take_piles(&mut self) -> Result<Vec<Pile>, AllocError>
+        ensures some { IfOk result (λ piles. 0 < length piles.items) }
+        ensures count { IfOk result (λ piles. length piles.items ≡ length self.old.workers) }
+        ensures empty { IfOk result (λ piles. All (λ pile. pile ≡ []) piles.items) }
+        ensures same { self.new ≡ self.old }
+    {
+        let piles = mem::replace(&mut self.piles, Vec::new(self.alloc));
+        if piles.len() == self.workers.len() {
+            return Ok(piles);
+        }
+        empty_piles(self.alloc, self.workers.len())
     }
 
     /// Solves each island by the workers, in a turn that was counted.
@@ -299,14 +293,13 @@ impl<R: Wait, G: Gate> StandingCrew<R, G> {
         ensures there { OnOk result (HasAllWorkers self.old) }
         ensures failed { IfErr result (IsStandingError G.ALWAYS) }
     {
+        let mut islands = islands;
         let count = islands.len();
-        let task = self.task(scene, islands)?;
-        let piles = self.piles_of(&task, turn)?;
-        let mut solved = mem::replace(&mut self.spare, Vec::new(self.alloc));
-        solved.clear();
-        let rest = gather(piles, count, &mut solved)?;
-        self.keep_memory(task, rest);
-        Ok(solved)
+        let empty = self.take_piles()?;
+        let piles = deal(&mut islands, empty)?;
+        let solved = self.run(scene, turn, piles)?;
+        self.piles = gather(solved, count, &mut islands)?;
+        Ok(islands)
     }
 
     /// Solves each island, in a turn that was counted.
@@ -332,10 +325,11 @@ impl<R: Wait, G: Gate> StandingCrew<R, G> {
 
 impl<R: Wait, G: Gate> Crew for StandingCrew<R, G> {
     ghost use Rattle.std.specs.Prelude.{◌≡◌, false};
-    ghost use Rattle.pf_workers.specs.Crew.{HasAllWorkers, FailsStanding, turned};
+    ghost use Rattle.pf_workers.specs.Crew.{HasAllWorkers, FailsStanding, next_turn};
 
     ghost is_called = { λ before islands after.
-        (before.lost ≡ false) × HasAllWorkers before × (after ≡ turned before) };
+        (before.lost ≡ false) × HasAllWorkers before
+        × (after ≡ record before { turn = next_turn before.turn }) };
 
     ghost may_fail = { λ before islands error after. FailsStanding G.ALWAYS before error after };
 

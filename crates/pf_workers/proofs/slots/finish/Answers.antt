@@ -1,12 +1,11 @@
-use Rattle.std.proofs.Common.{◌∙◌, ◌++◌, ◌∷◌, ap, map, inr}
-use Rattle.std.specs.Vec.Iter.{into_iter_items}
-use Rattle.pf_workers.specs.declared.slots.Slot.TheVariants.{Done}
-use Rattle.pf_workers.specs.Slots.{least_error}
-use Rattle.pf_workers.proofs.Answered.{least_after}
+use Rattle.std.proofs.Common.{◌≡◌, ◌∙◌, ◌++◌, Ok, Some, ap, append-nil, map, sym}
+use Rattle.pf_workers.proofs.Answered.{all_done, none_left}
 use Rattle.pf_workers.proofs.slots.finish.Goals as goal
 
-pub returns-in-Failed-clause-failed : goal.returns-in-Failed-clause-failed
-returns-in-Failed-clause-failed c =
+pub returns-clause-piles : goal.returns-clause-piles
+returns-clause-piles g c d answers count =
+    let slots = c.args.slots.items in
     let piles = c.loop-slot.piles.items in
-    inr (ap least_error (c.loop-slot.invariant ∙ ap (λ l. map Done piles ++ l) (c.in-Some.ensures.steps.0
-    ∙ ap (λ x. x ∷ into_iter_items c.next.new.self) c.in-Failed.is)) ∙ least_after piles _)
+    let done : slots ≡ map (λ pile. Some (Ok pile)) piles =
+    c.loop-slot.invariant ∙ ap (λ l. map (λ pile. Some (Ok pile)) piles ++ l) (none_left _ (sym c.loop-slot.slot-iterator.rest.ok.0 ∙ c.in-None.ensures.steps.0)) ∙ append-nil _ in
+    all_done g.G.Gate.ALWAYS d slots piles answers count done

@@ -1,7 +1,6 @@
 use Rattle.std.proofs.Common.{take}
-use Rattle.std.specs.Prelude.{All}
-use Rattle.pf_workers.specs.Slots.{IsThere}
+use Rattle.std.specs.Prelude.{All, IsSome}
 use Rattle.pf_workers.proofs.slots.have_answered.Given as goal
 
 abbrev pub invariant-loop-slot : goal.invariant-loop-slot
-invariant-loop-slot l = All IsThere (take l.slot-index l.slots)
+invariant-loop-slot l = All IsSome (take l.slot-index l.slots)

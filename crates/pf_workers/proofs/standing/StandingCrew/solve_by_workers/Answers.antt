@@ -1,22 +1,40 @@
-use Rattle.std.proofs.Common.{rules, ◌≡◌, ◌∙◌, ◌++◌, ap, length, map}
+use Rattle.std.proofs.Common.{rules, ◌≡◌, ◌∙◌, ◌++◌, ◌<◌, ap, arith, length, map, sym, subst}
 use Rattle.std.proofs.lemmas.List.{length-map}
+use Rattle.pf_islands.specs.Split.{IsIslandOf}
 use Rattle.pf_solver.specs.Alone.{island_after_tick}
+use Rattle.pf_workers.proofs.Shares.{shares_after, shares_all}
 use Rattle.pf_workers.proofs.standing.StandingCrew.solve_by_workers.Goals as goal
 
-pub keep_memory-requires-clause-empty : goal.keep_memory-requires-clause-empty
-keep_memory-requires-clause-empty g c =
-    let t = c.in_ok-task.task in
-    let f = island_after_tick t.scene in
-    let many : length c.args.islands.items ≡ c.len-count.result = search rules in
-    c.in_ok-rest.ensures.empty (map f t.islands) c.in_ok-piles.ensures.shares
-    (length-map t.islands f ∙ ap length c.in_ok-task.ensures.islands ∙ many)
+pub deal-requires-clause-some : goal.deal-requires-clause-some
+deal-requires-clause-some g c = c.in_ok-empty.ensures.some
+
+pub run-requires-clause-islands : goal.run-requires-clause-islands
+run-requires-clause-islands g c =
+    shares_all (IsIslandOf c.args.scene.now) 0 c.args.islands.items c.in_ok-piles.piles.items c.requires c.in_ok-piles.ensures.shares
+
+pub gather-requires : goal.gather-requires
+gather-requires g c =
+    let f = map (island_after_tick c.args.scene.now) in
+    subst (λ l. 0 < length l) (sym c.in_ok-solved.ensures.solved)
+    (omega (arith, c.in_ok-empty.ensures.some, c.in_ok-piles.ensures.count, length-map c.in_ok-piles.piles.items f))
+
+pub invariant_of-self : goal.invariant_of-self
+invariant_of-self g c =
+    let f = island_after_tick c.args.scene.now in
+    let islands = c.args.islands.items in
+    let many : length islands ≡ c.len-count.result = search rules in (
+      c.self.invariant.0,
+      c.self.invariant.1,
+      c.in_ok-self-inside.ensures.empty (map f islands) (shares_after f islands _ _ c.in_ok-piles.ensures.shares c.in_ok-solved.ensures.solved)
+          (length-map islands f ∙ many),
+    )
 
 pub returns-clause-solved : goal.returns-clause-solved
 returns-clause-solved g c =
-    let t = c.in_ok-task.task in
-    let f = island_after_tick t.scene in
-    let many : length c.args.islands.items ≡ c.len-count.result = search rules in
-    c.in_ok-rest.ensures.gathered (map f t.islands) c.in_ok-piles.ensures.shares
-    (length-map t.islands f ∙ ap length c.in_ok-task.ensures.islands ∙ many)
-    ∙ ap (λ l. l ++ map f t.islands) c.clear.ensures.items
-    ∙ ap (map f) c.in_ok-task.ensures.islands ∙ ap (λ s. map (island_after_tick s) c.args.islands.items) c.in_ok-task.ensures.scene
+    let f = island_after_tick c.args.scene.now in
+    let islands = c.args.islands.items in
+    let many : length islands ≡ c.len-count.result = search rules in
+    c.in_ok-self-inside.ensures.gathered (map f islands)
+    (shares_after f islands _ _ c.in_ok-piles.ensures.shares c.in_ok-solved.ensures.solved)
+    (length-map islands f ∙ many)
+    ∙ ap (λ l. l ++ map f islands) c.in_ok-piles.ensures.rest
