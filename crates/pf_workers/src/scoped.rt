@@ -143,7 +143,7 @@ impl<'r, R: Threads + Wait, G: Gate + Sync> ScopedCrew<'r, R, G> {
         )
     }
 
-    /// WorkerPromise each island alone: answer k is island k after a tick of 1/64 s. Island k is solved by
+    /// Solves each island alone: answer k is island k after a tick of 1/64 s. Island k is solved by
     /// worker k mod n. Returns an error where it is out of memory, where a thread could not be
     /// started, and where the gate was shut for a worker. The islands are gone after an error. The
     /// crew can solve again. It may wait.
