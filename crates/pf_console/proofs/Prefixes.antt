@@ -28,7 +28,7 @@ output_stands t lines text state bytes are lead =
     ∙ ap (λ (o : Output Phase SceneFault). output_then o follow) lead in
     ((follow (length lines + 1) state).text, sym (ap (λ (o : Output Phase SceneFault). o.text) all))
 
--- where a run stopped for want of memory, or because its crew failed
+-- where a run stopped since it was out of memory, or because its crew failed
 stopped_prefix : (t : Transfer) → StopsForMemory text_rules first_phase t → WritesPrefix t (text_of t.input).written
 unfolding text_of
 stopped_prefix t stops = by stops.cause

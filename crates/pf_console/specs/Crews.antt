@@ -7,9 +7,9 @@ use Rattle.pf_console.specs.declared.fault.PlayFault.{PlayFault}
 use Rattle.pf_console.specs.declared.fault.PlayFault.TheVariants.{Crew, Memory}
 
 -- why a valid line had no reply, by the error with which the crew has failed, if it has
-abbrev pub fault_of_want : Option CrewError → PlayFault
-fault_of_want (Some error) = Crew error
-fault_of_want None = Memory
+abbrev pub fault_of_missing_reply : Option CrewError → PlayFault
+fault_of_missing_reply (Some error) = Crew error
+fault_of_missing_reply None = Memory
 
 -- an error of a crew is returned only where there is one, and only one with which it may fail
 abbrev pub FailsByCrew : {A : Type 0} → (A → List Island → CrewError → A → Type 0) → Option A

@@ -38,9 +38,9 @@ pub fn event_lines_encode_events()
         → IsLineOf peers (event_line event) event }
 {}
 
-/// What a run writes depends on its text alone, and not on the crew, its size, or whether there is
-/// one: it is a prefix of the one text that belongs to the input, and all of it where nothing
-/// failed. So two runs of one text in which nothing failed wrote the same and ended alike.
+/// Whatever the crew, and without one, a run writes a prefix of the one text that belongs to its
+/// input, and all of it where nothing failed. So two runs of one text in which nothing failed wrote
+/// the same and ended alike.
 pub fn runs_write_one_text()
     ensures prefix { (t : Transfer) (result : Result (Unit {0}) PlayFault) → Runs t result
         → WritesPrefix t (text_of t.input).written }

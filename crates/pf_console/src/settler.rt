@@ -4,7 +4,7 @@ ghost use Rattle.std.specs.Prelude.{◌≡◌, ◌≢◌, ℕ, None, length, IfO
 ghost use Rattle.pf_peers.specs.Crews.{CanFail};
 ghost use Rattle.pf_peers.specs.Session.{IsAmong, answer};
 ghost use Rattle.pf_peers.specs.declared.event.Event.TheVariants.{Settle};
-ghost use Rattle.pf_console.specs.Crews.{fault_of_want};
+ghost use Rattle.pf_console.specs.Crews.{fault_of_missing_reply};
 
 use crate::fault::PlayFault;
 use pf_manifold::Collider;
@@ -14,7 +14,7 @@ use std::alloc::{AllocError, Global};
 use std::marker::Model;
 
 /// A collider and a crew, which are lent to each line of a text. Where the crew fails, its error is
-/// remembered here: whoever takes lines has no other error for a valid line than out of memory.
+/// remembered here, since the driver's only error for a valid line is out of memory.
 ///
 /// Contracts see that error, if there is one.
 #[derive(Drop)]
@@ -77,7 +77,7 @@ impl<'a, P: Collider, C: Crew> Settler<'a, P, C> {
     /// Why a valid line had no reply: the crew's error, or out of memory if it has not failed. An
     /// error of the crew is one with which a call of it may fail.
     pub fn fault(&self) -> PlayFault
-        ensures value { result ≡ fault_of_want self.now }
+        ensures value { result ≡ fault_of_missing_reply self.now }
         ensures failed { IfSome self.now (CanFail C.may_fail) }
     {
         match self.failed {

@@ -1,9 +1,10 @@
 -- What the program does, from the words of its call to its status.
-use Rattle.std.specs.Prelude.{◌≡◌, ◌≢◌, ◌⊎◌, ℕ, List, map, Option, Some, IsSome, Result, Ok, Err, Vec}
+use Rattle.std.specs.Prelude.{◌≡◌, ◌≢◌, ◌⊎◌, ℕ, List, map, Option, None, Some, Result, Ok, Err, Vec}
 use Rattle.clap.specs.Words.{fault_of, subcommand_of}
 use Rattle.pf_text.specs.Streams.{Streams, IfExposed}
 use Rattle.pf_step.specs.declared.crew.CrewError.{CrewError}
 use Rattle.pf_step.specs.declared.crew.CrewError.TheVariants.{GateShut}
+use Rattle.pf_workers.specs.Crew.{IsStartError, StandingCrew, new_crew}
 use Rattle.pf_console.specs.declared.request.Request.{Request}
 use Rattle.pf_console.specs.declared.request.Request.TheVariants.{Run}
 use Rattle.pf_console.specs.declared.fault.PlayFault.{PlayFault}
@@ -25,9 +26,15 @@ Asks text (Err fault) asked = asked ≡ Err fault
 abbrev pub WantsCrew : Request → Type 0
 WantsCrew request = (size : ℕ) × (request ≡ Run (Some size))
 
--- a crew that was made for a request
-abbrev pub IsCrewOf : {C : Type 0} → Request → Option C → Type 0
-IsCrewOf request crew = IsSome crew → WantsCrew request
+-- the crew that a request asks for, if it asks for one
+abbrev pub crew_for : Request → Option StandingCrew
+crew_for (Run (Some size)) = Some (new_crew size)
+crew_for request = None
+
+-- the error with which the crew that a request asks for could not be started
+abbrev pub IsStartFault : Request → PlayFault → Type 0
+IsStartFault request fault =
+    WantsCrew request × ((error : CrewError) × (fault ≡ Crew error) × IsStartError error)
 
 -- an error of the crew that a request asks for, whose gates are open
 abbrev pub IsCrewFault : Request → PlayFault → Type 0
@@ -42,11 +49,11 @@ pub record Fails (fault : PlayFault) (s : Streams) (outcome : Result (Unit {0}) 
   pub after_is : s.after ≡ s.before
 
 -- A request was performed, where reader and writer expose their bytes, or else the crew that it
--- asks for could not be made. An error of what is asked for is the outcome.
+-- asks for could not be started. An error of what is asked for is the outcome.
 abbrev pub Does : Result Request PlayFault → Streams → Result (Unit {0}) PlayFault → Type 0
 Does (Ok request) s outcome =
     IfExposed s (λ transfer. Performs request transfer outcome)
-    ⊎ ((fault : PlayFault) × IsCrewFault request fault × Fails fault s outcome)
+    ⊎ ((fault : PlayFault) × IsStartFault request fault × Fails fault s outcome)
 Does (Err fault) s outcome = Fails fault s outcome
 
 -- an error of a crew comes only where a request asks for one, and never from a gate

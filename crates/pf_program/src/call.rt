@@ -5,7 +5,7 @@ ghost use Rattle.std.specs.Process.{exit_status};
 ghost use Rattle.pf_console.specs.Report.{Reports};
 ghost use Rattle.pf_console.specs.Text.{CountsReads, CountsWrites};
 ghost use Rattle.pf_program.specs.Options.{FailsByWordsOrMemory, HasCrewSize};
-ghost use Rattle.pf_program.specs.Program.{Ends, IsCrewFault, IsCrewOf, Plays};
+ghost use Rattle.pf_program.specs.Program.{Ends, IsStartFault, Plays, crew_for};
 
 use crate::command_line::options;
 use pf_console::{PlayFault, Request, finish, perform};
@@ -24,8 +24,8 @@ fn crew_of<T: Threads + Wait + Copy + Send + 'static>(
     request: &Request,
 ) -> Result<Option<StandingCrew<T, OpenGate>>, PlayFault>
     requires { HasCrewSize request.now }
-    ensures crew { IfOk result (IsCrewOf request.now) }
-    ensures fault { IfErr result (IsCrewFault request.now) }
+    ensures crew { IfOk result (λ crew. crew ≡ crew_for request.now) }
+    ensures fault { IfErr result (IsStartFault request.now) }
 {
     match request {
         Request::Run {

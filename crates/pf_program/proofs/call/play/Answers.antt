@@ -3,7 +3,7 @@ use Rattle.std.proofs.lemmas.Result.{err_from_is_err_and}
 use Rattle.pf_console.specs.declared.fault.PlayFault.TheVariants.{Crew}
 use Rattle.clap.specs.Words.{fault_of, subcommand_of}
 use Rattle.pf_program.specs.Options.{ParsesAs, command_line}
-use Rattle.pf_program.proofs.Crews.{never_shut, words_name_none}
+use Rattle.pf_program.proofs.Crews.{never_shut, wants, words_name_none}
 use Rattle.pf_program.proofs.call.play.Goals as goal
 
 pub returns-in_err-words-clause-plays : goal.returns-in_err-words-clause-plays
@@ -32,5 +32,5 @@ returns-clause-plays g c =
       crew = λ error is.
           let fails = c.perform-outcome.ensures.crew error is in
           let can = fails.1 in
-          (c.in_ok-crew.ensures.crew fails.0, (error, refl, never_shut can.0 can.2 error can.3));
+          (wants c.in_ok-request.request c.in_ok-crew.crew c.in_ok-crew.ensures.crew fails.0, (error, refl, never_shut can.0 can.2 error can.3));
     }
