@@ -56,6 +56,11 @@ impl Pile {
         self.islands.pop()
     }
 
+    /// How many contacts its islands have.
+    pub(crate) fn contact_count(&self) -> usize {
+        contact_count(&self.islands)
+    }
+
     /// Solves each island. Takes no memory.
     pub(crate) fn solve(&mut self, scene: &Scene)
         requires { All (IsIslandOf scene.now) self.old }
@@ -63,6 +68,15 @@ impl Pile {
     {
         solve_all(scene, &mut self.islands);
     }
+}
+
+/// How many contacts these islands have. It saturates.
+pub(crate) fn contact_count(islands: &[Island]) -> usize {
+    let mut contacts = 0;
+    for island in islands {
+        contacts = island.rows.len().saturating_add(contacts);
+    }
+    contacts
 }
 
 /// So many piles without islands.

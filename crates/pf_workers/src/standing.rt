@@ -2,7 +2,7 @@
 
 use crate::MAX_WORKERS;
 use crate::gate::Gate;
-use crate::pile::{Pile, deal, empty_piles, gather};
+use crate::pile::{Pile, contact_count, deal, empty_piles, gather};
 use crate::reply::{Collector, Dealt};
 use crate::slots::{Slot, accept, finish, have_answered, no_answers};
 use crate::worker::{Worker, ask_all, start};
@@ -22,19 +22,12 @@ const CONTACTS_FOR_THREADS: usize = 64;
 /// Whether there are too few contacts for threads to pay: solving them takes no longer than waking
 /// the workers.
 fn is_little(islands: &[Island]) -> bool {
-    let mut contacts = 0;
-    for island in islands {
-        contacts = island.rows.len().saturating_add(contacts);
-        if contacts >= CONTACTS_FOR_THREADS {
-            return false;
-        }
-    }
-    true
+    contact_count(islands) < CONTACTS_FOR_THREADS
 }
 
 /// A crew that starts its workers once. In a solve each is sent one message, with its islands and the
 /// scene, which all share, and sends one answer, with its islands after a tick. The caller does the
-/// job of the first, while the others work, if nobody watches the gate.
+/// job with the most contacts, while the others work, if nobody watches the gate.
 ///
 /// Contracts see which workers there still are, the turn of the next solve, and whether the crew is
 /// lost.

@@ -212,8 +212,22 @@ impl<G: Gate> Worker<G> {
     }
 }
 
+/// The worker whose pile has the most contacts, and the first of several.
+fn busiest(piles: &[Pile]) -> usize {
+    let mut worker = 0;
+    let mut most = 0;
+    for number in 0..piles.len() {
+        let contacts = piles[number].contact_count();
+        if contacts > most {
+            worker = number;
+            most = contacts;
+        }
+    }
+    worker
+}
+
 /// Asks one worker after the other to solve its pile, up to the first error. Returns how many were
-/// asked. The job of the first is held back, if nobody watches the gate.
+/// asked. The job with the most contacts is held back, if nobody watches the gate.
 fn ask_each<R: Wait, G: Gate>(
     rt: &R,
     alloc: Global,
@@ -235,11 +249,12 @@ fn ask_each<R: Wait, G: Gate>(
 {
     let mut piles = piles;
     let mut replier = replier;
+    let busiest = busiest(&piles);
     for worker in 0..workers.len() {
         let pile = mem::replace(&mut piles[worker], Pile::new(alloc));
         let own = &workers[worker];
         let asked = match new_job(turn, worker, scene, pile, &mut replier) {
-            Ok(job) if worker == 0 && !gate.is_watched() => own.hold(job, held),
+            Ok(job) if worker == busiest && !gate.is_watched() => own.hold(job, held),
             Ok(job) => own.ask(rt, job),
             Err(_) => Err(CrewError::OutOfMemory),
         };
@@ -251,8 +266,8 @@ fn ask_each<R: Wait, G: Gate>(
 }
 
 /// Asks one worker after the other to solve its pile, up to the first error. Returns how many were
-/// asked. The caller solves that of the first itself, while the others work, if nobody watches the
-/// gate: islands stay in the cache of their processor, the first of which is often the largest.
+/// asked. The caller solves that with the most contacts itself, while the others work, if nobody
+/// watches the gate: so these islands stay in the cache of their processor.
 pub(crate) fn ask_all<R: Wait, G: Gate>(
     rt: &R,
     alloc: Global,
