@@ -1,7 +1,7 @@
 //! Which crew of threads a line asks for.
 
 ghost use Rattle.std.specs.Prelude.{◌<◌, ◌≤◌};
-ghost use Rattle.pf_workers.specs.declared.TheConstants.{MAX_WORKERS};
+ghost use Rattle.pf_pool.specs.declared.pool.TheConstants.{MAX_WORKERS};
 
 use crate::gate::Rule;
 use anyhow::{Context, Result, bail};

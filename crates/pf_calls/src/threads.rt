@@ -1,7 +1,7 @@
 //! Crews of threads.
 
 ghost use Rattle.std.specs.Prelude.{◌≡◌, ◌<◌, ◌≤◌, length};
-ghost use Rattle.pf_workers.specs.declared.TheConstants.{MAX_WORKERS};
+ghost use Rattle.pf_pool.specs.declared.pool.TheConstants.{MAX_WORKERS};
 
 use crate::gate::{Book, Rule, TrialGate};
 use crate::plan::{GateKind, Life, Plan};

@@ -17,6 +17,6 @@ counts_nothing failures (Err Write) h = refl
 counts_nothing failures (Err (Crew error)) h = elim h [ ]
 counts_nothing failures (Err Read) h = elim h [ ]
 
-pub fails_by_no_crew : {A : Type 0} (may_fail : A → List Island → CrewError → A → Type 0) (crew : Option A) (result : Result (Unit {0}) PlayFault)
-    → ReadsNothing result → FailsByCrew may_fail crew result
-fails_by_no_crew may_fail crew result h = λ error is. elim (subst ReadsNothing is h) [ ]
+pub fails_by_no_crew : {A : Type 0} (may_fail : A → List Island → CrewError → A → Type 0) (result : Result (Unit {0}) PlayFault)
+    → ReadsNothing result → FailsByCrew may_fail result
+fails_by_no_crew may_fail result h = λ error is. elim (subst ReadsNothing is h) [ ]

@@ -1,5 +1,5 @@
 -- What errors of a crew mean for a text.
-use Rattle.std.specs.Prelude.{◌≡◌, Option, Some, None, IsSome, Result, Err, List}
+use Rattle.std.specs.Prelude.{◌≡◌, Option, Some, None, Result, Err, List}
 use Rattle.pf_islands.specs.Split.{Island}
 use Rattle.pf_step.specs.declared.crew.CrewError.{CrewError}
 use Rattle.pf_peers.specs.Crews.{CanFail}
@@ -11,8 +11,8 @@ abbrev pub fault_of_missing_reply : Option CrewError → PlayFault
 fault_of_missing_reply (Some error) = Crew error
 fault_of_missing_reply None = Memory
 
--- an error of a crew is returned only where there is one, and only one with which it may fail
-abbrev pub FailsByCrew : {A : Type 0} → (A → List Island → CrewError → A → Type 0) → Option A
+-- an error of a crew is returned only where a call of it may fail with that error
+abbrev pub FailsByCrew : {A : Type 0} → (A → List Island → CrewError → A → Type 0)
     → Result (Unit {0}) PlayFault → Type 0
-FailsByCrew may_fail crew result =
-    (error : CrewError) → result ≡ Err (Crew error) → IsSome crew × CanFail may_fail error
+FailsByCrew may_fail result =
+    (error : CrewError) → result ≡ Err (Crew error) → CanFail may_fail error

@@ -38,7 +38,7 @@ pub fn event_lines_encode_events()
         → IsLineOf peers (event_line event) event }
 {}
 
-/// Whatever the crew, and without one, a run writes a prefix of the one text that belongs to its
+/// Whatever the crew, a run writes a prefix of the one text that belongs to its
 /// input, and all of it where nothing failed. So two runs of one text in which nothing failed wrote
 /// the same and ended alike.
 pub fn runs_write_one_text()

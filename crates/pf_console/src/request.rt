@@ -9,10 +9,10 @@ ghost use Rattle.pf_console.specs.Text.{CountsReads, CountsWrites, ReadsNothing}
 use crate::fault::PlayFault;
 use crate::frame::frame_text;
 use crate::run::run_text;
+use pf_manifold::Collider;
 use pf_step::Crew;
 use pf_text::{Sink, Source};
 use std::alloc::Global;
-use std::thread::Threads;
 
 /// The line of the program's version.
 pub const VERSION: &str = "pf_play 0.1.0\n";
@@ -41,17 +41,18 @@ fn say<W: Sink>(text: &str, writer: &mut W) -> Result<(), PlayFault>
     Ok(writer.write_all(text.as_bytes())?)
 }
 
-/// Does what a request asks for. A run reads the reader, and its settles use the crew that is here;
-/// the other requests leave both as they were.
+/// Does what a request asks for. A run reads the reader, and its settles use this collider and this
+/// crew; the other requests leave reader and crew as they were.
 #[tactic(auto, using(crate::proofs::Counting::counts_nothing, crate::proofs::Counting::fails_by_no_crew))]
-pub fn perform<R: Source, W: Sink, T: Threads + Sync, C: Crew>(
-    rt: &T,
+pub fn perform<P: Collider, R: Source, W: Sink, C: Crew>(
+    collider: &P,
     alloc: Global,
     request: Request,
     reader: &mut R,
     writer: &mut W,
-    crew: &mut Option<C>,
+    crew: &mut C,
 ) -> Result<(), PlayFault>
+    requires can { P.can_collide collider.now }
     requires reads { R.failures reader.old + 1 < 2 ^ 64 }
     requires writes { W.failures writer.old + 1 < 2 ^ 64 }
     ensures done { IfExposed (record {
@@ -63,10 +64,10 @@ pub fn perform<R: Source, W: Sink, T: Threads + Sync, C: Crew>(
         (λ transfer. Performs request.entry transfer result) }
     ensures reads_counted { CountsReads (R.failures reader.old) result (R.failures reader.new) }
     ensures writes_counted { CountsWrites (W.failures writer.old) result (W.failures writer.new) }
-    ensures crew { FailsByCrew C.may_fail crew.old result }
+    ensures crew { FailsByCrew C.may_fail result }
 {
     match request {
-        Request::Run { .. } => run_text(rt, alloc, reader, writer, crew),
+        Request::Run { .. } => run_text(collider, alloc, reader, writer, crew),
         Request::Frame(digits) => frame_text(alloc, digits, writer),
         Request::Help(text) => say(&text, writer),
         Request::Version => say(VERSION, writer),

@@ -5,14 +5,13 @@
 use pf_commands::FrameFault;
 use pf_console::{DigitsFault, PlayFault, finish, laws, report, run_text};
 use pf_islands::Island;
-use pf_manifold::OneThread;
+use pf_manifold::{Collider, OneThread, SeveralThreads};
 use pf_shapes::{Scene, SceneFault};
 use pf_step::{Crew, CrewError};
 use pf_text::{Bytes, Collected, Input, Output};
 use std::alloc::{AllocError, Global};
 use std::io::{Error, ErrorKind, Read, Write};
 use std::test::Fail;
-use std::thread::Threads;
 
 /// A circle that falls, shown twice.
 const FALLING: &[u8] =
@@ -106,8 +105,7 @@ impl Read for Trickle {
 }
 
 /// What is written by a run of the text whose reader fails at one call, and how it ends.
-fn run_trickle<T: Threads + Sync>(
-    rt: &T,
+fn run_trickle(
     alloc: Global,
     fails_at: usize,
 ) -> Result<(Collected, Result<(), PlayFault>), AllocError> {
@@ -117,8 +115,8 @@ fn run_trickle<T: Threads + Sync>(
         fails_at,
     };
     let mut output = Collected::new(alloc);
-    let mut crew: Option<OneThread> = None;
-    match run_text(rt, alloc, &mut Input::new(reader), &mut output, &mut crew) {
+    let mut reader = Input::new(reader);
+    match run_text(&OneThread, alloc, &mut reader, &mut output, &mut OneThread) {
         Err(PlayFault::Memory | PlayFault::Write) => Err(AllocError),
         outcome => Ok((output, outcome)),
     }
@@ -145,7 +143,7 @@ fn is_cut(fails_at: usize, written: &[u8], outcome: &Result<(), PlayFault>) -> b
 #[test]
 fn a_reader_may_fail_at_each_call(rt: HostRuntime) -> Result<(), Fail> {
     for fails_at in 1..2 * FALLING.len() + 4 {
-        let (output, outcome) = run_trickle(&rt, rt.alloc(), fails_at)?;
+        let (output, outcome) = run_trickle(rt.alloc(), fails_at)?;
         assert!(rt;
             is_cut(fails_at, output.bytes(), &outcome),
             "call {fails_at}"
@@ -197,9 +195,14 @@ fn a_writer_may_fail_at_each_call(rt: HostRuntime) -> Result<(), Fail> {
             fails_at,
         };
         let mut output = Output::new(&mut writer);
-        let mut crew: Option<OneThread> = None;
         let mut reader = Bytes::new(FALLING);
-        let outcome = run_text(&rt, rt.alloc(), &mut reader, &mut output, &mut crew);
+        let outcome = run_text(
+            &OneThread,
+            rt.alloc(),
+            &mut reader,
+            &mut output,
+            &mut OneThread,
+        );
         if writer.calls < fails_at && outcome.is_err() {
             return Err(AllocError)?;
         }
@@ -252,28 +255,28 @@ const TEXTS: [(&[u8], &[u8]); 4] = [
 ];
 
 /// Whether a text has these replies, by a crew or without one.
-fn is_answered<T: Threads + Sync>(
-    rt: &T,
+fn is_answered<P: Collider>(
+    collider: &P,
     alloc: Global,
     text: &[u8],
     replies: &[u8],
-    crew: Option<OneThread>,
-) -> Result<bool, AllocError> {
-    let mut crew = crew;
+) -> Result<bool, AllocError>
+    requires { P.can_collide collider.now }
+{
     let mut output = Collected::new(alloc);
-    match run_text(rt, alloc, &mut Bytes::new(text), &mut output, &mut crew) {
+    let mut reader = Bytes::new(text);
+    match run_text(collider, alloc, &mut reader, &mut output, &mut OneThread) {
         Err(PlayFault::Memory | PlayFault::Write) => Err(AllocError),
         outcome => Ok(outcome.is_ok() && output.bytes() == replies),
     }
 }
 
 #[test]
-fn replies_are_the_same_with_a_crew(rt: HostRuntime) -> Result<(), Fail> {
+fn replies_are_the_same_with_any_collider(rt: HostRuntime) -> Result<(), Fail> {
     for (text, replies) in TEXTS {
-        for crew in [None, Some(OneThread)] {
-            let is_answered = is_answered(&rt, rt.alloc(), text, replies, crew)?;
-            assert!(rt; is_answered);
-        }
+        let alone = is_answered(&OneThread, rt.alloc(), text, replies)?;
+        let by_threads = is_answered(&SeveralThreads { rt: &rt }, rt.alloc(), text, replies)?;
+        assert!(rt; alone && by_threads);
     }
     Ok(())
 }
@@ -313,11 +316,11 @@ const CREW_ERRORS: [(CrewError, &[u8]); 4] = [
 #[test]
 fn a_crew_that_fails_is_reported(rt: HostRuntime) -> Result<(), Fail> {
     for (error, report) in CREW_ERRORS {
-        let mut crew = Some(Failing { calls: 4, error });
+        let mut crew = Failing { calls: 4, error };
         let mut output = Collected::new(rt.alloc());
         let mut errors = Collected::new(rt.alloc());
         let mut reader = Bytes::new(SETTLED);
-        let outcome = run_text(&rt, rt.alloc(), &mut reader, &mut output, &mut crew);
+        let outcome = run_text(&OneThread, rt.alloc(), &mut reader, &mut output, &mut crew);
         if let Err(PlayFault::Memory | PlayFault::Write) = outcome {
             return Err(AllocError)?;
         }

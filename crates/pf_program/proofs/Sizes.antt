@@ -5,7 +5,7 @@ use Rattle.clap.specs.Words.{Text}
 use Rattle.clap.specs.ValueTests.{is_unsigned_in}
 use Rattle.clap.specs.declared.builder.value_parser.ValueParser.TheVariants.{Unsigned}
 use Rattle.clap.proofs.ValueTestLemmas.{Accepts-accepts, accepts-Accepts}
-use Rattle.pf_workers.specs.declared.TheConstants.{MAX_WORKERS}
+use Rattle.pf_pool.specs.declared.pool.TheConstants.{MAX_WORKERS}
 use Rattle.pf_program.specs.Options.{size_of}
 
 -- the number that a word spells

@@ -14,7 +14,7 @@ use Rattle.pf_console.specs.declared.request.Request.{Request}
 use Rattle.pf_console.specs.declared.request.Request.TheVariants.{Run, Frame, Help, Version}
 use Rattle.pf_console.specs.declared.fault.PlayFault.{PlayFault}
 use Rattle.pf_console.specs.declared.fault.PlayFault.TheVariants.{Words, Memory}
-use Rattle.pf_workers.specs.declared.TheConstants.{MAX_WORKERS}
+use Rattle.pf_pool.specs.declared.pool.TheConstants.{MAX_WORKERS}
 
 -- the flags `--help` and `--version`, and a subcommand, which has to be there
 abbrev pub own_words : App

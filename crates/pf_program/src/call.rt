@@ -5,42 +5,42 @@ ghost use Rattle.std.specs.Process.{exit_status};
 ghost use Rattle.pf_console.specs.Report.{Reports};
 ghost use Rattle.pf_console.specs.Text.{CountsReads, CountsWrites};
 ghost use Rattle.pf_program.specs.Options.{FailsByWordsOrMemory, HasCrewSize};
-ghost use Rattle.pf_program.specs.Program.{Ends, IsStartFault, Plays, crew_for};
+ghost use Rattle.pf_program.specs.Program.{Ends, IsStartFault, Plays, workers_for};
 
 use crate::command_line::options;
 use pf_console::{PlayFault, Request, finish, perform};
+use pf_manifold::OneThread;
 use pf_text::{Sink, Source};
-use pf_workers::{OpenGate, StandingCrew};
+use pf_workers::{OpenGate, StandingCollider, StandingCrew};
 use std::alloc::Global;
 use std::convert::AsStr;
 use std::process::ExitCode;
 use std::sync::Wait;
 use std::thread::Threads;
 
-/// The crew that a run asks for, if it asks for one.
-fn crew_of<T: Threads + Wait + Copy + Send + 'static>(
+/// The workers that a run asks for, if it asks for any: those that compute contact points, and a
+/// crew.
+fn workers_of<T: Threads + Wait + Copy + Send + 'static>(
     rt: T,
     alloc: Global,
     request: &Request,
-) -> Result<Option<StandingCrew<T, OpenGate>>, PlayFault>
+) -> Result<Option<(StandingCollider<T>, StandingCrew<T, OpenGate>)>, PlayFault>
     requires { HasCrewSize request.now }
-    ensures crew { IfOk result (λ crew. crew ≡ crew_for request.now) }
+    ensures workers { IfOk result (λ workers. workers ≡ workers_for request.now) }
     ensures fault { IfErr result (IsStartFault request.now) }
 {
-    match request {
-        Request::Run {
-            workers: Some(workers),
-        } => match StandingCrew::new(rt, alloc, *workers, OpenGate) {
-            Ok(crew) => Ok(Some(crew)),
-            Err(error) => Err(PlayFault::Crew(error)),
-        },
-        _ => Ok(None),
+    let Request::Run { workers: Some(size) } = request else {
+        return Ok(None);
+    };
+    match (StandingCollider::new(rt, alloc, *size), StandingCrew::new(rt, alloc, *size, OpenGate)) {
+        (Ok(collider), Ok(crew)) => Ok(Some((collider, crew))),
+        (Err(error), _) | (_, Err(error)) => Err(PlayFault::Crew(error)),
     }
 }
 
 /// Does what the words of a call ask for. Where they ask for a crew, it is made before anything is
 /// read, and closed at the end.
-fn play<S: AsStr + Drop, R: Source, W: Sink, T: Threads + Wait + Sync + Copy + Send + 'static>(
+fn play<S: AsStr + Drop, R: Source, W: Sink, T: Threads + Wait + Copy + Send + 'static>(
     rt: T,
     alloc: Global,
     words: Result<Vec<S>, PlayFault>,
@@ -62,11 +62,13 @@ fn play<S: AsStr + Drop, R: Source, W: Sink, T: Threads + Wait + Sync + Copy + S
 {
     let words = words?;
     let request = options(alloc, words.as_slice())?;
-    let mut crew = crew_of(rt, alloc, &request)?;
-    let outcome = perform(&rt, alloc, request, reader, writer, &mut crew);
-    if let Some(crew) = crew {
-        crew.close();
-    }
+    let Some((collider, crew)) = workers_of(rt, alloc, &request)? else {
+        return perform(&OneThread, alloc, request, reader, writer, &mut OneThread);
+    };
+    let mut crew = crew;
+    let outcome = perform(&collider, alloc, request, reader, writer, &mut crew);
+    crew.close();
+    collider.close();
     outcome
 }
 
@@ -76,7 +78,7 @@ pub fn program<
     R: Source,
     W: Sink,
     E: Sink,
-    T: Threads + Wait + Sync + Copy + Send + 'static,
+    T: Threads + Wait + Copy + Send + 'static,
 >(
     rt: T,
     alloc: Global,

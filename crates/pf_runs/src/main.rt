@@ -1,6 +1,7 @@
 //! Runs many texts. They stand on standard input, separated by a line that no text has; for each,
 //! the program prints its replies, the line that reports its error, if it has one, and `status N`.
-//! It runs each text without a crew and then with one, and ends where these differ. A text `frame
+//! It runs each text on one thread, and then with contact points by several where there are many, and
+//! ends where these differ. A text `frame
 //! DIGITS` is printed as a frame. The stored run has what an independent program prints for the
 //! same texts.
 #![tactic(auto)]
@@ -10,7 +11,7 @@ ghost use Rattle.std.specs.Prelude.{◌+◌, ◌<◌, length, IfSome};
 use anyhow::{Context, Result, bail};
 use memchr::memmem;
 use pf_console::{finish, frame_text, run_text};
-use pf_manifold::OneThread;
+use pf_manifold::{Collider, OneThread, SeveralThreads};
 use pf_text::{Bytes, Collected, Sink};
 use std::alloc::Global;
 use std::io::{Read, Write};
@@ -32,22 +33,17 @@ fn split_once(texts: &[u8]) -> Option<(&[u8], &[u8])>
     }
 }
 
-/// The replies to a text, its error and its status. Settles have the crew solve islands, if there
-/// is one.
-fn run<T: Threads + Sync>(
-    rt: &T,
-    alloc: Global,
-    text: &[u8],
-    crew: Option<OneThread>,
-) -> Result<Collected> {
-    let mut crew = crew;
+/// The replies to a text, its error and its status.
+fn run<P: Collider>(collider: &P, alloc: Global, text: &[u8]) -> Result<Collected>
+    requires { P.can_collide collider.now }
+{
     let mut output = Collected::new(alloc);
     let outcome = match text.strip_prefix(FRAME) {
         Some(digits) => {
             let digits = str::from_utf8(digits).context("digits are text")?;
             frame_text(alloc, digits, &mut output)
         }
-        None => run_text(rt, alloc, &mut Bytes::new(text), &mut output, &mut crew),
+        None => run_text(collider, alloc, &mut Bytes::new(text), &mut output, &mut OneThread),
     };
     let status = finish(outcome, &mut output);
     let line = format!(in alloc; "status {status}\n")?;
@@ -57,17 +53,17 @@ fn run<T: Threads + Sync>(
     Ok(output)
 }
 
-/// Prints the replies to a text, its error and its status, which no crew changes.
+/// Prints the replies to a text, its error and its status, which no collider changes.
 fn print<T: Threads + Sync, W: Write>(
     rt: &T,
     alloc: Global,
     text: &[u8],
     writer: &mut W,
 ) -> Result<()> {
-    let alone = run(rt, alloc, text, None)?;
-    let with_crew = run(rt, alloc, text, Some(OneThread))?;
-    if alone.bytes() != with_crew.bytes() {
-        bail!("a crew changes what is written");
+    let alone = run(&OneThread, alloc, text)?;
+    let by_threads = run(&SeveralThreads { rt }, alloc, text)?;
+    if alone.bytes() != by_threads.bytes() {
+        bail!("threads change what is written");
     }
     writer.write_all(alone.bytes())?;
     Ok(())

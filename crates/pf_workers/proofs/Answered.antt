@@ -1,24 +1,14 @@
 -- What the answers of all workers are together.
-use Rattle.std.proofs.Common.{◌≡◌, ◌∙◌, ℕ, suc, ◌+◌, ◌<◌, ◌≤◌, Bool, true, false, List, [], ◌∷◌, ◌++◌, Option, None, Some, Result, Ok, Err, IfOk, OnOk, append-nil, drop, take, map, length, get_or, refl, ap, ap₂, subst, sym, arith}
-use Rattle.std.proofs.lemmas.Bool.{true≢false}
-use Rattle.std.proofs.lemmas.List.{drop_all, get_or-map, length-map, take_all, take_more}
-use Rattle.std.specs.Prelude.{All, IsNone}
+use Rattle.std.proofs.Common.{◌≡◌, ◌∙◌, ℕ, suc, ◌<◌, Bool, List, [], ◌∷◌, Result, Ok, Err, IfErr, map, length, get_or, refl, ap, ap₂, sym, arith, subst}
+use Rattle.std.proofs.lemmas.List.{get_or-map, length-map}
+use Rattle.std.specs.Prelude.{All}
+use Rattle.pf_shapes.specs.Scene.{Scene}
 use Rattle.pf_islands.specs.Split.{Island}
+use Rattle.pf_pool.specs.Pool.{AreOutcomes}
 use Rattle.pf_solver.specs.Alone.{island_after_tick}
 use Rattle.pf_step.specs.declared.crew.CrewError.{CrewError}
-use Rattle.pf_workers.specs.Slots.{AreAnswers, IsAnswer}
-use Rattle.pf_workers.specs.declared.reply.Dealt.{Dealt}
-use Rattle.pf_workers.proofs.Shares.{all_more, default_same}
-
--- a crew whose workers were found there one by one has them all
-pub all_there : (workers : List Bool) (n : ℕ) → length workers ≤ n
-    → ((i : ℕ) → i < n → get_or workers i false ≡ true) → All (λ there. there ≡ true) workers
-all_there workers n long there i d low = default_same workers i d false low ∙ there i (omega (arith, low, long))
-
-module _ {X : Type 0} (P : X → Type 0) where
-  -- where it holds of the elements before one, and of that one, it holds of one more
-  pub all_next : (xs : List X) (i : ℕ) (d : X) → i < length xs → All P (take i xs) → P (get_or xs i d) → All P (take (i + 1) xs)
-  all_next xs i d low before own = subst (All P) (sym (take_more xs i d low)) (all_more P (take i xs) (get_or xs i d) before own)
+use Rattle.pf_workers.specs.Crew.{IsStandingError}
+use Rattle.pf_workers.specs.Solving.{IsSolved, Share}
 
 -- a list whose elements are made of those of another is made of it
 made_of : {X Y : Type 0} (f : Y → X) (xs : List X) (ys : List Y) (d : X) (e : Y) → length xs ≡ length ys
@@ -30,47 +20,39 @@ made_of f (x ∷ xs) (y ∷ ys) d e long at =
     ap₂ (λ z zs. z ∷ zs) (at 0 (omega arith))
     (made_of f xs ys d e (omega (arith, long)) (λ w low. at (suc w) (omega (arith, low))))
 
--- before any answer all are as they may be
-pub none_answered : (always : Bool) (d : Dealt) (slots : List (Option (Result (List Island) CrewError))) → All IsNone slots
-    → AreAnswers always d slots
-none_answered always d slots none w low = by (get_or slots w None) (none w None low)
-  where
-    by : (slot : Option (Result (List Island) CrewError)) → IsNone slot → IsAnswer always d w slot
-    by None is = tt
-    by (Some outcome) is = absurd (true≢false is)
+abbrev pub IsSolvedShare : Bool → Share → Result (List Island) CrewError → Type 0
+IsSolvedShare always share outcome = IsSolved always share.scene share.islands outcome
 
--- where all workers are done, their piles are those that were dealt, after a tick
-pub all_done : (always : Bool) (d : Dealt) (slots : List (Option (Result (List Island) CrewError))) (piles : List (List Island))
-    → AreAnswers always d slots → length slots ≡ length d.piles.value.items → slots ≡ map (λ pile. Some (Ok pile)) piles
-    → piles ≡ map (map (island_after_tick d.scene.value)) d.piles.value.items
-all_done always d slots piles answers count done =
-    let same : length slots ≡ length piles = ap length done ∙ length-map piles (λ pile. Some (Ok pile)) in
-    made_of (map (island_after_tick d.scene.value)) piles d.piles.value.items [] [] (sym same ∙ count)
-    (λ w low.
-    let at : get_or slots w None ≡ Some (Ok (get_or piles w [])) =
-    ap (λ xs. get_or xs w None) done ∙ get_or-map (λ pile. Some (Ok pile)) piles w [] None low in
-    subst (IsAnswer always d w) at (answers w (omega (arith, low, same))))
+-- the scene of a solve with the pile of a worker
+abbrev pub share : Scene → List Island → Share
+share s pile = record { scene = s; islands = pile }
 
--- a pile that is taken while those behind it stand is the one that was given
-pub taken : (piles left : List (List Island)) (w : ℕ) (d : List Island) → w < length piles → length left ≡ length piles
-    → ((i : ℕ) → w ≤ i → get_or left i [] ≡ get_or piles i []) → {pile : List Island} → pile ≡ get_or left w d → pile ≡ get_or piles w []
-taken piles left w d low count same is =
-    is ∙ default_same left w d [] (omega (arith, low, count)) ∙ same w (omega arith)
+module _ (always : Bool) (s : Scene) (piles : List (List Island)) (outcomes : List (Result (List Island) CrewError))
+    (of : AreOutcomes (IsSolvedShare always) (map (share s) piles) outcomes) where
+  count : length outcomes ≡ length piles
+  count = of.0 ∙ length-map piles (share s)
 
-pub none_left : {X : Type 0} (xs : List X) → length xs ≡ 0 → xs ≡ []
-none_left [] none = refl
-none_left (x ∷ xs) none = absurd (omega (arith, none))
+  solved_at : (w : ℕ) (o : Result (List Island) CrewError) → w < length piles
+      → IsSolved always s (get_or piles w []) (get_or outcomes w o)
+  solved_at w o low =
+      subst (λ part. IsSolvedShare always part (get_or outcomes w o)) (get_or-map (share s) piles w [] (share s []) low)
+      (of.1 w (share s []) o (omega (arith, low, length-map piles (share s))))
 
-pub if_ok : {A E : Type 0} {P Q : A → Type 0} → ((x : A) → P x → Q x) → (r : Result A E) → IfOk r P → IfOk r Q
-if_ok f (Ok x) p = f x p
-if_ok f (Err e) p = tt
+  -- a worker that fails found its gate shut
+  pub failed : (outcome : Result (List Island) CrewError) (pile : List Island) → IsSolved always s pile outcome
+      → IfErr outcome (IsStandingError always)
+  failed (Ok after) pile is = tt
+  failed (Err error) pile is = subst (IsStandingError always) (sym is.0) is.1
 
-pub on_ok : {A E P : Type 0} (r : Result A E) (x : A) → r ≡ Ok x → OnOk r P → P
-on_ok {A} {E} {P} r x is p = subst (λ s. OnOk s P) is p
+  pub all_failed : All (λ outcome. IfErr outcome (IsStandingError always)) outcomes
+  all_failed w o low = failed (get_or outcomes w o) (get_or piles w []) (solved_at w o (omega (arith, low, count)))
 
--- a list whose elements were all written in place
-pub written_back : {X : Type 0} (count : ℕ) (new old : List X) → length new ≡ length old → count ≡ length old
-    → take count (new ++ drop (length new) old) ≡ new
-written_back count new old long all =
-    ap (λ rest. take count (new ++ rest)) (drop_all (length new) old (omega (arith, long)))
-    ∙ ap (take count) (append-nil new) ∙ take_all count new (omega (arith, long, all))
+  -- where all workers are done, their piles are those that were dealt, after a tick
+  pub all_solved : (after : List (List Island)) → map Ok after ≡ outcomes → after ≡ map (map (island_after_tick s)) piles
+  all_solved after done =
+      let same : length after ≡ length outcomes = sym (length-map after Ok) ∙ ap length done in
+      made_of (map (island_after_tick s)) after piles [] [] (same ∙ count)
+      (λ w low.
+      let at : get_or outcomes w (Ok []) ≡ Ok (get_or after w []) =
+      ap (λ l. get_or l w (Ok [])) (sym done) ∙ get_or-map Ok after w [] (Ok []) low in
+      subst (IsSolved always s (get_or piles w [])) at (solved_at w (Ok []) (omega (arith, low, same, count))))

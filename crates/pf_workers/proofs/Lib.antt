@@ -1,5 +1,4 @@
 -- The lemmas of this crate.
 pub mod Shares
 pub mod Answered
-pub mod Replying
-pub mod Sent
+pub mod Chunks

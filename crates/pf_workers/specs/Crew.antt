@@ -1,6 +1,8 @@
 -- What a contract sees of a crew of threads, and with which errors it fails.
 use Rattle.std.specs.Prelude.{◌≡◌, ℕ, ⊤, Bool, true, false, List, All, replicate, if◌then◌else◌}
 use Rattle.pf_cache.specs.Meter.{saturating_sum}
+use Rattle.pf_pool.specs.declared.error.PoolError.{PoolError}
+use Rattle.pf_pool.specs.declared.error.PoolError.TheVariants as pools
 use Rattle.pf_step.specs.declared.crew.CrewError.{CrewError}
 use Rattle.pf_step.specs.declared.crew.CrewError.TheVariants.{OutOfMemory, NoThread, GateShut, CrewLost}
 
@@ -35,19 +37,18 @@ new_crew workers = record { workers = replicate workers true; turn = 0; lost = f
 abbrev pub HasAllWorkers : StandingCrew → Type 0
 HasAllWorkers c = All (λ there. there ≡ true) c.workers
 
+-- the error of a crew whose pool failed
+abbrev pub crew_error : PoolError → CrewError
+crew_error pools.OutOfMemory = OutOfMemory
+crew_error pools.NoThread = NoThread
+crew_error pools.WorkerLost = CrewLost
+
 -- an error with which a crew may fail to start
 abbrev pub IsStartError : CrewError → Type 0
 IsStartError OutOfMemory = ⊤
 IsStartError NoThread = ⊤
 IsStartError GateShut = ⊥
 IsStartError CrewLost = ⊥
-
--- an error with which a worker may fail to be asked
-abbrev pub IsAskError : CrewError → Type 0
-IsAskError OutOfMemory = ⊤
-IsAskError CrewLost = ⊤
-IsAskError NoThread = ⊥
-IsAskError GateShut = ⊥
 
 -- an error that a solve by standing workers may return: a gate that lets everybody through is never
 -- shut, and no thread is started
@@ -65,4 +66,5 @@ lost_after c = if c.lost then c else record c { turn = next_turn c.turn; lost = 
 abbrev pub FailsStanding : Bool → StandingCrew → CrewError → StandingCrew → Type 0
 FailsStanding always before CrewLost after = after ≡ lost_after before
 FailsStanding always before error after =
-    (before.lost ≡ false) × IsStandingError always error × (after ≡ record before { turn = next_turn before.turn })
+    (before.lost ≡ false) × IsStandingError always error
+    × (after ≡ record before { turn = next_turn before.turn })

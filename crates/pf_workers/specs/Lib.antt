@@ -1,7 +1,5 @@
 -- What the contracts of this crate cite.
 pub mod Dealing
-pub mod Worker
-pub mod Reply
-pub mod Known
-pub mod Slots
+pub mod Solving
+pub mod Colliding
 pub mod Crew

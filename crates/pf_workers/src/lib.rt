@@ -1,17 +1,15 @@
 //! Crews of threads: workers that solve the islands of a tick side by side.
 #![tactic(auto)]
 
+mod colliding;
 mod gate;
 mod pile;
-mod reply;
 mod scoped;
-mod slots;
+mod solving;
 mod standing;
-mod worker;
 
+pub use colliding::StandingCollider;
 pub use gate::{Gate, OpenGate};
+pub use pf_pool::MAX_WORKERS;
 pub use scoped::ScopedCrew;
 pub use standing::StandingCrew;
-
-/// The most workers that a crew may have.
-pub const MAX_WORKERS: usize = 16;

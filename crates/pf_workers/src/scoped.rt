@@ -8,7 +8,7 @@ ghost use Rattle.pf_workers.specs.Crew.{IsScopedError};
 use crate::MAX_WORKERS;
 use crate::gate::{Gate, OpenGate};
 use crate::pile::{Pile, deal, empty_piles, gather};
-use crate::worker::work;
+use crate::solving::work;
 use pf_islands::Island;
 use pf_shapes::Scene;
 use pf_step::{Crew, CrewError};
@@ -28,7 +28,7 @@ struct WorkerPromise<G> {
 }
 
 impl<G: Gate> Promise<Result<Pile, CrewError>> for WorkerPromise<G> {
-    ghost use Rattle.pf_workers.specs.Worker.{IsSolved};
+    ghost use Rattle.pf_workers.specs.Solving.{IsSolved};
 
     ghost kept_by = { λ p r. IsSolved G.ALWAYS p.scene.value p.pile.value r };
 }
@@ -87,7 +87,7 @@ pub struct ScopedCrew<'r, R, G> {
 impl<'r, R, G> Model for ScopedCrew<'r, R, G> {
     ghost use Rattle.std.specs.Prelude.{◌<◌, ◌≤◌};
     ghost use Rattle.pf_workers.specs.Crew.{ScopedCrew};
-    ghost use Rattle.pf_workers.specs.declared.TheConstants.{MAX_WORKERS};
+    ghost use Rattle.pf_pool.specs.declared.pool.TheConstants.{MAX_WORKERS};
 
     ghost Value = { ScopedCrew };
 

@@ -1,18 +1,19 @@
 //! A crew whose workers are started once.
 
+ghost use Rattle.std.specs.Prelude.{◌≡◌};
+ghost use Rattle.pf_workers.specs.Crew.{crew_error};
+
 use crate::MAX_WORKERS;
 use crate::gate::Gate;
 use crate::pile::{Pile, contact_count, deal, empty_piles, gather};
-use crate::reply::{Collector, Dealt};
-use crate::slots::{Slot, accept, finish, have_answered, no_answers};
-use crate::worker::{Worker, ask_all, start};
+use crate::solving::{Solving, piles_of, shares_of};
 use pf_islands::Island;
+use pf_pool::{Pool, PoolError};
 use pf_shapes::Scene;
 use pf_step::{Crew, CrewError, solve_all};
 use std::alloc::{AllocError, Global};
 use std::marker::Model;
 use std::mem;
-use std::snapshot::Snapshot;
 use std::sync::{Arc, Wait};
 use std::thread::Threads;
 
@@ -25,6 +26,17 @@ fn is_little(islands: &[Island]) -> bool {
     contact_count(islands) < CONTACTS_FOR_THREADS
 }
 
+/// The error of a crew whose pool failed.
+pub(crate) fn crew_error(error: PoolError) -> CrewError
+    ensures { result ≡ crew_error error }
+{
+    match error {
+        PoolError::OutOfMemory => CrewError::OutOfMemory,
+        PoolError::NoThread => CrewError::NoThread,
+        PoolError::WorkerLost => CrewError::CrewLost,
+    }
+}
+
 /// A crew that starts its workers once. In a solve each is sent one message, with its islands and the
 /// scene, which all share, and sends one answer, with its islands after a tick. The caller does the
 /// job with the most contacts, while the others work, if nobody watches the gate.
@@ -33,10 +45,8 @@ fn is_little(islands: &[Island]) -> bool {
 /// lost.
 #[derive(Drop)]
 pub struct StandingCrew<R, G: Gate> {
-    rt: R,
     alloc: Global,
-    workers: Vec<Worker<G>>,
-    gate: Arc<G, Global>,
+    pool: Pool<R, Solving<G>>,
     /// The scene of the last solve.
     scene: Option<Arc<Scene, Global>>,
     /// The memory for the piles of the next solve.
@@ -48,25 +58,22 @@ pub struct StandingCrew<R, G: Gate> {
 impl<R, G: Gate> Model for StandingCrew<R, G> {
     ghost use Rattle.std.specs.Prelude.{◌≡◌, ◌<◌, ◌≤◌, [], All, length};
     ghost use Rattle.pf_workers.specs.Crew.{StandingCrew};
-    ghost use Rattle.pf_workers.specs.declared.TheConstants.{MAX_WORKERS};
+    ghost use Rattle.pf_pool.specs.declared.pool.TheConstants.{MAX_WORKERS};
 
     ghost Value = { StandingCrew };
 
-    ghost view = { λ c. record { workers = c.workers.items; turn = c.turn; lost = c.lost } };
+    ghost view = { λ c. record { workers = c.pool; turn = c.turn; lost = c.lost } };
 
-    ghost invariant = { λ c. (0 < length c.workers.items)
-        × (length c.workers.items ≤ MAX_WORKERS) × All (λ pile. pile ≡ []) c.piles.items };
+    ghost invariant = { λ c. (0 < length c.pool)
+        × (length c.pool ≤ MAX_WORKERS) × All (λ pile. pile ≡ []) c.piles.items };
 }
 
 impl<R: Wait, G: Gate> StandingCrew<R, G> {
-    ghost use Rattle.std.specs.Prelude.{◌≡◌, ◌<◌, ◌≤◌, [], All, IfErr, IfOk, IsSome, IsTrue, OnOk, Some, false, length, map, slice_set, take, true};
+    ghost use Rattle.std.specs.Prelude.{◌≡◌, ◌<◌, ◌≤◌, [], All, IfErr, IfOk, IsTrue, OnOk, false, length, map, slice_set, true};
     ghost use Rattle.std.specs.Arc.{arc_value};
     ghost use Rattle.pf_islands.specs.Split.{IsIslandOf};
     ghost use Rattle.pf_solver.specs.Alone.{island_after_tick};
-    ghost use Rattle.pf_step.specs.declared.crew.CrewError.TheVariants.{CrewLost, OutOfMemory};
     ghost use Rattle.pf_workers.specs.Crew.{HasAllWorkers, IsStandingError, IsStartError, new_crew};
-    ghost use Rattle.pf_workers.specs.Slots.{AreAnswers};
-    ghost use Rattle.pf_workers.specs.declared.reply.Dealt.{Dealt};
 
     /// A crew of so many workers, which pass the gate in each solve. Returns an error where it is out
     /// of memory or a thread could not be started; the workers that were started end by themselves.
@@ -83,18 +90,17 @@ impl<R: Wait, G: Gate> StandingCrew<R, G> {
         ensures crew { IfOk result (λ crew. crew ≡ new_crew workers) }
         ensures failed { IfErr result IsStartError }
     {
-        let gate = Arc::new(alloc, gate)?;
-        let workers = start(&rt, alloc, workers, &gate)?;
-        Ok(StandingCrew {
-            rt,
-            alloc,
-            workers,
-            gate,
-            scene: None,
-            piles: Vec::new(alloc),
-            turn: 0,
-            lost: false,
-        })
+        match Pool::new(rt, alloc, workers, Solving { gate }) {
+            Ok(pool) => Ok(StandingCrew {
+                alloc,
+                pool,
+                scene: None,
+                piles: Vec::new(alloc),
+                turn: 0,
+                lost: false,
+            }),
+            Err(error) => Err(crew_error(error)),
+        }
     }
 
     /// Closes the channels of all workers, and joins them. It may wait.
@@ -103,10 +109,7 @@ impl<R: Wait, G: Gate> StandingCrew<R, G> {
         R: Threads + Copy,
         G: Drop,
     {
-        let mut workers = self.workers;
-        for worker in workers.iter_mut() {
-            worker.dismiss(&self.rt);
-        }
+        self.pool.close();
     }
 
     /// Ends a worker, and joins it. Does nothing if that was done before. From then on no solve
@@ -117,7 +120,7 @@ impl<R: Wait, G: Gate> StandingCrew<R, G> {
         requires { worker < length self.old.workers }
         ensures { self.new ≡ record self.old { workers = slice_set self.old.workers worker false } }
     {
-        self.workers[worker].dismiss(&self.rt);
+        self.pool.dismiss(worker);
     }
 
     /// The scene of a solve, as the workers share it: the kept one, or a copy, if that is another.
@@ -135,69 +138,14 @@ impl<R: Wait, G: Gate> StandingCrew<R, G> {
         Ok(copy)
     }
 
-    /// Waits until the first so many workers have answered.
-    fn collect(
-        &self,
-        collector: Collector<G>,
-        asked: usize,
-        slots: &mut [Slot],
-    ) -> Result<(), CrewError>
-        requires { asked ≤ length slots.old }
-        ensures count { length slots.new ≡ length slots.old }
-        ensures answers { (d : Dealt) → collector ≡ Some d → AreAnswers G.ALWAYS d slots.old
-            → AreAnswers G.ALWAYS d slots.new }
-        ensures all { OnOk result (All IsSome (take asked slots.new)) }
-        ensures lost { IfErr result (λ error. error ≡ CrewLost) }
-    {
-        let mut collector = collector;
-        for _ in self.rt.forever() {
-            if have_answered(&slots[..asked]) {
-                return Ok(());
-            }
-            let message = collector.receive(&self.rt)?;
-            accept::<G>(message, slots);
-        }
-        Err(CrewError::CrewLost)
-    }
-
-    /// The slots of the workers after the first so many have answered.
-    fn answers(
-        &self,
-        collector: Collector<G>,
-        asked: usize,
-        slots: Vec<Slot>,
-    ) -> Result<Vec<Slot>, CrewError>
-        requires { asked ≤ length slots.items }
-        ensures count { IfOk result (λ after. length after.items ≡ length slots.items) }
-        ensures answers { (d : Dealt) → collector ≡ Some d → AreAnswers G.ALWAYS d slots.items
-            → IfOk result (λ after. AreAnswers G.ALWAYS d after.items) }
-        ensures all { IfOk result (λ after. All IsSome (take asked after.items)) }
-        ensures lost { IfErr result (λ error. error ≡ CrewLost) }
-    {
-        let mut slots = slots;
-        self.collect(collector, asked, &mut slots)?;
-        Ok(slots)
-    }
-
-    /// Whether no worker was dismissed.
-    fn has_all_workers(&self) -> bool
-        ensures { IsTrue result → HasAllWorkers self.now }
-    {
-        for number in 0..self.workers.len() {
-            if !self.workers[number].is_open() {
-                return false;
-            }
-        }
-        true
-    }
-
     /// Passes the gate for each worker, and returns whether it was open for all.
     fn pass_for_all(&self, turn: usize) -> bool
         ensures { G.ALWAYS ≡ true → IsTrue result }
     {
+        let gate = &self.pool.task().gate;
         let mut is_open = true;
-        for number in 0..self.workers.len() {
-            is_open = self.gate.pass(number, turn) && is_open;
+        for number in 0..self.pool.size() {
+            is_open = gate.pass(number, turn) && is_open;
         }
         is_open
     }
@@ -215,7 +163,7 @@ impl<R: Wait, G: Gate> StandingCrew<R, G> {
         ensures there { OnOk result (HasAllWorkers self.now) }
         ensures failed { IfErr result (IsStandingError G.ALWAYS) }
     {
-        if !self.has_all_workers() {
+        if !self.pool.has_all_workers() {
             return Err(CrewError::CrewLost);
         }
         if !self.pass_for_all(turn) {
@@ -237,25 +185,11 @@ impl<R: Wait, G: Gate> StandingCrew<R, G> {
         ensures failed { IfErr result (IsStandingError G.ALWAYS) }
     {
         let shared = self.shared_scene(scene)?;
-        let slots = no_answers(self.alloc, self.workers.len())?;
-        let dealt = Dealt {
-            scene: Snapshot::of(scene),
-            piles: Snapshot::of(&piles),
-        };
-        let (replier, collector) = Collector::open(
-            &self.rt,
-            self.alloc,
-            self.workers.len(),
-            dealt,
-        )?;
-        let gate = &*self.gate;
-        let workers = self.workers.as_slice();
-        let (asked, sent) = ask_all(
-            &self.rt, self.alloc, gate, workers, turn, &shared, piles, replier,
-        );
-        let answers = self.answers(collector, asked, slots)?;
-        sent?;
-        finish::<G>(self.alloc, answers)
+        let shares = shares_of(self.alloc, &shared, piles)?;
+        match self.pool.run(turn, shares) {
+            Ok(outcomes) => piles_of(self.alloc, outcomes),
+            Err(error) => Err(crew_error(error)),
+        }
     }
 
     /// Piles without islands for all workers, in the memory of the last ones.
@@ -266,10 +200,10 @@ impl<R: Wait, G: Gate> StandingCrew<R, G> {
         ensures same { self.new ≡ self.old }
     {
         let piles = mem::replace(&mut self.piles, Vec::new(self.alloc));
-        if piles.len() == self.workers.len() {
+        if piles.len() == self.pool.size() {
             return Ok(piles);
         }
-        empty_piles(self.alloc, self.workers.len())
+        empty_piles(self.alloc, self.pool.size())
     }
 
     /// Solves each island by the workers, in a turn that was counted.
@@ -309,7 +243,7 @@ impl<R: Wait, G: Gate> StandingCrew<R, G> {
         ensures there { OnOk result (HasAllWorkers self.old) }
         ensures failed { IfErr result (IsStandingError G.ALWAYS) }
     {
-        if is_little(&islands) && !self.gate.is_watched() {
+        if is_little(&islands) && !self.pool.task().gate.is_watched() {
             return self.solve_here(scene, islands, turn);
         }
         self.solve_by_workers(scene, islands, turn)

@@ -21,7 +21,7 @@ const FALLEN: &str = "advance 0 2\nshow 0 2\nbody 0 0 -122880 16777216 0 0 -5242
 type Ended = (ExitCode, Collected, Collected);
 
 /// How a call ends on a text in memory. A sink in memory fails only where no memory is left.
-fn answered<T: Threads + Wait + Sync + Copy + Send + 'static>(
+fn answered<T: Threads + Wait + Copy + Send + 'static>(
     rt: T,
     alloc: Global,
     words: Result<Vec<&str>, PlayFault>,
@@ -40,7 +40,7 @@ fn answered<T: Threads + Wait + Sync + Copy + Send + 'static>(
 }
 
 /// The same of a call that has its words and memory.
-fn ended<T: Threads + Wait + Sync + Copy + Send + 'static>(
+fn ended<T: Threads + Wait + Copy + Send + 'static>(
     rt: T,
     alloc: Global,
     words: &[&str],
@@ -77,6 +77,32 @@ fn a_crew_of_any_size_changes_no_reply(rt: HostRuntime) -> Result<(), Fail> {
         let written = output.bytes();
         assert!(rt; status == ExitCode::SUCCESS && written.ends_with(&replies[12..]));
     }
+    Ok(())
+}
+
+/// A scene of so many circles side by side on a floor, settled for four ticks.
+fn circles_on_a_floor(alloc: Global, circles: usize) -> Result<String, AllocError> {
+    let mut text = String::from_str(
+        alloc,
+        "gravity 0 -167772160\nbox - 0 8388608 3355443200 16777216 0 -16777216 16777216 0\n",
+    )?;
+    for number in 0..circles {
+        let x = number as i64 * 41_943_040;
+        let line = format!(in alloc; "circle 0 16777216 8388608 16777216 {x} 16777216\n")?;
+        text.push_str(line.as_str())?;
+    }
+    text.push_str("end\npeers 1\nadvance 0 4\nsettle 0\nshow 0 4\n")?;
+    Ok(text)
+}
+
+#[test]
+fn standing_workers_change_no_reply(rt: HostRuntime) -> Result<(), Fail> {
+    let text = circles_on_a_floor(rt.alloc(), 160)?;
+    let alone = ended(rt, rt.alloc(), &["pf_play", "run"], text.as_str())?;
+    let words = ["pf_play", "run", "--crew", "3"];
+    let by_workers = ended(rt, rt.alloc(), &words, text.as_str())?;
+    assert!(rt; alone.0 == ExitCode::SUCCESS && alone.1.bytes().len() > 4_000);
+    assert!(rt; is_so(&by_workers, 0, alone.1.bytes(), b""));
     Ok(())
 }
 

@@ -1,0 +1,41 @@
+-- What the workers of a pool are asked, and what their answers are together.
+use Rattle.std.proofs.Common.{◌≡◌, ◌∙◌, ℕ, ◌<◌, ◌≤◌, Bool, true, false, List, Option, None, Some, map, length, get_or, ap, subst, sym, arith}
+use Rattle.std.proofs.lemmas.Bool.{true≢false}
+use Rattle.std.proofs.lemmas.List.{get_or-map, length-map}
+use Rattle.std.specs.Prelude.{All, IfSome, IsNone, IsSome}
+use Rattle.pf_pool.specs.Pool.{AreOutcomes}
+use Rattle.pf_pool.specs.Reply.{IsOutcomeOf}
+use Rattle.pf_pool.specs.Slots.{AreAnswers, HaveAnswered}
+use Rattle.pf_pool.specs.declared.reply.Dealt.{Dealt}
+use Rattle.pf_pool.proofs.Lists.{default_same}
+
+-- a pool whose workers were found there one by one has them all
+pub all_there : (workers : List Bool) (n : ℕ) → length workers ≤ n
+    → ((i : ℕ) → i < n → get_or workers i false ≡ true) → All (λ there. there ≡ true) workers
+all_there workers n long there i d low = default_same workers i d false low ∙ there i (omega (arith, low, long))
+
+-- what holds of the workers from the first on holds of all
+pub have_all : {O : Type 0} (slots : List (Option O)) → HaveAnswered 0 slots → All IsSome slots
+have_all slots have w d low = subst IsSome (default_same slots w None d low) (have w (omega arith) low)
+
+module _ {P O : Type 0} (IsOutcome : P → O → Type 0) (d : Dealt P) where
+  -- before any answer all are as they may be
+  pub none_answered : (slots : List (Option O)) → All IsNone slots → AreAnswers IsOutcome d slots
+  none_answered slots none w low = by (get_or slots w None) (none w None low)
+    where
+      by : (slot : Option O) → IsNone slot → IfSome slot (IsOutcomeOf IsOutcome d w)
+      by None is = tt
+      by (Some outcome) is = absurd (true≢false is)
+
+  -- where all workers have answered, these are the outcomes of the parts that were dealt
+  pub all_answered : (slots : List (Option O)) (outcomes : List O) → AreAnswers IsOutcome d slots
+      → length slots ≡ length d.parts.value.items → map Some outcomes ≡ slots → AreOutcomes IsOutcome d.parts.value.items outcomes
+  all_answered slots outcomes answers count done =
+      let same : length outcomes ≡ length slots = sym (length-map outcomes Some) ∙ ap length done in (
+        same ∙ count,
+        λ w p o low.
+            let within : w < length outcomes = omega (arith, low, same, count) in
+            let at : get_or slots w None ≡ Some (get_or outcomes w o) =
+            ap (λ xs. get_or xs w None) (sym done) ∙ get_or-map Some outcomes w o None within in
+            subst (λ slot. IfSome slot (IsOutcomeOf IsOutcome d w)) at (answers w (omega (arith, low, count))) p low,
+      )

@@ -1,0 +1,263 @@
+//! A pool of standing threads.
+
+use crate::error::PoolError;
+use crate::reply::{Collector, Dealt, Replier};
+use crate::slots::{accept, all_answers, have_answered, no_answers};
+use crate::task::Task;
+use crate::worker::{Job, Worker, start};
+use std::alloc::Global;
+use std::marker::Model;
+use std::snapshot::Snapshot;
+use std::sync::{Arc, Wait};
+use std::thread::Threads;
+
+/// The most workers that a pool may have.
+pub const MAX_WORKERS: usize = 16;
+
+/// Workers, each with a thread of its own, that are started once. In a turn each is sent one message,
+/// with its part, and sends one answer, with what it made of it. The caller may do the greatest part
+/// itself, while the others work.
+///
+/// Contracts see which workers there still are.
+#[derive(Drop)]
+pub struct Pool<R, T: Task> {
+    rt: R,
+    alloc: Global,
+    task: Arc<T, Global>,
+    workers: Vec<Worker<T>>,
+}
+
+impl<R, T: Task> Model for Pool<R, T> {
+    ghost use Rattle.std.specs.Prelude.{◌<◌, ◌≤◌, Bool, List, length};
+    ghost use Rattle.pf_pool.specs.declared.pool.TheConstants.{MAX_WORKERS};
+
+    ghost Value = { List Bool };
+
+    ghost view = { λ p. p.workers.items };
+
+    ghost invariant = { λ p. (0 < length p.workers.items) × (length p.workers.items ≤ MAX_WORKERS) };
+}
+
+/// The part with the most work, and the first of several.
+fn greatest<T: Task>(parts: &[T::Part]) -> usize {
+    let mut greatest = 0;
+    let mut most = 0;
+    for number in 0..parts.len() {
+        let work = T::work_of(&parts[number]);
+        if work > most {
+            greatest = number;
+            most = work;
+        }
+    }
+    greatest
+}
+
+impl<R: Wait, T: Task> Pool<R, T> {
+    ghost use Rattle.std.specs.Prelude.{◌≡◌, ◌<◌, ◌≤◌, IfErr, IfOk, IsFalse, IsTrue, OnOk, Some, false, length, replicate, slice_set, true};
+    ghost use Rattle.pf_pool.specs.Known.{known_to};
+    ghost use Rattle.pf_pool.specs.Pool.{AreOutcomes, HasAllWorkers, IsRunError, IsStartError};
+    ghost use Rattle.pf_pool.specs.Reply.{WereDealt};
+    ghost use Rattle.pf_pool.specs.Slots.{AreAnswers, HaveAnswered};
+    ghost use Rattle.pf_pool.specs.declared.error.PoolError.TheVariants.{WorkerLost};
+    ghost use Rattle.pf_pool.specs.declared.reply.Dealt.{Dealt};
+
+    /// Starts so many workers. Returns an error where it is out of memory or a thread could not be
+    /// started; the workers that were started end by themselves.
+    pub fn new(rt: R, alloc: Global, workers: usize, task: T) -> Result<Pool<R, T>, PoolError>
+    where
+        R: Threads + Copy + Send + 'static,
+        T: Send + Sync + Drop + 'static,
+        T::Part: 'static,
+        T::Outcome: 'static,
+        requires { (0 < workers) × (workers ≤ MAX_WORKERS) }
+        ensures pool { IfOk result (λ pool. pool ≡ replicate workers true) }
+        ensures failed { IfErr result IsStartError }
+    {
+        let task = Arc::new(alloc, task)?;
+        let workers = start(&rt, alloc, workers, &task)?;
+        Ok(Pool {
+            rt,
+            alloc,
+            task,
+            workers,
+        })
+    }
+
+    /// What its workers do.
+    pub fn task(&self) -> &T {
+        &*self.task
+    }
+
+    /// How many workers there were at the start.
+    pub fn size(&self) -> usize
+        ensures { result ≡ length self.now }
+    {
+        self.workers.len()
+    }
+
+    /// Whether no worker was dismissed.
+    pub fn has_all_workers(&self) -> bool
+        ensures all { IsTrue result → HasAllWorkers self.now }
+        ensures lost { IsFalse result → HasAllWorkers self.now → ⊥ }
+    {
+        for number in 0..self.workers.len() {
+            if !self.workers[number].is_open() {
+                return false;
+            }
+        }
+        true
+    }
+
+    /// Closes the channels of all workers, and joins them. It may wait.
+    pub fn close(self)
+    where
+        R: Threads + Copy,
+        T: Drop,
+    {
+        let mut workers = self.workers;
+        for worker in workers.iter_mut() {
+            worker.dismiss(&self.rt);
+        }
+    }
+
+    /// Ends a worker, and joins it. Does nothing if that was done before. From then on no work
+    /// succeeds. It may wait.
+    pub fn dismiss(&mut self, worker: usize)
+    where
+        R: Threads,
+        requires { worker < length self.old }
+        ensures { self.new ≡ slice_set self.old worker false }
+    {
+        self.workers[worker].dismiss(&self.rt);
+    }
+
+    /// Asks one worker after the other to do its part, from the last to the first, up to the first
+    /// error. Returns which is the least that was asked. The greatest part is held back, if the
+    /// caller may do it.
+    fn ask_each(
+        &self,
+        turn: usize,
+        parts: Vec<T::Part>,
+        replier: Replier<T>,
+        held: &mut Option<Job<T>>,
+    ) -> (usize, Result<(), PoolError>)
+        requires dealt { WereDealt (known_to replier) parts.items }
+        requires count { length parts.items ≡ length self.now }
+        ensures asked { result.0 ≤ length self.now }
+        ensures all { OnOk result.1 (result.0 ≡ 0) }
+        ensures there { OnOk result.1 (HasAllWorkers self.now) }
+        ensures failed { IfErr result.1 IsRunError }
+    {
+        let mut parts = parts;
+        let mut replier = replier;
+        let greatest = greatest::<T>(&parts);
+        let holds = self.task.may_run_here();
+        while let Some(part) = parts.pop() {
+            let worker = parts.len();
+            let own = &self.workers[worker];
+            let asked = match Job::new(turn, worker, part, &mut replier) {
+                Ok(job) if holds && worker == greatest => own.hold(job, held),
+                Ok(job) => own.ask(&self.rt, job),
+                Err(_) => Err(PoolError::OutOfMemory),
+            };
+            if let Err(error) = asked {
+                return (worker + 1, Err(error));
+            }
+        }
+        (0, Ok(()))
+    }
+
+    /// Asks the workers as [`Pool::ask_each`] does it, and does the part that was held back: what it
+    /// works on stays in the cache of the caller's processor.
+    fn ask_all(
+        &self,
+        turn: usize,
+        parts: Vec<T::Part>,
+        replier: Replier<T>,
+    ) -> (usize, Result<(), PoolError>)
+        requires dealt { WereDealt (known_to replier) parts.items }
+        requires count { length parts.items ≡ length self.now }
+        ensures asked { result.0 ≤ length self.now }
+        ensures all { OnOk result.1 (result.0 ≡ 0) }
+        ensures there { OnOk result.1 (HasAllWorkers self.now) }
+        ensures failed { IfErr result.1 IsRunError }
+    {
+        let mut held = None;
+        let asked = self.ask_each(turn, parts, replier, &mut held);
+        if let Some(job) = held {
+            job.answer(&self.rt, &*self.task);
+        }
+        asked
+    }
+
+    /// Waits until all workers from one on have answered.
+    fn collect(
+        &self,
+        collector: Collector<T>,
+        least: usize,
+        slots: &mut [Option<T::Outcome>],
+    ) -> Result<(), PoolError>
+        requires { least ≤ length slots.old }
+        ensures count { length slots.new ≡ length slots.old }
+        ensures answers { (d : Dealt T.Part) → collector ≡ Some d
+            → AreAnswers T.is_outcome d slots.old → AreAnswers T.is_outcome d slots.new }
+        ensures all { OnOk result (HaveAnswered least slots.new) }
+        ensures lost { IfErr result (λ error. error ≡ WorkerLost) }
+    {
+        let mut collector = collector;
+        for _ in self.rt.forever() {
+            if have_answered(slots, least) {
+                return Ok(());
+            }
+            let message = collector.receive(&self.rt)?;
+            accept::<T>(message, slots);
+        }
+        Err(PoolError::WorkerLost)
+    }
+
+    /// The slots after the workers from one on have answered.
+    fn answers(
+        &self,
+        collector: Collector<T>,
+        least: usize,
+        slots: Vec<Option<T::Outcome>>,
+    ) -> Result<Vec<Option<T::Outcome>>, PoolError>
+        requires { least ≤ length slots.items }
+        ensures count { IfOk result (λ after. length after.items ≡ length slots.items) }
+        ensures answers { (d : Dealt T.Part) → collector ≡ Some d → AreAnswers T.is_outcome d slots.items
+            → IfOk result (λ after. AreAnswers T.is_outcome d after.items) }
+        ensures all { IfOk result (λ after. HaveAnswered least after.items) }
+        ensures lost { IfErr result (λ error. error ≡ WorkerLost) }
+    {
+        let mut slots = slots;
+        self.collect(collector, least, &mut slots)?;
+        Ok(slots)
+    }
+
+    /// Has each part done by its worker, and waits for all of them: outcome k is what worker k made
+    /// of part k. Returns an error where it is out of memory or a worker is lost; the parts are gone
+    /// then. It may wait.
+    pub fn run(&self, turn: usize, parts: Vec<T::Part>) -> Result<Vec<T::Outcome>, PoolError>
+        requires { length parts.items ≡ length self.now }
+        ensures outcomes { IfOk result
+            (λ outcomes. AreOutcomes T.is_outcome parts.items outcomes.items) }
+        ensures there { OnOk result (HasAllWorkers self.now) }
+        ensures failed { IfErr result IsRunError }
+    {
+        let slots = no_answers(self.alloc, self.workers.len())?;
+        let dealt = Dealt {
+            parts: Snapshot::of(&parts),
+        };
+        let (replier, collector) = Collector::open(
+            &self.rt,
+            self.alloc,
+            self.workers.len(),
+            dealt,
+        )?;
+        let (least, sent) = self.ask_all(turn, parts, replier);
+        let answers = self.answers(collector, least, slots)?;
+        sent?;
+        let outcomes = all_answers(self.alloc, answers)?;
+        Ok(outcomes)
+    }
+}

@@ -1,0 +1,23 @@
+//! What the workers of a pool do.
+
+/// A kind of work that is done in parts, each by one worker.
+pub trait Task {
+    /// A part, which moves into its worker. What several need, each shares in an `Arc`.
+    type Part: Send + Drop;
+
+    /// What comes back.
+    type Outcome: Send + Drop;
+
+    /// What a worker makes of a part.
+    ghost is_outcome: { Self.Part → Self.Outcome → Type 0 };
+
+    /// Does the part of a worker. Workers and turns count from 0. It may wait for another worker.
+    fn run(&self, worker: usize, turn: usize, part: Self::Part) -> Self::Outcome
+        ensures { is_outcome part result };
+
+    /// Whether the caller of a pool may do a part in place of its worker.
+    fn may_run_here(&self) -> bool;
+
+    /// How much work a part is. It decides which part the caller does.
+    fn work_of(part: &Self::Part) -> usize;
+}

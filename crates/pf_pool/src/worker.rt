@@ -1,0 +1,195 @@
+//! The workers of a pool, and their threads.
+
+ghost use Rattle.std.specs.Prelude.{◌≡◌, IfErr, IfOk, replicate, true};
+ghost use Rattle.pf_pool.specs.Known.{known_to};
+ghost use Rattle.pf_pool.specs.Pool.{IsStartError};
+ghost use Rattle.pf_pool.specs.Reply.{WasDealt};
+ghost use Rattle.pf_pool.specs.declared.error.PoolError.TheVariants.{NoThread};
+
+use crate::error::PoolError;
+use crate::reply::Replier;
+use crate::task::Task;
+use crossbeam_channel::{Receiver, SendError, Sender};
+use std::alloc::{AllocError, Global};
+use std::marker::Model;
+use std::sync::{Arc, Wait};
+use std::thread;
+use std::thread::{JoinHandle, Threads};
+
+/// What a worker is asked in a turn: to do its part, and to answer over its end of the channel.
+#[derive(Drop)]
+pub(crate) struct Job<T: Task> {
+    turn: usize,
+    worker: usize,
+    part: T::Part,
+    replier: Replier<T>,
+    ghost dealt: { WasDealt (known_to replier) worker part },
+}
+
+impl<T: Task> Job<T> {
+    ghost use Rattle.std.specs.Prelude.{◌≡◌};
+    ghost use Rattle.pf_pool.specs.Known.{known_to};
+    ghost use Rattle.pf_pool.specs.Reply.{WasDealt};
+
+    /// The job of a worker.
+    pub(crate) fn new(
+        turn: usize,
+        worker: usize,
+        part: T::Part,
+        replier: &mut Replier<T>,
+    ) -> Result<Job<T>, AllocError>
+        requires { WasDealt (known_to replier.old) worker part }
+        ensures { known_to replier.new ≡ known_to replier.old }
+    {
+        let replier = replier.another()?;
+        Ok(Job {
+            turn,
+            worker,
+            part,
+            replier,
+        })
+    }
+
+    /// Does the job, and answers.
+    pub(crate) fn answer<R: Wait>(self, rt: &R, task: &T) {
+        let Job {
+            turn,
+            worker,
+            part,
+            replier,
+        } = self;
+        let outcome = task.run(worker, turn, part);
+        replier.send(rt, worker, outcome);
+    }
+}
+
+/// Where a worker takes its jobs from.
+trait Jobs<T: Task> {
+    /// Waits for the next job. Returns none when there will be no more.
+    fn next<R: Wait>(&self, rt: &R) -> Option<Job<T>>;
+}
+
+impl<T: Task> Jobs<T> for Receiver<Job<T>, Global> {
+    fn next<R: Wait>(&self, rt: &R) -> Option<Job<T>> {
+        self.recv(rt).ok()
+    }
+}
+
+/// What a worker thread does until there are no more jobs.
+fn serve<R: Wait, T: Task, J: Jobs<T>>(rt: &R, task: &T, jobs: &J) {
+    for _ in rt.forever() {
+        let Some(job) = jobs.next(rt) else {
+            return;
+        };
+        job.answer(rt, task);
+    }
+}
+
+/// Starts the thread of a worker.
+fn start_thread<R, T, J>(rt: &R, task: Arc<T, Global>, jobs: J) -> Result<JoinHandle<()>, PoolError>
+where
+    R: Threads + Wait + Copy + Send + 'static,
+    T: Task + Send + Sync + Drop + 'static,
+    J: Jobs<T> + Send + Drop + 'static,
+    ensures { IfErr result (λ error. error ≡ NoThread) }
+{
+    let own = *rt;
+    match thread::spawn(rt, move || serve(&own, &*task, &jobs)) {
+        Ok(thread) => Ok(thread),
+        Err(_) => Err(PoolError::NoThread),
+    }
+}
+
+/// A worker: the channel of its jobs, and its thread. A worker that was dismissed has neither.
+///
+/// Contracts see whether its channel is open.
+#[derive(Drop)]
+pub(crate) struct Worker<T: Task> {
+    jobs: Option<Sender<Job<T>, Global>>,
+    thread: Option<JoinHandle<()>>,
+}
+
+impl<T: Task> Model for Worker<T> {
+    ghost use Rattle.std.specs.Prelude.{Bool, is_some};
+
+    ghost Value = { Bool };
+
+    ghost view = { λ w. is_some w.jobs };
+}
+
+impl<T: Task> Worker<T> {
+    ghost use Rattle.std.specs.Prelude.{◌≡◌, true, false, IfErr, OnOk};
+    ghost use Rattle.pf_pool.specs.Pool.{IsRunError};
+
+    /// Whether its channel is open.
+    pub(crate) fn is_open(&self) -> bool
+        ensures { result ≡ self.now }
+    {
+        self.jobs.is_some()
+    }
+
+    /// Sends a job. Returns an error if the channel is closed.
+    pub(crate) fn ask<R: Wait>(&self, rt: &R, job: Job<T>) -> Result<(), PoolError>
+        ensures there { OnOk result (self.now ≡ true) }
+        ensures failed { IfErr result IsRunError }
+    {
+        let Some(jobs) = &self.jobs else {
+            return Err(PoolError::WorkerLost);
+        };
+        match jobs.send(rt, job) {
+            Ok(()) => Ok(()),
+            Err(SendError::OutOfMemory(_)) => Err(PoolError::OutOfMemory),
+            Err(SendError::Disconnected(_)) => Err(PoolError::WorkerLost),
+        }
+    }
+
+    /// Holds a job back, which the caller will do in its place. Returns an error if the worker was
+    /// dismissed.
+    pub(crate) fn hold(&self, job: Job<T>, held: &mut Option<Job<T>>) -> Result<(), PoolError>
+        ensures there { OnOk result (self.now ≡ true) }
+        ensures failed { IfErr result IsRunError }
+    {
+        if !self.is_open() {
+            return Err(PoolError::WorkerLost);
+        }
+        *held = Some(job);
+        Ok(())
+    }
+
+    /// Closes its channel, and joins its thread.
+    pub(crate) fn dismiss<R: Threads>(&mut self, rt: &R)
+        ensures { self.new ≡ false }
+    {
+        self.jobs = None;
+        if let Some(thread) = self.thread.take() {
+            thread.join(rt);
+        }
+    }
+}
+
+/// Starts the workers of a pool. After an error those that were started end by themselves.
+pub(crate) fn start<R, T>(
+    rt: &R,
+    alloc: Global,
+    count: usize,
+    task: &Arc<T, Global>,
+) -> Result<Vec<Worker<T>>, PoolError>
+where
+    R: Threads + Wait + Copy + Send + 'static,
+    T: Task + Send + Sync + Drop + 'static,
+    T::Part: 'static,
+    T::Outcome: 'static,
+    ensures open { IfOk result (λ workers. workers.items ≡ replicate count true) }
+    ensures failed { IfErr result IsStartError }
+{
+    let mut workers = Vec::with_capacity(alloc, count)?;
+    for _made in 0..count {
+        let (jobs, received) = crossbeam_channel::bounded(alloc, 1)?;
+        let thread = start_thread(rt, Arc::try_clone(task)?, received)?;
+        workers.push(Worker {
+            jobs: Some(jobs),
+            thread: Some(thread),
+        })?;
+    }
+    Ok(workers)
+}

@@ -1,8 +1,0 @@
-use Rattle.pf_workers.specs.declared.reply.Message.TheVariants as messages
-use Rattle.pf_workers.proofs.Replying.{answers}
-use Rattle.pf_workers.proofs.reply.Replier.send.Goals as goal
-
-pub send_as-requires-clause-rule : goal.send_as-requires-clause-rule
-send_as-requires-clause-rule g c =
-    let answer = messages.Answer c.args.worker c.args.outcome in
-    (answers g.G.Gate.ALWAYS _ c.args.self.pass.id _ answer c.args.self.knows c.requires, λ items views holds at. tt)
