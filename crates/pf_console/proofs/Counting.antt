@@ -1,5 +1,5 @@
 -- A call that reads nothing counts no failure of a reader, and has no error of a crew.
-use Rattle.std.proofs.Common.{ℕ, List, Option, Result, Ok, Err, refl, subst}
+use Rattle.std.proofs.Common.{ℕ, List, Result, Ok, Err, refl, subst}
 use Rattle.pf_console.specs.declared.fault.PlayFault.{PlayFault}
 use Rattle.pf_console.specs.declared.fault.PlayFault.TheVariants.{Words, Line, Frame, Memory, Crew, Read, Write}
 use Rattle.pf_islands.specs.Split.{Island}

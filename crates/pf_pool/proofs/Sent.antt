@@ -83,6 +83,7 @@ module _ (T P O : RattleType) (task : Ghosts T.Denot P.Denot O.Denot) (part_send
       recorded_send (Job.the_field T P O task).row _ _ (Job.the_type T P O task).to_one
       (struct_send (Declared.shape (Job.the_type T P O task)) (search sendable depth 9, (search sendable depth 9, (part_send, (replier_send, tt)))))
 
-  pub jobs_send : IsSend (Receiver.the_row (Job.the_row T P O task) Global.the_row allocator.ghosts)
+  pub jobs_send : IsSend (Receiver.the_row (Option.the_row (Job.the_row T P O task)) Global.the_row allocator.ghosts)
   jobs_send =
-      receiver.the_send (Job.the_row T P O task) Global.the_row allocator.ghosts job_send global.the_send global.the_sync heap.the_frees
+      receiver.the_send (Option.the_row (Job.the_row T P O task)) Global.the_row allocator.ghosts
+      (option.the_send (Job.the_row T P O task) job_send) global.the_send global.the_sync heap.the_frees

@@ -8,8 +8,9 @@ ghost use Rattle.crossbeam_channel.specs.Ends.{sends_on};
 use crate::error::PoolError;
 use crate::task::Task;
 use crossbeam_channel::protocol::{Free, Lesson, Outcome, Protocol, Split};
-use crossbeam_channel::{Pass, RuledReceiver, RuledSender, bounded_with};
+use crossbeam_channel::{Pass, RuledReceiver, RuledSender, TryRecvError, bounded_with};
 use std::alloc::{AllocError, Global};
+use std::hint;
 use std::marker::{Model, PhantomData};
 use std::snapshot::Snapshot;
 use std::sync::Wait;
@@ -87,6 +88,9 @@ impl<P> Split<Option<Dealt<P>>> for Shares {
 
     ghost right = { λ view. view };
 }
+
+/// How often the caller looks for an answer before it sleeps.
+const LOOKS: u32 = 2_000;
 
 /// The end of a worker, over which it answers.
 #[derive(Drop)]
@@ -202,6 +206,29 @@ impl<T: Task> Collector<T> {
         Ok((Replier { sender, pass }, collector))
     }
 
+    /// Takes the next message, if it has arrived.
+    fn look<R: Wait>(&mut self, rt: &R) -> Result<Message<T::Part, T::Outcome>, TryRecvError>
+        ensures reply { IfOk result (λ message. (d : Dealt T.Part) → self.old ≡ Some d
+            → IsReply T.is_outcome d message) }
+        ensures same { self.new ≡ self.old }
+    {
+        self.receiver.try_recv_as::<Takes<T>, R>(rt, &mut self.pass)
+    }
+
+    /// Sleeps until the next message arrives. Returns an error where no worker is left that could
+    /// answer.
+    fn sleep<R: Wait>(&mut self, rt: &R) -> Result<Message<T::Part, T::Outcome>, PoolError>
+        ensures reply { IfOk result (λ message. (d : Dealt T.Part) → self.old ≡ Some d
+            → IsReply T.is_outcome d message) }
+        ensures same { self.new ≡ self.old }
+        ensures lost { IfErr result (λ error. error ≡ WorkerLost) }
+    {
+        match self.receiver.recv_as::<Takes<T>, R>(rt, &mut self.pass) {
+            Ok(message) => Ok(message),
+            Err(_) => Err(PoolError::WorkerLost),
+        }
+    }
+
     /// Waits for the next message. Returns an error where no worker is left that could answer.
     pub(crate) fn receive<R: Wait>(
         &mut self,
@@ -212,9 +239,13 @@ impl<T: Task> Collector<T> {
         ensures same { self.new ≡ self.old }
         ensures lost { IfErr result (λ error. error ≡ WorkerLost) }
     {
-        match self.receiver.recv_as::<Takes<T>, R>(rt, &mut self.pass) {
-            Ok(message) => Ok(message),
-            Err(_) => Err(PoolError::WorkerLost),
+        for _ in 0..LOOKS {
+            match self.look(rt) {
+                Ok(message) => return Ok(message),
+                Err(TryRecvError::Empty) => hint::spin_loop(),
+                Err(TryRecvError::Disconnected) => return Err(PoolError::WorkerLost),
+            }
         }
+        self.sleep(rt)
     }
 }

@@ -16,7 +16,7 @@ pub trait Task {
         ensures { is_outcome part result };
 
     /// Whether the caller of a pool may do a part in place of its worker.
-    fn may_run_here(&self) -> bool;
+    fn may_run_here(&self, part: &Self::Part) -> bool;
 
     /// How much work a part is. It decides which part the caller does.
     fn work_of(part: &Self::Part) -> usize;

@@ -1,6 +1,6 @@
 //! The workers of a pool, and their threads.
 
-ghost use Rattle.std.specs.Prelude.{◌≡◌, IfErr, IfOk, replicate, true};
+ghost use Rattle.std.specs.Prelude.{◌≡◌, IfErr, IfOk, length};
 ghost use Rattle.pf_pool.specs.Known.{known_to};
 ghost use Rattle.pf_pool.specs.Pool.{IsStartError};
 ghost use Rattle.pf_pool.specs.Reply.{WasDealt};
@@ -9,12 +9,12 @@ ghost use Rattle.pf_pool.specs.declared.error.PoolError.TheVariants.{NoThread};
 use crate::error::PoolError;
 use crate::reply::Replier;
 use crate::task::Task;
-use crossbeam_channel::{Receiver, SendError, Sender};
+use crossbeam_channel::{Receiver, SendError, Sender, TryRecvError};
 use std::alloc::{AllocError, Global};
-use std::marker::Model;
+use std::cell::Cell;
 use std::sync::{Arc, Wait};
-use std::thread;
 use std::thread::{JoinHandle, Threads};
+use std::{hint, thread};
 
 /// What a worker is asked in a turn: to do its part, and to answer over its end of the channel.
 #[derive(Drop)]
@@ -63,15 +63,26 @@ impl<T: Task> Job<T> {
     }
 }
 
+/// How often a worker looks for its next job before it sleeps. The work of a tick comes again within
+/// microseconds, and to wake a thread takes some fifty.
+const LOOKS: u32 = 2_000;
+
 /// Where a worker takes its jobs from.
 trait Jobs<T: Task> {
     /// Waits for the next job. Returns none when there will be no more.
     fn next<R: Wait>(&self, rt: &R) -> Option<Job<T>>;
 }
 
-impl<T: Task> Jobs<T> for Receiver<Job<T>, Global> {
+impl<T: Task> Jobs<T> for Receiver<Option<Job<T>>, Global> {
     fn next<R: Wait>(&self, rt: &R) -> Option<Job<T>> {
-        self.recv(rt).ok()
+        for _ in 0..LOOKS {
+            match self.try_recv(rt) {
+                Ok(job) => return job,
+                Err(TryRecvError::Empty) => hint::spin_loop(),
+                Err(TryRecvError::Disconnected) => return None,
+            }
+        }
+        self.recv(rt).ok()?
     }
 }
 
@@ -100,74 +111,38 @@ where
     }
 }
 
-/// A worker: the channel of its jobs, and its thread. A worker that was dismissed has neither.
-///
-/// Contracts see whether its channel is open.
+/// A worker: the channel of its jobs, and its thread, unless that was joined.
 #[derive(Drop)]
 pub(crate) struct Worker<T: Task> {
-    jobs: Option<Sender<Job<T>, Global>>,
-    thread: Option<JoinHandle<()>>,
-}
-
-impl<T: Task> Model for Worker<T> {
-    ghost use Rattle.std.specs.Prelude.{Bool, is_some};
-
-    ghost Value = { Bool };
-
-    ghost view = { λ w. is_some w.jobs };
+    jobs: Sender<Option<Job<T>>, Global>,
+    thread: Cell<Option<JoinHandle<()>>>,
 }
 
 impl<T: Task> Worker<T> {
-    ghost use Rattle.std.specs.Prelude.{◌≡◌, true, false, IfErr, OnOk};
+    ghost use Rattle.std.specs.Prelude.{IfErr};
     ghost use Rattle.pf_pool.specs.Pool.{IsRunError};
 
-    /// Whether its channel is open.
-    pub(crate) fn is_open(&self) -> bool
-        ensures { result ≡ self.now }
-    {
-        self.jobs.is_some()
-    }
-
-    /// Sends a job. Returns an error if the channel is closed.
+    /// Sends a job. Returns an error if the thread has ended.
     pub(crate) fn ask<R: Wait>(&self, rt: &R, job: Job<T>) -> Result<(), PoolError>
-        ensures there { OnOk result (self.now ≡ true) }
-        ensures failed { IfErr result IsRunError }
+        ensures { IfErr result IsRunError }
     {
-        let Some(jobs) = &self.jobs else {
-            return Err(PoolError::WorkerLost);
-        };
-        match jobs.send(rt, job) {
+        match self.jobs.send(rt, Some(job)) {
             Ok(()) => Ok(()),
             Err(SendError::OutOfMemory(_)) => Err(PoolError::OutOfMemory),
             Err(SendError::Disconnected(_)) => Err(PoolError::WorkerLost),
         }
     }
 
-    /// Holds a job back, which the caller will do in its place. Returns an error if the worker was
-    /// dismissed.
-    pub(crate) fn hold(&self, job: Job<T>, held: &mut Option<Job<T>>) -> Result<(), PoolError>
-        ensures there { OnOk result (self.now ≡ true) }
-        ensures failed { IfErr result IsRunError }
-    {
-        if !self.is_open() {
-            return Err(PoolError::WorkerLost);
-        }
-        *held = Some(job);
-        Ok(())
-    }
-
-    /// Closes its channel, and joins its thread.
-    pub(crate) fn dismiss<R: Threads>(&mut self, rt: &R)
-        ensures { self.new ≡ false }
-    {
-        self.jobs = None;
+    /// Tells the thread to end, and joins it. Does nothing if that was done before.
+    pub(crate) fn end<R: Threads + Wait>(&self, rt: &R) {
         if let Some(thread) = self.thread.take() {
+            let _ = self.jobs.send(rt, None);
             thread.join(rt);
         }
     }
 }
 
-/// Starts the workers of a pool. After an error those that were started end by themselves.
+/// Starts so many workers. After an error those that were started end by themselves.
 pub(crate) fn start<R, T>(
     rt: &R,
     alloc: Global,
@@ -179,7 +154,7 @@ where
     T: Task + Send + Sync + Drop + 'static,
     T::Part: 'static,
     T::Outcome: 'static,
-    ensures open { IfOk result (λ workers. workers.items ≡ replicate count true) }
+    ensures count { IfOk result (λ workers. length workers.items ≡ count) }
     ensures failed { IfErr result IsStartError }
 {
     let mut workers = Vec::with_capacity(alloc, count)?;
@@ -187,8 +162,8 @@ where
         let (jobs, received) = crossbeam_channel::bounded(alloc, 1)?;
         let thread = start_thread(rt, Arc::try_clone(task)?, received)?;
         workers.push(Worker {
-            jobs: Some(jobs),
-            thread: Some(thread),
+            jobs,
+            thread: Cell::new(Some(thread)),
         })?;
     }
     Ok(workers)

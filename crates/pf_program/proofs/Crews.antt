@@ -1,13 +1,13 @@
 -- Which errors of a crew a call can end with.
-use Rattle.std.proofs.Common.{◌≡◌, ◌≢◌, ◌∙◌, ℕ, true, Option, None, Some, Result, Ok, Err, ap, refl, sym}
-use Rattle.std.specs.Prelude.{IsSome, is_some}
+use Rattle.std.proofs.Common.{◌≡◌, ◌≢◌, true, None, Some, Result, Ok, Err, ap, refl}
+use Rattle.std.specs.Prelude.{is_some}
 use Rattle.std.proofs.lemmas.Bool.{true≢false}
 use Rattle.pf_step.specs.declared.crew.CrewError.TheVariants.{OutOfMemory, NoThread, GateShut, CrewLost}
 use Rattle.pf_workers.specs.Crew.{FailsStanding, IsStartError, StandingCrew}
 use Rattle.pf_console.specs.declared.request.Request.{Request}
 use Rattle.pf_console.specs.declared.request.Request.TheVariants.{Help, Run, Version}
 use Rattle.pf_console.specs.declared.request.Request.TheVariants as requests
-use Rattle.pf_program.specs.Program.{WantsCrew, workers_for}
+use Rattle.pf_program.specs.Program.{WantsCrew, crew_for}
 use Rattle.pf_step.specs.declared.crew.CrewError.{CrewError}
 use Rattle.pf_console.specs.declared.fault.PlayFault.{PlayFault}
 use Rattle.pf_console.specs.declared.fault.PlayFault.TheVariants.{Words, Line, Frame, Memory, Crew, Read, Write}
@@ -25,13 +25,13 @@ words_name_none (Err (Crew name)) h fault is error = elim h [ ]
 words_name_none (Err Read) h fault is error = elim h [ ]
 words_name_none (Err Write) h fault is error = elim h [ ]
 
--- workers are there only where a request asks for them
-pub wants : (request : Request) (workers : ℕ × StandingCrew) → Some workers ≡ workers_for request → WantsCrew request
-wants (Run (Some size)) workers is = (size, refl)
-wants (Run None) workers is = absurd (true≢false (ap is_some is))
-wants (requests.Frame digits) workers is = absurd (true≢false (ap is_some is))
-wants (Help text) workers is = absurd (true≢false (ap is_some is))
-wants Version workers is = absurd (true≢false (ap is_some is))
+-- a crew is there only where a request asks for one
+pub wants : (request : Request) (crew : StandingCrew) → Some crew ≡ crew_for request → WantsCrew request
+wants (Run (Some size)) crew is = (size, refl)
+wants (Run None) crew is = absurd (true≢false (ap is_some is))
+wants (requests.Frame digits) crew is = absurd (true≢false (ap is_some is))
+wants (Help text) crew is = absurd (true≢false (ap is_some is))
+wants Version crew is = absurd (true≢false (ap is_some is))
 
 -- a crew that could not be started did not fail by its gate
 pub start_not_shut : (error : CrewError) → IsStartError error → error ≢ GateShut

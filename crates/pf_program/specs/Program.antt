@@ -26,11 +26,10 @@ Asks text (Err fault) asked = asked ≡ Err fault
 abbrev pub WantsCrew : Request → Type 0
 WantsCrew request = (size : ℕ) × (request ≡ Run (Some size))
 
--- the workers that a request asks for, if it asks for any: how many compute contact points, and the
--- crew
-abbrev pub workers_for : Request → Option (ℕ × StandingCrew)
-workers_for (Run (Some size)) = Some (size, new_crew size)
-workers_for request = None
+-- the crew that a request asks for, if it asks for one
+abbrev pub crew_for : Request → Option StandingCrew
+crew_for (Run (Some size)) = Some (new_crew size)
+crew_for request = None
 
 -- the error with which the crew that a request asks for could not be started
 abbrev pub IsStartFault : Request → PlayFault → Type 0

@@ -1,15 +1,18 @@
 //! The program, from the words of its call to its status.
 
-ghost use Rattle.std.specs.Prelude.{◌≡◌, ◌+◌, ◌^◌, ◌<◌, IfErr, IfOk};
+ghost use Rattle.std.specs.Prelude.{◌≡◌, ◌+◌, ◌^◌, ◌<◌, ◌≤◌, IfErr, IfOk, option_map};
 ghost use Rattle.std.specs.Process.{exit_status};
+ghost use Rattle.pf_pool.specs.declared.pool.TheConstants.{MAX_WORKERS};
+ghost use Rattle.pf_workers.specs.Crew.{IsStartError, new_crew};
 ghost use Rattle.pf_console.specs.Report.{Reports};
 ghost use Rattle.pf_console.specs.Text.{CountsReads, CountsWrites};
 ghost use Rattle.pf_program.specs.Options.{FailsByWordsOrMemory, HasCrewSize};
-ghost use Rattle.pf_program.specs.Program.{Ends, IsStartFault, Plays, workers_for};
+ghost use Rattle.pf_program.specs.Program.{Ends, IsStartFault, Plays, crew_for};
 
 use crate::command_line::options;
 use pf_console::{PlayFault, Request, finish, perform};
 use pf_manifold::OneThread;
+use pf_step::CrewError;
 use pf_text::{Sink, Source};
 use pf_workers::{OpenGate, StandingCollider, StandingCrew};
 use std::alloc::Global;
@@ -18,23 +21,47 @@ use std::process::ExitCode;
 use std::sync::Wait;
 use std::thread::Threads;
 
-/// The workers that a run asks for, if it asks for any: those that compute contact points, and a
-/// crew.
-fn workers_of<T: Threads + Wait + Copy + Send + 'static>(
+/// A crew, and a collider whose workers are the crew's.
+#[derive(Drop)]
+struct Workers<T> {
+    crew: StandingCrew<T, OpenGate>,
+    collider: StandingCollider<T, OpenGate>,
+}
+
+/// So many workers.
+fn started<T: Threads + Wait + Copy + Send + 'static>(
+    rt: T,
+    alloc: Global,
+    size: usize,
+) -> Result<Workers<T>, CrewError>
+    requires { (0 < size) × (size ≤ MAX_WORKERS) }
+    ensures crew { IfOk result (λ made. made.crew ≡ new_crew size) }
+    ensures failed { IfErr result IsStartError }
+{
+    let crew = StandingCrew::new(rt, alloc, size, OpenGate)?;
+    let collider = crew.collider()?;
+    Ok(Workers { crew, collider })
+}
+
+/// The crew that a run asks for, if it asks for one, with a collider whose workers are the crew's.
+fn crew_of<T: Threads + Wait + Copy + Send + 'static>(
     rt: T,
     alloc: Global,
     request: &Request,
-) -> Result<Option<(StandingCollider<T>, StandingCrew<T, OpenGate>)>, PlayFault>
+) -> Result<Option<Workers<T>>, PlayFault>
     requires { HasCrewSize request.now }
-    ensures workers { IfOk result (λ workers. workers ≡ workers_for request.now) }
+    ensures crew { IfOk result (λ made. option_map (λ w. w.crew) made ≡ crew_for request.now) }
     ensures fault { IfErr result (IsStartFault request.now) }
 {
-    let Request::Run { workers: Some(size) } = request else {
+    let Request::Run {
+        workers: Some(size),
+    } = request
+    else {
         return Ok(None);
     };
-    match (StandingCollider::new(rt, alloc, *size), StandingCrew::new(rt, alloc, *size, OpenGate)) {
-        (Ok(collider), Ok(crew)) => Ok(Some((collider, crew))),
-        (Err(error), _) | (_, Err(error)) => Err(PlayFault::Crew(error)),
+    match started(rt, alloc, *size) {
+        Ok(workers) => Ok(Some(workers)),
+        Err(error) => Err(PlayFault::Crew(error)),
     }
 }
 
@@ -62,13 +89,12 @@ fn play<S: AsStr + Drop, R: Source, W: Sink, T: Threads + Wait + Copy + Send + '
 {
     let words = words?;
     let request = options(alloc, words.as_slice())?;
-    let Some((collider, crew)) = workers_of(rt, alloc, &request)? else {
+    let Some(workers) = crew_of(rt, alloc, &request)? else {
         return perform(&OneThread, alloc, request, reader, writer, &mut OneThread);
     };
-    let mut crew = crew;
+    let Workers { mut crew, collider } = workers;
     let outcome = perform(&collider, alloc, request, reader, writer, &mut crew);
     crew.close();
-    collider.close();
     outcome
 }
 

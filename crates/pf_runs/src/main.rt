@@ -43,7 +43,13 @@ fn run<P: Collider>(collider: &P, alloc: Global, text: &[u8]) -> Result<Collecte
             let digits = str::from_utf8(digits).context("digits are text")?;
             frame_text(alloc, digits, &mut output)
         }
-        None => run_text(collider, alloc, &mut Bytes::new(text), &mut output, &mut OneThread),
+        None => run_text(
+            collider,
+            alloc,
+            &mut Bytes::new(text),
+            &mut output,
+            &mut OneThread,
+        ),
     };
     let status = finish(outcome, &mut output);
     let line = format!(in alloc; "status {status}\n")?;

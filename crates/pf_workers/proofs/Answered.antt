@@ -1,5 +1,5 @@
 -- What the answers of all workers are together.
-use Rattle.std.proofs.Common.{◌≡◌, ◌∙◌, ℕ, suc, ◌<◌, Bool, List, [], ◌∷◌, Result, Ok, Err, IfErr, map, length, get_or, refl, ap, ap₂, sym, arith, subst}
+use Rattle.std.proofs.Common.{◌≡◌, ◌∙◌, ℕ, suc, ◌<◌, ◌≤◌, Bool, true, false, List, [], ◌∷◌, Result, Ok, Err, IfErr, map, length, get_or, refl, ap, ap₂, sym, arith, subst}
 use Rattle.std.proofs.lemmas.List.{get_or-map, length-map}
 use Rattle.std.specs.Prelude.{All}
 use Rattle.pf_shapes.specs.Scene.{Scene}
@@ -8,7 +8,18 @@ use Rattle.pf_pool.specs.Pool.{AreOutcomes}
 use Rattle.pf_solver.specs.Alone.{island_after_tick}
 use Rattle.pf_step.specs.declared.crew.CrewError.{CrewError}
 use Rattle.pf_workers.specs.Crew.{IsStandingError}
-use Rattle.pf_workers.specs.Solving.{IsSolved, Share}
+use Rattle.pf_pool.proofs.Lists.{default_same}
+use Rattle.pf_workers.specs.Solving.{IsSolved, share}
+use Rattle.pf_workers.specs.Work.{IsOutcome, IsSolving}
+use Rattle.pf_workers.specs.declared.work.Outcome.{Outcome}
+use Rattle.pf_workers.specs.declared.work.Outcome.TheVariants.{Solved, Found}
+use Rattle.pf_workers.specs.declared.work.Part.{Part}
+use Rattle.pf_workers.specs.declared.work.Part.TheVariants.{Islands}
+
+-- a crew whose workers were found there one by one has them all
+pub all_there : (workers : List Bool) (n : ℕ) → length workers ≤ n
+    → ((i : ℕ) → i < n → get_or workers i false ≡ true) → All (λ there. there ≡ true) workers
+all_there workers n long there i d low = default_same workers i d false low ∙ there i (omega (arith, low, long))
 
 -- a list whose elements are made of those of another is made of it
 made_of : {X Y : Type 0} (f : Y → X) (xs : List X) (ys : List Y) (d : X) (e : Y) → length xs ≡ length ys
@@ -20,39 +31,39 @@ made_of f (x ∷ xs) (y ∷ ys) d e long at =
     ap₂ (λ z zs. z ∷ zs) (at 0 (omega arith))
     (made_of f xs ys d e (omega (arith, long)) (λ w low. at (suc w) (omega (arith, low))))
 
-abbrev pub IsSolvedShare : Bool → Share → Result (List Island) CrewError → Type 0
-IsSolvedShare always share outcome = IsSolved always share.scene share.islands outcome
+abbrev pub part : Scene → List Island → Part
+part s pile = Islands (share s pile)
 
--- the scene of a solve with the pile of a worker
-abbrev pub share : Scene → List Island → Share
-share s pile = record { scene = s; islands = pile }
-
-module _ (always : Bool) (s : Scene) (piles : List (List Island)) (outcomes : List (Result (List Island) CrewError))
-    (of : AreOutcomes (IsSolvedShare always) (map (share s) piles) outcomes) where
+module _ (always : Bool) (s : Scene) (piles : List (List Island)) (outcomes : List Outcome)
+    (of : AreOutcomes (IsOutcome always) (map (part s) piles) outcomes) where
   count : length outcomes ≡ length piles
-  count = of.0 ∙ length-map piles (share s)
+  count = of.0 ∙ length-map piles (part s)
 
-  solved_at : (w : ℕ) (o : Result (List Island) CrewError) → w < length piles
-      → IsSolved always s (get_or piles w []) (get_or outcomes w o)
-  solved_at w o low =
-      subst (λ part. IsSolvedShare always part (get_or outcomes w o)) (get_or-map (share s) piles w [] (share s []) low)
-      (of.1 w (share s []) o (omega (arith, low, length-map piles (share s))))
+  outcome_at : (w : ℕ) (o : Outcome) → w < length piles → IsOutcome always (Islands (share s (get_or piles w []))) (get_or outcomes w o)
+  outcome_at w o low =
+      subst (λ p. IsOutcome always p (get_or outcomes w o)) (get_or-map (part s) piles w [] (part s []) low)
+      (of.1 w (part s []) o (omega (arith, low, length-map piles (part s))))
 
   -- a worker that fails found its gate shut
-  pub failed : (outcome : Result (List Island) CrewError) (pile : List Island) → IsSolved always s pile outcome
+  failed : (outcome : Result (List Island) CrewError) (pile : List Island) → IsSolved always s pile outcome
       → IfErr outcome (IsStandingError always)
   failed (Ok after) pile is = tt
   failed (Err error) pile is = subst (IsStandingError always) (sym is.0) is.1
 
-  pub all_failed : All (λ outcome. IfErr outcome (IsStandingError always)) outcomes
-  all_failed w o low = failed (get_or outcomes w o) (get_or piles w []) (solved_at w o (omega (arith, low, count)))
+  solving : (outcome : Outcome) (pile : List Island) → IsOutcome always (Islands (share s pile)) outcome → IsSolving always outcome
+  solving (Solved outcome) pile is = failed outcome pile is
+  solving (Found found) pile is = absurd is
+
+  pub all_solving : All (IsSolving always) outcomes
+  all_solving w o low = solving (get_or outcomes w o) (get_or piles w []) (outcome_at w o (omega (arith, low, count)))
 
   -- where all workers are done, their piles are those that were dealt, after a tick
-  pub all_solved : (after : List (List Island)) → map Ok after ≡ outcomes → after ≡ map (map (island_after_tick s)) piles
+  pub all_solved : (after : List (List Island)) → map (λ pile. Solved (Ok pile)) after ≡ outcomes
+      → after ≡ map (map (island_after_tick s)) piles
   all_solved after done =
-      let same : length after ≡ length outcomes = sym (length-map after Ok) ∙ ap length done in
+      let same : length after ≡ length outcomes = sym (length-map after (λ pile. Solved (Ok pile))) ∙ ap length done in
       made_of (map (island_after_tick s)) after piles [] [] (same ∙ count)
       (λ w low.
-      let at : get_or outcomes w (Ok []) ≡ Ok (get_or after w []) =
-      ap (λ l. get_or l w (Ok [])) (sym done) ∙ get_or-map Ok after w [] (Ok []) low in
-      subst (IsSolved always s (get_or piles w [])) at (solved_at w (Ok []) (omega (arith, low, same, count))))
+      let at : get_or outcomes w (Solved (Ok [])) ≡ Solved (Ok (get_or after w [])) =
+      ap (λ l. get_or l w (Solved (Ok []))) (sym done) ∙ get_or-map (λ pile. Solved (Ok pile)) after w [] (Solved (Ok [])) low in
+      subst (IsOutcome always (Islands (share s (get_or piles w [])))) at (outcome_at w (Solved (Ok [])) (omega (arith, low, same, count))))

@@ -1,16 +1,20 @@
 -- The points of all chunks of a list of pairs are those of the list.
-use Rattle.std.proofs.Common.{◌≡◌, ◌∙◌, ℕ, zero, suc, ◌+◌, ◌<◌, List, [], ◌∷◌, ◌++◌, Result, Ok, Vec, Global, append-nil, drop, take, length, get_or, ap, subst, sym, arith}
+use Rattle.std.proofs.Common.{◌≡◌, ◌∙◌, ℕ, zero, suc, ◌+◌, ◌<◌, Bool, List, [], ◌∷◌, ◌++◌, Ok, Vec, Global, append-nil, drop, take, length, map, get_or, ap, ap₂, subst, sym, arith}
 use Rattle.std.proofs.lemmas.Grind.{flat_map-append}
-use Rattle.std.proofs.lemmas.List.{append_assoc, take-append-drop, take_more}
+use Rattle.std.proofs.lemmas.List.{append_assoc, get_or-map, length-map, map-append, take-append-drop, take_more}
 use Rattle.std.specs.List.{flat_map}
 use Rattle.std.specs.Prelude.{All}
-use Rattle.std.specs.declared.alloc.AllocError.{AllocError}
 use Rattle.pf_shapes.specs.Fixture.{Fixture}
 use Rattle.pf_shapes.specs.Body.{BodyState}
 use Rattle.pf_shapes.specs.Pair.{Pair}
 use Rattle.pf_manifold.specs.Touches.{Touch, touches, touches_of}
 use Rattle.pf_pool.specs.Pool.{AreOutcomes}
-use Rattle.pf_workers.specs.Colliding.{Chunk, IsFound, points_of}
+use Rattle.pf_workers.specs.Colliding.{Chunk, chunk, points_of}
+use Rattle.pf_workers.specs.Work.{ArePointsOf, IsOutcome}
+use Rattle.pf_workers.specs.declared.work.Outcome.{Outcome}
+use Rattle.pf_workers.specs.declared.work.Outcome.TheVariants.{Found}
+use Rattle.pf_workers.specs.declared.work.Part.{Part}
+use Rattle.pf_workers.specs.declared.work.Part.TheVariants.{Pairs}
 
 pub all_drop : {X : Type 0} (P : X → Type 0) (xs : List X) (k : ℕ) → All P xs → All P (drop k xs)
 all_drop P xs zero ps = ps
@@ -23,37 +27,59 @@ more chunks chunk =
     flat_map-append points_of chunks (chunk ∷ []) ∙ ap (λ l. flat_map points_of chunks ++ l) (append-nil (points_of chunk))
 
 module _ (fixtures : List Fixture) (bodies : List BodyState) where
-  abbrev pub of_pairs : List Pair → Chunk
-  of_pairs pairs = record { fixtures = fixtures; bodies = bodies; pairs = pairs }
+  -- these parts are chunks of some pairs, and the rest is not cut yet
+  abbrev pub AreCutOff : List Part → List Pair → List Pair → Type 0
+  AreCutOff parts rest all =
+      (chunks : List Chunk) × (parts ≡ map Pairs chunks)
+      × (flat_map points_of chunks ++ touches fixtures bodies rest ≡ touches fixtures bodies all)
 
   -- a chunk is cut off
-  pub cut : (chunks : List Chunk) (rest all : List Pair) (k : ℕ)
-      → flat_map points_of chunks ++ touches fixtures bodies rest ≡ touches fixtures bodies all
-      → flat_map points_of (chunks ++ of_pairs (take k rest) ∷ []) ++ touches fixtures bodies (drop k rest) ≡ touches fixtures bodies all
-  cut chunks rest all k before =
-      let own = touches fixtures bodies (take k rest) in
-      let others = touches fixtures bodies (drop k rest) in
-      ap (λ l. l ++ others) (more chunks (of_pairs (take k rest)))
-      ∙ append_assoc (flat_map points_of chunks) own others
-      ∙ ap (λ l. flat_map points_of chunks ++ l)
-      (sym (flat_map-append (touches_of fixtures bodies) (take k rest) (drop k rest)) ∙ ap (touches fixtures bodies) (take-append-drop k rest))
-      ∙ before
+  pub cut : (parts after : List Part) (own others rest all : List Pair) (k : ℕ) → own ≡ take k rest → others ≡ drop k rest
+      → after ≡ parts ++ Pairs (chunk fixtures bodies own) ∷ [] → AreCutOff parts rest all → AreCutOff after others all
+  cut parts after own others rest all k front back pushed before =
+      let chunks = before.0 in
+      let next = chunk fixtures bodies own in
+      let of = touches fixtures bodies in (
+        chunks ++ next ∷ [],
+        pushed ∙ ap (λ l. l ++ Pairs next ∷ []) before.1 ∙ sym (map-append Pairs chunks (next ∷ [])),
+        ap (λ l. l ++ of others) (more chunks next)
+            ∙ append_assoc (flat_map points_of chunks) (of own) (of others)
+            ∙ ap (λ l. flat_map points_of chunks ++ l)
+            (sym (flat_map-append (touches_of fixtures bodies) own others)
+            ∙ ap of (ap₂ (λ l r. l ++ r) front back ∙ take-append-drop k rest))
+            ∙ before.2,
+      )
 
   -- the rest is the last chunk
-  pub last : (chunks : List Chunk) (rest all : List Pair)
-      → flat_map points_of chunks ++ touches fixtures bodies rest ≡ touches fixtures bodies all
-      → flat_map points_of (chunks ++ of_pairs rest ∷ []) ≡ touches fixtures bodies all
-  last chunks rest all before = more chunks (of_pairs rest) ∙ before
+  pub last : (parts after : List Part) (rest all : List Pair) → after ≡ parts ++ Pairs (chunk fixtures bodies rest) ∷ []
+      → AreCutOff parts rest all → ArePointsOf after (touches fixtures bodies all)
+  last parts after rest all pushed before =
+      let chunks = before.0 in
+      let next = chunk fixtures bodies rest in (
+        chunks ++ next ∷ [],
+        pushed ∙ ap (λ l. l ++ Pairs next ∷ []) before.1 ∙ sym (map-append Pairs chunks (next ∷ [])),
+        more chunks next ∙ before.2,
+      )
 
--- the points of one more chunk are joined to those of the others
-pub joined_more : (chunks : List Chunk) (found : List (Result (Vec Touch Global) AllocError)) (n : ℕ) (all : List Touch)
-    (points : Vec Touch Global) (none : Result (Vec Touch Global) AllocError)
-    → AreOutcomes IsFound chunks found → n < length found → get_or found n none ≡ Ok points → all ≡ flat_map points_of (take n chunks)
-    → all ++ points.items ≡ flat_map points_of (take (n + 1) chunks)
-joined_more chunks found n all points none of low is before =
-    let nobody : Chunk = record { fixtures = []; bodies = []; pairs = [] } in
-    let within : n < length chunks = omega (arith, low, of.0) in
-    let own : points.items ≡ points_of (get_or chunks n nobody) =
-    subst (IsFound (get_or chunks n nobody)) is (of.1 n nobody none within) in
-    ap (λ l. l ++ points.items) before ∙ ap (λ l. flat_map points_of (take n chunks) ++ l) own
-    ∙ sym (more (take n chunks) (get_or chunks n nobody)) ∙ ap (flat_map points_of) (sym (take_more chunks n nobody within))
+module _ (always : Bool) (chunks : List Chunk) (found : List Outcome) (of : AreOutcomes (IsOutcome always) (map Pairs chunks) found) where
+  nobody : Chunk
+  nobody = chunk [] [] []
+
+  pub count : length found ≡ length chunks
+  count = of.0 ∙ length-map chunks Pairs
+
+  outcome_at : (n : ℕ) (none : Outcome) → n < length chunks → IsOutcome always (Pairs (get_or chunks n nobody)) (get_or found n none)
+  outcome_at n none low =
+      subst (λ p. IsOutcome always p (get_or found n none)) (get_or-map Pairs chunks n nobody (Pairs nobody) low)
+      (of.1 n (Pairs nobody) none (omega (arith, low, length-map chunks Pairs)))
+
+  -- the points of one more chunk are joined to those of the others
+  pub joined_more : (n : ℕ) (all : List Touch) (points : Vec Touch Global) (none : Outcome) → n < length found
+      → get_or found n none ≡ Found (Ok points) → all ≡ flat_map points_of (take n chunks)
+      → all ++ points.items ≡ flat_map points_of (take (n + 1) chunks)
+  joined_more n all points none low is before =
+      let within : n < length chunks = omega (arith, low, count) in
+      let own : points.items ≡ points_of (get_or chunks n nobody) =
+      subst (IsOutcome always (Pairs (get_or chunks n nobody))) is (outcome_at n none within) in
+      ap (λ l. l ++ points.items) before ∙ ap (λ l. flat_map points_of (take n chunks) ++ l) own
+      ∙ sym (more (take n chunks) (get_or chunks n nobody)) ∙ ap (flat_map points_of) (sym (take_more chunks n nobody within))

@@ -13,6 +13,9 @@ pub record Chunk : Type 0 where
   pub bodies : List BodyState
   pub pairs : List Pair
 
+abbrev pub chunk : List Fixture → List BodyState → List Pair → Chunk
+chunk fixtures bodies pairs = record { fixtures = fixtures; bodies = bodies; pairs = pairs }
+
 -- the contact points of a worker's pairs
 abbrev pub points_of : Chunk → List Touch
 points_of c = touches c.fixtures c.bodies c.pairs

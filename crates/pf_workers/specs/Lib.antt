@@ -3,3 +3,4 @@ pub mod Dealing
 pub mod Solving
 pub mod Colliding
 pub mod Crew
+pub mod Work

@@ -11,6 +11,9 @@ pub record Share : Type 0 where
   pub scene : Scene
   pub islands : List Island
 
+abbrev pub share : Scene → List Island → Share
+share s pile = record { scene = s; islands = pile }
+
 -- what a worker returns of its own islands: each after a tick, or that its gate was shut
 abbrev pub IsSolved : Bool → Scene → List Island → Result (List Island) CrewError → Type 0
 IsSolved always s pile (Ok after) = after ≡ map (island_after_tick s) pile

@@ -2,23 +2,21 @@
 
 ghost use Rattle.std.specs.Prelude.{◌≡◌, ◌<◌, All, IfOk, List, length};
 ghost use Rattle.std.specs.Arc.{arc_value};
-ghost use Rattle.std.specs.List.{flat_map};
 ghost use Rattle.pf_shapes.specs.Pair.{IsPairOf};
-ghost use Rattle.pf_manifold.specs.Touches.{touches};
+ghost use Rattle.pf_manifold.specs.Touches.{Touch, touches};
 ghost use Rattle.pf_pool.specs.Pool.{AreOutcomes};
-ghost use Rattle.pf_workers.specs.Colliding.{Chunk, IsFound, points_of};
+ghost use Rattle.pf_workers.specs.Work.{ArePointsOf, IsOutcome};
+ghost use Rattle.pf_workers.specs.declared.work.Part.{Part};
 
-use crate::MAX_WORKERS;
-use crate::standing::crew_error;
+use crate::gate::Gate;
+use crate::work::{Outcome, Part, Work};
 use pf_manifold::{Collider, Touch, collide_list};
-use pf_pool::{Pool, PoolError, Task};
+use pf_pool::{Pool, PoolError};
 use pf_shapes::{BodyState, Pair, Scene};
-use pf_step::CrewError;
 use std::alloc::{AllocError, Global};
 use std::cell::Cell;
 use std::marker::Model;
 use std::sync::{Arc, Wait};
-use std::thread::Threads;
 
 /// From this many pairs on whose points have to be computed, all are computed by the workers: waking
 /// these takes as long as the points of some fewer.
@@ -26,7 +24,7 @@ const PAIRS_FOR_WORKERS: usize = 128;
 
 /// Bodies as they stand, which all workers share, and the pairs of one of them.
 #[derive(Drop)]
-struct Chunk {
+pub(crate) struct Chunk {
     scene: Arc<Scene, Global>,
     bodies: Arc<Vec<BodyState>, Global>,
     pairs: Vec<Pair>,
@@ -50,36 +48,9 @@ impl Model for Chunk {
         × All (IsPairOf (length (arc_value c.bodies).items)) c.pairs.items };
 }
 
-/// What the workers do: they compute the contact points of their pairs.
-#[derive(Drop)]
-struct Colliding {
-    alloc: Global,
-}
-
-impl Task for Colliding {
-    ghost use Rattle.pf_workers.specs.Colliding.{IsFound};
-
-    type Part = Chunk;
-
-    type Outcome = Result<Vec<Touch>, AllocError>;
-
-    ghost is_outcome = { IsFound };
-
-    fn run(&self, _worker: usize, _turn: usize, part: Chunk) -> Result<Vec<Touch>, AllocError> {
-        collide_list(self.alloc, &part.scene, &part.bodies, &part.pairs)
-    }
-
-    fn may_run_here(&self) -> bool {
-        true
-    }
-
-    fn work_of(part: &Chunk) -> usize {
-        part.pairs.len()
-    }
-}
-
 impl Chunk {
     ghost use Rattle.std.specs.Prelude.{◌≡◌, All, IfOk, length};
+    ghost use Rattle.pf_workers.specs.Colliding.{IsFound, chunk};
     ghost use Rattle.std.specs.Arc.{arc_value};
     ghost use Rattle.pf_shapes.specs.Pair.{IsPairOf};
 
@@ -92,11 +63,8 @@ impl Chunk {
     ) -> Result<Chunk, AllocError>
         requires bodies { length (arc_value bodies.now).items ≡ length (arc_value scene.now).fixtures }
         requires pairs { All (IsPairOf (length (arc_value bodies.now).items)) pairs.now }
-        ensures { IfOk result (λ chunk. chunk ≡ record {
-          fixtures = (arc_value scene.now).fixtures;
-          bodies = (arc_value bodies.now).items;
-          pairs = pairs.now;
-        }) }
+        ensures { IfOk result (λ made.
+            made ≡ chunk (arc_value scene.now).fixtures (arc_value bodies.now).items pairs.now) }
     {
         let mut own = Vec::new(alloc);
         own.extend_from_slice(pairs)?;
@@ -105,6 +73,18 @@ impl Chunk {
             bodies: Arc::try_clone(bodies)?,
             pairs: own,
         })
+    }
+
+    /// The contact points of the pairs.
+    pub(crate) fn collide(self, alloc: Global) -> Result<Vec<Touch>, AllocError>
+        ensures { IsFound self result }
+    {
+        collide_list(alloc, &self.scene, &self.bodies, &self.pairs)
+    }
+
+    /// How many pairs there are.
+    pub(crate) fn len(&self) -> usize {
+        self.pairs.len()
     }
 }
 
@@ -115,92 +95,62 @@ fn chunks_of(
     bodies: &Arc<Vec<BodyState>, Global>,
     pairs: &[Pair],
     count: usize,
-) -> Result<Vec<Chunk>, AllocError>
+) -> Result<Vec<Part>, AllocError>
     requires some { 0 < count }
     requires bodies { length (arc_value bodies.now).items ≡ length (arc_value scene.now).fixtures }
     requires pairs { All (IsPairOf (length (arc_value bodies.now).items)) pairs.now }
-    ensures count { IfOk result (λ chunks. length chunks.items ≡ count) }
-    ensures points { IfOk result (λ chunks. flat_map points_of chunks.items
-        ≡ touches (arc_value scene.now).fixtures (arc_value bodies.now).items pairs.now) }
+    ensures count { IfOk result (λ parts. length parts.items ≡ count) }
+    ensures points { IfOk result (λ parts. ArePointsOf parts.items
+        (touches (arc_value scene.now).fixtures (arc_value bodies.now).items pairs.now)) }
 {
-    let mut chunks = Vec::with_capacity(alloc, count)?;
+    let mut parts = Vec::with_capacity(alloc, count)?;
     let mut rest = pairs;
     for made in 1..count {
         let (own, others) = rest.split_at(rest.len() / (count - made + 1));
-        chunks.push(Chunk::new(alloc, scene, bodies, own)?)?;
+        parts.push(Part::Pairs(Chunk::new(alloc, scene, bodies, own)?))?;
         rest = others;
     }
-    chunks.push(Chunk::new(alloc, scene, bodies, rest)?)?;
-    Ok(chunks)
+    parts.push(Part::Pairs(Chunk::new(alloc, scene, bodies, rest)?))?;
+    Ok(parts)
 }
 
 /// The points of all chunks in one list.
-fn joined(alloc: Global, found: &[Result<Vec<Touch>, AllocError>]) -> Result<Vec<Touch>, AllocError>
-    ensures { (chunks : List Chunk) → AreOutcomes IsFound chunks found.now
-        → IfOk result (λ all. all.items ≡ flat_map points_of chunks) }
+fn joined<G: Gate>(alloc: Global, found: &[Outcome]) -> Result<Vec<Touch>, AllocError>
+    ensures { (parts : List Part) (points : List Touch) → ArePointsOf parts points
+        → AreOutcomes (IsOutcome G.ALWAYS) parts found.now
+        → IfOk result (λ all. all.items ≡ points) }
 {
     let mut all = Vec::new(alloc);
     for number in 0..found.len() {
         match &found[number] {
-            Ok(points) => all.extend_from_slice(points)?,
-            Err(_) => return Err(AllocError),
+            Outcome::Found(Ok(points)) => all.extend_from_slice(points)?,
+            _ => return Err(AllocError),
         }
     }
     Ok(all)
 }
 
-/// Workers, each with a thread of its own, that compute contact points. They are started once.
-///
-/// Contracts see how many there are.
+/// Standing workers that compute contact points: those of a crew. Nobody passes a gate.
 #[derive(Drop)]
-pub struct StandingCollider<R> {
-    pool: Pool<R, Colliding>,
+pub struct StandingCollider<R, G: Gate> {
+    pool: Arc<Pool<R, Work<G>>, Global>,
     /// The scene of the last call.
     scene: Cell<Option<Arc<Scene, Global>>>,
 }
 
-impl<R> Model for StandingCollider<R> {
-    ghost use Rattle.std.specs.Prelude.{ℕ, ◌<◌, length};
-
-    ghost Value = { ℕ };
-
-    ghost view = { λ c. length c.pool };
-
-    ghost invariant = { λ c. 0 < length c.pool };
-}
-
-impl<R: Wait> StandingCollider<R> {
-    ghost use Rattle.std.specs.Prelude.{◌≡◌, ◌<◌, ◌≤◌, All, IfErr, IfOk, length};
+impl<R: Wait, G: Gate> StandingCollider<R, G> {
+    ghost use Rattle.std.specs.Prelude.{◌≡◌, All, IfOk, length};
     ghost use Rattle.std.specs.Arc.{arc_value};
     ghost use Rattle.pf_shapes.specs.Pair.{IsPairOf};
     ghost use Rattle.pf_manifold.specs.Touches.{touches};
-    ghost use Rattle.pf_pool.specs.declared.pool.TheConstants.{MAX_WORKERS};
-    ghost use Rattle.pf_workers.specs.Crew.{IsStartError};
+    ghost use Rattle.pf_workers.specs.Work.{ArePointsOf};
 
-    /// Starts so many workers. Returns an error where it is out of memory or a thread could not be
-    /// started; the workers that were started end by themselves.
-    pub fn new(rt: R, alloc: Global, workers: usize) -> Result<StandingCollider<R>, CrewError>
-    where
-        R: Threads + Copy + Send + 'static,
-        requires { (0 < workers) × (workers ≤ MAX_WORKERS) }
-        ensures collider { IfOk result (λ collider. collider ≡ workers) }
-        ensures failed { IfErr result IsStartError }
-    {
-        match Pool::new(rt, alloc, workers, Colliding { alloc }) {
-            Ok(pool) => Ok(StandingCollider {
-                pool,
-                scene: Cell::new(None),
-            }),
-            Err(error) => Err(crew_error(error)),
+    /// A collider whose workers are those of a pool.
+    pub(crate) fn new(pool: Arc<Pool<R, Work<G>>, Global>) -> StandingCollider<R, G> {
+        StandingCollider {
+            pool,
+            scene: Cell::new(None),
         }
-    }
-
-    /// Closes the channels of all workers, and joins them. It may wait.
-    pub fn close(self)
-    where
-        R: Threads + Copy,
-    {
-        self.pool.close();
     }
 
     /// A scene as the workers share it: the kept one, or a copy, if that is another.
@@ -222,12 +172,12 @@ impl<R: Wait> StandingCollider<R> {
         scene: &Scene,
         bodies: &[BodyState],
         pairs: &[Pair],
-    ) -> Result<Vec<Chunk>, AllocError>
+    ) -> Result<Vec<Part>, AllocError>
         requires bodies { length bodies.now ≡ length scene.now.fixtures }
         requires pairs { All (IsPairOf (length bodies.now)) pairs.now }
-        ensures count { IfOk result (λ chunks. length chunks.items ≡ self.now) }
+        ensures count { IfOk result (λ parts. length parts.items ≡ arc_value self.now.pool) }
         ensures points { IfOk result
-            (λ chunks. flat_map points_of chunks.items ≡ touches scene.now.fixtures bodies.now pairs.now) }
+            (λ parts. ArePointsOf parts.items (touches scene.now.fixtures bodies.now pairs.now)) }
     {
         let scene = self.shared_scene(alloc, scene)?;
         let mut copy = Vec::new(alloc);
@@ -237,7 +187,7 @@ impl<R: Wait> StandingCollider<R> {
     }
 }
 
-impl<R: Wait> Collider for StandingCollider<R> {
+impl<R: Wait, G: Gate> Collider for StandingCollider<R, G> {
     const MANY: usize = PAIRS_FOR_WORKERS;
 
     /// Where a worker is lost, the caller computes the points.
@@ -248,9 +198,9 @@ impl<R: Wait> Collider for StandingCollider<R> {
         bodies: &[BodyState],
         pairs: &[Pair],
     ) -> Result<Vec<Touch>, AllocError> {
-        let chunks = self.chunks(alloc, scene, bodies, pairs)?;
-        match self.pool.run(0, chunks) {
-            Ok(found) => joined(alloc, &found),
+        let parts = self.chunks(alloc, scene, bodies, pairs)?;
+        match self.pool.run(0, parts) {
+            Ok(found) => joined::<G>(alloc, &found),
             Err(PoolError::OutOfMemory) => Err(AllocError),
             Err(_) => collide_list(alloc, scene, bodies, pairs),
         }

@@ -7,6 +7,7 @@ mod pile;
 mod scoped;
 mod solving;
 mod standing;
+mod work;
 
 pub use colliding::StandingCollider;
 pub use gate::{Gate, OpenGate};

@@ -8,7 +8,7 @@ ghost use Rattle.pf_workers.specs.Crew.{IsScopedError};
 use crate::MAX_WORKERS;
 use crate::gate::{Gate, OpenGate};
 use crate::pile::{Pile, deal, empty_piles, gather};
-use crate::solving::work;
+use crate::work::solve;
 use pf_islands::Island;
 use pf_shapes::Scene;
 use pf_step::{Crew, CrewError};
@@ -60,7 +60,7 @@ fn run_workers<'s, 'e: 's, R: Threads, G: Gate + Sync>(
         pile: Snapshot::of(&given),
         gate: PhantomData,
     };
-    let started = scope.spawn_with(promise, move || work(scene, gate, worker, turn, given));
+    let started = scope.spawn_with(promise, move || solve(scene, gate, worker, turn, given));
     let Ok(thread) = started else {
         return Err(CrewError::NoThread);
     };

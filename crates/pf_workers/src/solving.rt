@@ -1,38 +1,22 @@
-//! What the workers of a crew do: each solves its islands.
+//! The islands of the workers of a standing crew.
 
-ghost use Rattle.std.specs.Prelude.{◌≡◌, All, Bool, IfErr, IfOk, Ok, map};
+ghost use Rattle.std.specs.Prelude.{◌≡◌, All, IfErr, IfOk, Ok, map};
 ghost use Rattle.std.specs.Arc.{arc_value};
 ghost use Rattle.pf_islands.specs.Split.{IsIslandOf};
 ghost use Rattle.pf_workers.specs.Crew.{IsStandingError};
-ghost use Rattle.pf_workers.specs.Solving.{IsSolved, Share};
+ghost use Rattle.pf_workers.specs.Solving.{share};
+ghost use Rattle.pf_workers.specs.Work.{IsSolving};
+ghost use Rattle.pf_workers.specs.declared.work.Outcome.TheVariants.{Solved};
+ghost use Rattle.pf_workers.specs.declared.work.Part.TheVariants.{Islands};
 
 use crate::gate::Gate;
 use crate::pile::Pile;
-use pf_pool::Task;
+use crate::work::{Outcome, Part, solve};
 use pf_shapes::Scene;
 use pf_step::CrewError;
 use std::alloc::{AllocError, Global};
 use std::marker::Model;
 use std::sync::Arc;
-
-/// Passes the gate, and solves the islands of a worker.
-pub(crate) fn work<G: Gate>(
-    scene: &Scene,
-    gate: &G,
-    worker: usize,
-    turn: usize,
-    pile: Pile,
-) -> Result<Pile, CrewError>
-    requires { All (IsIslandOf scene.now) pile }
-    ensures { IsSolved G.ALWAYS scene.now pile result }
-{
-    if !gate.pass(worker, turn) {
-        return Err(CrewError::GateShut);
-    }
-    let mut pile = pile;
-    pile.solve(scene);
-    Ok(pile)
-}
 
 /// The scene of a solve, which all workers share, and the islands of one of them.
 #[derive(Drop)]
@@ -54,32 +38,25 @@ impl Model for Share {
     ghost invariant = { λ s. All (IsIslandOf (arc_value s.scene)) s.pile };
 }
 
-/// What the workers of a standing crew do: they pass its gate, and solve their islands.
-#[derive(Drop)]
-pub(crate) struct Solving<G: Gate> {
-    pub(crate) gate: G,
-}
-
-impl<G: Gate> Task for Solving<G> {
+impl Share {
     ghost use Rattle.pf_workers.specs.Solving.{IsSolved};
 
-    type Part = Share;
-
-    type Outcome = Result<Pile, CrewError>;
-
-    ghost is_outcome = { λ share outcome. IsSolved G.ALWAYS share.scene share.islands outcome };
-
-    fn run(&self, worker: usize, turn: usize, part: Share) -> Result<Pile, CrewError> {
-        let Share { scene, pile } = part;
-        work(&scene, &self.gate, worker, turn, pile)
+    /// Passes the gate, and solves the islands.
+    pub(crate) fn solve<G: Gate>(
+        self,
+        gate: &G,
+        worker: usize,
+        turn: usize,
+    ) -> Result<Pile, CrewError>
+        ensures { IsSolved G.ALWAYS self.scene self.islands result }
+    {
+        let Share { scene, pile } = self;
+        solve(&scene, gate, worker, turn, pile)
     }
 
-    fn may_run_here(&self) -> bool {
-        !self.gate.is_watched()
-    }
-
-    fn work_of(part: &Share) -> usize {
-        part.pile.contact_count()
+    /// How many contacts its islands have.
+    pub(crate) fn contact_count(&self) -> usize {
+        self.pile.contact_count()
     }
 }
 
@@ -88,34 +65,35 @@ pub(crate) fn shares_of(
     alloc: Global,
     scene: &Arc<Scene, Global>,
     piles: Vec<Pile>,
-) -> Result<Vec<Share>, AllocError>
+) -> Result<Vec<Part>, AllocError>
     requires { All (All (IsIslandOf (arc_value scene.now))) piles.items }
-    ensures { IfOk result (λ shares. shares.items ≡ map (λ pile. record {
-      scene = arc_value scene.now;
-      islands = pile;
-    })
-        piles.items) }
+    ensures { IfOk result (λ parts. parts.items
+        ≡ map (λ pile. Islands (share (arc_value scene.now) pile)) piles.items) }
 {
-    let mut shares = Vec::with_capacity(alloc, piles.len())?;
+    let mut parts = Vec::with_capacity(alloc, piles.len())?;
     for pile in piles {
         let scene = Arc::try_clone(scene)?;
-        shares.push(Share { scene, pile })?;
+        parts.push(Part::Islands(Share { scene, pile }))?;
     }
-    Ok(shares)
+    Ok(parts)
 }
 
 /// The piles of workers that have all solved theirs, or the error of the least that did not.
-pub(crate) fn piles_of(
+pub(crate) fn piles_of<G: Gate>(
     alloc: Global,
-    outcomes: Vec<Result<Pile, CrewError>>,
+    outcomes: Vec<Outcome>,
 ) -> Result<Vec<Pile>, CrewError>
-    ensures piles { IfOk result (λ piles. map Ok piles.items ≡ outcomes.items) }
-    ensures failed { (always : Bool) → All (λ outcome. IfErr outcome (IsStandingError always)) outcomes.items
-        → IfErr result (IsStandingError always) }
+    requires { All (IsSolving G.ALWAYS) outcomes.items }
+    ensures piles { IfOk result
+        (λ piles. map (λ pile. Solved (Ok pile)) piles.items ≡ outcomes.items) }
+    ensures failed { IfErr result (IsStandingError G.ALWAYS) }
 {
     let mut piles = Vec::with_capacity(alloc, outcomes.len())?;
     for outcome in outcomes {
-        piles.push(outcome?)?;
+        match outcome {
+            Outcome::Solved(pile) => piles.push(pile?)?,
+            Outcome::Found(_) => unreachable!(),
+        }
     }
     Ok(piles)
 }

@@ -1,12 +1,14 @@
 //! A crew whose workers are started once.
 
-ghost use Rattle.std.specs.Prelude.{◌≡◌};
+ghost use Rattle.std.specs.Prelude.{◌≡◌, IfOk, replicate, true};
 ghost use Rattle.pf_workers.specs.Crew.{crew_error};
 
 use crate::MAX_WORKERS;
+use crate::colliding::StandingCollider;
 use crate::gate::Gate;
 use crate::pile::{Pile, contact_count, deal, empty_piles, gather};
-use crate::solving::{Solving, piles_of, shares_of};
+use crate::solving::{piles_of, shares_of};
+use crate::work::Work;
 use pf_islands::Island;
 use pf_pool::{Pool, PoolError};
 use pf_shapes::Scene;
@@ -27,7 +29,7 @@ fn is_little(islands: &[Island]) -> bool {
 }
 
 /// The error of a crew whose pool failed.
-pub(crate) fn crew_error(error: PoolError) -> CrewError
+fn crew_error(error: PoolError) -> CrewError
     ensures { result ≡ crew_error error }
 {
     match error {
@@ -35,6 +37,17 @@ pub(crate) fn crew_error(error: PoolError) -> CrewError
         PoolError::NoThread => CrewError::NoThread,
         PoolError::WorkerLost => CrewError::CrewLost,
     }
+}
+
+/// For each worker that it is there.
+fn all_there(alloc: Global, workers: usize) -> Result<Vec<bool>, AllocError>
+    ensures { IfOk result (λ there. there.items ≡ replicate workers true) }
+{
+    let mut there = Vec::with_capacity(alloc, workers)?;
+    for _made in 0..workers {
+        there.push(true)?;
+    }
+    Ok(there)
 }
 
 /// A crew that starts its workers once. In a solve each is sent one message, with its islands and the
@@ -46,7 +59,9 @@ pub(crate) fn crew_error(error: PoolError) -> CrewError
 #[derive(Drop)]
 pub struct StandingCrew<R, G: Gate> {
     alloc: Global,
-    pool: Pool<R, Solving<G>>,
+    pool: Arc<Pool<R, Work<G>>, Global>,
+    /// For each worker whether it was not dismissed.
+    there: Vec<bool>,
     /// The scene of the last solve.
     scene: Option<Arc<Scene, Global>>,
     /// The memory for the piles of the next solve.
@@ -57,15 +72,17 @@ pub struct StandingCrew<R, G: Gate> {
 
 impl<R, G: Gate> Model for StandingCrew<R, G> {
     ghost use Rattle.std.specs.Prelude.{◌≡◌, ◌<◌, ◌≤◌, [], All, length};
+    ghost use Rattle.std.specs.Arc.{arc_value};
     ghost use Rattle.pf_workers.specs.Crew.{StandingCrew};
     ghost use Rattle.pf_pool.specs.declared.pool.TheConstants.{MAX_WORKERS};
 
     ghost Value = { StandingCrew };
 
-    ghost view = { λ c. record { workers = c.pool; turn = c.turn; lost = c.lost } };
+    ghost view = { λ c. record { workers = c.there.items; turn = c.turn; lost = c.lost } };
 
-    ghost invariant = { λ c. (0 < length c.pool)
-        × (length c.pool ≤ MAX_WORKERS) × All (λ pile. pile ≡ []) c.piles.items };
+    ghost invariant = { λ c. (length c.there.items ≡ arc_value c.pool)
+        × (0 < length c.there.items) × (length c.there.items ≤ MAX_WORKERS)
+        × All (λ pile. pile ≡ []) c.piles.items };
 }
 
 impl<R: Wait, G: Gate> StandingCrew<R, G> {
@@ -90,20 +107,27 @@ impl<R: Wait, G: Gate> StandingCrew<R, G> {
         ensures crew { IfOk result (λ crew. crew ≡ new_crew workers) }
         ensures failed { IfErr result IsStartError }
     {
-        match Pool::new(rt, alloc, workers, Solving { gate }) {
-            Ok(pool) => Ok(StandingCrew {
-                alloc,
-                pool,
-                scene: None,
-                piles: Vec::new(alloc),
-                turn: 0,
-                lost: false,
-            }),
-            Err(error) => Err(crew_error(error)),
-        }
+        let pool = match Pool::new(rt, alloc, workers, Work { alloc, gate }) {
+            Ok(pool) => Arc::new(alloc, pool)?,
+            Err(error) => return Err(crew_error(error)),
+        };
+        Ok(StandingCrew {
+            alloc,
+            pool,
+            there: all_there(alloc, workers)?,
+            scene: None,
+            piles: Vec::new(alloc),
+            turn: 0,
+            lost: false,
+        })
     }
 
-    /// Closes the channels of all workers, and joins them. It may wait.
+    /// A collider whose workers are those of this crew.
+    pub fn collider(&self) -> Result<StandingCollider<R, G>, AllocError> {
+        Ok(StandingCollider::new(Arc::try_clone(&self.pool)?))
+    }
+
+    /// Tells all workers to end, and joins them. A collider of theirs then computes alone. It may wait.
     pub fn close(self)
     where
         R: Threads + Copy,
@@ -120,7 +144,20 @@ impl<R: Wait, G: Gate> StandingCrew<R, G> {
         requires { worker < length self.old.workers }
         ensures { self.new ≡ record self.old { workers = slice_set self.old.workers worker false } }
     {
+        self.there[worker] = false;
         self.pool.dismiss(worker);
+    }
+
+    /// Whether no worker was dismissed.
+    fn has_all_workers(&self) -> bool
+        ensures { IsTrue result → HasAllWorkers self.now }
+    {
+        for number in 0..self.there.len() {
+            if !self.there[number] {
+                return false;
+            }
+        }
+        true
     }
 
     /// The scene of a solve, as the workers share it: the kept one, or a copy, if that is another.
@@ -160,12 +197,8 @@ impl<R: Wait, G: Gate> StandingCrew<R, G> {
         requires { All (IsIslandOf scene.now) islands.items }
         ensures solved { IfOk result
             (λ solved. solved.items ≡ map (island_after_tick scene.now) islands.items) }
-        ensures there { OnOk result (HasAllWorkers self.now) }
         ensures failed { IfErr result (IsStandingError G.ALWAYS) }
     {
-        if !self.pool.has_all_workers() {
-            return Err(CrewError::CrewLost);
-        }
         if !self.pass_for_all(turn) {
             return Err(CrewError::GateShut);
         }
@@ -180,14 +213,13 @@ impl<R: Wait, G: Gate> StandingCrew<R, G> {
         requires islands { All (All (IsIslandOf scene.now)) piles.items }
         ensures solved { IfOk result
             (λ solved. solved.items ≡ map (map (island_after_tick scene.now)) piles.items) }
-        ensures there { OnOk result (HasAllWorkers self.old) }
         ensures same { self.new ≡ self.old }
         ensures failed { IfErr result (IsStandingError G.ALWAYS) }
     {
         let shared = self.shared_scene(scene)?;
         let shares = shares_of(self.alloc, &shared, piles)?;
         match self.pool.run(turn, shares) {
-            Ok(outcomes) => piles_of(self.alloc, outcomes),
+            Ok(outcomes) => piles_of::<G>(self.alloc, outcomes),
             Err(error) => Err(crew_error(error)),
         }
     }
@@ -217,7 +249,6 @@ impl<R: Wait, G: Gate> StandingCrew<R, G> {
         ensures solved { IfOk result
             (λ solved. solved.items ≡ map (island_after_tick scene.now) islands.items) }
         ensures same { self.new ≡ self.old }
-        ensures there { OnOk result (HasAllWorkers self.old) }
         ensures failed { IfErr result (IsStandingError G.ALWAYS) }
     {
         let mut islands = islands;
@@ -243,6 +274,9 @@ impl<R: Wait, G: Gate> StandingCrew<R, G> {
         ensures there { OnOk result (HasAllWorkers self.old) }
         ensures failed { IfErr result (IsStandingError G.ALWAYS) }
     {
+        if !self.has_all_workers() {
+            return Err(CrewError::CrewLost);
+        }
         if is_little(&islands) && !self.pool.task().gate.is_watched() {
             return self.solve_here(scene, islands, turn);
         }

@@ -1,4 +1,5 @@
-use Rattle.std.proofs.Common.{◌≡◌, refl, Ok, Err, inl, map, subst}
+use Rattle.std.proofs.Common.{◌≡◌, ◌∙◌, ap, sym, refl, Ok, Err, inl, map, subst}
+use Rattle.std.specs.Prelude.{option_map}
 use Rattle.std.proofs.lemmas.Result.{err_from_is_err_and}
 use Rattle.pf_console.specs.declared.fault.PlayFault.TheVariants.{Crew}
 use Rattle.clap.specs.Words.{fault_of, subcommand_of}
@@ -30,7 +31,6 @@ returns-clause-plays g c =
           c.as_slice.ensures.value c.in_ok-request.ensures.parses);
       does = inl c.perform-outcome.ensures.done;
       crew = λ error is.
-          let fails = c.perform-outcome.ensures.crew error is in
-          let can = fails.1 in
-          (wants c.in_ok-request.request c.in_ok-crew.crew c.in_ok-crew.ensures.crew fails.0, (error, refl, never_shut can.0 can.2 error can.3));
+          let can = c.perform-outcome.ensures.crew error is in
+          (wants c.in_ok-request.request _ (sym (ap (option_map (λ w. w.crew)) c.in-Some.is) ∙ c.in_ok-workers.ensures.crew), (error, refl, never_shut can.0 can.2 error can.3));
     }

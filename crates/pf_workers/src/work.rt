@@ -1,0 +1,90 @@
+//! What the workers of a pool do: they solve islands, and compute contact points.
+
+ghost use Rattle.std.specs.Prelude.{All};
+ghost use Rattle.pf_islands.specs.Split.{IsIslandOf};
+ghost use Rattle.pf_workers.specs.Solving.{IsSolved};
+
+use crate::colliding::Chunk;
+use crate::gate::Gate;
+use crate::pile::Pile;
+use crate::solving::Share;
+use pf_manifold::Touch;
+use pf_pool::Task;
+use pf_shapes::Scene;
+use pf_step::CrewError;
+use std::alloc::{AllocError, Global};
+
+/// Passes the gate, and solves the islands of a worker.
+pub(crate) fn solve<G: Gate>(
+    scene: &Scene,
+    gate: &G,
+    worker: usize,
+    turn: usize,
+    pile: Pile,
+) -> Result<Pile, CrewError>
+    requires { All (IsIslandOf scene.now) pile }
+    ensures { IsSolved G.ALWAYS scene.now pile result }
+{
+    if !gate.pass(worker, turn) {
+        return Err(CrewError::GateShut);
+    }
+    let mut pile = pile;
+    pile.solve(scene);
+    Ok(pile)
+}
+
+/// What a worker is asked.
+#[derive(Drop)]
+pub(crate) enum Part {
+    /// To solve islands.
+    Islands(Share),
+    /// To compute the contact points of pairs.
+    Pairs(Chunk),
+}
+
+/// What it answers.
+#[derive(Drop)]
+pub(crate) enum Outcome {
+    /// The islands after a tick, or that the gate was shut.
+    Solved(Result<Pile, CrewError>),
+    /// The contact points.
+    Found(Result<Vec<Touch>, AllocError>),
+}
+
+/// The work of a crew with this gate.
+#[derive(Drop)]
+pub(crate) struct Work<G: Gate> {
+    pub(crate) alloc: Global,
+    pub(crate) gate: G,
+}
+
+impl<G: Gate> Task for Work<G> {
+    ghost use Rattle.pf_workers.specs.Work.{IsOutcome};
+
+    type Part = Part;
+
+    type Outcome = Outcome;
+
+    ghost is_outcome = { IsOutcome G.ALWAYS };
+
+    fn run(&self, worker: usize, turn: usize, part: Part) -> Outcome {
+        match part {
+            Part::Islands(share) => Outcome::Solved(share.solve(&self.gate, worker, turn)),
+            Part::Pairs(chunk) => Outcome::Found(chunk.collide(self.alloc)),
+        }
+    }
+
+    fn may_run_here(&self, part: &Part) -> bool {
+        match part {
+            Part::Islands(_) => !self.gate.is_watched(),
+            Part::Pairs(_) => true,
+        }
+    }
+
+    fn work_of(part: &Part) -> usize {
+        match part {
+            Part::Islands(share) => share.contact_count(),
+            Part::Pairs(chunk) => chunk.len(),
+        }
+    }
+}
