@@ -79,6 +79,15 @@ fn crew_error(name: &str) -> Result<CrewError> {
     })
 }
 
+/// In which call a crew fails, and with which error, if it is to fail.
+fn failure_of(words: &[&str]) -> Result<Option<(u64, CrewError)>> {
+    Ok(match words {
+        [] => None,
+        [nth, error] => Some((u64::from(number(nth)?), crew_error(error)?)),
+        _ => bail!("no such failure"),
+    })
+}
+
 /// The call that words encode, of which the second is the number of the peer.
 fn call_of(alloc: Global, words: &[&str]) -> Result<Call> {
     Ok(match words {
@@ -99,9 +108,8 @@ fn call_of(alloc: Global, words: &[&str]) -> Result<Call> {
             other: number(other)? as usize,
         },
         ["settle", _] => Call::Settle,
-        ["crew", _] => Call::SettleWith { failure: None },
-        ["crew", _, nth, error] => Call::SettleWith {
-            failure: Some((u64::from(number(nth)?), crew_error(error)?)),
+        ["crew", _, failure @ ..] => Call::SettleWith {
+            failure: failure_of(failure)?,
         },
         ["crews", _, life, workers, gate @ ..] => Call::Crews {
             plan: plan_of(life, workers, gate)?,

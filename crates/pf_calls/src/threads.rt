@@ -10,7 +10,7 @@ use pf_islands::Island;
 use pf_rollback::PeerCore;
 use pf_shapes::Scene;
 use pf_step::{Crew, CrewError, StepError};
-use pf_workers::{Gate, MAX_WORKERS, OpenGate, ScopedCrew, StandingCrew};
+use pf_workers::{Gate, MAX_WORKERS, OpenGate, ScopedCrew, StandingCollider, StandingCrew};
 use std::alloc::{AllocError, Global};
 use std::sync::{Arc, Wait};
 use std::thread::Threads;
@@ -32,18 +32,25 @@ impl<'r, R: Threads + Wait, const IS_OPEN: bool> Crew for Scoped<'r, R, IS_OPEN>
     }
 }
 
-/// A crew whose workers are started once.
+/// A crew whose workers are started once, and how many it has.
 #[derive(Drop)]
-pub struct Standing<R, G: Gate> {
+struct Counted<R, G: Gate> {
     crew: StandingCrew<R, G>,
     workers: usize,
     ghost counted: { length crew.workers ≡ workers },
 }
 
-impl<R: Wait, G: Gate> Crew for Standing<R, G> {
+impl<R: Wait, G: Gate> Crew for Counted<R, G> {
     fn solve(&mut self, scene: &Scene, islands: Vec<Island>) -> Result<Vec<Island>, CrewError> {
         self.crew.solve(scene, islands)
     }
+}
+
+/// Such a crew, and a collider whose workers are the crew's.
+#[derive(Drop)]
+pub struct Standing<R, G: Gate> {
+    crew: Counted<R, G>,
+    collider: StandingCollider<R, G>,
 }
 
 impl<R: Handle, G: Gate + Send + Sync + Drop + 'static> Standing<R, G> {
@@ -51,18 +58,25 @@ impl<R: Handle, G: Gate + Send + Sync + Drop + 'static> Standing<R, G> {
         requires { (0 < workers) × (workers ≤ MAX_WORKERS) }
     {
         let crew = StandingCrew::new(*rt, alloc, workers, gate)?;
-        Ok(Standing { crew, workers })
+        let collider = crew.collider()?;
+        let crew = Counted { crew, workers };
+        Ok(Standing { crew, collider })
+    }
+
+    /// Settles a peer.
+    fn settle(&mut self, alloc: Global, peer: &mut PeerCore) -> Result<u32, StepError> {
+        peer.settle_by(&self.collider, alloc, &mut self.crew)
     }
 
     /// Ends a worker, if there is one of this number.
     fn dismiss(&mut self, worker: usize) {
-        if worker < self.workers {
-            self.crew.dismiss(worker);
+        if worker < self.crew.workers {
+            self.crew.crew.dismiss(worker);
         }
     }
 
     fn close(self) {
-        let Standing { crew, workers: _ } = self;
+        let Counted { crew, workers: _ } = self.crew;
         crew.close();
     }
 }
@@ -146,9 +160,9 @@ impl<'r, R: Handle> ThreadCrew<'r, R> {
             Kind::Scoped(crew) => peer.settle_with(rt, alloc, crew),
             Kind::ScopedTrial(crew) => peer.settle_with(rt, alloc, crew),
             Kind::ScopedCounting(crew) => peer.settle_with(rt, alloc, crew),
-            Kind::Standing(crew) => peer.settle_with(rt, alloc, crew),
-            Kind::StandingTrial(crew) => peer.settle_with(rt, alloc, crew),
-            Kind::StandingCounting(crew) => peer.settle_with(rt, alloc, crew),
+            Kind::Standing(crew) => crew.settle(alloc, peer),
+            Kind::StandingTrial(crew) => crew.settle(alloc, peer),
+            Kind::StandingCounting(crew) => crew.settle(alloc, peer),
         }
     }
 
