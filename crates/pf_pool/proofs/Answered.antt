@@ -1,5 +1,5 @@
 -- What the workers of a pool are asked, and what their answers are together.
-use Rattle.std.proofs.Common.{◌≡◌, ◌∙◌, ◌<◌, List, Option, None, Some, map, length, get_or, ap, subst, sym, arith}
+use Rattle.std.proofs.Common.{◌≡◌, ◌∙◌, ℕ, ◌<◌, List, Option, None, Some, map, length, get_or, ap, subst, sym, arith, ◌≤◌, Bool, true, false}
 use Rattle.std.proofs.lemmas.Bool.{true≢false}
 use Rattle.std.proofs.lemmas.List.{get_or-map, length-map}
 use Rattle.std.specs.Prelude.{All, IfSome, IsNone, IsSome}
@@ -8,6 +8,11 @@ use Rattle.pf_pool.specs.Reply.{IsOutcomeOf}
 use Rattle.pf_pool.specs.Slots.{AreAnswers, HaveAnswered}
 use Rattle.pf_pool.specs.declared.reply.Dealt.{Dealt}
 use Rattle.pf_pool.proofs.Lists.{default_same}
+
+-- a pool whose workers were found there one by one has them all
+pub all_there : (workers : List Bool) (n : ℕ) → length workers ≤ n
+    → ((i : ℕ) → i < n → get_or workers i false ≡ true) → All (λ there. there ≡ true) workers
+all_there workers n long there i d low = default_same workers i d false low ∙ there i (omega (arith, low, long))
 
 -- what holds of the workers from the first on holds of all
 pub have_all : {O : Type 0} (slots : List (Option O)) → HaveAnswered 0 slots → All IsSome slots

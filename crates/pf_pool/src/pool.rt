@@ -5,7 +5,7 @@ use crate::reply::{Collector, Dealt, Replier};
 use crate::slots::{accept, all_answers, have_answered, no_answers};
 use crate::task::Task;
 use crate::worker::{Job, Worker, start};
-use std::alloc::Global;
+use std::alloc::{AllocError, Global};
 use std::marker::Model;
 use std::snapshot::Snapshot;
 use std::sync::{Arc, Wait};
@@ -16,9 +16,9 @@ pub const MAX_WORKERS: usize = 16;
 
 /// Workers, each with a thread of its own, that are started once. In a turn each is sent one message,
 /// with its part, and sends one answer, with what it made of it. The caller may do the greatest part
-/// itself, while the others work. A worker that is told to end leaves the pool without it.
+/// itself, while the others work.
 ///
-/// Contracts see how many workers were started.
+/// Contracts see which workers there still are.
 #[derive(Drop)]
 pub struct Pool<R, T: Task> {
     rt: R,
@@ -28,12 +28,12 @@ pub struct Pool<R, T: Task> {
 }
 
 impl<R, T: Task> Model for Pool<R, T> {
-    ghost use Rattle.std.specs.Prelude.{◌<◌, ◌≤◌, ℕ, length};
+    ghost use Rattle.std.specs.Prelude.{◌<◌, ◌≤◌, Bool, List, length};
     ghost use Rattle.pf_pool.specs.declared.pool.TheConstants.{MAX_WORKERS};
 
-    ghost Value = { ℕ };
+    ghost Value = { List Bool };
 
-    ghost view = { λ p. length p.workers.items };
+    ghost view = { λ p. p.workers.items };
 
     ghost invariant = { λ p. (0 < length p.workers.items) × (length p.workers.items ≤ MAX_WORKERS) };
 }
@@ -53,9 +53,9 @@ fn greatest<T: Task>(parts: &[T::Part]) -> usize {
 }
 
 impl<R: Wait, T: Task> Pool<R, T> {
-    ghost use Rattle.std.specs.Prelude.{◌≡◌, ◌<◌, ◌≤◌, IfErr, IfOk, OnOk, Some, length};
+    ghost use Rattle.std.specs.Prelude.{◌≡◌, ◌<◌, ◌≤◌, IfErr, IfOk, IsFalse, IsTrue, OnOk, Some, false, length, replicate, slice_set, true};
     ghost use Rattle.pf_pool.specs.Known.{known_to};
-    ghost use Rattle.pf_pool.specs.Pool.{AreOutcomes, IsRunError, IsStartError};
+    ghost use Rattle.pf_pool.specs.Pool.{AreOutcomes, HasAllWorkers, IsRunError, IsStartError};
     ghost use Rattle.pf_pool.specs.Reply.{WereDealt};
     ghost use Rattle.pf_pool.specs.Slots.{AreAnswers, HaveAnswered};
     ghost use Rattle.pf_pool.specs.declared.error.PoolError.TheVariants.{WorkerLost};
@@ -70,7 +70,7 @@ impl<R: Wait, T: Task> Pool<R, T> {
         T::Part: 'static,
         T::Outcome: 'static,
         requires { (0 < workers) × (workers ≤ MAX_WORKERS) }
-        ensures pool { IfOk result (λ pool. pool ≡ workers) }
+        ensures pool { IfOk result (λ pool. pool ≡ replicate workers true) }
         ensures failed { IfErr result IsStartError }
     {
         let task = Arc::new(alloc, task)?;
@@ -90,29 +90,65 @@ impl<R: Wait, T: Task> Pool<R, T> {
 
     /// How many workers were started.
     pub fn size(&self) -> usize
-        ensures value { result ≡ self.now }
+        ensures value { result ≡ length self.now }
         ensures some { 0 < result }
     {
         self.workers.len()
     }
 
-    /// Tells all workers to end, and joins them. It may wait.
-    pub fn close(&self)
-    where
-        R: Threads,
+    /// Whether no worker was dismissed.
+    pub fn has_all_workers(&self) -> bool
+        ensures all { IsTrue result → HasAllWorkers self.now }
+        ensures lost { IsFalse result → HasAllWorkers self.now → ⊥ }
     {
+        for number in 0..self.workers.len() {
+            if !self.workers[number].is_there() {
+                return false;
+            }
+        }
+        true
+    }
+
+    /// A pool of the same workers, which it does not join. Where this pool dismisses one, or is
+    /// closed, the other finds it lost.
+    pub fn another(&self) -> Result<Pool<R, T>, AllocError>
+    where
+        R: Copy,
+        ensures { IfOk result (λ other. other ≡ self.now) }
+    {
+        let mut workers = Vec::with_capacity(self.alloc, self.workers.len())?;
         for worker in &self.workers {
-            worker.end(&self.rt);
+            workers.push(worker.another()?)?;
+        }
+        Ok(Pool {
+            rt: self.rt,
+            alloc: self.alloc,
+            task: Arc::try_clone(&self.task)?,
+            workers,
+        })
+    }
+
+    /// Tells all workers to end, and joins them. It may wait.
+    pub fn close(self)
+    where
+        R: Threads + Copy,
+        T: Drop,
+    {
+        let mut workers = self.workers;
+        for worker in workers.iter_mut() {
+            worker.dismiss(&self.rt);
         }
     }
 
-    /// Tells a worker to end, and joins it. Does nothing if that was done before. It may wait.
-    pub fn dismiss(&self, worker: usize)
+    /// Tells a worker to end, and joins it. Does nothing if that was done before. From then on no
+    /// work succeeds. It may wait.
+    pub fn dismiss(&mut self, worker: usize)
     where
         R: Threads,
-        requires { worker < self.now }
+        requires { worker < length self.old }
+        ensures { self.new ≡ slice_set self.old worker false }
     {
-        self.workers[worker].end(&self.rt);
+        self.workers[worker].dismiss(&self.rt);
     }
 
     /// Asks one worker after the other to do its part, from the last to the first, up to the first
@@ -126,9 +162,10 @@ impl<R: Wait, T: Task> Pool<R, T> {
         held: &mut Option<Job<T>>,
     ) -> (usize, Result<(), PoolError>)
         requires dealt { WereDealt (known_to replier) parts.items }
-        requires count { length parts.items ≡ self.now }
-        ensures asked { result.0 ≤ self.now }
+        requires count { length parts.items ≡ length self.now }
+        ensures asked { result.0 ≤ length self.now }
         ensures all { OnOk result.1 (result.0 ≡ 0) }
+        ensures there { OnOk result.1 (HasAllWorkers self.now) }
         ensures failed { IfErr result.1 IsRunError }
     {
         let mut parts = parts;
@@ -137,12 +174,13 @@ impl<R: Wait, T: Task> Pool<R, T> {
         while let Some(part) = parts.pop() {
             let worker = parts.len();
             let is_held = worker == greatest && self.task.may_run_here(&part);
-            let Ok(job) = Job::new(turn, worker, part, &mut replier) else {
-                return (worker + 1, Err(PoolError::OutOfMemory));
+            let own = &self.workers[worker];
+            let asked = match Job::new(turn, worker, part, &mut replier) {
+                Ok(job) if is_held => own.hold(job, held),
+                Ok(job) => own.ask(&self.rt, job),
+                Err(_) => Err(PoolError::OutOfMemory),
             };
-            if is_held {
-                *held = Some(job);
-            } else if let Err(error) = self.workers[worker].ask(&self.rt, job) {
+            if let Err(error) = asked {
                 return (worker + 1, Err(error));
             }
         }
@@ -158,9 +196,10 @@ impl<R: Wait, T: Task> Pool<R, T> {
         replier: Replier<T>,
     ) -> (usize, Result<(), PoolError>)
         requires dealt { WereDealt (known_to replier) parts.items }
-        requires count { length parts.items ≡ self.now }
-        ensures asked { result.0 ≤ self.now }
+        requires count { length parts.items ≡ length self.now }
+        ensures asked { result.0 ≤ length self.now }
         ensures all { OnOk result.1 (result.0 ≡ 0) }
+        ensures there { OnOk result.1 (HasAllWorkers self.now) }
         ensures failed { IfErr result.1 IsRunError }
     {
         let mut held = None;
@@ -219,9 +258,10 @@ impl<R: Wait, T: Task> Pool<R, T> {
     /// of part k. Returns an error where it is out of memory or a worker is lost; the parts are gone
     /// then. It may wait.
     pub fn run(&self, turn: usize, parts: Vec<T::Part>) -> Result<Vec<T::Outcome>, PoolError>
-        requires { length parts.items ≡ self.now }
+        requires { length parts.items ≡ length self.now }
         ensures outcomes { IfOk result
             (λ outcomes. AreOutcomes T.is_outcome parts.items outcomes.items) }
+        ensures there { OnOk result (HasAllWorkers self.now) }
         ensures failed { IfErr result IsRunError }
     {
         let slots = no_answers(self.alloc, self.workers.len())?;

@@ -1,6 +1,6 @@
 //! The workers of a pool, and their threads.
 
-ghost use Rattle.std.specs.Prelude.{◌≡◌, IfErr, IfOk, length};
+ghost use Rattle.std.specs.Prelude.{◌≡◌, IfErr, IfOk, replicate, true};
 ghost use Rattle.pf_pool.specs.Known.{known_to};
 ghost use Rattle.pf_pool.specs.Pool.{IsStartError};
 ghost use Rattle.pf_pool.specs.Reply.{WasDealt};
@@ -11,7 +11,7 @@ use crate::reply::Replier;
 use crate::task::Task;
 use crossbeam_channel::{Receiver, SendError, Sender, TryRecvError};
 use std::alloc::{AllocError, Global};
-use std::cell::Cell;
+use std::marker::Model;
 use std::sync::{Arc, Wait};
 use std::thread::{JoinHandle, Threads};
 use std::{hint, thread};
@@ -111,32 +111,82 @@ where
     }
 }
 
-/// A worker: the channel of its jobs, and its thread, unless that was joined.
+/// A worker: the channel of its jobs, and its thread, if it is this pool that joins it. A worker that
+/// was dismissed has neither.
+///
+/// Contracts see whether it has its channel.
 #[derive(Drop)]
 pub(crate) struct Worker<T: Task> {
-    jobs: Sender<Option<Job<T>>, Global>,
-    thread: Cell<Option<JoinHandle<()>>>,
+    jobs: Option<Sender<Option<Job<T>>, Global>>,
+    thread: Option<JoinHandle<()>>,
+}
+
+impl<T: Task> Model for Worker<T> {
+    ghost use Rattle.std.specs.Prelude.{Bool, is_some};
+
+    ghost Value = { Bool };
+
+    ghost view = { λ w. is_some w.jobs };
 }
 
 impl<T: Task> Worker<T> {
-    ghost use Rattle.std.specs.Prelude.{IfErr};
+    ghost use Rattle.std.specs.Prelude.{◌≡◌, true, false, IfErr, IfOk, OnOk};
     ghost use Rattle.pf_pool.specs.Pool.{IsRunError};
 
-    /// Sends a job. Returns an error if the thread has ended.
-    pub(crate) fn ask<R: Wait>(&self, rt: &R, job: Job<T>) -> Result<(), PoolError>
-        ensures { IfErr result IsRunError }
+    /// Whether it was not dismissed.
+    pub(crate) fn is_there(&self) -> bool
+        ensures { result ≡ self.now }
     {
-        match self.jobs.send(rt, Some(job)) {
+        self.jobs.is_some()
+    }
+
+    /// The same worker for another pool, which does not join its thread.
+    pub(crate) fn another(&self) -> Result<Worker<T>, AllocError>
+        ensures { IfOk result (λ other. other ≡ self.now) }
+    {
+        let jobs = match &self.jobs {
+            Some(jobs) => Some(jobs.clone()?),
+            None => None,
+        };
+        Ok(Worker { jobs, thread: None })
+    }
+
+    /// Sends a job. Returns an error if the worker was dismissed, or its thread has ended.
+    pub(crate) fn ask<R: Wait>(&self, rt: &R, job: Job<T>) -> Result<(), PoolError>
+        ensures there { OnOk result (self.now ≡ true) }
+        ensures failed { IfErr result IsRunError }
+    {
+        let Some(jobs) = &self.jobs else {
+            return Err(PoolError::WorkerLost);
+        };
+        match jobs.send(rt, Some(job)) {
             Ok(()) => Ok(()),
             Err(SendError::OutOfMemory(_)) => Err(PoolError::OutOfMemory),
             Err(SendError::Disconnected(_)) => Err(PoolError::WorkerLost),
         }
     }
 
-    /// Tells the thread to end, and joins it. Does nothing if that was done before.
-    pub(crate) fn end<R: Threads + Wait>(&self, rt: &R) {
+    /// Holds a job back, which the caller will do in its place. Returns an error if the worker was
+    /// dismissed.
+    pub(crate) fn hold(&self, job: Job<T>, held: &mut Option<Job<T>>) -> Result<(), PoolError>
+        ensures there { OnOk result (self.now ≡ true) }
+        ensures failed { IfErr result IsRunError }
+    {
+        if !self.is_there() {
+            return Err(PoolError::WorkerLost);
+        }
+        *held = Some(job);
+        Ok(())
+    }
+
+    /// Tells its thread to end, whichever pool joins it, and joins it if that is this one.
+    pub(crate) fn dismiss<R: Threads + Wait>(&mut self, rt: &R)
+        ensures { self.new ≡ false }
+    {
+        if let Some(jobs) = self.jobs.take() {
+            let _ = jobs.send(rt, None);
+        }
         if let Some(thread) = self.thread.take() {
-            let _ = self.jobs.send(rt, None);
             thread.join(rt);
         }
     }
@@ -154,7 +204,7 @@ where
     T: Task + Send + Sync + Drop + 'static,
     T::Part: 'static,
     T::Outcome: 'static,
-    ensures count { IfOk result (λ workers. length workers.items ≡ count) }
+    ensures there { IfOk result (λ workers. workers.items ≡ replicate count true) }
     ensures failed { IfErr result IsStartError }
 {
     let mut workers = Vec::with_capacity(alloc, count)?;
@@ -162,8 +212,8 @@ where
         let (jobs, received) = crossbeam_channel::bounded(alloc, 1)?;
         let thread = start_thread(rt, Arc::try_clone(task)?, received)?;
         workers.push(Worker {
-            jobs,
-            thread: Cell::new(Some(thread)),
+            jobs: Some(jobs),
+            thread: Some(thread),
         })?;
     }
     Ok(workers)

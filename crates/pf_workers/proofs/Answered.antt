@@ -1,5 +1,5 @@
 -- What the answers of all workers are together.
-use Rattle.std.proofs.Common.{◌≡◌, ◌∙◌, ℕ, suc, ◌<◌, ◌≤◌, Bool, true, false, List, [], ◌∷◌, Result, Ok, Err, IfErr, map, length, get_or, refl, ap, ap₂, sym, arith, subst}
+use Rattle.std.proofs.Common.{◌≡◌, ◌∙◌, ℕ, suc, ◌<◌, Bool, List, [], ◌∷◌, Result, Ok, Err, IfErr, map, length, get_or, refl, ap, ap₂, sym, arith, subst}
 use Rattle.std.proofs.lemmas.List.{get_or-map, length-map}
 use Rattle.std.specs.Prelude.{All}
 use Rattle.pf_shapes.specs.Scene.{Scene}
@@ -8,18 +8,12 @@ use Rattle.pf_pool.specs.Pool.{AreOutcomes}
 use Rattle.pf_solver.specs.Alone.{island_after_tick}
 use Rattle.pf_step.specs.declared.crew.CrewError.{CrewError}
 use Rattle.pf_workers.specs.Crew.{IsStandingError}
-use Rattle.pf_pool.proofs.Lists.{default_same}
 use Rattle.pf_workers.specs.Solving.{IsSolved, share}
 use Rattle.pf_workers.specs.Work.{IsOutcome, IsSolving}
 use Rattle.pf_workers.specs.declared.work.Outcome.{Outcome}
 use Rattle.pf_workers.specs.declared.work.Outcome.TheVariants.{Solved, Found}
 use Rattle.pf_workers.specs.declared.work.Part.{Part}
 use Rattle.pf_workers.specs.declared.work.Part.TheVariants.{Islands}
-
--- a crew whose workers were found there one by one has them all
-pub all_there : (workers : List Bool) (n : ℕ) → length workers ≤ n
-    → ((i : ℕ) → i < n → get_or workers i false ≡ true) → All (λ there. there ≡ true) workers
-all_there workers n long there i d low = default_same workers i d false low ∙ there i (omega (arith, low, long))
 
 -- a list whose elements are made of those of another is made of it
 made_of : {X Y : Type 0} (f : Y → X) (xs : List X) (ys : List Y) (d : X) (e : Y) → length xs ≡ length ys

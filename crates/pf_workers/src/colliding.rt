@@ -130,12 +130,23 @@ fn joined<G: Gate>(alloc: Global, found: &[Outcome]) -> Result<Vec<Touch>, Alloc
     Ok(all)
 }
 
-/// Standing workers that compute contact points: those of a crew. Nobody passes a gate.
+/// Standing workers that compute contact points: those of a crew, which ends them. Nobody passes a
+/// gate.
+///
+/// Contracts see which workers it has; one that the crew has dismissed is among them.
 #[derive(Drop)]
 pub struct StandingCollider<R, G: Gate> {
-    pool: Arc<Pool<R, Work<G>>, Global>,
+    pool: Pool<R, Work<G>>,
     /// The scene of the last call.
     scene: Cell<Option<Arc<Scene, Global>>>,
+}
+
+impl<R, G: Gate> Model for StandingCollider<R, G> {
+    ghost use Rattle.std.specs.Prelude.{Bool, List};
+
+    ghost Value = { List Bool };
+
+    ghost view = { λ c. c.pool };
 }
 
 impl<R: Wait, G: Gate> StandingCollider<R, G> {
@@ -146,7 +157,9 @@ impl<R: Wait, G: Gate> StandingCollider<R, G> {
     ghost use Rattle.pf_workers.specs.Work.{ArePointsOf};
 
     /// A collider whose workers are those of a pool.
-    pub(crate) fn new(pool: Arc<Pool<R, Work<G>>, Global>) -> StandingCollider<R, G> {
+    pub(crate) fn new(pool: Pool<R, Work<G>>) -> StandingCollider<R, G>
+        ensures { result ≡ pool }
+    {
         StandingCollider {
             pool,
             scene: Cell::new(None),
@@ -175,7 +188,7 @@ impl<R: Wait, G: Gate> StandingCollider<R, G> {
     ) -> Result<Vec<Part>, AllocError>
         requires bodies { length bodies.now ≡ length scene.now.fixtures }
         requires pairs { All (IsPairOf (length bodies.now)) pairs.now }
-        ensures count { IfOk result (λ parts. length parts.items ≡ arc_value self.now.pool) }
+        ensures count { IfOk result (λ parts. length parts.items ≡ length self.now) }
         ensures points { IfOk result
             (λ parts. ArePointsOf parts.items (touches scene.now.fixtures bodies.now pairs.now)) }
     {

@@ -1,6 +1,6 @@
 //! A crew whose workers are started once.
 
-ghost use Rattle.std.specs.Prelude.{◌≡◌, IfOk, replicate, true};
+ghost use Rattle.std.specs.Prelude.{◌≡◌};
 ghost use Rattle.pf_workers.specs.Crew.{crew_error};
 
 use crate::MAX_WORKERS;
@@ -39,17 +39,6 @@ fn crew_error(error: PoolError) -> CrewError
     }
 }
 
-/// For each worker that it is there.
-fn all_there(alloc: Global, workers: usize) -> Result<Vec<bool>, AllocError>
-    ensures { IfOk result (λ there. there.items ≡ replicate workers true) }
-{
-    let mut there = Vec::with_capacity(alloc, workers)?;
-    for _made in 0..workers {
-        there.push(true)?;
-    }
-    Ok(there)
-}
-
 /// A crew that starts its workers once. In a solve each is sent one message, with its islands and the
 /// scene, which all share, and sends one answer, with its islands after a tick. The caller does the
 /// job with the most contacts, while the others work, if nobody watches the gate.
@@ -59,9 +48,7 @@ fn all_there(alloc: Global, workers: usize) -> Result<Vec<bool>, AllocError>
 #[derive(Drop)]
 pub struct StandingCrew<R, G: Gate> {
     alloc: Global,
-    pool: Arc<Pool<R, Work<G>>, Global>,
-    /// For each worker whether it was not dismissed.
-    there: Vec<bool>,
+    pool: Pool<R, Work<G>>,
     /// The scene of the last solve.
     scene: Option<Arc<Scene, Global>>,
     /// The memory for the piles of the next solve.
@@ -72,16 +59,14 @@ pub struct StandingCrew<R, G: Gate> {
 
 impl<R, G: Gate> Model for StandingCrew<R, G> {
     ghost use Rattle.std.specs.Prelude.{◌≡◌, ◌<◌, ◌≤◌, [], All, length};
-    ghost use Rattle.std.specs.Arc.{arc_value};
     ghost use Rattle.pf_workers.specs.Crew.{StandingCrew};
     ghost use Rattle.pf_pool.specs.declared.pool.TheConstants.{MAX_WORKERS};
 
     ghost Value = { StandingCrew };
 
-    ghost view = { λ c. record { workers = c.there.items; turn = c.turn; lost = c.lost } };
+    ghost view = { λ c. record { workers = c.pool; turn = c.turn; lost = c.lost } };
 
-    ghost invariant = { λ c. (length c.there.items ≡ arc_value c.pool)
-        × (0 < length c.there.items) × (length c.there.items ≤ MAX_WORKERS)
+    ghost invariant = { λ c. (0 < length c.pool) × (length c.pool ≤ MAX_WORKERS)
         × All (λ pile. pile ≡ []) c.piles.items };
 }
 
@@ -107,24 +92,26 @@ impl<R: Wait, G: Gate> StandingCrew<R, G> {
         ensures crew { IfOk result (λ crew. crew ≡ new_crew workers) }
         ensures failed { IfErr result IsStartError }
     {
-        let pool = match Pool::new(rt, alloc, workers, Work { alloc, gate }) {
-            Ok(pool) => Arc::new(alloc, pool)?,
-            Err(error) => return Err(crew_error(error)),
-        };
-        Ok(StandingCrew {
-            alloc,
-            pool,
-            there: all_there(alloc, workers)?,
-            scene: None,
-            piles: Vec::new(alloc),
-            turn: 0,
-            lost: false,
-        })
+        match Pool::new(rt, alloc, workers, Work { alloc, gate }) {
+            Ok(pool) => Ok(StandingCrew {
+                alloc,
+                pool,
+                scene: None,
+                piles: Vec::new(alloc),
+                turn: 0,
+                lost: false,
+            }),
+            Err(error) => Err(crew_error(error)),
+        }
     }
 
     /// A collider whose workers are those of this crew.
-    pub fn collider(&self) -> Result<StandingCollider<R, G>, AllocError> {
-        Ok(StandingCollider::new(Arc::try_clone(&self.pool)?))
+    pub fn collider(&self) -> Result<StandingCollider<R, G>, AllocError>
+    where
+        R: Copy,
+        ensures { IfOk result (λ collider. collider ≡ self.now.workers) }
+    {
+        Ok(StandingCollider::new(self.pool.another()?))
     }
 
     /// Tells all workers to end, and joins them. A collider of theirs then computes alone. It may wait.
@@ -144,20 +131,7 @@ impl<R: Wait, G: Gate> StandingCrew<R, G> {
         requires { worker < length self.old.workers }
         ensures { self.new ≡ record self.old { workers = slice_set self.old.workers worker false } }
     {
-        self.there[worker] = false;
         self.pool.dismiss(worker);
-    }
-
-    /// Whether no worker was dismissed.
-    fn has_all_workers(&self) -> bool
-        ensures { IsTrue result → HasAllWorkers self.now }
-    {
-        for number in 0..self.there.len() {
-            if !self.there[number] {
-                return false;
-            }
-        }
-        true
     }
 
     /// The scene of a solve, as the workers share it: the kept one, or a copy, if that is another.
@@ -274,7 +248,7 @@ impl<R: Wait, G: Gate> StandingCrew<R, G> {
         ensures there { OnOk result (HasAllWorkers self.old) }
         ensures failed { IfErr result (IsStandingError G.ALWAYS) }
     {
-        if !self.has_all_workers() {
+        if !self.pool.has_all_workers() {
             return Err(CrewError::CrewLost);
         }
         if is_little(&islands) && !self.pool.task().gate.is_watched() {

@@ -81,13 +81,13 @@ fn a_crew_of_any_size_changes_no_reply(rt: HostRuntime) -> Result<(), Fail> {
 }
 
 /// A scene of so many circles side by side on a floor, settled for four ticks.
-fn circles_on_a_floor(alloc: Global, circles: usize) -> Result<String, AllocError> {
+fn circles_on_a_floor(alloc: Global, circles: u16) -> Result<String, AllocError> {
     let mut text = String::from_str(
         alloc,
         "gravity 0 -167772160\nbox - 0 8388608 3355443200 16777216 0 -16777216 16777216 0\n",
     )?;
     for number in 0..circles {
-        let x = number as i64 * 41_943_040;
+        let x = i64::from(number) * 41_943_040;
         let line = format!(in alloc; "circle 0 16777216 8388608 16777216 {x} 16777216\n")?;
         text.push_str(line.as_str())?;
     }

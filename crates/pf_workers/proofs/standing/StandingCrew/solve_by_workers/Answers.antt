@@ -25,7 +25,6 @@ invariant_of-self g c =
     let many : length islands ≡ c.len-count.result = search rules in (
       c.self.invariant.0,
       c.self.invariant.1,
-      c.self.invariant.2,
       c.in_ok-self-inside.ensures.empty (map f islands) (shares_after f islands _ _ c.in_ok-piles.ensures.shares c.in_ok-solved.ensures.solved)
           (length-map islands f ∙ many),
     )
