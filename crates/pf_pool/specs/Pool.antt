@@ -23,4 +23,5 @@ HasAllWorkers workers = All (λ there. there ≡ true) workers
 abbrev pub AreOutcomes : {P O : Type 0} → (P → O → Type 0) → List P → List O → Type 0
 AreOutcomes {P} {O} IsOutcome parts outcomes =
     (length outcomes ≡ length parts)
-    × ((w : ℕ) (p : P) (o : O) → w < length parts → IsOutcome (slice_index_or parts w p) (slice_index_or outcomes w o))
+    × ((w : ℕ) (p : P) (o : O) → w < length parts
+    → IsOutcome (slice_index_or parts w p) (slice_index_or outcomes w o))

@@ -26,7 +26,8 @@ module _ {P O : Type 0} (IsOutcome : P → O → Type 0) where
 module _ {P : Type 0} where
   -- whoever holds a pass knows what was dealt
   abbrev pub AllKnow : Dealt P → List (Option (Dealt P)) → Type 0
-  AllKnow d views = (pass : ℕ) (view : Option (Dealt P)) → get_elem? views pass ≡ some view → view ≡ Some d
+  AllKnow d views =
+      (pass : ℕ) (view : Option (Dealt P)) → get_elem? views pass ≡ some view → view ≡ Some d
 
   -- if this is known, then these parts were dealt
   abbrev pub WereDealt : Option (Dealt P) → List P → Type 0
@@ -35,10 +36,12 @@ module _ {P : Type 0} where
   -- if this is known, then this part was dealt to this worker
   abbrev pub WasDealt : Option (Dealt P) → ℕ → P → Type 0
   WasDealt known worker part =
-      (d : Dealt P) → known ≡ Some d → (none : P) → slice_index_or d.parts.value.items worker none ≡ part
+      (d : Dealt P) → known ≡ Some d
+      → (none : P) → slice_index_or d.parts.value.items worker none ≡ part
 
--- at first nothing was dealt, and one pass is all there are; then all messages are of one deal
-abbrev pub AreReplies : {P O : Type 0} → (P → O → Type 0) → List (Message P O) → List (Option (Dealt P)) → Type 0
+-- at first nothing was dealt, and there is one pass; then all messages are of one deal
+abbrev pub AreReplies : {P O : Type 0} → (P → O → Type 0) → List (Message P O)
+    → List (Option (Dealt P)) → Type 0
 AreReplies {P} {O} IsOutcome items views =
     ((items ≡ []) × (views ≡ None ∷ []))
     ⊎ ((d : Dealt P) × All (IsReply IsOutcome d) items × AllKnow d views)

@@ -8,6 +8,7 @@ abbrev pub AreAnswers : {P O : Type 0} → (P → O → Type 0) → Dealt P → 
 AreAnswers IsOutcome d slots =
     (w : ℕ) → w < length slots → IfSome (slice_index_or slots w None) (IsOutcomeOf IsOutcome d w)
 
--- all workers from one on have answered
+-- all workers from number `least` on have answered
 abbrev pub HaveAnswered : {O : Type 0} → ℕ → List (Option O) → Type 0
-HaveAnswered least slots = (w : ℕ) → least ≤ w → w < length slots → IsSome (slice_index_or slots w None)
+HaveAnswered least slots =
+    (w : ℕ) → least ≤ w → w < length slots → IsSome (slice_index_or slots w None)

@@ -1,4 +1,4 @@
-//! Why the workers of a pool did not do their parts.
+//! Errors of a pool.
 
 use std::alloc::{AllocError, AllocFailed};
 use thiserror::Error;

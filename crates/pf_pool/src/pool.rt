@@ -14,9 +14,9 @@ use std::thread::Threads;
 /// The most workers that a pool may have.
 pub const MAX_WORKERS: usize = 16;
 
-/// Workers, each with a thread of its own, that are started once. In a turn each is sent one message,
-/// with its part, and sends one answer, with what it made of it. The caller may do the greatest part
-/// itself, while the others work.
+/// Workers, each with a thread of its own, that are started once. In a turn each is sent one
+/// message, with its part, and sends one answer, with what it made of it. The caller may do the
+/// greatest part itself, while the others work; its worker is then sent none.
 ///
 /// Contracts see which workers there still are.
 #[derive(Drop)]
@@ -38,7 +38,7 @@ impl<R, T: Task> Model for Pool<R, T> {
     ghost invariant = { λ p. (0 < length p.workers.items) × (length p.workers.items ≤ MAX_WORKERS) };
 }
 
-/// The part with the most work, and the first of several.
+/// The number of the part with the most work; of several, the first.
 fn greatest<T: Task>(parts: &[T::Part]) -> usize {
     let mut greatest = 0;
     let mut most = 0;
@@ -152,7 +152,7 @@ impl<R: Wait, T: Task> Pool<R, T> {
     }
 
     /// Asks one worker after the other to do its part, from the last to the first, up to the first
-    /// error. Returns which is the least that was asked. The greatest part is held back, if the
+    /// error. Returns from which worker on all were asked. The greatest part is held back, if the
     /// caller may do it.
     fn ask_each(
         &self,
@@ -187,7 +187,7 @@ impl<R: Wait, T: Task> Pool<R, T> {
         (0, Ok(()))
     }
 
-    /// Asks the workers as [`Pool::ask_each`] does it, and does the part that was held back: what it
+    /// Asks the workers, as [`Pool::ask_each`] does, and does the part that was held back: what it
     /// works on stays in the cache of the caller's processor.
     fn ask_all(
         &self,
@@ -210,7 +210,7 @@ impl<R: Wait, T: Task> Pool<R, T> {
         asked
     }
 
-    /// Waits until all workers from one on have answered.
+    /// Waits until all workers from `least` on have answered.
     fn collect(
         &self,
         collector: Collector<T>,
@@ -235,7 +235,7 @@ impl<R: Wait, T: Task> Pool<R, T> {
         Err(PoolError::WorkerLost)
     }
 
-    /// The slots after the workers from one on have answered.
+    /// The slots after all workers from `least` on have answered.
     fn answers(
         &self,
         collector: Collector<T>,
@@ -244,8 +244,8 @@ impl<R: Wait, T: Task> Pool<R, T> {
     ) -> Result<Vec<Option<T::Outcome>>, PoolError>
         requires { least ≤ length slots.items }
         ensures count { IfOk result (λ after. length after.items ≡ length slots.items) }
-        ensures answers { (d : Dealt T.Part) → collector ≡ Some d → AreAnswers T.is_outcome d slots.items
-            → IfOk result (λ after. AreAnswers T.is_outcome d after.items) }
+        ensures answers { (d : Dealt T.Part) → collector ≡ Some d
+            → AreAnswers T.is_outcome d slots.items → IfOk result (λ after. AreAnswers T.is_outcome d after.items) }
         ensures all { IfOk result (λ after. HaveAnswered least after.items) }
         ensures lost { IfErr result (λ error. error ≡ WorkerLost) }
     {
@@ -255,8 +255,7 @@ impl<R: Wait, T: Task> Pool<R, T> {
     }
 
     /// Has each part done by its worker, and waits for all of them: outcome k is what worker k made
-    /// of part k. Returns an error where it is out of memory or a worker is lost; the parts are gone
-    /// then. It may wait.
+    /// of part k. Returns an error where it is out of memory or a worker is lost. It may wait.
     pub fn run(&self, turn: usize, parts: Vec<T::Part>) -> Result<Vec<T::Outcome>, PoolError>
         requires { length parts.items ≡ length self.now }
         ensures outcomes { IfOk result

@@ -24,7 +24,7 @@ pub(crate) struct Dealt<P> {
 /// What goes through the channel.
 #[derive(Drop)]
 pub(crate) enum Message<P, O> {
-    /// What was dealt, which is sent before all answers, so that the rule knows it.
+    /// What was dealt. It is sent before all answers, so that whoever holds a pass knows it.
     Dealt(Dealt<P>),
     /// What the worker of a number made of its part.
     Answer(usize, O),
@@ -60,7 +60,7 @@ impl<P, O> Lesson<Message<P, O>, Option<Dealt<P>>> for Deals {
     ghost fact = { λ view messages. ⊤ };
 }
 
-/// Who receives an answer, and knows what was dealt, knows what it is.
+/// Who receives an answer, and knows what was dealt, knows that its worker made it of its part.
 struct Takes<T> {
     task: PhantomData<T>,
 }
@@ -160,7 +160,7 @@ impl<T: Task> Collector<T> {
     ghost use Rattle.pf_pool.specs.declared.error.PoolError.TheVariants.{WorkerLost};
     ghost use Rattle.pf_pool.specs.declared.reply.Dealt.{Dealt};
 
-    /// Sends what was dealt, so that the rule knows it.
+    /// Sends what was dealt, so that whoever holds a pass knows it.
     fn tell<R: Wait>(
         rt: &R,
         sender: &RuledSender<Message<T::Part, T::Outcome>, Option<Dealt<T::Part>>, Replies<T>>,

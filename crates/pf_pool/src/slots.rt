@@ -9,7 +9,7 @@ use crate::reply::Message;
 use crate::task::Task;
 use std::alloc::{AllocError, Global};
 
-/// A slot without an answer for each worker.
+/// For each worker a slot, without an answer.
 pub(crate) fn no_answers<O: Drop>(
     alloc: Global,
     workers: usize,
@@ -24,7 +24,7 @@ pub(crate) fn no_answers<O: Drop>(
     Ok(slots)
 }
 
-/// Whether all workers from one on have answered.
+/// Whether all workers from `least` on have answered.
 pub(crate) fn have_answered<O>(slots: &[Option<O>], least: usize) -> bool
     ensures { IsTrue result → HaveAnswered least slots.now }
 {

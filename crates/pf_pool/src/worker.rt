@@ -63,8 +63,8 @@ impl<T: Task> Job<T> {
     }
 }
 
-/// How often a worker looks for its next job before it sleeps. The work of a tick comes again within
-/// microseconds, and to wake a thread takes some fifty.
+/// How often a worker looks for its next job before it sleeps. Work often comes again within
+/// microseconds, and to wake a thread takes about fifty.
 const LOOKS: u32 = 2_000;
 
 /// Where a worker takes its jobs from.
@@ -111,8 +111,8 @@ where
     }
 }
 
-/// A worker: the channel of its jobs, and its thread, if it is this pool that joins it. A worker that
-/// was dismissed has neither.
+/// A worker: the channel of its jobs, and its thread, if it is this pool that joins it. A worker
+/// that was dismissed has neither.
 ///
 /// Contracts see whether it has its channel.
 #[derive(Drop)]
@@ -151,7 +151,8 @@ impl<T: Task> Worker<T> {
         Ok(Worker { jobs, thread: None })
     }
 
-    /// Sends a job. Returns an error if the worker was dismissed, or its thread has ended.
+    /// Sends a job. Returns an error if the worker was dismissed, if its thread has ended, or where
+    /// there is no memory.
     pub(crate) fn ask<R: Wait>(&self, rt: &R, job: Job<T>) -> Result<(), PoolError>
         ensures there { OnOk result (self.now ≡ true) }
         ensures failed { IfErr result IsRunError }

@@ -28,7 +28,7 @@ struct Workers<T> {
     collider: StandingCollider<T, OpenGate>,
 }
 
-/// So many workers.
+/// A crew of so many workers, and its collider.
 fn started<T: Threads + Wait + Copy + Send + 'static>(
     rt: T,
     alloc: Global,

@@ -1,15 +1,13 @@
 -- What the answers of all workers are together.
-use Rattle.std.proofs.Common.{◌≡◌, ◌∙◌, ℕ, suc, ◌<◌, Bool, List, [], ◌∷◌, Result, Ok, Err, IfErr, map, length, get_or, refl, ap, ap₂, sym, arith, subst}
+use Rattle.std.proofs.Common.{◌≡◌, ◌∙◌, ℕ, suc, ◌<◌, Bool, List, [], ◌∷◌, Ok, Err, map, length, get_or, refl, ap, ap₂, sym, arith, subst}
 use Rattle.std.proofs.lemmas.List.{get_or-map, length-map}
 use Rattle.std.specs.Prelude.{All}
 use Rattle.pf_shapes.specs.Scene.{Scene}
 use Rattle.pf_islands.specs.Split.{Island}
 use Rattle.pf_pool.specs.Pool.{AreOutcomes}
 use Rattle.pf_solver.specs.Alone.{island_after_tick}
-use Rattle.pf_step.specs.declared.crew.CrewError.{CrewError}
-use Rattle.pf_workers.specs.Crew.{IsStandingError}
-use Rattle.pf_workers.specs.Solving.{IsSolved, share}
-use Rattle.pf_workers.specs.Work.{IsOutcome, IsSolving}
+use Rattle.pf_workers.specs.Solving.{share_of}
+use Rattle.pf_workers.specs.Work.{IsOfIslands, IsOutcome}
 use Rattle.pf_workers.specs.declared.work.Outcome.{Outcome}
 use Rattle.pf_workers.specs.declared.work.Outcome.TheVariants.{Solved, Found}
 use Rattle.pf_workers.specs.declared.work.Part.{Part}
@@ -26,29 +24,24 @@ made_of f (x ∷ xs) (y ∷ ys) d e long at =
     (made_of f xs ys d e (omega (arith, long)) (λ w low. at (suc w) (omega (arith, low))))
 
 abbrev pub part : Scene → List Island → Part
-part s pile = Islands (share s pile)
+part s pile = Islands (share_of s pile)
 
 module _ (always : Bool) (s : Scene) (piles : List (List Island)) (outcomes : List Outcome)
     (of : AreOutcomes (IsOutcome always) (map (part s) piles) outcomes) where
   count : length outcomes ≡ length piles
   count = of.0 ∙ length-map piles (part s)
 
-  outcome_at : (w : ℕ) (o : Outcome) → w < length piles → IsOutcome always (Islands (share s (get_or piles w []))) (get_or outcomes w o)
+  outcome_at : (w : ℕ) (o : Outcome) → w < length piles → IsOutcome always (Islands (share_of s (get_or piles w []))) (get_or outcomes w o)
   outcome_at w o low =
       subst (λ p. IsOutcome always p (get_or outcomes w o)) (get_or-map (part s) piles w [] (part s []) low)
       (of.1 w (part s []) o (omega (arith, low, length-map piles (part s))))
 
-  -- a worker that fails found its gate shut
-  failed : (outcome : Result (List Island) CrewError) (pile : List Island) → IsSolved always s pile outcome
-      → IfErr outcome (IsStandingError always)
-  failed (Ok after) pile is = tt
-  failed (Err error) pile is = subst (IsStandingError always) (sym is.0) is.1
-
-  solving : (outcome : Outcome) (pile : List Island) → IsOutcome always (Islands (share s pile)) outcome → IsSolving always outcome
-  solving (Solved outcome) pile is = failed outcome pile is
+  solving : (outcome : Outcome) (pile : List Island) → IsOutcome always (Islands (share_of s pile)) outcome → IsOfIslands always outcome
+  solving (Solved (Ok after)) pile is = tt
+  solving (Solved (Err error)) pile is = is
   solving (Found found) pile is = absurd is
 
-  pub all_solving : All (IsSolving always) outcomes
+  pub all_solving : All (IsOfIslands always) outcomes
   all_solving w o low = solving (get_or outcomes w o) (get_or piles w []) (outcome_at w o (omega (arith, low, count)))
 
   -- where all workers are done, their piles are those that were dealt, after a tick
@@ -60,4 +53,4 @@ module _ (always : Bool) (s : Scene) (piles : List (List Island)) (outcomes : Li
       (λ w low.
       let at : get_or outcomes w (Solved (Ok [])) ≡ Solved (Ok (get_or after w [])) =
       ap (λ l. get_or l w (Solved (Ok []))) (sym done) ∙ get_or-map (λ pile. Solved (Ok pile)) after w [] (Solved (Ok [])) low in
-      subst (IsOutcome always (Islands (share s (get_or piles w [])))) at (outcome_at w (Solved (Ok [])) (omega (arith, low, same, count))))
+      subst (IsOutcome always (Islands (share_of s (get_or piles w [])))) at (outcome_at w (Solved (Ok [])) (omega (arith, low, same, count))))

@@ -23,8 +23,8 @@ IsScopedError always NoThread = ⊤
 IsScopedError always GateShut = always ≡ false
 IsScopedError always CrewLost = ⊥
 
--- for each worker of a crew whether it is still there, the turn of the next solve, and whether the
--- crew is lost
+-- for each worker of a crew whether it was not dismissed, the turn of the next solve, and whether
+-- the crew is lost
 pub record StandingCrew : Type 0 where
   pub workers : List Bool
   pub turn : ℕ
@@ -58,7 +58,8 @@ IsStandingError always NoThread = ⊥
 IsStandingError always GateShut = always ≡ false
 IsStandingError always CrewLost = ⊤
 
--- a crew after a solve that found a worker lost: it is lost for good, and counts no more turns
+-- a crew after a solve that found a worker lost: that turn is the last one counted, and the crew is
+-- lost for good
 abbrev pub lost_after : StandingCrew → StandingCrew
 lost_after c = if c.lost then c else record c { turn = next_turn c.turn; lost = true }
 

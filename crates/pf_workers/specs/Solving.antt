@@ -11,8 +11,8 @@ pub record Share : Type 0 where
   pub scene : Scene
   pub islands : List Island
 
-abbrev pub share : Scene → List Island → Share
-share s pile = record { scene = s; islands = pile }
+abbrev pub share_of : Scene → List Island → Share
+share_of s pile = record { scene = s; islands = pile }
 
 -- what a worker returns of its own islands: each after a tick, or that its gate was shut
 abbrev pub IsSolved : Bool → Scene → List Island → Result (List Island) CrewError → Type 0

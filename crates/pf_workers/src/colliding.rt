@@ -18,11 +18,11 @@ use std::cell::Cell;
 use std::marker::Model;
 use std::sync::{Arc, Wait};
 
-/// From this many pairs on whose points have to be computed, all are computed by the workers: waking
-/// these takes as long as the points of some fewer.
+/// Where the points of so many pairs or more have to be computed, the workers compute those of all
+/// pairs: to hand them over takes as long as to compute some fewer.
 const PAIRS_FOR_WORKERS: usize = 128;
 
-/// Bodies as they stand, which all workers share, and the pairs of one of them.
+/// A worker's pairs, with the scene and the bodies as they stand, which all workers share.
 #[derive(Drop)]
 pub(crate) struct Chunk {
     scene: Arc<Scene, Global>,
@@ -114,7 +114,7 @@ fn chunks_of(
     Ok(parts)
 }
 
-/// The points of all chunks in one list.
+/// The points of all chunks in one list. An outcome that has none is out of memory.
 fn joined<G: Gate>(alloc: Global, found: &[Outcome]) -> Result<Vec<Touch>, AllocError>
     ensures { (parts : List Part) (points : List Touch) → ArePointsOf parts points
         → AreOutcomes (IsOutcome G.ALWAYS) parts found.now

@@ -13,9 +13,10 @@ pub trait Gate {
     /// The same, for contracts.
     ghost ALWAYS: { Bool };
 
-    /// Whether the worker of this number may go on in this turn. Workers and turns count from 0; the
-    /// turn stays at `usize::MAX`. It may wait; where it waits for all workers without a limit, a
-    /// solve hangs if one of them was dismissed, or was not asked since there was no memory.
+    /// Whether the worker of this number may go on in this turn. Workers and turns count from 0;
+    /// turns past `usize::MAX` stay there. It may wait; where it waits for all workers without a
+    /// limit, a solve hangs if one of them could not be started, or was not asked since there was no
+    /// memory.
     fn pass(&self, worker: usize, turn: usize) -> bool
         ensures { ALWAYS ≡ true → IsTrue result };
 

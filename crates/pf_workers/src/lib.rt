@@ -1,4 +1,5 @@
-//! Crews of threads: workers that solve the islands of a tick side by side.
+//! Crews of threads: workers that compute the contact points of a tick, and solve its islands, side
+//! by side.
 #![tactic(auto)]
 
 mod colliding;

@@ -3,9 +3,8 @@
 ghost use Rattle.std.specs.Prelude.{◌≡◌, All, IfErr, IfOk, Ok, map};
 ghost use Rattle.std.specs.Arc.{arc_value};
 ghost use Rattle.pf_islands.specs.Split.{IsIslandOf};
-ghost use Rattle.pf_workers.specs.Crew.{IsStandingError};
-ghost use Rattle.pf_workers.specs.Solving.{share};
-ghost use Rattle.pf_workers.specs.Work.{IsSolving};
+ghost use Rattle.pf_workers.specs.Solving.{share_of};
+ghost use Rattle.pf_workers.specs.Work.{IsOfIslands, IsSolveError};
 ghost use Rattle.pf_workers.specs.declared.work.Outcome.TheVariants.{Solved};
 ghost use Rattle.pf_workers.specs.declared.work.Part.TheVariants.{Islands};
 
@@ -68,7 +67,7 @@ pub(crate) fn shares_of(
 ) -> Result<Vec<Part>, AllocError>
     requires { All (All (IsIslandOf (arc_value scene.now))) piles.items }
     ensures { IfOk result (λ parts. parts.items
-        ≡ map (λ pile. Islands (share (arc_value scene.now) pile)) piles.items) }
+        ≡ map (λ pile. Islands (share_of (arc_value scene.now) pile)) piles.items) }
 {
     let mut parts = Vec::with_capacity(alloc, piles.len())?;
     for pile in piles {
@@ -83,10 +82,10 @@ pub(crate) fn piles_of<G: Gate>(
     alloc: Global,
     outcomes: Vec<Outcome>,
 ) -> Result<Vec<Pile>, CrewError>
-    requires { All (IsSolving G.ALWAYS) outcomes.items }
+    requires { All (IsOfIslands G.ALWAYS) outcomes.items }
     ensures piles { IfOk result
         (λ piles. map (λ pile. Solved (Ok pile)) piles.items ≡ outcomes.items) }
-    ensures failed { IfErr result (IsStandingError G.ALWAYS) }
+    ensures failed { IfErr result (IsSolveError G.ALWAYS) }
 {
     let mut piles = Vec::with_capacity(alloc, outcomes.len())?;
     for outcome in outcomes {

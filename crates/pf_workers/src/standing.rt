@@ -39,9 +39,9 @@ fn crew_error(error: PoolError) -> CrewError
     }
 }
 
-/// A crew that starts its workers once. In a solve each is sent one message, with its islands and the
-/// scene, which all share, and sends one answer, with its islands after a tick. The caller does the
-/// job with the most contacts, while the others work, if nobody watches the gate.
+/// A crew that starts its workers once. In a solve each is sent one message, with its islands and
+/// the scene, which all share, and sends one answer, with its islands after a tick. The caller does
+/// the job with the most contacts, while the others work, if nobody watches the gate.
 ///
 /// Contracts see which workers there still are, the turn of the next solve, and whether the crew is
 /// lost.
@@ -77,8 +77,9 @@ impl<R: Wait, G: Gate> StandingCrew<R, G> {
     ghost use Rattle.pf_solver.specs.Alone.{island_after_tick};
     ghost use Rattle.pf_workers.specs.Crew.{HasAllWorkers, IsStandingError, IsStartError, new_crew};
 
-    /// A crew of so many workers, which pass the gate in each solve. Returns an error where it is out
-    /// of memory or a thread could not be started; the workers that were started end by themselves.
+    /// A crew of so many workers, which pass the gate in each solve. Returns an error where it is
+    /// out of memory or a thread could not be started; the workers that were started end by
+    /// themselves.
     pub fn new(
         rt: R,
         alloc: Global,
@@ -114,7 +115,8 @@ impl<R: Wait, G: Gate> StandingCrew<R, G> {
         Ok(StandingCollider::new(self.pool.another()?))
     }
 
-    /// Tells all workers to end, and joins them. A collider of theirs then computes alone. It may wait.
+    /// Tells all workers to end, and joins them. A collider of theirs then computes alone. It may
+    /// wait.
     pub fn close(self)
     where
         R: Threads + Copy,

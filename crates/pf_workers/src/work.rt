@@ -33,7 +33,7 @@ pub(crate) fn solve<G: Gate>(
     Ok(pile)
 }
 
-/// What a worker is asked.
+/// What a worker is asked to do.
 #[derive(Drop)]
 pub(crate) enum Part {
     /// To solve islands.
@@ -47,7 +47,7 @@ pub(crate) enum Part {
 pub(crate) enum Outcome {
     /// The islands after a tick, or that the gate was shut.
     Solved(Result<Pile, CrewError>),
-    /// The contact points.
+    /// The contact points, or out of memory.
     Found(Result<Vec<Touch>, AllocError>),
 }
 
