@@ -21,7 +21,7 @@ pub const VERSION: &str = "pf_play 0.1.0\n";
 #[derive(Debug, Drop)]
 pub enum Request<'a> {
     /// Process a text line by line, with a crew of so many workers, or without one.
-    Run { workers: Option<usize> },
+    Run { crew_size: Option<usize> },
     /// Print the fields of the frame that these digits encode.
     Frame(&'a str),
     /// Write this text, a help.

@@ -3,6 +3,7 @@
 #![tactic(auto)]
 
 mod error;
+pub mod laws;
 mod pool;
 mod reply;
 mod slots;

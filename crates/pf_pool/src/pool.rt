@@ -187,29 +187,6 @@ impl<R: Wait, T: Task> Pool<R, T> {
         (0, Ok(()))
     }
 
-    /// Asks the workers, as [`Pool::ask_each`] does, and does the part that was held back: what it
-    /// works on stays in the cache of the caller's processor.
-    fn ask_all(
-        &self,
-        turn: usize,
-        parts: Vec<T::Part>,
-        replier: Replier<T>,
-    ) -> (usize, Result<(), PoolError>)
-        requires dealt { WereDealt (known_to replier) parts.items }
-        requires count { length parts.items ≡ length self.now }
-        ensures asked { result.0 ≤ length self.now }
-        ensures all { OnOk result.1 (result.0 ≡ 0) }
-        ensures there { OnOk result.1 (HasAllWorkers self.now) }
-        ensures failed { IfErr result.1 IsRunError }
-    {
-        let mut held = None;
-        let asked = self.ask_each(turn, parts, replier, &mut held);
-        if let Some(job) = held {
-            job.answer(&self.rt, &*self.task);
-        }
-        asked
-    }
-
     /// Waits until all workers from `least` on have answered.
     fn collect(
         &self,
@@ -244,8 +221,8 @@ impl<R: Wait, T: Task> Pool<R, T> {
     ) -> Result<Vec<Option<T::Outcome>>, PoolError>
         requires { least ≤ length slots.items }
         ensures count { IfOk result (λ after. length after.items ≡ length slots.items) }
-        ensures answers { (d : Dealt T.Part) → collector ≡ Some d
-            → AreAnswers T.is_outcome d slots.items → IfOk result (λ after. AreAnswers T.is_outcome d after.items) }
+        ensures answers { IfOk result (λ after. (d : Dealt T.Part) → collector ≡ Some d
+            → AreAnswers T.is_outcome d slots.items → AreAnswers T.is_outcome d after.items) }
         ensures all { IfOk result (λ after. HaveAnswered least after.items) }
         ensures lost { IfErr result (λ error. error ≡ WorkerLost) }
     {
@@ -255,7 +232,9 @@ impl<R: Wait, T: Task> Pool<R, T> {
     }
 
     /// Has each part done by its worker, and waits for all of them: outcome k is what worker k made
-    /// of part k. Returns an error where it is out of memory or a worker is lost. It may wait.
+    /// of part k. The caller does the part that was held back itself: what it works on stays in the
+    /// cache of its processor. Returns an error where it is out of memory or a worker is lost. It
+    /// may wait.
     pub fn run(&self, turn: usize, parts: Vec<T::Part>) -> Result<Vec<T::Outcome>, PoolError>
         requires { length parts.items ≡ length self.now }
         ensures outcomes { IfOk result
@@ -273,9 +252,13 @@ impl<R: Wait, T: Task> Pool<R, T> {
             self.workers.len(),
             dealt,
         )?;
-        let (least, sent) = self.ask_all(turn, parts, replier);
+        let mut held = None;
+        let (least, asked) = self.ask_each(turn, parts, replier, &mut held);
+        if let Some(job) = held {
+            job.answer(&self.rt, &*self.task);
+        }
         let answers = self.answers(collector, least, slots)?;
-        sent?;
+        asked?;
         let outcomes = all_answers(self.alloc, answers)?;
         Ok(outcomes)
     }

@@ -89,8 +89,9 @@ impl<P> Split<Option<Dealt<P>>> for Shares {
     ghost right = { λ view. view };
 }
 
-/// How often the caller looks for an answer before it sleeps.
-const LOOKS: u32 = 2_000;
+/// How often a thread looks for a message before it sleeps. Messages often come within
+/// microseconds, and to wake a thread takes about fifty.
+pub(crate) const LOOKS: u32 = 2_000;
 
 /// The end of a worker, over which it answers.
 #[derive(Drop)]

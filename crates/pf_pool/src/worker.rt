@@ -7,7 +7,7 @@ ghost use Rattle.pf_pool.specs.Reply.{WasDealt};
 ghost use Rattle.pf_pool.specs.declared.error.PoolError.TheVariants.{NoThread};
 
 use crate::error::PoolError;
-use crate::reply::Replier;
+use crate::reply::{LOOKS, Replier};
 use crate::task::Task;
 use crossbeam_channel::{Receiver, SendError, Sender, TryRecvError};
 use std::alloc::{AllocError, Global};
@@ -62,10 +62,6 @@ impl<T: Task> Job<T> {
         replier.send(rt, worker, outcome);
     }
 }
-
-/// How often a worker looks for its next job before it sleeps. Work often comes again within
-/// microseconds, and to wake a thread takes about fifty.
-const LOOKS: u32 = 2_000;
 
 /// Where a worker takes its jobs from.
 trait Jobs<T: Task> {

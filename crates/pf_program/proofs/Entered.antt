@@ -4,7 +4,7 @@ use Rattle.std.specs.Prelude.{option_map, unwrap_or}
 use Rattle.clap.specs.Words.{Kinds, Row, Text, first_of, subcommand_name_of, subcommand_rows_of}
 use Rattle.clap.specs.declared.parser.matches.ArgMatches.{ArgMatches}
 use Rattle.clap.specs.declared.parser.matches.ArgMatches.TheViews.{out-ArgMatches}
-use Rattle.pf_program.specs.Options.{ParsesAs, AsksFor, digits_in, size_of_word, workers_in}
+use Rattle.pf_program.specs.Options.{ParsesAs, AsksFor, digits_in, crew_size_of, crew_size_in}
 use Rattle.pf_console.specs.declared.request.Request.{Request}
 use Rattle.pf_console.specs.declared.request.Request.TheVariants.{Run, Frame, Help, Version}
 
@@ -28,7 +28,7 @@ pub digits_found : (m : ArgMatches) (rows : List Row) (value : Option Text) → 
 digits_found m rows value name_is rows_are value_is = digits_of (subcommand_rows_of m) rows value (named m ∙ name_is) rows_are value_is
 
 crew_of : (entered : Option (Text × List Row)) (rows : List Row) (value : Option Text) → option_map (λ p. p.0) entered ≡ Some (codes "run")
-    → option_map (λ p. p.1) entered ≡ Some rows → first_of (codes "crew") rows ≡ value → workers_in entered ≡ size_of_word value
+    → option_map (λ p. p.1) entered ≡ Some rows → first_of (codes "crew") rows ≡ value → crew_size_in entered ≡ crew_size_of value
 crew_of None rows value name_is rows_are value_is = search rules
 crew_of (Some entered) rows value name_is rows_are value_is =
     let name : entered.0 ≡ codes "run" = ap (λ (o : Option Text). unwrap_or o []) name_is in
@@ -36,7 +36,7 @@ crew_of (Some entered) rows value name_is rows_are value_is =
     rw (name, same, value_is) refl
 
 pub crew_found : (m : ArgMatches) (rows : List Row) (value : Option Text) → subcommand_name_of m ≡ Some (codes "run")
-    → option_map (λ p. p.1) (subcommand_rows_of m) ≡ Some rows → first_of (codes "crew") rows ≡ value → workers_in (subcommand_rows_of m) ≡ size_of_word value
+    → option_map (λ p. p.1) (subcommand_rows_of m) ≡ Some rows → first_of (codes "crew") rows ≡ value → crew_size_in (subcommand_rows_of m) ≡ crew_size_of value
 crew_found m rows value name_is rows_are value_is = crew_of (subcommand_rows_of m) rows value (named m ∙ name_is) rows_are value_is
 
 pub unwrap_map : {X Y : Type 0} (f : X → Y) (o : Option X) (d : X) → unwrap_or (option_map f o) (f d) ≡ f (unwrap_or o d)

@@ -6,7 +6,7 @@ use Rattle.clap.specs.declared.error.kind.ErrorKind.{ErrorKind}
 use Rattle.clap.specs.declared.error.kind.ErrorKind.TheVariants as kind
 use Rattle.pf_console.specs.declared.fault.PlayFault.{PlayFault}
 use Rattle.pf_console.specs.declared.fault.PlayFault.TheVariants as faults
-use Rattle.pf_program.specs.Options.{ParsesAs, RunsUnlessMemory, command_line, digits_in, workers_in}
+use Rattle.pf_program.specs.Options.{ParsesAs, RunsUnlessMemory, command_line, digits_in, crew_size_in}
 use Rattle.pf_console.specs.declared.request.Request.{Request}
 use Rattle.pf_console.specs.declared.request.Request.TheVariants.{Run, Frame, Help, Version}
 
@@ -36,11 +36,11 @@ unfolding clap_on_literals
 run_is_no_frame program = refl
 
 -- and asks for no crew
-run_has_no_crew : (program : Text) → workers_in (subcommand_of command_line (program ∷ codes "run" ∷ [])) ≡ None
+run_has_no_crew : (program : Text) → crew_size_in (subcommand_of command_line (program ∷ codes "run" ∷ [])) ≡ None
 unfolding clap_on_literals
 run_has_no_crew program = refl
 
-without_error : (entered : Option (Text × List Row)) → digits_in entered ≡ None → workers_in entered ≡ None → (r : Result Request PlayFault) → ParsesAs [] entered r
+without_error : (entered : Option (Text × List Row)) → digits_in entered ≡ None → crew_size_in entered ≡ None → (r : Result Request PlayFault) → ParsesAs [] entered r
     → RunsUnlessMemory r
 without_error entered none alone (Ok (Run workers)) h = inl (ap (λ (o : Option ℕ). Ok (Run o)) (h.1.1 ∙ alone))
 without_error entered none alone (Ok (Frame digits)) h = search rules

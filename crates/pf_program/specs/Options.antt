@@ -62,33 +62,33 @@ digits_in (Some entered) =
     if bytes_eq entered.0 (codes "frame")
     then Some (unwrap_or (first_of (codes "HEX") entered.1) []) else None
 
--- the count of workers that a word spells, in decimal digits, if it is 1 to 16
-abbrev pub size_of : Text → Option ℕ
-size_of word =
+-- the crew size that a word spells, in decimal digits, if it is 1 to 16
+abbrev pub crew_size : Text → Option ℕ
+crew_size word =
     if is_unsigned_in 1 MAX_WORKERS word then Some (digits_value 10 (without_leading_plus word))
     else None
 
-abbrev pub size_of_word : Option Text → Option ℕ
-size_of_word (Some word) = size_of word
-size_of_word None = None
+abbrev pub crew_size_of : Option Text → Option ℕ
+crew_size_of (Some word) = crew_size word
+crew_size_of None = None
 
--- the count of workers behind `--crew`, where `run` is the subcommand that was entered
-abbrev pub workers_in : Option (Text × List Row) → Option ℕ
-workers_in None = None
-workers_in (Some entered) =
-    if bytes_eq entered.0 (codes "run") then size_of_word (first_of (codes "crew") entered.1)
+-- the crew size behind `--crew`, where `run` is the subcommand that was entered
+abbrev pub crew_size_in : Option (Text × List Row) → Option ℕ
+crew_size_in None = None
+crew_size_in (Some entered) =
+    if bytes_eq entered.0 (codes "run") then crew_size_of (first_of (codes "crew") entered.1)
     else None
 
--- a run has a crew of 1 to 16 workers, or none
+-- the crew of a run has 1 to 16 workers, if it has one
 abbrev pub HasCrewSize : Request → Type 0
-HasCrewSize (Run workers) = IfSome workers (λ size. (0 < size) × (size ≤ MAX_WORKERS))
+HasCrewSize (Run crew) = IfSome crew (λ size. (0 < size) × (size ≤ MAX_WORKERS))
 HasCrewSize (Frame digits) = Unit {0}
 HasCrewSize (Help text) = Unit {0}
 HasCrewSize Version = Unit {0}
 
 -- what valid words ask for, by the subcommand that they enter
 abbrev pub AsksFor : Option (Text × List Row) → Request → Type 0
-AsksFor entered (Run workers) = (digits_in entered ≡ None) × (workers ≡ workers_in entered)
+AsksFor entered (Run crew) = (digits_in entered ≡ None) × (crew ≡ crew_size_in entered)
 AsksFor entered (Frame digits) = digits_in entered ≡ Some digits.now
 AsksFor entered (Help text) = ⊥
 AsksFor entered Version = ⊥

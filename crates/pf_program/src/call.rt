@@ -54,7 +54,7 @@ fn crew_of<T: Threads + Wait + Copy + Send + 'static>(
     ensures fault { IfErr result (IsStartFault request.now) }
 {
     let Request::Run {
-        workers: Some(size),
+        crew_size: Some(size),
     } = request
     else {
         return Ok(None);

@@ -3,7 +3,7 @@
 ghost use Rattle.std.specs.Prelude.{◌≡◌, ℕ, List, [], ◌∷◌, None, false, codes, map, IfOk};
 ghost use Rattle.clap.specs.Words.{app_of, fault_of, kind_of, rule_of, subcommand_of, subcommand_rows_of};
 ghost use Rattle.clap.specs.declared.builder.command.Command.TheViews.{out-Command as fields_of};
-ghost use Rattle.pf_program.specs.Options.{ParsesAs, AsksFor, FailsByWordsOrMemory, HasCrewSize, RunsUnlessMemory, command_line, crew_option, frame_words, own_words, run_words, size_of, workers_in};
+ghost use Rattle.pf_program.specs.Options.{ParsesAs, AsksFor, FailsByWordsOrMemory, HasCrewSize, RunsUnlessMemory, command_line, crew_option, frame_words, own_words, run_words, crew_size, crew_size_in};
 
 use clap::error::ErrorKind;
 use clap::{Arg, ArgMatches, Command, Error, value_parser};
@@ -155,9 +155,9 @@ fn request_of<'a>(alloc: Global, error: &Error) -> Result<Request<'a>, PlayFault
 const NOT_TEXT: &str = "error: invalid UTF-8 was detected in one or more arguments\n\n\
 Usage: pf_play <COMMAND>\n\nFor more information, try '--help'.\n";
 
-/// The count of workers that a word spells. The command line takes no other word.
-fn size(word: &str) -> Option<usize>
-    ensures { result ≡ size_of word.now }
+/// The crew size that a word spells. The command line takes no other word.
+fn crew_size(word: &str) -> Option<usize>
+    ensures { result ≡ crew_size word.now }
 {
     match word.parse::<usize>() {
         Ok(size) if 0 < size && size <= MAX_WORKERS => Some(size),
@@ -165,23 +165,23 @@ fn size(word: &str) -> Option<usize>
     }
 }
 
-/// The count of workers that a run asks for, if it asks for a crew.
-fn workers(matches: &ArgMatches) -> Option<usize>
-    ensures { result ≡ workers_in (subcommand_rows_of matches.now) }
+/// The size of the crew that a run asks for, if it asks for one.
+fn crew_size_in(matches: &ArgMatches) -> Option<usize>
+    ensures { result ≡ crew_size_in (subcommand_rows_of matches.now) }
 {
     let run = matches.subcommand_matches("run")?;
-    size(run.get_str(CREW)?)
+    crew_size(run.get_str(CREW)?)
 }
 
 /// What valid words ask for.
 fn request_for<'a>(matches: &ArgMatches<'a>) -> Request<'a>
     ensures asked { AsksFor (subcommand_rows_of matches.now) result }
-    ensures size { HasCrewSize result }
+    ensures crew_size { HasCrewSize result }
 {
     match matches.subcommand_matches("frame") {
         Some(frame) => Request::Frame(frame.get_str(DIGITS).unwrap_or("")),
         None => Request::Run {
-            workers: workers(matches),
+            crew_size: crew_size_in(matches),
         },
     }
 }

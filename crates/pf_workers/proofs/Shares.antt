@@ -5,14 +5,8 @@ use Rattle.std.proofs.lemmas.List.{append_assoc, drop_more, get_or-set_other, ge
 use Rattle.std.proofs.Math.ListN.{get_or-map}
 use Rattle.std.proofs.Math.Seq.{drop-append_seam, get_or-append_seam, take-append_seam}
 use Rattle.std.specs.Prelude.{All, if◌then◌else◌}
+use Rattle.pf_pool.proofs.Lists.{all_more, default_same}
 use Rattle.pf_workers.specs.Dealing.{share, AreSharesFrom}
-
-module _ {X : Type 0} where
-  -- what stands in a list does not depend on what stands for nothing
-  pub default_same : (xs : List X) (i : ℕ) (d e : X) → i < length xs → get_or xs i d ≡ get_or xs i e
-  default_same [] i d e low = absurd (omega (arith, low))
-  default_same (x ∷ xs) zero d e low = refl
-  default_same (x ∷ xs) (suc i) d e low = default_same xs i d e (omega (arith, low))
 
 module _ {X : Type 0} where
   -- the first element is the worker's
@@ -93,9 +87,9 @@ module _ {X : Type 0} where
   unfolding share
   shares_of_none k piles empty w low = empty w [] low
 
-  pub none_left : (k : ℕ) (piles : List (List X)) → AreSharesFrom k [] piles → All (λ pile. pile ≡ []) piles
+  pub all_empty : (k : ℕ) (piles : List (List X)) → AreSharesFrom k [] piles → All (λ pile. pile ≡ []) piles
   unfolding share
-  none_left k piles shares w d low = default_same piles w d [] low ∙ shares w low
+  all_empty k piles shares w d low = default_same piles w d [] low ∙ shares w low
 
   -- ---- the loops
 
@@ -168,13 +162,6 @@ module _ {X Y : Type 0} (f : X → Y) where
   shares_after xs piles after shares same = subst (AreSharesFrom 0 (map f xs)) (sym same) (shares_mapped 0 xs piles shares)
 
 module _ {X : Type 0} (P : X → Type 0) where
-  pub all_more : (xs : List X) (x : X) → All P xs → P x → All P (xs ++ x ∷ [])
-  all_more [] x ps p zero d low = p
-  all_more [] x ps p (suc i) d low = absurd (omega arith)
-  all_more (y ∷ ys) x ps p zero d low = ps 0 d (omega arith)
-  all_more (y ∷ ys) x ps p (suc i) d low =
-      all_more ys x (λ j e below. ps (suc j) e (omega (arith, below))) p i d (omega (arith, low))
-
   all_of_more : (n w k : ℕ) (x : X) (xs : List X) → P x → All P (share n w (k + 1) xs)
       → (b : Bool) → (k % n == w) ≡ b → All P (share n w k (x ∷ xs))
   all_of_more n w k x xs p rest true is =

@@ -9,12 +9,12 @@ ghost use Rattle.pf_workers.specs.Work.{ArePointsOf, IsOutcome};
 ghost use Rattle.pf_workers.specs.declared.work.Part.{Part};
 
 use crate::gate::Gate;
+use crate::scene::SharedScene;
 use crate::work::{Outcome, Part, Work};
 use pf_manifold::{Collider, Touch, collide_list};
 use pf_pool::{Pool, PoolError};
 use pf_shapes::{BodyState, Pair, Scene};
 use std::alloc::{AllocError, Global};
-use std::cell::Cell;
 use std::marker::Model;
 use std::sync::{Arc, Wait};
 
@@ -137,8 +137,7 @@ fn joined<G: Gate>(alloc: Global, found: &[Outcome]) -> Result<Vec<Touch>, Alloc
 #[derive(Drop)]
 pub struct StandingCollider<R, G: Gate> {
     pool: Pool<R, Work<G>>,
-    /// The scene of the last call.
-    scene: Cell<Option<Arc<Scene, Global>>>,
+    scene: SharedScene,
 }
 
 impl<R, G: Gate> Model for StandingCollider<R, G> {
@@ -162,20 +161,8 @@ impl<R: Wait, G: Gate> StandingCollider<R, G> {
     {
         StandingCollider {
             pool,
-            scene: Cell::new(None),
+            scene: SharedScene::new(),
         }
-    }
-
-    /// A scene as the workers share it: the kept one, or a copy, if that is another.
-    fn shared_scene(&self, alloc: Global, scene: &Scene) -> Result<Arc<Scene, Global>, AllocError>
-        ensures { IfOk result (λ shared. arc_value shared ≡ scene.now) }
-    {
-        let shared = match self.scene.take() {
-            Some(kept) if *kept == *scene => kept,
-            _ => Arc::new(alloc, scene.try_clone()?)?,
-        };
-        self.scene.set(Some(Arc::try_clone(&shared)?));
-        Ok(shared)
     }
 
     /// The chunks of the workers.
@@ -192,7 +179,7 @@ impl<R: Wait, G: Gate> StandingCollider<R, G> {
         ensures points { IfOk result
             (λ parts. ArePointsOf parts.items (touches scene.now.fixtures bodies.now pairs.now)) }
     {
-        let scene = self.shared_scene(alloc, scene)?;
+        let scene = self.scene.shared(alloc, scene)?;
         let mut copy = Vec::new(alloc);
         copy.extend_from_slice(bodies)?;
         let bodies = Arc::new(alloc, copy)?;

@@ -5,6 +5,7 @@
 mod colliding;
 mod gate;
 mod pile;
+mod scene;
 mod scoped;
 mod solving;
 mod standing;

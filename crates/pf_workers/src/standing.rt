@@ -7,6 +7,7 @@ use crate::MAX_WORKERS;
 use crate::colliding::StandingCollider;
 use crate::gate::Gate;
 use crate::pile::{Pile, contact_count, deal, empty_piles, gather};
+use crate::scene::SharedScene;
 use crate::solving::{piles_of, shares_of};
 use crate::work::Work;
 use pf_islands::Island;
@@ -16,7 +17,7 @@ use pf_step::{Crew, CrewError, solve_all};
 use std::alloc::{AllocError, Global};
 use std::marker::Model;
 use std::mem;
-use std::sync::{Arc, Wait};
+use std::sync::Wait;
 use std::thread::Threads;
 
 /// From this many contacts in a tick on, islands are dealt to the workers.
@@ -49,8 +50,7 @@ fn crew_error(error: PoolError) -> CrewError
 pub struct StandingCrew<R, G: Gate> {
     alloc: Global,
     pool: Pool<R, Work<G>>,
-    /// The scene of the last solve.
-    scene: Option<Arc<Scene, Global>>,
+    scene: SharedScene,
     /// The memory for the piles of the next solve.
     piles: Vec<Pile>,
     turn: usize,
@@ -72,7 +72,6 @@ impl<R, G: Gate> Model for StandingCrew<R, G> {
 
 impl<R: Wait, G: Gate> StandingCrew<R, G> {
     ghost use Rattle.std.specs.Prelude.{◌≡◌, ◌<◌, ◌≤◌, [], All, IfErr, IfOk, IsTrue, OnOk, false, length, map, slice_set, true};
-    ghost use Rattle.std.specs.Arc.{arc_value};
     ghost use Rattle.pf_islands.specs.Split.{IsIslandOf};
     ghost use Rattle.pf_solver.specs.Alone.{island_after_tick};
     ghost use Rattle.pf_workers.specs.Crew.{HasAllWorkers, IsStandingError, IsStartError, new_crew};
@@ -97,7 +96,7 @@ impl<R: Wait, G: Gate> StandingCrew<R, G> {
             Ok(pool) => Ok(StandingCrew {
                 alloc,
                 pool,
-                scene: None,
+                scene: SharedScene::new(),
                 piles: Vec::new(alloc),
                 turn: 0,
                 lost: false,
@@ -136,21 +135,6 @@ impl<R: Wait, G: Gate> StandingCrew<R, G> {
         self.pool.dismiss(worker);
     }
 
-    /// The scene of a solve, as the workers share it: the kept one, or a copy, if that is another.
-    fn shared_scene(&mut self, scene: &Scene) -> Result<Arc<Scene, Global>, AllocError>
-        ensures scene { IfOk result (λ shared. arc_value shared ≡ scene.now) }
-        ensures same { self.new ≡ self.old }
-    {
-        if let Some(kept) = &self.scene {
-            if **kept == *scene {
-                return Arc::try_clone(kept);
-            }
-        }
-        let copy = Arc::new(self.alloc, scene.try_clone()?)?;
-        self.scene = Some(Arc::try_clone(&copy)?);
-        Ok(copy)
-    }
-
     /// Passes the gate for each worker, and returns whether it was open for all.
     fn pass_for_all(&self, turn: usize) -> bool
         ensures { G.ALWAYS ≡ true → IsTrue result }
@@ -184,15 +168,14 @@ impl<R: Wait, G: Gate> StandingCrew<R, G> {
     }
 
     /// Lets the workers solve their piles.
-    fn run(&mut self, scene: &Scene, turn: usize, piles: Vec<Pile>) -> Result<Vec<Pile>, CrewError>
-        requires count { length piles.items ≡ length self.old.workers }
+    fn run(&self, scene: &Scene, turn: usize, piles: Vec<Pile>) -> Result<Vec<Pile>, CrewError>
+        requires count { length piles.items ≡ length self.now.workers }
         requires islands { All (All (IsIslandOf scene.now)) piles.items }
         ensures solved { IfOk result
             (λ solved. solved.items ≡ map (map (island_after_tick scene.now)) piles.items) }
-        ensures same { self.new ≡ self.old }
         ensures failed { IfErr result (IsStandingError G.ALWAYS) }
     {
-        let shared = self.shared_scene(scene)?;
+        let shared = self.scene.shared(self.alloc, scene)?;
         let shares = shares_of(self.alloc, &shared, piles)?;
         match self.pool.run(turn, shares) {
             Ok(outcomes) => piles_of::<G>(self.alloc, outcomes),

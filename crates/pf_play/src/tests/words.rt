@@ -27,7 +27,7 @@ fn mistake(alloc: Global, words: &[&str]) -> Result<String, AllocError> {
 
 /// Whether words ask for a run with a crew of so many workers, or with none.
 fn is_run(alloc: Global, words: &[&str], size: Option<usize>) -> Result<bool, PlayFault> {
-    Ok(matches!(options(alloc, words)?, Request::Run { workers } if workers == size))
+    Ok(matches!(options(alloc, words)?, Request::Run { crew_size } if crew_size == size))
 }
 
 #[test]

@@ -20,7 +20,7 @@ returns-in-Ok g c =
     let parsed = request_parses (fault_of command_line words) (subcommand_of command_line words) c.request_for.result fit (subst (λ e. AsksFor e c.request_for.result) entered c.request_for.ensures.asked) in
     record {
       parses = parsed;
-      crew_size = c.request_for.ensures.size;
+      crew_size = c.request_for.ensures.crew_size;
       runs = λ program e. run_alone program (Ok c.request_for.result)
           (subst (λ them. ParsesAs (fault_of command_line them) (subcommand_of command_line them) (Ok c.request_for.result)) e parsed);
     }

@@ -10,5 +10,5 @@ returns-in-Some c =
     record {
       asked = digits_found c.args.matches.now _ _ (c.in-Some.ensures.found.0 refl) c.in-Some.ensures.rows value
           ∙ ap Some (unwrap_map (λ s. s.now) c.get_str.result _ ∙ ap (λ s. s.now) (sym c.unwrap_or.ensures));
-      size = tt;
+      crew_size = tt;
     }

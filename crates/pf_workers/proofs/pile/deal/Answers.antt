@@ -3,7 +3,8 @@ use Rattle.std.proofs.lemmas.Nat.{mod_below}
 use Rattle.std.proofs.Math.Seq.{drop-length, take-length}
 use Rattle.std.proofs.lemmas.List.{length-append, length-set}
 use Rattle.pf_workers.specs.Dealing.{AreSharesFrom}
-use Rattle.pf_workers.proofs.Shares.{deal_step, default_same, shares_of_none}
+use Rattle.pf_pool.proofs.Lists.{default_same}
+use Rattle.pf_workers.proofs.Shares.{deal_step, shares_of_none}
 use Rattle.pf_workers.proofs.pile.deal.Goals as goal
 
 pub loop-island-init : goal.loop-island-init

@@ -2,7 +2,8 @@ use Rattle.std.proofs.Common.{rules, ◌≡◌, ◌∙◌, ◌++◌, ◌∷◌, 
 use Rattle.std.proofs.lemmas.Nat.{mod_below}
 use Rattle.std.proofs.lemmas.List.{drop_all, length-set}
 use Rattle.pf_workers.specs.Dealing.{AreSharesFrom}
-use Rattle.pf_workers.proofs.Shares.{default_same, gather_step, none_left, still_some}
+use Rattle.pf_pool.proofs.Lists.{default_same}
+use Rattle.pf_workers.proofs.Shares.{all_empty, gather_step, still_some}
 use Rattle.pf_workers.proofs.pile.gather.Goals as goal
 
 pub loop-number-preserved : goal.loop-number-preserved
@@ -53,6 +54,6 @@ returns-in-None-clause-empty c all shares many =
 pub returns-clause-empty : goal.returns-clause-empty
 returns-clause-empty c all shares many =
     let k = c.loop-number.number in
-    none_left k c.loop-number.piles.items
+    all_empty k c.loop-number.piles.items
     (subst (λ l. AreSharesFrom k l c.loop-number.piles.items) (drop_all k all (omega (arith, c.loop-number-test.false, many)))
     (c.loop-number.invariant.gathered all shares many).1)

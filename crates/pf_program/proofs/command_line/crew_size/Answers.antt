@@ -1,6 +1,6 @@
 use Rattle.std.proofs.Common.{arith}
 use Rattle.pf_program.proofs.Sizes.{size_in, size_none}
-use Rattle.pf_program.proofs.command_line.size.Goals as goal
+use Rattle.pf_program.proofs.command_line.crew_size.Goals as goal
 
 pub returns-in-Ok : goal.returns-in-Ok
 returns-in-Ok c =
