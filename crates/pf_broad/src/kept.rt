@@ -56,8 +56,8 @@ impl BroadPhase {
 
     /// The pairs of bodies, at most one of them static, whose bounds overlap: in ascending order,
     /// each once, whatever is kept. `bodies` decides only how far bounds are enlarged, by how fast
-    /// each body moves. For fewer than two bodies it takes no memory, and can't fail. An error drops
-    /// what is kept.
+    /// each body moves. For fewer than two bodies it takes no memory, and can't fail. An error
+    /// drops what is kept.
     pub fn pairs(
         &mut self,
         alloc: Global,

@@ -1,6 +1,6 @@
--- Contact points that are kept from tick to tick, as a b2Contact of Box2D 2.x keeps its manifold. The
--- points of two bodies follow from their shapes, positions and rotations, so those of two bodies that
--- have not moved are reused.
+-- Contact points that are kept from tick to tick, as a b2Contact of Box2D 2.x keeps its manifold.
+-- The points of two bodies follow from their shapes, positions and rotations, so those of two
+-- bodies that have not moved are reused.
 use Rattle.std.specs.Prelude.{ℕ, Bool, false, not, ◌&&◌, ◌==◌, Option, Some, List, [], map, count_by, slice_get}
 use Rattle.std.specs.List.{flat_map, list_any, zip}
 use Rattle.pf_shapes.specs.Fixture.{Fixture}

@@ -44,8 +44,8 @@ impl Ranked for Contact {
 }
 
 /// The accumulated impulses of the contact of this key from `start` on, or none; and a place from
-/// which look-ups of higher ranks find what they find from `start`. In most ticks the contact stands
-/// at `start`.
+/// which look-ups of higher ranks find what they find from `start`. In most ticks the contact
+/// stands at `start`.
 #[inline]
 #[tactic(auto, using(crate::proofs::Places::found_here, crate::proofs::Places::passed))]
 fn impulses_of(contacts: &[Contact], start: usize, key: &Key) -> (Impulses, usize)

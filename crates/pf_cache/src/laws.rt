@@ -40,7 +40,8 @@ pub fn updates_have_the_keys_of_points()
 {}
 
 /// The contact points of a pair can be reused exactly where the pair is one of those that are kept,
-/// and each of its bodies has the same shape, position and rotation as then. They are its points now.
+/// and each of its bodies has the same shape, position and rotation as then. They are its points
+/// now.
 pub fn reusable_points_are_of_unmoved_bodies()
     ensures reusable { (m : Manifolds) (shapes : List PlacedShape) (p : Pair)
         → IsTrue (is_reusable m shapes p) ↔ (Contains m.pairs p

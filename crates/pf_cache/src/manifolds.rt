@@ -21,8 +21,8 @@ use std::alloc::{AllocError, Global};
 use std::marker::Model;
 
 /// The contact points of pairs of bodies as the bodies stood in the last narrow phase, as a
-/// `b2Contact` of Box2D 2.x keeps its manifold. They are sound for every scene and world, since they
-/// are kept with the shapes, positions and rotations that they were computed from.
+/// `b2Contact` of Box2D 2.x keeps its manifold. They are sound for every scene and world, since
+/// they are kept with the shapes, positions and rotations that they were computed from.
 ///
 /// With them stands the broad phase that found the pairs. Contracts do not see what it keeps, since
 /// that changes no result.
@@ -66,8 +66,8 @@ impl Model for NarrowPhase {
     ghost view = { λ n. record { manifolds = n.manifolds; computed = n.computed } };
 }
 
-/// The contact points of these pairs. Those that are kept are updated where they stand, and those of
-/// the pairs that follow are gathered.
+/// The contact points of these pairs. Those that are kept are updated where they stand, and those
+/// of the pairs that follow are gathered.
 #[inline(never)]
 fn updated_points(
     alloc: Global,
@@ -157,7 +157,8 @@ impl Manifolds {
         }
     }
 
-    /// The contact points, pair by pair, and those of one pair in ascending order of their features.
+    /// The contact points, pair by pair, and those of one pair in ascending order of their
+    /// features.
     pub fn touches(&self) -> &[Touch]
         ensures value { result.now ≡ kept_touches self.now }
         ensures order { AreTouches result.now }
@@ -166,10 +167,10 @@ impl Manifolds {
     }
 
     /// The contact points of all pairs of bodies, at most one of them static, whose bounds overlap.
-    /// The points of a pair that is kept are reused if both bodies still have the shape, position and
-    /// rotation that they had. The other pairs cannot reuse kept points: theirs are computed, and
-    /// these pairs are counted. If these are many, the collider computes the points of all pairs at
-    /// once. An error drops what is kept. Takes no memory where there are no bodies.
+    /// The points of a pair that is kept are reused if both bodies still have the shape, position
+    /// and rotation that they had. The other pairs cannot reuse kept points: theirs are computed,
+    /// and these pairs are counted. If these are many, the collider computes the points of all
+    /// pairs at once. An error drops what is kept. Takes no memory where there are no bodies.
     pub fn update<C: Collider>(
         self,
         collider: &C,

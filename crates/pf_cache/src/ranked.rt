@@ -21,8 +21,8 @@ pub trait Ranked {
         ensures { result ≡ rank self.now };
 }
 
-/// The first place from `start` on whose element has a rank of at least `least`, or the end. Look-ups
-/// of such ranks from there find what they find from `start`.
+/// The first place from `start` on whose element has a rank of at least `least`, or the end.
+/// Look-ups of such ranks from there find what they find from `start`.
 #[tactic(auto, using(crate::proofs::RankedLists::passed, crate::proofs::RankedLists::all_reached, crate::proofs::RankedLists::none_left))]
 fn first_from<T: Ranked>(list: &[T], start: usize, least: usize) -> usize
     requires start { start ≤ length list.now }
@@ -69,8 +69,8 @@ fn element_from<T: Ranked>(list: &[T], place: usize, wanted: usize) -> (Option<&
     }
 }
 
-/// The element of rank `wanted` from `start` on, if there is one; and a place from which look-ups of
-/// higher ranks find what they find from `start`.
+/// The element of rank `wanted` from `start` on, if there is one; and a place from which look-ups
+/// of higher ranks find what they find from `start`.
 #[inline(never)]
 pub fn find_from<T: Ranked>(list: &[T], start: usize, wanted: usize) -> (Option<&T>, usize)
     requires start { start ≤ length list.now }

@@ -1,8 +1,8 @@
 //! Runs lists of calls on peers, and prints what each returned and what the peer has counted.
 //!
 //! Standard input holds texts, each but the last with `# next text` as its last line. A text is a
-//! scene and then lines of calls, of which the second word is the number of a peer: the next number,
-//! for `new`.
+//! scene and then lines of calls, of which the second word is the number of a peer: the next
+//! number, for `new`.
 //!
 //! | line | call | printed |
 //! |---|---|---|

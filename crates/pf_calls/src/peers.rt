@@ -100,8 +100,9 @@ pub fn merge(alloc: Global, peers: &mut [PeerCore], number: usize, other: usize)
     }
 }
 
-/// Settles with a crew that counts its calls: one for each tick. An error of the crew is that of the
-/// call that it was told to fail in. Where memory is out, each tick that was settled has its call.
+/// Settles with a crew that counts its calls: one for each tick. An error of the crew is that of
+/// the call that it was told to fail in. Where memory is out, each tick that was settled has its
+/// call.
 fn settle_counted<R: Threads + Sync>(
     rt: &R,
     alloc: Global,

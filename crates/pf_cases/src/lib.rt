@@ -2,8 +2,8 @@
 //! own so that those crates are proved without tests. Expected values are computed by hand from
 //! docs/FORMATS.md, or taken from an independent program. Cases in numbers stand in the stored runs
 //! of `pf_answers` and `pf_points`, those of peers in that of `pf_calls`, and texts in that of
-//! `pf_runs`. Each test is proved, and its cost grows with the places at which it returns, so it has
-//! few of them: what is compared stands in functions that borrow it.
+//! `pf_runs`. Each test is proved, and its cost grows with the places at which it returns, so it
+//! has few of them: what is compared stands in functions that borrow it.
 #![tactic(auto)]
 
 #[cfg(test)]

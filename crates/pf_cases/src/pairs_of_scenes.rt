@@ -1,5 +1,5 @@
-//! Pairs of bodies that may touch, their contact points, and the cells in which bodies lie, by hand.
-//! The side of a cell is 67108864.
+//! Pairs of bodies that may touch, their contact points, and the cells in which bodies lie, by
+//! hand. The side of a cell is 67108864.
 
 use crate::scenes::scene_of;
 use pf_broad::{CELL_SIDE, Cell, Grid, MAX_CELLS, pairs};

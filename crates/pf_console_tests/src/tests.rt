@@ -1,6 +1,6 @@
-//! The texts of errors, and readers, writers and crews that fail. Texts with their replies and reports
-//! stand in the stored run of `pf_runs`, and what is reported of memory and of readers and writers
-//! in the tests of `pf_play`.
+//! The texts of errors, and readers, writers and crews that fail. Texts with their replies and
+//! reports stand in the stored run of `pf_runs`, and what is reported of memory and of readers and
+//! writers in the tests of `pf_play`.
 
 use pf_commands::FrameFault;
 use pf_console::{DigitsFault, PlayFault, finish, laws, report, run_text};

@@ -59,8 +59,8 @@ impl Island {
             || self.rows.capacity() / MOST_ROOM > room.rows
     }
 
-    /// Drops its bodies and contacts, and makes room for so many others. Its memory stays, unless it is
-    /// far too much. Takes no memory for one body without contacts.
+    /// Drops its bodies and contacts, and makes room for so many others. Its memory stays, unless
+    /// it is far too much. Takes no memory for one body without contacts.
     pub(crate) fn clear(&mut self, room: Room) -> Result<(), AllocError>
         ensures value { OnOk result (self.new ≡ no_island) }
         ensures no_memory { room.bodies ≤ 1 → room.rows ≡ 0 → IsOk result }

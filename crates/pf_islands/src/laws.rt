@@ -47,9 +47,9 @@ pub fn groups_sleep_as_wholes()
 {}
 
 /// The islands of a tick have each body that is simulated, awake and else as it was, and no other
-/// body. Two bodies are in one island exactly where a chain of contacts leads from one to the other,
-/// so no body is in two. The islands are in the order of their least bodies, and the bodies of each
-/// in that of their numbers.
+/// body. Two bodies are in one island exactly where a chain of contacts leads from one to the
+/// other, so no body is in two. The islands are in the order of their least bodies, and the bodies
+/// of each in that of their numbers.
 pub fn islands_have_each_simulated_body()
     ensures others { (s : Scene) (touches : List Touch) (bodies : List BodyState)
         (contacts : List Contact) (k n : ℕ) (b : BodyState) → length bodies ≡ length s.fixtures

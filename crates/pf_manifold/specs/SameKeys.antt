@@ -1,5 +1,5 @@
--- The test of equality of keys, which decides equality. The lemma stands in specs, since the impl of
--- `==` cites it.
+-- The test of equality of keys, which decides equality. The lemma stands in specs, since the impl
+-- of `==` cites it.
 use Rattle.std.proofs.Common.{◌≡◌, ap, Bool, ◌&&◌, ◌==◌}
 use Rattle.std.specs.Bool.{Decides}
 use Rattle.std.specs.Cmp.{IsEquivalence, decided}

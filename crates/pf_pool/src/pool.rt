@@ -35,7 +35,7 @@ impl<R, T: Task> Model for Pool<R, T> {
 
     ghost view = { λ p. p.workers.items };
 
-    ghost invariant = { λ p. (0 < length p.workers.items) × (length p.workers.items ≤ MAX_WORKERS) };
+    ghost invariant = { λ p. let n = length p.workers.items in (0 < n) × (n ≤ MAX_WORKERS) };
 }
 
 /// The number of the part with the most work; of several, the first.

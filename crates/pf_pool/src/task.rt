@@ -11,8 +11,8 @@ pub trait Task {
     /// What a worker makes of a part.
     ghost is_outcome: { Self.Part → Self.Outcome → Type 0 };
 
-    /// Does the part of a worker. Workers count from 0, and the turn is a number of the caller's. It
-    /// may wait for another worker.
+    /// Does the part of a worker. Workers count from 0, and the turn is a number of the caller's.
+    /// It may wait for another worker.
     fn run(&self, worker: usize, turn: usize, part: Self::Part) -> Self::Outcome
         ensures { is_outcome part result };
 

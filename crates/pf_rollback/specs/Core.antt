@@ -75,8 +75,8 @@ unfoldable pub count_after : ℕ → ℕ → ℕ
 count_after count zero = count
 count_after count (suc more) = saturating_sum (count_after count more) 1
 
--- so many more ticks are settled, and each is counted once; nothing else of the peer changed but the
--- count of pairs
+-- so many more ticks are settled, and each is counted once; nothing else of the peer changed but
+-- the count of pairs
 pub record HasSettled (more : ℕ) (old new : PeerCore) : Type 0 where
   pub kept : new.kept ≡ ticks_after_more old.kept more
   pub ticks : new.meter.ticks ≡ count_after old.meter.ticks more

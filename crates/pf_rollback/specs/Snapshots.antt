@@ -40,8 +40,8 @@ IsRecent s tick world =
 unfoldable pub IsKept : Snapshots → ℕ → World → Type 0
 IsKept s tick world = IsKeyframe s tick world ⊎ IsRecent s tick world
 
--- there is a keyframe at each multiple up to the settled tick; the recent worlds are of the ticks up
--- to it, and one of them that is not there has its keyframe
+-- there is a keyframe at each multiple up to the settled tick; the recent worlds are of the ticks
+-- up to it, and one of them that is not there has its keyframe
 pub record IsSnapshots (s : Snapshots) : Type 0 where
   pub keyframes : length s.keyframes ≡ s.settled / KEYFRAME_INTERVAL + 1
   pub ring : 0 < s.ring

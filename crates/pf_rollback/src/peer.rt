@@ -23,8 +23,8 @@ pub const MAX_RING: usize = 64;
 /// One player's peer of a simulation, with the worlds that it keeps to simulate from.
 ///
 /// Contracts see the scene; the abstract peer: its player, the map of its commands, and the tick
-/// that it has reached; the ticks of the kept worlds; and the work that was done. Each kept world is
-/// the simulation from tick zero of the commands that the peer holds.
+/// that it has reached; the ticks of the kept worlds; and the work that was done. Each kept world
+/// is the simulation from tick zero of the commands that the peer holds.
 #[derive(Drop)]
 pub struct PeerCore {
     scene: Scene,
@@ -320,8 +320,8 @@ impl PeerCore {
         Ok(last)
     }
 
-    /// Simulates the settled tick, and keeps the world after it. The world that falls out of the ring
-    /// lends its memory to the next. An error leaves the peer as it was.
+    /// Simulates the settled tick, and keeps the world after it. The world that falls out of the
+    /// ring lends its memory to the next. An error leaves the peer as it was.
     fn settle_tick<P: Collider, C: Crew>(
         &mut self,
         collider: &P,
@@ -366,8 +366,8 @@ impl PeerCore {
         }
     }
 
-    /// The same with a crew, which is called once for each tick, with its islands, or not at all in a
-    /// tick where nothing touches, if the crew allows that. If [`pf_manifold::PAIRS_FOR_THREADS`]
+    /// The same with a crew, which is called once for each tick, with its islands, or not at all in
+    /// a tick where nothing touches, if the crew allows that. If [`pf_manifold::PAIRS_FOR_THREADS`]
     /// pairs or more cannot reuse kept points, several threads compute the points.
     pub fn settle_with<R: Threads + Sync, C: Crew>(
         &mut self,

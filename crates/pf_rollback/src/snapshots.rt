@@ -48,8 +48,8 @@ impl Model for Snapshots {
     }) };
 }
 
-/// Keeps the world of a tick, as a keyframe or among the recent worlds. Returns the world that falls
-/// out of the ring, if one does.
+/// Keeps the world of a tick, as a keyframe or among the recent worlds. Returns the world that
+/// falls out of the ring, if one does.
 fn keep_at(
     keyframes: &mut Vec<World>,
     recent: &mut HeapCircularBuffer<Option<World>>,

@@ -1,9 +1,8 @@
 //! Runs many texts. They stand on standard input, separated by a line that no text has; for each,
 //! the program prints its replies, the line that reports its error, if it has one, and `status N`.
-//! It runs each text on one thread, and then with contact points by several where there are many, and
-//! ends where these differ. A text `frame
-//! DIGITS` is printed as a frame. The stored run has what an independent program prints for the
-//! same texts.
+//! It runs each text on one thread, and then with contact points by several where there are many,
+//! and ends where these differ. A text `frame DIGITS` is printed as a frame. The stored run has
+//! what an independent program prints for the same texts.
 #![tactic(auto)]
 
 ghost use Rattle.std.specs.Prelude.{◌+◌, ◌<◌, length, IfSome};

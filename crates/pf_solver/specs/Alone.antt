@@ -1,4 +1,5 @@
--- A tick of an island, as Box2D 2.x's b2Island::Solve, and a tick of a body that no contact touches.
+-- A tick of an island, as Box2D 2.x's b2Island::Solve, and a tick of a body that no contact
+-- touches.
 use Rattle.std.specs.Prelude.{ℕ, ◌==◌, ◌&&◌, List, if◌then◌else◌}
 use Rattle.pf_rot.specs.Vector.{V2}
 use Rattle.pf_shapes.specs.Body.{BodyState}

@@ -1,5 +1,5 @@
-//! The phases Gravity to Timers of a list of bodies with the contacts between them, and all phases of
-//! bodies that no contact touches.
+//! The phases Gravity to Timers of a list of bodies with the contacts between them, and all phases
+//! of bodies that no contact touches.
 
 ghost use Rattle.std.specs.Prelude.{◌≡◌, ◌<◌, All, if◌then◌else◌, length, map};
 ghost use Rattle.pf_cache.specs.Row.{IsSide};
@@ -121,8 +121,8 @@ fn move_on(bodies: &mut [BodyState])
     }
 }
 
-/// The phases Gravity to Timers of a body that no contact touches, if it is awake. In one expression
-/// the body stays in registers.
+/// The phases Gravity to Timers of a body that no contact touches, if it is awake. In one
+/// expression the body stays in registers.
 #[inline(always)]
 fn move_freely(pull: V2, body: &mut BodyState)
     ensures { body.new ≡ (if body.old.awake
@@ -145,8 +145,8 @@ fn solve_untouched_body(pull: V2, body: &mut BodyState)
     }
 }
 
-/// The phases Gravity to Sleep of bodies that no contact touches, one body after the other: each body
-/// is its own group. Takes no memory.
+/// The phases Gravity to Sleep of bodies that no contact touches, one body after the other: each
+/// body is its own group. Takes no memory.
 #[inline(never)]
 pub fn solve_untouched(scene: &Scene, bodies: &mut [BodyState])
     ensures { bodies.new

@@ -36,8 +36,8 @@ abbrev pub narrow_phase_of_tick : Scene → World → List Payload → Manifolds
 narrow_phase_of_tick s w payloads kept =
     narrow_phase s.fixtures (after_commands s.fixtures w.bodies payloads) kept
 
--- Points, Activity, then Gravity, Pre-step, Rounds, Positions and Timers, and Sleep: the world after
--- these phases, of bodies after the commands of a tick and of the contacts of the last tick
+-- Points, Activity, then Gravity, Pre-step, Rounds, Positions and Timers, and Sleep: the world
+-- after these phases, of bodies after the commands of a tick and of the contacts of the last tick
 abbrev pub world_after : Scene → List Contact → List BodyState → World
 world_after s before bodies =
     let points = touching s bodies in

@@ -56,7 +56,8 @@ impl Work {
         self.meter
     }
 
-    /// The contact points of the last tick; none before the first, and none after a step that failed.
+    /// The contact points of the last tick; none before the first, and none after a step that
+    /// failed.
     pub fn manifolds(&self) -> &Manifolds
         ensures { result.now ≡ self.now.manifolds }
     {
@@ -108,8 +109,8 @@ impl Work {
         mem::replace(&mut self.spare_islands, Vec::new(alloc))
     }
 
-    /// Counts a tick and its pairs that could not reuse kept points, and keeps the contact points of
-    /// its pairs.
+    /// Counts a tick and its pairs that could not reuse kept points, and keeps the contact points
+    /// of its pairs.
     pub(crate) fn end_tick(&mut self, found: NarrowPhase)
         ensures { self.new ≡ work_after_tick found self.old }
     {

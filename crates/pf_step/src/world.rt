@@ -35,8 +35,8 @@ pub(crate) fn copy_of(alloc: Global, bodies: &[BodyState]) -> Result<Vec<BodySta
     Vec::from_slice(alloc, bodies)
 }
 
-/// A copy of bodies in the memory of `room`, whose bodies are gone. Takes more memory only where that
-/// is too little.
+/// A copy of bodies in the memory of `room`, whose bodies are gone. Takes more memory only where
+/// that is too little.
 pub(crate) fn copy_into(
     room: Vec<BodyState>,
     bodies: &[BodyState],
@@ -81,8 +81,8 @@ impl World {
         &self.contacts
     }
 
-    /// Lends the memory of this world to the next one that is made with `work`. What contracts see of
-    /// the work stays as it is.
+    /// Lends the memory of this world to the next one that is made with `work`. What contracts see
+    /// of the work stays as it is.
     pub fn lend(self, work: &mut Work)
         ensures { work.new ≡ work.old }
     {

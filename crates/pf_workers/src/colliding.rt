@@ -44,8 +44,9 @@ impl Model for Chunk {
       pairs = c.pairs.items;
     } };
 
-    ghost invariant = { λ c. (length (arc_value c.bodies).items ≡ length (arc_value c.scene).fixtures)
-        × All (IsPairOf (length (arc_value c.bodies).items)) c.pairs.items };
+    ghost invariant = { λ c. let bodies = (arc_value c.bodies).items in
+        (length bodies ≡ length (arc_value c.scene).fixtures)
+        × All (IsPairOf (length bodies)) c.pairs.items };
 }
 
 impl Chunk {
@@ -61,7 +62,8 @@ impl Chunk {
         bodies: &Arc<Vec<BodyState>, Global>,
         pairs: &[Pair],
     ) -> Result<Chunk, AllocError>
-        requires bodies { length (arc_value bodies.now).items ≡ length (arc_value scene.now).fixtures }
+        requires bodies { length (arc_value bodies.now).items
+            ≡ length (arc_value scene.now).fixtures }
         requires pairs { All (IsPairOf (length (arc_value bodies.now).items)) pairs.now }
         ensures { IfOk result (λ made.
             made ≡ chunk (arc_value scene.now).fixtures (arc_value bodies.now).items pairs.now) }

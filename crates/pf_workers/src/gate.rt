@@ -15,8 +15,8 @@ pub trait Gate {
 
     /// Whether the worker of this number may go on in this turn. Workers and turns count from 0;
     /// turns past `usize::MAX` stay there. It may wait; where it waits for all workers without a
-    /// limit, a solve hangs if one of them could not be started, or was not asked since there was no
-    /// memory.
+    /// limit, a solve hangs if one of them could not be started, or was not asked since there was
+    /// no memory.
     fn pass(&self, worker: usize, turn: usize) -> bool
         ensures { ALWAYS ≡ true → IsTrue result };
 
