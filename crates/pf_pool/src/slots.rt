@@ -1,9 +1,10 @@
 //! What the workers of a pool have answered in a turn.
 
-ghost use Rattle.std.specs.Prelude.{◌≡◌, All, IfOk, IsNone, IsSome, IsTrue, Some, length, map};
+ghost use Rattle.std.specs.Prelude.{◌≡◌, ℕ, ◌<◌, All, IfOk, IsNone, IsSome, IsTrue, None, Some, length, map, slice_index_or};
 ghost use Rattle.pf_pool.specs.Reply.{IsReply};
 ghost use Rattle.pf_pool.specs.Slots.{AreAnswers, HaveAnswered};
 ghost use Rattle.pf_pool.specs.declared.reply.Dealt.{Dealt};
+ghost use Rattle.pf_pool.specs.declared.reply.Message.TheVariants.{Answer};
 
 use crate::reply::Message;
 use crate::task::Task;
@@ -44,6 +45,8 @@ pub(crate) fn accept<T: Task>(
 )
     ensures answers { (d : Dealt T.Part) → IsReply T.is_outcome d message
         → AreAnswers T.is_outcome d slots.old → AreAnswers T.is_outcome d slots.new }
+    ensures noted { (worker : ℕ) (outcome : T.Outcome) → message ≡ Answer worker outcome
+        → worker < length slots.old → IsSome (slice_index_or slots.new worker None) }
     ensures count { length slots.new ≡ length slots.old }
 {
     if let Message::Answer(worker, outcome) = message {

@@ -126,7 +126,7 @@ impl<T: Task> Model for Worker<T> {
 }
 
 impl<T: Task> Worker<T> {
-    ghost use Rattle.std.specs.Prelude.{◌≡◌, true, false, IfErr, IfOk, OnOk};
+    ghost use Rattle.std.specs.Prelude.{◌≡◌, true, false, IfErr, IfOk, OnOk, Some};
     ghost use Rattle.pf_pool.specs.Pool.{IsRunError};
 
     /// Whether it was not dismissed.
@@ -167,6 +167,7 @@ impl<T: Task> Worker<T> {
     /// dismissed.
     pub(crate) fn hold(&self, job: Job<T>, held: &mut Option<Job<T>>) -> Result<(), PoolError>
         ensures there { OnOk result (self.now ≡ true) }
+        ensures held { OnOk result (held.new ≡ Some job) }
         ensures failed { IfErr result IsRunError }
     {
         if !self.is_there() {
