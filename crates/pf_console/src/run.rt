@@ -17,8 +17,8 @@ use std::alloc::Global;
 /// Processes a text of a scene, its peers and events: the replies to its events are written, each
 /// before the next line is read, up to the first line that is invalid. In a line `settle` a
 /// collider computes contact points and a crew solves islands; all else is done by the caller's
-/// thread. What is written never depends on them. [`pf_manifold::OneThread`] is both, and never
-/// fails.
+/// thread. What is written never depends on them. [`pf_manifold::OneThread`], the caller's own
+/// thread, is both; it has no error of a crew.
 ///
 /// An error of the crew ends the text. Then what was written are the replies of the lines before.
 #[tactic(auto, unfolding(crate::specs::Text::text_of))]

@@ -12,43 +12,20 @@ ghost use Rattle.pf_program.specs.Program.{Ends, IsStartFault, Plays, crew_for};
 use crate::command_line::options;
 use pf_console::{PlayFault, Request, finish, perform};
 use pf_manifold::OneThread;
-use pf_step::CrewError;
 use pf_text::{Sink, Source};
-use pf_workers::{OpenGate, StandingCollider, StandingCrew};
+use pf_workers::{OpenGate, Workers};
 use std::alloc::Global;
 use std::convert::AsStr;
 use std::process::ExitCode;
 use std::sync::Wait;
 use std::thread::Threads;
 
-/// A crew, and a collider whose workers are the crew's.
-#[derive(Drop)]
-struct Workers<T> {
-    crew: StandingCrew<T, OpenGate>,
-    collider: StandingCollider<T, OpenGate>,
-}
-
-/// A crew of so many workers, and its collider.
-fn started<T: Threads + Wait + Copy + Send + 'static>(
-    rt: T,
-    alloc: Global,
-    size: usize,
-) -> Result<Workers<T>, CrewError>
-    requires { (0 < size) × (size ≤ MAX_WORKERS) }
-    ensures crew { IfOk result (λ made. made.crew ≡ new_crew size) }
-    ensures failed { IfErr result IsStartError }
-{
-    let crew = StandingCrew::new(rt, alloc, size, OpenGate)?;
-    let collider = crew.collider()?;
-    Ok(Workers { crew, collider })
-}
-
 /// The crew that a run asks for, if it asks for one, with a collider whose workers are the crew's.
 fn crew_of<T: Threads + Wait + Copy + Send + 'static>(
     rt: T,
     alloc: Global,
     request: &Request,
-) -> Result<Option<Workers<T>>, PlayFault>
+) -> Result<Option<Workers<T, OpenGate>>, PlayFault>
     requires { HasCrewSize request.now }
     ensures crew { IfOk result (λ made. option_map (λ w. w.crew) made ≡ crew_for request.now) }
     ensures fault { IfErr result (IsStartFault request.now) }
@@ -59,7 +36,7 @@ fn crew_of<T: Threads + Wait + Copy + Send + 'static>(
     else {
         return Ok(None);
     };
-    match started(rt, alloc, *size) {
+    match Workers::start(rt, alloc, *size, OpenGate) {
         Ok(workers) => Ok(Some(workers)),
         Err(error) => Err(PlayFault::Crew(error)),
     }

@@ -1,5 +1,5 @@
 -- What workers have of islands that are dealt to them in turn.
-use Rattle.std.proofs.Common.{◌≡◌, ◌∙◌, ℕ, zero, suc, ◌+◌, ◌<◌, ◌==◌, ◌%◌, Bool, true, false, List, [], ◌∷◌, ◌++◌, length, map, set, get_or, refl, sym, ap, ap₂, subst, arith, ◌≢◌, drop, take, ◌≤◌}
+use Rattle.std.proofs.Common.{◌≡◌, ◌∙◌, ℕ, suc, ◌+◌, ◌<◌, ◌==◌, ◌%◌, Bool, true, false, List, [], ◌∷◌, ◌++◌, length, map, set, get_or, refl, sym, ap, ap₂, subst, arith, ◌≢◌, drop, take, ◌≤◌}
 use Rattle.std.proofs.lemmas.Bool.{eq-eqb, eqb-true, ne_eqb, true≢false}
 use Rattle.std.proofs.lemmas.List.{append_assoc, drop_more, get_or-set_other, get_or-set_same, length-append, length-map, length-set, map-append, take-append-drop, take_more}
 use Rattle.std.proofs.Math.ListN.{get_or-map}
@@ -165,7 +165,7 @@ module _ {X : Type 0} (P : X → Type 0) where
   all_of_more : (n w k : ℕ) (x : X) (xs : List X) → P x → All P (share n w (k + 1) xs)
       → (b : Bool) → (k % n == w) ≡ b → All P (share n w k (x ∷ xs))
   all_of_more n w k x xs p rest true is =
-      subst (All P) (sym (share_own n w k x xs (eqb-true (k % n) w is))) (all_more (share n w (k + 1) xs) x rest p)
+      subst (All P) (sym (share_own n w k x xs (eqb-true (k % n) w is))) (all_more P (share n w (k + 1) xs) x rest p)
   all_of_more n w k x xs p rest false is =
       subst (All P) (sym (share_other n w k x xs (λ same. true≢false (sym (eq-eqb (k % n) w same) ∙ is)))) rest
 

@@ -10,9 +10,11 @@ mod scoped;
 mod solving;
 mod standing;
 mod work;
+mod workers;
 
 pub use colliding::StandingCollider;
 pub use gate::{Gate, OpenGate};
 pub use pf_pool::MAX_WORKERS;
 pub use scoped::ScopedCrew;
 pub use standing::StandingCrew;
+pub use workers::Workers;

@@ -12,7 +12,7 @@ returns-in-Ok-clause-solved g c =
     let outcomes = c.in-Ok.outcomes.items in
     let always = g.G.Gate.ALWAYS in
     let of = subst (λ shares. AreOutcomes (IsOutcome always) shares outcomes)
-    (c.in_ok-shares.ensures ∙ ap (λ t. map (part t) piles) c.in_ok-shared.ensures.scene) c.in-Ok.ensures.outcomes in
+    (c.in_ok-shares.ensures ∙ ap (λ t. map (part t) piles) c.in_ok-shared.ensures) c.in-Ok.ensures.outcomes in
     IfOk-weaker c.piles_of.result _ _ (λ after done. all_solved always s piles outcomes of after.items done) c.piles_of.ensures.piles
 
 pub piles_of-requires : goal.piles_of-requires
@@ -22,5 +22,5 @@ piles_of-requires g c =
     let outcomes = c.in-Ok.outcomes.items in
     let always = g.G.Gate.ALWAYS in
     let of = subst (λ shares. AreOutcomes (IsOutcome always) shares outcomes)
-    (c.in_ok-shares.ensures ∙ ap (λ t. map (part t) piles) c.in_ok-shared.ensures.scene) c.in-Ok.ensures.outcomes in
+    (c.in_ok-shares.ensures ∙ ap (λ t. map (part t) piles) c.in_ok-shared.ensures) c.in-Ok.ensures.outcomes in
     all_solving always s piles outcomes of
