@@ -1,0 +1,50 @@
+-- What a contract sees of the two ends of a link.
+use Rattle.std.specs.Prelude.{◌≡◌, ℕ, List, ◌++◌}
+use Rattle.rtrb.specs.Ring.{IsPair, SameConsumer, SameProducer, known_items, producer_capacity, received, sent}
+use Rattle.pf_links.specs.declared.output.LinkOut.{LinkOut}
+use Rattle.pf_links.specs.declared.input.LinkIn.{LinkIn}
+
+-- the bytes of a frame
+abbrev pub Frame : Type 0
+Frame = List ℕ
+
+-- the frames that were pushed on the ring
+abbrev pub pushed : LinkOut → List Frame
+pushed l = sent l.ring
+
+-- the frames for which the ring had no room yet
+abbrev pub backlog_of : LinkOut → List Frame
+backlog_of l = l.backlog.items
+
+-- the frames that were handed in, in their order
+abbrev pub handed : LinkOut → List Frame
+handed l = pushed l ++ backlog_of l
+
+-- how many frames the ring has room for
+abbrev pub capacity_of : LinkOut → ℕ
+capacity_of l = producer_capacity l.ring
+
+-- the frames that were taken from the ring, in their order
+abbrev pub got : LinkIn → List Frame
+got l = received l.ring
+
+-- the next frames of the ring, as far as its receiver has seen them there
+abbrev pub known : LinkIn → List Frame
+known l = known_items l.ring
+
+-- the two ends of one link
+abbrev pub AreEnds : LinkOut → LinkIn → Type 0
+AreEnds out into = IsPair out.ring into.ring
+
+-- an end of one link, before and after a call
+abbrev pub SameOut : LinkOut → LinkOut → Type 0
+SameOut old new = SameProducer old.ring new.ring
+
+abbrev pub SameIn : LinkIn → LinkIn → Type 0
+SameIn old new = SameConsumer old.ring new.ring
+
+-- nothing was handed in, and nothing left the backlog
+pub record LeavesFrames (old new : LinkOut) : Type 0 where
+  pub pushed : sent new.ring ≡ sent old.ring
+  pub backlog : backlog_of new ≡ backlog_of old
+  pub same : SameOut old new
