@@ -1,6 +1,6 @@
 -- What a contract sees of the two ends of a link.
 use Rattle.std.specs.Prelude.{◌≡◌, ℕ, List, ◌++◌}
-use Rattle.rtrb.specs.Ring.{IsPair, SameConsumer, SameProducer, known_items, producer_capacity, received, sent}
+use Rattle.rtrb.specs.Ring.{IsPair, SameConsumer, SameProducer, known_free, known_items, producer_capacity, received, sent}
 use Rattle.pf_links.specs.declared.output.LinkOut.{LinkOut}
 use Rattle.pf_links.specs.declared.input.LinkIn.{LinkIn}
 
@@ -20,6 +20,10 @@ backlog_of l = l.backlog.items
 abbrev pub handed : LinkOut → List Frame
 handed l = pushed l ++ backlog_of l
 
+-- how many frames more the ring has room for, as far as its sender knows
+abbrev pub room_of : LinkOut → ℕ
+room_of l = known_free l.ring
+
 -- how many frames the ring has room for
 abbrev pub capacity_of : LinkOut → ℕ
 capacity_of l = producer_capacity l.ring
@@ -28,7 +32,7 @@ capacity_of l = producer_capacity l.ring
 abbrev pub got : LinkIn → List Frame
 got l = received l.ring
 
--- the next frames of the ring, as far as its receiver has seen them there
+-- the next frames of the ring that its receiver knows of
 abbrev pub known : LinkIn → List Frame
 known l = known_items l.ring
 
@@ -36,10 +40,11 @@ known l = known_items l.ring
 abbrev pub AreEnds : LinkOut → LinkIn → Type 0
 AreEnds out into = IsPair out.ring into.ring
 
--- an end of one link, before and after a call
+-- the same end of a link, before and after a call
 abbrev pub SameOut : LinkOut → LinkOut → Type 0
 SameOut old new = SameProducer old.ring new.ring
 
+-- the same of the receiver's end
 abbrev pub SameIn : LinkIn → LinkIn → Type 0
 SameIn old new = SameConsumer old.ring new.ring
 

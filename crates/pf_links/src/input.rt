@@ -32,8 +32,8 @@ impl LinkIn {
         self.ring.pop().ok()
     }
 
-    /// How many frames are in the ring, for whoever has both ends of the link. They are known then:
-    /// so many looks find one.
+    /// How many frames are in the ring. For whoever has both ends of the link. The next look finds
+    /// one, if there is one.
     pub fn ready(&mut self, from: &mut LinkOut) -> usize
         requires { AreEnds from.old self.old }
         ensures value { result ≡ length (known self.new) }
@@ -46,7 +46,7 @@ impl LinkIn {
         self.ring.slots_beside(&mut from.ring)
     }
 
-    /// Takes the next frame of the ring, for whoever has both ends of the link. Returns none exactly
+    /// Takes the next frame of the ring. For whoever has both ends of the link. Returns none exactly
     /// where the ring is empty. Waits for nobody.
     pub fn bring(&mut self, from: &mut LinkOut) -> Option<[u8; FRAME_LEN]>
         requires { AreEnds from.old self.old }

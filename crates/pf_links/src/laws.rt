@@ -4,7 +4,7 @@ ghost use Rattle.std.specs.Prelude.{◌≡◌};
 
 use crate::pair::MAX_CAPACITY;
 
-/// A link has room for at most 64 frames.
+/// The ring of a link has room for at most 64 frames.
 pub fn named_limits()
     ensures { MAX_CAPACITY ≡ 64 }
 {}

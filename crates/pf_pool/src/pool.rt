@@ -14,11 +14,11 @@ use std::thread::Threads;
 /// The most workers that a pool may have.
 pub const MAX_WORKERS: usize = 16;
 
-/// Workers, each with a thread of its own, that are started once. In a turn each is sent one
-/// message, with its part, and sends one answer, with what it made of it. The caller may do the
-/// greatest part itself, while the others work; its worker is then sent none.
+/// Workers, each with a thread of its own, that are started once. In a turn each worker is sent one
+/// message, with its part, and sends one answer, with its outcome. The caller may do the greatest
+/// part itself, while the workers do the others.
 ///
-/// Contracts see which workers there still are.
+/// Contracts see which workers this pool has not dismissed.
 #[derive(Drop)]
 pub struct Pool<R, T: Task> {
     rt: R,
@@ -96,7 +96,7 @@ impl<R: Wait, T: Task> Pool<R, T> {
         self.workers.len()
     }
 
-    /// Whether no worker was dismissed.
+    /// Whether this pool has dismissed none of its workers.
     pub fn has_all_workers(&self) -> bool
         ensures all { IsTrue result → HasAllWorkers self.now }
         ensures lost { IsFalse result → HasAllWorkers self.now → ⊥ }
@@ -109,8 +109,9 @@ impl<R: Wait, T: Task> Pool<R, T> {
         true
     }
 
-    /// A pool of the same workers, which it does not join. Where this pool dismisses one, or is
-    /// closed, the other finds it lost.
+    /// A pool of the same workers, which does not join them. After this pool has dismissed one, or was
+    /// closed, no work of the other succeeds. Neither may be done while the other runs: the other
+    /// may then wait for ever.
     pub fn another(&self) -> Result<Pool<R, T>, AllocError>
     where
         R: Copy,
@@ -152,8 +153,8 @@ impl<R: Wait, T: Task> Pool<R, T> {
     }
 
     /// Asks one worker after the other to do its part, from the last to the first, up to the first
-    /// error. Returns from which worker on all were asked. The greatest part is held back, if the
-    /// caller may do it.
+    /// error. Returns the number of the last worker that was asked. The greatest part is put into
+    /// `held` in place of that, if the caller may do it.
     fn ask_each(
         &self,
         turn: usize,
@@ -232,9 +233,9 @@ impl<R: Wait, T: Task> Pool<R, T> {
     }
 
     /// Has each part done by its worker, and waits for all of them: outcome k is what worker k made
-    /// of part k. The caller does the part that was held back itself: what it works on stays in the
-    /// cache of its processor. Returns an error where it is out of memory or a worker is lost. It
-    /// may wait.
+    /// of part k. The caller may do the greatest part itself, so that what that part works on stays
+    /// in the cache of its processor. Returns an error where it is out of memory or a worker is lost.
+    /// It may wait.
     pub fn run(&self, turn: usize, parts: Vec<T::Part>) -> Result<Vec<T::Outcome>, PoolError>
         requires { length parts.items ≡ length self.now }
         ensures outcomes { IfOk result

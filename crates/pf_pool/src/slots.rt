@@ -10,7 +10,7 @@ use crate::reply::Message;
 use crate::task::Task;
 use std::alloc::{AllocError, Global};
 
-/// For each worker a slot, without an answer.
+/// So many empty slots, one for each worker.
 pub(crate) fn no_answers<O: Drop>(
     alloc: Global,
     workers: usize,
@@ -37,8 +37,7 @@ pub(crate) fn have_answered<O>(slots: &[Option<O>], least: usize) -> bool
     true
 }
 
-/// Notes an answer in the slot of its worker. Drops a second one of a worker, and one of no worker
-/// of this pool.
+/// Stores an answer in the slot of its worker, if that is empty. Other answers are dropped.
 pub(crate) fn accept<T: Task>(
     message: Message<T::Part, T::Outcome>,
     slots: &mut [Option<T::Outcome>],
@@ -47,6 +46,8 @@ pub(crate) fn accept<T: Task>(
         → AreAnswers T.is_outcome d slots.old → AreAnswers T.is_outcome d slots.new }
     ensures noted { (worker : ℕ) (outcome : T.Outcome) → message ≡ Answer worker outcome
         → worker < length slots.old → IsSome (slice_index_or slots.new worker None) }
+    ensures kept { (worker : ℕ) → IsSome (slice_index_or slots.old worker None)
+        → slice_index_or slots.new worker None ≡ slice_index_or slots.old worker None }
     ensures count { length slots.new ≡ length slots.old }
 {
     if let Message::Answer(worker, outcome) = message {

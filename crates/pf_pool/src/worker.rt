@@ -107,7 +107,7 @@ where
     }
 }
 
-/// A worker: the channel of its jobs, and its thread, if it is this pool that joins it. A worker
+/// A worker: the channel of its jobs, and its thread, if it was this pool that started it. A worker
 /// that was dismissed has neither.
 ///
 /// Contracts see whether it has its channel.
@@ -127,6 +127,7 @@ impl<T: Task> Model for Worker<T> {
 
 impl<T: Task> Worker<T> {
     ghost use Rattle.std.specs.Prelude.{◌≡◌, true, false, IfErr, IfOk, OnOk, Some};
+    ghost use Rattle.pf_pool.specs.declared.error.PoolError.TheVariants.{WorkerLost};
     ghost use Rattle.pf_pool.specs.Pool.{IsRunError};
 
     /// Whether it was not dismissed.
@@ -163,12 +164,13 @@ impl<T: Task> Worker<T> {
         }
     }
 
-    /// Holds a job back, which the caller will do in its place. Returns an error if the worker was
-    /// dismissed.
+    /// Keeps a job for the caller of the pool, who does it in place of the worker. Returns an error
+    /// if the worker was dismissed.
     pub(crate) fn hold(&self, job: Job<T>, held: &mut Option<Job<T>>) -> Result<(), PoolError>
         ensures there { OnOk result (self.now ≡ true) }
         ensures held { OnOk result (held.new ≡ Some job) }
-        ensures failed { IfErr result IsRunError }
+        ensures failed { IfErr result
+            (λ error. (error ≡ WorkerLost) × (self.now ≡ false) × (held.new ≡ held.old)) }
     {
         if !self.is_there() {
             return Err(PoolError::WorkerLost);
@@ -177,7 +179,7 @@ impl<T: Task> Worker<T> {
         Ok(())
     }
 
-    /// Tells its thread to end, whichever pool joins it, and joins it if that is this one.
+    /// Tells its thread to end. Joins it, if it was this pool that started it.
     pub(crate) fn dismiss<R: Threads + Wait>(&mut self, rt: &R)
         ensures { self.new ≡ false }
     {

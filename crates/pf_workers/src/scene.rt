@@ -8,21 +8,23 @@ use std::alloc::{AllocError, Global};
 use std::cell::Cell;
 use std::sync::Arc;
 
-/// The scene of the last call, if there was one. A match has one scene, so that it is copied once.
+/// The scene of the last call, if there was one: a match has one scene, which is then copied in the
+/// first call alone.
 #[derive(Drop)]
 pub(crate) struct SharedScene {
     kept: Cell<Option<Arc<Scene, Global>>>,
 }
 
 impl SharedScene {
-    /// None yet. Takes no memory.
+    /// No scene. Takes no memory.
     pub(crate) fn new() -> SharedScene {
         SharedScene {
             kept: Cell::new(None),
         }
     }
 
-    /// A scene as the workers share it: the kept one, or a copy, if that is another.
+    /// A scene as the workers share it: the kept one if it is equal, or else a copy, which is kept. An
+    /// error leaves none.
     pub(crate) fn shared(
         &self,
         alloc: Global,

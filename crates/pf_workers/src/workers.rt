@@ -1,4 +1,4 @@
-//! Standing workers, in both of their parts.
+//! Standing workers that solve islands and compute contact points.
 
 use crate::colliding::StandingCollider;
 use crate::gate::Gate;
@@ -8,7 +8,7 @@ use std::alloc::Global;
 use std::sync::Wait;
 use std::thread::Threads;
 
-/// A crew, and a collider whose workers are the crew's.
+/// A crew, and a collider with the same workers. The crew ends them.
 #[derive(Drop)]
 pub struct Workers<R, G: Gate> {
     pub crew: StandingCrew<R, G>,
