@@ -13,6 +13,8 @@ mod contacts;
 #[cfg(test)]
 mod laws_called;
 #[cfg(test)]
+mod links;
+#[cfg(test)]
 mod pairs_of_scenes;
 #[cfg(test)]
 mod scenes;

@@ -46,8 +46,8 @@ impl LinkIn {
         self.ring.slots_beside(&mut from.ring)
     }
 
-    /// Takes the next frame of the ring. For whoever has both ends of the link. Returns none exactly
-    /// where the ring is empty. Waits for nobody.
+    /// Takes the next frame of the ring. For whoever has both ends of the link. Returns none
+    /// exactly where the ring is empty. Waits for nobody.
     pub fn bring(&mut self, from: &mut LinkOut) -> Option<[u8; FRAME_LEN]>
         requires { AreEnds from.old self.old }
         ensures some { IfSome result (λ frame. got self.new ≡ got self.old ++ frame ∷ []) }

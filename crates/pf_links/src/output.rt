@@ -37,8 +37,8 @@ impl LinkOut {
         }
     }
 
-    /// Pushes the frames of the backlog, from the first on, while the ring has room. Takes no memory,
-    /// and waits for nobody.
+    /// Pushes the frames of the backlog, from the first on, while the ring has room. Takes no
+    /// memory, and waits for nobody.
     pub fn flush(&mut self)
         ensures handed { handed self.new ≡ handed self.old }
         ensures full { 0 < length (backlog_of self.new) → room_of self.new ≡ 0 }
@@ -78,8 +78,8 @@ impl LinkOut {
         Some(*self.backlog.get(index)?)
     }
 
-    /// How many frames there are in the backlog: none, as long as no more were handed in, all in all,
-    /// than the ring has room for.
+    /// How many frames there are in the backlog: none, as long as no more were handed in, all in
+    /// all, than the ring has room for.
     pub fn waiting_count(&self) -> usize
         ensures value { result ≡ length (backlog_of self.now) }
         ensures none { length (handed self.now) ≤ capacity_of self.now → result ≡ 0 }

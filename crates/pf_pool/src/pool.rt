@@ -109,9 +109,9 @@ impl<R: Wait, T: Task> Pool<R, T> {
         true
     }
 
-    /// A pool of the same workers, which does not join them. After this pool has dismissed one, or was
-    /// closed, no work of the other succeeds. Neither may be done while the other runs: the other
-    /// may then wait for ever.
+    /// A pool of the same workers, which does not join them. After this pool has dismissed one, or
+    /// was closed, no work of the other succeeds. Neither may be done while the other runs: the
+    /// other may then wait for ever.
     pub fn another(&self) -> Result<Pool<R, T>, AllocError>
     where
         R: Copy,
@@ -234,8 +234,8 @@ impl<R: Wait, T: Task> Pool<R, T> {
 
     /// Has each part done by its worker, and waits for all of them: outcome k is what worker k made
     /// of part k. The caller may do the greatest part itself, so that what that part works on stays
-    /// in the cache of its processor. Returns an error where it is out of memory or a worker is lost.
-    /// It may wait.
+    /// in the cache of its processor. Returns an error where it is out of memory or a worker is
+    /// lost. It may wait.
     pub fn run(&self, turn: usize, parts: Vec<T::Part>) -> Result<Vec<T::Outcome>, PoolError>
         requires { length parts.items ≡ length self.now }
         ensures outcomes { IfOk result

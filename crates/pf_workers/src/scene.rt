@@ -23,8 +23,8 @@ impl SharedScene {
         }
     }
 
-    /// A scene as the workers share it: the kept one if it is equal, or else a copy, which is kept. An
-    /// error leaves none.
+    /// A scene as the workers share it: the kept one if it is equal, or else a copy, which is kept.
+    /// An error leaves none.
     pub(crate) fn shared(
         &self,
         alloc: Global,

@@ -1,0 +1,52 @@
+-- What a peer is after it has played a script, and why it ends before.
+use Rattle.std.specs.Prelude.{◌≡◌, ℕ, ⊤, ◌+◌, ◌<◌, Bool, false, List, [], ◌++◌, All, IsSome, None, Option, length}
+use Rattle.std.specs.List.{AllZip}
+use Rattle.pf_commands.specs.Merge.{IsCommand, put_all}
+use Rattle.pf_links.specs.Link.{Frame}
+use Rattle.pf_rollback.specs.Kept.{settled_tick}
+use Rattle.pf_step.specs.declared.crew.CrewError.{CrewError}
+use Rattle.pf_step.specs.declared.crew.CrewError.TheVariants.{OutOfMemory, NoThread, GateShut, CrewLost}
+use Rattle.pf_scripts.specs.Frames.{commands_in}
+use Rattle.pf_scripts.specs.Peer.{IsLater, WereHanded, all_fresh, commands_of, peer_of, scene_of}
+use Rattle.pf_scripts.specs.Script.{frames_of, script_fault, ticks_of}
+use Rattle.pf_scripts.specs.declared.fault.SessionFault.{SessionFault}
+use Rattle.pf_scripts.specs.declared.fault.SessionFault.TheVariants as faults
+use Rattle.pf_scripts.specs.declared.peer.Peer.{Peer}
+use Rattle.pf_scripts.specs.declared.turn.Turn.{Turn}
+
+-- A peer has taken these frames of its own and those that have come meanwhile, in whatever order,
+-- has handed its own to all others, and has gone on by so many ticks.
+pub record HasMoved (own : List Frame) (ticks : ℕ) (old new : Peer) : Type 0 where
+  pub scene : scene_of new ≡ scene_of old
+  pub player : (peer_of new).player ≡ (peer_of old).player
+  pub reached : (peer_of new).reached ≡ (peer_of old).reached + ticks
+  pub commands : commands_of new
+      ≡ put_all (commands_of old)
+      (commands_in (scene_of old) (own ++ all_fresh old.inputs.items new.inputs.items))
+  pub ranges : All IsCommand
+      (commands_in (scene_of old) (own ++ all_fresh old.inputs.items new.inputs.items))
+  pub inputs : AllZip IsLater old.inputs.items new.inputs.items
+  pub outputs : AllZip (WereHanded own) old.outputs.items new.outputs.items
+
+-- A peer has played a script that has no fault. If it had a turn, the peer keeps no frame, and each
+-- tick up to the reached one is settled; if not, nothing has changed.
+pub record HasPlayed (script : List Turn) (old new : Peer) : Type 0 where
+  pub moved : HasMoved (frames_of script) (ticks_of script) old new
+  pub no_fault : let p = peer_of old in
+      script_fault (scene_of old) p.player 0 p.reached script ≡ None
+  pub done : 0 < length script
+      → (new.kept ≡ None) × (settled_tick new.core.kept ≡ (peer_of new).reached)
+  pub idle : script ≡ [] → new ≡ old
+
+-- an error with which a peer's play may end, whatever its script: a gate that lets everybody
+-- through is never shut, and without a crew no thread is missed
+abbrev pub IsPlayError : Bool → Option ℕ → CrewError → Type 0
+IsPlayError always crew OutOfMemory = ⊤
+IsPlayError always crew NoThread = IsSome crew
+IsPlayError always crew GateShut = always ≡ false
+IsPlayError always crew CrewLost = IsSome crew
+
+-- the fault of a peer that fails in this way
+abbrev pub IsPeerFault : (CrewError → Type 0) → ℕ → SessionFault → Type 0
+IsPeerFault may_be player fault =
+    (error : CrewError) × may_be error × (fault ≡ faults.Peer player error)

@@ -1,0 +1,64 @@
+-- Scripts of turns, and the first fault of a script.
+use Rattle.std.specs.Prelude.{ℕ, ◌+◌, List, [], ◌∷◌, Option, Some, None, Vec, map, nat_le, option_map, sum_by, if◌then◌else◌}
+use Rattle.std.specs.Global.{Global}
+use Rattle.std.specs.List.{flat_map}
+use Rattle.pf_shapes.specs.Scene.{Scene}
+use Rattle.pf_cache.specs.Meter.{saturating_sum}
+use Rattle.pf_commands.specs.declared.name.TheConstants.{MAX_TICK}
+use Rattle.pf_links.specs.Link.{Frame}
+use Rattle.pf_scripts.specs.Frames.{refusal_of}
+use Rattle.pf_scripts.specs.declared.fault.SessionFault.{SessionFault}
+use Rattle.pf_scripts.specs.declared.fault.SessionFault.TheVariants as faults
+use Rattle.pf_scripts.specs.declared.turn.Turn.{Turn}
+
+-- the bytes of each frame
+abbrev pub bytes_of : List (Vec ℕ Global) → List Frame
+bytes_of frames = map (λ frame. frame.items) frames
+
+-- the frames of a turn
+abbrev pub frames_in : Turn → List Frame
+frames_in turn = bytes_of turn.frames.items
+
+-- the frames of a script, in their order
+abbrev pub frames_of : List Turn → List Frame
+frames_of script = flat_map frames_in script
+
+-- by how many ticks a script goes on
+abbrev pub ticks_of : List Turn → ℕ
+ticks_of script = sum_by (λ turn. turn.ticks) script
+
+-- the first of two faults
+abbrev pub first_fault : Option SessionFault → Option SessionFault → Option SessionFault
+first_fault (Some fault) later = Some fault
+first_fault None later = later
+
+-- the fault of the first frame that the peers of the scene refuse, where the first of these frames
+-- has this place in the script of this peer
+unfoldable pub frame_fault : Scene → ℕ → ℕ → List Frame → Option SessionFault
+frame_fault s peer place [] = None
+frame_fault s peer place (frame ∷ frames) =
+    first_fault (option_map (faults.Frame peer place) (refusal_of s frame))
+    (frame_fault s peer (saturating_sum place 1) frames)
+
+-- going on by so many ticks would pass the last tick
+abbrev pub tick_fault : ℕ → ℕ → ℕ → Option SessionFault
+tick_fault peer reached ticks =
+    if nat_le (reached + ticks) MAX_TICK then None else Some (faults.TickLimit peer)
+
+-- the place of the frame behind so many more
+unfoldable pub place_after : ℕ → List Frame → ℕ
+place_after place [] = place
+place_after place (frame ∷ frames) = place_after (saturating_sum place 1) frames
+
+-- the first fault of a turn, where the peer has reached this tick, and the turn's first frame has
+-- this place in the script
+abbrev pub turn_fault : Scene → ℕ → ℕ → ℕ → Turn → Option SessionFault
+turn_fault s peer place reached turn =
+    first_fault (frame_fault s peer place (frames_in turn)) (tick_fault peer reached turn.ticks)
+
+-- the first fault of a script
+unfoldable pub script_fault : Scene → ℕ → ℕ → ℕ → List Turn → Option SessionFault
+script_fault s peer place reached [] = None
+script_fault s peer place reached (turn ∷ turns) =
+    first_fault (turn_fault s peer place reached turn)
+    (script_fault s peer (place_after place (frames_in turn)) (reached + turn.ticks) turns)

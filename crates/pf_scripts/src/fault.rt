@@ -1,0 +1,37 @@
+//! Why a session of peers in threads fails.
+
+use pf_rollback::Refusal;
+use pf_step::CrewError;
+use std::alloc::AllocError;
+use thiserror::Error;
+
+/// Why a session fails. A peer is named by its player.
+#[derive(Clone, Copy, Debug, PartialEq, Eq, Error)]
+pub enum SessionFault {
+    /// A peer refuses a frame of its own script. Its place counts the script's frames from 0.
+    #[error("{2}")]
+    Frame(u8, usize, Refusal),
+    /// A script would pass the last tick, 1,048,576.
+    #[error("TickLimit")]
+    TickLimit(u8),
+    /// A peer was out of memory, its gate was shut, or its crew failed.
+    #[error("{1}")]
+    Peer(u8, CrewError),
+    /// There was no memory outside of the peers' threads.
+    #[error("out of memory")]
+    OutOfMemory,
+    /// The thread of a peer could not be started.
+    #[error("a thread could not be started")]
+    NoThread,
+}
+
+impl From<AllocError> for SessionFault {
+    ghost use Rattle.std.specs.Prelude.{◌≡◌};
+    ghost use Rattle.pf_scripts.specs.declared.fault.SessionFault.TheVariants.{OutOfMemory};
+
+    ghost from_gives = { λ error result. result ≡ OutOfMemory };
+
+    fn from(_: AllocError) -> SessionFault {
+        SessionFault::OutOfMemory
+    }
+}

@@ -1,0 +1,15 @@
+//! Peers that play scripts: in each turn a peer takes its own frames and hands them to the others,
+//! takes those that have come over its links, and goes on by some ticks.
+#![tactic(auto)]
+
+mod fault;
+pub mod laws;
+mod peer;
+mod play;
+mod taking;
+mod turn;
+
+pub use fault::SessionFault;
+pub use peer::{Peer, Polled};
+pub use play::MAX_POLLS;
+pub use turn::Turn;

@@ -1,0 +1,31 @@
+//! Taking a frame.
+
+ghost use Rattle.std.specs.Prelude.{◌≡◌, ◌∷◌, [], All, IfOk, None, Ok, OnErr, OnOk, length};
+ghost use Rattle.pf_commands.specs.declared.frame.TheConstants.{FRAME_LEN};
+ghost use Rattle.pf_commands.specs.Merge.{IsCommand};
+ghost use Rattle.pf_scripts.specs.Frames.{commands_in, refusal_of, with_frames};
+
+use pf_commands::decode;
+use pf_rollback::{Fault, PeerCore, Refusal};
+use std::alloc::AllocError;
+
+/// Takes a frame. Returns why it was refused, if it was. Out of memory leaves the peer as it was.
+pub(crate) fn take(core: &mut PeerCore, frame: &[u8]) -> Result<Option<Refusal>, AllocError>
+    ensures refusal { IfOk result (λ refusal. refusal ≡ refusal_of core.old.scene frame.now) }
+    ensures long { result ≡ Ok None → length frame.now ≡ FRAME_LEN }
+    ensures peer { OnOk result
+        (core.new.peer ≡ with_frames core.old.scene core.old.peer (frame.now ∷ [])) }
+    ensures scene { core.new.scene ≡ core.old.scene }
+    ensures ranges { All IsCommand (commands_in core.old.scene (frame.now ∷ [])) }
+    ensures err { OnErr result (core.new ≡ core.old) }
+{
+    let command = match decode(frame) {
+        Ok(command) => command,
+        Err(fault) => return Ok(Some(Refusal::Frame(fault))),
+    };
+    match core.put(&command) {
+        Ok(_) => Ok(None),
+        Err(Fault::Refused(refusal)) => Ok(Some(refusal)),
+        Err(Fault::OutOfMemory) => Err(AllocError),
+    }
+}
