@@ -56,6 +56,18 @@ fn peer_of(alloc: Global, player: u8, output: LinkOut, input: LinkIn) -> Result<
     Ok(Peer::new(core, outputs, inputs))
 }
 
+#[test]
+fn a_refused_frame_is_counted(rt: HostRuntime) -> Result<(), Fail> {
+    let alloc = rt.alloc();
+    let (output, _) = Link::pair(alloc, 1)?;
+    let (mut other, input) = Link::pair(alloc, 1)?;
+    let mut peer = peer_of(alloc, 1, output, input)?;
+    hand_in(&mut other, &[9])?;
+    let polled = peer.poll()?;
+    assert!(rt; polled.taken == 1 && polled.refused == 1);
+    Ok(())
+}
+
 /// Two peers that are linked to each other.
 fn two_peers(alloc: Global) -> Result<(Peer, Peer), Fail> {
     let (to_second, from_first) = Link::pair(alloc, 64)?;

@@ -14,7 +14,7 @@ use Rattle.pf_links.specs.Link.{Frame, SameIn, got}
 use Rattle.pf_links.specs.declared.input.LinkIn.{LinkIn}
 use Rattle.pf_rollback.specs.Peer.{Peer}
 use Rattle.pf_scripts.specs.Frames.{AreCounts, commands_in, refusal_of, refused_count, with_frames}
-use Rattle.pf_scripts.specs.Peer.{HasPolled, IsLaterByOne, all_fresh, fresh, kept_of, peer_of, scene_of}
+use Rattle.pf_scripts.specs.Peer.{HasLooked, HasPolled, IsLaterByOne, all_fresh, fresh, kept_of, peer_of, scene_of}
 use Rattle.pf_scripts.specs.declared.peer.Peer.{Peer as LinkedPeer}
 use Rattle.pf_scripts.specs.declared.peer.Polled.{Polled}
 use Rattle.pf_scripts.proofs.Fresh.{all_fresh-append, all_fresh_same, fresh_same}
@@ -66,6 +66,7 @@ module _ (s : Scene) (first : Peer) (start : List Frame) (olds : List LinkIn) wh
   pub record ArePolled (k : ℕ) (now : Peer) (news : List LinkIn) (polled : Polled) : Type 0 where
     pub peer : now ≡ with_frames s first (taken_by k news)
     pub inputs : AllZip IsLaterByOne (take k olds) (take k news)
+    pub looked : AllZip HasLooked (take k olds) (take k news)
     pub rest : drop k news ≡ drop k olds
     pub long : length news ≡ length olds
     pub counts : AreCounts s (taken_by k news) polled
@@ -79,6 +80,7 @@ module _ (s : Scene) (first : Peer) (start : List Frame) (olds : List LinkIn) wh
       let none : taken_by 0 olds ≡ start = append-nil start in record {
         peer = now_is ∙ ap (with_frames s first) (sym none);
         inputs = tt;
+        looked = tt;
         rest = refl;
         long = refl;
         counts = record { taken = taken ∙ ap length (sym none); refused = refused ∙ ap (refused_count s) (sym none) };
@@ -113,19 +115,22 @@ module _ (s : Scene) (first : Peer) (start : List Frame) (olds : List LinkIn) wh
 
   -- one more link was polled
   pub polled_more : (k : ℕ) (now after : Peer) (news : List LinkIn) (l : LinkIn) (polled more : Polled)
-      → k < length olds → ArePolled k now news polled → IsLaterByOne (get_or olds k l) l
+      → k < length olds → ArePolled k now news polled → IsLaterByOne (get_or olds k l) l → HasLooked (get_or olds k l) l
       → after ≡ with_frames s now (fresh (get_or olds k l) l)
       → more.taken ≡ polled.taken + length (fresh (get_or olds k l) l)
       → more.refused ≡ polled.refused + refused_count s (fresh (get_or olds k l) l)
       → All IsCommand (commands_in s (fresh (get_or olds k l) l))
       → ArePolled (k + 1) after (set news k l) more
-  polled_more k now after news l polled more low is later after_is taken refused ranges =
+  polled_more k now after news l polled more low is later looked after_is taken refused ranges =
       let new = fresh (get_or olds k l) l in
       let all = taken_more k news l low is.long in record {
         peer = after_is ∙ ap (λ p. with_frames s p new) is.peer ∙ frames_then s first (taken_by k news) new ∙ ap (with_frames s first) (sym all);
         inputs = subst (λ xs. AllZip IsLaterByOne xs (take (k + 1) (set news k l))) (sym (take_more olds k l low))
             (subst (AllZip IsLaterByOne (take k olds ++ get_or olds k l ∷ [])) (sym (take_more_set news k l (omega (arith, low, is.long))))
             (AllZip-push IsLaterByOne (take k olds) (take k news) (get_or olds k l) l is.inputs later));
+        looked = subst (λ xs. AllZip HasLooked xs (take (k + 1) (set news k l))) (sym (take_more olds k l low))
+            (subst (AllZip HasLooked (take k olds ++ get_or olds k l ∷ [])) (sym (take_more_set news k l (omega (arith, low, is.long))))
+            (AllZip-push HasLooked (take k olds) (take k news) (get_or olds k l) l is.looked looked));
         rest = rest_more k news l low is.long is.rest;
         long = length-set news k l ∙ is.long;
         counts = record {

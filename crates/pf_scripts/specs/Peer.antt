@@ -1,38 +1,39 @@
 -- What a contract sees of a peer with its links.
-use Rattle.std.specs.Prelude.{◌≡◌, ◌≤◌, List, [], ◌∷◌, ◌++◌, All, drop, length}
+use Rattle.std.specs.Prelude.{◌≡◌, ◌<◌, ◌≤◌, List, [], ◌∷◌, ◌++◌, All, None, Some, drop, length}
 use Rattle.std.specs.List.{AllZip}
 use Rattle.std.specs.Option.{option_to_list}
 use Rattle.pf_shapes.specs.Scene.{Scene}
 use Rattle.pf_commands.specs.Merge.{CommandMap, IsCommand, put_all}
-use Rattle.pf_links.specs.Link.{Frame, SameIn, SameOut, got, handed}
+use Rattle.pf_links.specs.Link.{Frame, SameIn, SameOut, got, handed, known}
 use Rattle.pf_links.specs.declared.input.LinkIn.{LinkIn}
 use Rattle.pf_links.specs.declared.output.LinkOut.{LinkOut}
 use Rattle.pf_rollback.specs.Peer.{Peer as Player}
-use Rattle.pf_scripts.specs.Frames.{commands_in, with_frames}
+use Rattle.pf_scripts.specs.Frames.{commands_in, refusal_of, with_frames}
 use Rattle.pf_scripts.specs.declared.peer.Peer.{Peer}
 
--- the scene that a peer plays, and the peer itself
+-- the scene that a peer plays
 abbrev pub scene_of : Peer → Scene
 scene_of p = p.core.scene
 
+-- its player, commands and reached tick
 abbrev pub peer_of : Peer → Player
 peer_of p = p.core.peer
 
--- the frame for which there was no memory, if there is one
+-- the frame that found no memory, if there is one
 abbrev pub kept_of : Peer → List Frame
 kept_of p = option_to_list p.kept
 
--- the commands that a peer holds, with that of the frame that it keeps
+-- the commands that a peer holds, and the one in the frame that it keeps
 abbrev pub commands_of : Peer → CommandMap
 commands_of p = put_all (peer_of p).commands (commands_in (scene_of p) (kept_of p))
 
 -- ---- what came over links
 
--- the frames that a receiver has taken since
+-- the frames that a receiver has taken between two moments
 abbrev pub fresh : LinkIn → LinkIn → List Frame
 fresh old new = drop (length (got old)) (got new)
 
--- the frames that have come over all links since, link by link
+-- those of all links, link by link
 abbrev pub all_fresh : List LinkIn → List LinkIn → List Frame
 all_fresh [] news = []
 all_fresh (old ∷ olds) [] = []
@@ -42,9 +43,13 @@ all_fresh (old ∷ olds) (new ∷ news) = fresh old new ++ all_fresh olds news
 abbrev pub IsLater : LinkIn → LinkIn → Type 0
 IsLater old new = SameIn old new × (got new ≡ got old ++ fresh old new)
 
--- and at most one of them
+-- the same, from which at most one frame was taken
 abbrev pub IsLaterByOne : LinkIn → LinkIn → Type 0
 IsLaterByOne old new = IsLater old new × (length (fresh old new) ≤ 1)
+
+-- the next frame was taken, if the receiver knew of one
+abbrev pub HasLooked : LinkIn → LinkIn → Type 0
+HasLooked old new = 0 < length (known old) → length (fresh old new) ≡ 1
 
 -- an end of the same link, into which these frames were handed
 abbrev pub WereHanded : List Frame → LinkOut → LinkOut → Type 0
@@ -61,3 +66,8 @@ pub record HasPolled (old new : Peer) (frames : List Frame) : Type 0 where
   pub ranges : All IsCommand (commands_in (scene_of old) (frames ++ kept_of new))
   pub inputs : AllZip IsLaterByOne old.inputs.items new.inputs.items
   pub outputs : new.outputs ≡ old.outputs
+
+-- a peer keeps a frame that it does not refuse
+abbrev pub KeepsFrame : Peer → Type 0
+KeepsFrame p =
+    (frame : Frame) × (p.kept ≡ Some frame) × (refusal_of (scene_of p) frame ≡ None)

@@ -14,8 +14,8 @@ use Rattle.pf_scripts.specs.declared.fault.SessionFault.TheVariants as faults
 use Rattle.pf_scripts.specs.declared.peer.Peer.{Peer}
 use Rattle.pf_scripts.specs.declared.turn.Turn.{Turn}
 
--- A peer has taken these frames of its own and those that have come meanwhile, in whatever order,
--- has handed its own to all others, and has gone on by so many ticks.
+-- A peer has taken these frames of its own and those that have come meanwhile, in whatever order.
+-- It has handed its own into all its links, and has gone on by so many ticks.
 pub record HasMoved (own : List Frame) (ticks : ℕ) (old new : Peer) : Type 0 where
   pub scene : scene_of new ≡ scene_of old
   pub player : (peer_of new).player ≡ (peer_of old).player
@@ -38,15 +38,15 @@ pub record HasPlayed (script : List Turn) (old new : Peer) : Type 0 where
       → (new.kept ≡ None) × (settled_tick new.core.kept ≡ (peer_of new).reached)
   pub idle : script ≡ [] → new ≡ old
 
--- an error with which a peer's play may end, whatever its script: a gate that lets everybody
--- through is never shut, and without a crew no thread is missed
+-- an error with which a play may end, whatever the script. A gate that lets everybody through is
+-- never shut. Without a crew there is no error of threads.
 abbrev pub IsPlayError : Bool → Option ℕ → CrewError → Type 0
 IsPlayError always crew OutOfMemory = ⊤
 IsPlayError always crew NoThread = IsSome crew
 IsPlayError always crew GateShut = always ≡ false
 IsPlayError always crew CrewLost = IsSome crew
 
--- the fault of a peer that fails in this way
+-- the fault of this player's peer, with an error that may come
 abbrev pub IsPeerFault : (CrewError → Type 0) → ℕ → SessionFault → Type 0
 IsPeerFault may_be player fault =
     (error : CrewError) × may_be error × (fault ≡ faults.Peer player error)

@@ -32,31 +32,30 @@ abbrev pub first_fault : Option SessionFault → Option SessionFault → Option 
 first_fault (Some fault) later = Some fault
 first_fault None later = later
 
--- the fault of the first frame that the peers of the scene refuse, where the first of these frames
--- has this place in the script of this peer
+-- the fault of the first of these frames that the peers of the scene refuse, if they refuse one;
+-- `place` is the number of the first frame in the script
 unfoldable pub frame_fault : Scene → ℕ → ℕ → List Frame → Option SessionFault
 frame_fault s peer place [] = None
 frame_fault s peer place (frame ∷ frames) =
     first_fault (option_map (faults.Frame peer place) (refusal_of s frame))
     (frame_fault s peer (saturating_sum place 1) frames)
 
--- going on by so many ticks would pass the last tick
+-- the fault of going on by so many ticks, if that passes the last tick
 abbrev pub tick_fault : ℕ → ℕ → ℕ → Option SessionFault
 tick_fault peer reached ticks =
     if nat_le (reached + ticks) MAX_TICK then None else Some (faults.TickLimit peer)
 
--- the place of the frame behind so many more
+-- the number behind that of the last of these frames, where the first has this one
 unfoldable pub place_after : ℕ → List Frame → ℕ
 place_after place [] = place
 place_after place (frame ∷ frames) = place_after (saturating_sum place 1) frames
 
--- the first fault of a turn, where the peer has reached this tick, and the turn's first frame has
--- this place in the script
+-- the first fault of a turn of a peer that has reached this tick
 abbrev pub turn_fault : Scene → ℕ → ℕ → ℕ → Turn → Option SessionFault
 turn_fault s peer place reached turn =
     first_fault (frame_fault s peer place (frames_in turn)) (tick_fault peer reached turn.ticks)
 
--- the first fault of a script
+-- the first fault of a script, turn by turn
 unfoldable pub script_fault : Scene → ℕ → ℕ → ℕ → List Turn → Option SessionFault
 script_fault s peer place reached [] = None
 script_fault s peer place reached (turn ∷ turns) =

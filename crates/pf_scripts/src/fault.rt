@@ -1,14 +1,15 @@
-//! Why a session of peers in threads fails.
+//! Why a peer that plays a script fails, and a session of such peers.
 
 use pf_rollback::Refusal;
 use pf_step::CrewError;
 use std::alloc::AllocError;
 use thiserror::Error;
 
-/// Why a session fails. A peer is named by its player.
+/// Why a play or a session of several fails. A peer is named by its player.
 #[derive(Clone, Copy, Debug, PartialEq, Eq, Error)]
 pub enum SessionFault {
-    /// A peer refuses a frame of its own script. Its place counts the script's frames from 0.
+    /// A peer refuses a frame of its own script. The frame's number counts all frames of the script
+    /// from 0.
     #[error("{2}")]
     Frame(u8, usize, Refusal),
     /// A script would pass the last tick, 1,048,576.

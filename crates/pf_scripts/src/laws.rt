@@ -4,7 +4,7 @@ ghost use Rattle.std.specs.Prelude.{◌≡◌};
 
 use crate::play::MAX_POLLS;
 
-/// In a turn a peer polls at most 64 times.
+/// The most polls of a turn are 64.
 pub fn named_limits()
     ensures { MAX_POLLS ≡ 64 }
 {}

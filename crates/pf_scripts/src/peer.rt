@@ -11,8 +11,8 @@ use pf_links::{LinkIn, LinkOut};
 use pf_rollback::PeerCore;
 use std::alloc::AllocError;
 
-/// A peer with the ends of its links, by which it hands frames to other peers and takes theirs. It
-/// waits for none of them.
+/// A peer with the ends of its links to other peers of the same scene. It waits for none of them. It
+/// takes frames of any player, its own script's too: what a player may do, the scene says.
 #[derive(Drop)]
 pub struct Peer {
     pub(crate) core: PeerCore,
@@ -31,11 +31,12 @@ pub struct Polled {
 }
 
 impl Peer {
-    ghost use Rattle.std.specs.Prelude.{◌≡◌, ◌+◌, ◌<◌, ◌^◌, ◌∷◌, [], All, List, None, Some, IfOk, IsSome, OnErr, OnOk};
+    ghost use Rattle.std.specs.Prelude.{◌≡◌, ◌+◌, ◌<◌, ◌^◌, ◌∷◌, [], All, List, None, Some, IfOk, OnErr, OnOk};
     ghost use Rattle.pf_commands.specs.Merge.{IsCommand};
     ghost use Rattle.pf_links.specs.Link.{Frame};
-    ghost use Rattle.pf_scripts.specs.Frames.{AreCounts, commands_in, refused_count, with_frames};
-    ghost use Rattle.pf_scripts.specs.Peer.{HasPolled, peer_of, scene_of};
+    ghost use Rattle.std.specs.List.{AllZip};
+    ghost use Rattle.pf_scripts.specs.Frames.{AreCounts, commands_in, refusal_of, refused_count, with_frames};
+    ghost use Rattle.pf_scripts.specs.Peer.{HasLooked, HasPolled, KeepsFrame, peer_of, scene_of};
 
     /// A peer with its links.
     pub fn new(core: PeerCore, outputs: Vec<LinkOut>, inputs: Vec<LinkIn>) -> Peer
@@ -72,6 +73,7 @@ impl Peer {
         ensures taken { OnOk result (polled.new.taken ≡ polled.old.taken + 1) }
         ensures refused { let refused = refused_count (scene_of self.old) (frame ∷ []) in
             OnOk result (polled.new.refused ≡ polled.old.refused + refused) }
+        ensures memory { OnErr result (refusal_of (scene_of self.old) frame ≡ None) }
         ensures err { OnErr result (self.new.core ≡ self.old.core) }
         ensures again { OnErr result (self.new.kept ≡ Some frame) }
         ensures inputs { self.new.inputs ≡ self.old.inputs }
@@ -91,14 +93,16 @@ impl Peer {
         }
     }
 
-    /// Takes a frame that it keeps, and then from each link at most one that has come. A frame that
-    /// is refused is dropped, and counted. Out of memory, those before stay taken, and the frame
-    /// for which there was none is kept for the next poll. Waits for nobody.
+    /// Takes the frame that the peer keeps, if there is one, and then from each link the next frame
+    /// that has come. A frame that is refused is counted, and dropped. Out of memory, the frames
+    /// before stay taken, and the frame that found no memory is kept for the next poll. Waits for
+    /// nobody.
     pub fn poll(&mut self) -> Result<Polled, AllocError>
         ensures polled { (frames : List Frame) × HasPolled self.old self.new frames
             × IfOk result (AreCounts (scene_of self.old) frames) }
+        ensures looked { OnOk result (AllZip HasLooked self.old.inputs.items self.new.inputs.items) }
         ensures ok { OnOk result (self.new.kept ≡ None) }
-        ensures err { OnErr result (IsSome self.new.kept) }
+        ensures err { OnErr result (KeepsFrame self.new) }
     {
         let links = self.inputs.len();
         let mut polled = Polled {
@@ -116,7 +120,8 @@ impl Peer {
         Ok(polled)
     }
 
-    /// All that the peer holds, a frame that it keeps last.
+    /// All that the peer holds: its core, the ends of its links, and the frame that it keeps, if there
+    /// is one. A peer made of the other three does not keep that.
     pub fn into_parts(self) -> (PeerCore, Vec<LinkOut>, Vec<LinkIn>, Option<[u8; FRAME_LEN]>)
         ensures { (result.0 ≡ self.core) × (result.1 ≡ self.outputs) × (result.2 ≡ self.inputs)
             × (result.3 ≡ self.kept) }

@@ -17,7 +17,7 @@ use std::alloc::{AllocError, Global};
 use std::sync::Wait;
 use std::thread::Threads;
 
-/// How often a peer polls in a turn at the most.
+/// The most polls of a turn.
 pub const MAX_POLLS: usize = 64;
 
 /// Hands a frame to all links.
@@ -43,7 +43,7 @@ impl Peer {
     ghost use Rattle.pf_scripts.specs.Script.{bytes_of, frame_fault, frames_in, place_after, script_fault, tick_fault, turn_fault};
     ghost use Rattle.pf_scripts.specs.declared.fault.SessionFault.TheVariants as faults;
 
-    /// What the type of its core ensures is that its commands are in range.
+    /// Does nothing. What its clauses say is what the types of the core and of the peer ensure.
     fn in_range(&self)
         ensures core { IsCommandMap (peer_of self.now).commands }
         ensures all { IsCommandMap (commands_of self.now) }
@@ -76,8 +76,8 @@ impl Peer {
         }
     }
 
-    /// Takes the frames of a turn, of which the first has this place in the script. Returns the
-    /// place of the frame behind them.
+    /// Takes the frames of a turn. `place` is the number of the first one in the script; returns the
+    /// number behind the last one.
     fn take_all_own(&mut self, place: usize, frames: &[Vec<u8>]) -> Result<usize, SessionFault>
         ensures moved { OnOk result (HasMoved (bytes_of frames.now) 0 self.old self.new) }
         ensures place { IfOk result (λ after. after ≡ place_after place (bytes_of frames.now)) }
@@ -96,7 +96,7 @@ impl Peer {
         Ok(place)
     }
 
-    /// Polls until a poll finds no frame.
+    /// Polls until a poll finds no frame, or [`MAX_POLLS`] times.
     fn poll_all(&mut self) -> Result<(), SessionFault>
         ensures moved { OnOk result (HasMoved [] 0 self.old self.new) }
         ensures kept { OnOk result (self.new.kept ≡ None) }
@@ -156,8 +156,8 @@ impl Peer {
         }
     }
 
-    /// Plays a turn, of which the first frame has this place in the script. Returns the place of
-    /// the frame behind it.
+    /// Plays a turn. `place` is the number of its first frame in the script; returns the number
+    /// behind its last one.
     fn play_turn<P: Collider, C: Crew>(
         &mut self,
         collider: &P,
@@ -216,10 +216,15 @@ impl Peer {
         Ok(peer)
     }
 
-    /// Plays a script: in each turn the peer passes the gate with its player's number and the
-    /// turn's, takes its own frames and hands each to all others, polls until a poll finds no
-    /// frame, goes on by some ticks, and settles them. With a crew it starts so many workers for
-    /// that, which end with it. Returns the first fault, and then the peer is gone. It may wait.
+    /// Plays a script. In each turn the peer passes the gate, with its player as the worker's number,
+    /// takes its own frames and hands each to all others, polls until a poll finds no frame, or
+    /// [`MAX_POLLS`] times, goes on by some ticks, and settles. With a crew, so many threads settle
+    /// the ticks: they are started first, pass an open gate, and are closed at the end.
+    ///
+    /// Returns the first fault that it meets, of the script or of the peer; then the peer is gone,
+    /// with all that it has taken. It waits for its gate and its crew, and for no other peer. Frames
+    /// for which a ring had no room go on when more are handed in; what is left at the end, the
+    /// peer's links hold.
     pub fn play<R, G>(
         self,
         rt: R,

@@ -9,7 +9,8 @@ use pf_commands::decode;
 use pf_rollback::{Fault, PeerCore, Refusal};
 use std::alloc::AllocError;
 
-/// Takes a frame. Returns why it was refused, if it was. Out of memory leaves the peer as it was.
+/// Takes a frame. Returns why it was refused, if it was. Only a frame that is not refused can be out
+/// of memory, which leaves the peer as it was.
 pub(crate) fn take(core: &mut PeerCore, frame: &[u8]) -> Result<Option<Refusal>, AllocError>
     ensures refusal { IfOk result (λ refusal. refusal ≡ refusal_of core.old.scene frame.now) }
     ensures long { result ≡ Ok None → length frame.now ≡ FRAME_LEN }
@@ -17,6 +18,7 @@ pub(crate) fn take(core: &mut PeerCore, frame: &[u8]) -> Result<Option<Refusal>,
         (core.new.peer ≡ with_frames core.old.scene core.old.peer (frame.now ∷ [])) }
     ensures scene { core.new.scene ≡ core.old.scene }
     ensures ranges { All IsCommand (commands_in core.old.scene (frame.now ∷ [])) }
+    ensures memory { OnErr result (refusal_of core.old.scene frame.now ≡ None) }
     ensures err { OnErr result (core.new ≡ core.old) }
 {
     let command = match decode(frame) {

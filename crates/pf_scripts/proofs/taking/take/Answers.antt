@@ -1,8 +1,8 @@
 use Rattle.std.proofs.Common.{rules, ◌≡◌, ◌∙◌, ◌++◌, [], Err, ap, sym}
 use Rattle.pf_commands.specs.Merge.{put_all}
-use Rattle.pf_rollback.specs.declared.fault.Fault.TheVariants.{Refused}
+use Rattle.pf_rollback.specs.declared.fault.Fault.TheVariants.{OutOfMemory, Refused}
 use Rattle.pf_scripts.specs.Frames.{commands_of_decoded, refusal_of_decoded}
-use Rattle.pf_scripts.proofs.Puts.{refused, taken}
+use Rattle.pf_scripts.proofs.Puts.{not_refused, refused, taken}
 use Rattle.pf_scripts.proofs.taking.take.Goals as goal
 
 pub returns-in-Ok-put-clause-refusal : goal.returns-in-Ok-put-clause-refusal
@@ -31,3 +31,11 @@ returns-in-Err-Refused-clause-peer c =
     let was : c.put.result ≡ Err (Refused c.in-Err-Refused.refusal) = search rules in
     (refused s p c.in-Ok.command c.in-Err-Refused.refusal c.put.new.self.peer c.put.result was c.put.ensures.peer).1
     ∙ ap (λ d. record p { commands = put_all p.commands (commands_of_decoded s d ++ []) }) c.in-Ok.ensures.exact
+
+pub returns-in-Err-OutOfMemory-clause-memory : goal.returns-in-Err-OutOfMemory-clause-memory
+returns-in-Err-OutOfMemory-clause-memory c =
+    let s = c.args.core.now.scene in
+    let p = c.args.core.now.peer in
+    let was : c.put.result ≡ Err OutOfMemory = search rules in
+    ap (refusal_of_decoded s) (sym c.in-Ok.ensures.exact)
+    ∙ not_refused s p c.in-Ok.command c.put.new.self.peer c.put.result was c.put.ensures.peer

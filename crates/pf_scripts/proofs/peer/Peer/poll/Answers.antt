@@ -1,9 +1,10 @@
 use Rattle.std.proofs.Common.{rules, ◌≡◌, ◌∙◌, ◌+◌, ◌++◌, ◌∷◌, [], ap, ap₂, arith, get_or, length, refl, set, sym, subst}
 use Rattle.std.proofs.lemmas.List.{get_or_default}
 use Rattle.std.specs.Option.{option_to_list}
-use Rattle.std.specs.Prelude.{All, ◌<◌}
+use Rattle.std.proofs.lemmas.Bool.{true≢false}
+use Rattle.std.specs.Prelude.{IsSome, All, ◌<◌}
 use Rattle.pf_commands.specs.Merge.{IsCommand}
-use Rattle.pf_links.specs.Link.{SameIn, got}
+use Rattle.pf_links.specs.Link.{SameIn, got, known}
 use Rattle.pf_scripts.specs.Frames.{commands_in, refused_count, with_frames}
 use Rattle.pf_scripts.specs.Peer.{kept_of, peer_of, scene_of}
 use Rattle.pf_scripts.proofs.Polls.{ArePolled, later_none, later_one, nothing_polled, polled_more, polled_none, same_at, stops}
@@ -92,6 +93,7 @@ loop-number-preserved c =
     c.index_mut.ensures.value ∙ get_or_default news k _ l (omega (arith, low, is.polled.long))
     ∙ same_at s (peer_of old) (kept_of old) olds k news l low is.polled.long is.polled.rest in
     let same = subst (λ x. SameIn x l) at c.look.ensures.same in
+    let seen = subst (λ x. 0 < length (known x) → IsSome c.look.result) at c.look.ensures.known in
     elim c.match-look.branch [
       | in-Some-look+in_ok-take_or_keep-2 w ↦
           let e = w.in_ok-take_or_keep-2.ensures in
@@ -104,6 +106,7 @@ loop-number-preserved c =
           rw (w.self-is, w.polled-is) (record {
             polled = subst (λ ls. ArePolled s (peer_of old) (kept_of old) olds (k + 1) (peer_of new) ls counted) inputs
                 (polled_more s (peer_of old) (kept_of old) olds k (peer_of now) (peer_of new) news l c.loop-number.polled counted low is.polled later.0
+                (λ some. ap length later.1)
                 (e.peer ∙ ap₂ (λ z fs. with_frames z (peer_of now) fs) is.scene came)
                 (omega (arith, e.taken, ap length later.1))
                 (e.refused ∙ ap₂ (λ z fs. c.loop-number.polled.refused + refused_count z fs) is.scene came)
@@ -117,6 +120,7 @@ loop-number-preserved c =
           let came = sym later.1 in
           rw (w.self-is, w.polled-is) (record {
             polled = polled_more s (peer_of old) (kept_of old) olds k (peer_of now) (peer_of now) news l c.loop-number.polled c.loop-number.polled low is.polled later.0
+                (λ some. absurd (true≢false (sym (subst IsSome w.in_default-look.is (seen some)))))
                 (ap (with_frames s (peer_of now)) came)
                 (omega (arith, ap length later.1))
                 (omega (arith, ap (refused_count s) later.1))
