@@ -97,6 +97,8 @@ pub enum Rule {
     Meeting,
     /// For all but this worker in this turn.
     Shut { worker: usize, turn: usize },
+    /// For all but the workers from this one on in this turn.
+    ShutFrom { worker: usize, turn: usize },
 }
 
 /// A gate that keeps a book. If it is always open, it only notes when it should be shut.
@@ -125,6 +127,10 @@ impl<const IS_OPEN: bool> Gate for TrialGate<IS_OPEN> {
                 worker: shut_worker,
                 turn: shut_turn,
             } => worker != shut_worker || turn != shut_turn,
+            Rule::ShutFrom {
+                worker: least_shut,
+                turn: shut_turn,
+            } => worker < least_shut || turn != shut_turn,
         };
         if !may_pass {
             self.book.shut.fetch_add(1, Ordering::SeqCst);

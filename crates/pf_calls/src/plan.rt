@@ -58,6 +58,10 @@ fn gate_of(words: &[&str]) -> Result<GateKind> {
             worker: count(worker)?,
             turn: count(turn)?,
         }),
+        ["shut-from", worker, turn] => GateKind::Ruled(Rule::ShutFrom {
+            worker: count(worker)?,
+            turn: count(turn)?,
+        }),
         _ => bail!("no such gate"),
     })
 }
