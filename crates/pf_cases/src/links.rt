@@ -11,7 +11,6 @@ use pf_step::CrewError;
 use pf_workers::{Gate, OpenGate};
 use std::alloc::{AllocError, Global};
 use std::test::Fail;
-use std::{hint, thread};
 
 /// Hands in frames whose bytes are all the same.
 fn hand_in(out: &mut LinkOut, bytes: &[u8]) -> Result<(), AllocError> {
@@ -38,35 +37,6 @@ fn frames_arrive_in_order(rt: HostRuntime) -> Result<(), Fail> {
     let first = finds(&mut into, &[1, 2]);
     hand_in(&mut out, &[4])?;
     assert!(rt; first && finds(&mut into, &[3, 4]));
-    Ok(())
-}
-
-/// Looks until a frame has come, or for long.
-fn awaited(into: &mut LinkIn) -> Option<[u8; FRAME_LEN]> {
-    for _ in 0..100_000_000u32 {
-        if let Some(frame) = into.look() {
-            return Some(frame);
-        }
-        hint::spin_loop();
-    }
-    None
-}
-
-#[test]
-fn a_frame_comes_from_another_thread(rt: HostRuntime) -> Result<(), Fail> {
-    let (out, into) = Link::pair(rt.alloc(), 1)?;
-    let (handed, found) = thread::join(
-        &rt,
-        move || {
-            let mut out = out;
-            hand_in(&mut out, &[7]).is_ok()
-        },
-        move || {
-            let mut into = into;
-            awaited(&mut into)
-        },
-    );
-    assert!(rt; handed && found == Some([7; FRAME_LEN]));
     Ok(())
 }
 
