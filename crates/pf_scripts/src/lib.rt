@@ -12,4 +12,5 @@ mod turn;
 pub use fault::SessionFault;
 pub use peer::{Peer, Polled};
 pub use play::MAX_POLLS;
+pub use taking::take;
 pub use turn::Turn;

@@ -11,7 +11,7 @@ use std::alloc::AllocError;
 
 /// Takes a frame. Returns why it was refused, if it was. Only a frame that is not refused can be out
 /// of memory, which leaves the peer as it was.
-pub(crate) fn take(core: &mut PeerCore, frame: &[u8]) -> Result<Option<Refusal>, AllocError>
+pub fn take(core: &mut PeerCore, frame: &[u8]) -> Result<Option<Refusal>, AllocError>
     ensures refusal { IfOk result (λ refusal. refusal ≡ refusal_of core.old.scene frame.now) }
     ensures long { result ≡ Ok None → length frame.now ≡ FRAME_LEN }
     ensures peer { OnOk result

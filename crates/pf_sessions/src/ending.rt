@@ -1,0 +1,154 @@
+//! The end of a session: each peer takes what is left on its links, settles, and shows its world.
+
+ghost use Rattle.std.specs.Prelude.{◌≡◌, All, IfOk, OnOk, length, map};
+ghost use Rattle.std.specs.List.{AllZip};
+ghost use Rattle.pf_links.specs.Link.{AreEnds};
+ghost use Rattle.pf_step.specs.Simulation.{sim};
+ghost use Rattle.pf_sessions.specs.Ending.{AllFinished, AreEnded, HasFinished, ShowsLast, inputs_in, receiver_of};
+ghost use Rattle.pf_sessions.specs.Links.{AreLinked, IsDelivered, inputs_of, outputs_of, rows_of};
+ghost use Rattle.pf_sessions.specs.Rest.{KeepsHanded};
+
+use crate::rest::take_rest;
+use crate::table::transpose;
+use pf_links::{LinkIn, LinkOut};
+use pf_rollback::{Fault, PeerCore};
+use pf_scripts::Peer;
+use pf_step::{Work, World};
+use std::alloc::{AllocError, Global};
+
+/// A peer without the ends of its links to others.
+#[derive(Drop)]
+pub struct Receiver {
+    core: PeerCore,
+    inputs: Vec<LinkIn>,
+}
+
+/// The receivers, and for each the ends of its links to the others.
+fn take_apart(
+    alloc: Global,
+    peers: Vec<Peer>,
+) -> Result<(Vec<Receiver>, Vec<Vec<LinkOut>>), AllocError>
+    ensures receivers { IfOk result (λ parts. parts.0.items ≡ map receiver_of peers.items) }
+    ensures outputs { IfOk result (λ parts. rows_of parts.1.items ≡ outputs_of peers.items) }
+{
+    let mut peers = peers;
+    let mut receivers = Vec::with_capacity(alloc, peers.len())?;
+    let mut outputs = Vec::with_capacity(alloc, peers.len())?;
+    for _ in 0..peers.len() {
+        let (core, row, inputs, _) = peers.remove(0).into_parts();
+        receivers.push(Receiver { core, inputs })?;
+        outputs.push(row)?;
+    }
+    Ok((receivers, outputs))
+}
+
+/// Lets a receiver take what is left on its links, and settle its ticks.
+fn finish(
+    alloc: Global,
+    receiver: &mut Receiver,
+    senders: &mut Vec<LinkOut>,
+) -> Result<(), AllocError>
+    requires { AllZip AreEnds senders.old.items receiver.old.inputs.items }
+    ensures finished { OnOk result (HasFinished receiver.old senders.old.items receiver.new) }
+    ensures links { OnOk result
+        (AllZip IsDelivered senders.new.items receiver.new.inputs.items) }
+    ensures handed { OnOk result (AllZip KeepsHanded senders.old.items senders.new.items) }
+{
+    take_rest(&mut receiver.core, senders, &mut receiver.inputs)?;
+    receiver.core.settle_alone(alloc)?;
+    Ok(())
+}
+
+/// The same of each receiver.
+fn finish_all(
+    alloc: Global,
+    receivers: &mut [Receiver],
+    senders: &mut [Vec<LinkOut>],
+) -> Result<(), AllocError>
+    requires { AllZip (AllZip AreEnds) (rows_of senders.old) (inputs_in receivers.old) }
+    ensures finished { OnOk result
+        (AllFinished receivers.old (rows_of senders.old) receivers.new) }
+    ensures links { OnOk result
+        (AllZip (AllZip IsDelivered) (rows_of senders.new) (inputs_in receivers.new)) }
+    ensures handed { OnOk result
+        (AllZip (AllZip KeepsHanded) (rows_of senders.old) (rows_of senders.new)) }
+{
+    let Some((receiver, receivers)) = receivers.split_first_mut() else {
+        return Ok(());
+    };
+    let Some((row, rows)) = senders.split_first_mut() else {
+        unreachable!()
+    };
+    finish(alloc, receiver, row)?;
+    finish_all(alloc, receivers, rows)
+}
+
+/// The receivers and the senders' ends after that.
+fn finish_each(
+    alloc: Global,
+    receivers: Vec<Receiver>,
+    senders: Vec<Vec<LinkOut>>,
+) -> Result<(Vec<Receiver>, Vec<Vec<LinkOut>>), AllocError>
+    requires { AllZip (AllZip AreEnds) (rows_of senders.items) (inputs_in receivers.items) }
+    ensures finished { IfOk result (λ all.
+        AllFinished receivers.items (rows_of senders.items) all.0.items) }
+    ensures links { IfOk result (λ all.
+        AllZip (AllZip IsDelivered) (rows_of all.1.items) (inputs_in all.0.items)) }
+    ensures handed { IfOk result (λ all.
+        AllZip (AllZip KeepsHanded) (rows_of senders.items) (rows_of all.1.items)) }
+{
+    let mut receivers = receivers;
+    let mut senders = senders;
+    finish_all(alloc, &mut receivers, &mut senders)?;
+    Ok((receivers, senders))
+}
+
+/// The world of a peer at the tick that it has reached.
+#[tactic(auto, using(crate::proofs::Worlds::last_shown, crate::proofs::Worlds::last_not_refused))]
+fn last_world(alloc: Global, core: &PeerCore) -> Result<World, AllocError>
+    ensures { let c = core.now in
+        IfOk result (λ world. world ≡ sim c.scene c.peer.commands c.peer.reached) }
+{
+    match core.world_at(alloc, core.reached(), &mut Work::new(alloc)) {
+        Ok(world) => Ok(world),
+        Err(Fault::OutOfMemory) => Err(AllocError),
+        Err(Fault::Refused(_)) => unreachable!(),
+    }
+}
+
+/// The peers with their ends of links again, each with its world.
+fn show_all(
+    alloc: Global,
+    receivers: Vec<Receiver>,
+    outputs: Vec<Vec<LinkOut>>,
+) -> Result<Vec<(Peer, World)>, AllocError>
+    requires { length outputs.items ≡ length receivers.items }
+    ensures receivers { IfOk result (λ ended.
+        map (λ e. receiver_of e.0) ended.items ≡ receivers.items) }
+    ensures outputs { IfOk result (λ ended.
+        outputs_of (map (λ e. e.0) ended.items) ≡ rows_of outputs.items) }
+    ensures shown { IfOk result (λ ended. All ShowsLast ended.items) }
+{
+    let mut receivers = receivers;
+    let mut outputs = outputs;
+    let mut ended = Vec::with_capacity(alloc, receivers.len())?;
+    for _ in 0..receivers.len() {
+        let Receiver { core, inputs } = receivers.remove(0);
+        let world = last_world(alloc, &core)?;
+        ended.push((Peer::new(core, outputs.remove(0), inputs), world))?;
+    }
+    Ok(ended)
+}
+
+/// Ends a session of peers that have played: what is left on each link is taken, first of its ring
+/// and then of its backlog; each peer settles once more, and shows its world.
+pub fn end_session(alloc: Global, peers: Vec<Peer>) -> Result<Vec<(Peer, World)>, AllocError>
+    requires { AreLinked AreEnds (outputs_of peers.items) (inputs_of peers.items) }
+    ensures { IfOk result (λ ended. AreEnded peers.items ended.items) }
+{
+    let (receivers, outputs) = take_apart(alloc, peers)?;
+    let senders = transpose(alloc, outputs)?;
+    let (receivers, senders) = finish_each(alloc, receivers, senders)?;
+    let outputs = transpose(alloc, senders)?;
+    show_all(alloc, receivers, outputs)
+}

@@ -1,0 +1,14 @@
+//! Sessions: each peer plays its script in a thread of its own, and hands its frames to the others
+//! over lock-free rings. Under every schedule each ends with the commands of all scripts.
+#![tactic(auto)]
+
+mod ending;
+pub mod laws;
+mod links;
+mod playing;
+mod rest;
+mod session;
+mod table;
+
+pub use links::LINK_CAPACITY;
+pub use session::run_session;

@@ -1,0 +1,71 @@
+//! The peers of a session before it begins, and the links between them.
+
+ghost use Rattle.std.specs.Prelude.{◌≡◌, ◌+◌, ◌-◌, ◌<◌, ◌≤◌, ℕ, IfOk, length};
+ghost use Rattle.std.specs.List.{AllZip, range_with_len};
+ghost use Rattle.pf_shapes.specs.declared.fixture.TheConstants.{PLAYERS};
+ghost use Rattle.pf_sessions.specs.Links.{AreLinked, IsNewLink, inputs_of, outputs_of, rows_of};
+ghost use Rattle.pf_sessions.specs.Playing.{AreNewPeers};
+
+use crate::table::transpose;
+use pf_links::{Link, LinkIn, LinkOut, MAX_CAPACITY};
+use pf_rollback::{MAX_RING, PeerCore};
+use pf_scripts::Peer;
+use pf_shapes::Scene;
+use std::alloc::{AllocError, Global};
+
+/// How many frames the ring of each link has room for. More wait in the sender's backlog.
+pub const LINK_CAPACITY: usize = MAX_CAPACITY;
+
+/// How many settled worlds each peer keeps beside its keyframes.
+pub const RING: usize = MAX_RING;
+
+/// Links from so many peers to one: the ends of the senders, and those of the receiver.
+fn links_to_one(alloc: Global, senders: usize) -> Result<(Vec<LinkOut>, Vec<LinkIn>), AllocError>
+    ensures links { IfOk result (λ ends. AllZip IsNewLink ends.0.items ends.1.items) }
+    ensures count { IfOk result (λ ends. length ends.0.items ≡ senders) }
+{
+    let mut outputs = Vec::with_capacity(alloc, senders)?;
+    let mut inputs = Vec::with_capacity(alloc, senders)?;
+    for _ in 0..senders {
+        let (output, input) = Link::pair(alloc, LINK_CAPACITY)?;
+        outputs.push(output)?;
+        inputs.push(input)?;
+    }
+    Ok((outputs, inputs))
+}
+
+/// Links from each of so many peers to each other one: for each the ends of its links to the
+/// others, and those of the links from the others to it.
+fn links_among(
+    alloc: Global,
+    peers: usize,
+) -> Result<(Vec<Vec<LinkOut>>, Vec<Vec<LinkIn>>), AllocError>
+    ensures links { IfOk result (λ links.
+        AreLinked IsNewLink (rows_of links.0.items) (rows_of links.1.items)) }
+    ensures counts { IfOk result (λ links.
+        (length links.0.items ≡ peers) × (length links.1.items ≡ peers)) }
+{
+    let mut senders = Vec::with_capacity(alloc, peers)?;
+    let mut inputs = Vec::with_capacity(alloc, peers)?;
+    for _ in 0..peers {
+        let (to_one, of_one) = links_to_one(alloc, peers - 1)?;
+        senders.push(to_one)?;
+        inputs.push(of_one)?;
+    }
+    Ok((transpose(alloc, senders)?, inputs))
+}
+
+/// So many new peers of the scene, which are linked with one another. The player of each is its
+/// number.
+pub fn new_peers(alloc: Global, scene: &Scene, count: usize) -> Result<Vec<Peer>, AllocError>
+    requires { count ≤ PLAYERS }
+    ensures peers { IfOk result (λ peers. AreNewPeers scene.now count peers.items) }
+{
+    let (mut outputs, mut inputs) = links_among(alloc, count)?;
+    let mut peers = Vec::with_capacity(alloc, count)?;
+    for player in 0..count {
+        let core = PeerCore::new(alloc, scene.try_clone()?, player as u8, RING)?;
+        peers.push(Peer::new(core, outputs.remove(0), inputs.remove(0)))?;
+    }
+    Ok(peers)
+}

@@ -1,0 +1,58 @@
+//! A session of peers in threads.
+
+ghost use Rattle.std.specs.Prelude.{◌≡◌, ◌<◌, ◌≤◌, All, IfErr, IfOk, IfSome, None, OnOk, length, map};
+ghost use Rattle.std.specs.List.{AllZip};
+ghost use Rattle.pf_pool.specs.declared.pool.TheConstants.{MAX_WORKERS};
+ghost use Rattle.pf_shapes.specs.declared.fixture.TheConstants.{PLAYERS};
+ghost use Rattle.pf_sessions.specs.Links.{AreLinked, IsDelivered, inputs_of, outputs_of};
+ghost use Rattle.pf_sessions.specs.Session.{HasEnded, HasSent, IsSessionFault, session_fault, session_results, shown_by, turns_of};
+
+use crate::ending::end_session;
+use crate::links::new_peers;
+use crate::playing::play_all;
+use pf_scripts::{Peer, SessionFault, Turn};
+use pf_shapes::Scene;
+use pf_step::World;
+use pf_workers::Gate;
+use std::alloc::Global;
+use std::sync::Wait;
+use std::thread::Threads;
+
+/// Plays a session: for each script a peer, whose player is its number, in a thread of its own. It
+/// plays its script, and hands its frames to all others, by [`Peer::play`], with a crew of so many
+/// workers or none; it passes the gate in each turn. When all have ended, each takes what is left
+/// on its links, and settles on the caller's thread.
+///
+/// Returns each peer with its world at the tick that it has reached. Under every schedule all peers
+/// hold the commands of all scripts. Its ends of links are ordered by the other peers' numbers.
+///
+/// Returns an error where peers failed, that of the least; where a thread could not be started; and
+/// where the caller is out of memory. It waits for the threads of all peers that it has started.
+pub fn run_session<R, G>(
+    rt: &R,
+    alloc: Global,
+    scene: &Scene,
+    scripts: &[Vec<Turn>],
+    crew: Option<usize>,
+    gate: &G,
+) -> Result<Vec<(Peer, World)>, SessionFault>
+where
+    R: Threads + Wait + Copy + Send + Sync + 'static,
+    G: Gate + Sync,
+    requires peers { length scripts.now ≤ PLAYERS }
+    requires crew { IfSome crew (λ workers. (0 < workers) × (workers ≤ MAX_WORKERS)) }
+    ensures no_fault { OnOk result (session_fault scene.now 0 (turns_of scripts.now) ≡ None) }
+    ensures results { IfOk result (λ all.
+        map shown_by all.items ≡ session_results scene.now (turns_of scripts.now)) }
+    ensures ended { IfOk result (λ all. All (λ e. HasEnded scene.now e.0) all.items) }
+    ensures sent { IfOk result (λ all.
+        AllZip HasSent (turns_of scripts.now) (map (λ e. e.0) all.items)) }
+    ensures links { IfOk result (λ all. let peers = map (λ e. e.0) all.items in
+        AreLinked IsDelivered (outputs_of peers) (inputs_of peers)) }
+    ensures fault { IfErr result
+        (IsSessionFault G.ALWAYS crew scene.now (turns_of scripts.now)) }
+{
+    let peers = new_peers(alloc, scene, scripts.len())?;
+    let played = play_all(rt, alloc, scripts, crew, gate, peers)?;
+    Ok(end_session(alloc, played)?)
+}
