@@ -1,19 +1,17 @@
 -- Whose fault ends a session.
-use Rattle.std.proofs.Common.{◌≡◌, ◌∙◌, ◌⊎◌, ℕ, zero, suc, ◌+◌, ◌<◌, Bool, List, [], ◌∷◌, ◌++◌, None, Option, Some, ap, arith, inl, inr, length, refl, subst, sym, take}
-use Rattle.std.proofs.lemmas.List.{length-append, take_at}
+use Rattle.std.proofs.Common.{◌≡◌, ◌∙◌, ℕ, zero, suc, ◌+◌, ◌<◌, Bool, List, [], ◌∷◌, ◌++◌, None, Option, Some, ap, arith, inl, inr, length, refl, subst, sym, take}
+use Rattle.std.proofs.lemmas.List.{take_at}
 use Rattle.std.specs.List.{AllZip, range_with_len}
 use Rattle.pf_shapes.specs.Scene.{Scene}
 use Rattle.pf_rollback.specs.Core.{PeerCore}
-use Rattle.pf_scripts.specs.Peer.{peer_of, scene_of}
-use Rattle.pf_scripts.specs.Play.{HasPlayed, IsPeerFault, IsPlayError}
+use Rattle.pf_scripts.specs.Play.{HasPlayed}
 use Rattle.pf_scripts.specs.Script.{first_fault, script_fault}
 use Rattle.pf_scripts.specs.declared.fault.SessionFault.{SessionFault}
 use Rattle.pf_scripts.specs.declared.fault.SessionFault.TheVariants as faults
 use Rattle.pf_scripts.specs.declared.peer.Peer.{Peer}
 use Rattle.pf_scripts.specs.declared.turn.Turn.{Turn}
 use Rattle.pf_sessions.specs.Playing.{AllPlayed, IsNewPeer, IsPlayFault, IsPlayersFault, LeastFails, own_fault}
-use Rattle.pf_sessions.specs.Session.{FailsAlone, IsSessionFault, session_fault}
-use Rattle.pf_sessions.proofs.Zips.{zip_long}
+use Rattle.pf_sessions.specs.Session.{IsSessionFault, session_fault}
 
 abbrev pub HasNoFault : List Turn → Peer → Type 0
 HasNoFault script p = own_fault script p ≡ None

@@ -3,11 +3,10 @@ use Rattle.std.proofs.Common.{◌≡◌, ◌∙◌, ℕ, zero, suc, ◌+◌, Non
 use Rattle.std.proofs.lemmas.Grind.{flat_map-append}
 use Rattle.std.proofs.lemmas.List.{append_assoc, drop_all}
 use Rattle.std.proofs.Math.Seq.{drop-append_seam}
-use Rattle.std.specs.List.{AllZip}
 use Rattle.std.proofs.lemmas.Option.{same_Some}
 use Rattle.std.specs.Prelude.{All, slice_get}
 use Rattle.pf_commands.specs.Merge.{IsCommand, put_all}
-use Rattle.pf_links.specs.Link.{AreEnds, Frame, LeavesFrames, SameIn, SameOut, backlog_of, got, handed, pushed}
+use Rattle.pf_links.specs.Link.{Frame, LeavesFrames, SameIn, backlog_of, got, handed}
 use Rattle.pf_links.specs.declared.input.LinkIn.{LinkIn}
 use Rattle.pf_links.specs.declared.output.LinkOut.{LinkOut}
 use Rattle.pf_rollback.specs.Core.{PeerCore}
@@ -15,9 +14,7 @@ use Rattle.pf_rollback.specs.Peer.{Peer as Player}
 use Rattle.pf_scripts.specs.Frames.{commands_in, with_frames}
 use Rattle.pf_scripts.specs.Peer.{IsLater, fresh}
 use Rattle.pf_scripts.proofs.Maps.{all_append, put_all-append}
-use Rattle.pf_sessions.specs.Links.{IsDelivered}
-use Rattle.pf_sessions.specs.Rest.{HasTaken, KeepsHanded, left_on}
-use Rattle.pf_sessions.proofs.Linked.{ends_on}
+use Rattle.pf_sessions.specs.Rest.{HasTaken, left_on}
 
 -- ---- a peer that takes frames
 

@@ -1,22 +1,21 @@
 -- What the peers of a session hold and show at its end.
-use Rattle.std.proofs.Common.{◌≡◌, ◌∙◌, ℕ, ◌+◌, List, [], ◌∷◌, ◌++◌, None, ap, ap₂, arith, map, refl, subst, sym}
+use Rattle.std.proofs.Common.{◌≡◌, ◌∙◌, ℕ, ◌+◌, List, [], ◌∷◌, ◌++◌, ap, ap₂, arith, map, refl, subst, sym}
 use Rattle.std.proofs.lemmas.Grind.{flat_map-append}
 use Rattle.std.proofs.lemmas.List.{append_assoc}
 use Rattle.std.proofs.lemmas.List.Elements.{All-cons, All-contains, All-head, All-map, All-tail}
 use Rattle.std.specs.FinMap.{empty}
-use Rattle.std.specs.List.{AllZip, flat_map, range_with_len}
+use Rattle.std.specs.List.{AllZip, flat_map}
 use Rattle.std.specs.Prelude.{All}
 use Rattle.pf_shapes.specs.Scene.{Scene}
 use Rattle.pf_commands.specs.Merge.{CommandMap, IsCommand, put_all}
 use Rattle.pf_commands.proofs.Lists.{put_all-same}
 use Rattle.pf_commands.proofs.Ranges.{AreCommands-empty}
-use Rattle.pf_links.specs.Link.{AreEnds, Frame, got, handed}
+use Rattle.pf_links.specs.Link.{Frame, got, handed}
 use Rattle.pf_links.specs.declared.input.LinkIn.{LinkIn}
 use Rattle.pf_links.specs.declared.output.LinkOut.{LinkOut}
-use Rattle.pf_rollback.specs.Core.{PeerCore}
 use Rattle.pf_rollback.specs.Peer.{Peer as Player}
 use Rattle.pf_scripts.specs.Frames.{commands_in}
-use Rattle.pf_scripts.specs.Peer.{peer_of, scene_of}
+use Rattle.pf_scripts.specs.Peer.{peer_of}
 use Rattle.pf_scripts.specs.Script.{frames_of, ticks_of}
 use Rattle.pf_scripts.specs.declared.peer.Peer.{Peer}
 use Rattle.pf_scripts.specs.declared.turn.Turn.{Turn}
@@ -25,8 +24,8 @@ use Rattle.pf_scripts.proofs.Members.{SameMembers, members_append, members_excha
 use Rattle.pf_step.specs.Simulation.{sim}
 use Rattle.pf_step.specs.World.{World}
 use Rattle.pf_sessions.specs.Ending.{AllFinished, AreEnded, HasFinished, IsTakenOrLeft, ShowsLast, receiver_of}
-use Rattle.pf_sessions.specs.Links.{AreLinked, IsDelivered, inputs_of, outputs_of}
-use Rattle.pf_sessions.specs.Playing.{AllPlayed, AreNewPeers, IsNewPeer}
+use Rattle.pf_sessions.specs.Links.{inputs_of, outputs_of}
+use Rattle.pf_sessions.specs.Playing.{AllPlayed, AreNewPeers}
 use Rattle.pf_sessions.specs.Rest.{KeepsHanded, all_left, left_on}
 use Rattle.pf_sessions.specs.Session.{HasEnded, HasSent, PeerResult, all_commands, result_of, results_from, session_results, shown_by}
 use Rattle.pf_sessions.specs.Table.{IsTable, transpose}

@@ -1,11 +1,11 @@
 -- Transposes of tables.
-use Rattle.std.proofs.Common.{◌≡◌, ◌≢◌, ◌∙◌, ℕ, zero, suc, ◌+◌, ◌-◌, ◌<◌, List, [], ◌∷◌, Option, Some, None, ap, ap₂, arith, drop, get_or, length, map, refl, subst, sym}
+use Rattle.std.proofs.Common.{◌≡◌, ◌≢◌, ◌∙◌, ℕ, zero, suc, ◌+◌, ◌<◌, List, [], ◌∷◌, ap, ap₂, arith, drop, get_or, length, refl, subst, sym}
 use Rattle.std.proofs.lemmas.Bool.Decides.{nat_tests}
 use Rattle.std.proofs.lemmas.List.{length-drop, length-map}
-use Rattle.std.proofs.lemmas.List.Elements.{All-cons, All-head, All-map, All-tail, All-weaker}
+use Rattle.std.proofs.lemmas.List.Elements.{All-cons, All-head, All-map, All-tail}
 use Rattle.std.specs.List.{AllZip}
 use Rattle.std.specs.Global.{Global}
-use Rattle.std.specs.Prelude.{All, Vec, nat_lt, remove, option_and_then, slice_get, if◌then◌else◌}
+use Rattle.std.specs.Prelude.{All, Vec, remove, option_and_then, slice_get}
 use Rattle.pf_sessions.specs.Links.{rows_of}
 use Rattle.pf_sessions.specs.Table.{IsTable, entry_of, first_entries, other_entries, place_of, transpose, transpose_of, with_entries}
 

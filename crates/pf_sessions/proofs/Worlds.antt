@@ -1,12 +1,9 @@
 -- The world of a peer at the tick that it has reached.
-use Rattle.std.proofs.Common.{◌≡◌, ◌∙◌, ℕ, ◌≤◌, Bool, true, false, Err, Ok, Result, ap, arith, refl, sym}
+use Rattle.std.proofs.Common.{◌≡◌, ◌∙◌, ℕ, true, Err, Ok, ap, arith, sym}
 use Rattle.std.proofs.lemmas.Bool.Decides.{nat_tests}
 use Rattle.std.specs.Prelude.{nat_le, if◌then◌else◌}
 use Rattle.pf_shapes.specs.Scene.{Scene}
-use Rattle.pf_rollback.specs.Calls.{Returns}
 use Rattle.pf_rollback.specs.Peer.{Peer, world_at}
-use Rattle.pf_rollback.specs.declared.fault.Fault.{Fault}
-use Rattle.pf_rollback.specs.declared.fault.Fault.TheVariants.{OutOfMemory, Refused}
 use Rattle.pf_rollback.specs.declared.fault.Refusal.{Refusal}
 use Rattle.pf_rollback.specs.declared.fault.Refusal.TheVariants.{NotReached}
 use Rattle.pf_step.specs.Simulation.{sim}

@@ -1,8 +1,8 @@
 -- The links between the peers of a session.
-use Rattle.std.specs.Prelude.{◌≡◌, ℕ, List, [], ◌∷◌, ◌++◌, All, Vec, drop, length, map}
+use Rattle.std.specs.Prelude.{◌≡◌, List, [], ◌++◌, Vec, map}
 use Rattle.std.specs.Global.{Global}
 use Rattle.std.specs.List.{AllZip}
-use Rattle.pf_links.specs.Link.{AreEnds, Frame, SameOut, backlog_of, got, handed}
+use Rattle.pf_links.specs.Link.{AreEnds, backlog_of, got, handed}
 use Rattle.pf_links.specs.declared.input.LinkIn.{LinkIn}
 use Rattle.pf_links.specs.declared.output.LinkOut.{LinkOut}
 use Rattle.pf_scripts.specs.declared.peer.Peer.{Peer}

@@ -1,4 +1,4 @@
-use Rattle.std.proofs.Common.{◌≡◌, drop, length, map, take}
+use Rattle.std.proofs.Common.{◌≡◌, drop, map, take}
 use Rattle.std.specs.Prelude.{All}
 use Rattle.pf_sessions.specs.Ending.{ShowsLast, receiver_of}
 use Rattle.pf_sessions.specs.Links.{outputs_of, rows_of}

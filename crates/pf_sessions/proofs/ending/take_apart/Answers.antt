@@ -1,4 +1,4 @@
-use Rattle.std.proofs.Common.{rules, ◌≡◌, ◌∙◌, ◌<◌, ◌++◌, ◌∷◌, [], List, Vec, ap, ap₂, arith, length, map, sym, take}
+use Rattle.std.proofs.Common.{rules, ◌∙◌, ◌<◌, ◌++◌, ◌∷◌, [], List, Vec, ap, ap₂, arith, length, map, sym, take}
 use Rattle.std.proofs.lemmas.List.{length-drop, map-append}
 use Rattle.std.specs.Global.{Global}
 use Rattle.pf_links.specs.declared.output.LinkOut.{LinkOut}

@@ -1,4 +1,4 @@
-use Rattle.std.proofs.Common.{◌≡◌, ◌++◌, ◌∷◌, [], arith, rules, subst, sym}
+use Rattle.std.proofs.Common.{◌++◌, ◌∷◌, [], rules, subst, sym}
 use Rattle.std.specs.List.{AllZip}
 use Rattle.pf_sessions.specs.Links.{IsNewLink}
 use Rattle.pf_sessions.proofs.Zips.{zip_push}

@@ -1,4 +1,4 @@
-use Rattle.std.proofs.Common.{◌≡◌, drop, length, map, take}
+use Rattle.std.proofs.Common.{◌≡◌, drop, take}
 use Rattle.std.specs.List.{AllZip, range_with_len}
 use Rattle.pf_sessions.specs.Links.{inputs_of, outputs_of, rows_of}
 use Rattle.pf_sessions.specs.Playing.{IsNewPeer}

@@ -1,4 +1,4 @@
-use Rattle.std.proofs.Common.{◌≡◌, ◌++◌, ◌∷◌, ap₂, subst, sym}
+use Rattle.std.proofs.Common.{ap₂, subst, sym}
 use Rattle.std.proofs.lemmas.Result.{IfOk-weaker}
 use Rattle.pf_sessions.specs.Rest.{HasTaken, all_left, left_on}
 use Rattle.pf_sessions.proofs.Rests.{taken_then}

@@ -1,4 +1,4 @@
-use Rattle.std.proofs.Common.{◌≡◌, ◌∙◌, ◌∷◌, ◌+◌, [], None, Some, subst, sym, take}
+use Rattle.std.proofs.Common.{◌∷◌, ◌+◌, [], subst, sym, take}
 use Rattle.pf_links.specs.Link.{backlog_of}
 use Rattle.pf_sessions.specs.Rest.{HasTaken}
 use Rattle.pf_sessions.proofs.Rests.{take_found, take_missing, taken_then}

@@ -1,4 +1,4 @@
-use Rattle.std.proofs.Common.{◌++◌, subst}
+use Rattle.std.proofs.Common.{subst}
 use Rattle.std.proofs.lemmas.Result.{IfOk-weaker}
 use Rattle.pf_links.specs.Link.{backlog_of}
 use Rattle.pf_scripts.specs.Peer.{fresh}
