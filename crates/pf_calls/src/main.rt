@@ -39,7 +39,6 @@
 
 mod call;
 mod crew;
-mod gate;
 mod peers;
 mod plan;
 mod print;

@@ -3,8 +3,8 @@
 ghost use Rattle.std.specs.Prelude.{◌<◌, ◌≤◌};
 ghost use Rattle.pf_pool.specs.declared.pool.TheConstants.{MAX_WORKERS};
 
-use crate::gate::Rule;
 use anyhow::{Context, Result, bail};
+use pf_trials::Rule;
 use pf_workers::MAX_WORKERS;
 
 /// When a crew starts its workers.

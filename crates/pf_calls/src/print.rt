@@ -3,10 +3,10 @@
 use anyhow::{Result, bail};
 use pf_cache::Contact;
 use pf_rollback::{Fault, PeerCore};
-use pf_shapes::{BodyState, Fixture, Scene};
+use pf_shapes::Scene;
 use pf_step::World;
-use pf_text::push_line;
-use std::alloc::{AllocError, Global};
+use pf_trials::push_bodies;
+use std::alloc::Global;
 
 /// The text of a fault of a peer, unless memory ran out.
 pub fn refused(alloc: Global, fault: Fault) -> Result<String> {
@@ -25,45 +25,6 @@ pub fn state_text(alloc: Global, number: usize, peer: &PeerCore) -> Result<Strin
     Ok(format!(in alloc;
         "state {number} {player} {bodies} {commands} {reached} {settled} {ticks} {collides}"
     )?)
-}
-
-/// Adds the line of a body, if it moves.
-fn push_body(
-    text: &mut String,
-    number: i64,
-    fixture: &Fixture,
-    body: &BodyState,
-) -> Result<(), AllocError> {
-    if fixture.is_static() {
-        return Ok(());
-    }
-    let numbers = [
-        number,
-        body.position.x.raw(),
-        body.position.y.raw(),
-        body.rotation.c.raw(),
-        body.rotation.s.raw(),
-        body.velocity.x.raw(),
-        body.velocity.y.raw(),
-        body.spin.raw(),
-        i64::from(body.timer),
-        i64::from(body.awake),
-    ];
-    push_line(text, "body", &numbers)
-}
-
-/// Adds a line for each body that moves.
-fn push_bodies(
-    text: &mut String,
-    fixtures: &[Fixture],
-    bodies: &[BodyState],
-) -> Result<(), AllocError> {
-    let mut number = 0i64;
-    for (fixture, body) in fixtures.iter().zip(bodies) {
-        push_body(text, number, fixture, body)?;
-        number = number.saturating_add(1);
-    }
-    Ok(())
 }
 
 /// The sums of what contacts have accumulated.

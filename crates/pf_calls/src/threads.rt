@@ -3,13 +3,13 @@
 ghost use Rattle.std.specs.Prelude.{◌≡◌, ◌<◌, ◌≤◌, length};
 ghost use Rattle.pf_pool.specs.declared.pool.TheConstants.{MAX_WORKERS};
 
-use crate::gate::{Book, Rule, TrialGate};
 use crate::plan::{GateKind, Life, Plan};
 use anyhow::{Result, bail};
 use pf_islands::Island;
 use pf_rollback::PeerCore;
 use pf_shapes::Scene;
 use pf_step::{Crew, CrewError, StepError};
+use pf_trials::{Book, Rule, TrialGate};
 use pf_workers::{Gate, MAX_WORKERS, OpenGate, ScopedCrew, StandingCollider, StandingCrew};
 use std::alloc::{AllocError, Global};
 use std::sync::{Arc, Wait};

@@ -10,5 +10,5 @@ mod rest;
 mod session;
 mod table;
 
-pub use links::LINK_CAPACITY;
+pub use links::{LINK_CAPACITY, RING, linked_peers};
 pub use session::run_session;

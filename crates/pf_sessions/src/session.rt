@@ -8,7 +8,7 @@ ghost use Rattle.pf_sessions.specs.Links.{AreLinked, IsDelivered, inputs_of, out
 ghost use Rattle.pf_sessions.specs.Session.{HasEnded, HasSent, IsSessionFault, session_fault, session_results, shown_by, turns_of};
 
 use crate::ending::end_session;
-use crate::links::new_peers;
+use crate::links::linked_peers;
 use crate::playing::play_all;
 use pf_scripts::{Peer, SessionFault, Turn};
 use pf_shapes::Scene;
@@ -52,7 +52,7 @@ where
     ensures fault { IfErr result
         (IsSessionFault G.ALWAYS crew scene.now (turns_of scripts.now)) }
 {
-    let peers = new_peers(alloc, scene, scripts.len())?;
+    let peers = linked_peers(alloc, scene, scripts.len())?;
     let played = play_all(rt, alloc, scripts, crew, gate, peers)?;
     Ok(end_session(alloc, played)?)
 }

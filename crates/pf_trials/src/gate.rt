@@ -65,6 +65,14 @@ impl Book {
         }
     }
 
+    /// Waits until this worker has come for this turn. Returns false if it does not come.
+    fn wait_for(&self, worker: usize, turn: usize) -> bool {
+        match self.workers.get(worker) {
+            Some(visits) => visits.wait_for(turn),
+            None => false,
+        }
+    }
+
     /// Waits until each worker has come for this turn. Returns false if one does not come.
     fn wait_for_all(&self, turn: usize) -> bool {
         for visits in &self.workers {
@@ -96,9 +104,21 @@ pub enum Rule {
     /// For each worker, once the others have come for the same turn.
     Meeting,
     /// For all but this worker in this turn.
-    Shut { worker: usize, turn: usize },
+    Shut {
+        worker: usize,
+        turn: usize,
+    },
     /// For all but the workers from this one on in this turn.
-    ShutFrom { worker: usize, turn: usize },
+    ShutFrom {
+        worker: usize,
+        turn: usize,
+    },
+    /// For each worker, but for this one in this turn only once another one has come for the turn.
+    After {
+        worker: usize,
+        turn: usize,
+        other: usize,
+    },
 }
 
 /// A gate that keeps a book. If it is always open, it only notes when it should be shut.
@@ -131,6 +151,11 @@ impl<const IS_OPEN: bool> Gate for TrialGate<IS_OPEN> {
                 worker: least_shut,
                 turn: shut_turn,
             } => worker < least_shut || turn != shut_turn,
+            Rule::After {
+                worker: late_worker,
+                turn: late_turn,
+                other,
+            } => worker != late_worker || turn != late_turn || self.book.wait_for(other, turn),
         };
         if !may_pass {
             self.book.shut.fetch_add(1, Ordering::SeqCst);

@@ -9,7 +9,7 @@ use Rattle.pf_scripts.specs.declared.peer.Peer.{Peer}
 use Rattle.pf_sessions.specs.Playing.{IsNewPeer}
 use Rattle.pf_sessions.specs.declared.links.TheConstants.{RING}
 use Rattle.pf_sessions.proofs.Zips.{range_more, taken_off, zip_push}
-use Rattle.pf_sessions.proofs.links.new_peers.Goals as goal
+use Rattle.pf_sessions.proofs.links.linked_peers.Goals as goal
 
 pub loop-player-preserved : goal.loop-player-preserved
 loop-player-preserved c =

@@ -2,7 +2,7 @@ use Rattle.std.proofs.Common.{◌≡◌, drop, take}
 use Rattle.std.specs.List.{AllZip, range_with_len}
 use Rattle.pf_sessions.specs.Links.{inputs_of, outputs_of, rows_of}
 use Rattle.pf_sessions.specs.Playing.{IsNewPeer}
-use Rattle.pf_sessions.proofs.links.new_peers.Given as goal
+use Rattle.pf_sessions.proofs.links.linked_peers.Given as goal
 
 abbrev pub invariant-loop-player : goal.invariant-loop-player
 invariant-loop-player l = record {
