@@ -12,9 +12,9 @@ ghost use Rattle.pf_console.specs.declared.fault.PlayFault.{PlayFault};
 ghost use Rattle.pf_console.specs.declared.phase.Phase.TheVariants.{Playing};
 ghost use Rattle.pf_console.specs.Digits.{frame_of};
 ghost use Rattle.pf_console.specs.EventEncoding.{event_line, IsEncodable};
-ghost use Rattle.pf_console.specs.Laws.{AreLinesOf, IsLineOf, NothingFailed, WritesPrefix, session_output};
-ghost use Rattle.pf_console.specs.Phase.{text_rules};
-ghost use Rattle.pf_console.specs.Text.{Runs, text_of};
+ghost use Rattle.pf_console.specs.Laws.{AreLinesOf, IsLineOf, NothingFailed, session_output};
+ghost use Rattle.pf_console.specs.Run.{text_rules};
+ghost use Rattle.pf_console.specs.Text.{Runs, WritesPrefix, text_of};
 
 use crate::phase::MAX_TEXT_PEERS;
 use pf_shapes::PLAYERS;
