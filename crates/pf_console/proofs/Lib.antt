@@ -12,3 +12,5 @@ pub mod ScriptBlocks
 pub mod SessionEnds
 pub mod ScriptTurns
 pub mod Quiet
+pub mod Reading
+pub mod Playing

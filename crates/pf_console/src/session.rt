@@ -1,10 +1,12 @@
 //! A text of a scene and scripts, played by peers in threads.
 
-ghost use Rattle.std.specs.Prelude.{◌+◌, ◌^◌, ◌<◌, ◌≤◌, IfSome};
+ghost use Rattle.std.specs.Prelude.{◌≡◌, ◌≢◌, ◌+◌, ◌^◌, ◌<◌, ◌≤◌, Err, IfSome};
 ghost use Rattle.pf_pool.specs.declared.pool.TheConstants.{MAX_WORKERS};
 ghost use Rattle.pf_text.specs.Streams.{IfExposed};
+ghost use Rattle.pf_step.specs.declared.crew.CrewError.{CrewError};
+ghost use Rattle.pf_console.specs.declared.fault.PlayFault.TheVariants.{Crew};
 ghost use Rattle.pf_console.specs.Crews.{FailsByThreads};
-ghost use Rattle.pf_console.specs.SessionText.{PlaysSession, ReadsScripts, WritesNothing};
+ghost use Rattle.pf_console.specs.SessionText.{PlaysSession, ReadsScripts, WritesNothing, outcome_of};
 ghost use Rattle.pf_console.specs.Text.{CountsReads, CountsWrites};
 
 use crate::fault::PlayFault;
@@ -16,8 +18,23 @@ use std::alloc::Global;
 use std::sync::Wait;
 use std::thread::Threads;
 
+/// What the end of a text's lines is for the program.
+fn outcome_of(
+    read: Result<(u64, Phase<Scripts>), DriveFault<SceneFault>>,
+) -> Result<Scripts, PlayFault>
+    ensures { result ≡ outcome_of read }
+{
+    match read {
+        Ok((_, Phase::Playing(scripts))) => Ok(scripts),
+        Ok((number, _)) => Err(PlayFault::Line(number, SceneFault::BadLine)),
+        Err(DriveFault::Line(number, fault)) => Err(PlayFault::Line(number, fault)),
+        Err(DriveFault::Memory) => Err(PlayFault::Memory),
+        Err(DriveFault::Read) => Err(PlayFault::Read),
+        Err(DriveFault::Write) => Err(PlayFault::Write),
+    }
+}
+
 /// Reads the scripts of a text. Nothing is written.
-#[tactic(auto, unfolding(crate::specs::SessionText::scripts_of))]
 fn read_scripts<R: Source, W: Sink>(
     alloc: Global,
     reader: &mut R,
@@ -34,15 +51,9 @@ fn read_scripts<R: Source, W: Sink>(
         (λ transfer. WritesNothing transfer × ReadsScripts transfer result) }
     ensures reads_counted { CountsReads (R.failures reader.old) result (R.failures reader.new) }
     ensures writes_counted { CountsWrites (W.failures writer.old) result (W.failures writer.new) }
+    ensures no_threads { (error : CrewError) → result ≢ Err (Crew error) }
 {
-    match drive(alloc, &mut (), reader, writer, Phase::<Scripts>::first()) {
-        Ok((_, Phase::Playing(scripts))) => Ok(scripts),
-        Ok((number, _)) => Err(PlayFault::Line(number, SceneFault::BadLine)),
-        Err(DriveFault::Line(number, fault)) => Err(PlayFault::Line(number, fault)),
-        Err(DriveFault::Memory) => Err(PlayFault::Memory),
-        Err(DriveFault::Read) => Err(PlayFault::Read),
-        Err(DriveFault::Write) => Err(PlayFault::Write),
-    }
+    outcome_of(drive(alloc, &mut (), reader, writer, Phase::<Scripts>::first()))
 }
 
 /// Processes a text of a scene, its peers and their turns: when all of it is read, each peer plays

@@ -1,31 +1,23 @@
-use Rattle.std.proofs.Common.{rules, ◌+◌, ◌^◌, ◌<◌, ◌≤◌, IfSome, ◌≡◌, ℕ, ◌-◌, ◌*◌, length, ◌/◌, ◌%◌, Bool, true, false, nat_eq, nat_lt, List, [], ◌∷◌, ◌++◌, slice_index_or, slice_set, bit_and, bit_or, Fits, w8, w32, w64, Bor, MutBor}
-use Rattle.pf_pool.specs.declared.pool.TheConstants.{MAX_WORKERS}
-use Rattle.pf_text.specs.Streams.{IfExposed}
-use Rattle.pf_console.specs.Crews.{FailsByThreads}
-use Rattle.pf_console.specs.SessionText.{PlaysSession, ReadsScripts, WritesNothing}
-use Rattle.pf_console.specs.Text.{CountsReads, CountsWrites}
+use Rattle.std.proofs.Common.{◌≡◌, Result, Err, ap}
+use Rattle.pf_text.specs.Streams.{Transfer}
+use Rattle.pf_console.proofs.Reading.{names_none, reads, reads_counted, writes_counted}
 use Rattle.pf_console.proofs.session.read_scripts.Goals as goal
 
--- src/session.rt:37:1
-pub returns-in-Ok-default-Playing-clause-text : goal.returns-in-Ok-default-Playing-clause-text
-returns-in-Ok-default-Playing-clause-text g c = ?
-
--- src/session.rt:37:1
-pub returns-in-Ok : goal.returns-in-Ok
-returns-in-Ok g c = ?
-
--- src/session.rt:37:1
-pub returns-in-Err-Line-clause-text : goal.returns-in-Err-Line-clause-text
-returns-in-Err-Line-clause-text g c = ?
-
--- src/session.rt:37:1
-pub returns-in-Err-Memory-clause-text : goal.returns-in-Err-Memory-clause-text
-returns-in-Err-Memory-clause-text g c = ?
-
--- src/session.rt:37:1
-pub returns-in-Err-Read-clause-text : goal.returns-in-Err-Read-clause-text
-returns-in-Err-Read-clause-text g c = ?
-
--- src/session.rt:20:1
 pub returns-clause-text : goal.returns-clause-text
-returns-clause-text g c = ?
+returns-clause-text g c = λ input before unread was.
+    let t : Transfer = record {
+      input = input;
+      left = g.R.Source.remaining c.drive.new.reader;
+      before = before;
+      after = g.W.Sink.contents c.drive.new.writer;
+    } in
+    rw c.outcome_of.ensures (reads t c.drive.result (rw c.first.ensures at (c.drive.ensures.driven input before unread was)))
+
+pub returns-clause-reads_counted : goal.returns-clause-reads_counted
+returns-clause-reads_counted g c = rw c.outcome_of.ensures (reads_counted _ _ c.drive.result c.drive.ensures.reads_counted)
+
+pub returns-clause-writes_counted : goal.returns-clause-writes_counted
+returns-clause-writes_counted g c = rw c.outcome_of.ensures (writes_counted _ _ c.drive.result c.drive.ensures.writes_counted)
+
+pub returns-clause-no_threads : goal.returns-clause-no_threads
+returns-clause-no_threads g c = rw c.outcome_of.ensures (names_none c.drive.result)

@@ -1,15 +1,19 @@
-use Rattle.std.proofs.Common.{rules, ◌+◌, ◌^◌, ◌<◌, ◌≤◌, IfSome, ◌≡◌, ℕ, ◌-◌, ◌*◌, length, ◌/◌, ◌%◌, Bool, true, false, nat_eq, nat_lt, List, [], ◌∷◌, ◌++◌, slice_index_or, slice_set, bit_and, bit_or, Fits, w8, w32, w64, Bor, MutBor}
-use Rattle.pf_pool.specs.declared.pool.TheConstants.{MAX_WORKERS}
-use Rattle.pf_text.specs.Streams.{IfExposed}
-use Rattle.pf_console.specs.Crews.{FailsByThreads}
-use Rattle.pf_console.specs.SessionText.{PlaysSession, ReadsScripts, WritesNothing}
-use Rattle.pf_console.specs.Text.{CountsReads, CountsWrites}
+use Rattle.std.proofs.Common.{◌≡◌, ◌∙◌, sym}
+use Rattle.pf_text.specs.Streams.{Transfer}
+use Rattle.pf_console.specs.Scripts.{Scripts}
+use Rattle.pf_console.proofs.Playing.{blocks_written}
 use Rattle.pf_console.proofs.session.session_text.Goals as goal
 
--- src/session.rt:76:19
-pub returns-in_err-scripts-clause-threads : goal.returns-in_err-scripts-clause-threads
-returns-in_err-scripts-clause-threads g c = ?
-
--- src/session.rt:54:1
 pub returns-clause-text : goal.returns-clause-text
-returns-clause-text g c = ?
+returns-clause-text g c = λ input before unread was.
+    let t : Transfer = record {
+      input = input;
+      left = g.R.Source.remaining c.read_scripts.new.reader;
+      before = before;
+      after = g.W.Sink.contents c.write_all.new.self;
+    } in
+    blocks_written t (g.W.Sink.contents c.read_scripts.new.writer) c.in_ok-scripts.scripts c.as_bytes.result.now
+    (c.in_ok-scripts.ensures.text input before unread was)
+    (c.as_bytes.ensures.value ∙ c.in_ok-blocks.ensures.blocks)
+    c.in_ok-blocks.ensures.taken
+    c.in_ok-write_all.ensures.ok
