@@ -14,3 +14,4 @@ pub mod ScriptTurns
 pub mod Quiet
 pub mod Reading
 pub mod Playing
+pub mod Alike

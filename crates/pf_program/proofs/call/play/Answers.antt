@@ -4,7 +4,7 @@ use Rattle.std.proofs.lemmas.Result.{err_from_is_err_and}
 use Rattle.pf_console.specs.declared.fault.PlayFault.TheVariants.{Crew}
 use Rattle.clap.specs.Words.{fault_of, subcommand_of}
 use Rattle.pf_program.specs.Options.{ParsesAs, command_line}
-use Rattle.pf_program.proofs.Crews.{never_shut, wants, words_name_none}
+use Rattle.pf_program.proofs.Crews.{fails_as, never_shut, wants, words_name_none}
 use Rattle.pf_program.proofs.call.play.Goals as goal
 
 pub returns-in_err-words-clause-plays : goal.returns-in_err-words-clause-plays
@@ -31,6 +31,7 @@ returns-clause-plays g c =
           c.as_slice.ensures.value c.in_ok-request.ensures.parses);
       does = inl c.perform-outcome.ensures.done;
       crew = λ error is.
-          let can = c.perform-outcome.ensures.crew error is in
-          (wants c.in_ok-request.request _ (sym (ap (option_map (λ w. w.crew)) c.in-Some.is) ∙ c.in_ok-workers.ensures.crew), (error, refl, never_shut can.0 can.2 error can.3));
+          let wanted = wants c.in_ok-request.request _ (sym (ap (option_map (λ w. w.crew)) c.in-Some.is) ∙ c.in_ok-workers.ensures.crew) in
+          let can = fails_as _ c.perform-outcome.result c.in_ok-request.request wanted c.perform-outcome.ensures.crew error is in
+          inl (wanted, never_shut can.0 can.2 error can.3);
     }
