@@ -68,7 +68,15 @@ fn play<S: AsStr + Drop, R: Source, W: Sink, T: Threads + Wait + Copy + Send + S
     let words = words?;
     let request = options(alloc, words.as_slice())?;
     let Some(workers) = crew_of(rt, alloc, &request)? else {
-        return perform(&rt, &OneThread, alloc, request, reader, writer, &mut OneThread);
+        return perform(
+            &rt,
+            &OneThread,
+            alloc,
+            request,
+            reader,
+            writer,
+            &mut OneThread,
+        );
     };
     let Workers { mut crew, collider } = workers;
     let outcome = perform(&rt, &collider, alloc, request, reader, writer, &mut crew);
