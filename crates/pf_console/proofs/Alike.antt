@@ -8,7 +8,7 @@ use Rattle.pf_console.specs.declared.fault.PlayFault.{PlayFault}
 use Rattle.pf_console.specs.declared.fault.PlayFault.TheVariants.{Words, Line, Frame, Session, Memory, Crew, Read, Write}
 use Rattle.pf_console.specs.Laws.{NothingFailed}
 use Rattle.pf_console.specs.Scripts.{Scripts, blocks_of, scripts_refusal}
-use Rattle.pf_console.specs.SessionText.{PlaysSession, SessionText, WritesNothing, scripts_of, session_text_of, text_of_scripts, text_unless}
+use Rattle.pf_console.specs.SessionText.{PlaysSession, WritesNothing, scripts_of, session_text_of, text_of_scripts, text_unless}
 use Rattle.pf_console.specs.Text.{WritesPrefix}
 
 -- a text with a fault writes nothing
@@ -18,6 +18,7 @@ silent t fault is = by (scripts_of t.input) is
     unless : (blocks : List ℕ) (refusal : Option Refusal) → (text_unless blocks refusal).fault ≡ Some fault → (text_unless blocks refusal).written ≡ []
     unless blocks None is = absurd cc
     unless blocks (Some refusal) is = refl
+
     by : (read : Result Scripts (ℕ × SceneFault)) → (text_of_scripts read).fault ≡ Some fault → (text_of_scripts read).written ≡ []
     by (Ok s) is = unless (blocks_of s) (scripts_refusal s.scene s.scripts) is
     by (Err line) is = refl

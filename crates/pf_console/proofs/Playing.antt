@@ -1,10 +1,9 @@
 -- How a call with the text of a session ends.
-use Rattle.std.proofs.Common.{◌≡◌, ◌≢◌, ◌∙◌, ◌⊎◌, ℕ, List, [], ◌++◌, Option, Some, None, Result, Ok, Err, refl, ap, sym, inl, inr, subst}
+use Rattle.std.proofs.Common.{◌≡◌, ◌∙◌, ℕ, List, ◌++◌, Option, Some, None, Ok, Err, ap, sym, inl, inr, subst}
 use Rattle.std.specs.Io.KnownBytes.{Appends}
 use Rattle.pf_text.specs.Lines.{AppendsPrefix}
 use Rattle.pf_text.specs.Streams.{Transfer}
 use Rattle.pf_text.proofs.Taking.{appends_known}
-use Rattle.pf_shapes.specs.declared.fault.SceneFault.{SceneFault}
 use Rattle.pf_rollback.specs.declared.fault.Refusal.{Refusal}
 use Rattle.pf_step.specs.declared.crew.CrewError.{CrewError}
 use Rattle.pf_console.specs.declared.fault.PlayFault.{PlayFault}

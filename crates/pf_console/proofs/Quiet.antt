@@ -1,9 +1,9 @@
 -- The lines of a session have no replies.
-use Rattle.std.proofs.Common.{◌≡◌, ◌∙◌, ℕ, ◌+◌, Bool, true, false, List, [], ◌∷◌, ◌++◌, length, Option, Some, None, Result, Ok, Err, refl, ap, sym, subst, if◌then◌else◌, ◌<◌, arith}
+use Rattle.std.proofs.Common.{◌≡◌, ◌∙◌, ℕ, ◌+◌, Bool, true, false, List, [], ◌∷◌, ◌++◌, length, Some, Result, Ok, Err, refl, ap, sym, subst, if◌then◌else◌, ◌<◌, arith}
 use Rattle.std.proofs.lemmas.List.{append-nil}
 use Rattle.pf_text.specs.declared.fault.LineFault.{LineFault}
 use Rattle.pf_text.specs.declared.fault.LineFault.TheVariants.{BadLine}
-use Rattle.pf_text.specs.Driver.{Output, LeadTo, StopsForMemory, StopsForRead, StopsForWrite, and_then, fields_step, is_plain, is_skipped, lines_output, step, text_output}
+use Rattle.pf_text.specs.Driver.{Output, LeadTo, StopsForMemory, StopsForRead, StopsForWrite, and_then, fields_step, is_plain, is_skipped, lines_output, step}
 use Rattle.pf_text.specs.Fields.{fields_of}
 use Rattle.pf_text.specs.Streams.{Transfer}
 use Rattle.pf_shapes.specs.declared.fault.SceneFault.{SceneFault}

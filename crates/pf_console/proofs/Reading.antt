@@ -1,5 +1,5 @@
 -- How the lines of a session's text were read.
-use Rattle.std.proofs.Common.{◌≡◌, ◌≢◌, ◌∙◌, ◌⊎◌, ℕ, ◌+◌, List, [], ◌∷◌, ◌++◌, Option, Some, Result, Ok, Err, refl, ap, sym, inl, inr, is_ok, true}
+use Rattle.std.proofs.Common.{◌≡◌, ◌≢◌, ℕ, Result, Ok, Err, ap, inl, inr, is_ok}
 use Rattle.pf_text.specs.declared.driver.DriveFault.{DriveFault}
 use Rattle.pf_text.specs.declared.driver.DriveFault.TheVariants as drives
 use Rattle.pf_text.specs.Driver.{Completes, Drives, StopsAtLine, text_output}
@@ -7,8 +7,7 @@ use Rattle.pf_text.specs.Driver as counts
 use Rattle.pf_text.specs.Streams.{Transfer}
 use Rattle.pf_shapes.specs.declared.fault.SceneFault.{SceneFault}
 use Rattle.pf_step.specs.declared.crew.CrewError.{CrewError}
-use Rattle.pf_console.specs.declared.fault.PlayFault.{PlayFault}
-use Rattle.pf_console.specs.declared.fault.PlayFault.TheVariants.{Words, Line, Frame, Session, Memory, Crew, Read, Write}
+use Rattle.pf_console.specs.declared.fault.PlayFault.TheVariants.{Crew}
 use Rattle.pf_console.specs.declared.phase.Phase.{Phase}
 use Rattle.pf_console.specs.declared.phase.Phase.TheVariants.{Reading, Seating, Playing}
 use Rattle.pf_console.specs.Phase.{first_phase}

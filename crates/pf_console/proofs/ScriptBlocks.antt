@@ -11,7 +11,7 @@ use Rattle.pf_scripts.specs.Script.{frames_of, ticks_of, frames_in}
 use Rattle.pf_scripts.specs.declared.turn.Turn.{Turn}
 use Rattle.pf_sessions.specs.Session.{all_commands, results_from, session_results}
 use Rattle.pf_console.specs.Blocks.{result_block}
-use Rattle.pf_console.specs.Scripts.{Scripts, blocks_from, blocks_of, commands_of}
+use Rattle.pf_console.specs.Scripts.{blocks_from, blocks_of, commands_of}
 use Rattle.pf_console.specs.Turns.{said_by}
 use Rattle.pf_console.specs.Turns as texts
 

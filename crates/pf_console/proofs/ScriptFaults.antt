@@ -16,7 +16,6 @@ use Rattle.pf_sessions.specs.Session.{session_fault}
 use Rattle.pf_console.specs.Blocks.{fault_of}
 use Rattle.pf_console.specs.Scripts.{first_of, frames_refusal, script_refusal, scripts_refusal, ticks_refusal}
 use Rattle.pf_console.specs.Turns.{said_by}
-use Rattle.pf_console.specs.declared.fault.PlayFault.{PlayFault}
 use Rattle.pf_console.specs.declared.fault.PlayFault.TheVariants.{Session}
 
 -- a refusal is what the program makes of a fault
@@ -58,8 +57,8 @@ script_tells s peer place reached (turn ∷ turns) =
     (first_of (frames_refusal s (frames_in turn)) (ticks_refusal reached turn.ticks))
     (script_refusal s (reached + turn.ticks) (map said_by turns))
     (first_tells (frame_fault s peer place (frames_in turn)) (tick_fault peer reached turn.ticks)
-        (frames_refusal s (frames_in turn)) (ticks_refusal reached turn.ticks)
-        (frames_tell s peer place (frames_in turn)) (ticks_tell peer reached turn.ticks))
+    (frames_refusal s (frames_in turn)) (ticks_refusal reached turn.ticks)
+    (frames_tell s peer place (frames_in turn)) (ticks_tell peer reached turn.ticks))
     (script_tells s peer (place_after place (frames_in turn)) (reached + turn.ticks) turns)
 
 pub session_tells : (s : Scene) (first : ℕ) (scripts : List (List Turn))

@@ -1,19 +1,15 @@
 -- How a session ends that writes nothing.
-use Rattle.std.proofs.Common.{◌≡◌, ◌∙◌, ◌⊎◌, ℕ, true, List, Option, Some, inl, inr, refl, subst, sym, map}
+use Rattle.std.proofs.Common.{ℕ, true, List, Option, inl, inr, subst, sym, map}
 use Rattle.std.proofs.lemmas.Bool.{true≢false}
 use Rattle.pf_shapes.specs.Scene.{Scene}
-use Rattle.pf_rollback.specs.declared.fault.Refusal.{Refusal}
 use Rattle.pf_scripts.specs.Play.{IsPlayError}
 use Rattle.pf_scripts.specs.declared.fault.SessionFault.{SessionFault}
-use Rattle.pf_scripts.specs.declared.fault.SessionFault.TheVariants as faults
 use Rattle.pf_scripts.specs.declared.turn.Turn.{Turn}
-use Rattle.pf_sessions.specs.Session.{FailsAlone, IsSessionFault}
+use Rattle.pf_sessions.specs.Session.{IsSessionFault}
 use Rattle.pf_step.specs.declared.crew.CrewError.{CrewError}
 use Rattle.pf_step.specs.declared.crew.CrewError.TheVariants.{OutOfMemory, NoThread, GateShut, CrewLost}
-use Rattle.pf_console.specs.declared.fault.PlayFault.{PlayFault}
-use Rattle.pf_console.specs.declared.fault.PlayFault.TheVariants.{Session}
 use Rattle.pf_console.specs.Blocks.{fault_of, fault_of_peer}
-use Rattle.pf_console.specs.Scripts.{Scripts, scripts_refusal}
+use Rattle.pf_console.specs.Scripts.{Scripts}
 use Rattle.pf_console.specs.SessionText.{EndsBy}
 use Rattle.pf_console.specs.Turns.{said_by}
 use Rattle.pf_console.proofs.ScriptFaults.{some_refused}
@@ -30,6 +26,7 @@ fault_ends crew s scripts fault ends = by ends
   where
     all : Scripts
     all = record { scene = s; scripts = map (map said_by) scripts }
+
     by : IsSessionFault true crew s scripts fault → EndsBy crew all (fault_of fault)
     by (inl refused) =
         let found = some_refused s scripts fault refused in

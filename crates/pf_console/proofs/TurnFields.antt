@@ -1,5 +1,5 @@
 -- The fields of a turn's frames.
-use Rattle.std.proofs.Common.{◌≡◌, ◌∙◌, ℕ, suc, zero, ◌<◌, Bool, true, false, ◌&&◌, List, [], ◌∷◌, length, map, Result, Ok, Err, is_ok, refl, ap, sym, arith}
+use Rattle.std.proofs.Common.{◌≡◌, ◌∙◌, ℕ, suc, zero, ◌<◌, true, false, ◌&&◌, List, [], ◌∷◌, length, map, Result, Ok, Err, is_ok, refl, ap, sym, arith}
 use Rattle.std.specs.Prelude.{All, IsOk, Vec, slice_index_or}
 use Rattle.std.specs.Global.{Global}
 use Rattle.std.specs.List.{list_all}
@@ -39,6 +39,7 @@ module _ {R : Type 0} (view : R → List ℕ) where
           → IsOk (bytes_of (view (slice_index_or (field ∷ fields) k d)))
       at first rest zero d low = first
       at first rest (suc k) d low = rest k d (omega arith)
+
       by : IsOk (bytes_of (view field)) → All (λ f. IsOk (bytes_of (view f))) fields → All (λ f. IsOk (bytes_of (view f))) (field ∷ fields)
       by first rest = λ k d low. at first rest k d low
 

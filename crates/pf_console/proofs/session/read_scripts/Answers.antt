@@ -1,4 +1,3 @@
-use Rattle.std.proofs.Common.{◌≡◌, Result, Err, ap}
 use Rattle.pf_text.specs.Streams.{Transfer}
 use Rattle.pf_console.proofs.Reading.{names_none, reads, reads_counted, writes_counted}
 use Rattle.pf_console.proofs.session.read_scripts.Goals as goal

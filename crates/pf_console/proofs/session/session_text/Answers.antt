@@ -1,6 +1,5 @@
-use Rattle.std.proofs.Common.{◌≡◌, ◌∙◌, sym}
+use Rattle.std.proofs.Common.{◌∙◌}
 use Rattle.pf_text.specs.Streams.{Transfer}
-use Rattle.pf_console.specs.Scripts.{Scripts}
 use Rattle.pf_console.proofs.Playing.{blocks_written}
 use Rattle.pf_console.proofs.session.session_text.Goals as goal
 

@@ -1,5 +1,4 @@
-use Rattle.std.proofs.Common.{◌≡◌, ℕ, List, Result, Ok, map, take}
-use Rattle.pf_text.specs.declared.fault.LineFault.{LineFault}
+use Rattle.std.proofs.Common.{◌≡◌, Ok, map, take}
 use Rattle.pf_console.specs.Digits.{bytes_of}
 use Rattle.pf_console.proofs.turns.decoded.Given as goal
 

@@ -1,8 +1,6 @@
-use Rattle.std.proofs.Common.{◌≡◌, ◌∙◌, ◌++◌, List, ℕ, None, map, ap, subst, sym}
-use Rattle.std.specs.List.{flat_map}
-use Rattle.pf_sessions.specs.Session.{PeerResult, session_results, shown_by, turns_of}
-use Rattle.pf_shapes.specs.Fixture.{Fixture}
-use Rattle.pf_console.specs.Blocks.{fault_of, result_block}
+use Rattle.std.proofs.Common.{◌≡◌, ◌∙◌, None, map, ap, subst}
+use Rattle.pf_sessions.specs.Session.{session_results, shown_by, turns_of}
+use Rattle.pf_console.specs.Blocks.{fault_of}
 use Rattle.pf_console.specs.Scripts.{Scripts, blocks_of, scripts_refusal}
 use Rattle.pf_console.specs.SessionText.{EndsBy}
 use Rattle.pf_console.proofs.ScriptFaults.{none_refused}

@@ -1,7 +1,7 @@
-use Rattle.std.proofs.Common.{◌≡◌, List, [], length, map}
+use Rattle.std.proofs.Common.{◌≡◌, [], length, map}
 use Rattle.std.specs.Prelude.{replicate}
 use Rattle.pf_sessions.specs.Session.{turns_of}
-use Rattle.pf_console.specs.Turns.{Turn, said_by}
+use Rattle.pf_console.specs.Turns.{said_by}
 use Rattle.pf_console.proofs.scripts.ScriptsPlayUnit.begin.Given as goal
 
 abbrev pub invariant-loop : goal.invariant-loop
