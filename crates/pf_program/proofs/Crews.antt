@@ -1,5 +1,5 @@
 -- Which errors of a crew a call can end with.
-use Rattle.std.proofs.Common.{◌≡◌, ◌≢◌, List, true, None, Some, Result, Ok, Err, ap, refl, inl, inr, subst}
+use Rattle.std.proofs.Common.{◌≡◌, ◌≢◌, List, true, None, Some, Result, Ok, Err, ap, refl, inl, inr, subst, ◌∙◌}
 use Rattle.std.specs.Prelude.{is_some}
 use Rattle.std.proofs.lemmas.Bool.{true≢false}
 use Rattle.pf_step.specs.declared.crew.CrewError.TheVariants.{OutOfMemory, NoThread, GateShut, CrewLost}
@@ -8,7 +8,7 @@ use Rattle.pf_console.specs.declared.request.Request.{Request}
 use Rattle.pf_console.specs.declared.request.Request.TheVariants.{Help, Run, Version}
 use Rattle.pf_console.specs.declared.request.Request.TheVariants as requests
 use Rattle.pf_console.specs.declared.fault.PlayFault.TheVariants as faults
-use Rattle.pf_program.specs.Program.{IsCrewFault, WantsCrew, crew_for}
+use Rattle.pf_program.specs.Program.{IsCrewFault, IsStartFault, WantsCrew, crew_for}
 use Rattle.pf_step.specs.declared.crew.CrewError.{CrewError}
 use Rattle.pf_console.specs.declared.fault.PlayFault.{PlayFault}
 use Rattle.pf_console.specs.declared.fault.PlayFault.TheVariants.{Words, Line, Frame, Memory, Crew, Read, Write}
@@ -46,6 +46,17 @@ start_not_shut OutOfMemory is = λ e. absurd cc
 start_not_shut NoThread is = λ e. absurd cc
 start_not_shut GateShut is = absurd is
 start_not_shut CrewLost is = absurd is
+
+pub err_same : {r : Result (Unit {0}) PlayFault} {f g : PlayFault} → r ≡ Err f → r ≡ Err g → g ≡ f
+err_same first second = cc
+
+pub started_not_shut : (request : Request) (fault : PlayFault) → IsStartFault request fault → (error : CrewError) → fault ≡ Crew error → error ≢ GateShut
+started_not_shut request fault start error is =
+    let same : start.1.0 ≡ error = by start.1.1 is in
+    λ shut. start_not_shut start.1.0 start.1.2 (same ∙ shut)
+  where
+    by : {a b : CrewError} → fault ≡ Crew a → fault ≡ Crew b → a ≡ b
+    by first second = cc
 
 -- a standing crew whose gate is open never fails by it
 pub never_shut : (before after : StandingCrew) (error : CrewError) → FailsStanding true before error after → error ≢ GateShut

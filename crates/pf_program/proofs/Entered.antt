@@ -1,6 +1,8 @@
 -- The subcommand that words enter, by the matches of a parse.
 use Rattle.std.proofs.Common.{rules, refl, ap, codes, ◌≡◌, ◌∙◌, List, Option, Some, None, [], Ok, ℕ, true, false, ◌∷◌}
 use Rattle.std.specs.Prelude.{option_map, unwrap_or}
+use Rattle.std.specs.Str.{bytes_eq}
+use Rattle.std.proofs.lemmas.Slice.Eq.{bytes_eq-Decides}
 use Rattle.clap.specs.Words.{Kinds, Row, Text, first_of, subcommand_name_of, subcommand_rows_of}
 use Rattle.clap.specs.declared.parser.matches.ArgMatches.{ArgMatches}
 use Rattle.clap.specs.declared.parser.matches.ArgMatches.TheViews.{out-ArgMatches}
@@ -26,6 +28,9 @@ named m = map_map (λ (p : Text × List Row). p.0) _ (out-ArgMatches m).subcomma
 pub digits_found : (m : ArgMatches) (rows : List Row) (value : Option Text) → subcommand_name_of m ≡ Some (codes "frame")
     → option_map (λ p. p.1) (subcommand_rows_of m) ≡ Some rows → first_of (codes "HEX") rows ≡ value → digits_in (subcommand_rows_of m) ≡ Some (unwrap_or value [])
 digits_found m rows value name_is rows_are value_is = digits_of (subcommand_rows_of m) rows value (named m ∙ name_is) rows_are value_is
+
+same_bytes : (name : Text) → bytes_eq name name ≡ true
+same_bytes name = (bytes_eq-Decides name name).1 refl
 
 crew_of : (entered : Option (Text × List Row)) (name : Text) (rows : List Row) (value : Option Text) → option_map (λ p. p.0) entered ≡ Some name
     → option_map (λ p. p.1) entered ≡ Some rows → first_of (codes "crew") rows ≡ value → crew_size_in name entered ≡ crew_size_of value
