@@ -1,7 +1,7 @@
 -- A call that reads nothing counts no failure of a reader, and has no error of a crew.
 use Rattle.std.proofs.Common.{ℕ, List, Result, Ok, Err, refl, subst}
 use Rattle.pf_console.specs.declared.fault.PlayFault.{PlayFault}
-use Rattle.pf_console.specs.declared.fault.PlayFault.TheVariants.{Words, Line, Frame, Memory, Crew, Read, Write}
+use Rattle.pf_console.specs.declared.fault.PlayFault.TheVariants.{Words, Line, Frame, Session, Memory, Crew, Read, Write}
 use Rattle.pf_islands.specs.Split.{Island}
 use Rattle.pf_step.specs.declared.crew.CrewError.{CrewError}
 use Rattle.pf_console.specs.Crews.{FailsByCrew}
@@ -12,6 +12,7 @@ counts_nothing failures (Ok done) h = refl
 counts_nothing failures (Err (Words text)) h = refl
 counts_nothing failures (Err (Line number fault)) h = refl
 counts_nothing failures (Err (Frame fault)) h = refl
+counts_nothing failures (Err (Session refusal)) h = refl
 counts_nothing failures (Err Memory) h = refl
 counts_nothing failures (Err Write) h = refl
 counts_nothing failures (Err (Crew error)) h = elim h [ ]

@@ -5,7 +5,8 @@ use Rattle.pf_peers.specs.declared.event.Event.{Event}
 use Rattle.pf_peers.specs.Session.{Session, reply_to, replies_to, session_after, session_after_all}
 use Rattle.pf_peers.proofs.Sessions.{length-session_after}
 use Rattle.pf_console.specs.declared.phase.Phase.TheVariants.{Playing}
-use Rattle.pf_console.specs.Phase.{after_line, text_rules}
+use Rattle.pf_console.specs.Phase.{after_line}
+use Rattle.pf_console.specs.Run.{text_rules}
 use Rattle.pf_console.specs.Print.{reply_text}
 use Rattle.pf_console.specs.Laws.{IsLineOf, AreLinesOf, session_output}
 

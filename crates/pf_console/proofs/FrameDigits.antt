@@ -1,5 +1,5 @@
 -- Digits that are not those of 27 bytes encode no command.
-use Rattle.std.proofs.Common.{◌≡◌, ◌≢◌, ◌==◌, ℕ, ◌+◌, ◌-◌, ◌*◌, ◌%◌, ◌<◌, Bool, true, false, ◌&&◌, ◌||◌, List, [], ◌∷◌, length, Some, None, Ok, Err, refl, ap, ◌∙◌, arith, nat_le, nat_lt, if◌then◌else◌}
+use Rattle.std.proofs.Common.{is_ok, ◌≡◌, ◌≢◌, ◌==◌, ℕ, ◌+◌, ◌-◌, ◌*◌, ◌%◌, ◌<◌, Bool, true, false, ◌&&◌, ◌||◌, List, [], ◌∷◌, length, Some, None, Ok, Err, refl, ap, ◌∙◌, arith, nat_le, nat_lt, if◌then◌else◌}
 use Rattle.std.specs.Char.{is_ascii_hexdigit}
 use Rattle.std.specs.List.{list_all}
 use Rattle.std.proofs.lemmas.Bool.{and_parts}
@@ -11,7 +11,7 @@ use Rattle.pf_text.specs.declared.fault.LineFault.TheVariants.{BadNumber}
 use Rattle.pf_commands.specs.declared.fault.FrameFault.{FrameFault}
 use Rattle.pf_commands.specs.declared.fault.FrameFault.TheVariants.{Short, Long}
 use Rattle.pf_commands.specs.Frame.{decode}
-use Rattle.pf_console.specs.Digits.{frame_or_error, bytes_or_error, frame_of}
+use Rattle.pf_console.specs.Digits.{bytes_of, frame_or_error, bytes_or_error, frame_of}
 
 -- ---- one digit
 
@@ -68,6 +68,25 @@ others_fail i (high ∷ low ∷ rest) even e =
     by false is b of e more = (InvalidHexCharacter high i, rw (other_has_none high is) refl)
     by true is false of e more = (InvalidHexCharacter low (i + 1), rw ((digit_has_value high is).1, other_has_none low of) refl)
     by true is true of e more = let failed = more e in (failed.0, rw ((digit_has_value high is).1, (digit_has_value low of).1, failed.1) refl)
+
+-- ---- bytes
+
+pub odd_bytes : (digits : List ℕ) → length digits % 2 ≢ 0 → is_ok (bytes_of digits) ≡ false
+odd_bytes digits odd = let e : (length digits % 2 == 1) ≡ true = grind (arith, nat_tests) in rw e refl
+
+even_bytes : (digits : List ℕ) → length digits % 2 ≡ 0 → bytes_of digits ≡ bytes_or_error (decode_pairs 0 digits)
+even_bytes digits even = let e : (length digits % 2 == 1) ≡ false = grind (arith, nat_tests) in rw e refl
+
+pub all_digits : (digits : List ℕ) → length digits % 2 ≡ 0 → list_all is_ascii_hexdigit digits ≡ true → is_ok (bytes_of digits) ≡ true
+all_digits digits even e =
+    ap is_ok (even_bytes digits even) ∙ ap (λ bytes. is_ok (bytes_or_error bytes)) (digits_decode 0 digits even e).1
+
+pub not_all_digits : (digits : List ℕ) → length digits % 2 ≡ 0 → list_all is_ascii_hexdigit digits ≡ false → is_ok (bytes_of digits) ≡ false
+not_all_digits digits even e =
+    ap is_ok (even_bytes digits even) ∙ ap (λ bytes. is_ok (bytes_or_error bytes)) (others_fail 0 digits even e).1
+
+-- which digits encode bytes
+pub ruleset digits_of_bytes = (odd_bytes, all_digits, not_all_digits)
 
 -- ---- frames
 

@@ -6,3 +6,12 @@ pub mod EventLines
 pub mod Counting
 pub mod Prefixes
 pub mod FrameDigits
+pub mod TurnFields
+pub mod ScriptFaults
+pub mod ScriptBlocks
+pub mod SessionEnds
+pub mod ScriptTurns
+pub mod Quiet
+pub mod Reading
+pub mod Playing
+pub mod Alike

@@ -10,23 +10,26 @@ use Rattle.pf_text.proofs.Outputs.{answers-append}
 use Rattle.pf_shapes.specs.declared.fault.SceneFault.{SceneFault}
 use Rattle.pf_console.specs.declared.fault.PlayFault.{PlayFault}
 use Rattle.pf_console.specs.declared.fault.PlayFault.TheVariants.{Words, Line, Frame, Memory, Crew, Read, Write}
+use Rattle.pf_console.specs.declared.fault.PlayFault.TheVariants as faults
+use Rattle.pf_peers.specs.Session.{Session}
 use Rattle.pf_console.specs.declared.phase.Phase.{Phase}
-use Rattle.pf_console.specs.Laws.{NothingFailed, WritesPrefix}
-use Rattle.pf_console.specs.Phase.{first_phase, text_rules}
-use Rattle.pf_console.specs.Text.{Runs, text_of}
+use Rattle.pf_console.specs.Laws.{NothingFailed}
+use Rattle.pf_console.specs.Phase.{first_phase}
+use Rattle.pf_console.specs.Run.{text_rules}
+use Rattle.pf_console.specs.Text.{Runs, WritesPrefix, text_of}
 
 -- the output of lines that lead to a state stands before that of all that follows them
-output_stands : (t : Transfer) (lines : List (List ℕ)) (text : List ℕ) (state : Phase) (bytes : List ℕ) → AreLines t.input lines bytes
+output_stands : (t : Transfer) (lines : List (List ℕ)) (text : List ℕ) (state : Phase Session) (bytes : List ℕ) → AreLines t.input lines bytes
     → LeadTo text_rules first_phase lines text state
     → (rest : List ℕ) × (text ++ rest ≡ (text_output text_rules first_phase t.input).text)
 output_stands t lines text state bytes are lead =
     let more = lines_of bytes in
-    let follow : ℕ → Phase → Output Phase SceneFault = λ number next. lines_output text_rules number next more in
+    let follow : ℕ → Phase Session → Output (Phase Session) SceneFault = λ number next. lines_output text_rules number next more in
     let all : text_output text_rules first_phase t.input ≡ output_then (record { text = text; ending = Ok (length lines + 1, state) }) follow =
     ap (lines_output text_rules 1 first_phase) (lines_of-AreLines t.input lines bytes are)
     ∙ answers-append text_rules 1 first_phase lines more
-    ∙ ap (λ (o : Output Phase SceneFault). output_then o follow) lead in
-    ((follow (length lines + 1) state).text, sym (ap (λ (o : Output Phase SceneFault). o.text) all))
+    ∙ ap (λ (o : Output (Phase Session) SceneFault). output_then o follow) lead in
+    ((follow (length lines + 1) state).text, sym (ap (λ (o : Output (Phase Session) SceneFault). o.text) all))
 
 -- where a run stopped since it was out of memory, or because its crew failed
 stopped_prefix : (t : Transfer) → StopsForMemory text_rules first_phase t → WritesPrefix t (text_of t.input).written
@@ -66,6 +69,7 @@ runs_write_prefix t (Err Read) h = read_prefix t h
 runs_write_prefix t (Err Write) h = write_prefix t h
 runs_write_prefix t (Err (Words text)) h = elim h [ ]
 runs_write_prefix t (Err (Frame fault)) h = elim h [ ]
+runs_write_prefix t (Err (faults.Session refusal)) h = elim h [ ]
 
 pub runs_write_all : (t : Transfer) (result : Result (Unit {0}) PlayFault) → Runs t result → NothingFailed result
     → t.after ≡ Some (t.before ++ (text_of t.input).written)
@@ -77,6 +81,7 @@ runs_write_all t (Err Read) h fine = elim fine [ ]
 runs_write_all t (Err Write) h fine = elim fine [ ]
 runs_write_all t (Err (Words text)) h fine = elim fine [ ]
 runs_write_all t (Err (Frame fault)) h fine = elim fine [ ]
+runs_write_all t (Err (faults.Session refusal)) h fine = elim h [ ]
 
 -- how a run ends in which nothing failed
 abbrev ending_of : Option (ℕ × SceneFault) → Result (Unit {0}) PlayFault
@@ -92,6 +97,7 @@ runs_end t (Err Read) h fine = elim fine [ ]
 runs_end t (Err Write) h fine = elim fine [ ]
 runs_end t (Err (Words text)) h fine = elim fine [ ]
 runs_end t (Err (Frame fault)) h fine = elim fine [ ]
+runs_end t (Err (faults.Session refusal)) h fine = elim h [ ]
 
 pub runs_alike : (t u : Transfer) (first second : Result (Unit {0}) PlayFault) → Runs t first → Runs u second → NothingFailed first → NothingFailed second
     → t.input ≡ u.input → t.before ≡ u.before → (t.after ≡ u.after) × (first ≡ second)

@@ -1,7 +1,8 @@
 -- What errors of a crew mean for a text.
-use Rattle.std.specs.Prelude.{◌≡◌, Option, Some, None, Result, Err, List}
+use Rattle.std.specs.Prelude.{◌≡◌, ℕ, IsSome, Option, Some, None, Result, Err, List}
 use Rattle.pf_islands.specs.Split.{Island}
 use Rattle.pf_step.specs.declared.crew.CrewError.{CrewError}
+use Rattle.pf_step.specs.declared.crew.CrewError.TheVariants.{OutOfMemory, NoThread, GateShut, CrewLost}
 use Rattle.pf_peers.specs.Crews.{CanFail}
 use Rattle.pf_console.specs.declared.fault.PlayFault.{PlayFault}
 use Rattle.pf_console.specs.declared.fault.PlayFault.TheVariants.{Crew, Memory}
@@ -16,3 +17,16 @@ abbrev pub FailsByCrew : {A : Type 0} → (A → List Island → CrewError → A
     → Result (Unit {0}) PlayFault → Type 0
 FailsByCrew may_fail result =
     (error : CrewError) → result ≡ Err (Crew error) → CanFail may_fail error
+
+-- An error of threads with which a session may end, whose peers have crews of so many workers or
+-- none. A peer's want of memory is reported as such, and its gates are open.
+abbrev pub IsSessionError : Option ℕ → CrewError → Type 0
+IsSessionError crew NoThread = Unit {0}
+IsSessionError crew CrewLost = IsSome crew
+IsSessionError crew OutOfMemory = ⊥
+IsSessionError crew GateShut = ⊥
+
+-- an error of threads is returned only where a session may end with it
+abbrev pub FailsByThreads : Option ℕ → Result (Unit {0}) PlayFault → Type 0
+FailsByThreads crew result =
+    (error : CrewError) → result ≡ Err (Crew error) → IsSessionError crew error

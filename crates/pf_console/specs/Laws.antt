@@ -1,14 +1,14 @@
 -- What laws of texts speak of.
-use Rattle.std.specs.Prelude.{◌≡◌, ℕ, true, false, List, [], ◌∷◌, ◌++◌, Some, Result, Ok, Err}
+use Rattle.std.specs.Prelude.{◌≡◌, ℕ, true, false, List, [], ◌∷◌, Result, Ok, Err}
 use Rattle.std.specs.List.{flat_map}
 use Rattle.pf_text.specs.Fields.{fields_of}
 use Rattle.pf_text.specs.Driver.{Output, is_plain, is_skipped}
-use Rattle.pf_text.specs.Streams.{Transfer}
 use Rattle.pf_shapes.specs.declared.fault.SceneFault.{SceneFault}
 use Rattle.pf_peers.specs.declared.event.Event.{Event}
 use Rattle.pf_peers.specs.Session.{Session, replies_to, session_after_all}
 use Rattle.pf_console.specs.declared.fault.PlayFault.{PlayFault}
 use Rattle.pf_console.specs.declared.fault.PlayFault.TheVariants.{Line}
+use Rattle.pf_console.specs.declared.fault.PlayFault.TheVariants as faults
 use Rattle.pf_console.specs.declared.phase.Phase.{Phase}
 use Rattle.pf_console.specs.declared.phase.Phase.TheVariants.{Playing}
 use Rattle.pf_console.specs.Grammar.{event_of}
@@ -31,19 +31,15 @@ AreLinesOf peers [] (event ∷ events) = ⊥
 AreLinesOf peers (line ∷ lines) [] = ⊥
 
 -- the replies to events, printed, and the session after them, before the line of this number
-abbrev pub session_output : ℕ → Session → List Event → Output Phase SceneFault
+abbrev pub session_output : ℕ → Session → List Event → Output (Phase Session) SceneFault
 session_output number s events = record {
   text = flat_map (reply_text s.scene.fixtures) (replies_to s events);
   ending = Ok (number, Playing (session_after_all s events));
 }
 
--- a prefix of these bytes was written
-abbrev pub WritesPrefix : Transfer → List ℕ → Type 0
-WritesPrefix t text =
-    (part : List ℕ) × (rest : List ℕ) × (part ++ rest ≡ text) × (t.after ≡ Some (t.before ++ part))
-
--- nothing failed: a run came to the end of its text, or to the first invalid line
+-- nothing failed: a text came to its end or to its first invalid line, or a script of it is refused
 abbrev pub NothingFailed : Result (Unit {0}) PlayFault → Type 0
 NothingFailed (Ok done) = Unit {0}
 NothingFailed (Err (Line number fault)) = Unit {0}
+NothingFailed (Err (faults.Session refusal)) = Unit {0}
 NothingFailed (Err other) = ⊥

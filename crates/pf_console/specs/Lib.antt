@@ -2,8 +2,14 @@
 pub mod Names
 pub mod Print
 pub mod Grammar
+pub mod PlayRules
 pub mod Phase
+pub mod Run
 pub mod Text
+pub mod Turns
+pub mod Scripts
+pub mod Blocks
+pub mod SessionText
 pub mod Crews
 pub mod Digits
 pub mod FrameText

@@ -6,6 +6,8 @@ use Rattle.pf_commands.specs.declared.fault.FrameFault.{FrameFault}
 use Rattle.pf_commands.specs.declared.fault.FrameFault.TheVariants.{Short, Long, BadVersion, BadKind, NotCanonical, OutOfRange}
 use Rattle.pf_commands.specs.declared.map.Put.{Put}
 use Rattle.pf_commands.specs.declared.map.Put.TheVariants.{New, Same, Greater, Lesser}
+use Rattle.pf_rollback.specs.declared.fault.Refusal.{Refusal}
+use Rattle.pf_rollback.specs.declared.fault.Refusal.TheVariants.{TickLimit, NumbersSpent, Frame, Check, NotReached}
 use Rattle.pf_step.specs.declared.crew.CrewError.{CrewError}
 use Rattle.pf_step.specs.declared.crew.CrewError.TheVariants.{OutOfMemory, NoThread, GateShut, CrewLost}
 
@@ -21,6 +23,14 @@ abbrev pub check_fault_name : CheckFault → List ℕ
 check_fault_name UnknownBody = codes "UnknownBody"
 check_fault_name StaticBody = codes "StaticBody"
 check_fault_name NotOwner = codes "NotOwner"
+
+-- the name of a rejection
+abbrev pub refusal_name : Refusal → List ℕ
+refusal_name TickLimit = codes "TickLimit"
+refusal_name NumbersSpent = codes "NumbersSpent"
+refusal_name (Frame fault) = frame_fault_name fault
+refusal_name (Check fault) = check_fault_name fault
+refusal_name (NotReached reached) = codes "NotReached"
 
 abbrev pub crew_error_name : CrewError → List ℕ
 crew_error_name OutOfMemory = codes "OutOfMemory"

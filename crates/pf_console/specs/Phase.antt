@@ -1,5 +1,6 @@
--- What the lines of a text mean, one after the other: first a scene, then its peers, then events.
-use Rattle.std.specs.Prelude.{ℕ, ℤ, pos, Bool, true, List, [], ◌∷◌, length, None, Result, Ok, Err, codes, if◌then◌else◌}
+-- What the lines of a text mean, one after the other: first a scene, then its peers, then what is
+-- played.
+use Rattle.std.specs.Prelude.{ℕ, ℤ, pos, Bool, true, List, [], ◌∷◌, None, Result, Ok, Err, codes, if◌then◌else◌}
 use Rattle.std.specs.Int.RustNames.{unsigned_abs}
 use Rattle.std.specs.Str.{bytes_eq}
 use Rattle.pf_text.specs.declared.fault.LineFault.{LineFault}
@@ -13,20 +14,17 @@ use Rattle.pf_shapes.specs.declared.scene.TheConstants.{MAX_BODIES}
 use Rattle.pf_shapes.specs.Fault.{scene_fault_of}
 use Rattle.pf_shapes.specs.Scene.{Scene}
 use Rattle.pf_shapes.specs.SceneText.{is_body_line, line_of}
-use Rattle.pf_peers.specs.declared.event.Event.{Event}
-use Rattle.pf_peers.specs.Session.{Session, new_session, reply_to, session_after}
 use Rattle.pf_console.specs.declared.phase.Phase.{Phase}
 use Rattle.pf_console.specs.declared.phase.Phase.TheVariants.{Reading, Seating, Playing}
 use Rattle.pf_console.specs.declared.phase.TheConstants.{MAX_TEXT_PEERS}
-use Rattle.pf_console.specs.Grammar.{event_of}
-use Rattle.pf_console.specs.Print.{reply_text}
+use Rattle.pf_console.specs.PlayRules.{PlayRules}
 
 -- the text of a reply with the next phase, or the error of an invalid line
-abbrev pub Transition : Type 0
-Transition = Result (List ℕ × Phase) SceneFault
+abbrev pub Transition : Type 0 → Type 0
+Transition B = Result (List ℕ × Phase B) SceneFault
 
 -- a line of a scene has no reply
-abbrev pub after_scene_line : Result Progress SceneFault → Transition
+abbrev pub after_scene_line : {B : Type 0} → Result Progress SceneFault → Transition B
 after_scene_line (Ok (More reader)) = Ok ([], Reading reader)
 after_scene_line (Ok (Ended scene)) = Ok ([], Seating scene)
 after_scene_line (Err fault) = Err fault
@@ -42,34 +40,38 @@ peer_count_of (word ∷ count ∷ []) =
     then as_count (integer (pos 1) (pos MAX_TEXT_PEERS) (whole_of count)) else Err BadLine
 peer_count_of fields = Err BadLine
 
--- so many new peers
-abbrev pub with_peers : Scene → Result ℕ SceneFault → Transition
-with_peers scene (Ok count) = Ok ([], Playing (new_session scene count))
-with_peers scene (Err fault) = Err fault
+-- what so many peers begin
+abbrev pub with_peers
+    : {B : Type 0} → PlayRules B → Scene → Result ℕ SceneFault → Transition B
+with_peers play scene (Ok count) = Ok ([], Playing (play.begin scene count))
+with_peers play scene (Err fault) = Err fault
 
--- an event has the text of its reply
-abbrev pub after_event : Session → Result Event LineFault → Transition
-after_event s (Ok event) =
-    Ok (reply_text s.scene.fixtures (reply_to s event), Playing (session_after s event))
-after_event s (Err fault) = Err (scene_fault_of fault)
+-- the reply to a line behind the peers
+abbrev pub after_play_line : {B : Type 0} → Result (List ℕ × B) SceneFault → Transition B
+after_play_line (Ok reply) = Ok (reply.0, Playing reply.1)
+after_play_line (Err fault) = Err fault
 
 -- the text of a line's reply, and the phase after the line
-unfoldable pub after_line : Phase → List (List ℕ) → Transition
-after_line (Reading reader) fields = after_scene_line (line_of reader fields)
-after_line (Seating scene) fields = with_peers scene (peer_count_of fields)
-after_line (Playing s) fields = after_event s (event_of (length s.peers) fields)
+unfoldable pub after_line
+    : {B : Type 0} → PlayRules B → Phase B → List (List ℕ) → Transition B
+after_line play (Reading reader) fields = after_scene_line (line_of reader fields)
+after_line play (Seating scene) fields = with_peers play scene (peer_count_of fields)
+after_line play (Playing begun) fields = after_play_line (play.after begun fields)
 
 -- the lines of a scene take memory for bodies alone
-unfoldable pub allocates : Phase → List (List ℕ) → Bool
+unfoldable pub allocates : {B : Type 0} → Phase B → List (List ℕ) → Bool
 allocates (Reading reader) fields = is_body_line fields
 allocates (Seating scene) fields = true
-allocates (Playing s) fields = true
+allocates (Playing begun) fields = true
 
 -- a text by its lines
-abbrev pub text_rules : Rules Phase SceneFault
-text_rules =
-    record { transition = after_line; line_error = scene_fault_of; allocates = allocates }
+abbrev pub phase_rules : {B : Type 0} → PlayRules B → Rules (Phase B) SceneFault
+phase_rules play = record {
+  transition = after_line play;
+  line_error = scene_fault_of;
+  allocates = allocates;
+}
 
 -- a text begins with a scene
-abbrev pub first_phase : Phase
+abbrev pub first_phase : {B : Type 0} → Phase B
 first_phase = Reading (record { max_bodies = MAX_BODIES; scene = None })

@@ -13,8 +13,8 @@ use Rattle.pf_peers.specs.declared.event.Reply.{Reply}
 use Rattle.pf_peers.specs.declared.event.Reply.TheVariants.{Issued, Took, Merged, Advanced, Settled, Shown, Refused}
 use Rattle.pf_step.specs.World.{World}
 use Rattle.pf_rollback.specs.declared.fault.Refusal.{Refusal}
-use Rattle.pf_rollback.specs.declared.fault.Refusal.TheVariants.{TickLimit, NumbersSpent, Frame, Check, NotReached}
-use Rattle.pf_console.specs.Names.{frame_fault_name, check_fault_name, put_name}
+use Rattle.pf_rollback.specs.declared.fault.Refusal.TheVariants.{NotReached}
+use Rattle.pf_console.specs.Names.{put_name, refusal_name}
 
 -- what a command does, and the line's end
 abbrev pub payload_text : Payload → List ℕ
@@ -76,11 +76,8 @@ abbrev pub refusal_line : List ℕ → List ℕ
 refusal_line name = codes "refused " ++ name ++ 10 ∷ []
 
 unfoldable pub refusal_text : Refusal → List ℕ
-refusal_text TickLimit = refusal_line (codes "TickLimit")
-refusal_text NumbersSpent = refusal_line (codes "NumbersSpent")
-refusal_text (Frame fault) = refusal_line (frame_fault_name fault)
-refusal_text (Check fault) = refusal_line (check_fault_name fault)
 refusal_text (NotReached reached) = line_text (codes "refused NotReached") (pos reached ∷ [])
+refusal_text refusal = refusal_line (refusal_name refusal)
 
 -- the text of a reply, whose worlds have these fixtures
 unfoldable pub reply_text : List Fixture → Reply → List ℕ

@@ -6,11 +6,12 @@ use Rattle.pf_text.specs.Streams.{SinkCall}
 use Rattle.pf_shapes.specs.declared.fault.SceneFault.{SceneFault}
 use Rattle.pf_shapes.specs.declared.fault.SceneFault.TheVariants.{BadLine, BadNumber, TooMany, BadMass, BadSize}
 use Rattle.pf_step.specs.declared.crew.CrewError.{CrewError}
-use Rattle.pf_console.specs.Names.{crew_error_name, frame_fault_name}
+use Rattle.pf_rollback.specs.declared.fault.Refusal.{Refusal}
+use Rattle.pf_console.specs.Names.{crew_error_name, frame_fault_name, refusal_name}
 use Rattle.pf_console.specs.declared.fault.DigitsFault.{DigitsFault}
 use Rattle.pf_console.specs.declared.fault.DigitsFault.TheVariants as digits
 use Rattle.pf_console.specs.declared.fault.PlayFault.{PlayFault}
-use Rattle.pf_console.specs.declared.fault.PlayFault.TheVariants.{Words, Line, Frame, Memory, Crew, Read, Write}
+use Rattle.pf_console.specs.declared.fault.PlayFault.TheVariants.{Words, Line, Frame, Session, Memory, Crew, Read, Write}
 
 abbrev pub fault_name : SceneFault → List ℕ
 fault_name BadLine = codes "BadLine"
@@ -36,10 +37,15 @@ invalid_line_text number fault =
 unfoldable pub crew_error_text : CrewError → List ℕ
 crew_error_text error = codes "pf_play: crew: " ++ crew_error_name error ++ codes "\n"
 
+-- the text about a script that is refused
+unfoldable pub refused_script_text : Refusal → List ℕ
+refused_script_text refusal = codes "pf_play: session: " ++ refusal_name refusal ++ codes "\n"
+
 abbrev pub fault_text : PlayFault → List ℕ
 fault_text (Words text) = string_bytes text
 fault_text (Line number fault) = invalid_line_text number fault
 fault_text (Frame fault) = invalid_frame_text fault
+fault_text (Session refusal) = refused_script_text refusal
 fault_text Memory = codes "pf_play: out of memory\n"
 fault_text (Crew error) = crew_error_text error
 fault_text Read = codes "pf_play: read failed\n"
@@ -49,6 +55,7 @@ abbrev pub status_of : PlayFault → ℕ
 status_of (Words text) = 2
 status_of (Line number fault) = 1
 status_of (Frame fault) = 1
+status_of (Session refusal) = 1
 status_of Memory = 3
 status_of (Crew error) = 3
 status_of Read = 3

@@ -1,14 +1,15 @@
 -- What the program does with a text: what it writes, and the invalid line, if any.
 use Rattle.std.specs.Prelude.{◌≡◌, ◌⊎◌, ℕ, ◌+◌, List, [], ◌++◌, length, Option, Some, None, Result, Ok, Err, IsOk}
-use Rattle.pf_text.specs.Driver.{TakesLine, StopsForMemory, StopsForRead, StopsForWrite, text_output}
+use Rattle.pf_text.specs.Driver.{Rules, TakesLine, StopsForMemory, StopsForRead, StopsForWrite, text_output}
 use Rattle.pf_text.specs.Streams.{Transfer}
 use Rattle.pf_shapes.specs.declared.fault.SceneFault.{SceneFault}
 use Rattle.pf_shapes.specs.declared.fault.SceneFault.TheVariants.{BadLine}
 use Rattle.pf_console.specs.declared.fault.PlayFault.{PlayFault}
-use Rattle.pf_console.specs.declared.fault.PlayFault.TheVariants.{Words, Line, Frame, Memory, Crew, Read, Write}
+use Rattle.pf_console.specs.declared.fault.PlayFault.TheVariants.{Words, Line, Frame, Session, Memory, Crew, Read, Write}
 use Rattle.pf_console.specs.declared.phase.Phase.{Phase}
 use Rattle.pf_console.specs.declared.phase.Phase.TheVariants.{Reading, Seating, Playing}
-use Rattle.pf_console.specs.Phase.{text_rules, first_phase}
+use Rattle.pf_console.specs.Phase.{first_phase}
+use Rattle.pf_console.specs.Run.{text_rules}
 
 -- what is written, and the number and the error of the invalid line, if any
 pub record Text : Type 0 where
@@ -16,10 +17,11 @@ pub record Text : Type 0 where
   pub fault : Option (ℕ × SceneFault)
 
 -- a text that ends before its peers is invalid at the line behind its last
-abbrev pub fault_of_ending : Result (ℕ × Phase) (ℕ × SceneFault) → Option (ℕ × SceneFault)
+abbrev pub fault_of_ending
+    : {B : Type 0} → Result (ℕ × Phase B) (ℕ × SceneFault) → Option (ℕ × SceneFault)
 fault_of_ending (Ok (number, Reading reader)) = Some (number, BadLine)
 fault_of_ending (Ok (number, Seating scene)) = Some (number, BadLine)
-fault_of_ending (Ok (number, Playing peer)) = None
+fault_of_ending (Ok (number, Playing begun)) = None
 fault_of_ending (Err fault) = Some fault
 
 -- the output for a text's lines, up to the first that is invalid
@@ -31,11 +33,16 @@ text_of input = record {
 
 -- An invalid line was taken, and no line behind it; or all of the text, all of whose lines are
 -- valid, but which ended too early.
-abbrev pub StopsAt : Transfer → ℕ → Type 0
-StopsAt t number =
+abbrev pub StopsAt : {B : Type 0} → Rules (Phase B) SceneFault → Transfer → ℕ → Type 0
+StopsAt rules t number =
     ((lines : List (List ℕ)) × (line : List ℕ) × (number ≡ length lines + 1)
     × TakesLine t.input lines line t.left)
-    ⊎ ((t.left ≡ Some []) × IsOk (text_output text_rules first_phase t.input).ending)
+    ⊎ ((t.left ≡ Some []) × IsOk (text_output rules first_phase t.input).ending)
+
+-- a prefix of these bytes was written
+abbrev pub WritesPrefix : Transfer → List ℕ → Type 0
+WritesPrefix t text =
+    (part : List ℕ) × (rest : List ℕ) × (part ++ rest ≡ text) × (t.after ≡ Some (t.before ++ part))
 
 -- How a run ended, and what it read and wrote. It runs out of memory, or its crew fails, only at a
 -- valid line; there, and where the reader failed, the lines before are valid and their output was
@@ -45,7 +52,7 @@ Runs t (Ok done) =
     (t.left ≡ Some []) × (t.after ≡ Some (t.before ++ (text_of t.input).written))
     × ((text_of t.input).fault ≡ None)
 Runs t (Err (Line number fault)) =
-    StopsAt t number × (t.after ≡ Some (t.before ++ (text_of t.input).written))
+    StopsAt text_rules t number × (t.after ≡ Some (t.before ++ (text_of t.input).written))
     × ((text_of t.input).fault ≡ Some (number, fault))
 Runs t (Err Memory) = StopsForMemory text_rules first_phase t
 Runs t (Err (Crew error)) = StopsForMemory text_rules first_phase t
@@ -53,14 +60,15 @@ Runs t (Err Read) = StopsForRead text_rules first_phase t
 Runs t (Err Write) = StopsForWrite text_rules first_phase t
 Runs t (Err (Words text)) = ⊥
 Runs t (Err (Frame fault)) = ⊥
+Runs t (Err (Session refusal)) = ⊥
 
 -- a run that ends because its reader failed counts one failure of it, and any other run none
-abbrev pub CountsReads : ℕ → Result (Unit {0}) PlayFault → ℕ → Type 0
+abbrev pub CountsReads : {X : Type 0} → ℕ → Result X PlayFault → ℕ → Type 0
 CountsReads before (Err Read) after = after ≡ before + 1
 CountsReads before result after = after ≡ before
 
 -- the same of its writer
-abbrev pub CountsWrites : ℕ → Result (Unit {0}) PlayFault → ℕ → Type 0
+abbrev pub CountsWrites : {X : Type 0} → ℕ → Result X PlayFault → ℕ → Type 0
 CountsWrites before (Err Write) after = after ≡ before + 1
 CountsWrites before result after = after ≡ before
 

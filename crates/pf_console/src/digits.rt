@@ -1,12 +1,13 @@
-//! Frames in hexadecimal digits.
+//! Bytes and frames in hexadecimal digits.
 
-ghost use Rattle.std.specs.Prelude.{◌≡◌, ◌≢◌, length};
+ghost use Rattle.std.specs.Prelude.{◌≡◌, ◌≢◌, length, is_ok, IfOk, IsOk, Ok};
 ghost use Rattle.std.specs.Char.{is_ascii_hexdigit};
 ghost use Rattle.std.specs.List.{list_all};
-ghost use Rattle.pf_console.specs.Digits.{frame_of, invalid_frame};
+ghost use Rattle.pf_console.specs.Digits.{bytes_of, frame_of, invalid_frame};
 
 use pf_commands::{Command, FRAME_LEN, FrameFault, decode};
 use pf_text::LineFault;
+use std::alloc::{AllocError, Global};
 
 /// How many digits the frame of a command has.
 const FRAME_DIGITS: usize = 2 * FRAME_LEN;
@@ -50,4 +51,20 @@ fn fault_of_length(digits: &[u8]) -> Result<FrameFault, LineFault>
     } else {
         FrameFault::Long
     })
+}
+
+/// Whether digits of either case encode bytes, two digits a byte.
+#[tactic(auto, using(crate::proofs::FrameDigits::digits_of_bytes))]
+pub fn are_bytes(digits: &[u8]) -> bool
+    ensures { result ≡ is_ok (bytes_of digits.now) }
+{
+    digits.len() % 2 == 0 && are_digits(digits)
+}
+
+/// The bytes that digits encode.
+pub fn bytes(alloc: Global, digits: &[u8]) -> Result<Vec<u8>, AllocError>
+    requires { IsOk (bytes_of digits.now) }
+    ensures { IfOk result (λ bytes. bytes_of digits.now ≡ Ok bytes.items) }
+{
+    hex::decode(alloc, digits).map_err(|_| AllocError)
 }

@@ -4,6 +4,7 @@ ghost use Rattle.std.specs.Prelude.{◌≡◌};
 ghost use Rattle.pf_console.specs.declared.fault.PlayFault.TheVariants.{Memory, Write};
 
 use pf_commands::FrameFault;
+use pf_rollback::Refusal;
 use pf_shapes::SceneFault;
 use pf_step::CrewError;
 use pf_text::WriteFailed;
@@ -33,10 +34,13 @@ pub enum PlayFault {
     /// The frame of the command line is invalid.
     #[error("frame: {0}")]
     Frame(DigitsFault),
+    /// A script of a session is refused.
+    #[error("session: {0}")]
+    Session(Refusal),
     /// No memory is left.
     #[error("out of memory")]
     Memory,
-    /// The crew failed in a settle, or could not be made.
+    /// The crew failed in a settle, or could not be made; or the threads of a session.
     #[error("crew: {0}")]
     Crew(CrewError),
     /// The reader failed.

@@ -67,7 +67,7 @@ fn kind_in(field: &[u8]) -> Option<Kind>
 }
 
 /// The number of one of so many peers.
-fn peer(peers: u8, field: &[u8]) -> Result<u8, LineFault>
+pub fn peer(peers: u8, field: &[u8]) -> Result<u8, LineFault>
     ensures value { result ≡ peer_of peers field.now }
     ensures range { IfOk result (λ peer. peer < peers) }
 {
@@ -78,7 +78,7 @@ fn peer(peers: u8, field: &[u8]) -> Result<u8, LineFault>
 }
 
 /// A tick, or a count of ticks.
-fn tick(field: &[u8]) -> Result<u32, LineFault>
+pub fn tick(field: &[u8]) -> Result<u32, LineFault>
     ensures { result ≡ tick_of field.now }
 {
     match number(field, 0, 0xffff_ffff) {

@@ -1,4 +1,5 @@
-//! The console: a text's lines are parsed as a scene and events, and have replies line by line.
+//! The console: a text's lines are parsed as a scene and events, and have replies line by line; or
+//! as a scene and scripts, which are played by peers in threads.
 #![tactic(auto)]
 
 mod digits;
@@ -9,13 +10,18 @@ pub mod laws;
 mod names;
 mod phase;
 mod print;
+mod replying;
 mod reporting;
 mod request;
 mod run;
+mod scripts;
+mod session;
 mod settler;
+mod turns;
 
 pub use fault::{DigitsFault, PlayFault};
 pub use frame::frame_text;
 pub use reporting::{finish, report};
 pub use request::{Request, VERSION, perform};
 pub use run::run_text;
+pub use session::session_text;

@@ -1,9 +1,10 @@
 //! The names of errors and outcomes, as texts print them.
 
 ghost use Rattle.std.specs.Prelude.{◌≡◌};
-ghost use Rattle.pf_console.specs.Names.{frame_fault_name, check_fault_name, crew_error_name, put_name};
+ghost use Rattle.pf_console.specs.Names.{frame_fault_name, check_fault_name, crew_error_name, put_name, refusal_name};
 
 use pf_commands::{CheckFault, FrameFault, Put};
+use pf_rollback::Refusal;
 use pf_step::CrewError;
 
 /// The name of a frame's error.
@@ -28,6 +29,19 @@ pub fn check_fault_name(fault: CheckFault) -> &'static str
         CheckFault::UnknownBody => "UnknownBody",
         CheckFault::StaticBody => "StaticBody",
         CheckFault::NotOwner => "NotOwner",
+    }
+}
+
+/// The name of a rejection.
+pub fn refusal_name(refusal: Refusal) -> &'static str
+    ensures { result.now ≡ refusal_name refusal }
+{
+    match refusal {
+        Refusal::TickLimit => "TickLimit",
+        Refusal::NumbersSpent => "NumbersSpent",
+        Refusal::Frame(fault) => frame_fault_name(fault),
+        Refusal::Check(fault) => check_fault_name(fault),
+        Refusal::NotReached(_) => "NotReached",
     }
 }
 

@@ -1,41 +1,62 @@
-//! What the lines of a text mean, one after the other.
+//! What the lines of a text mean, one after the other: a scene, its peers, and what is played.
 
-ghost use Rattle.std.specs.Prelude.{◌≡◌, ◌≤◌, [], Ok, IfOk, map, length};
-ghost use Rattle.pf_text.specs.Driver.{without_output, Produces};
-ghost use Rattle.pf_peers.specs.Session.{IsAmong};
-ghost use Rattle.pf_console.specs.Grammar.{event_of};
-ghost use Rattle.pf_console.specs.Phase.{after_event, after_scene_line, peer_count_of, text_rules, with_peers};
+ghost use Rattle.std.specs.Prelude.{◌≡◌, ◌<◌, ◌≤◌, [], Ok, IfOk, map};
+ghost use Rattle.pf_text.specs.Driver.{Produces};
+ghost use Rattle.pf_console.specs.Phase.{after_scene_line, peer_count_of, phase_rules, with_peers};
 
-use crate::grammar::event;
-use crate::print::reply_text;
-use crate::settler::Settler;
-use pf_manifold::Collider;
-use pf_peers::{Event, Session};
 use pf_shapes::{MAX_BODIES, Progress, Scene, SceneFault, SceneReader};
-use pf_step::Crew;
 use pf_text::{LineFault, Machine, TakeRefusal, integer};
-use std::alloc::Global;
+use std::alloc::{AllocError, Global};
 
 /// How many peers a text may have.
 pub const MAX_TEXT_PEERS: u8 = 8;
 
+/// What `peers N` begins: it takes the lines behind that. Each line is lent an `L`.
+pub trait Play<L>: Drop {
+    ghost use Rattle.std.specs.Prelude.{◌≡◌, ◌<◌, ◌≤◌, IfOk, map};
+    ghost use Rattle.pf_text.specs.Driver.{Produces};
+    ghost use Rattle.pf_console.specs.PlayRules.{PlayRules};
+
+    // What is begun, and what the fields of a line do.
+    ghost play: { PlayRules Self };
+
+    /// What a scene with so many peers begins.
+    fn begin(alloc: Global, scene: Scene, peers: u8) -> Result<Self, AllocError>
+    where
+        Self: Sized,
+        requires some { 0 < peers }
+        requires few { peers ≤ MAX_TEXT_PEERS }
+        ensures { IfOk result (λ begun. begun ≡ play.begin scene peers) };
+
+    /// The text of the reply to a line, which may be empty, and what is then there.
+    fn take_line(
+        self,
+        alloc: Global,
+        lent: &mut L,
+        fields: &[&[u8]],
+    ) -> Result<(String, Self), TakeRefusal<SceneFault>>
+    where
+        Self: Sized,
+        ensures { Produces result (play.after self (map (λ field. field.now) fields.now)) };
+}
+
 /// Which part of a text comes next.
 #[derive(Drop)]
-pub enum Phase {
+pub enum Phase<B> {
     /// In its scene.
     Reading(SceneReader),
     /// After the scene, before `peers N`.
     Seating(Scene),
-    /// Among the events.
-    Playing(Session),
+    /// Behind `peers N`.
+    Playing(B),
 }
 
-impl Phase {
+impl<B> Phase<B> {
     ghost use Rattle.std.specs.Prelude.{◌≡◌};
     ghost use Rattle.pf_console.specs.Phase.{first_phase};
 
     /// The phase in which a text begins.
-    pub fn first() -> Phase
+    pub fn first() -> Phase<B>
         ensures { result ≡ first_phase }
     {
         Phase::Reading(SceneReader::new(MAX_BODIES))
@@ -43,7 +64,7 @@ impl Phase {
 }
 
 /// The phase after a line of a scene.
-fn after_scene_line(progress: Progress) -> Phase
+fn after_scene_line<B>(progress: Progress) -> Phase<B>
     ensures { after_scene_line (Ok progress) ≡ Ok ([], result) }
 {
     match progress {
@@ -56,7 +77,8 @@ fn after_scene_line(progress: Progress) -> Phase
 #[tactic(auto, unfolding(crate::specs::Phase::peer_count_of))]
 fn peer_count(fields: &[&[u8]]) -> Result<u8, SceneFault>
     ensures value { result ≡ peer_count_of (map (λ field. field.now) fields.now) }
-    ensures range { IfOk result (λ count. count ≤ MAX_TEXT_PEERS) }
+    ensures some { IfOk result (λ count. 0 < count) }
+    ensures few { IfOk result (λ count. count ≤ MAX_TEXT_PEERS) }
 {
     let [word, count] = fields else {
         return Err(SceneFault::BadLine);
@@ -69,55 +91,23 @@ fn peer_count(fields: &[&[u8]]) -> Result<u8, SceneFault>
 }
 
 /// The phase after `peers N`.
-fn after_peers_line(
+fn after_peers_line<L, B: Play<L>>(
     alloc: Global,
     scene: Scene,
     fields: &[&[u8]],
-) -> Result<(String, Phase), TakeRefusal<SceneFault>>
+) -> Result<(String, Phase<B>), TakeRefusal<SceneFault>>
     ensures { Produces result
-        (with_peers scene (peer_count_of (map (λ field. field.now) fields.now))) }
+        (with_peers B.play scene (peer_count_of (map (λ field. field.now) fields.now))) }
 {
     let count = peer_count(fields).map_err(TakeRefusal::Fault)?;
-    let session = Session::new(alloc, scene, count)?;
-    Ok((String::new(alloc), Phase::Playing(session)))
+    let begun = B::begin(alloc, scene, count)?;
+    Ok((String::new(alloc), Phase::Playing(begun)))
 }
 
-/// The reply to an event, and the phase after it.
-fn after_known_event<P: Collider, C: Crew>(
-    alloc: Global,
-    settler: &mut Settler<P, C>,
-    session: Session,
-    event: Event,
-) -> Result<(String, Phase), TakeRefusal<SceneFault>>
-    requires { IsAmong (length session.peers) event }
-    ensures { Produces result (after_event session (Ok event)) }
-{
-    let mut session = session;
-    let reply = settler.answer(alloc, &mut session, event)?;
-    let text = reply_text(alloc, session.scene().fixtures(), &reply)?;
-    Ok((text, Phase::Playing(session)))
-}
-
-/// The reply to the event of a line, and the phase after it.
-fn after_event<P: Collider, C: Crew>(
-    alloc: Global,
-    settler: &mut Settler<P, C>,
-    session: Session,
-    fields: &[&[u8]],
-) -> Result<(String, Phase), TakeRefusal<SceneFault>>
-    ensures { Produces result (after_event session
-        (event_of (length session.peers) (map (λ field. field.now) fields.now))) }
-{
-    match event(session.peer_count(), fields) {
-        Ok(event) => after_known_event(alloc, settler, session, event),
-        Err(fault) => Err(TakeRefusal::Fault(SceneFault::from(fault))),
-    }
-}
-
-impl<P: Collider, C: Crew> Machine<Settler<'_, P, C>> for Phase {
+impl<L, B: Play<L>> Machine<L> for Phase<B> {
     type Fault = SceneFault;
 
-    ghost rules = { text_rules };
+    ghost rules = { phase_rules B.play };
 
     fn line_error(fault: LineFault) -> SceneFault {
         SceneFault::from(fault)
@@ -127,7 +117,7 @@ impl<P: Collider, C: Crew> Machine<Settler<'_, P, C>> for Phase {
     fn take(
         self,
         alloc: Global,
-        settler: &mut Settler<'_, P, C>,
+        lent: &mut L,
         fields: &[&[u8]],
     ) -> Result<(String, Self), TakeRefusal<SceneFault>> {
         match self {
@@ -136,7 +126,10 @@ impl<P: Collider, C: Crew> Machine<Settler<'_, P, C>> for Phase {
                 Ok((String::new(alloc), after_scene_line(progress)))
             }
             Phase::Seating(scene) => after_peers_line(alloc, scene, fields),
-            Phase::Playing(session) => after_event(alloc, settler, session, fields),
+            Phase::Playing(begun) => {
+                let (text, next) = begun.take_line(alloc, lent, fields)?;
+                Ok((text, Phase::Playing(next)))
+            }
         }
     }
 }

@@ -6,7 +6,7 @@ ghost use Rattle.std.specs.String.{string_bytes};
 ghost use Rattle.pf_manifold.specs.Key.{IsKey};
 ghost use Rattle.pf_console.specs.Print.{payload_text, command_line, body_numbers, dynamic_body_text, bodies_text, contact_numbers, contact_text, block_text, reply_line, refusal_line, refusal_text, reply_text};
 
-use crate::names::{check_fault_name, frame_fault_name, put_name};
+use crate::names::{put_name, refusal_name};
 use itoa::Buffer;
 use pf_cache::Contact;
 use pf_commands::{Command, Payload};
@@ -152,19 +152,16 @@ fn push_refusal(text: &mut String, refusal: Refusal) -> Result<(), AllocError>
     ensures { OnOk result (string_bytes text.new ≡ string_bytes text.old ++ refusal_text refusal) }
 {
     match refusal {
-        Refusal::TickLimit => push_refusal_line(text, "TickLimit"),
-        Refusal::NumbersSpent => push_refusal_line(text, "NumbersSpent"),
-        Refusal::Frame(fault) => push_refusal_line(text, frame_fault_name(fault)),
-        Refusal::Check(fault) => push_refusal_line(text, check_fault_name(fault)),
         Refusal::NotReached(reached) => {
             push_line(text, "refused NotReached", &[i64::from(reached)])
         }
+        refusal => push_refusal_line(text, refusal_name(refusal)),
     }
 }
 
 /// Adds the block of a world: its bodies that move, and its contacts.
 #[tactic(auto, unfolding(crate::specs::Print::block_text))]
-fn push_block(
+pub fn push_block(
     text: &mut String,
     fixtures: &[Fixture],
     peer: u8,

@@ -1,12 +1,13 @@
 //! What the program prints about an error, and the status that it ends with.
 
 ghost use Rattle.std.specs.Prelude.{◌≡◌, ◌+◌, ◌^◌, ◌<◌};
-ghost use Rattle.pf_console.specs.Report.{fault_name, digits_fault_name, invalid_line_text, invalid_frame_text, crew_error_text, fault_text, status_of, outcome_text, outcome_status, Reports};
+ghost use Rattle.pf_console.specs.Report.{fault_name, digits_fault_name, invalid_line_text, invalid_frame_text, crew_error_text, refused_script_text, fault_text, status_of, outcome_text, outcome_status, Reports};
 
 use crate::fault::{DigitsFault, PlayFault};
-use crate::names::{crew_error_name, frame_fault_name};
+use crate::names::{crew_error_name, frame_fault_name, refusal_name};
 use arrayvec::ArrayString;
 use itoa::Buffer;
+use pf_rollback::Refusal;
 use pf_shapes::SceneFault;
 use pf_step::CrewError;
 use pf_text::Sink;
@@ -45,6 +46,18 @@ fn invalid_frame_text(fault: DigitsFault) -> ArrayString<FAULT_ROOM>
     let mut line = ArrayString::new();
     line.push_str("pf_play: frame: ");
     line.push_str(digits_fault_name(fault));
+    line.push_str("\n");
+    line
+}
+
+/// The text about a script that is refused.
+#[tactic(auto, unfolding(crate::specs::Report::refused_script_text))]
+fn refused_script_text(refusal: Refusal) -> ArrayString<FAULT_ROOM>
+    ensures { result.bytes ≡ refused_script_text refusal }
+{
+    let mut line = ArrayString::new();
+    line.push_str("pf_play: session: ");
+    line.push_str(refusal_name(refusal));
     line.push_str("\n");
     line
 }
@@ -114,6 +127,9 @@ pub fn report<W: Sink>(fault: &PlayFault, writer: &mut W) -> u8
             writer.write_all(invalid_line_text(*number, *name).as_str().as_bytes())
         }
         PlayFault::Frame(name) => writer.write_all(invalid_frame_text(*name).as_str().as_bytes()),
+        PlayFault::Session(refusal) => {
+            writer.write_all(refused_script_text(*refusal).as_str().as_bytes())
+        }
         PlayFault::Memory => writer.write_all(b"pf_play: out of memory\n"),
         PlayFault::Crew(error) => writer.write_all(crew_error_text(*error).as_str().as_bytes()),
         PlayFault::Read => writer.write_all(b"pf_play: read failed\n"),
@@ -127,7 +143,7 @@ fn status(fault: &PlayFault) -> u8
     ensures { result ≡ status_of fault.now }
 {
     match fault {
-        PlayFault::Line(_, _) | PlayFault::Frame(_) => 1,
+        PlayFault::Line(_, _) | PlayFault::Frame(_) | PlayFault::Session(_) => 1,
         PlayFault::Words(_) => 2,
         PlayFault::Memory | PlayFault::Crew(_) | PlayFault::Read | PlayFault::Write => 3,
     }

@@ -2,17 +2,19 @@
 
 ghost use Rattle.std.specs.Prelude.{◌≡◌, ℕ, ◌+◌, ◌^◌, ◌<◌, List, Some};
 ghost use Rattle.pf_text.specs.Streams.{IfExposed};
-ghost use Rattle.pf_console.specs.Crews.{FailsByCrew};
-ghost use Rattle.pf_console.specs.Request.{Performs, Writes};
+ghost use Rattle.pf_console.specs.Request.{CanStart, FailsByThreadsOf, Performs, Writes};
 ghost use Rattle.pf_console.specs.Text.{CountsReads, CountsWrites, ReadsNothing};
 
 use crate::fault::PlayFault;
 use crate::frame::frame_text;
 use crate::run::run_text;
+use crate::session::session_text;
 use pf_manifold::Collider;
 use pf_step::Crew;
 use pf_text::{Sink, Source};
 use std::alloc::Global;
+use std::sync::Wait;
+use std::thread::Threads;
 
 /// The line of the program's version.
 pub const VERSION: &str = "pf_play 0.1.0\n";
@@ -22,6 +24,9 @@ pub const VERSION: &str = "pf_play 0.1.0\n";
 pub enum Request<'a> {
     /// Process a text line by line, with a crew of so many workers, or without one.
     Run { crew_size: Option<usize> },
+    /// Play the session of a text, each peer in a thread, with a crew of so many workers for each
+    /// peer, or without crews.
+    Session { crew_size: Option<usize> },
     /// Print the fields of the frame that these digits encode.
     Frame(&'a str),
     /// Write this text, a help.
@@ -41,10 +46,12 @@ fn say<W: Sink>(text: &str, writer: &mut W) -> Result<(), PlayFault>
     Ok(writer.write_all(text.as_bytes())?)
 }
 
-/// Does what a request asks for. A run reads the reader, and its settles use this collider and this
-/// crew; the other requests leave reader and crew as they were.
+/// Does what a request asks for. A run and a session read the reader; the settles of a run use this
+/// collider and this crew, and a session starts the threads of its peers, and waits for them. The
+/// other requests leave reader and crew as they were.
 #[tactic(auto, using(crate::proofs::Counting::counts_nothing, crate::proofs::Counting::fails_by_no_crew))]
-pub fn perform<P: Collider, R: Source, W: Sink, C: Crew>(
+pub fn perform<T, P: Collider, R: Source, W: Sink, C: Crew>(
+    rt: &T,
     collider: &P,
     alloc: Global,
     request: Request,
@@ -52,6 +59,9 @@ pub fn perform<P: Collider, R: Source, W: Sink, C: Crew>(
     writer: &mut W,
     crew: &mut C,
 ) -> Result<(), PlayFault>
+where
+    T: Threads + Wait + Copy + Send + Sync + 'static,
+    requires start { CanStart request }
     requires can { P.can_collide collider.now }
     requires reads { R.failures reader.old + 1 < 2 ^ 64 }
     requires writes { W.failures writer.old + 1 < 2 ^ 64 }
@@ -64,10 +74,11 @@ pub fn perform<P: Collider, R: Source, W: Sink, C: Crew>(
         (λ transfer. Performs request.entry transfer result) }
     ensures reads_counted { CountsReads (R.failures reader.old) result (R.failures reader.new) }
     ensures writes_counted { CountsWrites (W.failures writer.old) result (W.failures writer.new) }
-    ensures crew { FailsByCrew C.may_fail result }
+    ensures crew { FailsByThreadsOf C.may_fail request.entry result }
 {
     match request {
         Request::Run { .. } => run_text(collider, alloc, reader, writer, crew),
+        Request::Session { crew_size } => session_text(rt, alloc, reader, writer, crew_size),
         Request::Frame(digits) => frame_text(alloc, digits, writer),
         Request::Help(text) => say(&text, writer),
         Request::Version => say(VERSION, writer),

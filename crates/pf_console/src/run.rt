@@ -9,6 +9,7 @@ use crate::fault::PlayFault;
 use crate::phase::Phase;
 use crate::settler::Settler;
 use pf_manifold::Collider;
+use pf_peers::Session;
 use pf_shapes::SceneFault;
 use pf_step::Crew;
 use pf_text::{DriveFault, Sink, Source, drive};
@@ -45,7 +46,13 @@ pub fn run_text<P: Collider, R: Source, W: Sink, C: Crew>(
     ensures crew { FailsByCrew C.may_fail result }
 {
     let mut settler = Settler::new(collider, crew);
-    match drive(alloc, &mut settler, reader, writer, Phase::first()) {
+    match drive(
+        alloc,
+        &mut settler,
+        reader,
+        writer,
+        Phase::<Session>::first(),
+    ) {
         Ok((_, Phase::Playing(_))) => Ok(()),
         Ok((number, _)) => Err(PlayFault::Line(number, SceneFault::BadLine)),
         Err(DriveFault::Line(number, fault)) => Err(PlayFault::Line(number, fault)),

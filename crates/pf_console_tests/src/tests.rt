@@ -339,5 +339,7 @@ fn laws_are_called(_rt: HostRuntime) {
     laws::event_lines_encode_events();
     laws::printed_frames_are_parsed();
     laws::runs_write_one_text();
+    laws::sessions_write_one_text();
+    laws::texts_show_sessions();
     laws::named_limits();
 }

@@ -1,5 +1,5 @@
 -- Which errors of a crew a call can end with.
-use Rattle.std.proofs.Common.{◌≡◌, ◌≢◌, true, None, Some, Result, Ok, Err, ap, refl}
+use Rattle.std.proofs.Common.{◌≡◌, ◌≢◌, List, true, None, Some, Result, Ok, Err, ap, refl, inl, inr, subst, ◌∙◌}
 use Rattle.std.specs.Prelude.{is_some}
 use Rattle.std.proofs.lemmas.Bool.{true≢false}
 use Rattle.pf_step.specs.declared.crew.CrewError.TheVariants.{OutOfMemory, NoThread, GateShut, CrewLost}
@@ -7,11 +7,16 @@ use Rattle.pf_workers.specs.Crew.{FailsStanding, IsStartError, StandingCrew}
 use Rattle.pf_console.specs.declared.request.Request.{Request}
 use Rattle.pf_console.specs.declared.request.Request.TheVariants.{Help, Run, Version}
 use Rattle.pf_console.specs.declared.request.Request.TheVariants as requests
-use Rattle.pf_program.specs.Program.{WantsCrew, crew_for}
+use Rattle.pf_console.specs.declared.fault.PlayFault.TheVariants as faults
+use Rattle.pf_program.specs.Program.{IsCrewFault, IsStartFault, WantsCrew, crew_for}
 use Rattle.pf_step.specs.declared.crew.CrewError.{CrewError}
 use Rattle.pf_console.specs.declared.fault.PlayFault.{PlayFault}
 use Rattle.pf_console.specs.declared.fault.PlayFault.TheVariants.{Words, Line, Frame, Memory, Crew, Read, Write}
-use Rattle.pf_program.specs.Options.{FailsByWordsOrMemory}
+use Rattle.pf_program.specs.Options.{FailsByWordsOrMemory, HasCrewSize}
+use Rattle.pf_console.specs.Crews.{FailsByCrew, FailsByThreads}
+use Rattle.pf_console.specs.Request.{CanStart, FailsByThreadsOf}
+use Rattle.pf_islands.specs.Split.{Island}
+use Rattle.pf_peers.specs.Crews.{CanFail}
 
 -- words that could not be read name no crew
 pub words_name_none : {X : Type 0} (words : Result X PlayFault) → FailsByWordsOrMemory words → (fault : PlayFault) → words ≡ Err fault
@@ -20,6 +25,7 @@ words_name_none (Ok read) h fault is error = λ e. absurd cc
 words_name_none (Err (Words text)) h fault is error = λ e. absurd cc
 words_name_none (Err (Line number name)) h fault is error = elim h [ ]
 words_name_none (Err (Frame name)) h fault is error = elim h [ ]
+words_name_none (Err (faults.Session refusal)) h fault is error = elim h [ ]
 words_name_none (Err Memory) h fault is error = λ e. absurd cc
 words_name_none (Err (Crew name)) h fault is error = elim h [ ]
 words_name_none (Err Read) h fault is error = elim h [ ]
@@ -29,6 +35,7 @@ words_name_none (Err Write) h fault is error = elim h [ ]
 pub wants : (request : Request) (crew : StandingCrew) → Some crew ≡ crew_for request → WantsCrew request
 wants (Run (Some size)) crew is = (size, refl)
 wants (Run None) crew is = absurd (true≢false (ap is_some is))
+wants (requests.Session workers) crew is = absurd (true≢false (ap is_some is))
 wants (requests.Frame digits) crew is = absurd (true≢false (ap is_some is))
 wants (Help text) crew is = absurd (true≢false (ap is_some is))
 wants Version crew is = absurd (true≢false (ap is_some is))
@@ -40,9 +47,42 @@ start_not_shut NoThread is = λ e. absurd cc
 start_not_shut GateShut is = absurd is
 start_not_shut CrewLost is = absurd is
 
+pub err_same : {r : Result (Unit {0}) PlayFault} {f g : PlayFault} → r ≡ Err f → r ≡ Err g → g ≡ f
+err_same first second = cc
+
+pub started_not_shut : (request : Request) (fault : PlayFault) → IsStartFault request fault → (error : CrewError) → fault ≡ Crew error → error ≢ GateShut
+started_not_shut request fault start error is =
+    let same : start.1.0 ≡ error = by start.1.1 is in
+    λ shut. start_not_shut start.1.0 start.1.2 (same ∙ shut)
+  where
+    by : {a b : CrewError} → fault ≡ Crew a → fault ≡ Crew b → a ≡ b
+    by first second = cc
+
 -- a standing crew whose gate is open never fails by it
 pub never_shut : (before after : StandingCrew) (error : CrewError) → FailsStanding true before error after → error ≢ GateShut
 never_shut before after OutOfMemory fails = λ e. absurd cc
 never_shut before after NoThread fails = λ e. absurd cc
 never_shut before after GateShut fails = λ e. true≢false fails.1
 never_shut before after CrewLost fails = λ e. absurd cc
+
+-- a session whose crews have a size can start
+pub can_start : (request : Request) → HasCrewSize request → CanStart request
+can_start (requests.Session workers) h = h
+can_start (Run workers) h = tt
+can_start (requests.Frame digits) h = tt
+can_start (Help text) h = tt
+can_start Version h = tt
+
+module _ {A : Type 0} (may_fail : A → List Island → CrewError → A → Type 0) (outcome : Result (Unit {0}) PlayFault) where
+  -- without a crew only a session has an error of threads
+  pub names_alone : (request : Request) → ((error : CrewError) → CanFail may_fail error → ⊥) → FailsByThreadsOf may_fail request outcome
+      → (error : CrewError) → outcome ≡ Err (Crew error) → IsCrewFault request error
+  names_alone (requests.Session workers) never fails error is = inr (workers, refl, fails error is)
+  names_alone (Run workers) never fails error is = absurd (never error (fails error is))
+  names_alone (requests.Frame digits) never fails error is = absurd (never error (fails error is))
+  names_alone (Help text) never fails error is = absurd (never error (fails error is))
+  names_alone Version never fails error is = absurd (never error (fails error is))
+
+  -- the crew that a request asks for fails as its clause says
+  pub fails_as : (request : Request) → WantsCrew request → FailsByThreadsOf may_fail request outcome → FailsByCrew may_fail outcome
+  fails_as request wanted fails = subst (λ (r : Request). FailsByThreadsOf may_fail r outcome) wanted.1 fails

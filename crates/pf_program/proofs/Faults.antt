@@ -1,19 +1,21 @@
 -- Words that are parsed by one of their errors are parsed by the list of them.
-use Rattle.std.proofs.Common.{ℕ, rules, subst, refl, ap, codes, ◌≡◌, ◌⊎◌, ◌∙◌, inl, List, [], ◌∷◌, Option, None, Result, Ok, Err}
+use Rattle.std.proofs.Common.{ℕ, false, rules, subst, sym, refl, ap, codes, ◌≡◌, ◌⊎◌, ◌∙◌, inl, List, [], ◌∷◌, Option, None, Result, Ok, Err}
+use Rattle.std.proofs.lemmas.Bool.{true≢false}
 use Rattle.clap.specs.Words.{IsAmong, Kinds, Row, Text, fault_of, subcommand_of}
 use Rattle.clap.proofs.OnLiterals.{clap_on_literals}
 use Rattle.clap.specs.declared.error.kind.ErrorKind.{ErrorKind}
 use Rattle.clap.specs.declared.error.kind.ErrorKind.TheVariants as kind
 use Rattle.pf_console.specs.declared.fault.PlayFault.{PlayFault}
 use Rattle.pf_console.specs.declared.fault.PlayFault.TheVariants as faults
-use Rattle.pf_program.specs.Options.{ParsesAs, RunsUnlessMemory, command_line, digits_in, crew_size_in}
+use Rattle.pf_program.specs.Options.{ParsesAs, RunsUnlessMemory, command_line, digits_in, crew_size_in, is_session}
 use Rattle.pf_console.specs.declared.request.Request.{Request}
-use Rattle.pf_console.specs.declared.request.Request.TheVariants.{Run, Frame, Help, Version}
+use Rattle.pf_console.specs.declared.request.Request.TheVariants.{Run, Session, Frame, Help, Version}
 
 module _ (fault : ErrorKind) (others : Kinds) (entered : Option (Text × List Row)) where
   pub parses_among : (r : Result Request PlayFault) → ParsesAs (fault ∷ []) None r
       → (fault ≡ kind.OutOfMemory) ⊎ IsAmong fault others → ParsesAs others entered r
   parses_among (Ok (Run workers)) h e = search rules
+  parses_among (Ok (Session workers)) h e = search rules
   parses_among (Ok (Frame digits)) h e = search rules
   parses_among (Ok (Help text)) h e = search rules
   parses_among (Ok Version) h e = search rules
@@ -21,6 +23,7 @@ module _ (fault : ErrorKind) (others : Kinds) (entered : Option (Text × List Ro
   parses_among (Err faults.Memory) h e = search rules
   parses_among (Err (faults.Line number name)) h e = elim h [ ]
   parses_among (Err (faults.Frame name)) h e = elim h [ ]
+  parses_among (Err (faults.Session refusal)) h e = elim h [ ]
   parses_among (Err (faults.Crew error)) h e = elim h [ ]
   parses_among (Err faults.Read) h e = elim h [ ]
   parses_among (Err faults.Write) h e = elim h [ ]
@@ -35,29 +38,36 @@ run_is_no_frame : (program : Text) → digits_in (subcommand_of command_line (pr
 unfolding clap_on_literals
 run_is_no_frame program = refl
 
+-- nor `session`
+run_is_no_session : (program : Text) → is_session (subcommand_of command_line (program ∷ codes "run" ∷ [])) ≡ false
+unfolding clap_on_literals
+run_is_no_session program = refl
+
 -- and asks for no crew
-run_has_no_crew : (program : Text) → crew_size_in (subcommand_of command_line (program ∷ codes "run" ∷ [])) ≡ None
+run_has_no_crew : (program : Text) → crew_size_in (codes "run") (subcommand_of command_line (program ∷ codes "run" ∷ [])) ≡ None
 unfolding clap_on_literals
 run_has_no_crew program = refl
 
-without_error : (entered : Option (Text × List Row)) → digits_in entered ≡ None → crew_size_in entered ≡ None → (r : Result Request PlayFault) → ParsesAs [] entered r
+without_error : (entered : Option (Text × List Row)) → digits_in entered ≡ None → is_session entered ≡ false → crew_size_in (codes "run") entered ≡ None → (r : Result Request PlayFault) → ParsesAs [] entered r
     → RunsUnlessMemory r
-without_error entered none alone (Ok (Run workers)) h = inl (ap (λ (o : Option ℕ). Ok (Run o)) (h.1.1 ∙ alone))
-without_error entered none alone (Ok (Frame digits)) h = search rules
-without_error entered none alone (Ok (Help text)) h = search rules
-without_error entered none alone (Ok Version) h = search rules
-without_error entered none alone (Err (faults.Words text)) h = search rules
-without_error entered none alone (Err faults.Memory) h = search rules
-without_error entered none alone (Err (faults.Line number name)) h = elim h [ ]
-without_error entered none alone (Err (faults.Frame name)) h = elim h [ ]
-without_error entered none alone (Err (faults.Crew error)) h = elim h [ ]
-without_error entered none alone (Err faults.Read) h = elim h [ ]
-without_error entered none alone (Err faults.Write) h = elim h [ ]
+without_error entered none other alone (Ok (Run workers)) h = inl (ap (λ (o : Option ℕ). Ok (Run o)) (h.1.2 ∙ alone))
+without_error entered none other alone (Ok (Session workers)) h = absurd (true≢false (sym h.1.0 ∙ other))
+without_error entered none other alone (Ok (Frame digits)) h = search rules
+without_error entered none other alone (Ok (Help text)) h = search rules
+without_error entered none other alone (Ok Version) h = search rules
+without_error entered none other alone (Err (faults.Words text)) h = search rules
+without_error entered none other alone (Err faults.Memory) h = search rules
+without_error entered none other alone (Err (faults.Line number name)) h = elim h [ ]
+without_error entered none other alone (Err (faults.Frame name)) h = elim h [ ]
+without_error entered none other alone (Err (faults.Session refusal)) h = elim h [ ]
+without_error entered none other alone (Err (faults.Crew error)) h = elim h [ ]
+without_error entered none other alone (Err faults.Read) h = elim h [ ]
+without_error entered none other alone (Err faults.Write) h = elim h [ ]
 
 pub run_alone : (program : Text) (r : Result Request PlayFault)
     → ParsesAs (fault_of command_line (program ∷ codes "run" ∷ [])) (subcommand_of command_line (program ∷ codes "run" ∷ [])) r
     → RunsUnlessMemory r
 run_alone program r h =
     without_error (subcommand_of command_line (program ∷ codes "run" ∷ [])) (run_is_no_frame program)
-    (run_has_no_crew program) r
+    (run_is_no_session program) (run_has_no_crew program) r
     (subst (λ faults. ParsesAs faults (subcommand_of command_line (program ∷ codes "run" ∷ [])) r) (run_is_fit program) h)

@@ -11,7 +11,7 @@ use Rattle.clap.specs.declared.builder.value_parser.ValueParser.TheVariants.{Uns
 use Rattle.clap.specs.declared.error.kind.ErrorKind.{ErrorKind}
 use Rattle.clap.specs.declared.error.kind.ErrorKind.TheVariants as kind
 use Rattle.pf_console.specs.declared.request.Request.{Request}
-use Rattle.pf_console.specs.declared.request.Request.TheVariants.{Run, Frame, Help, Version}
+use Rattle.pf_console.specs.declared.request.Request.TheVariants.{Run, Session, Frame, Help, Version}
 use Rattle.pf_console.specs.declared.fault.PlayFault.{PlayFault}
 use Rattle.pf_console.specs.declared.fault.PlayFault.TheVariants.{Words, Memory}
 use Rattle.pf_pool.specs.declared.pool.TheConstants.{MAX_WORKERS}
@@ -39,14 +39,20 @@ crew_option = record (new_rule (codes "crew")) {
 abbrev pub run_words : App
 run_words = with_rule (new_app (codes "run")) crew_option
 
+-- the subcommand `session` has it too
+abbrev pub session_words : App
+session_words = with_rule (new_app (codes "session")) crew_option
+
 -- the subcommand `frame` has one word, which has to be there
 abbrev pub frame_words : App
 frame_words =
     with_rule (new_app (codes "frame")) (record (new_rule (codes "HEX")) { required = true })
 
--- what a command line may hold: the subcommand `run` or `frame`
+-- what a command line may hold: the subcommand `run`, `session` or `frame`
 abbrev pub command_line : App
-command_line = with_subcommand (with_subcommand own_words run_words.top) frame_words.top
+command_line =
+    with_subcommand (with_subcommand (with_subcommand own_words run_words.top) session_words.top)
+    frame_words.top
 
 -- a request for help or the version is no mistake, nor is a lack of memory
 abbrev pub is_mistake : ErrorKind → Bool
@@ -72,23 +78,32 @@ abbrev pub crew_size_of : Option Text → Option ℕ
 crew_size_of (Some word) = crew_size word
 crew_size_of None = None
 
--- the crew size behind `--crew`, where `run` is the subcommand that was entered
-abbrev pub crew_size_in : Option (Text × List Row) → Option ℕ
-crew_size_in None = None
-crew_size_in (Some entered) =
-    if bytes_eq entered.0 (codes "run") then crew_size_of (first_of (codes "crew") entered.1)
-    else None
+-- the crew size behind `--crew`, where this is the subcommand that was entered
+abbrev pub crew_size_in : Text → Option (Text × List Row) → Option ℕ
+crew_size_in name None = None
+crew_size_in name (Some entered) =
+    if bytes_eq entered.0 name then crew_size_of (first_of (codes "crew") entered.1) else None
 
--- the crew of a run has 1 to 16 workers, if it has one
+-- `session` is the subcommand that was entered
+abbrev pub is_session : Option (Text × List Row) → Bool
+is_session None = false
+is_session (Some entered) = bytes_eq entered.0 (codes "session")
+
+-- the crews of a run or a session have 1 to 16 workers, if there are any
 abbrev pub HasCrewSize : Request → Type 0
 HasCrewSize (Run crew) = IfSome crew (λ size. (0 < size) × (size ≤ MAX_WORKERS))
+HasCrewSize (Session crew) = IfSome crew (λ size. (0 < size) × (size ≤ MAX_WORKERS))
 HasCrewSize (Frame digits) = Unit {0}
 HasCrewSize (Help text) = Unit {0}
 HasCrewSize Version = Unit {0}
 
 -- what valid words ask for, by the subcommand that they enter
 abbrev pub AsksFor : Option (Text × List Row) → Request → Type 0
-AsksFor entered (Run crew) = (digits_in entered ≡ None) × (crew ≡ crew_size_in entered)
+AsksFor entered (Run crew) =
+    (digits_in entered ≡ None) × (is_session entered ≡ false)
+    × (crew ≡ crew_size_in (codes "run") entered)
+AsksFor entered (Session crew) =
+    (is_session entered ≡ true) × (crew ≡ crew_size_in (codes "session") entered)
 AsksFor entered (Frame digits) = digits_in entered ≡ Some digits.now
 AsksFor entered (Help text) = ⊥
 AsksFor entered Version = ⊥

@@ -6,9 +6,10 @@ use Rattle.pf_step.specs.declared.crew.CrewError.{CrewError}
 use Rattle.pf_step.specs.declared.crew.CrewError.TheVariants.{GateShut}
 use Rattle.pf_workers.specs.Crew.{IsStartError, StandingCrew, new_crew}
 use Rattle.pf_console.specs.declared.request.Request.{Request}
-use Rattle.pf_console.specs.declared.request.Request.TheVariants.{Run}
+use Rattle.pf_console.specs.declared.request.Request.TheVariants.{Run, Session}
 use Rattle.pf_console.specs.declared.fault.PlayFault.{PlayFault}
 use Rattle.pf_console.specs.declared.fault.PlayFault.TheVariants.{Crew}
+use Rattle.pf_console.specs.Crews.{IsSessionError}
 use Rattle.pf_console.specs.Report.{outcome_status, outcome_text}
 use Rattle.pf_console.specs.Request.{Performs}
 use Rattle.pf_program.specs.Options.{ParsesAs, command_line}
@@ -36,10 +37,11 @@ abbrev pub IsStartFault : Request → PlayFault → Type 0
 IsStartFault request fault =
     WantsCrew request × ((error : CrewError) × (fault ≡ Crew error) × IsStartError error)
 
--- an error of the crew that a request asks for, whose gates are open
-abbrev pub IsCrewFault : Request → PlayFault → Type 0
-IsCrewFault request fault =
-    WantsCrew request × ((error : CrewError) × (fault ≡ Crew error) × (error ≢ GateShut))
+-- an error of the crew that a request asks for, whose gates are open, or of the threads of a session
+abbrev pub IsCrewFault : Request → CrewError → Type 0
+IsCrewFault request error =
+    (WantsCrew request × (error ≢ GateShut))
+    ⊎ ((crew : Option ℕ) × (request ≡ Session crew) × IsSessionError crew error)
 
 -- an error is the outcome, and nothing was read or written
 pub record Fails (fault : PlayFault) (s : Streams) (outcome : Result (Unit {0}) PlayFault)
@@ -56,10 +58,10 @@ Does (Ok request) s outcome =
     ⊎ ((fault : PlayFault) × IsStartFault request fault × Fails fault s outcome)
 Does (Err fault) s outcome = Fails fault s outcome
 
--- an error of a crew comes only where a request asks for one, and never from a gate
+-- an error of a crew comes only where a request asks for one or for a session, and never from a gate
 abbrev pub NamesCrew : Result Request PlayFault → Result (Unit {0}) PlayFault → Type 0
 NamesCrew (Ok request) outcome =
-    (error : CrewError) → outcome ≡ Err (Crew error) → IsCrewFault request (Crew error)
+    (error : CrewError) → outcome ≡ Err (Crew error) → IsCrewFault request error
 NamesCrew (Err fault) outcome = (error : CrewError) → outcome ≢ Err (Crew error)
 
 -- the outcome of a call: one thing that its words ask for was done

@@ -21,7 +21,7 @@ use std::sync::Wait;
 use std::thread::Threads;
 
 /// The crew that a run asks for, if it asks for one, with a collider whose workers are the crew's.
-fn crew_of<T: Threads + Wait + Copy + Send + 'static>(
+fn crew_of<T: Threads + Wait + Copy + Send + Sync + 'static>(
     rt: T,
     alloc: Global,
     request: &Request,
@@ -42,9 +42,10 @@ fn crew_of<T: Threads + Wait + Copy + Send + 'static>(
     }
 }
 
-/// Does what the words of a call ask for. Where they ask for a crew, it is made before anything is
-/// read, and closed at the end.
-fn play<S: AsStr + Drop, R: Source, W: Sink, T: Threads + Wait + Copy + Send + 'static>(
+/// Does what the words of a call ask for. Where they ask for a run with a crew, it is made before
+/// anything is read, and closed at the end; the peers of a session make their own.
+#[tactic(auto, using(crate::proofs::Crews::can_start))]
+fn play<S: AsStr + Drop, R: Source, W: Sink, T: Threads + Wait + Copy + Send + Sync + 'static>(
     rt: T,
     alloc: Global,
     words: Result<Vec<S>, PlayFault>,
@@ -67,10 +68,18 @@ fn play<S: AsStr + Drop, R: Source, W: Sink, T: Threads + Wait + Copy + Send + '
     let words = words?;
     let request = options(alloc, words.as_slice())?;
     let Some(workers) = crew_of(rt, alloc, &request)? else {
-        return perform(&OneThread, alloc, request, reader, writer, &mut OneThread);
+        return perform(
+            &rt,
+            &OneThread,
+            alloc,
+            request,
+            reader,
+            writer,
+            &mut OneThread,
+        );
     };
     let Workers { mut crew, collider } = workers;
-    let outcome = perform(&collider, alloc, request, reader, writer, &mut crew);
+    let outcome = perform(&rt, &collider, alloc, request, reader, writer, &mut crew);
     crew.close();
     outcome
 }
@@ -81,7 +90,7 @@ pub fn program<
     R: Source,
     W: Sink,
     E: Sink,
-    T: Threads + Wait + Copy + Send + 'static,
+    T: Threads + Wait + Copy + Send + Sync + 'static,
 >(
     rt: T,
     alloc: Global,

@@ -3,7 +3,7 @@
 ghost use Rattle.std.specs.Prelude.{◌≡◌, ℕ, List, [], ◌∷◌, None, false, codes, map, IfOk};
 ghost use Rattle.clap.specs.Words.{app_of, fault_of, kind_of, rule_of, subcommand_of, subcommand_rows_of};
 ghost use Rattle.clap.specs.declared.builder.command.Command.TheViews.{out-Command as fields_of};
-ghost use Rattle.pf_program.specs.Options.{ParsesAs, AsksFor, FailsByWordsOrMemory, HasCrewSize, RunsUnlessMemory, command_line, crew_option, frame_words, own_words, run_words, crew_size, crew_size_in};
+ghost use Rattle.pf_program.specs.Options.{ParsesAs, AsksFor, FailsByWordsOrMemory, HasCrewSize, RunsUnlessMemory, command_line, crew_option, frame_words, own_words, run_words, session_words, crew_size, crew_size_in, is_session};
 
 use clap::error::ErrorKind;
 use clap::{Arg, ArgMatches, Command, Error, value_parser};
@@ -31,7 +31,7 @@ number of its command, and what it does:
   tick 0 player 0 number 1 turn 0 16777216
   tick 0 player 0 number 2 stop 0";
 
-/// The option of `run` that asks for a crew.
+/// The option of `run` and of `session` that asks for crews.
 const CREW: &str = "crew";
 
 const CREW_HELP: &str = "Settle with N threads, 1 to 16; the output is the same";
@@ -78,15 +78,53 @@ that it has accumulated along its normal and its tangent. Here the answers are:
   body 0 0 -122880 16777216 0 0 -5242880 0 0 1
   end";
 
-/// The option `--crew N`.
-fn crew_argument<'a>(alloc: Global) -> Arg<'a>
+const SESSION_CREW_HELP: &str =
+    "Settle each peer with N threads of its own, 1 to 16; the output is the same";
+
+const SESSION_ABOUT: &str = "Plays the scripts of a text on standard input, each peer in a thread";
+
+const SESSION_USAGE: &str = "pf_play session [--crew N] < FILE";
+
+const SESSION_HELP: &str = "\
+Standard input holds a scene, a line `peers N` with N from 1 to 8, and then turns, a line each,
+those of a peer in their order:
+
+  turn P K HEX HEX ..  peer P takes the frames with these digits, if there are any, and hands
+                       each to all others; then it goes K ticks of 1/64 s further
+
+The peers play at the same time. When all are done, and each holds the commands of all, the world
+of each peer is shown at its last tick, peer 0 first, as `pf_play run` shows it. Save this text as
+session.txt, two peers and a circle that the first one pushes:
+
+  gravity 0 0
+  circle 0 16777216 0 16777216 0 0
+  end
+  peers 2
+  turn 0 1 010000000000000000000000000000010000000000000000000000
+  turn 1 1
+
+and run it by
+
+  pf_play session < session.txt
+
+The answers are:
+
+  show 0 1
+  body 0 262144 0 16777216 0 16777216 0 0 0 1
+  end
+  show 1 1
+  body 0 262144 0 16777216 0 16777216 0 0 0 1
+  end";
+
+/// The option `--crew N`, with this help.
+fn crew_argument<'a>(alloc: Global, help: &'static str) -> Arg<'a>
     ensures rule { rule_of result ≡ crew_option }
     ensures local { result.global ≡ false }
 {
     Arg::new(alloc, CREW)
         .long(CREW)
         .value_name("N")
-        .help(CREW_HELP)
+        .help(help)
         .value_parser(value_parser!(usize).range(1..=MAX_WORKERS as i64))
 }
 
@@ -99,7 +137,19 @@ fn run_command<'a>(alloc: Global) -> Result<Command<'a>, AllocError>
         .about(RUN_ABOUT)
         .override_usage(RUN_USAGE)
         .after_help(RUN_HELP)
-        .arg(crew_argument(alloc))
+        .arg(crew_argument(alloc, CREW_HELP))
+}
+
+/// The subcommand `session`, with its option.
+fn session_command<'a>(alloc: Global) -> Result<Command<'a>, AllocError>
+    ensures words { IfOk result (λ command. app_of command ≡ session_words) }
+    ensures local { IfOk result (λ command. (fields_of command).has_globals ≡ false) }
+{
+    Command::new(alloc, "session")
+        .about(SESSION_ABOUT)
+        .override_usage(SESSION_USAGE)
+        .after_help(SESSION_HELP)
+        .arg(crew_argument(alloc, SESSION_CREW_HELP))
 }
 
 /// The subcommand `frame`, with its one word.
@@ -134,6 +184,7 @@ fn command<'a>(alloc: Global) -> Result<Command<'a>, AllocError>
 {
     own_command(alloc)?
         .subcommand(run_command(alloc)?)?
+        .subcommand(session_command(alloc)?)?
         .subcommand(frame_command(alloc)?)
 }
 
@@ -165,12 +216,19 @@ fn crew_size(word: &str) -> Option<usize>
     }
 }
 
-/// The size of the crew that a run asks for, if it asks for one.
-fn crew_size_in(matches: &ArgMatches) -> Option<usize>
-    ensures { result ≡ crew_size_in (subcommand_rows_of matches.now) }
+/// The size of the crew that the subcommand of this name asks for, if it asks for one.
+fn crew_size_in(matches: &ArgMatches, name: &str) -> Option<usize>
+    ensures { result ≡ crew_size_in name.now (subcommand_rows_of matches.now) }
 {
-    let run = matches.subcommand_matches("run")?;
-    crew_size(run.get_str(CREW)?)
+    let entered = matches.subcommand_matches(name)?;
+    crew_size(entered.get_str(CREW)?)
+}
+
+/// Whether the words enter the subcommand `session`.
+fn is_session(matches: &ArgMatches) -> bool
+    ensures { result ≡ is_session (subcommand_rows_of matches.now) }
+{
+    matches.subcommand_matches("session").is_some()
 }
 
 /// What valid words ask for.
@@ -180,8 +238,11 @@ fn request_for<'a>(matches: &ArgMatches<'a>) -> Request<'a>
 {
     match matches.subcommand_matches("frame") {
         Some(frame) => Request::Frame(frame.get_str(DIGITS).unwrap_or("")),
+        None if is_session(matches) => Request::Session {
+            crew_size: crew_size_in(matches, "session"),
+        },
         None => Request::Run {
-            crew_size: crew_size_in(matches),
+            crew_size: crew_size_in(matches, "run"),
         },
     }
 }

@@ -45,6 +45,23 @@ fn runs(rt: HostRuntime) -> Result<(), Fail> {
     Ok(())
 }
 
+/// Whether words ask for a session with crews of so many workers, or with none.
+fn is_session(alloc: Global, words: &[&str], size: Option<usize>) -> Result<bool, PlayFault> {
+    Ok(matches!(options(alloc, words)?, Request::Session { crew_size } if crew_size == size))
+}
+
+#[test]
+fn sessions(rt: HostRuntime) -> Result<(), Fail> {
+    for (words, size) in [
+        (["pf_play", "session"].as_slice(), None),
+        (["pf_play", "session", "--crew", "16"].as_slice(), Some(16)),
+    ] {
+        let is_session = is_session(rt.alloc(), words, size)?;
+        assert!(rt; is_session);
+    }
+    Ok(())
+}
+
 /// Whether words ask for the frame of these digits.
 fn is_frame(alloc: Global, words: &[&str], digits: &str) -> Result<bool, PlayFault> {
     Ok(matches!(options(alloc, words)?, Request::Frame(found) if found == digits))

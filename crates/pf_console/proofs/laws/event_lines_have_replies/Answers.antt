@@ -4,7 +4,7 @@ use Rattle.pf_text.specs.Driver.{lines_output}
 use Rattle.pf_console.specs.declared.phase.Phase.TheVariants.{Playing}
 use Rattle.pf_console.specs.EventEncoding.{event_line}
 use Rattle.pf_console.specs.Laws.{session_output}
-use Rattle.pf_console.specs.Phase.{text_rules}
+use Rattle.pf_console.specs.Run.{text_rules}
 use Rattle.pf_console.proofs.Events.{output_is}
 use Rattle.pf_console.proofs.EventLines.{lines_of_events}
 use Rattle.pf_console.proofs.laws.event_lines_have_replies.Goals as goal

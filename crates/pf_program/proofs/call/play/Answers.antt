@@ -1,10 +1,12 @@
-use Rattle.std.proofs.Common.{◌≡◌, ◌∙◌, ap, sym, refl, Ok, Err, inl, map, subst}
+use Rattle.std.proofs.Common.{◌≡◌, ◌∙◌, ap, sym, refl, Ok, Err, inl, inr, map, subst}
 use Rattle.std.specs.Prelude.{option_map}
 use Rattle.std.proofs.lemmas.Result.{err_from_is_err_and}
 use Rattle.pf_console.specs.declared.fault.PlayFault.TheVariants.{Crew}
 use Rattle.clap.specs.Words.{fault_of, subcommand_of}
 use Rattle.pf_program.specs.Options.{ParsesAs, command_line}
-use Rattle.pf_program.proofs.Crews.{never_shut, wants, words_name_none}
+use Rattle.pf_program.proofs.Crews.{err_same, fails_as, names_alone, never_shut, started_not_shut, wants, words_name_none}
+use Rattle.pf_manifold.specs.declared.parallel.OneThread.{OneThread}
+use Rattle.pf_program.specs.Program.{IsStartFault}
 use Rattle.pf_program.proofs.call.play.Goals as goal
 
 pub returns-in_err-words-clause-plays : goal.returns-in_err-words-clause-plays
@@ -31,6 +33,35 @@ returns-clause-plays g c =
           c.as_slice.ensures.value c.in_ok-request.ensures.parses);
       does = inl c.perform-outcome.ensures.done;
       crew = λ error is.
-          let can = c.perform-outcome.ensures.crew error is in
-          (wants c.in_ok-request.request _ (sym (ap (option_map (λ w. w.crew)) c.in-Some.is) ∙ c.in_ok-workers.ensures.crew), (error, refl, never_shut can.0 can.2 error can.3));
+          let wanted = wants c.in_ok-request.request _ (sym (ap (option_map (λ w. w.crew)) c.in-Some.is) ∙ c.in_ok-workers.ensures.crew) in
+          let can = fails_as _ c.perform-outcome.result c.in_ok-request.request wanted c.perform-outcome.ensures.crew error is in
+          inl (wanted, never_shut can.0 can.2 error can.3);
+    }
+
+pub returns-in_err-workers-clause-plays : goal.returns-in_err-workers-clause-plays
+returns-in_err-workers-clause-plays g c =
+    let text = g.S.AsStr.text in
+    let error = err_from_is_err_and c.from_residual-in_err-workers.result c.from_residual-in_err-workers.ensures.1 in
+    let fault = c.in_err-workers.field-0.0 in
+    let outcome : c.from_residual-in_err-workers.result ≡ Err fault = rw (error.1, error.2) refl in
+    let start : IsStartFault c.in_ok-request.request fault = c.in_err-workers.ensures.fault in
+    record {
+      asked = Ok c.in_ok-request.request;
+      asks = rw c.in_ok-words.was (subst (λ l. ParsesAs (fault_of command_line (map text l))
+          (subcommand_of command_line (map text l)) (Ok c.in_ok-request.request))
+          c.as_slice.ensures.value c.in_ok-request.ensures.parses);
+      does = inr (fault, start, record { outcome_is = outcome; left_is = refl; after_is = refl });
+      crew = λ name is. inl (start.0, started_not_shut c.in_ok-request.request fault start name (sym (err_same outcome is)));
+    }
+
+pub returns-in_default-clause-plays : goal.returns-in_default-clause-plays
+returns-in_default-clause-plays g c =
+    let text = g.S.AsStr.text in
+    record {
+      asked = Ok c.in_ok-request.request;
+      asks = rw c.in_ok-words.was (subst (λ l. ParsesAs (fault_of command_line (map text l))
+          (subcommand_of command_line (map text l)) (Ok c.in_ok-request.request))
+          c.as_slice.ensures.value c.in_ok-request.ensures.parses);
+      does = inl c.perform.ensures.done;
+      crew = names_alone {A = OneThread} (λ _ _ _ _. ⊥) c.perform.result c.in_ok-request.request (λ error can. can.3) c.perform.ensures.crew;
     }

@@ -8,14 +8,14 @@ use Rattle.pf_program.proofs.command_line.crew_size_in.Goals as goal
 
 pub returns-in_err-get_str : goal.returns-in_err-get_str
 returns-in_err-get_str c =
-    let value = sym (first_value-rows (found_of c.in_ok-run.run'.now) (codes "crew")) ∙ sym c.get_str.ensures in
-    let found = crew_found c.args.matches.now _ _ (c.in_ok-run.ensures.found.0 refl) c.in_ok-run.ensures.rows value in
+    let value = sym (first_value-rows (found_of c.in_ok-entered.entered.now) (codes "crew")) ∙ sym c.get_str.ensures in
+    let found = crew_found c.args.matches.now _ _ _ (c.in_ok-entered.ensures.found.0 refl) c.in_ok-entered.ensures.rows value in
     let text : option_map (λ s. s.now) c.get_str.result ≡ None = rw c.in_err-get_str.was refl in
     c.from_residual-in_err-get_str.ensures ∙ ap crew_size_of (sym text) ∙ sym found
 
 pub returns : goal.returns
 returns c =
-    let value = sym (first_value-rows (found_of c.in_ok-run.run'.now) (codes "crew")) ∙ sym c.get_str.ensures in
-    let found = crew_found c.args.matches.now _ _ (c.in_ok-run.ensures.found.0 refl) c.in_ok-run.ensures.rows value in
+    let value = sym (first_value-rows (found_of c.in_ok-entered.entered.now) (codes "crew")) ∙ sym c.get_str.ensures in
+    let found = crew_found c.args.matches.now _ _ _ (c.in_ok-entered.ensures.found.0 refl) c.in_ok-entered.ensures.rows value in
     let text : option_map (λ s. s.now) c.get_str.result ≡ Some c.in_ok-get_str.field-0.now = rw c.in_ok-get_str.was refl in
     c.crew_size.ensures ∙ ap crew_size_of (sym text) ∙ sym found

@@ -1,0 +1,10 @@
+-- What `peers N` of a text begins.
+use Rattle.std.specs.Prelude.{ℕ, List, Result}
+use Rattle.pf_shapes.specs.declared.fault.SceneFault.{SceneFault}
+use Rattle.pf_shapes.specs.Scene.{Scene}
+
+-- what a scene with so many peers begins; the text of the reply to the fields of a line and what is
+-- then there, or the error of an invalid line
+pub record PlayRules (B : Type 0) : Type 0 where
+  pub begin : Scene → ℕ → B
+  pub after : B → List (List ℕ) → Result (List ℕ × B) SceneFault

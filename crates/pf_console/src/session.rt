@@ -1,0 +1,90 @@
+//! A text of a scene and scripts, played by peers in threads.
+
+ghost use Rattle.std.specs.Prelude.{◌≡◌, ◌≢◌, ◌+◌, ◌^◌, ◌<◌, ◌≤◌, Err, IfSome};
+ghost use Rattle.pf_pool.specs.declared.pool.TheConstants.{MAX_WORKERS};
+ghost use Rattle.pf_text.specs.Streams.{IfExposed};
+ghost use Rattle.pf_step.specs.declared.crew.CrewError.{CrewError};
+ghost use Rattle.pf_console.specs.declared.fault.PlayFault.TheVariants.{Crew};
+ghost use Rattle.pf_console.specs.Crews.{FailsByThreads};
+ghost use Rattle.pf_console.specs.SessionText.{PlaysSession, ReadsScripts, WritesNothing, outcome_of};
+ghost use Rattle.pf_console.specs.Text.{CountsReads, CountsWrites};
+
+use crate::fault::PlayFault;
+use crate::phase::Phase;
+use crate::scripts::Scripts;
+use pf_shapes::SceneFault;
+use pf_text::{DriveFault, Sink, Source, drive};
+use std::alloc::Global;
+use std::sync::Wait;
+use std::thread::Threads;
+
+/// What the end of a text's lines is for the program.
+fn outcome_of(
+    read: Result<(u64, Phase<Scripts>), DriveFault<SceneFault>>,
+) -> Result<Scripts, PlayFault>
+    ensures { result ≡ outcome_of read }
+{
+    match read {
+        Ok((_, Phase::Playing(scripts))) => Ok(scripts),
+        Ok((number, _)) => Err(PlayFault::Line(number, SceneFault::BadLine)),
+        Err(DriveFault::Line(number, fault)) => Err(PlayFault::Line(number, fault)),
+        Err(DriveFault::Memory) => Err(PlayFault::Memory),
+        Err(DriveFault::Read) => Err(PlayFault::Read),
+        Err(DriveFault::Write) => Err(PlayFault::Write),
+    }
+}
+
+/// Reads the scripts of a text. Nothing is written.
+fn read_scripts<R: Source, W: Sink>(
+    alloc: Global,
+    reader: &mut R,
+    writer: &mut W,
+) -> Result<Scripts, PlayFault>
+    requires reads { R.failures reader.old + 1 < 2 ^ 64 }
+    requires writes { W.failures writer.old + 1 < 2 ^ 64 }
+    ensures text { IfExposed (record {
+      unread = R.remaining reader.old;
+      left = R.remaining reader.new;
+      before = W.contents writer.old;
+      after = W.contents writer.new;
+    })
+        (λ transfer. WritesNothing transfer × ReadsScripts transfer result) }
+    ensures reads_counted { CountsReads (R.failures reader.old) result (R.failures reader.new) }
+    ensures writes_counted { CountsWrites (W.failures writer.old) result (W.failures writer.new) }
+    ensures no_threads { (error : CrewError) → result ≢ Err (Crew error) }
+{
+    outcome_of(drive(alloc, &mut (), reader, writer, Phase::<Scripts>::first()))
+}
+
+/// Processes a text of a scene, its peers and their turns: when all of it is read, each peer plays
+/// its script in a thread, with a crew of so many workers or without one, and at the end the block
+/// of each peer at its reached tick is written. What is written never depends on threads or crews.
+/// The call waits for its threads.
+///
+/// With any error but one of the writer nothing was written.
+pub fn session_text<T: Threads + Wait + Copy + Send + Sync + 'static, R: Source, W: Sink>(
+    rt: &T,
+    alloc: Global,
+    reader: &mut R,
+    writer: &mut W,
+    crew: Option<usize>,
+) -> Result<(), PlayFault>
+    requires crew { IfSome crew (λ workers. (0 < workers) × (workers ≤ MAX_WORKERS)) }
+    requires reads { R.failures reader.old + 1 < 2 ^ 64 }
+    requires writes { W.failures writer.old + 1 < 2 ^ 64 }
+    ensures text { IfExposed (record {
+      unread = R.remaining reader.old;
+      left = R.remaining reader.new;
+      before = W.contents writer.old;
+      after = W.contents writer.new;
+    })
+        (λ transfer. PlaysSession transfer result) }
+    // An error of the reader or the writer is returned exactly where it failed in this call.
+    ensures reads_counted { CountsReads (R.failures reader.old) result (R.failures reader.new) }
+    ensures writes_counted { CountsWrites (W.failures writer.old) result (W.failures writer.new) }
+    ensures threads { FailsByThreads crew result }
+{
+    let scripts = read_scripts(alloc, reader, writer)?;
+    let blocks = scripts.play(rt, alloc, crew)?;
+    Ok(writer.write_all(blocks.as_bytes())?)
+}
