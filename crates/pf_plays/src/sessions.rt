@@ -73,7 +73,10 @@ fn play_by<R: Handle, G: Gate + Sync>(
 }
 
 /// The size of a crew that a word spells.
-fn crew_of(word: Option<&str>) -> Result<Option<usize>> {
+fn crew_of(word: Option<&str>) -> Result<Option<usize>>
+    ensures { IfOk result (λ crew.
+        IfSome crew (λ workers. (0 < workers) × (workers ≤ MAX_WORKERS))) }
+{
     let Some(word) = word else {
         return Ok(None);
     };

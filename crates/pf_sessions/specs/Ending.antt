@@ -20,7 +20,7 @@ use Rattle.pf_sessions.specs.declared.ending.Receiver.{Receiver}
 abbrev pub inputs_in : List Receiver → List (List LinkIn)
 inputs_in receivers = map (λ receiver. receiver.inputs.items) receivers
 
--- a peer without the ends of its links to others
+-- the core and the ends of the links to a peer
 abbrev pub receiver_of : Peer → Receiver
 receiver_of p = record { core = p.core; inputs = p.inputs }
 
@@ -38,6 +38,7 @@ pub record HasFinished (old : Receiver) (senders : List LinkOut) (new : Receiver
   pub all : AllZip IsTakenOrLeft senders old.inputs.items
   pub settled : settled_tick new.core.kept ≡ new.core.peer.reached
 
+-- each receiver has, with its row of senders' ends
 abbrev pub AllFinished : List Receiver → List (List LinkOut) → List Receiver → Type 0
 AllFinished [] [] [] = ⊤
 AllFinished (old ∷ olds) (row ∷ rows) (new ∷ news) =

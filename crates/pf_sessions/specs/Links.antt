@@ -2,11 +2,12 @@
 use Rattle.std.specs.Prelude.{◌≡◌, List, [], ◌++◌, Vec, map}
 use Rattle.std.specs.Global.{Global}
 use Rattle.std.specs.List.{AllZip}
-use Rattle.pf_links.specs.Link.{AreEnds, backlog_of, got, handed}
+use Rattle.pf_links.specs.Link.{AreEnds, backlog_of, capacity_of, got, handed}
 use Rattle.pf_links.specs.declared.input.LinkIn.{LinkIn}
 use Rattle.pf_links.specs.declared.output.LinkOut.{LinkOut}
 use Rattle.pf_scripts.specs.declared.peer.Peer.{Peer}
 use Rattle.pf_sessions.specs.Table.{IsTable, transpose}
+use Rattle.pf_sessions.specs.declared.links.TheConstants.{LINK_CAPACITY}
 
 -- the rows of a table
 abbrev pub rows_of : {X : Type 0} → List (Vec X Global) → List (List X)
@@ -29,6 +30,7 @@ pub record AreLinked (holds : LinkOut → LinkIn → Type 0) (outputs : List (Li
 -- a link on which nothing was handed in
 pub record IsNewLink (out : LinkOut) (into : LinkIn) : Type 0 where
   pub ends : AreEnds out into
+  pub capacity : capacity_of out ≡ LINK_CAPACITY
   pub handed : handed out ≡ []
   pub got : got into ≡ []
 

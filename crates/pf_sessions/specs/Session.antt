@@ -41,8 +41,8 @@ pub record PeerResult : Type 0 where
   pub peer : Player
   pub world : World
 
--- the peer of a script holds the commands of all scripts, and its world is the simulation from tick
--- zero of these, up to the sum of its own ticks
+-- what the peer of a script holds and shows: these commands, and the simulation from tick zero of
+-- them, up to the sum of its own ticks
 abbrev pub result_of : Scene → CommandMap → ℕ → List Turn → PeerResult
 result_of s commands player script = record {
   peer = record { player = player; commands = commands; reached = ticks_of script };
@@ -69,7 +69,7 @@ pub record HasEnded (s : Scene) (p : Peer) : Type 0 where
   pub kept : p.kept ≡ None
   pub settled : settled_tick p.core.kept ≡ (peer_of p).reached
 
--- a peer has handed its script to each other peer, and nothing else
+-- a peer has handed the frames of its script to each other peer, and no others
 abbrev pub HasSent : List Turn → Peer → Type 0
 HasSent script p = All (λ link. handed link ≡ frames_of script) p.outputs.items
 
@@ -86,8 +86,8 @@ pub record FailsAlone (always : Bool) (crew : Option ℕ) (s : Scene) (scripts :
   pub may_be : IsPlayError always crew error
   pub lesser : session_fault s 0 (take player scripts) ≡ None
 
--- with which fault a session may end: that of the least peer whose script has one, that of a peer by
--- itself, or the caller's own, which is out of memory or could not start a thread
+-- with which fault a session may end: that of the least peer whose script has one, that of a peer
+-- by itself, or the caller's own, which is out of memory or could not start a thread
 abbrev pub IsSessionFault : Bool → Option ℕ → Scene → List (List Turn) → SessionFault → Type 0
 IsSessionFault always crew s scripts fault =
     (session_fault s 0 scripts ≡ Some fault)

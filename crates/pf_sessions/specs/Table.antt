@@ -1,5 +1,5 @@
--- Tables of what peers have for one another: a row for each peer, with an entry for each other peer,
--- in their order.
+-- Tables of what peers have for one another: a row for each peer, with an entry for each other
+-- peer, in their order.
 use Rattle.std.specs.Prelude.{◌≡◌, ℕ, zero, suc, ◌+◌, ◌-◌, List, [], ◌∷◌, All, Option, drop, length, map, nat_lt, option_and_then, slice_get, if◌then◌else◌}
 
 -- the first entry of each row
@@ -18,7 +18,7 @@ with_entries [] rows = []
 with_entries (x ∷ entries) [] = []
 with_entries (x ∷ entries) (row ∷ rows) = (x ∷ row) ∷ with_entries entries rows
 
--- the same of so many rows as the next
+-- the transpose of a table with so many rows
 unfoldable pub transpose_of : {X : Type 0} → ℕ → List (List X) → List (List X)
 transpose_of zero rows = []
 transpose_of (suc more) [] = []

@@ -16,7 +16,7 @@ use pf_scripts::Peer;
 use pf_step::{Work, World};
 use std::alloc::{AllocError, Global};
 
-/// A peer without the ends of its links to others.
+/// A peer's core, and its ends of the links to it. A peer that has played keeps no frame.
 #[derive(Drop)]
 pub struct Receiver {
     core: PeerCore,
@@ -59,7 +59,7 @@ fn finish(
     Ok(())
 }
 
-/// The same of each receiver.
+/// Lets each receiver do so, with its row of the senders' ends.
 fn finish_all(
     alloc: Global,
     receivers: &mut [Receiver],
@@ -83,7 +83,7 @@ fn finish_all(
     finish_all(alloc, receivers, rows)
 }
 
-/// The receivers and the senders' ends after that.
+/// The receivers and the senders' ends when each receiver has done so.
 fn finish_each(
     alloc: Global,
     receivers: Vec<Receiver>,
@@ -140,8 +140,8 @@ fn show_all(
     Ok(ended)
 }
 
-/// Ends a session of peers that have played: what is left on each link is taken, first of its ring
-/// and then of its backlog; each peer settles once more, and shows its world.
+/// Ends a session of peers that have played: what is left on each link is taken, first from its
+/// ring and then from its backlog; each peer settles once more, and shows its world.
 pub fn end_session(alloc: Global, peers: Vec<Peer>) -> Result<Vec<(Peer, World)>, AllocError>
     requires { AreLinked AreEnds (outputs_of peers.items) (inputs_of peers.items) }
     ensures { IfOk result (λ ended. AreEnded peers.items ended.items) }

@@ -1,5 +1,6 @@
 //! Sessions: each peer plays its script in a thread of its own, and hands its frames to the others
-//! over lock-free rings. Under every schedule each ends with the commands of all scripts.
+//! over lock-free rings. Where none fails, each holds the commands of all scripts at the end, under
+//! every schedule.
 #![tactic(auto)]
 
 mod ending;

@@ -19,7 +19,7 @@ pub const LINK_CAPACITY: usize = MAX_CAPACITY;
 /// How many settled worlds each peer keeps beside its keyframes.
 pub const RING: usize = MAX_RING;
 
-/// Links from so many peers to one: the ends of the senders, and those of the receiver.
+/// Links from so many peers to one: the senders' ends, and the receiver's.
 fn links_to_one(alloc: Global, senders: usize) -> Result<(Vec<LinkOut>, Vec<LinkIn>), AllocError>
     ensures links { IfOk result (λ ends. AllZip IsNewLink ends.0.items ends.1.items) }
     ensures count { IfOk result (λ ends. length ends.0.items ≡ senders) }
@@ -34,8 +34,8 @@ fn links_to_one(alloc: Global, senders: usize) -> Result<(Vec<LinkOut>, Vec<Link
     Ok((outputs, inputs))
 }
 
-/// Links from each of so many peers to each other one: for each the ends of its links to the
-/// others, and those of the links from the others to it.
+/// A link from each of so many peers to each other one: for each peer a row of the ends of its links
+/// to the others, and a row of the ends of theirs to it.
 fn links_among(
     alloc: Global,
     peers: usize,

@@ -14,7 +14,7 @@ use std::sync::Wait;
 use std::thread;
 use std::thread::{Promise, Scope, Threads};
 
-/// What the thread of a peer returns: the peer after its script, or its fault.
+/// What the thread of a peer promises of its result: the peer after its script, or its fault.
 #[derive(Drop)]
 struct PlayPromise<G> {
     script: Snapshot<Vec<Turn>>,
@@ -30,9 +30,9 @@ impl<G: Gate> Promise<Result<Peer, SessionFault>> for PlayPromise<G> {
         IsPlayOutcome G.ALWAYS p.crew p.script.value.items p.peer.value r };
 }
 
-/// Starts a thread for each peer, from the last to the first, in which it plays its script; and joins
-/// those that it started. Returns an error where a thread could not be started, and else that of the
-/// least peer that failed.
+/// Starts a thread for each peer, the last one first, and joins them. Each peer plays its script in
+/// its own. Returns an error where a thread could not be started; else the fault of a peer where no
+/// lesser script has one; and out of memory.
 fn play_in_threads<'s, 'e: 's, R, G>(
     rt: &'e R,
     alloc: Global,
@@ -84,7 +84,7 @@ where
     }
 }
 
-/// Lets each peer play its script in a thread of its own, and joins the threads.
+/// Lets each peer play its script in a thread of its own, and joins the threads. Errors as above.
 pub fn play_all<R, G>(
     rt: &R,
     alloc: Global,

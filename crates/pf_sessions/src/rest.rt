@@ -61,7 +61,8 @@ fn take_rest_of(
     take_backlog(core, sender)
 }
 
-/// Takes what is left on all links to a peer. `senders` are the other ends of its links.
+/// Takes what is left on all links to a peer. `senders` are the other ends of `inputs`, in the same
+/// order.
 pub fn take_rest(
     core: &mut PeerCore,
     senders: &mut [LinkOut],

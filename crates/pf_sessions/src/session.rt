@@ -18,16 +18,18 @@ use std::alloc::Global;
 use std::sync::Wait;
 use std::thread::Threads;
 
-/// Plays a session: for each script a peer, whose player is its number, in a thread of its own. It
-/// plays its script, and hands its frames to all others, by [`Peer::play`], with a crew of so many
-/// workers or none; it passes the gate in each turn. When all have ended, each takes what is left
-/// on its links, and settles on the caller's thread.
+/// Plays a session. Each script has a peer, whose player is the script's number, and a thread in
+/// which the peer plays it by [`Peer::play`], and passes the gate in each turn. `crew` is how many
+/// workers settle each peer's ticks; with none its own thread does. When all have played, each peer
+/// takes what is left on its links, and settles, on the caller's thread.
 ///
 /// Returns each peer with its world at the tick that it has reached. Under every schedule all peers
-/// hold the commands of all scripts. Its ends of links are ordered by the other peers' numbers.
+/// hold the commands of all scripts. The ends of a peer's links stand in the order of the other
+/// peers' numbers.
 ///
-/// Returns an error where peers failed, that of the least; where a thread could not be started; and
-/// where the caller is out of memory. It waits for the threads of all peers that it has started.
+/// Returns a fault of a peer, where no lesser peer's script has one; `NoThread` where a thread could
+/// not be started; and `OutOfMemory` where the caller is out of memory. It waits for all threads that
+/// it has started.
 pub fn run_session<R, G>(
     rt: &R,
     alloc: Global,

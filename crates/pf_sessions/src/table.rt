@@ -53,7 +53,7 @@ fn split_first_entries(
     Ok((column, rows))
 }
 
-/// A column, and behind it columns with the entries of a row in front.
+/// Puts the entries of a row in front of columns, and a column before all of them.
 fn join_first_entries(
     column: Vec<LinkOut>,
     row: Vec<LinkOut>,
@@ -69,7 +69,7 @@ fn join_first_entries(
     Ok(columns)
 }
 
-/// The ends of links by receiver, of a table by sender; or by sender, of a table by receiver.
+/// The table turned over: by receiver where it was by sender, and back.
 pub fn transpose(alloc: Global, table: Vec<Vec<LinkOut>>) -> Result<Vec<Vec<LinkOut>>, AllocError>
     requires { IsTable (rows_of table.items) }
     ensures { IfOk result (λ other. rows_of other.items ≡ transpose (rows_of table.items)) }

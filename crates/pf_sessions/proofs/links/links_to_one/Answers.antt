@@ -12,6 +12,7 @@ loop-preserved c =
     let i = c.in_ok-output.input in
     let link : IsNewLink o i = record {
       ends = c.in_ok-output.ensures.ends;
+      capacity = c.in_ok-output.ensures.capacity;
       handed = c.in_ok-output.ensures.handed;
       got = c.in_ok-output.ensures.got;
     } in
