@@ -9,7 +9,7 @@
 //! | `turn P K FRAME ..` | adds a turn to the script of peer P: these frames, and K ticks | nothing |
 //! | `session GATE` | plays all scripts, each peer in a thread of its own | below |
 //! | `crews N GATE` | the same, each peer with a crew of N workers | below |
-//! | `two GATE` | lets peers 0 and 1 play in two threads, and takes nothing that is left | `two COMMANDS COMMANDS`: how many commands each holds |
+//! | `two GATE` | lets peers 0 and 1 play, and takes nothing that is left | `two` and, for each, `COMMANDS/TICKS`: how many it holds, and has simulated |
 //!
 //! GATE is `open`; `meeting N`, where each peer waits in each turn until those below N have come;
 //! `counting N`, the same, but open also where one did not come; `shut-from P TURN`, which is shut

@@ -11,10 +11,10 @@ use pf_trials::TrialGate;
 use std::alloc::Global;
 use std::thread;
 
-/// How many commands a peer holds that has played.
-fn commands_of(played: Result<Peer, SessionFault>) -> Result<usize> {
+/// How many commands a peer holds that has played, and how many ticks it has simulated.
+fn counts_of(played: Result<Peer, SessionFault>) -> Result<(usize, u64)> {
     match played {
-        Ok(peer) => Ok(peer.core().commands().len()),
+        Ok(peer) => Ok((peer.core().commands().len(), peer.core().meter().ticks)),
         Err(fault) => bail!("a fault: {fault:?}"),
     }
 }
@@ -45,7 +45,8 @@ fn two_peers(alloc: Global, scene: &Scene) -> Result<(Peer, Peer)> {
     }
 }
 
-/// Lets peers 0 and 1 play, and prints how many commands each holds.
+/// Lets peers 0 and 1 play, and prints for each how many commands it holds and how many ticks it
+/// has simulated.
 pub fn play_two<R: Handle>(
     rt: &R,
     alloc: Global,
@@ -61,6 +62,7 @@ pub fn play_two<R: Handle>(
     };
     let (first, second) = two_peers(alloc, scene)?;
     let played = play_by(rt, alloc, first, second, (one, two), &noted.gate);
-    let (first, second) = (commands_of(played.0)?, commands_of(played.1)?);
-    Ok(format!(in alloc; "two {first} {second}\n")?)
+    let (commands, ticks) = counts_of(played.0)?;
+    let (others_commands, others_ticks) = counts_of(played.1)?;
+    Ok(format!(in alloc; "two {commands}/{ticks} {others_commands}/{others_ticks}\n")?)
 }
