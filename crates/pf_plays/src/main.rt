@@ -6,21 +6,22 @@
 //!
 //! | line | does | printed |
 //! |---|---|---|
-//! | `turn P K FRAME ..` | adds a turn to the script of peer P: these frames, and K ticks | nothing |
+//! | `turn P K FRAME ..` | adds a turn to peer P's script: these frames, and K ticks | nothing |
 //! | `session GATE` | plays all scripts, each peer in a thread of its own | below |
 //! | `crews N GATE` | the same, each peer with a crew of N workers | below |
-//! | `two GATE` | lets peers 0 and 1 play, and takes nothing that is left | `two` and, for each, `COMMANDS/TICKS`: how many it holds, and has simulated |
+//! | `two GATE` | peers 0 and 1 play in threads, and take nothing that is left | `two`, and counts |
 //!
 //! GATE is `open`; `meeting N`, where each peer waits in each turn until those below N have come;
 //! `counting N`, the same, but open also where one did not come; `shut-from P TURN`, which is shut
-//! for this peer and those of greater numbers in this turn; or `after P TURN OTHER`, where this peer
-//! waits in this turn until another one has come for it.
+//! in this turn for this peer and those above it; or `after P TURN OTHER`, where this peer waits in
+//! this turn until another one has come for it.
 //!
 //! A session prints `session`, and for each peer `peer PLAYER REACHED SETTLED COMMANDS` and its
-//! bodies that move, as `pf_play` shows them; or `session` and its fault. A gate that is not `open`
-//! prints `gate shut COUNT passes` and for each peer, or those below N, how often it came and for how
-//! many turns; COUNT is how often its rule was not met. A line that begins with `#` is printed as it
-//! is.
+//! bodies that move, as `pf_play` shows them; or `session` and its fault. The counts of `two` are
+//! `COMMANDS/TICKS` for each peer: how many it holds, and has simulated. A gate that is not `open`
+//! prints `gate shut COUNT passes` and for each peer, or those below N, how often it came and for
+//! how many turns; COUNT is how often its rule was not met. A line that begins with `#` is printed
+//! as it is.
 #![tactic(auto)]
 
 mod gates;
