@@ -114,11 +114,11 @@ fn tells_help_from_version(rt: HostRuntime) -> Result<(), Fail> {
 }
 
 /// Words, and the mistake in them with the usage that is shown.
-const MISTAKES: [(&[&str], &str, &str); 11] = [
+const MISTAKES: [(&[&str], &str, &str); 12] = [
     (
         &["pf_play"],
         "error: 'pf_play' requires a subcommand but one was not provided\n  \
-[subcommands: run, frame]\n",
+[subcommands: run, session, frame]\n",
         USAGE,
     ),
     (
@@ -154,6 +154,11 @@ const MISTAKES: [(&[&str], &str, &str); 11] = [
     (
         &["pf_play", "run", "--crew", "two"],
         "error: invalid value 'two' for '--crew <N>': invalid digit found in string\n",
+        NO_USAGE,
+    ),
+    (
+        &["pf_play", "session", "--crew", "17"],
+        "error: invalid value '17' for '--crew <N>': 17 is not in 1..=16\n",
         NO_USAGE,
     ),
     (
