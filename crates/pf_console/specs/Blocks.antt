@@ -15,7 +15,7 @@ use Rattle.pf_console.specs.Print.{block_text}
 abbrev pub result_block : List Fixture → PeerResult → List ℕ
 result_block fixtures r = block_text fixtures r.peer.player r.peer.reached r.world
 
--- a peer's want of memory is a want of memory, and its other errors are those of its threads
+-- a peer that is out of memory is reported as `Memory`; its other errors are those of its threads
 abbrev pub fault_of_peer : CrewError → PlayFault
 fault_of_peer OutOfMemory = Memory
 fault_of_peer error = Crew error

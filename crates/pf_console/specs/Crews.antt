@@ -19,7 +19,7 @@ FailsByCrew may_fail result =
     (error : CrewError) → result ≡ Err (Crew error) → CanFail may_fail error
 
 -- An error of threads with which a session may end, whose peers have crews of so many workers or
--- none. A peer's want of memory is reported as such, and its gates are open.
+-- none. A peer that is out of memory is reported as `Memory`, and no gate is shut.
 abbrev pub IsSessionError : Option ℕ → CrewError → Type 0
 IsSessionError crew NoThread = Unit {0}
 IsSessionError crew CrewLost = IsSome crew
