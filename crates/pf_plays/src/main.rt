@@ -29,31 +29,14 @@ mod script;
 mod sessions;
 mod two;
 
-ghost use Rattle.std.specs.Prelude.{◌+◌, ◌<◌, length, IfSome};
-
 use crate::script::Scripts;
 use crate::sessions::{Handle, play};
 use crate::two::play_two;
 use anyhow::{Context, Result, bail};
-use memchr::memmem;
 use pf_shapes::Scene;
+use pf_trials::{split_scene, split_text};
 use std::alloc::Global;
 use std::io::{BufWriter, Read, Write};
-
-/// The last line of a text that another one follows.
-const SEPARATOR: &[u8] = b"# next text\n";
-
-/// The last line of a scene.
-const END: &[u8] = b"\nend\n";
-
-/// A text up to the first mark, with the mark, and what is behind it.
-fn split_behind<'a>(text: &'a [u8], mark: &[u8]) -> Option<(&'a [u8], &'a [u8])>
-    requires { 0 < length mark.now }
-    ensures { IfSome result (λ parts. length parts.1.now < length text.now) }
-{
-    let end = memmem::find(text, mark)? + mark.len();
-    Some((&text[..end], &text[end..]))
-}
 
 /// The answer to a line, which may be empty.
 fn answer<R: Handle>(
@@ -78,7 +61,7 @@ fn answer<R: Handle>(
 
 /// Answers the lines of a text.
 fn run<R: Handle, W: Write>(rt: &R, alloc: Global, text: &[u8], writer: &mut W) -> Result<()> {
-    let (scene, lines) = split_behind(text, END).context("no end of the scene")?;
+    let (scene, lines) = split_scene(text).context("no end of the scene")?;
     let scene = Scene::read(alloc, scene)?;
     let mut scripts = Scripts::new(alloc);
     for line in str::from_utf8(lines).context("lines are text")?.lines() {
@@ -98,7 +81,7 @@ fn main(rt: HostRuntime) -> Result<()> {
     rt.stdin().read_to_end(&mut texts)?;
     let mut writer = BufWriter::new(alloc, std::io::writer(&rt))?;
     let mut rest = texts.as_slice();
-    while let Some((text, others)) = split_behind(rest, SEPARATOR) {
+    while let Some((text, others)) = split_text(rest) {
         run(&rt, alloc, text, &mut writer)?;
         rest = others;
     }
