@@ -45,31 +45,14 @@ mod print;
 mod table;
 mod threads;
 
-ghost use Rattle.std.specs.Prelude.{◌+◌, ◌<◌, length, IfSome};
-
 use crate::call::parse;
 use crate::table::Table;
 use crate::threads::Handle;
 use anyhow::{Context, Result};
-use memchr::memmem;
 use pf_shapes::Scene;
+use pf_trials::{split_scene, split_text};
 use std::alloc::Global;
 use std::io::{BufWriter, Read, Write};
-
-/// The last line of a text that another one follows.
-const SEPARATOR: &[u8] = b"# next text\n";
-
-/// The last line of a scene.
-const END: &[u8] = b"\nend\n";
-
-/// A text up to the first mark, with the mark, and what is behind it.
-fn split_behind<'a>(text: &'a [u8], mark: &[u8]) -> Option<(&'a [u8], &'a [u8])>
-    requires { 0 < length mark.now }
-    ensures { IfSome result (λ parts. length parts.1.now < length text.now) }
-{
-    let end = memmem::find(text, mark)? + mark.len();
-    Some((&text[..end], &text[end..]))
-}
 
 /// Runs the call of a line, and prints its answer and the state of its peer.
 fn run_line<R: Handle, W: Write>(
@@ -87,7 +70,7 @@ fn run_line<R: Handle, W: Write>(
 
 /// Runs the calls of a text.
 fn run<R: Handle, W: Write>(rt: &R, alloc: Global, text: &[u8], writer: &mut W) -> Result<()> {
-    let (scene, calls) = split_behind(text, END).context("no end of the scene")?;
+    let (scene, calls) = split_scene(text).context("no end of the scene")?;
     let scene = Scene::read(alloc, scene)?;
     let mut table = Table::new(rt, alloc, scene);
     for line in str::from_utf8(calls).context("calls are text")?.lines() {
@@ -106,7 +89,7 @@ fn main(rt: HostRuntime) -> Result<()> {
     rt.stdin().read_to_end(&mut texts)?;
     let mut writer = BufWriter::new(alloc, std::io::writer(&rt))?;
     let mut rest = texts.as_slice();
-    while let Some((text, others)) = split_behind(rest, SEPARATOR) {
+    while let Some((text, others)) = split_text(rest) {
         run(&rt, alloc, text, &mut writer)?;
         rest = others;
     }

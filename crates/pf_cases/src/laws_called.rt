@@ -137,3 +137,13 @@ fn laws_of_peers(_rt: HostRuntime) {
     sessions::same_commands_same_replies();
     sessions::order_and_repeats_do_not_matter();
 }
+
+#[test]
+fn laws_of_sessions_in_threads(_rt: HostRuntime) {
+    use pf_sessions::laws;
+    laws::transposes_exchange_peers();
+    laws::named_limits();
+    pf_links::laws::named_limits();
+    pf_scripts::laws::named_limits();
+    pf_pool::laws::named_limits();
+}

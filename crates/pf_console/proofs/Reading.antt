@@ -7,13 +7,13 @@ use Rattle.pf_text.specs.Driver as counts
 use Rattle.pf_text.specs.Streams.{Transfer}
 use Rattle.pf_shapes.specs.declared.fault.SceneFault.{SceneFault}
 use Rattle.pf_step.specs.declared.crew.CrewError.{CrewError}
-use Rattle.pf_console.specs.declared.fault.PlayFault.TheVariants.{Crew}
+use Rattle.pf_console.specs.declared.fault.PlayFault.TheVariants.{Crew, Memory}
 use Rattle.pf_console.specs.declared.phase.Phase.{Phase}
 use Rattle.pf_console.specs.declared.phase.Phase.TheVariants.{Reading, Seating, Playing}
 use Rattle.pf_console.specs.Phase.{first_phase}
 use Rattle.pf_console.specs.Scripts.{Scripts}
-use Rattle.pf_console.specs.SessionText.{ReadsScripts, WritesNothing, outcome_of, scripts_at, scripts_of, session_rules}
-use Rattle.pf_console.specs.Text.{CountsReads, CountsWrites, StopsAt}
+use Rattle.pf_console.specs.SessionText.{ReadsScripts, WritesNothing, scripts_at, scripts_of, session_rules}
+use Rattle.pf_console.specs.Text.{CountsReads, CountsWrites, StopsAt, outcome_of}
 use Rattle.pf_text.specs.Lines.{lines_of}
 use Rattle.pf_console.proofs.Quiet.{lines_quiet, memory_quiet, never_writes, nothing_more, read_quiet}
 
@@ -34,7 +34,7 @@ ends_early : (t : Transfer) (ended : ℕ × Phase Scripts) → Completes session
 ends_early t ended h = inr (h.left_is, ap is_ok h.ending_is)
 
 pub reads : (t : Transfer) (read : Result (ℕ × Phase Scripts) (DriveFault SceneFault)) → Drives session_rules first_phase t read
-    → WritesNothing t × ReadsScripts t (outcome_of read)
+    → WritesNothing t × ReadsScripts t (outcome_of Memory read)
 reads t (Ok (number, Reading reader)) h =
     (complete_quiet t (number, Reading reader) h, (ends_early t (number, Reading reader) h, scripts_are t (Ok (number, Reading reader)) h.ending_is))
 reads t (Ok (number, Seating scene)) h =
@@ -48,7 +48,7 @@ reads t (Err drives.Read) h = (read_quiet t h, h)
 reads t (Err drives.Write) h = absurd (never_writes t h)
 
 pub reads_counted : (before after : ℕ) (read : Result (ℕ × Phase Scripts) (DriveFault SceneFault)) → counts.CountsReads before read after
-    → CountsReads before (outcome_of read) after
+    → CountsReads before (outcome_of Memory read) after
 reads_counted before after (Ok (number, Reading reader)) h = h
 reads_counted before after (Ok (number, Seating scene)) h = h
 reads_counted before after (Ok (number, Playing s)) h = h
@@ -58,7 +58,7 @@ reads_counted before after (Err drives.Read) h = h
 reads_counted before after (Err drives.Write) h = h
 
 pub writes_counted : (before after : ℕ) (read : Result (ℕ × Phase Scripts) (DriveFault SceneFault)) → counts.CountsWrites before read after
-    → CountsWrites before (outcome_of read) after
+    → CountsWrites before (outcome_of Memory read) after
 writes_counted before after (Ok (number, Reading reader)) h = h
 writes_counted before after (Ok (number, Seating scene)) h = h
 writes_counted before after (Ok (number, Playing s)) h = h
@@ -68,7 +68,7 @@ writes_counted before after (Err drives.Read) h = h
 writes_counted before after (Err drives.Write) h = h
 
 -- no thread was started
-pub names_none : (read : Result (ℕ × Phase Scripts) (DriveFault SceneFault)) (error : CrewError) → outcome_of read ≢ Err (Crew error)
+pub names_none : (read : Result (ℕ × Phase Scripts) (DriveFault SceneFault)) (error : CrewError) → outcome_of Memory read ≢ Err (Crew error)
 names_none (Ok (number, Reading reader)) error = λ e. absurd cc
 names_none (Ok (number, Seating scene)) error = λ e. absurd cc
 names_none (Ok (number, Playing s)) error = λ e. absurd cc

@@ -2,8 +2,6 @@
 use Rattle.std.specs.Prelude.{◌≡◌, ◌⊎◌, ℕ, List, [], ◌++◌, Option, Some, None, Result, Ok, Err}
 use Rattle.pf_text.specs.Driver.{Rules, StopsForMemory, StopsForRead, text_output}
 use Rattle.pf_text.specs.Streams.{Transfer}
-use Rattle.pf_text.specs.declared.driver.DriveFault.{DriveFault}
-use Rattle.pf_text.specs.declared.driver.DriveFault.TheVariants as drives
 use Rattle.pf_shapes.specs.declared.fault.SceneFault.{SceneFault}
 use Rattle.pf_shapes.specs.declared.fault.SceneFault.TheVariants.{BadLine}
 use Rattle.pf_rollback.specs.declared.fault.Refusal.{Refusal}
@@ -55,17 +53,6 @@ session_text_of input = text_of_scripts (scripts_of input)
 -- nothing was written
 abbrev pub WritesNothing : Transfer → Type 0
 WritesNothing t = t.after ≡ Some t.before
-
--- what the end of a text's lines is for the program
-abbrev pub outcome_of
-    : Result (ℕ × Phase Scripts) (DriveFault SceneFault) → Result Scripts PlayFault
-outcome_of (Ok (number, Reading reader)) = Err (Line number BadLine)
-outcome_of (Ok (number, Seating scene)) = Err (Line number BadLine)
-outcome_of (Ok (number, Playing scripts)) = Ok scripts
-outcome_of (Err (drives.Line number fault)) = Err (Line number fault)
-outcome_of (Err drives.Memory) = Err Memory
-outcome_of (Err drives.Read) = Err Read
-outcome_of (Err drives.Write) = Err Write
 
 -- how the lines of a text were read, before anything is written
 abbrev pub ReadsScripts : Transfer → Result Scripts PlayFault → Type 0

@@ -2,6 +2,8 @@
 use Rattle.std.specs.Prelude.{◌≡◌, ◌⊎◌, ℕ, ◌+◌, List, [], ◌++◌, length, Option, Some, None, Result, Ok, Err, IsOk}
 use Rattle.pf_text.specs.Driver.{Rules, TakesLine, StopsForMemory, StopsForRead, StopsForWrite, text_output}
 use Rattle.pf_text.specs.Streams.{Transfer}
+use Rattle.pf_text.specs.declared.driver.DriveFault.{DriveFault}
+use Rattle.pf_text.specs.declared.driver.DriveFault.TheVariants as drives
 use Rattle.pf_shapes.specs.declared.fault.SceneFault.{SceneFault}
 use Rattle.pf_shapes.specs.declared.fault.SceneFault.TheVariants.{BadLine}
 use Rattle.pf_console.specs.declared.fault.PlayFault.{PlayFault}
@@ -30,6 +32,18 @@ text_of input = record {
   written = (text_output text_rules first_phase input).text;
   fault = fault_of_ending (text_output text_rules first_phase input).ending;
 }
+
+-- what the end of a text's lines is for the program, where a valid line without a reply has this
+-- fault
+abbrev pub outcome_of
+    : {B : Type 0} → PlayFault → Result (ℕ × Phase B) (DriveFault SceneFault) → Result B PlayFault
+outcome_of missing (Ok (number, Reading reader)) = Err (Line number BadLine)
+outcome_of missing (Ok (number, Seating scene)) = Err (Line number BadLine)
+outcome_of missing (Ok (number, Playing begun)) = Ok begun
+outcome_of missing (Err (drives.Line number fault)) = Err (Line number fault)
+outcome_of missing (Err drives.Memory) = Err missing
+outcome_of missing (Err drives.Read) = Err Read
+outcome_of missing (Err drives.Write) = Err Write
 
 -- An invalid line was taken, and no line behind it; or all of the text, all of whose lines are
 -- valid, but which ended too early.

@@ -3,6 +3,7 @@
 #![tactic(auto)]
 
 mod digits;
+mod ending;
 mod fault;
 mod frame;
 mod grammar;

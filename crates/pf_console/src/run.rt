@@ -5,14 +5,14 @@ ghost use Rattle.pf_text.specs.Streams.{IfExposed};
 ghost use Rattle.pf_console.specs.Crews.{FailsByCrew};
 ghost use Rattle.pf_console.specs.Text.{Runs, CountsReads, CountsWrites};
 
+use crate::ending::outcome_of;
 use crate::fault::PlayFault;
 use crate::phase::Phase;
 use crate::settler::Settler;
 use pf_manifold::Collider;
 use pf_peers::Session;
-use pf_shapes::SceneFault;
 use pf_step::Crew;
-use pf_text::{DriveFault, Sink, Source, drive};
+use pf_text::{Sink, Source, drive};
 use std::alloc::Global;
 
 /// Processes a text of a scene, its peers and events: the replies to its events are written, each
@@ -46,18 +46,7 @@ pub fn run_text<P: Collider, R: Source, W: Sink, C: Crew>(
     ensures crew { FailsByCrew C.may_fail result }
 {
     let mut settler = Settler::new(collider, crew);
-    match drive(
-        alloc,
-        &mut settler,
-        reader,
-        writer,
-        Phase::<Session>::first(),
-    ) {
-        Ok((_, Phase::Playing(_))) => Ok(()),
-        Ok((number, _)) => Err(PlayFault::Line(number, SceneFault::BadLine)),
-        Err(DriveFault::Line(number, fault)) => Err(PlayFault::Line(number, fault)),
-        Err(DriveFault::Memory) => Err(settler.fault()),
-        Err(DriveFault::Read) => Err(PlayFault::Read),
-        Err(DriveFault::Write) => Err(PlayFault::Write),
-    }
+    let read = drive(alloc, &mut settler, reader, writer, Phase::<Session>::first());
+    outcome_of(read, settler.fault())?;
+    Ok(())
 }

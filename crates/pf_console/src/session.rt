@@ -6,33 +6,17 @@ ghost use Rattle.pf_text.specs.Streams.{IfExposed};
 ghost use Rattle.pf_step.specs.declared.crew.CrewError.{CrewError};
 ghost use Rattle.pf_console.specs.declared.fault.PlayFault.TheVariants.{Crew};
 ghost use Rattle.pf_console.specs.Crews.{FailsByThreads};
-ghost use Rattle.pf_console.specs.SessionText.{PlaysSession, ReadsScripts, WritesNothing, outcome_of};
+ghost use Rattle.pf_console.specs.SessionText.{PlaysSession, ReadsScripts, WritesNothing};
 ghost use Rattle.pf_console.specs.Text.{CountsReads, CountsWrites};
 
+use crate::ending::outcome_of;
 use crate::fault::PlayFault;
 use crate::phase::Phase;
 use crate::scripts::Scripts;
-use pf_shapes::SceneFault;
-use pf_text::{DriveFault, Sink, Source, drive};
+use pf_text::{Sink, Source, drive};
 use std::alloc::Global;
 use std::sync::Wait;
 use std::thread::Threads;
-
-/// What the end of a text's lines is for the program.
-fn outcome_of(
-    read: Result<(u64, Phase<Scripts>), DriveFault<SceneFault>>,
-) -> Result<Scripts, PlayFault>
-    ensures { result ≡ outcome_of read }
-{
-    match read {
-        Ok((_, Phase::Playing(scripts))) => Ok(scripts),
-        Ok((number, _)) => Err(PlayFault::Line(number, SceneFault::BadLine)),
-        Err(DriveFault::Line(number, fault)) => Err(PlayFault::Line(number, fault)),
-        Err(DriveFault::Memory) => Err(PlayFault::Memory),
-        Err(DriveFault::Read) => Err(PlayFault::Read),
-        Err(DriveFault::Write) => Err(PlayFault::Write),
-    }
-}
 
 /// Reads the scripts of a text. Nothing is written.
 fn read_scripts<R: Source, W: Sink>(
@@ -53,7 +37,8 @@ fn read_scripts<R: Source, W: Sink>(
     ensures writes_counted { CountsWrites (W.failures writer.old) result (W.failures writer.new) }
     ensures no_threads { (error : CrewError) → result ≢ Err (Crew error) }
 {
-    outcome_of(drive(alloc, &mut (), reader, writer, Phase::<Scripts>::first()))
+    let read = drive(alloc, &mut (), reader, writer, Phase::<Scripts>::first());
+    outcome_of(read, PlayFault::Memory)
 }
 
 /// Processes a text of a scene, its peers and their turns: when all of it is read, each peer plays
