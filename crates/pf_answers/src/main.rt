@@ -130,6 +130,11 @@ fn payload_text(alloc: Global, payload: &Payload) -> Result<String> {
             format!(in alloc; "turn {body} {x}")?
         }
         Payload::Stop { body } => format!(in alloc; "stop {body}")?,
+        Payload::Place { body, x, y } => {
+            let x = x.value().raw();
+            let y = y.value().raw();
+            format!(in alloc; "place {body} {x} {y}")?
+        }
     })
 }
 

@@ -7,10 +7,10 @@ use Rattle.std.proofs.lemmas.Int.{to_z-of_z, fits_signed_from_abs}
 use Rattle.byteorder.specs.Endian.{big_number}
 use Rattle.byteorder.specs.Numbers.{big_from-lt}
 use Rattle.pf_num.specs.Fx.{IsRaw}
-use Rattle.pf_commands.specs.Frame.{Fields, IsBytes, IsFrameable, fields_of, fields_in, number_of}
+use Rattle.pf_commands.specs.Frame.{Fields, IsBytes, IsFrameable, fields_of, fields_in, version_of, number_of}
 use Rattle.pf_commands.specs.declared.payload.Command.{Command}
 use Rattle.pf_commands.specs.declared.payload.Payload.{Payload}
-use Rattle.pf_commands.specs.declared.payload.Payload.TheVariants.{Push, Turn, Stop}
+use Rattle.pf_commands.specs.declared.payload.Payload.TheVariants.{Push, Turn, Stop, Place}
 use Rattle.pf_commands.specs.Payload.{kind_of, x_of, y_of, weight}
 use Rattle.pf_commands.proofs.WeightOrder.{raw_fits}
 
@@ -51,6 +51,13 @@ kind_below : (p : Payload) → kind_of p < 256
 kind_below (Push body x y) = omega arith
 kind_below (Turn body x) = omega arith
 kind_below (Stop body) = omega arith
+kind_below (Place body x y) = omega arith
+
+version_below : (p : Payload) → version_of p < 256
+version_below (Push body x y) = omega arith
+version_below (Turn body x) = omega arith
+version_below (Stop body) = omega arith
+version_below (Place body x y) = omega arith
 
 -- a fixed-point number comes back from its bits
 pub raw_again : (z : ℤ) → IsRaw z → cast_signed w64 (cast_unsigned w64 z) ≡ z
@@ -59,7 +66,7 @@ raw_again z raw = to_z-of_z w64 z (fits_signed_from_abs w64 z (omega arith))
 pub fields_in-fit : (c : Command) → IsFrameable c → AreFields (fields_in c)
 unfolding fields_in
 fields_in-fit c framed = record {
-  version = omega arith;
+  version = version_below c.payload;
   tick = omega (arith, framed.name.tick);
   player = omega (arith, framed.name.player);
   number = framed.name.number;

@@ -15,6 +15,7 @@ pub mod Changes
 pub mod Stored
 pub mod Spans
 pub mod Ticks
+pub mod Since
 pub mod News
 -- Checks.
 pub mod Checks

@@ -14,7 +14,7 @@ use Rattle.pf_commands.proofs.Merging.{same_name, get-merge}
 use Rattle.pf_commands.proofs.Changes.{get-merge_one, kept_before}
 
 -- maps that hold the same under the names that pass a test have the same entries under these
-same_part : (p : Name → Bool) (m k : CommandMap) → ((name : Name) → p name ≡ true → get m name ≡ get k name)
+pub same_part : (p : Name → Bool) (m k : CommandMap) → ((name : Name) → p name ≡ true → get m name ≡ get k name)
     → filter (λ e. p e.0) (entries m) ≡ filter (λ e. p e.0) (entries k)
 same_part p m k same =
     let alike : (q x : Name) → name_cmp q x ≡ _ → p x ≡ p q = λ q x tied. ap p (sym (name_cmp-IsAntisymmetric q x tied)) in

@@ -14,7 +14,7 @@ use Rattle.pf_commands.specs.declared.map.Put.TheVariants as put
 use Rattle.pf_commands.specs.declared.map.Put.TheVariants.{Same, Lesser}
 use Rattle.pf_commands.specs.Payload.{weight, IsPayload, kind_of, body_of, x_of, y_of}
 use Rattle.pf_commands.specs.declared.payload.Payload.{Payload}
-use Rattle.pf_commands.specs.declared.payload.Payload.TheVariants.{Push, Turn, Stop}
+use Rattle.pf_commands.specs.declared.payload.Payload.TheVariants.{Push, Turn, Stop, Place}
 
 -- a raw number in two's complement fits 64 bits
 pub raw_fits : (z : ℤ) → IsRaw z → cast_unsigned w64 z < 2 ^ 64
@@ -82,12 +82,19 @@ by_places : (p q : Payload) → IsPayload p → IsPayload q → SamePlaces p q �
 by_places (Push body x y) (Push body' x' y') is isq s = λ i. Push (s.body i) (raw_same x x' is.x isq.x s.x i) (raw_same y y' is.y isq.y s.y i)
 by_places (Push body x y) (Turn body' x') is isq s = absurd (omega (arith, s.kind))
 by_places (Push body x y) (Stop body') is isq s = absurd (omega (arith, s.kind))
+by_places (Push body x y) (Place body' x' y') is isq s = absurd (omega (arith, s.kind))
 by_places (Turn body x) (Push body' x' y') is isq s = absurd (omega (arith, s.kind))
 by_places (Turn body x) (Turn body' x') is isq s = λ i. Turn (s.body i) (raw_same x x' is.x isq.x s.x i)
 by_places (Turn body x) (Stop body') is isq s = absurd (omega (arith, s.kind))
+by_places (Turn body x) (Place body' x' y') is isq s = absurd (omega (arith, s.kind))
 by_places (Stop body) (Push body' x' y') is isq s = absurd (omega (arith, s.kind))
 by_places (Stop body) (Turn body' x') is isq s = absurd (omega (arith, s.kind))
 by_places (Stop body) (Stop body') is isq s = λ i. Stop (s.body i)
+by_places (Stop body) (Place body' x' y') is isq s = absurd (omega (arith, s.kind))
+by_places (Place body x y) (Push body' x' y') is isq s = absurd (omega (arith, s.kind))
+by_places (Place body x y) (Turn body' x') is isq s = absurd (omega (arith, s.kind))
+by_places (Place body x y) (Stop body') is isq s = absurd (omega (arith, s.kind))
+by_places (Place body x y) (Place body' x' y') is isq s = λ i. Place (s.body i) (raw_same x x' is.x isq.x s.x i) (raw_same y y' is.y isq.y s.y i)
 
 -- payloads in range of one weight are one payload
 pub same_from_weight : (p q : Payload) → IsPayload p → IsPayload q → weight p ≡ weight q → p ≡ q

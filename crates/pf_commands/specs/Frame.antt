@@ -1,5 +1,5 @@
 -- Commands as 27 bytes on the wire: which bytes encode a command, and why others encode none.
-use Rattle.std.specs.Prelude.{◌≡◌, ℕ, zero, suc, ◌+◌, ◌*◌, ◌^◌, ◌<◌, Bool, true, not, ◌&&◌, List, ◌++◌, length, drop, slice_index, Result, Ok, Err, nat_lt, nat_le, ◌==◌, if◌then◌else◌, ℤ}
+use Rattle.std.specs.Prelude.{◌≡◌, ℕ, zero, suc, ◌+◌, ◌*◌, ◌^◌, ◌<◌, Bool, true, not, ◌&&◌, ◌||◌, List, ◌++◌, length, drop, slice_index, Result, Ok, Err, nat_lt, nat_le, ◌==◌, if◌then◌else◌, ℤ}
 use Rattle.std.specs.Int.{w64, cast_signed, cast_unsigned}
 use Rattle.std.specs.Int.RustNames.{unsigned_abs}
 use Rattle.byteorder.specs.Endian.{big_number, big_bytes}
@@ -7,7 +7,9 @@ use Rattle.pf_commands.specs.declared.fault.FrameFault.{FrameFault}
 use Rattle.pf_commands.specs.declared.fault.FrameFault.TheVariants.{Short, Long, BadVersion, BadKind, NotCanonical, OutOfRange}
 use Rattle.pf_commands.specs.declared.payload.Command.{Command}
 use Rattle.pf_commands.specs.declared.payload.Payload.{Payload}
-use Rattle.pf_commands.specs.declared.payload.Payload.TheVariants.{Push, Turn, Stop}
+use Rattle.pf_commands.specs.declared.payload.Payload.TheVariants.{Push, Turn, Stop, Place}
+use Rattle.pf_num.specs.Fx.{max_raw}
+use Rattle.pf_commands.specs.Coordinate.{is_coordinate}
 use Rattle.pf_commands.specs.Name.{IsName}
 use Rattle.pf_commands.specs.Payload.{IsPayload, kind_of, body_of, x_of, y_of, weight}
 
@@ -21,12 +23,19 @@ pub record IsFrameable (c : Command) : Type 0 where
   pub payload : IsPayload c.payload
   pub body : body_of c.payload < 2 ^ 10
 
--- the fields of a command, each shifted to its bits: version 1, tick, player, number, and the
+-- the version of a payload's frame: a place has version 2, the others version 1
+abbrev pub version_of : Payload → ℕ
+version_of (Push body x y) = 1
+version_of (Turn body x) = 1
+version_of (Stop body) = 1
+version_of (Place body x y) = 2
+
+-- the fields of a command, each shifted to its bits: version, tick, player, number, and the
 -- payload's 19 bytes
 unfoldable pub number_of : Command → ℕ
 number_of c =
-    1 * 2 ^ 208 + c.name.tick * 2 ^ 176 + c.name.player * 2 ^ 168 + c.name.number * 2 ^ 152
-    + weight c.payload
+    version_of c.payload * 2 ^ 208 + c.name.tick * 2 ^ 176 + c.name.player * 2 ^ 168
+    + c.name.number * 2 ^ 152 + weight c.payload
 
 -- The bytes encode the command: they are 27, and as one big-endian number they are the sum of its
 -- shifted fields.
@@ -69,7 +78,7 @@ fields_of bytes = record {
 -- the fields of a command's frame
 unfoldable pub fields_in : Command → Fields
 fields_in c = record {
-  version = 1;
+  version = version_of c.payload;
   tick = c.name.tick;
   player = c.name.player;
   number = c.name.number;
@@ -91,40 +100,60 @@ encoding c = bytes_in (fields_in c)
 
 -- ---- decoding
 
+-- the versions of frames
+abbrev pub is_version : ℕ → Bool
+is_version version = version == 1 || version == 2
+
+-- version 1 has the kinds 0 to 2, version 2 the kind 3 alone
+abbrev pub has_kind : ℕ → ℕ → Bool
+has_kind version kind = if version == 1 then nat_lt kind 3 else kind == 3
+
 -- a turn has no y, a stop neither x nor y
 abbrev pub is_canonical : ℕ → ℕ → ℕ → Bool
 is_canonical zero x y = true
 is_canonical (suc zero) x y = y == 0
-is_canonical (suc (suc kind)) x y = x == 0 && y == 0
+is_canonical (suc (suc zero)) x y = x == 0 && y == 0
+is_canonical (suc (suc (suc kind))) x y = true
 
--- 64 bits that are a fixed-point number in two's complement: from -(2^55 - 1) to 2^55 - 1
-abbrev pub is_raw : ℕ → Bool
-is_raw bits = nat_le (unsigned_abs (cast_signed w64 bits)) 36028797018963967
+-- a fixed-point number: from -(2^55 - 1) to 2^55 - 1
+abbrev pub is_raw : ℤ → Bool
+is_raw z = nat_le (unsigned_abs z) (unsigned_abs max_raw)
+
+-- 64 bits in two's complement that are an x or a y of the kind: a coordinate for a place, which is
+-- kind 3, and a fixed-point number for the kinds below
+abbrev pub is_part : ℕ → ℕ → Bool
+is_part kind bits =
+    let z = cast_signed w64 bits in if nat_lt kind 3 then is_raw z else is_coordinate z
 
 -- the ranges of the fields
 unfoldable pub is_in_range : Fields → Bool
 is_in_range f =
     nat_lt f.tick (2 ^ 20) && nat_lt f.player 8 && nat_lt f.body (2 ^ 10)
-    && is_raw f.x && is_raw f.y
+    && is_part f.kind f.x && is_part f.kind f.y
 
 -- the payload of a kind
 abbrev pub payload_of : ℕ → ℕ → ℤ → ℤ → Payload
 payload_of zero body x y = Push body x y
 payload_of (suc zero) body x y = Turn body x
-payload_of (suc (suc kind)) body x y = Stop body
+payload_of (suc (suc zero)) body x y = Stop body
+payload_of (suc (suc (suc kind))) body x y = Place body x y
+
+-- the payload that fields in their ranges name
+abbrev pub payload_in : Fields → Payload
+payload_in f = payload_of f.kind f.body (cast_signed w64 f.x) (cast_signed w64 f.y)
 
 -- the command that fields in their ranges name
 unfoldable pub command_in : Fields → Command
 command_in f = record {
   name = record { tick = f.tick; player = f.player; number = f.number };
-  payload = payload_of f.kind f.body (cast_signed w64 f.x) (cast_signed w64 f.y);
+  payload = payload_in f;
 }
 
 -- the command of fields, or the first of four errors
 unfoldable pub command_of : Fields → Result Command FrameFault
 command_of f =
-    if not (f.version == 1) then Err BadVersion
-    else (if nat_lt 2 f.kind then Err BadKind
+    if not (is_version f.version) then Err BadVersion
+    else (if not (has_kind f.version f.kind) then Err BadKind
     else (if not (is_canonical f.kind f.x f.y) then Err NotCanonical
     else (if not (is_in_range f) then Err OutOfRange
     else Ok (command_in f))))

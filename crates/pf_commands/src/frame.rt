@@ -1,15 +1,18 @@
 //! Commands as 27 bytes on the wire.
 
-ghost use Rattle.std.specs.Prelude.{◌≡◌, ◌<◌, ◌^◌, length, IfOk, Ok};
+ghost use Rattle.std.specs.Prelude.{◌≡◌, ◌<◌, ◌^◌, ◌&&◌, length, IfOk, Ok, Some, None, if◌then◌else◌};
 ghost use Rattle.pf_commands.specs.declared.payload.Command.{Command};
+ghost use Rattle.pf_commands.specs.declared.payload.Payload.TheVariants.{Place};
 ghost use Rattle.pf_commands.specs.Name.{IsName};
 ghost use Rattle.pf_commands.specs.Payload.{IsPayload, body_of};
-ghost use Rattle.pf_commands.specs.Frame.{Encodes, encoding, decode, payload_of};
+ghost use Rattle.pf_commands.specs.Frame.{Encodes, encoding, decode, version_of};
+ghost use Rattle.pf_commands.specs.Coordinate.{is_coordinate};
 
+use crate::coordinate::Coordinate;
 use crate::fault::FrameFault;
 use crate::name::{MAX_TICK, Name};
 use crate::payload::{Command, Payload};
-use crate::weight::{PUSH, STOP, TURN, weight_parts};
+use crate::weight::{PLACE, PUSH, STOP, TURN, weight_parts};
 use byteorder::{BigEndian, ByteOrder};
 use pf_num::Fx;
 use pf_shapes::PLAYERS;
@@ -18,8 +21,11 @@ use std::marker::Model;
 /// The length of a frame, in bytes.
 pub const FRAME_LEN: usize = 27;
 
-/// The first byte of a frame.
+/// The first byte of the frame of a push, a turn or a stop.
 const VERSION: u8 = 1;
+
+/// The first byte of the frame of a place.
+const PLACE_VERSION: u8 = 2;
 
 /// Frames name bodies below this.
 const BODIES: u16 = 1 << 10;
@@ -66,7 +72,8 @@ impl Model for Fields {
 }
 
 impl Fields {
-    ghost use Rattle.pf_commands.specs.Frame.{fields_of, fields_in, bytes_in, is_canonical, command_of};
+    ghost use Rattle.std.specs.Prelude.{◌≡◌, ◌&&◌, length, Some, None, if◌then◌else◌};
+    ghost use Rattle.pf_commands.specs.Frame.{fields_of, fields_in, bytes_in, is_version, has_kind, is_canonical, is_part, payload_in, command_of};
 
     /// The fields of 27 bytes.
     #[tactic(auto, unfolding(crate::specs::Frame::fields_of))]
@@ -95,7 +102,7 @@ impl Fields {
     {
         let (kind, body, x, y) = weight_parts(&command.payload);
         Fields {
-            version: VERSION,
+            version: version_of(&command.payload),
             tick: command.name.tick(),
             player: command.name.player(),
             number: command.name.number(),
@@ -123,6 +130,24 @@ impl Fields {
         frame
     }
 
+    /// Whether this is a version that frames have: 1 or 2.
+    fn is_version(self) -> bool
+        ensures { result ≡ is_version self.version }
+    {
+        self.version == VERSION || self.version == PLACE_VERSION
+    }
+
+    /// Whether a frame of this version may have this kind.
+    fn has_kind(self) -> bool
+        ensures { result ≡ has_kind self.version self.kind }
+    {
+        if self.version == VERSION {
+            self.kind < PLACE
+        } else {
+            self.kind == PLACE
+        }
+    }
+
     /// Whether x and y are 0 where the kind has none.
     fn is_canonical(self) -> bool
         ensures { result ≡ is_canonical self.kind self.x self.y }
@@ -130,7 +155,27 @@ impl Fields {
         match self.kind {
             PUSH => true,
             TURN => self.y == 0,
-            _ => self.x == 0 && self.y == 0,
+            STOP => self.x == 0 && self.y == 0,
+            _ => true,
+        }
+    }
+
+    /// The payload, if x and y are in the range of the kind.
+    fn payload(self) -> Option<Payload>
+        ensures { result ≡ (if is_part self.kind self.x && is_part self.kind self.y
+            then Some (payload_in self) else None) }
+    {
+        let x = Fx::from_raw(self.x.cast_signed())?;
+        let y = Fx::from_raw(self.y.cast_signed())?;
+        match self.kind {
+            PUSH => Some(Payload::Push {
+                body: self.body,
+                x,
+                y,
+            }),
+            TURN => Some(Payload::Turn { body: self.body, x }),
+            STOP => Some(Payload::Stop { body: self.body }),
+            _ => place(self.body, x, y),
         }
     }
 
@@ -139,10 +184,10 @@ impl Fields {
     fn command(self) -> Result<Command, FrameFault>
         ensures { result ≡ command_of self }
     {
-        if self.version != VERSION {
+        if !self.is_version() {
             return Err(FrameFault::BadVersion);
         }
-        if self.kind > STOP {
+        if !self.has_kind() {
             return Err(FrameFault::BadKind);
         }
         if !self.is_canonical() {
@@ -151,27 +196,36 @@ impl Fields {
         if self.tick >= MAX_TICK || self.player >= PLAYERS || self.body >= BODIES {
             return Err(FrameFault::OutOfRange);
         }
-        let x = Fx::from_raw(self.x.cast_signed());
-        let y = Fx::from_raw(self.y.cast_signed());
-        match (x, y) {
-            (Some(x), Some(y)) => Ok(Command {
+        match self.payload() {
+            Some(payload) => Ok(Command {
                 name: Name::new(self.tick, self.player, self.number),
-                payload: payload_of(self.kind, self.body, x, y),
+                payload,
             }),
-            _ => Err(FrameFault::OutOfRange),
+            None => Err(FrameFault::OutOfRange),
         }
     }
 }
 
-/// The payload of a kind.
-fn payload_of(kind: u8, body: u16, x: Fx, y: Fx) -> Payload
-    ensures { result ≡ payload_of kind body x y }
+/// The version of a payload's frame.
+fn version_of(payload: &Payload) -> u8
+    ensures { result ≡ version_of payload.now }
 {
-    match kind {
-        PUSH => Payload::Push { body, x, y },
-        TURN => Payload::Turn { body, x },
-        _ => Payload::Stop { body },
+    match payload {
+        Payload::Push { .. } | Payload::Turn { .. } | Payload::Stop { .. } => VERSION,
+        Payload::Place { .. } => PLACE_VERSION,
     }
+}
+
+/// A place at x and y, if they are coordinates.
+fn place(body: u16, x: Fx, y: Fx) -> Option<Payload>
+    ensures { result ≡
+        (if is_coordinate x && is_coordinate y then Some (Place body x y) else None) }
+{
+    Some(Payload::Place {
+        body,
+        x: Coordinate::new(x)?,
+        y: Coordinate::new(y)?,
+    })
 }
 
 /// The command that bytes encode, or the first cause why they encode none.

@@ -1,7 +1,7 @@
 //! Laws of frames, of command maps and of checks. These functions compute nothing: their clauses
 //! are the statements.
 
-ghost use Rattle.std.specs.Prelude.{◌≡◌, ◌<◌, ◌^◌, IfSome, ◌↔◌, ◌≢◌, ℕ, List, [], ◌++◌, All, Contains, map, Some, Ok, Err, false};
+ghost use Rattle.std.specs.Prelude.{◌≡◌, ◌<◌, ◌^◌, IfSome, ◌↔◌, ◌≢◌, ℕ, List, [], ◌++◌, All, Contains, map, Some, None, Ok, Err, true, false, ◌≤◌, nat_le, if◌then◌else◌};
 ghost use Rattle.std.specs.FinMap.{empty, get};
 ghost use Rattle.pf_shapes.specs.Scene.{Scene};
 ghost use Rattle.pf_commands.specs.Frame.{IsFrameable, Encodes, encoding};
@@ -9,6 +9,7 @@ ghost use Rattle.pf_commands.specs.Check.{check_all, IsAllowed, IsFirstError};
 ghost use Rattle.pf_commands.specs.Name.{Name};
 ghost use Rattle.pf_commands.specs.Payload.{weight, IsPayload};
 ghost use Rattle.pf_commands.specs.Merge.{CommandMap, IsCommandMap, IsCommand, heaviest_of, merge, singleton, put_all, payloads_at};
+ghost use Rattle.pf_commands.specs.Ticks.{commands_from, commands_before, is_from, IsFrom};
 ghost use Rattle.pf_commands.specs.News.{is_news, news, least_tick, IsLeast};
 ghost use Rattle.pf_commands.specs.declared.checking.CheckFault.{CheckFault};
 ghost use Rattle.pf_commands.specs.declared.payload.Payload.{Payload};
@@ -107,6 +108,42 @@ pub fn same_gets_same_map()
 pub fn merge_stays_in_range()
     ensures { (left right : CommandMap) → IsCommandMap left → IsCommandMap right
         → IsCommandMap (merge left right) }
+{}
+
+/// `commands_from tick m` holds the commands of m at this tick and later, and no others.
+pub fn get_of_commands_from()
+    ensures value { (m : CommandMap) (tick : ℕ) (name : Name)
+        → get (commands_from tick m) name
+        ≡ (if nat_le tick name.tick then get m name else None) }
+    ensures range { (m : CommandMap) (tick : ℕ) → IsCommandMap m
+        → IsCommandMap (commands_from tick m) }
+{}
+
+/// The commands before a tick and those from it on make up the map.
+pub fn ticks_make_up_the_map()
+    ensures { (m : CommandMap) (tick : ℕ)
+        → merge (commands_before tick m) (commands_from tick m) ≡ m }
+{}
+
+/// Dropping the commands before a tick changes the payloads of neither that tick nor a later one.
+pub fn drops_keep_later_ticks()
+    ensures { (m : CommandMap) (tick later : ℕ) → tick ≤ later
+        → payloads_at (commands_from tick m) later ≡ payloads_at m later }
+{}
+
+/// To drop the commands before a tick and to merge can be done in either order.
+pub fn merge_from_a_tick()
+    ensures { (left right : CommandMap) (tick : ℕ)
+        → commands_from tick (merge left right)
+        ≡ merge (commands_from tick left) (commands_from tick right) }
+{}
+
+/// A map has no command before a tick exactly where the test says so, and then dropping changes
+/// nothing. After dropping it has none.
+pub fn maps_from_a_tick()
+    ensures test { (m : CommandMap) (tick : ℕ) → (is_from tick m ≡ true) ↔ IsFrom tick m }
+    ensures dropped { (m : CommandMap) (tick : ℕ) → IsFrom tick (commands_from tick m) }
+    ensures whole { (m : CommandMap) (tick : ℕ) → IsFrom tick m → commands_from tick m ≡ m }
 {}
 
 /// Payloads of one weight are one payload.

@@ -3,6 +3,7 @@
 #![tactic(auto)]
 
 mod checking;
+mod coordinate;
 mod fault;
 mod frame;
 pub mod laws;
@@ -12,6 +13,7 @@ mod payload;
 mod weight;
 
 pub use checking::{CheckFault, check};
+pub use coordinate::Coordinate;
 pub use fault::FrameFault;
 pub use frame::{FRAME_LEN, decode, encode};
 pub use map::{CommandMap, Merged, Put};

@@ -77,6 +77,7 @@ impl CommandMap {
     ghost use Rattle.std.specs.FinMap as map;
     ghost use Rattle.pf_commands.specs.Merge.{IsCommandMap, IsCommand, merge, singleton, payloads_at, name_at};
     ghost use Rattle.pf_commands.specs.News.{put_outcome, news, least_tick, IsNewsOf};
+    ghost use Rattle.pf_commands.specs.Ticks.{commands_from, is_from};
 
     /// The map of no commands. Takes no memory.
     pub fn new(alloc: Global) -> CommandMap
@@ -255,6 +256,25 @@ impl CommandMap {
             self.put(&command)?;
         }
         Ok(())
+    }
+
+    /// Drops the commands of the ticks before this one. Takes time for all commands of the map, and
+    /// no memory.
+    pub fn drop_before(&mut self, tick: u32)
+        ensures { self.new ≡ commands_from tick self.old }
+    {
+        self.commands.retain(|name, _| name.tick() >= tick);
+    }
+
+    /// Whether no command of the map is for a tick before this one. Takes logarithmic time, and no
+    /// memory.
+    pub fn is_from(&self, tick: u32) -> bool
+        ensures { result ≡ is_from tick self.now }
+    {
+        match self.iter().next() {
+            None => true,
+            Some((first, _)) => first.tick() >= tick,
+        }
     }
 
     /// Whether the scene allows each command: the error of the first one, in order of their names,

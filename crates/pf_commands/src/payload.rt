@@ -1,18 +1,34 @@
 //! What commands do.
 
+use crate::coordinate::Coordinate;
 use crate::name::Name;
 use pf_num::Fx;
 
-/// What a command does to a body. Its type has one value for each meaning. Bodies are numbered from
-/// 0; impulses are in units of 2^-24.
+/// What a command does to a body. A turn has no y, and a stop no x and y. Bodies are numbered from
+/// 0; impulses and positions are in units of 2^-24.
 #[derive(Clone, Copy, Debug, PartialEq, Eq)]
 pub enum Payload {
     /// Gives the body an impulse: mass times lengths a second.
-    Push { body: u16, x: Fx, y: Fx },
+    Push {
+        body: u16,
+        x: Fx,
+        y: Fx,
+    },
     /// Gives the body an angular impulse: inertia times radians a second.
-    Turn { body: u16, x: Fx },
+    Turn {
+        body: u16,
+        x: Fx,
+    },
     /// Stops the body, and its spin.
-    Stop { body: u16 },
+    Stop {
+        body: u16,
+    },
+    /// Puts the body at a position and wakes it, with velocity and spin 0. Its rotation stays.
+    Place {
+        body: u16,
+        x: Coordinate,
+        y: Coordinate,
+    },
 }
 
 impl Payload {
@@ -24,9 +40,10 @@ impl Payload {
         ensures { result ≡ body_of self.now }
     {
         match self {
-            Payload::Push { body, .. } | Payload::Turn { body, .. } | Payload::Stop { body } => {
-                *body
-            }
+            Payload::Push { body, .. }
+            | Payload::Turn { body, .. }
+            | Payload::Stop { body }
+            | Payload::Place { body, .. } => *body,
         }
     }
 }

@@ -16,6 +16,9 @@ pub(crate) const TURN: u8 = 1;
 /// The kind of a stop, which has neither x nor y.
 pub(crate) const STOP: u8 = 2;
 
+/// The kind of a place, whose x and y are coordinates.
+pub(crate) const PLACE: u8 = 3;
+
 /// The parts of a payload's weight, the highest first: kind, body, x and y in two's complement.
 /// Payloads are compared by weight as these are.
 pub(crate) fn weight_parts(payload: &Payload) -> (u8, u16, u64, u64)
@@ -33,6 +36,12 @@ pub(crate) fn weight_parts(payload: &Payload) -> (u8, u16, u64, u64)
         ),
         Payload::Turn { x, .. } => (TURN, body, x.raw().cast_unsigned(), 0),
         Payload::Stop { .. } => (STOP, body, 0, 0),
+        Payload::Place { x, y, .. } => (
+            PLACE,
+            body,
+            x.value().raw().cast_unsigned(),
+            y.value().raw().cast_unsigned(),
+        ),
     }
 }
 

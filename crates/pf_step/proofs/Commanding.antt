@@ -1,12 +1,12 @@
 -- What commands do to bodies.
-use Rattle.std.proofs.Common.{◌≡◌, ◌≢◌, ◌==◌, ℕ, true, false, Bool, pos, List, [], ◌∷◌, Option, Some, None, length, refl, ap, sym, ◌∙◌, subst, arith, slice_get, slice_set, if◌then◌else◌}
+use Rattle.std.proofs.Common.{◌≡◌, ◌≢◌, ◌==◌, ℕ, true, false, Bool, pos, ℤ, List, [], ◌∷◌, Option, Some, None, length, refl, ap, sym, ◌∙◌, subst, arith, slice_get, slice_set, if◌then◌else◌}
 use Rattle.std.proofs.lemmas.Bool.Decides.{nat_tests}
 use Rattle.pf_rot.specs.Vector.{zero_vector}
 use Rattle.pf_shapes.specs.Fixture.{Fixture, is_static}
 use Rattle.pf_shapes.specs.Body.{BodyState}
 use Rattle.pf_shapes.specs.Scene.{Scene}
 use Rattle.pf_commands.specs.declared.payload.Payload.{Payload}
-use Rattle.pf_commands.specs.declared.payload.Payload.TheVariants.{Push, Turn, Stop}
+use Rattle.pf_commands.specs.declared.payload.Payload.TheVariants.{Push, Turn, Stop, Place}
 use Rattle.pf_commands.specs.Payload.{body_of}
 use Rattle.pf_step.specs.Commands.{after_payload, bodies_with, after_command, after_commands, apply}
 use Rattle.pf_step.specs.World.{World}
@@ -38,6 +38,14 @@ pub stopped_body : (scene : Scene) (w : World) (i : ℕ) (f : Fixture) (b : Body
 unfolding apply after_command after_payload
 stopped_body scene w i f b fixture moves here =
     rw (fixture, here, moves) (set_same w.bodies i (record b { velocity = zero_vector; spin = pos 0; timer = 0; awake = true }) b here)
+
+-- a placed body
+pub placed_body : (scene : Scene) (w : World) (i : ℕ) (x y : ℤ) (f : Fixture) (b : BodyState)
+    → slice_get scene.fixtures i ≡ Some f → is_static f ≡ false → slice_get w.bodies i ≡ Some b
+    → slice_get (apply scene w (Place i x y)).bodies i ≡ Some (record b { position = record { x = x; y = y }; velocity = zero_vector; spin = pos 0; timer = 0; awake = true })
+unfolding apply after_command after_payload
+placed_body scene w i x y f b fixture moves here =
+    rw (fixture, here, moves) (set_same w.bodies i (record b { position = record { x = x; y = y }; velocity = zero_vector; spin = pos 0; timer = 0; awake = true }) b here)
 
 -- a static body stays
 static_leaves : (bodies : List BodyState) (p : Payload) (f : Fixture) (s : Option BodyState) → is_static f ≡ true
@@ -98,6 +106,7 @@ unfolding after_payload
 payload_wakes f (Push body x y) b = woken refl refl refl
 payload_wakes f (Turn body x) b = woken refl refl refl
 payload_wakes f (Stop body) b = woken refl refl refl
+payload_wakes f (Place body x y) b = woken refl refl refl
 
 later : (b c d : BodyState) → Commanded b c → Commanded c d → Commanded b d
 later b c d first (same is) = subst (Commanded b) (sym is) first

@@ -84,7 +84,7 @@ rows-empty : (contacts : List Contact) (points : List Touch) (rows : List Row) �
 unfolding updated with_rows
 rows-empty contacts points rows none = rw none refl
 
-step_no_contacts : (s : Scene) (w : World) (payloads : List Payload) → w.bodies ≡ [] → (step s w payloads).contacts ≡ []
+pub step_no_contacts : (s : Scene) (w : World) (payloads : List Payload) → w.bodies ≡ [] → (step s w payloads).contacts ≡ []
 unfolding step
 step_no_contacts s w payloads none =
     let commanded : after_commands s.fixtures w.bodies payloads ≡ [] =

@@ -1,5 +1,7 @@
--- The phase Commands: what players' commands do to bodies, as b2Body's ApplyLinearImpulse and
--- ApplyAngularImpulse, and a stop.
+-- The phase Commands: what players' commands do to bodies. A push and a turn give an impulse, as
+-- b2Body's ApplyLinearImpulse and ApplyAngularImpulse. A stop makes velocity and spin 0. A place
+-- puts a body at a position, at rest, and its rotation stays. Each wakes its body; this phase wakes
+-- no other.
 use Rattle.std.specs.Prelude.{true, List, [], ◌∷◌, Option, Some, slice_get, slice_set, if◌then◌else◌}
 use Rattle.pf_num.specs.Fx.{sum, product}
 use Rattle.pf_rot.specs.Vector.{V2, add, scale}
@@ -7,7 +9,7 @@ use Rattle.pf_shapes.specs.Fixture.{Fixture, inverse_mass, inverse_inertia, is_s
 use Rattle.pf_shapes.specs.Body.{BodyState, at_rest}
 use Rattle.pf_shapes.specs.Scene.{Scene}
 use Rattle.pf_commands.specs.declared.payload.Payload.{Payload}
-use Rattle.pf_commands.specs.declared.payload.Payload.TheVariants.{Push, Turn, Stop}
+use Rattle.pf_commands.specs.declared.payload.Payload.TheVariants.{Push, Turn, Stop, Place}
 use Rattle.pf_commands.specs.Payload.{body_of}
 use Rattle.pf_step.specs.World.{World}
 
@@ -23,6 +25,8 @@ after_payload f (Push body x y) b =
 after_payload f (Turn body x) b =
     record (woken_body b) { spin = sum b.spin (product (inverse_inertia f) x) }
 after_payload f (Stop body) b = at_rest (woken_body b)
+after_payload f (Place body x y) b =
+    record (at_rest (woken_body b)) { position = record { x = x; y = y } }
 
 -- the bodies where the commanded one, if there is one and it is dynamic, has its new state
 abbrev pub bodies_with

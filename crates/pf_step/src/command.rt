@@ -53,6 +53,11 @@ fn after_payload(fixture: &Fixture, payload: &Payload, body: BodyState) -> BodyS
         awake: true,
         ..body
     };
+    let resting = BodyState {
+        velocity: V2::ZERO,
+        spin: Fx::ZERO,
+        ..woken
+    };
     match *payload {
         Payload::Push { x, y, .. } => BodyState {
             velocity: body.velocity.add(V2 { x, y }.scale(fixture.inverse_mass())),
@@ -62,10 +67,13 @@ fn after_payload(fixture: &Fixture, payload: &Payload, body: BodyState) -> BodyS
             spin: body.spin.add(fixture.inverse_inertia().mul(x)),
             ..woken
         },
-        Payload::Stop { .. } => BodyState {
-            velocity: V2::ZERO,
-            spin: Fx::ZERO,
-            ..woken
+        Payload::Stop { .. } => resting,
+        Payload::Place { x, y, .. } => BodyState {
+            position: V2 {
+                x: x.value(),
+                y: y.value(),
+            },
+            ..resting
         },
     }
 }

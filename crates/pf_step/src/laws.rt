@@ -1,6 +1,6 @@
 //! Laws of simulations. These functions compute nothing: their clauses are the statements.
 
-ghost use Rattle.std.specs.Prelude.{◌≡◌, ◌≢◌, ◌⊎◌, ℕ, ◌+◌, ◌-◌, ◌≤◌, ◌<◌, pos, true, false, Some, All, List, length, map, slice_get};
+ghost use Rattle.std.specs.Prelude.{◌≡◌, ◌≢◌, ◌⊎◌, ℕ, ℤ, ◌+◌, ◌-◌, ◌≤◌, ◌<◌, pos, true, false, Some, All, List, length, map, slice_get};
 ghost use Rattle.pf_rot.specs.Vector.{zero_vector};
 ghost use Rattle.pf_rot.specs.Laws.{IsAtMostOne};
 ghost use Rattle.pf_shapes.specs.Body.{BodyState};
@@ -10,7 +10,7 @@ ghost use Rattle.pf_shapes.specs.Scene.{IsScene, Scene, is_static_at};
 ghost use Rattle.pf_manifold.specs.Key.{key_of, rank};
 ghost use Rattle.pf_manifold.specs.Touches.{Touch};
 ghost use Rattle.pf_commands.specs.declared.payload.Payload.{Payload};
-ghost use Rattle.pf_commands.specs.declared.payload.Payload.TheVariants.{Stop};
+ghost use Rattle.pf_commands.specs.declared.payload.Payload.TheVariants.{Stop, Place};
 ghost use Rattle.pf_commands.specs.Payload.{body_of};
 ghost use Rattle.pf_commands.specs.Merge.{CommandMap, merge, payloads_at, singleton};
 ghost use Rattle.pf_commands.specs.Name.{Name};
@@ -142,6 +142,21 @@ pub fn stops_leave_no_velocity()
         → slice_get scene.fixtures i ≡ Some f → is_static f ≡ false
         → slice_get w.bodies i ≡ Some b
         → slice_get (apply scene w (Stop i)).bodies i ≡ Some (record b {
+          velocity = zero_vector;
+          spin = pos 0;
+          timer = 0;
+          awake = true;
+        }) }
+{}
+
+/// A place leaves a dynamic body at the position of the command, awake, with velocity, spin and
+/// timer 0. Its rotation stays.
+pub fn places_put_their_body()
+    ensures { (scene : Scene) (w : World) (i : ℕ) (x y : ℤ) (f : Fixture) (b : BodyState)
+        → slice_get scene.fixtures i ≡ Some f → is_static f ≡ false
+        → slice_get w.bodies i ≡ Some b
+        → slice_get (apply scene w (Place i x y)).bodies i ≡ Some (record b {
+          position = record { x = x; y = y };
           velocity = zero_vector;
           spin = pos 0;
           timer = 0;
