@@ -1,6 +1,6 @@
 -- Maps of commands that a scene allows: a command that it allows and a map that it allows are merged
--- into such a map.
-use Rattle.std.proofs.Common.{◌≡◌, ◌⊎◌, inl, inr, Bool, true, false, cond, List, [], ◌∷◌, Option, Some, None, Result, Ok, Err, nat_lt, if◌then◌else◌, refl, ap, sym, ◌∙◌, subst, ⊎_elim}
+-- into such a map, and what is left of one after a seal is such a map.
+use Rattle.std.proofs.Common.{◌≡◌, ℕ, ◌⊎◌, inl, inr, Bool, true, false, cond, List, [], ◌∷◌, Option, Some, None, Result, Ok, Err, nat_le, nat_lt, if◌then◌else◌, refl, ap, sym, ◌∙◌, subst, ⊎_elim}
 use Rattle.std.specs.Ordering.{eq_by_cmp}
 use Rattle.std.specs.FinMap.{get, get-empty, get-entries, empty, entries, find}
 use Rattle.pf_shapes.specs.Scene.{Scene}
@@ -10,12 +10,14 @@ use Rattle.pf_commands.specs.Check.{check, and_then, check_all, IsAllowed}
 use Rattle.pf_commands.specs.Merge.{name_cmp, CommandMap, heaviest_of, merge, singleton}
 use Rattle.pf_commands.specs.Name.{Name}
 use Rattle.pf_commands.specs.Payload.{weight}
+use Rattle.pf_commands.specs.Ticks.{commands_from}
 use Rattle.pf_commands.proofs.Changes.{get-merge_one}
 use Rattle.pf_commands.proofs.Merging.{same_name, get-merge}
+use Rattle.pf_commands.proofs.Since.{get-commands_from}
 use Rattle.pf_rollback.specs.Core.{AreAllowed}
 
 -- the heavier of two payloads is one of them
-one_of : (held other : Option Payload) (payload : Payload) → heaviest_of held other ≡ Some payload
+pub one_of : (held other : Option Payload) (payload : Payload) → heaviest_of held other ≡ Some payload
     → (held ≡ Some payload) ⊎ (other ≡ Some payload)
 one_of None other payload is = inr is
 one_of (Some p) None payload is = inl is
@@ -66,3 +68,11 @@ allowed_merge s m k are checked name payload is =
     (λ old. are name payload old)
     (λ new. found_allowed s (entries k) name payload checked (sym (get-entries k name) ∙ new))
     (one_of (get m name) (get k name) payload (sym (get-merge m k name) ∙ is))
+
+-- commands that are left of a map are allowed
+pub allowed_from : (s : Scene) (tick : ℕ) (m : CommandMap) → AreAllowed s m → AreAllowed s (commands_from tick m)
+allowed_from s tick m are name payload is = by (nat_le tick name.tick) (sym (get-commands_from tick m name) ∙ is)
+  where
+    by : (b : Bool) → cond b (get m name) None ≡ Some payload → IsAllowed s (name, payload)
+    by true held = are name payload held
+    by false held = absurd cc

@@ -3,12 +3,15 @@
 pub mod Numbers
 pub mod Issued
 pub mod Allowed
+pub mod Late
 -- Kept ticks and worlds.
 pub mod KeptTicks
 pub mod KeptWorlds
+pub mod SealedWorlds
 pub mod Settling
-pub mod Ticks
+pub mod Simulation
 pub mod Worlds
+pub mod Seals
 -- Peer cores.
 pub mod Cores
 pub mod Rising

@@ -39,14 +39,14 @@ range_rises a n k within =
     omega (arith, here, next)
 
 -- and so do their multiples
-multiples_rise : (n : ℕ) → IsStrictlyIncreasing (map (λ i. i * KEYFRAME_INTERVAL) (range_with_len 1 n))
-multiples_rise n k within =
+multiples_rise : (a n : ℕ) → IsStrictlyIncreasing (map (λ i. i * KEYFRAME_INTERVAL) (range_with_len a n))
+multiples_rise a n k within =
     let f : ℕ → ℕ = λ i. i * KEYFRAME_INTERVAL in
-    let long = length-map-range_with_len f 1 n in
-    let here = get_or-map-range_with_len f 1 n k (1 + k) 0 (omega (arith, within, long)) refl in
-    let next = get_or-map-range_with_len f 1 n (k + 1) (1 + k + 1) 0 (omega (arith, within, long)) (omega arith) in
+    let long = length-map-range_with_len f a n in
+    let here = get_or-map-range_with_len f a n k (a + k) 0 (omega (arith, within, long)) refl in
+    let next = get_or-map-range_with_len f a n (k + 1) (a + k + 1) 0 (omega (arith, within, long)) (omega arith) in
     omega (arith, here, next)
 
 pub kept_ticks_rise : (s : Snapshots) → AreRising (ticks_of s)
 unfolding ticks_of
-kept_ticks_rise s = record { recent = range_rises _ _; keyframes = multiples_rise _ }
+kept_ticks_rise s = record { recent = range_rises _ _; keyframes = multiples_rise _ _ }

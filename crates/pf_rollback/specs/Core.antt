@@ -9,12 +9,11 @@ use Rattle.pf_commands.specs.Merge.{CommandMap}
 use Rattle.pf_commands.specs.Name.{Name}
 use Rattle.pf_commands.specs.News.{is_news}
 use Rattle.pf_cache.specs.Meter.{Meter, saturating_sum}
-use Rattle.pf_step.specs.Simulation.{sim}
 use Rattle.pf_step.specs.Work.{no_work}
-use Rattle.pf_step.specs.World.{World}
+use Rattle.pf_step.specs.World.{World, start_of}
 use Rattle.pf_rollback.specs.declared.snapshots.TheConstants.{KEYFRAME_INTERVAL}
 use Rattle.pf_rollback.specs.Kept.{Ticks, no_ticks, settled_tick, ticks_after_news, ticks_after_more}
-use Rattle.pf_rollback.specs.Peer.{Peer, IsPeer, new_peer}
+use Rattle.pf_rollback.specs.Peer.{Peer, IsPeer, new_peer, world_of}
 use Rattle.pf_rollback.specs.Snapshots.{Snapshots, IsKept, ticks_of}
 
 -- the scene that a peer plays, the peer, the ticks of its kept worlds, and the work that was done
@@ -28,12 +27,22 @@ pub record PeerCore : Type 0 where
 abbrev pub new_core : Scene → ℕ → ℕ → PeerCore
 new_core scene player ring = record {
   scene = scene;
-  peer = new_peer player;
+  peer = new_peer scene player;
   kept = no_ticks ring;
   meter = no_work.meter;
 }
 
 -- ---- what the type of peer cores keeps
+
+-- the peer of these commands: its horizon, and the world there, stand among the kept worlds
+abbrev pub peer_of : ℕ → CommandMap → ℕ → Snapshots → Peer
+peer_of player commands reached kept = record {
+  player = player;
+  horizon = kept.horizon;
+  base = kept.base;
+  commands = commands;
+  reached = reached;
+}
 
 -- the scene allows each command of a map
 abbrev pub AreAllowed : Scene → CommandMap → Type 0
@@ -41,14 +50,16 @@ AreAllowed scene commands =
     (name : Name) (payload : Payload) → get commands name ≡ Some payload
     → IsAllowed scene (name, payload)
 
--- each kept world is the simulation from tick zero of the commands that the peer holds; the scene
--- allows these; and no tick above the reached one is settled
+-- each kept world is the simulation, from the horizon on, of the commands that the peer holds; the
+-- scene allows these; and no tick above the reached one is settled. A peer that has sealed nothing
+-- simulates from the start world.
 pub record IsPeerCore (scene : Scene) (p : Peer) (kept : Snapshots) : Type 0 where
   pub peer : IsPeer p
-  pub paired : length scene.starts ≡ length scene.fixtures
+  pub bodies : length p.base.bodies ≡ length scene.fixtures
+  pub start : p.horizon ≡ 0 → p.base ≡ start_of scene
   pub allowed : AreAllowed scene p.commands
   pub worlds : (tick : ℕ) (world : World) → IsKept kept tick world
-      → world ≡ sim scene p.commands tick
+      → world ≡ world_of scene p tick
   pub settled : settled_tick (ticks_of kept) ≤ p.reached
 
 -- ---- news

@@ -6,9 +6,9 @@ use Rattle.pf_step.specs.declared.crew.CrewError.{CrewError}
 use Rattle.pf_step.specs.declared.crew.StepError.{StepError}
 use Rattle.pf_step.specs.Activity.{islands_of_tick}
 use Rattle.pf_step.specs.Stepping.{FailsBy}
-use Rattle.pf_step.specs.Simulation.{sim}
 use Rattle.pf_rollback.specs.Core.{HasSettled, PeerCore, missing_count}
 use Rattle.pf_rollback.specs.Kept.{settled_tick}
+use Rattle.pf_rollback.specs.Peer.{world_of}
 
 -- what a settle returns: the reached tick, with each missing tick settled; or an error, with fewer
 -- ticks settled
@@ -21,8 +21,8 @@ pub record IsSettle {E : Type 0} (old new : PeerCore) (result : Result ℕ E) : 
 -- the islands of a tick of the simulation of a peer's commands
 abbrev pub islands_at : PeerCore → ℕ → List Island
 islands_at core tick =
-    let commands = core.peer.commands in
-    islands_of_tick core.scene (sim core.scene commands tick) (payloads_at commands tick)
+    islands_of_tick core.scene (world_of core.scene core.peer tick)
+    (payloads_at core.peer.commands tick)
 
 -- so many calls of a crew, one for each tick from the peer's settled tick on, in their order, and
 -- each with the islands of its tick

@@ -25,6 +25,15 @@ pub enum Refusal {
     /// The tick is above the reached tick, which is given here.
     #[error("NotReached {0}")]
     NotReached(u32),
+    /// The tick is before the horizon, which is given here: what came before it is sealed.
+    #[error("TooOld {0}")]
+    TooOld(u32),
+    /// The other peer has another horizon: this peer's, and the other's.
+    #[error("HorizonsDiffer {0} {1}")]
+    HorizonsDiffer(u32, u32),
+    /// The other peer has another world at the horizon.
+    #[error("BasesDiffer")]
+    BasesDiffer,
 }
 
 /// Why a call fails.
@@ -33,7 +42,7 @@ pub enum Fault {
     /// The peer rejects it.
     #[error("{0}")]
     Refused(Refusal),
-    /// An allocation failed. The peer is as it was.
+    /// An allocation failed. The peer is as it was, but that a seal may have counted ticks.
     #[error("out of memory")]
     OutOfMemory,
 }

@@ -1,41 +1,100 @@
 //! Laws of abstract peers and of kept ticks. These functions compute nothing: their clauses are the
 //! statements.
 
-ghost use Rattle.std.specs.Prelude.{◌≡◌, ℕ, ◌+◌, ◌^◌, ◌≤◌, ◌<◌, ◌↔◌, List, Contains, Ok, IsOk, IsSome};
-ghost use Rattle.std.specs.FinMap.{get};
+ghost use Rattle.std.specs.Prelude.{◌≡◌, ℕ, ◌+◌, ◌^◌, ◌≤◌, ◌<◌, ◌↔◌, List, Contains, Result, Ok, IsOk, IsSome};
+ghost use Rattle.std.specs.FinMap.{empty, get};
 ghost use Rattle.std.specs.List.Sorted.{IsStrictlyIncreasing};
 ghost use Rattle.pf_shapes.specs.Scene.{IsScene, Scene};
+ghost use Rattle.pf_commands.specs.declared.fault.FrameFault.{FrameFault};
+ghost use Rattle.pf_commands.specs.declared.map.Put.{Put};
+ghost use Rattle.pf_commands.specs.declared.payload.Command.{Command};
 ghost use Rattle.pf_commands.specs.declared.payload.Payload.{Payload};
 ghost use Rattle.pf_commands.specs.Frame.{decode};
-ghost use Rattle.pf_commands.specs.Merge.{CommandMap, name_at};
+ghost use Rattle.pf_commands.specs.Merge.{CommandMap, merge, name_at};
 ghost use Rattle.pf_commands.specs.Name.{Name};
 ghost use Rattle.pf_commands.specs.Payload.{IsPayload};
+ghost use Rattle.pf_commands.specs.Ticks.{IsFrom, commands_before};
+ghost use Rattle.pf_step.specs.Simulation.{sim};
+ghost use Rattle.pf_step.specs.World.{World, start_of};
 ghost use Rattle.pf_cache.specs.Meter.{saturating_sum};
 ghost use Rattle.pf_rollback.specs.Core.{count_after};
-ghost use Rattle.pf_rollback.specs.Kept.{Ticks, last_tick, settled_tick, ticks_after_more, up_to};
-ghost use Rattle.pf_rollback.specs.Peer.{IsPeer, Peer, issue, next_command, next_number, take, world_at};
+ghost use Rattle.pf_rollback.specs.Kept.{Ticks, last_tick, later_than, settled_tick, ticks_after_more, up_to};
+ghost use Rattle.pf_rollback.specs.Horizon.{sim_at};
+ghost use Rattle.pf_rollback.specs.Peer.{IsPeer, Peer, advance, issue, merge_map, merge_sealed, new_peer, next_command, next_number, seal, take, world_at};
+ghost use Rattle.pf_rollback.specs.Sealing.{HasSealed};
 
 use crate::peer::MAX_RING;
 use crate::snapshots::KEYFRAME_INTERVAL;
 use pf_commands::NUMBERS;
 
-/// Peers of one scene that hold the same commands show the same worlds at each tick that both have
-/// reached.
+/// Peers of one scene that have the same horizon and the same world there, and hold the same
+/// commands, show the same worlds at each tick that both have reached.
 pub fn same_commands_same_worlds()
     ensures { (scene : Scene) (p q : Peer) (tick : ℕ)
+        → p.horizon ≡ q.horizon → p.base ≡ q.base
         → ((name : Name) → get p.commands name ≡ get q.commands name)
         → tick ≤ p.reached → tick ≤ q.reached → world_at scene p tick ≡ world_at scene q tick }
 {}
 
-/// What a peer issues, each peer of its scene can take: the frame that is returned encodes the
-/// command, and taking the command is not rejected.
+/// The simulation from a horizon of 0 and the start world is the one from tick zero.
+pub fn unsealed_peers_simulate_from_tick_zero()
+    ensures { (scene : Scene) (commands : CommandMap) (tick : ℕ)
+        → sim_at scene (start_of scene) 0 commands tick ≡ sim scene commands tick }
+{}
+
+/// A seal changes no world that the peer can still show.
+pub fn seals_change_no_shown_world()
+    ensures { (scene : Scene) (p after : Peer) (tick later : ℕ)
+        → seal scene p tick ≡ Ok (tt, after) → tick ≤ later
+        → world_at scene after later ≡ world_at scene p later }
+{}
+
+/// Each world that a peer shows is the simulation from tick zero of what it has sealed and what it
+/// holds. At first it has sealed nothing. A seal adds what the peer held before the tick that it
+/// seals; what leaves the horizon and its world adds nothing.
+pub fn shown_worlds_are_simulations_of_all_commands()
+    ensures shown { (scene : Scene) (sealed : CommandMap) (p : Peer) (tick : ℕ) (world : World)
+        → HasSealed scene sealed p → world_at scene p tick ≡ Ok world
+        → world ≡ sim scene (merge sealed p.commands) tick }
+    ensures none { (scene : Scene) (player : ℕ)
+        → HasSealed scene empty (new_peer scene player) }
+    ensures sealed { (scene : Scene) (sealed : CommandMap) (p after : Peer) (tick : ℕ)
+        → HasSealed scene sealed p → seal scene p tick ≡ Ok (tt, after)
+        → HasSealed scene (merge sealed (commands_before tick p.commands)) after }
+    ensures kept { (scene : Scene) (sealed : CommandMap) (p after : Peer)
+        → HasSealed scene sealed p → after.horizon ≡ p.horizon → after.base ≡ p.base
+        → IsFrom after.horizon after.commands → HasSealed scene sealed after }
+{}
+
+/// No other call changes what a peer has sealed.
+pub fn other_calls_seal_nothing()
+    ensures taken { (scene : Scene) (sealed : CommandMap) (p after : Peer)
+        (decoded : Result Command FrameFault) (outcome : Put) → HasSealed scene sealed p
+        → take scene p decoded ≡ Ok (outcome, after) → HasSealed scene sealed after }
+    ensures issued { (scene : Scene) (sealed : CommandMap) (p after : Peer) (payload : Payload)
+        (frame : List ℕ) → HasSealed scene sealed p
+        → issue scene p payload ≡ Ok (frame, after) → HasSealed scene sealed after }
+    ensures merged { (scene : Scene) (sealed : CommandMap) (p after : Peer) (other : CommandMap)
+        (count : ℕ) → HasSealed scene sealed p
+        → merge_map scene p other ≡ Ok (count, after) → HasSealed scene sealed after }
+    ensures merged_sealed { (scene : Scene) (sealed : CommandMap) (p after : Peer) (horizon : ℕ)
+        (base : World) (other : CommandMap) (count : ℕ) → HasSealed scene sealed p
+        → merge_sealed scene p horizon base other ≡ Ok (count, after)
+        → HasSealed scene sealed after }
+    ensures advanced { (scene : Scene) (sealed : CommandMap) (p after : Peer) (ticks tick : ℕ)
+        → HasSealed scene sealed p → advance p ticks ≡ Ok (tick, after)
+        → HasSealed scene sealed after }
+{}
+
+/// What a peer issues, each peer of its scene can take whose horizon is not after the command's
+/// tick: the frame that is returned encodes the command, and taking the command is not rejected.
 pub fn issued_commands_can_be_taken()
     ensures encoded { (scene : Scene) (p after : Peer) (payload : Payload) (frame : List ℕ)
         → IsScene scene → IsPeer p → IsPayload payload
         → issue scene p payload ≡ Ok (frame, after)
         → decode frame ≡ Ok (next_command p payload) }
     ensures taken { (scene : Scene) (p after other : Peer) (payload : Payload) (frame : List ℕ)
-        → issue scene p payload ≡ Ok (frame, after)
+        → issue scene p payload ≡ Ok (frame, after) → other.horizon ≤ p.reached
         → IsOk (take scene other (Ok (next_command p payload))) }
 {}
 
@@ -53,6 +112,12 @@ pub fn numbers_follow_the_greatest()
 pub fn dropping_keeps_earlier_ticks()
     ensures { (ticks : List ℕ) (last tick : ℕ)
         → Contains (up_to last ticks) tick ↔ (Contains ticks tick × (tick ≤ last)) }
+{}
+
+/// A tick is kept after a seal of another one exactly where it was kept and is later.
+pub fn sealing_keeps_later_ticks()
+    ensures { (ticks : List ℕ) (tick later : ℕ)
+        → Contains (later_than tick ticks) later ↔ (Contains ticks later × (tick < later)) }
 {}
 
 /// The last tick of a rising list is its greatest.
@@ -74,7 +139,7 @@ pub fn counts_are_saturated_sums()
         → count_after count more ≡ saturating_sum count more }
 {}
 
-/// A keyframe is kept at each multiple of 256, and a ring has at most 64 places.
+/// Keyframes are 256 ticks apart, and a ring has at most 64 places.
 pub fn named_limits()
     ensures keyframes { KEYFRAME_INTERVAL ≡ 256 }
     ensures ring { MAX_RING ≡ 64 }

@@ -5,6 +5,8 @@ ghost use Rattle.std.specs.Prelude.{◌≡◌, Some, None, if◌then◌else◌};
 ghost use Rattle.pf_commands.specs.News.{is_change};
 
 use crate::fault::{Fault, Refusal};
+use crate::sealed::Sealed;
+use crate::simulate::simulate_from;
 use crate::snapshots::Snapshots;
 use pf_cache::Meter;
 use pf_commands::{
@@ -12,7 +14,7 @@ use pf_commands::{
 };
 use pf_manifold::{Collider, OneThread, SeveralThreads};
 use pf_shapes::{PLAYERS, Scene};
-use pf_step::{Crew, StepError, Work, World, step_alone, step_by};
+use pf_step::{Crew, StepError, Work, World, step_by};
 use std::alloc::{AllocError, Global};
 use std::marker::Model;
 use std::thread::Threads;
@@ -22,9 +24,11 @@ pub const MAX_RING: usize = 64;
 
 /// One player's peer of a simulation, with the worlds that it keeps to simulate from.
 ///
-/// Contracts see the scene; the abstract peer: its player, the map of its commands, and the tick
-/// that it has reached; the ticks of the kept worlds; and the work that was done. Each kept world
-/// is the simulation from tick zero of the commands that the peer holds.
+/// Contracts see the scene; the abstract peer: its player, its horizon and the world there, the map
+/// of its commands, and the tick that it has reached; the ticks of the kept worlds; and the work
+/// that was done. Each kept world is the simulation, from the world of the horizon on, of the
+/// commands that the peer holds. Until a tick is sealed the horizon is tick 0, and its world the
+/// start world.
 #[derive(Drop)]
 pub struct PeerCore {
     scene: Scene,
@@ -38,7 +42,7 @@ pub struct PeerCore {
 impl Model for PeerCore {
     ghost use Rattle.std.specs.Coded.{codes};
     ghost use Rattle.pf_commands.specs.contracts.map.CommandMap.{the_row};
-    ghost use Rattle.pf_rollback.specs.Core.{IsPeerCore, PeerCore};
+    ghost use Rattle.pf_rollback.specs.Core.{IsPeerCore, PeerCore, peer_of};
     ghost use Rattle.pf_rollback.specs.Snapshots.{ticks_of};
 
     ghost Value = { PeerCore };
@@ -47,16 +51,13 @@ impl Model for PeerCore {
 
     ghost view = { λ core. record {
       scene = core.scene;
-      peer = record { player = core.player; commands = core.commands; reached = core.reached };
+      peer = peer_of core.player core.commands core.reached core.snapshots;
       kept = ticks_of core.snapshots;
       meter = core.work.meter;
     } };
 
-    ghost invariant = { λ core. IsPeerCore core.scene (record {
-      player = core.player;
-      commands = core.commands;
-      reached = core.reached;
-    }) core.snapshots };
+    ghost invariant = { λ core. IsPeerCore core.scene
+        (peer_of core.player core.commands core.reached core.snapshots) core.snapshots };
 }
 
 /// The tick of a command that was put, where it is news: new, or greater than the held one.
@@ -68,6 +69,7 @@ fn tick_of_news(put: Put, tick: u32) -> Option<u32>
 
 impl PeerCore {
     ghost use Rattle.std.specs.Prelude.{◌≡◌, ◌≢◌, ◌≤◌, ◌<◌, ◌+◌, ◌-◌, ℕ, [], Ok, Err, IsOk, IsSome, IfErr, IfOk, OnOk, OnErr};
+    ghost use Rattle.pf_commands.specs.Ticks.{IsFrom};
     ghost use Rattle.std.specs.FinMap.{get};
     ghost use Rattle.pf_commands.specs.Check.{check};
     ghost use Rattle.pf_commands.specs.Frame.{decode};
@@ -76,8 +78,8 @@ impl PeerCore {
     ghost use Rattle.pf_rollback.specs.declared.fault.Refusal.{Refusal};
     ghost use Rattle.pf_rollback.specs.declared.fault.Fault.TheVariants.{Refused};
     ghost use Rattle.pf_step.specs.Simulation.{sim};
-    ghost use Rattle.pf_rollback.specs.Kept.{AreRising, nearest_tick, settled_tick};
-    ghost use Rattle.pf_rollback.specs.Peer.{put, take, next_command, next_number, with_command, IsNextNumber, issue, merge_map, advance, IsEmptyBefore, world_at};
+    ghost use Rattle.pf_rollback.specs.Kept.{AreRising, nearest_tick, settled_tick, ticks_after_seal};
+    ghost use Rattle.pf_rollback.specs.Peer.{put, take, next_command, next_number, with_command, IsNextNumber, issue, merge_map, merge_sealed, advance, IsEmptyBefore, seal, world_at, world_of};
     ghost use Rattle.pf_rollback.specs.Core.{AreAllowed, HasSettled, KeepsBefore, count_after, missing_count, new_core, news_tick};
     ghost use Rattle.pf_rollback.specs.Calls.{Refines, Returns};
     ghost use Rattle.pf_rollback.specs.Settling.{AreCalls, FailsAfter, IsSettle, islands_at};
@@ -128,9 +130,34 @@ impl PeerCore {
     /// The tick that the peer has reached.
     pub fn reached(&self) -> u32
         ensures value { result ≡ self.now.peer.reached }
+        ensures horizon { self.now.peer.horizon ≤ result }
         ensures range { result ≤ MAX_TICK }
     {
         self.reached
+    }
+
+    /// The horizon: the tick before which the peer keeps neither commands nor worlds; at first 0.
+    pub fn horizon(&self) -> u32
+        ensures value { result ≡ self.now.peer.horizon }
+        ensures kept { result ≡ self.now.kept.horizon }
+        ensures settled { result ≤ settled_tick self.now.kept }
+        ensures reached { result ≤ self.now.peer.reached }
+        ensures from { IsFrom result self.now.peer.commands }
+    {
+        self.snapshots.horizon()
+    }
+
+    /// What the peer has sealed, and the commands that it holds.
+    pub fn sealed(&self) -> Sealed<'_>
+        ensures { (result.horizon ≡ self.now.peer.horizon)
+            × (result.base.now ≡ self.now.peer.base)
+            × (result.commands.now ≡ self.now.peer.commands) }
+    {
+        Sealed {
+            horizon: self.snapshots.horizon(),
+            base: self.snapshots.base(),
+            commands: &self.commands,
+        }
     }
 
     /// The settled tick: the greatest tick of a kept world.
@@ -142,7 +169,7 @@ impl PeerCore {
         self.snapshots.settled()
     }
 
-    /// How much work was done to settle ticks.
+    /// How much work was done to settle and to seal ticks.
     pub fn meter(&self) -> Meter
         ensures { result ≡ self.now.meter }
     {
@@ -152,7 +179,8 @@ impl PeerCore {
     /// Puts a command that the scene allows into the map, and drops the worlds that it changes. Out
     /// of memory leaves the peer as it was.
     fn hold(&mut self, command: &Command) -> Result<Put, AllocError>
-        requires { let c = command.now in check self.old.scene c.name c.payload ≡ Ok tt }
+        requires allowed { let c = command.now in check self.old.scene c.name c.payload ≡ Ok tt }
+        requires horizon { self.old.peer.horizon ≤ command.now.name.tick }
         ensures outcome { let c = command.now in
             IfOk result (λ put. put ≡ put_outcome (get self.old.peer.commands c.name) c.payload) }
         ensures ok { OnOk result (self.new.peer ≡ with_command self.old.peer command.now) }
@@ -169,9 +197,10 @@ impl PeerCore {
         Ok(put)
     }
 
-    /// Takes a command of any player, for any tick. Returns an error where the scene does not allow
-    /// it, and out of memory, which is possible only where its name is new. An error leaves the
-    /// peer as it was. A command that is new or greater drops each kept world after its tick.
+    /// Takes a command of any player, for any tick from the horizon on. Returns an error where the
+    /// scene does not allow it; where it is for an earlier tick; and out of memory, which is
+    /// possible only where its name is new. An error leaves the peer as it was. A command that is
+    /// new or greater drops each kept world after its tick.
     #[tactic(auto, unfolding(crate::specs::Peer::put))]
     pub fn put(&mut self, command: &Command) -> Result<Put, Fault>
         ensures peer { Refines result self.old.peer self.new.peer
@@ -186,6 +215,10 @@ impl PeerCore {
     {
         if let Err(fault) = check(&self.scene, command) {
             return Err(Fault::Refused(Refusal::Check(fault)));
+        }
+        let horizon = self.snapshots.horizon();
+        if command.name.tick() < horizon {
+            return Err(Fault::Refused(Refusal::TooOld(horizon)));
         }
         Ok(self.hold(command)?)
     }
@@ -210,10 +243,10 @@ impl PeerCore {
     }
 
     /// Merges the commands of a map, and returns how many were new or greater. Returns an error
-    /// where the scene does not allow one of them, that of the first one in the order of names; and
-    /// out of memory, which is possible only where one is new or greater. An error leaves the peer
-    /// as it was. Where there are new or greater ones, each kept world after the least tick of them
-    /// is dropped.
+    /// where the scene does not allow one of them, that of the first one in the order of names;
+    /// where one is for a tick before the horizon; and out of memory, which is possible only where
+    /// one is new or greater. An error leaves the peer as it was. Where there are new or greater
+    /// ones, each kept world after the least tick of them is dropped.
     #[tactic(auto, unfolding(crate::specs::Peer::merge_map))]
     pub fn merge(&mut self, other: &CommandMap) -> Result<usize, Fault>
         ensures peer { Refines result self.old.peer self.new.peer
@@ -229,9 +262,40 @@ impl PeerCore {
         if let Err(fault) = other.check_all(&self.scene) {
             return Err(Fault::Refused(Refusal::Check(fault)));
         }
+        let horizon = self.snapshots.horizon();
+        if !other.is_from(horizon) {
+            return Err(Fault::Refused(Refusal::TooOld(horizon)));
+        }
         let merged = self.commands.merge(other)?;
         self.snapshots.drop_after_news(merged.least);
         Ok(merged.count)
+    }
+
+    /// Merges the commands that another peer holds. Returns an error where the horizons differ, and
+    /// then where the worlds there differ, and else as [`PeerCore::merge`] does. An error leaves
+    /// the peer as it was.
+    #[tactic(auto, unfolding(crate::specs::Peer::merge_sealed))]
+    pub fn merge_sealed(&mut self, other: &Sealed<'_>) -> Result<usize, Fault>
+        ensures peer { Refines result self.old.peer self.new.peer (merge_sealed self.old.scene
+            self.old.peer other.now.horizon other.now.base.now other.now.commands.now) }
+        ensures kept { OnOk result (KeepsBefore
+            (least_tick (news self.old.peer.commands other.now.commands.now))
+            self.old.kept self.new.kept) }
+        ensures rest { self.new
+            ≡ record self.old { peer = self.new.peer; kept = self.new.kept } }
+        ensures err { OnErr result (self.new ≡ self.old) }
+        ensures no_memory { news self.old.peer.commands other.now.commands.now ≡ []
+            → result ≢ Err Fault.OutOfMemory }
+    {
+        let horizon = self.snapshots.horizon();
+        if horizon != other.horizon {
+            let differ = Refusal::HorizonsDiffer(horizon, other.horizon);
+            return Err(Fault::Refused(differ));
+        }
+        if self.snapshots.base() != other.base {
+            return Err(Fault::Refused(Refusal::BasesDiffer));
+        }
+        self.merge(other.commands)
     }
 
     /// The number of the next command at the reached tick, if there is one left.
@@ -384,13 +448,17 @@ impl PeerCore {
         self.settle_by(&SeveralThreads { rt }, alloc, crew)
     }
 
-    /// The world at a tick that the peer has reached: the simulation from tick zero of the commands
-    /// that it holds. Simulates from the last kept world that is not after the tick, and counts
-    /// these ticks in `work`. Returns an error for a later tick, and out of memory. Takes no memory
-    /// for a scene without bodies, at a tick before which there is no command.
+    /// The world at a tick from the horizon to the reached one: the simulation, from the world of
+    /// the horizon on, of the commands that the peer holds; of a peer that has sealed nothing, the
+    /// simulation from tick zero. Simulates from the last kept world that is not after the tick,
+    /// and counts these ticks in `work`. Returns an error for a later tick, for one before the
+    /// horizon, and out of memory. Takes no memory where no body and no contact is at the horizon,
+    /// and no command before the tick.
     #[tactic(auto, unfolding(crate::specs::Peer::world_at))]
     pub fn world_at(&self, alloc: Global, tick: u32, work: &mut Work) -> Result<World, Fault>
         ensures value { Returns result (world_at self.now.scene self.now.peer tick) }
+        ensures from_zero { self.now.peer.horizon ≡ 0 → IfOk result (λ world.
+            world ≡ sim self.now.scene self.now.peer.commands tick) }
         ensures counted { let ticks = tick - nearest_tick self.now.kept tick in
             OnOk result (work.new.meter.ticks ≡ count_after work.old.meter.ticks ticks) }
         ensures not_counted { let ticks = tick - nearest_tick self.now.kept tick in
@@ -398,35 +466,70 @@ impl PeerCore {
             × (work.new.meter.ticks ≡ count_after work.old.meter.ticks some)) }
         ensures refused { (refusal : Refusal) → result ≡ Err (Refused refusal)
             → work.new ≡ work.old }
-        ensures no_memory { IsEmptyBefore self.now.scene self.now.peer.commands tick
+        ensures no_memory { IsEmptyBefore self.now.peer tick
             → result ≢ Err Fault.OutOfMemory }
     {
         if tick > self.reached {
             return Err(Fault::Refused(Refusal::NotReached(self.reached)));
         }
-        Ok(self.simulate(alloc, tick, work)?)
+        let horizon = self.snapshots.horizon();
+        if tick < horizon {
+            return Err(Fault::Refused(Refusal::TooOld(horizon)));
+        }
+        Ok(simulate_from(
+            alloc,
+            &self.scene,
+            &self.commands,
+            &self.snapshots,
+            tick,
+            work,
+        )?)
     }
 
-    /// The world at a tick, simulated from the last kept world that is not after it.
-    fn simulate(&self, alloc: Global, tick: u32, work: &mut Work) -> Result<World, AllocError>
-        ensures value { let core = self.now in
-            IfOk result (λ world. world ≡ sim core.scene core.peer.commands tick) }
-        ensures counted { let ticks = tick - nearest_tick self.now.kept tick in
-            OnOk result (work.new.meter.ticks ≡ count_after work.old.meter.ticks ticks) }
-        ensures not_counted { let ticks = tick - nearest_tick self.now.kept tick in
-            OnErr result ((some : ℕ) × (some ≤ ticks)
-            × (work.new.meter.ticks ≡ count_after work.old.meter.ticks some)) }
-        ensures no_memory { let core = self.now in
-            IsEmptyBefore core.scene core.peer.commands tick → IsOk result }
+    /// Seals a tick that the peer has reached: it is the new horizon. The world there stands for
+    /// the commands before it, which are dropped with the kept worlds up to it; no world that the
+    /// peer can still show changes. Simulates, on one thread, from the last kept world that is not
+    /// after the tick, and counts these ticks. Returns an error for a tick above the reached one,
+    /// for one before the horizon, and out of memory; a rejected call changes nothing, and one that
+    /// is out of memory changes only the counts of the meter. At the horizon it changes nothing.
+    /// Takes no memory where no body and no contact is at the horizon, and no command before the
+    /// tick.
+    #[tactic(auto, unfolding(crate::specs::Peer::seal))]
+    pub fn seal(&mut self, alloc: Global, tick: u32) -> Result<(), Fault>
+        ensures peer { Refines result self.old.peer self.new.peer
+            (seal self.old.scene self.old.peer tick) }
+        ensures kept { OnOk result (self.new.kept ≡ ticks_after_seal tick self.old.kept) }
+        ensures counted { let ticks = tick - nearest_tick self.old.kept tick in
+            OnOk result (self.new.meter.ticks ≡ count_after self.old.meter.ticks ticks) }
+        ensures not_counted { let ticks = tick - nearest_tick self.old.kept tick in
+            OnErr result ((some : ℕ) × (some ≤ ticks) × (self.new.kept ≡ self.old.kept)
+            × (self.new.meter.ticks ≡ count_after self.old.meter.ticks some)) }
+        ensures rest { self.new ≡ record self.old {
+          peer = self.new.peer;
+          kept = self.new.kept;
+          meter = self.new.meter;
+        } }
+        ensures refused { (refusal : Refusal) → result ≡ Err (Refused refusal)
+            → self.new ≡ self.old }
+        ensures again { tick ≡ self.old.peer.horizon → (result ≡ Ok tt) × (self.new ≡ self.old) }
+        ensures no_memory { IsEmptyBefore self.old.peer tick
+            → result ≢ Err Fault.OutOfMemory }
     {
-        let (from, kept) = self.snapshots.nearest(tick);
-        let mut world = kept.try_clone()?;
-        for at in from..tick {
-            let payloads = self.commands.at_tick(alloc, at)?;
-            let next = step_alone(alloc, &self.scene, &world, &payloads, work)?;
-            world.lend(work);
-            world = next;
+        if tick > self.reached {
+            return Err(Fault::Refused(Refusal::NotReached(self.reached)));
         }
-        Ok(world)
+        let kept = &self.snapshots;
+        let horizon = kept.horizon();
+        if tick < horizon {
+            return Err(Fault::Refused(Refusal::TooOld(horizon)));
+        }
+        if tick == horizon {
+            return Ok(());
+        }
+        let work = &mut self.work;
+        let world = simulate_from(alloc, &self.scene, &self.commands, kept, tick, work)?;
+        self.commands.drop_before(tick);
+        self.snapshots.seal(tick, world, &mut self.work);
+        Ok(())
     }
 }

@@ -7,18 +7,22 @@ use circular_buffer::HeapCircularBuffer;
 use pf_step::{Work, World};
 use std::alloc::{AllocError, Global};
 use std::marker::Model;
+use std::mem;
 
-/// The world of each settled tick that is a multiple of this is kept until news of an earlier tick
-/// come.
+/// A keyframe is the world of a settled tick after the horizon that is a multiple of this. It is
+/// kept until news of an earlier tick come, or that tick or a later one is sealed.
 pub const KEYFRAME_INTERVAL: u32 = 256;
 
-/// The start world, the last settled worlds in a ring, and a keyframe at each multiple of
-/// [`KEYFRAME_INTERVAL`] up to the settled tick. No world stands here twice.
+/// The world of the horizon, the last settled worlds in a ring, and a keyframe at each multiple of
+/// [`KEYFRAME_INTERVAL`] after the horizon up to the settled tick. No world stands here twice.
 ///
 /// Contracts see the kept ticks, and which world is kept at a tick.
 #[derive(Drop)]
 pub(crate) struct Snapshots {
-    /// The first is the start world.
+    /// The tick before which no world is kept.
+    horizon: u32,
+    /// The world of the horizon: at first the start world.
+    base: World,
     keyframes: Vec<World>,
     /// The last is that of the settled tick; None stands for a world that is a keyframe.
     recent: HeapCircularBuffer<Option<World>>,
@@ -32,6 +36,8 @@ impl Model for Snapshots {
     ghost Value = { Snapshots };
 
     ghost view = { λ s. record {
+      horizon = s.horizon;
+      base = s.base;
       keyframes = s.keyframes.items;
       recent = s.recent.items;
       settled = s.settled;
@@ -40,6 +46,8 @@ impl Model for Snapshots {
     } };
 
     ghost invariant = { λ s. IsSnapshots (record {
+      horizon = s.horizon;
+      base = s.base;
       keyframes = s.keyframes.items;
       recent = s.recent.items;
       settled = s.settled;
@@ -80,24 +88,25 @@ fn lend(world: Option<World>, work: &mut Work)
 }
 
 impl Snapshots {
-    ghost use Rattle.std.specs.Prelude.{◌≡◌, ◌≤◌, ◌<◌, ◌+◌, ◌-◌, ◌%◌, ◌⊎◌, ℕ, length, IfOk, IfSome, IfNone, OnOk};
+    ghost use Rattle.std.specs.Prelude.{◌≡◌, ◌≤◌, ◌<◌, ◌+◌, ◌-◌, ◌%◌, ◌⊎◌, ℕ, length, max, IfOk, IfSome, IfNone, OnOk};
     ghost use Rattle.pf_commands.specs.declared.name.TheConstants.{MAX_TICK};
     ghost use Rattle.pf_step.specs.World.{World};
-    ghost use Rattle.pf_rollback.specs.Kept.{AreRising, no_ticks, settled_tick, nearest_tick, ticks_after_news, ticks_after_settling, ticks_up_to};
+    ghost use Rattle.pf_rollback.specs.Kept.{AreRising, no_ticks, settled_tick, nearest_tick, ticks_after_news, ticks_after_seal, ticks_after_settling, ticks_up_to};
     ghost use Rattle.pf_rollback.specs.Snapshots.{ticks_of, IsKept, IsRecent};
 
     /// The start world alone, with a ring of so many places.
     pub(crate) fn new(alloc: Global, start: World, ring: usize) -> Result<Snapshots, AllocError>
         requires { 0 < ring }
         ensures ticks { IfOk result (λ s. ticks_of s ≡ no_ticks ring) }
+        ensures base { IfOk result (λ s. (s.horizon ≡ 0) × (s.base ≡ start)) }
         ensures worlds { IfOk result (λ s. (tick : ℕ) (world : World)
             → IsKept s tick world → (tick ≡ 0) × (world ≡ start)) }
     {
-        let mut keyframes = Vec::new(alloc);
-        keyframes.push(start)?;
         let recent = HeapCircularBuffer::with_capacity(alloc, ring)?;
         Ok(Snapshots {
-            keyframes,
+            horizon: 0,
+            base: start,
+            keyframes: Vec::new(alloc),
             recent,
             settled: 0,
         })
@@ -110,6 +119,23 @@ impl Snapshots {
         ensures range { result ≤ MAX_TICK }
     {
         self.settled
+    }
+
+    /// The tick before which no world is kept.
+    pub(crate) fn horizon(&self) -> u32
+        ensures value { result ≡ self.now.horizon }
+        ensures ticks { (ticks_of self.now).horizon ≡ self.now.horizon }
+        ensures settled { result ≤ settled_tick (ticks_of self.now) }
+        ensures sealed { ticks_after_seal result (ticks_of self.now) ≡ ticks_of self.now }
+    {
+        self.horizon
+    }
+
+    /// The world of the horizon.
+    pub(crate) fn base(&self) -> &World
+        ensures { result.now ≡ self.now.base }
+    {
+        &self.base
     }
 
     /// Makes room for one keyframe more. Out of memory changes nothing that is kept.
@@ -129,6 +155,7 @@ impl Snapshots {
             ≡ ticks_after_settling (ticks_of self.old) (settled_tick (ticks_of self.old) + 1) }
         ensures settled { settled_tick (ticks_of self.new)
             ≡ settled_tick (ticks_of self.old) + 1 }
+        ensures base { (self.new.horizon ≡ self.old.horizon) × (self.new.base ≡ self.old.base) }
         ensures worlds { (tick : ℕ) (w : World) → IsKept self.new tick w → IsKept self.old tick w
             ⊎ ((tick ≡ settled_tick (ticks_of self.old) + 1) × (w ≡ world)) }
         ensures work { work.new ≡ work.old }
@@ -139,8 +166,11 @@ impl Snapshots {
         lend(fallen, work);
     }
 
-    /// Drops each world after the least tick of news, if there are any. Takes no memory.
+    /// Drops each world after the least tick of news, if there are any, which is not before the
+    /// horizon. Takes no memory.
     pub(crate) fn drop_after_news(&mut self, least: Option<u32>)
+        requires { IfSome least (λ tick. self.old.horizon ≤ tick) }
+        ensures base { (self.new.horizon ≡ self.old.horizon) × (self.new.base ≡ self.old.base) }
         ensures ticks { ticks_of self.new ≡ ticks_after_news least (ticks_of self.old) }
         ensures worlds { (t : ℕ) (world : World) → IsKept self.new t world
             → IsKept self.old t world × IfSome least (λ tick. t ≤ tick) }
@@ -153,8 +183,10 @@ impl Snapshots {
         }
     }
 
-    /// Drops each world after a tick. Takes no memory.
+    /// Drops each world after a tick that is not before the horizon. Takes no memory.
     fn drop_after(&mut self, tick: u32)
+        requires { self.old.horizon ≤ tick }
+        ensures base { (self.new.horizon ≡ self.old.horizon) × (self.new.base ≡ self.old.base) }
         ensures ticks { ticks_of self.new ≡ ticks_up_to tick (ticks_of self.old) }
         ensures worlds { (t : ℕ) (world : World) → IsKept self.new t world
             → IsKept self.old t world × (t ≤ tick) }
@@ -167,12 +199,35 @@ impl Snapshots {
         let later = (self.settled - last) as usize;
         let left = self.recent.len().saturating_sub(later);
         self.recent.truncate_back(left);
-        self.keyframes.truncate(keyframe as usize + 1);
+        self.keyframes
+            .truncate((keyframe - self.horizon / KEYFRAME_INTERVAL) as usize);
         self.settled = if left == 0 {
-            keyframe * KEYFRAME_INTERVAL
+            self.horizon.max(keyframe * KEYFRAME_INTERVAL)
         } else {
             last
         };
+    }
+
+    /// Makes a tick the horizon, with this world. Each world up to it is dropped; the one of the
+    /// old horizon lends its memory to the next that is made with `work`. Takes no memory.
+    pub(crate) fn seal(&mut self, tick: u32, world: World, work: &mut Work)
+        requires horizon { self.old.horizon ≤ tick }
+        requires limit { tick ≤ MAX_TICK }
+        ensures ticks { ticks_of self.new ≡ ticks_after_seal tick (ticks_of self.old) }
+        ensures base { (self.new.horizon ≡ tick) × (self.new.base ≡ world) }
+        ensures settled { settled_tick (ticks_of self.new)
+            ≡ max tick (settled_tick (ticks_of self.old)) }
+        ensures worlds { (t : ℕ) (w : World) → IsKept self.new t w
+            → (IsKept self.old t w × (tick < t)) ⊎ ((t ≡ tick) × (w ≡ world)) }
+        ensures work { work.new ≡ work.old }
+    {
+        let last = tick.min(self.settled);
+        let gone = last / KEYFRAME_INTERVAL - self.horizon / KEYFRAME_INTERVAL;
+        self.keyframes.drain(..gone as usize);
+        self.recent.truncate_front((self.settled - last) as usize);
+        self.settled = self.settled.max(tick);
+        self.horizon = tick;
+        mem::replace(&mut self.base, world).lend(work);
     }
 
     /// The ring's world of a tick up to the settled one, if it stands there.
@@ -189,6 +244,8 @@ impl Snapshots {
 
     /// The last kept world that is not after a tick, and its tick. Takes constant time.
     pub(crate) fn nearest(&self, tick: u32) -> (u32, &World)
+        requires { self.now.horizon ≤ tick }
+        ensures low { self.now.horizon ≤ result.0 }
         ensures tick { result.0 ≡ nearest_tick (ticks_of self.now) tick }
         ensures before { result.0 ≤ tick }
         ensures kept { IsKept self.now result.0 result.1.now }
@@ -198,10 +255,11 @@ impl Snapshots {
             return (last, world);
         }
         let keyframe = last / KEYFRAME_INTERVAL;
-        (
-            keyframe * KEYFRAME_INTERVAL,
-            &self.keyframes[keyframe as usize],
-        )
+        let count = (keyframe - self.horizon / KEYFRAME_INTERVAL) as usize;
+        if count == 0 {
+            return (self.horizon, &self.base);
+        }
+        (keyframe * KEYFRAME_INTERVAL, &self.keyframes[count - 1])
     }
 
     /// The world of the settled tick.

@@ -12,7 +12,7 @@ loop-tick-init g c =
     let core = c.args.self.now in
     let none : c.settled-settled.result - c.settled-settled.result ≡ 0 = omega arith in
     record {
-      has = subst (λ n. HasSettled n core core) (sym none) (settled_none core core.kept core.meter refl refl);
+      has = subst (λ n. HasSettled n core core) (sym none) (settled_none core core.peer core.kept core.meter refl refl refl);
       settled = sym c.settled-settled.ensures.value;
       called = subst (λ n. AreCalls g.C.Crew.is_called core n c.args.crew.now c.args.crew.now) (sym none) (no_calls _ _ _);
     }

@@ -5,8 +5,10 @@ use Rattle.pf_rollback.proofs.snapshots.Snapshots.keep.Goals as goal
 
 keeping : (c : goal.After-lend)
     → IsKeeping (the_view c.self.inside)
-    (the_view (record { keyframes = c.keep_at-fallen.new.keyframes; recent = c.keep_at-fallen.new.recent; settled = c.self.inside.settled + 1 })) c.args.world
+    (the_view (record { horizon = c.self.inside.horizon; base = c.self.inside.base; keyframes = c.keep_at-fallen.new.keyframes; recent = c.keep_at-fallen.new.recent; settled = c.self.inside.settled + 1 })) c.args.world
 keeping c = record {
+  horizon = refl;
+  base = refl;
   keyframes = c.keep_at-fallen.ensures.keyframes;
   recent = ap (λ b. b.items) c.keep_at-fallen.ensures.recent;
   settled = refl;

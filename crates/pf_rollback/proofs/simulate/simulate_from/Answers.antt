@@ -1,35 +1,34 @@
 use Rattle.std.proofs.Common.{◌≡◌, ◌≤◌, ◌+◌, ◌-◌, ℕ, length, ap, sym, ◌∙◌, arith}
 use Rattle.pf_cache.specs.Meter.{saturating_sum}
 use Rattle.pf_step.specs.Work.{Work}
-use Rattle.pf_step.specs.Simulation.{sim}
 use Rattle.pf_step.specs.Step.{step}
 use Rattle.pf_step.specs.World.{World}
-use Rattle.pf_step.proofs.Empty.{sim_empty, sim_no_contacts}
-use Rattle.pf_rollback.specs.Core.{PeerCore, count_after}
+use Rattle.pf_rollback.specs.Core.{count_after}
 use Rattle.pf_rollback.specs.Kept.{nearest_tick}
-use Rattle.pf_rollback.proofs.Cores.{count_more, count_none, on_err, sim_bodies}
-use Rattle.pf_rollback.proofs.Ticks.{sim_more}
-use Rattle.pf_rollback.proofs.peer.PeerCore.simulate.Goals as goal
+use Rattle.pf_rollback.specs.Snapshots.{kept_world, ticks_of}
+use Rattle.pf_rollback.proofs.Cores.{count_more, count_none, on_err}
+use Rattle.pf_rollback.proofs.Simulation.{sim_at_bodies, sim_at_more, sim_from_empty, sim_from_no_contacts}
+use Rattle.pf_rollback.proofs.simulate.simulate_from.Goals as goal
 
 pub returns-in_err-world-clause-not_counted : goal.returns-in_err-world-clause-not_counted
 returns-in_err-world-clause-not_counted c =
     let count = c.args.work.now.meter.ticks in
-    let none : (some : ℕ) × (some ≤ c.args.tick - nearest_tick c.args.self.now.kept c.args.tick) × (count ≡ count_after count some) =
+    let none : (some : ℕ) × (some ≤ c.args.tick - nearest_tick (ticks_of c.args.snapshots.now) c.args.tick) × (count ≡ count_after count some) =
     (0, omega arith, sym (count_none count)) in
     on_err _ none
 
 pub returns-in_err-world-clause-no_memory : goal.returns-in_err-world-clause-no_memory
-returns-in_err-world-clause-no_memory c empty =
-    let none = ap (λ (core : PeerCore). core.scene.starts) c.self.view_is ∙ empty.no_bodies in
-    let is = c.self.invariant.worlds _ _ c.nearest-from.ensures.kept in
-    let bodies = ap (λ (w : World). w.bodies) is ∙ sim_empty _ _ _ none in
-    let contacts = ap (λ (w : World). w.contacts) is ∙ sim_no_contacts _ _ _ none in
+returns-in_err-world-clause-no_memory c no_bodies no_contacts no_commands =
+    let is = c.requires.worlds _ _ c.nearest-from.ensures.kept in
+    let bodies = ap (λ (w : World). w.bodies) is ∙ sim_from_empty _ _ _ _ _ no_bodies in
+    let contacts = ap (λ (w : World). w.contacts) is ∙ sim_from_no_contacts _ _ _ _ _ no_bodies no_contacts in
     let ok = c.in_err-world.ensures.no_memory bodies contacts in
     absurd cc
 
 pub loop-at-init : goal.loop-at-init
 loop-at-init c = record {
-  world = c.in_ok-world.ensures.value ∙ c.self.invariant.worlds _ _ c.nearest-from.ensures.kept;
+  later = c.nearest-from.ensures.low;
+  world = c.in_ok-world.ensures.value ∙ c.requires.worlds _ _ c.nearest-from.ensures.kept;
   ticks =
       let none : c.nearest-from.result.0 - c.nearest-from.result.0 ≡ 0 = omega arith in
       sym (ap (count_after c.args.work.now.meter.ticks) none ∙ count_none _);
@@ -37,25 +36,26 @@ loop-at-init c = record {
 
 pub step_alone-requires : goal.step_alone-requires
 step_alone-requires c =
-    ap (λ (w : World). length w.bodies) c.loop-at.invariant.world ∙ sim_bodies _ _ _ c.self.invariant.paired
+    ap (λ (w : World). length w.bodies) c.loop-at.invariant.world ∙ sim_at_bodies _ _ _ _ _ c.requires.bodies
 
 pub returns-in_err-next-clause-no_memory : goal.returns-in_err-next-clause-no_memory
-returns-in_err-next-clause-no_memory c empty =
-    let none = ap (λ (core : PeerCore). core.scene.starts) c.self.view_is ∙ empty.no_bodies in
-    let bodies = ap (λ (w : World). w.bodies) c.loop-at.invariant.world ∙ sim_empty _ _ _ none in
+returns-in_err-next-clause-no_memory c no_bodies no_contacts no_commands =
+    let bodies = ap (λ (w : World). w.bodies) c.loop-at.invariant.world ∙ sim_from_empty _ _ _ _ _ no_bodies in
     let ok = c.in_err-next.ensures.no_memory bodies in
     absurd cc
 
 pub loop-at-preserved : goal.loop-at-preserved
 loop-at-preserved c =
-    let s = c.self.inside.scene in
-    let m = c.self.inside.commands in
+    let s = c.args.scene.now in
+    let m = c.args.commands.now in
+    let kept = c.args.snapshots.now in
     record {
+      later = let low = c.loop-at.invariant.later in omega arith;
       world =
           c.in_ok-next.ensures.step.value
           ∙ ap (λ w. step s w c.deref.result.now) c.loop-at.invariant.world
-          ∙ ap (step s (sim s m c.loop-at.at)) (c.deref.ensures.value ∙ c.in_ok-payloads.ensures.items)
-          ∙ sym (sim_more s m c.loop-at.at);
+          ∙ ap (step s (kept_world s m kept c.loop-at.at)) (c.deref.ensures.value ∙ c.in_ok-payloads.ensures.items)
+          ∙ sym (sim_at_more s kept.base kept.horizon m c.loop-at.at c.loop-at.invariant.later);
       ticks =
           ap (λ (w : Work). w.meter.ticks) (c.lend.ensures ∙ c.in_ok-next.ensures.step.counted)
           ∙ ap (λ n. saturating_sum n 1) c.loop-at.invariant.ticks

@@ -1,0 +1,31 @@
+use Rattle.std.proofs.Common.{◌≡◌, ◌≤◌, ◌-◌, refl, ap, sym, ◌∙◌, arith}
+use Rattle.pf_rollback.specs.Core.{count_after}
+use Rattle.pf_rollback.specs.Kept.{nearest_tick}
+use Rattle.pf_rollback.specs.Snapshots.{ticks_of}
+use Rattle.pf_rollback.proofs.Cores.{core_sealed, count_none}
+use Rattle.pf_rollback.proofs.Seals.{seal_again}
+use Rattle.pf_rollback.proofs.Settling.{nearest-from_horizon}
+use Rattle.pf_rollback.proofs.peer.PeerCore.seal.Goals as goal
+
+pub returns-then-tick-self-clause-not_counted : goal.returns-then-tick-self-clause-not_counted
+returns-then-tick-self-clause-not_counted c = (0, omega arith, refl, sym (count_none _))
+
+pub returns-then-tick-horizon-clause-not_counted : goal.returns-then-tick-horizon-clause-not_counted
+returns-then-tick-horizon-clause-not_counted c = (0, omega arith, refl, sym (count_none _))
+
+pub returns-then-tick-horizon-2-clause-peer : goal.returns-then-tick-horizon-2-clause-peer
+returns-then-tick-horizon-2-clause-peer c =
+    rw (← c.self.view_is) (seal_again _ _ _ (c.if-tick-horizon-2.true ∙ c.horizon-horizon.ensures.value) c.self.invariant.peer)
+
+pub returns-then-tick-horizon-2-clause-counted : goal.returns-then-tick-horizon-2-clause-counted
+returns-then-tick-horizon-2-clause-counted c =
+    let kept = ticks_of c.self.inside.snapshots in
+    let none : c.args.tick - nearest_tick kept c.args.tick ≡ 0 =
+    omega (arith, nearest-from_horizon kept c.args.tick, c.horizon-horizon.ensures.value, c.horizon-horizon.ensures.ticks, c.if-tick-horizon-2.true) in
+    rw (← c.self.view_is) (sym (ap (count_after c.self.inside.work.meter.ticks) none ∙ count_none _))
+
+pub invariant_of-self-2 : goal.invariant_of-self-2
+invariant_of-self-2 c =
+    let later : c.self.inside.snapshots.horizon ≤ c.args.tick = omega (arith, c.horizon-horizon.ensures.value, c.if-tick-horizon.false) in
+    core_sealed _ _ _ _ _ _ _ c.args.tick _ c.self.invariant later c.if-tick-self.false c.in_ok-world.ensures.value c.drop_before.ensures
+    c.seal.ensures.base c.seal.ensures.worlds c.seal.ensures.settled
