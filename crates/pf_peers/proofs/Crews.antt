@@ -8,7 +8,7 @@ use Rattle.pf_step.specs.declared.crew.StepError.TheVariants.{Crew, OutOfMemory}
 use Rattle.pf_rollback.specs.Core.{PeerCore, missing_count}
 use Rattle.pf_rollback.specs.Settling.{AreCalls, FailsAfter}
 use Rattle.pf_peers.specs.declared.event.Event.{Event}
-use Rattle.pf_peers.specs.declared.event.Event.TheVariants.{Issue, Take, Merge, Advance, Settle, Show}
+use Rattle.pf_peers.specs.declared.event.Event.TheVariants.{Issue, Take, Merge, Advance, Settle, Show, Seal}
 use Rattle.pf_peers.specs.declared.event.Reply.{Reply}
 use Rattle.pf_peers.specs.Crews.{CanFail, UsesCrew}
 
@@ -28,6 +28,8 @@ module _ {A : Type 0} (call : A → List Island → A → Type 0) (may_fail : A 
   uses_weaker P Q weaker (Advance peer ticks) first (Err error) last h = h
   uses_weaker P Q weaker (Show peer tick) first (Ok reply) last h = h
   uses_weaker P Q weaker (Show peer tick) first (Err error) last h = h
+  uses_weaker P Q weaker (Seal peer tick) first (Ok reply) last h = h
+  uses_weaker P Q weaker (Seal peer tick) first (Err error) last h = h
 
   -- a settle of a core
   pub settle_uses : (core new : PeerCore) (peer : ℕ) (first : A) (result : Result Reply StepError) (last : A)
@@ -48,3 +50,4 @@ module _ {A : Type 0} (call : A → List Island → A → Type 0) (may_fail : A 
   crew_error P (Merge peer from) first error last h = let other : Crew error ≡ OutOfMemory = h.0 in absurd cc
   crew_error P (Advance peer ticks) first error last h = let other : Crew error ≡ OutOfMemory = h.0 in absurd cc
   crew_error P (Show peer tick) first error last h = let other : Crew error ≡ OutOfMemory = h.0 in absurd cc
+  crew_error P (Seal peer tick) first error last h = let other : Crew error ≡ OutOfMemory = h.0 in absurd cc

@@ -5,16 +5,15 @@ use Rattle.std.specs.FinMap.{get}
 use Rattle.std.specs.List.{range_with_len}
 use Rattle.pf_shapes.specs.Scene.{Scene}
 use Rattle.pf_shapes.specs.declared.fixture.TheConstants.{PLAYERS}
-use Rattle.pf_commands.specs.Merge.{CommandMap}
 use Rattle.pf_commands.specs.News.{news}
 use Rattle.pf_step.specs.World.{World}
 use Rattle.pf_rollback.specs.declared.fault.Refusal.{Refusal}
 use Rattle.pf_rollback.specs.Core.{PeerCore}
-use Rattle.pf_rollback.specs.Peer.{Peer, new_peer, put, issue, take, merge_map, advance, IsEmptyBefore, world_at}
+use Rattle.pf_rollback.specs.Peer.{Peer, new_peer, put, issue, take, merge_sealed, advance, seal, IsEmptyBefore, world_at}
 use Rattle.pf_peers.specs.declared.event.Event.{Event}
-use Rattle.pf_peers.specs.declared.event.Event.TheVariants.{Issue, Take, Merge, Advance, Settle, Show}
+use Rattle.pf_peers.specs.declared.event.Event.TheVariants.{Issue, Take, Merge, Advance, Settle, Show, Seal}
 use Rattle.pf_peers.specs.declared.event.Reply.{Reply}
-use Rattle.pf_peers.specs.declared.event.Reply.TheVariants.{Issued, Took, Merged, Advanced, Settled, Shown, Refused}
+use Rattle.pf_peers.specs.declared.event.Reply.TheVariants.{Issued, Took, Merged, Advanced, Settled, Shown, Sealed, Refused}
 
 -- the peers of a scene, by their numbers
 pub record Session : Type 0 where
@@ -28,11 +27,12 @@ pub record AreCores (scene : Scene) (cores : List PeerCore) : Type 0 where
 
 -- so many peers, each of the player of its number
 abbrev pub new_session : Scene → ℕ → Session
-new_session scene count = record { scene = scene; peers = map new_peer (range_with_len 0 count) }
+new_session scene count =
+    record { scene = scene; peers = map (new_peer scene) (range_with_len 0 count) }
 
 -- the peer of a number
 abbrev pub peer_at : Session → ℕ → Peer
-peer_at s i = slice_index_or s.peers i (new_peer 0)
+peer_at s i = slice_index_or s.peers i (new_peer s.scene 0)
 
 -- the number of an event's peer
 abbrev pub peer_of : Event → ℕ
@@ -42,6 +42,7 @@ peer_of (Merge peer other) = peer
 peer_of (Advance peer ticks) = peer
 peer_of (Settle peer) = peer
 peer_of (Show peer tick) = peer
+peer_of (Seal peer tick) = peer
 
 -- the number of the peer whose commands are merged; for other events that of their peer
 abbrev pub other_of : Event → ℕ
@@ -51,6 +52,7 @@ other_of (Merge peer other) = other
 other_of (Advance peer ticks) = peer
 other_of (Settle peer) = peer
 other_of (Show peer tick) = peer
+other_of (Seal peer tick) = peer
 
 -- ---- one event
 
@@ -65,45 +67,53 @@ abbrev pub world_reply : ℕ → ℕ → Result World Refusal → Reply
 world_reply peer tick (Ok world) = Shown peer tick world
 world_reply peer tick (Err refusal) = Refused refusal
 
--- the reply to an event on its peer, and the peer after it, where these are the commands of the
--- other peer of a merge; a merge of a peer with itself changes nothing, nor does a settle, which
--- only simulates earlier what later replies would simulate
-unfoldable pub peer_answer : Scene → CommandMap → Peer → Event → Reply × Peer
-peer_answer s others p (Issue peer payload) =
+-- what a peer merges of another one
+abbrev pub merge_of : Scene → Peer → Peer → Result (ℕ × Peer) Refusal
+merge_of s p q = merge_sealed s p q.horizon q.base q.commands
+
+-- the reply to an event on its peer, and the peer after it, where q is the other peer of a merge; a
+-- merge of a peer with itself changes nothing, nor does a settle, which only simulates earlier what
+-- later replies would simulate
+unfoldable pub peer_answer : Scene → Peer → Peer → Event → Reply × Peer
+peer_answer s q p (Issue peer payload) =
     reply_and_peer (λ frame. Issued peer frame) p (issue s p payload)
-peer_answer s others p (Take peer frame) =
+peer_answer s q p (Take peer frame) =
     reply_and_peer (λ put. Took peer put) p (take s p frame)
-peer_answer s others p (Merge peer other) =
+peer_answer s q p (Merge peer other) =
     if other == peer then (Merged peer 0, p)
-    else reply_and_peer (λ count. Merged peer count) p (merge_map s p others)
-peer_answer s others p (Advance peer ticks) =
+    else reply_and_peer (λ count. Merged peer count) p (merge_of s p q)
+peer_answer s q p (Advance peer ticks) =
     reply_and_peer (λ reached. Advanced peer reached) p (advance p ticks)
-peer_answer s others p (Settle peer) = (Settled peer p.reached, p)
-peer_answer s others p (Show peer tick) = (world_reply peer tick (world_at s p tick), p)
+peer_answer s q p (Settle peer) = (Settled peer p.reached, p)
+peer_answer s q p (Show peer tick) = (world_reply peer tick (world_at s p tick), p)
+peer_answer s q p (Seal peer tick) =
+    reply_and_peer (λ done. Sealed peer tick) p (seal s p tick)
 
 -- no memory is needed for the reply to an event: it is rejected, or a name that is held is taken,
--- or no command that is merged is new or greater, or ticks are advanced, or no tick is reached that
--- could be settled, or a world without bodies is shown before any command
-abbrev pub NeedsNoMemory : Scene → CommandMap → Peer → Event → Type 0
-NeedsNoMemory s others p (Issue peer payload) = IsErr (issue s p payload)
-NeedsNoMemory s others p (Take peer (Ok c)) = IsErr (put s p c) ⊎ IsSome (get p.commands c.name)
-NeedsNoMemory s others p (Take peer (Err fault)) = Unit {0}
-NeedsNoMemory s others p (Merge peer other) =
-    (other ≡ peer) ⊎ (IsErr (merge_map s p others) ⊎ (news p.commands others ≡ []))
-NeedsNoMemory s others p (Advance peer ticks) = Unit {0}
-NeedsNoMemory s others p (Settle peer) = p.reached ≡ 0
-NeedsNoMemory s others p (Show peer tick) =
-    IsErr (world_at s p tick) ⊎ IsEmptyBefore s p.commands tick
+-- or no command that is merged is new or greater, or ticks are advanced, or the reached tick is the
+-- horizon, or a world without bodies is shown or sealed before any command, or the horizon is
+-- sealed again
+abbrev pub NeedsNoMemory : Scene → Peer → Peer → Event → Type 0
+NeedsNoMemory s q p (Issue peer payload) = IsErr (issue s p payload)
+NeedsNoMemory s q p (Take peer (Ok c)) = IsErr (put s p c) ⊎ IsSome (get p.commands c.name)
+NeedsNoMemory s q p (Take peer (Err fault)) = Unit {0}
+NeedsNoMemory s q p (Merge peer other) =
+    (other ≡ peer) ⊎ (IsErr (merge_of s p q) ⊎ (news p.commands q.commands ≡ []))
+NeedsNoMemory s q p (Advance peer ticks) = Unit {0}
+NeedsNoMemory s q p (Settle peer) = p.reached ≡ p.horizon
+NeedsNoMemory s q p (Show peer tick) = IsErr (world_at s p tick) ⊎ IsEmptyBefore p tick
+NeedsNoMemory s q p (Seal peer tick) =
+    IsErr (seal s p tick) ⊎ ((tick ≡ p.horizon) ⊎ IsEmptyBefore p tick)
 
--- the commands that the other peer of an event holds
-abbrev pub other_commands : Session → Event → CommandMap
-other_commands s event = (peer_at s (other_of event)).commands
+-- the other peer of an event
+abbrev pub other_peer_at : Session → Event → Peer
+other_peer_at s event = peer_at s (other_of event)
 
 -- the reply to an event on a session, and the session after it
 abbrev pub answer : Session → Event → Reply × Session
 answer s event =
     let p = peer_at s (peer_of event) in
-    let a = peer_answer s.scene (other_commands s event) p event in
+    let a = peer_answer s.scene (other_peer_at s event) p event in
     (a.0, record s { peers = slice_set s.peers (peer_of event) a.1 })
 
 abbrev pub reply_to : Session → Event → Reply

@@ -17,7 +17,8 @@ pub enum Event {
         peer: u8,
         frame: Result<Command, FrameFault>,
     },
-    /// Merge the commands that another peer holds.
+    /// Merge the commands that another peer holds. Rejected unless both have one horizon and one
+    /// world there.
     Merge {
         peer: u8,
         other: u8,
@@ -33,6 +34,11 @@ pub enum Event {
     },
     /// Show the world at this tick.
     Show {
+        peer: u8,
+        tick: u32,
+    },
+    /// Make this tick the horizon, and forget what came before it.
+    Seal {
         peer: u8,
         tick: u32,
     },
@@ -52,7 +58,8 @@ impl Event {
             | Event::Merge { peer, .. }
             | Event::Advance { peer, .. }
             | Event::Settle { peer }
-            | Event::Show { peer, .. } => *peer,
+            | Event::Show { peer, .. }
+            | Event::Seal { peer, .. } => *peer,
         }
     }
 
@@ -82,6 +89,8 @@ pub enum Reply {
     Settled { peer: u8, reached: u32 },
     /// The world at this tick.
     Shown { peer: u8, tick: u32, world: World },
+    /// This tick is the horizon.
+    Sealed { peer: u8, tick: u32 },
     /// The event was rejected and changed nothing.
     Refused(Refusal),
 }

@@ -4,13 +4,14 @@ ghost use Rattle.std.specs.Prelude.{◌≡◌, ◌↔◌, ℕ, ◌≤◌, ◌<�
 ghost use Rattle.std.specs.FinMap.{get};
 ghost use Rattle.pf_commands.specs.declared.payload.Command.{Command};
 ghost use Rattle.pf_commands.specs.declared.fault.FrameFault.{FrameFault};
-ghost use Rattle.pf_commands.specs.Merge.{IsCommand, IsCommandMap, put_all};
+ghost use Rattle.pf_commands.specs.Merge.{CommandMap, IsCommand, IsCommandMap, merge, put_all};
 ghost use Rattle.pf_commands.specs.Name.{Name};
 ghost use Rattle.pf_commands.specs.News.{is_change};
 ghost use Rattle.pf_commands.specs.declared.map.Put.{Put};
 ghost use Rattle.pf_step.specs.Simulation.{sim};
 ghost use Rattle.pf_step.specs.World.{World};
 ghost use Rattle.pf_rollback.specs.declared.fault.Refusal.{Refusal};
+ghost use Rattle.pf_rollback.specs.Sealing.{HasSealed};
 ghost use Rattle.pf_peers.specs.declared.event.Event.{Event};
 ghost use Rattle.pf_peers.specs.declared.event.Event.TheVariants.{Merge, Settle, Show, Take};
 ghost use Rattle.pf_peers.specs.declared.event.Reply.TheVariants.{Refused, Shown, Took};
@@ -19,15 +20,18 @@ ghost use Rattle.pf_peers.specs.Session.{Session, peer_at, replies_to, reply_to,
 
 use crate::session::RING;
 
-/// After any list of events, a world that a peer shows at a tick that it has reached is the
-/// simulation from tick zero of the commands that the peer held before and of those that the events
-/// brought to it, put together in whatever order they came.
+/// After any list of events, seals among them, a world that a peer shows is the simulation from
+/// tick zero of the commands that the peer had sealed and held before and of those that the events
+/// brought to it, put together in whatever order they came. It shows each tick from its horizon to
+/// the tick that it has reached. A new peer has sealed nothing, and its horizon is tick 0.
 pub fn shown_worlds_are_simulated()
-    ensures { (s : Session) (events : List Event) (i tick : ℕ) → i < length s.peers
+    ensures { (s : Session) (sealed : CommandMap) (events : List Event) (i tick : ℕ)
+        → i < length s.peers → HasSealed s.scene sealed (peer_at s i)
+        → (peer_at (session_after_all s events) i).horizon ≤ tick
         → tick ≤ (peer_at (session_after_all s events) i).reached
         → reply_to (session_after_all s events) (Show i tick)
-        ≡ Shown i tick
-        (sim s.scene (put_all (peer_at s i).commands (commands_for s i events)) tick) }
+        ≡ Shown i tick (sim s.scene
+        (put_all (merge sealed (peer_at s i).commands) (commands_for s i events)) tick) }
 {}
 
 /// A rejected event changes nothing, and so no later reply.
@@ -45,14 +49,18 @@ pub fn same_commands_same_replies()
 {}
 
 /// Lists of events that bring each peer the same commands, in any order and with any repeats, and
-/// take it to the same tick, are followed by the same replies to all later events, worlds among
-/// them.
+/// take it to the same horizon and the same tick, are followed by the same replies to all later
+/// events, worlds among them.
 pub fn order_and_repeats_do_not_matter()
-    ensures { (s : Session) (events others later : List Event)
-        → ((i : ℕ) → i < length s.peers → IsCommandMap (peer_at s i).commands)
+    ensures { (s : Session) (sealed : ℕ → CommandMap) (events others later : List Event)
+        → ((i : ℕ) → i < length s.peers → HasSealed s.scene (sealed i) (peer_at s i))
+        → ((i : ℕ) → i < length s.peers
+        → IsCommandMap (merge (sealed i) (peer_at s i).commands))
         → ((i : ℕ) → i < length s.peers → All IsCommand (commands_for s i events))
         → ((i : ℕ) → i < length s.peers → (c : Command)
         → Contains (commands_for s i events) c ↔ Contains (commands_for s i others) c)
+        → ((i : ℕ) → i < length s.peers → (peer_at (session_after_all s events) i).horizon
+        ≡ (peer_at (session_after_all s others) i).horizon)
         → ((i : ℕ) → i < length s.peers → (peer_at (session_after_all s events) i).reached
         ≡ (peer_at (session_after_all s others) i).reached)
         → replies_to (session_after_all s events) later
@@ -65,16 +73,20 @@ pub fn settles_change_no_reply()
         → replies_to (session_after s (Settle i)) later ≡ replies_to s later }
 {}
 
-/// Whatever happens in between, a frame that is taken again and a map that is merged again change
-/// no later reply; and the command of a frame that is taken again is no news.
+/// A frame that is taken again changes no later reply, whatever happened in between, and its
+/// command is no news. Nor does a map that is merged again from a peer that has not changed since,
+/// by a peer that had the same horizon and the same world there.
 pub fn repeats_change_no_reply()
     ensures taken { (s : Session) (i : ℕ) (frame : Result Command FrameFault)
         (between later : List Event) → i < length s.peers
         → let t = session_after_all (session_after s (Take i frame)) between in
         replies_to (session_after t (Take i frame)) later ≡ replies_to t later }
     ensures merged { (s : Session) (i j : ℕ) (between later : List Event) → i < length s.peers
+        → (peer_at s i).horizon ≡ (peer_at s j).horizon → (peer_at s i).base ≡ (peer_at s j).base
         → let t = session_after_all (session_after s (Merge i j)) between in
-        (peer_at t j).commands ≡ (peer_at s j).commands
+        (peer_at t j).horizon ≡ (peer_at s j).horizon
+        → (peer_at t j).base ≡ (peer_at s j).base
+        → (peer_at t j).commands ≡ (peer_at s j).commands
         → replies_to (session_after t (Merge i j)) later ≡ replies_to t later }
     ensures no_news { (s : Session) (i : ℕ) (c : Command) (between : List Event) (put : Put)
         → i < length s.peers
@@ -82,19 +94,24 @@ pub fn repeats_change_no_reply()
         reply_to t (Take i (Ok c)) ≡ Took i put → is_change put ≡ false }
 {}
 
-/// Two peers that merge each other's commands hold the same commands. `Session::core` ensures the
-/// premise for each peer of a session.
+/// Two peers that have the same horizon and the same world there, and merge each other's commands,
+/// hold the same commands.
+/// `Session::core` ensures the premise on each peer of a session.
 pub fn merging_both_ways_makes_maps_equal()
     ensures { (s : Session) (i j : ℕ) → i < length s.peers → j < length s.peers
         → IsAllowedPeer s.scene (peer_at s i) → IsAllowedPeer s.scene (peer_at s j)
+        → (peer_at s i).horizon ≡ (peer_at s j).horizon → (peer_at s i).base ≡ (peer_at s j).base
         → let t = session_after (session_after s (Merge i j)) (Merge j i) in
         (peer_at t i).commands ≡ (peer_at t j).commands }
 {}
 
-/// Two peers that hold the same commands show one world at a tick that both have reached.
+/// Two peers that have the same horizon and the same world there, and hold the same commands, show
+/// one world at a tick that is not before the horizon and that both have reached.
 pub fn same_commands_show_one_world()
     ensures { (s : Session) (i j tick : ℕ)
+        → (peer_at s i).horizon ≡ (peer_at s j).horizon → (peer_at s i).base ≡ (peer_at s j).base
         → ((name : Name) → get (peer_at s i).commands name ≡ get (peer_at s j).commands name)
+        → (peer_at s i).horizon ≤ tick
         → tick ≤ (peer_at s i).reached → tick ≤ (peer_at s j).reached
         → (world : World) × (reply_to s (Show i tick) ≡ Shown i tick world)
         × (reply_to s (Show j tick) ≡ Shown j tick world) }

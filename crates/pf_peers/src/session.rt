@@ -6,15 +6,15 @@ ghost use Rattle.pf_peers.specs.Answers.{IsMergeReply, IsReplyOf};
 ghost use Rattle.pf_peers.specs.Crews.{UsesCrew};
 ghost use Rattle.pf_peers.specs.Session.{NeedsNoMemory, other_of, peer_answer, peer_of, reply_and_peer, world_reply};
 ghost use Rattle.pf_peers.specs.declared.event.Event.TheVariants.{Settle};
-ghost use Rattle.pf_peers.specs.declared.event.Reply.TheVariants.{Advanced, Issued, Settled, Took};
+ghost use Rattle.pf_peers.specs.declared.event.Reply.TheVariants.{Advanced, Issued, Sealed, Settled, Took};
 ghost use Rattle.pf_commands.specs.declared.payload.Command.{Command};
 ghost use Rattle.pf_rollback.specs.Core.{PeerCore, missing_count};
 ghost use Rattle.pf_rollback.specs.Kept.{settled_tick};
-ghost use Rattle.pf_rollback.specs.Peer.{IsEmptyBefore, advance, issue, take, world_at};
+ghost use Rattle.pf_rollback.specs.Peer.{IsEmptyBefore, advance, issue, seal, take, world_at};
 ghost use Rattle.pf_rollback.specs.Settling.{AreCalls, FailsAfter};
 
 use crate::event::{Event, Reply};
-use pf_commands::{Command, CommandMap, FrameFault, Payload};
+use pf_commands::{Command, FrameFault, Payload};
 use pf_manifold::{Collider, OneThread};
 use pf_rollback::{Fault, MAX_RING, PeerCore, Refusal};
 use pf_shapes::{PLAYERS, Scene};
@@ -101,11 +101,11 @@ fn take(
     }
 }
 
-/// The reply of a peer to Merge with another one, which holds these commands.
-fn merge(core: &mut PeerCore, peer: u8, other: &CommandMap) -> Result<Reply, AllocError>
-    ensures { IsMergeReply peer other.now core.old core.new result }
+/// The reply of a peer to Merge with another one.
+fn merge(core: &mut PeerCore, peer: u8, other: &PeerCore) -> Result<Reply, AllocError>
+    ensures { IsMergeReply peer other.now.peer core.old core.new result }
 {
-    match core.merge(other) {
+    match core.merge_sealed(&other.sealed()) {
         Ok(count) => Ok(Reply::Merged { peer, count }),
         Err(fault) => refused(fault),
     }
@@ -119,15 +119,15 @@ fn merge_among(cores: &mut [PeerCore], peer: u8, other: u8) -> Result<Reply, All
     ensures { (old others : PeerCore) → slice_get cores.old peer ≡ Some old
         → slice_get cores.old other ≡ Some others → (new : PeerCore)
         × (cores.new ≡ slice_set cores.old peer new)
-        × IsMergeReply peer others.peer.commands old new result }
+        × IsMergeReply peer others.peer old new result }
 {
     let to = usize::from(peer);
     let from = usize::from(other);
     let (low, high) = cores.split_at_mut(to.max(from));
     if to < from {
-        merge(&mut low[to], peer, high[0].commands())
+        merge(&mut low[to], peer, &high[0])
     } else {
-        merge(&mut high[0], peer, low[from].commands())
+        merge(&mut high[0], peer, &low[from])
     }
 }
 
@@ -158,12 +158,14 @@ fn settle<P: Collider, C: Crew>(
     ensures settled { OnOk result (settled_tick core.new.kept ≡ core.old.peer.reached) }
     ensures peer { core.new.peer ≡ core.old.peer }
     ensures scene { core.new.scene ≡ core.old.scene }
-    ensures no_memory { core.old.peer.reached ≡ 0 → IsOk result }
+    ensures no_memory { core.old.peer.reached ≡ core.old.peer.horizon → IsOk result }
     ensures called { OnOk result
         (AreCalls C.is_called core.old (missing_count core.old) crew.old crew.new) }
     ensures failed { IfErr result (λ error.
         FailsAfter C.is_called C.may_fail core.old core.new crew.old error crew.new) }
 {
+    // Its clauses say that the settled tick is not before the horizon: at the horizon none is missing.
+    let _horizon = core.horizon();
     match core.settle_by(collider, alloc, crew) {
         Ok(reached) => Ok(Reply::Settled { peer, reached }),
         Err(error) => Err(error),
@@ -175,10 +177,26 @@ fn show(core: &PeerCore, alloc: Global, peer: u8, tick: u32) -> Result<Reply, Al
     ensures reply { IfOk result (λ reply.
         reply ≡ world_reply peer tick (world_at core.now.scene core.now.peer tick)) }
     ensures rejected { IsErr (world_at core.now.scene core.now.peer tick) → IsOk result }
-    ensures no_memory { IsEmptyBefore core.now.scene core.now.peer.commands tick → IsOk result }
+    ensures no_memory { IsEmptyBefore core.now.peer tick → IsOk result }
 {
     match core.world_at(alloc, tick, &mut Work::new(alloc)) {
         Ok(world) => Ok(Reply::Shown { peer, tick, world }),
+        Err(fault) => refused(fault),
+    }
+}
+
+/// The reply of a peer to Seal.
+fn seal(core: &mut PeerCore, alloc: Global, peer: u8, tick: u32) -> Result<Reply, AllocError>
+    ensures reply { let p = core.old.peer in IfOk result (λ reply. (reply, core.new.peer)
+        ≡ reply_and_peer (λ done. Sealed peer tick) p (seal core.old.scene p tick)) }
+    ensures scene { core.new.scene ≡ core.old.scene }
+    ensures rejected { IsErr (seal core.old.scene core.old.peer tick) → IsOk result }
+    ensures again { tick ≡ core.old.peer.horizon → IsOk result }
+    ensures no_memory { IsEmptyBefore core.old.peer tick → IsOk result }
+    ensures err { OnErr result (core.new.peer ≡ core.old.peer) }
+{
+    match core.seal(alloc, tick) {
+        Ok(()) => Ok(Reply::Sealed { peer, tick }),
         Err(fault) => refused(fault),
     }
 }
@@ -196,12 +214,12 @@ fn answer_alone<P: Collider, C: Crew>(
     requires can { P.can_collide collider.now }
     requires alone { other_of event ≡ peer_of event }
     ensures reply { let p = core.old.peer in IfOk result (λ reply.
-        (reply, core.new.peer) ≡ peer_answer core.old.scene p.commands p event) }
+        (reply, core.new.peer) ≡ peer_answer core.old.scene p p event) }
     ensures settled { (peer : ℕ) → event ≡ Settle peer
         → OnOk result (settled_tick core.new.kept ≡ core.old.peer.reached) }
     ensures scene { core.new.scene ≡ core.old.scene }
     ensures no_memory { let p = core.old.peer in
-        NeedsNoMemory core.old.scene p.commands p event → IsOk result }
+        NeedsNoMemory core.old.scene p p event → IsOk result }
     ensures err { OnErr result (core.new.peer ≡ core.old.peer) }
     ensures crew { UsesCrew C.is_called C.may_fail (λ used. used ≡ core.old) event
         crew.old result crew.new }
@@ -213,6 +231,7 @@ fn answer_alone<P: Collider, C: Crew>(
         Event::Advance { peer, ticks } => Ok(advance(core, peer, ticks)?),
         Event::Settle { peer } => settle(core, collider, alloc, peer, crew),
         Event::Show { peer, tick } => Ok(show(core, alloc, peer, tick)?),
+        Event::Seal { peer, tick } => Ok(seal(core, alloc, peer, tick)?),
     }
 }
 
@@ -220,7 +239,7 @@ impl Session {
     ghost use Rattle.std.specs.Prelude.{◌≡◌, ◌≤◌, ◌<◌, length, IfOk, IsOk, OnErr};
     ghost use Rattle.pf_peers.specs.Crews.{IsCoreAt};
     ghost use Rattle.pf_peers.specs.Laws.{IsAllowedPeer};
-    ghost use Rattle.pf_peers.specs.Session.{IsAmong, NeedsNoMemory, answer, new_session, other_commands, peer_at, peer_of};
+    ghost use Rattle.pf_peers.specs.Session.{IsAmong, NeedsNoMemory, answer, new_session, other_peer_at, peer_at, peer_of};
 
     /// So many peers of the scene, at tick 0 and without commands. Takes no memory for none.
     pub fn new(alloc: Global, scene: Scene, peers: u8) -> Result<Session, AllocError>
@@ -253,6 +272,7 @@ impl Session {
         let core = &self.cores[usize::from(peer)];
         // What these calls ensure is that the commands are allowed and in range.
         let _count = core.commands().len();
+        let _horizon = core.horizon();
         core
     }
 
@@ -269,7 +289,7 @@ impl Session {
         requires { IsAmong (length self.old.peers) event }
         ensures reply { IfOk result (λ reply. (reply, self.new) ≡ answer self.old event) }
         ensures no_memory { let s = self.old in
-            NeedsNoMemory s.scene (other_commands s event) (peer_at s (peer_of event)) event
+            NeedsNoMemory s.scene (other_peer_at s event) (peer_at s (peer_of event)) event
             → IsOk result }
         ensures err { OnErr result (self.new ≡ self.old) }
     {
@@ -294,7 +314,7 @@ impl Session {
         requires among { IsAmong (length self.old.peers) event }
         ensures reply { IfOk result (λ reply. (reply, self.new) ≡ answer self.old event) }
         ensures no_memory { let s = self.old in
-            NeedsNoMemory s.scene (other_commands s event) (peer_at s (peer_of event)) event
+            NeedsNoMemory s.scene (other_peer_at s event) (peer_at s (peer_of event)) event
             → IsOk result }
         ensures err { OnErr result (self.new ≡ self.old) }
         ensures crew { UsesCrew C.is_called C.may_fail (IsCoreAt self.old (peer_of event)) event

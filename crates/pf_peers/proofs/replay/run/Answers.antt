@@ -14,7 +14,7 @@ loop-event-init c =
     let same : c.in_ok-session.session ≡ new_session c.args.scene.now c.args.peers =
     c.in_ok-session.ensures.value ∙ ap (λ (s : Scene). new_session s c.args.peers) c.in_ok-try_clone.ensures.value in (
       rw (c.new-replies.ensures.items, same) refl,
-      ap (λ (s : Session). length s.peers) same ∙ length-map-range_with_len new_peer 0 c.args.peers,
+      ap (λ (s : Session). length s.peers) same ∙ length-map-range_with_len (new_peer c.args.scene.now) 0 c.args.peers,
     )
 
 pub loop-event-preserved : goal.loop-event-preserved

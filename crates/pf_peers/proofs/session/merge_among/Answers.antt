@@ -1,8 +1,6 @@
 use Rattle.std.specs.Prelude.{slice_set}
-use Rattle.std.proofs.Common.{◌≡◌, ◌<◌, ◌++◌, ℕ, length, ap, sym, ◌∙◌, subst, arith}
-use Rattle.pf_commands.specs.Merge.{CommandMap}
-use Rattle.pf_rollback.specs.Core.{PeerCore}
-use Rattle.pf_peers.specs.Answers.{IsMergeReply}
+use Rattle.std.proofs.Common.{◌≡◌, ◌<◌, ◌++◌, ℕ, length, ap, sym, ◌∙◌, arith}
+use Rattle.pf_peers.proofs.Cores.{merged_core}
 use Rattle.pf_peers.proofs.Parts.{front_element, back_element, front_written, back_written}
 use Rattle.pf_peers.proofs.session.merge_among.Goals as goal
 
@@ -18,13 +16,10 @@ returns-then-to-from c = λ old others is_old is_others.
     let core : c.index-low-to.result ≡ old =
     front_element all front back c.args.peer c.index-low-to.result old parts within (rw to at c.index-low-to.is) is_old in
     let other : c.index-high-0.result ≡ others =
-    back_element all front back c.args.other c.index-high-0.result others parts cut c.index-high-0.is is_others in
-    let commands : c.commands.result.now ≡ others.peer.commands = c.commands.ensures.value ∙ ap (λ (x : PeerCore). x.peer.commands) (sym c.index-high-0.is ∙ other) in (
+    back_element all front back c.args.other c.index-high-0.result others parts cut c.index-high-0.is is_others in (
       c.merge.new.core,
       ap (λ (i : ℕ). slice_set front i c.merge.new.core ++ back) to ∙ front_written all front back c.args.peer c.merge.new.core parts within,
-      subst (λ (x : PeerCore). IsMergeReply c.args.peer others.peer.commands x c.merge.new.core c.merge.result) core
-          (subst (λ (m : CommandMap). IsMergeReply c.args.peer m c.index-low-to.result c.merge.new.core c.merge.result) commands
-          (subst (λ (x : PeerCore). IsMergeReply c.args.peer c.commands.result.now x c.merge.new.core c.merge.result) (sym c.index-low-to.is) c.merge.ensures)),
+      merged_core _ _ _ old others _ _ (sym c.index-low-to.is ∙ core) (sym c.index-high-0.is ∙ other) c.merge.ensures,
     )
 
 pub returns-else-to-from : goal.returns-else-to-from
@@ -40,12 +35,8 @@ returns-else-to-from c = λ old others is_old is_others.
     back_element all front back c.args.peer c.index-high-0-else-to-from.result old parts cut c.index-high-0-else-to-from.is is_old in
     let other : c.index-low-from.result ≡ others =
     front_element all front back c.args.other c.index-low-from.result others parts within (rw from at c.index-low-from.is) is_others in
-    let commands : c.commands-else-to-from.result.now ≡ others.peer.commands =
-    c.commands-else-to-from.ensures.value ∙ ap (λ (x : PeerCore). x.peer.commands) (sym c.index-low-from.is ∙ other) in
     let new = c.merge-else-to-from.new.core in (
       new,
       back_written all front back c.args.peer new parts cut,
-      subst (λ (x : PeerCore). IsMergeReply c.args.peer others.peer.commands x new c.merge-else-to-from.result) core
-          (subst (λ (m : CommandMap). IsMergeReply c.args.peer m c.index-high-0-else-to-from.result new c.merge-else-to-from.result) commands
-          (subst (λ (x : PeerCore). IsMergeReply c.args.peer c.commands-else-to-from.result.now x new c.merge-else-to-from.result) (sym c.index-high-0-else-to-from.is) c.merge-else-to-from.ensures)),
+      merged_core _ _ _ old others _ _ (sym c.index-high-0-else-to-from.is ∙ core) (sym c.index-low-from.is ∙ other) c.merge-else-to-from.ensures,
     )

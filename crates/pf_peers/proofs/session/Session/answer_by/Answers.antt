@@ -5,7 +5,7 @@ use Rattle.std.proofs.lemmas.Result.{IfOk-weaker}
 use Rattle.pf_rollback.specs.Core.{PeerCore}
 use Rattle.pf_rollback.specs.Peer.{Peer}
 use Rattle.pf_peers.specs.Crews.{IsCoreAt}
-use Rattle.pf_peers.specs.Session.{NeedsNoMemory, Session, other_commands, other_of, peer_at, peer_of}
+use Rattle.pf_peers.specs.Session.{NeedsNoMemory, Session, other_of, other_peer_at, peer_at, peer_of}
 use Rattle.pf_peers.proofs.Crews.{uses_weaker}
 use Rattle.pf_peers.proofs.Sessions.{AreCoresAfter, core_at, err_anyway, merged_cores, on_err, peer_answer_is, same_peers}
 use Rattle.pf_peers.proofs.session.Session.answer_by.Goals as goal
@@ -46,7 +46,7 @@ invariant_of-self-then-other-peer g c =
 pub returns-in_err-merge_among-clause-no_memory : goal.returns-in_err-merge_among-clause-no_memory
 returns-in_err-merge_among-clause-no_memory g c = λ none.
     let s = c.args.self.now in
-    let needs : NeedsNoMemory s.scene (other_commands s c.args.event) (peer_at s (peer_of c.args.event)) c.args.event → IsOk c.merge_among.result =
+    let needs : NeedsNoMemory s.scene (other_peer_at s c.args.event) (peer_at s (peer_of c.args.event)) c.args.event → IsOk c.merge_among.result =
     rw (← c.self.view_is) (merged_err g c).no_memory in
     let ok : IsOk c.merge_among.result = needs none in
     let bad : false ≡ true = rw c.in_err-merge_among.was at ok in

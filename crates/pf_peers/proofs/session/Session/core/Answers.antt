@@ -1,7 +1,8 @@
-use Rattle.std.proofs.Common.{◌≡◌, ◌∙◌, ap, arith, subst}
+use Rattle.std.proofs.Common.{◌≡◌, ℕ, ◌∙◌, ap, arith, subst}
 use Rattle.std.proofs.lemmas.Grind.{common_steps}
 use Rattle.pf_shapes.specs.Scene.{Scene}
 use Rattle.pf_commands.specs.Merge.{CommandMap, IsCommandMap}
+use Rattle.pf_commands.specs.Ticks.{IsFrom}
 use Rattle.pf_rollback.specs.Core.{AreAllowed}
 use Rattle.pf_rollback.specs.Peer.{Peer}
 use Rattle.pf_peers.specs.Session.{peer_at}
@@ -15,6 +16,8 @@ returns-clause-allowed c =
     let scene : core.scene ≡ s.scene = grind (arith, common_steps) in
     let commands = ap (λ (p : Peer). p.commands) peer in
     record {
+      from = subst (λ (p : Peer). IsFrom p.horizon p.commands) peer
+          (subst (λ (h : ℕ). IsFrom h core.peer.commands) c.horizon-horizon.ensures.value c.horizon-horizon.ensures.from);
       ranges = subst IsCommandMap (c.commands.ensures.value ∙ commands) c.len-count.ensures.range;
       allowed =
           subst (λ (m : CommandMap). AreAllowed s.scene m) commands

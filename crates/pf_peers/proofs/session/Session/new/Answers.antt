@@ -25,6 +25,6 @@ returns c =
     record {
       value = ap with_peers (ap peers_of c.loop-player.invariant
           ∙ peers_of-new_core c.args.scene (range_with_len 0 c.loop-player.player)
-          ∙ ap (λ (n : ℕ). map new_peer (range_with_len 0 n)) all);
+          ∙ ap (λ (n : ℕ). map (new_peer c.args.scene) (range_with_len 0 n)) all);
       no_memory = λ none. refl;
     }
