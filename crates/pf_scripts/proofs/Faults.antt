@@ -4,7 +4,7 @@ use Rattle.std.proofs.lemmas.Grind.{flat_map-append}
 use Rattle.std.proofs.lemmas.List.{drop_more, get_or-map, get_or_default, length-map, take_more}
 use Rattle.std.proofs.lemmas.List.Sums.{sum_by-append}
 use Rattle.std.specs.Prelude.{option_map}
-use Rattle.pf_shapes.specs.Scene.{Scene}
+use Rattle.pf_scripts.specs.Frames.{Setting}
 use Rattle.pf_cache.specs.Meter.{saturating_sum}
 use Rattle.pf_links.specs.Link.{Frame}
 use Rattle.pf_rollback.specs.declared.fault.Refusal.{Refusal}
@@ -15,21 +15,21 @@ use Rattle.pf_scripts.specs.declared.fault.SessionFault.{SessionFault}
 use Rattle.pf_scripts.specs.declared.fault.SessionFault.TheVariants as faults
 
 -- the first frame is refused
-pub frame_fault_here : (s : Scene) (peer place : ℕ) (frame : Frame) (frames : List Frame) (refusal : Refusal) → refusal_of s frame ≡ Some refusal
+pub frame_fault_here : (s : Setting) (peer place : ℕ) (frame : Frame) (frames : List Frame) (refusal : Refusal) → refusal_of s frame ≡ Some refusal
     → frame_fault s peer place (frame ∷ frames) ≡ Some (faults.Frame peer place refusal)
 unfolding frame_fault
 frame_fault_here s peer place frame frames refusal is =
     ap (λ r. first_fault (option_map (faults.Frame peer place) r) (frame_fault s peer (saturating_sum place 1) frames)) is
 
 -- the first frame is taken
-pub frame_fault_later : (s : Scene) (peer place : ℕ) (frame : Frame) (frames : List Frame) → refusal_of s frame ≡ None
+pub frame_fault_later : (s : Setting) (peer place : ℕ) (frame : Frame) (frames : List Frame) → refusal_of s frame ≡ None
     → frame_fault s peer place (frame ∷ frames) ≡ frame_fault s peer (saturating_sum place 1) frames
 unfolding frame_fault
 frame_fault_later s peer place frame frames is =
     ap (λ r. first_fault (option_map (faults.Frame peer place) r) (frame_fault s peer (saturating_sum place 1) frames)) is
 
 -- where a frame is refused alone, it is refused as the first of several
-pub frame_fault_first : (s : Scene) (peer place : ℕ) (frame : Frame) (frames : List Frame) (fault : SessionFault)
+pub frame_fault_first : (s : Setting) (peer place : ℕ) (frame : Frame) (frames : List Frame) (fault : SessionFault)
     → frame_fault s peer place (frame ∷ []) ≡ Some fault → frame_fault s peer place (frame ∷ frames) ≡ Some fault
 unfolding frame_fault
 frame_fault_first s peer place frame frames fault = by (refusal_of s frame)
@@ -40,7 +40,7 @@ frame_fault_first s peer place frame frames fault = by (refusal_of s frame)
     by (Some refusal) same = same
 
 -- no frame is left
-pub frame_fault_end : (s : Scene) (peer place : ℕ) → frame_fault s peer place [] ≡ None
+pub frame_fault_end : (s : Setting) (peer place : ℕ) → frame_fault s peer place [] ≡ None
 unfolding frame_fault
 frame_fault_end s peer place = refl
 
@@ -54,7 +54,7 @@ place_after_later place frame frames = refl
 
 -- ---- the frames of a turn, one after the other
 
-module _ (s : Scene) (player first place : ℕ) (all : List Frame) (n : ℕ) (frame : Frame) (low : n < length all) (at : get_or all n frame ≡ frame) where
+module _ (s : Setting) (player first place : ℕ) (all : List Frame) (n : ℕ) (frame : Frame) (low : n < length all) (at : get_or all n frame ≡ frame) where
   left : drop n all ≡ frame ∷ drop (n + 1) all
   left = drop_more all n frame low ∙ ap (λ f. f ∷ drop (n + 1) all) at
 
@@ -81,11 +81,11 @@ bytes_at frames n v frame low is =
 
 -- ---- the turns of a script
 
-pub script_fault_end : (s : Scene) (peer place reached : ℕ) → script_fault s peer place reached [] ≡ None
+pub script_fault_end : (s : Setting) (peer place reached : ℕ) → script_fault s peer place reached [] ≡ None
 unfolding script_fault
 script_fault_end s peer place reached = refl
 
-module _ (s : Scene) (player first place from reached : ℕ) (script : List Turn) (n : ℕ) (turn : Turn) (low : n < length script) (at : get_or script n turn ≡ turn)
+module _ (s : Setting) (player first place from reached : ℕ) (script : List Turn) (n : ℕ) (turn : Turn) (low : n < length script) (at : get_or script n turn ≡ turn)
     (kept : script_fault s player first from script ≡ script_fault s player place reached (drop n script)) where
   left_turns : drop n script ≡ turn ∷ drop (n + 1) script
   left_turns = drop_more script n turn low ∙ ap (λ t. t ∷ drop (n + 1) script) at

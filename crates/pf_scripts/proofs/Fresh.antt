@@ -4,7 +4,7 @@ use Rattle.std.proofs.lemmas.Grind.{flat_map-append}
 use Rattle.std.proofs.lemmas.List.{append_assoc, drop_all}
 use Rattle.std.proofs.Math.Seq.{drop-append_seam}
 use Rattle.std.specs.List.{AllZip}
-use Rattle.pf_shapes.specs.Scene.{Scene}
+use Rattle.pf_scripts.specs.Frames.{Setting}
 use Rattle.pf_links.specs.Link.{Frame, got}
 use Rattle.pf_links.specs.declared.input.LinkIn.{LinkIn}
 use Rattle.pf_scripts.specs.Frames.{commands_in}
@@ -49,7 +49,7 @@ all_later_then (x ∷ xs) (y ∷ ys) [] p q = absurd q
 all_later_then (x ∷ xs) (y ∷ ys) (z ∷ zs) p q = (later_then x y z p.0 q.0, all_later_then xs ys zs p.1 q.1)
 
 -- the commands that have come since, link by link, and in two parts
-pub commands_then : (s : Scene) (xs ys zs : List LinkIn) → AllZip IsLater xs ys → AllZip IsLater ys zs
+pub commands_then : (s : Setting) (xs ys zs : List LinkIn) → AllZip IsLater xs ys → AllZip IsLater ys zs
     → SameMembers (commands_in s (all_fresh xs ys) ++ commands_in s (all_fresh ys zs)) (commands_in s (all_fresh xs zs))
 commands_then s [] [] [] p q = λ c. (λ has. has, λ has. has)
 commands_then s [] (y ∷ ys) zs p q = absurd p

@@ -11,7 +11,7 @@ use Rattle.pf_links.specs.Link.{Frame, handed}
 use Rattle.pf_links.specs.declared.input.LinkIn.{LinkIn}
 use Rattle.pf_links.specs.declared.output.LinkOut.{LinkOut}
 use Rattle.pf_scripts.specs.Frames.{commands_in}
-use Rattle.pf_scripts.specs.Peer.{IsLater, IsLaterByOne, WereHanded, all_fresh, commands_of, scene_of}
+use Rattle.pf_scripts.specs.Peer.{IsLater, IsLaterByOne, WereHanded, all_fresh, commands_of, setting_of}
 use Rattle.pf_scripts.specs.Play.{HasMoved}
 use Rattle.pf_scripts.specs.declared.peer.Peer.{Peer}
 use Rattle.pf_scripts.proofs.Fresh.{all_fresh_same, all_later_then, commands_then}
@@ -47,10 +47,10 @@ all_later (x ∷ xs) (y ∷ ys) p = (p.0.0, all_later xs ys p.1)
 
 module _ (f g : List Frame) (t u : ℕ) (a b c : Peer) (map : IsCommandMap (commands_of a)) (first : HasMoved f t a b) (second : HasMoved g u b c) where
   -- what came in two parts, and as a whole
-  parts : SameMembers (commands_in (scene_of a) (f ++ all_fresh a.inputs.items b.inputs.items) ++ commands_in (scene_of a) (g ++ all_fresh b.inputs.items c.inputs.items))
-      (commands_in (scene_of a) ((f ++ g) ++ all_fresh a.inputs.items c.inputs.items))
+  parts : SameMembers (commands_in (setting_of a) (f ++ all_fresh a.inputs.items b.inputs.items) ++ commands_in (setting_of a) (g ++ all_fresh b.inputs.items c.inputs.items))
+      (commands_in (setting_of a) ((f ++ g) ++ all_fresh a.inputs.items c.inputs.items))
   parts =
-      let s = scene_of a in
+      let s = setting_of a in
       let ab = all_fresh a.inputs.items b.inputs.items in
       let bc = all_fresh b.inputs.items c.inputs.items in
       let ac = all_fresh a.inputs.items c.inputs.items in
@@ -66,22 +66,23 @@ module _ (f g : List Frame) (t u : ℕ) (a b c : Peer) (map : IsCommandMap (comm
       (commands_then s a.inputs.items b.inputs.items c.inputs.items first.inputs second.inputs))
       (members_refl (cs (f ++ g) ++ cs ac) (cs ((f ++ g) ++ ac)) (sym (split (f ++ g) ac)))))
 
-  both_ranges : All IsCommand (commands_in (scene_of a) (f ++ all_fresh a.inputs.items b.inputs.items) ++ commands_in (scene_of a) (g ++ all_fresh b.inputs.items c.inputs.items))
+  both_ranges : All IsCommand (commands_in (setting_of a) (f ++ all_fresh a.inputs.items b.inputs.items) ++ commands_in (setting_of a) (g ++ all_fresh b.inputs.items c.inputs.items))
   both_ranges =
       all_append IsCommand _ _ first.ranges
-      (subst (λ s. All IsCommand (commands_in s (g ++ all_fresh b.inputs.items c.inputs.items))) first.scene second.ranges)
+      (subst (λ s. All IsCommand (commands_in s (g ++ all_fresh b.inputs.items c.inputs.items))) first.setting second.ranges)
 
   pub moved_then : HasMoved (f ++ g) (t + u) a c
   moved_then =
-      let s = scene_of a in
+      let s = setting_of a in
       let ab = commands_in s (f ++ all_fresh a.inputs.items b.inputs.items) in
       let bc = commands_in s (g ++ all_fresh b.inputs.items c.inputs.items) in
       let ac = commands_in s ((f ++ g) ++ all_fresh a.inputs.items c.inputs.items) in record {
-        scene = second.scene ∙ first.scene;
+        setting = second.setting ∙ first.setting;
+        base = second.base ∙ first.base;
         player = second.player ∙ first.player;
         reached = omega (arith, second.reached, first.reached);
         commands = second.commands
-            ∙ ap₂ (λ m z. put_all m (commands_in z (g ++ all_fresh b.inputs.items c.inputs.items))) first.commands first.scene
+            ∙ ap₂ (λ m z. put_all m (commands_in z (g ++ all_fresh b.inputs.items c.inputs.items))) first.commands first.setting
             ∙ put_all-append (commands_of a) ab bc
             ∙ put_all-same (commands_of a) (ab ++ bc) ac map (λ d has. All-contains IsCommand (ab ++ bc) d both_ranges has) parts;
         ranges = all_members IsCommand (ab ++ bc) ac parts both_ranges;
@@ -93,11 +94,12 @@ module _ (f g : List Frame) (t u : ℕ) (a b c : Peer) (map : IsCommandMap (comm
 pub moved_none : (p : Peer) → HasMoved [] 0 p p
 moved_none p =
     let none = all_fresh_same p.inputs.items in record {
-      scene = refl;
+      setting = refl;
+      base = refl;
       player = refl;
       reached = omega arith;
-      commands = ap (λ fs. put_all (commands_of p) (commands_in (scene_of p) fs)) (sym none);
-      ranges = subst (λ fs. All IsCommand (commands_in (scene_of p) fs)) (sym none) (λ i d low. absurd (omega (arith, low)));
+      commands = ap (λ fs. put_all (commands_of p) (commands_in (setting_of p) fs)) (sym none);
+      ranges = subst (λ fs. All IsCommand (commands_in (setting_of p) fs)) (sym none) (λ i d low. absurd (omega (arith, low)));
       inputs = all_later p.inputs.items p.inputs.items (all_later_same p.inputs.items);
       outputs = all_handed_same p.outputs.items;
     }

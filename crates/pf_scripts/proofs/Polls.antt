@@ -8,25 +8,24 @@ use Rattle.std.proofs.lemmas.List.Sums.{sum_by-append}
 use Rattle.std.specs.List.{AllZip}
 use Rattle.std.specs.Option.{option_to_list}
 use Rattle.std.specs.Prelude.{All, is_some, if◌then◌else◌}
-use Rattle.pf_shapes.specs.Scene.{Scene}
 use Rattle.pf_commands.specs.Merge.{IsCommand, put_all}
 use Rattle.pf_links.specs.Link.{Frame, SameIn, got}
 use Rattle.pf_links.specs.declared.input.LinkIn.{LinkIn}
 use Rattle.pf_rollback.specs.Peer.{Peer}
-use Rattle.pf_scripts.specs.Frames.{AreCounts, commands_in, refusal_of, refused_count, with_frames}
-use Rattle.pf_scripts.specs.Peer.{HasLooked, HasPolled, IsLaterByOne, all_fresh, fresh, kept_of, peer_of, scene_of}
+use Rattle.pf_scripts.specs.Frames.{AreCounts, Setting, commands_in, core_setting, refusal_of, refused_count, with_frames}
+use Rattle.pf_scripts.specs.Peer.{HasLooked, HasPolled, IsLaterByOne, all_fresh, fresh, kept_of, peer_of, setting_of}
 use Rattle.pf_scripts.specs.declared.peer.Peer.{Peer as LinkedPeer}
 use Rattle.pf_scripts.specs.declared.peer.Polled.{Polled}
 use Rattle.pf_scripts.proofs.Fresh.{all_fresh-append, all_fresh_same, fresh_same}
 use Rattle.pf_scripts.proofs.Maps.{all_append, put_all-append}
 
 -- frames that were taken, and more
-pub frames_then : (s : Scene) (p : Peer) (fs gs : List Frame) → with_frames s (with_frames s p fs) gs ≡ with_frames s p (fs ++ gs)
+pub frames_then : (s : Setting) (p : Peer) (fs gs : List Frame) → with_frames s (with_frames s p fs) gs ≡ with_frames s p (fs ++ gs)
 frames_then s p fs gs =
     ap (λ commands. record p { commands = commands })
     (put_all-append p.commands (commands_in s fs) (commands_in s gs) ∙ ap (put_all p.commands) (sym (flat_map-append _ fs gs)))
 
-pub refused_then : (s : Scene) (fs gs : List Frame) → refused_count s (fs ++ gs) ≡ refused_count s fs + refused_count s gs
+pub refused_then : (s : Setting) (fs gs : List Frame) → refused_count s (fs ++ gs) ≡ refused_count s fs + refused_count s gs
 refused_then s fs gs = sum_by-append (λ f. if is_some (refusal_of s f) then 1 else 0) fs gs
 
 -- of links that were not polled nothing was taken
@@ -46,19 +45,19 @@ zip_append R (x ∷ xs) (y ∷ ys) us vs p q = (p.0, zip_append R xs ys us vs p.
 
 -- the kept frame finds no memory again
 pub nothing_polled : (old new : LinkedPeer) (frame : Frame) → new.core ≡ old.core → new.inputs ≡ old.inputs → new.outputs ≡ old.outputs
-    → old.kept ≡ Some frame → new.kept ≡ Some frame → All IsCommand (commands_in (scene_of old) (frame ∷ [])) → HasPolled old new []
+    → old.kept ≡ Some frame → new.kept ≡ Some frame → All IsCommand (commands_in (setting_of old) (frame ∷ [])) → HasPolled old new []
 nothing_polled old new frame core inputs outputs kept again ranges = record {
   peer = ap (λ c. c.peer) core;
-  scene = ap (λ c. c.scene) core;
+  setting = ap core_setting core;
   all = ap option_to_list (again ∙ sym kept)
       ∙ sym (append-nil (kept_of old))
       ∙ ap (λ fs. kept_of old ++ fs) (sym (ap (λ l. all_fresh old.inputs.items l.items) inputs ∙ all_fresh_same old.inputs.items));
-  ranges = subst (λ fs. All IsCommand (commands_in (scene_of old) fs)) (sym (ap option_to_list again)) ranges;
+  ranges = subst (λ fs. All IsCommand (commands_in (setting_of old) fs)) (sym (ap option_to_list again)) ranges;
   inputs = subst (λ l. AllZip IsLaterByOne old.inputs.items l.items) (sym inputs) (all_later_same old.inputs.items);
   outputs = outputs;
 }
 
-module _ (s : Scene) (first : Peer) (start : List Frame) (olds : List LinkIn) where
+module _ (s : Setting) (first : Peer) (start : List Frame) (olds : List LinkIn) where
   abbrev pub taken_by : ℕ → List LinkIn → List Frame
   taken_by k news = start ++ all_fresh (take k olds) (take k news)
 
@@ -179,18 +178,18 @@ module _ (s : Scene) (first : Peer) (start : List Frame) (olds : List LinkIn) wh
 -- a poll that stops at a link, whose frame it keeps
 pub stops : (old now new : LinkedPeer) (k : ℕ) (l : LinkIn) (polled : Polled) (frame : Frame)
     → k < length old.inputs.items
-    → ArePolled (scene_of old) (peer_of old) (kept_of old) old.inputs.items k (peer_of now) now.inputs.items polled
+    → ArePolled (setting_of old) (peer_of old) (kept_of old) old.inputs.items k (peer_of now) now.inputs.items polled
     → IsLaterByOne (get_or old.inputs.items k l) l → fresh (get_or old.inputs.items k l) l ≡ frame ∷ []
-    → scene_of now ≡ scene_of old → now.outputs ≡ old.outputs
+    → setting_of now ≡ setting_of old → now.outputs ≡ old.outputs
     → new.core ≡ now.core → new.inputs.items ≡ set now.inputs.items k l → new.outputs ≡ now.outputs → new.kept ≡ Some frame
-    → All IsCommand (commands_in (scene_of old) (frame ∷ []))
-    → HasPolled old new (taken_by (scene_of old) (peer_of old) (kept_of old) old.inputs.items k now.inputs.items)
-stops old now new k l polled frame low is later came scene outputs core inputs out kept ranges =
-    let s = scene_of old in
+    → All IsCommand (commands_in (setting_of old) (frame ∷ []))
+    → HasPolled old new (taken_by (setting_of old) (peer_of old) (kept_of old) old.inputs.items k now.inputs.items)
+stops old now new k l polled frame low is later came setting outputs core inputs out kept ranges =
+    let s = setting_of old in
     let olds = old.inputs.items in
     let start = kept_of old in record {
       peer = ap (λ c. c.peer) core ∙ is.peer;
-      scene = ap (λ c. c.scene) core ∙ scene;
+      setting = ap core_setting core ∙ setting;
       all = ap (λ fs. taken_by s (peer_of old) start olds k now.inputs.items ++ fs) (ap option_to_list kept)
           ∙ stopped s (peer_of old) start olds k (peer_of now) now.inputs.items l polled frame low is later came
           ∙ ap (λ ls. start ++ all_fresh olds ls) (sym inputs);

@@ -1,11 +1,10 @@
 -- A peer that takes a frame.
-use Rattle.std.proofs.Common.{◌≡◌, [], ◌++◌, None, Some, Result, Ok, Err, ap, refl, subst, sym, ◌∙◌}
+use Rattle.std.proofs.Common.{◌≡◌, zero, suc, arith, Bool, true, false, if◌then◌else◌, nat_lt, ◌∷◌, [], ◌++◌, List, Option, None, Some, Result, Ok, Err, ap, refl, subst, sym, ◌∙◌}
 use Rattle.std.proofs.lemmas.Bool.{true≢false}
 use Rattle.std.specs.FinMap.{get}
-use Rattle.std.specs.Prelude.{IsOk}
-use Rattle.pf_shapes.specs.Scene.{Scene}
+use Rattle.std.specs.Prelude.{All, IsOk}
 use Rattle.pf_commands.specs.Check.{check}
-use Rattle.pf_commands.specs.Merge.{put_all}
+use Rattle.pf_commands.specs.Merge.{IsCommand, put_all}
 use Rattle.pf_commands.specs.News.{put_outcome}
 use Rattle.pf_commands.specs.declared.checking.CheckFault.{CheckFault}
 use Rattle.pf_commands.specs.declared.map.Put.{Put}
@@ -15,55 +14,101 @@ use Rattle.pf_rollback.specs.declared.fault.Fault.{Fault}
 use Rattle.pf_rollback.specs.declared.fault.Fault.TheVariants.{OutOfMemory, Refused}
 use Rattle.pf_rollback.specs.Peer.{Peer, if_allowed as answer_if_allowed, put, with_command}
 use Rattle.pf_rollback.specs.declared.fault.Refusal.{Refusal}
-use Rattle.pf_scripts.specs.Frames.{commands_of_decoded, if_allowed, if_not_allowed, refusal_of_decoded}
+use Rattle.pf_rollback.specs.declared.fault.Refusal.TheVariants.{TooOld}
+use Rattle.pf_scripts.specs.Frames.{Setting, commands_of_decoded, if_allowed, if_not_allowed, refusal_of_decoded}
 
-module _ (s : Scene) (p : Peer) (c : Command) where
+module _ (s : Setting) (p : Peer) (c : Command) (here : p.horizon ≡ s.horizon) where
   -- the peer after a call that was not refused
   abbrev after : Result (Put × Peer) Refusal → Peer
   after (Ok answer) = answer.1
   after (Err refusal) = p
 
-  -- what is put was not refused, and the peer holds it
-  pub taken : (outcome : Put) (q : Peer) → put s p c ≡ Ok (outcome, q)
-      → (refusal_of_decoded s (Ok c) ≡ None) × (q ≡ record p { commands = put_all p.commands (commands_of_decoded s (Ok c) ++ []) })
-  unfolding put
-  taken outcome q = by (check s c.name c.payload)
-    where
-      by : (checked : Result (Unit {0}) CheckFault)
-          → answer_if_allowed {A = Put × Peer} checked (put_outcome (get p.commands c.name) c.payload, with_command p c) ≡ Ok (outcome, q)
-          → (if_not_allowed checked ≡ None) × (q ≡ record p { commands = put_all p.commands (if_allowed checked c ++ []) })
-      by (Ok done) same = (refl, sym (ap after same))
-      by (Err fault) same = absurd cc
+  -- the call on a command that was checked, where `early` is whether it is before the horizon
+  abbrev call : Result (Unit {0}) CheckFault → Bool → Result (Put × Peer) Refusal
+  call checked early =
+      answer_if_allowed {A = Put × Peer} checked
+      (if early then Err (TooOld p.horizon) else Ok (put_outcome (get p.commands c.name) c.payload, with_command p c))
 
-  refused_by : (refusal : Refusal) → put s p c ≡ Err refusal
-      → (refusal_of_decoded s (Ok c) ≡ Some refusal) × (commands_of_decoded s (Ok c) ≡ [])
+  abbrev refusal_at : Result (Unit {0}) CheckFault → Bool → Option Refusal
+  refusal_at checked early = if_not_allowed checked (if early then Some (TooOld s.horizon) else None)
+
+  abbrev commands_at : Result (Unit {0}) CheckFault → Bool → List Command
+  commands_at (Ok done) early = if early then [] else c ∷ []
+  commands_at (Err fault) early = []
+
+  same_commands : (checked : Result (Unit {0}) CheckFault) → commands_at checked (nat_lt c.name.tick s.horizon) ≡ if_allowed checked s.horizon c
+  same_commands (Ok done) = refl
+  same_commands (Err fault) = refl
+
+  -- what is known of each such call is known of the one that is made
+  put_is : (P : Result (Put × Peer) Refusal → Option Refusal → List Command → Type 0)
+      → ((checked : Result (Unit {0}) CheckFault) (early : Bool) → P (call checked early) (refusal_at checked early) (commands_at checked early))
+      → P (put s.scene p c) (refusal_of_decoded s (Ok c)) (commands_of_decoded s (Ok c))
   unfolding put
-  refused_by refusal = by (check s c.name c.payload)
+  put_is P each =
+      let checked = check s.scene c.name c.payload in
+      subst (λ cs. P (call checked (nat_lt c.name.tick p.horizon)) (refusal_at checked (nat_lt c.name.tick s.horizon)) cs) (same_commands checked)
+      (subst (λ h. P (call checked (nat_lt c.name.tick h)) (refusal_at checked (nat_lt c.name.tick s.horizon)) (commands_at checked (nat_lt c.name.tick s.horizon))) (sym here)
+      (each checked (nat_lt c.name.tick s.horizon)))
+
+  -- what is put was not refused, and the peer holds it
+  pub taken : (outcome : Put) (q : Peer) → put s.scene p c ≡ Ok (outcome, q)
+      → (refusal_of_decoded s (Ok c) ≡ None) × (q ≡ record p { commands = put_all p.commands (commands_of_decoded s (Ok c) ++ []) })
+  taken outcome q =
+      put_is (λ r refusal cs. r ≡ Ok (outcome, q) → (refusal ≡ None) × (q ≡ record p { commands = put_all p.commands (cs ++ []) })) by
     where
-      by : (checked : Result (Unit {0}) CheckFault)
-          → answer_if_allowed {A = Put × Peer} checked (put_outcome (get p.commands c.name) c.payload, with_command p c) ≡ Err refusal
-          → (if_not_allowed checked ≡ Some refusal) × (if_allowed checked c ≡ [])
-      by (Ok done) same = absurd cc
-      by (Err fault) same = (cc, refl)
+      by : (checked : Result (Unit {0}) CheckFault) (early : Bool) → call checked early ≡ Ok (outcome, q)
+          → (refusal_at checked early ≡ None) × (q ≡ record p { commands = put_all p.commands (commands_at checked early ++ []) })
+      by (Ok done) false same = (refl, sym (ap after same))
+      by (Ok done) true same = absurd cc
+      by (Err fault) early same = absurd cc
+
+  refused_by : (refusal : Refusal) → put s.scene p c ≡ Err refusal
+      → (refusal_of_decoded s (Ok c) ≡ Some refusal) × (commands_of_decoded s (Ok c) ≡ [])
+  refused_by refusal =
+      put_is (λ r why cs. r ≡ Err refusal → (why ≡ Some refusal) × (cs ≡ [])) by
+    where
+      by : (checked : Result (Unit {0}) CheckFault) (early : Bool) → call checked early ≡ Err refusal
+          → (refusal_at checked early ≡ Some refusal) × (commands_at checked early ≡ [])
+      by (Ok done) false same = absurd cc
+      by (Ok done) true same = (cc, refl)
+      by (Err fault) early same = (cc, refl)
 
   -- what is refused changes nothing
-  pub refused : (refusal : Refusal) (q : Peer) (outcome : Result Put Fault) → outcome ≡ Err (Refused refusal) → Refines outcome p q (put s p c)
+  pub refused : (refusal : Refusal) (q : Peer) (outcome : Result Put Fault) → outcome ≡ Err (Refused refusal) → Refines outcome p q (put s.scene p c)
       → (refusal_of_decoded s (Ok c) ≡ Some refusal) × (q ≡ record p { commands = put_all p.commands (commands_of_decoded s (Ok c) ++ []) })
   refused refusal q outcome is refines =
-      let both : (put s p c ≡ Err refusal) × (q ≡ p) = subst (λ (r : Result Put Fault). Refines r p q (put s p c)) is refines in
+      let both : (put s.scene p c ≡ Err refusal) × (q ≡ p) = subst (λ (r : Result Put Fault). Refines r p q (put s.scene p c)) is refines in
       let nothing = refused_by refusal both.0 in
       (nothing.0, both.1 ∙ ap (λ cs. record p { commands = put_all p.commands (cs ++ []) }) (sym nothing.1))
 
   -- what found no memory was not refused
-  pub not_refused : (q : Peer) (outcome : Result Put Fault) → outcome ≡ Err OutOfMemory → Refines outcome p q (put s p c)
+  pub not_refused : (q : Peer) (outcome : Result Put Fault) → outcome ≡ Err OutOfMemory → Refines outcome p q (put s.scene p c)
       → refusal_of_decoded s (Ok c) ≡ None
-  unfolding put
   not_refused q outcome is refines =
-      let both : IsOk (put s p c) × (q ≡ p) = subst (λ (r : Result Put Fault). Refines r p q (put s p c)) is refines in
-      by (check s c.name c.payload) both.0
+      let both : IsOk (put s.scene p c) × (q ≡ p) = subst (λ (r : Result Put Fault). Refines r p q (put s.scene p c)) is refines in
+      put_is (λ r why cs. IsOk r → why ≡ None) by both.0
     where
-      by : (checked : Result (Unit {0}) CheckFault)
-          → IsOk (answer_if_allowed {A = Put × Peer} checked (put_outcome (get p.commands c.name) c.payload, with_command p c))
-          → if_not_allowed checked ≡ None
-      by (Ok done) ok = refl
-      by (Err fault) ok = absurd (true≢false (sym ok))
+      by : (checked : Result (Unit {0}) CheckFault) (early : Bool) → IsOk (call checked early) → refusal_at checked early ≡ None
+      by (Ok done) false ok = refl
+      by (Ok done) true ok = absurd (true≢false (sym ok))
+      by (Err fault) early ok = absurd (true≢false (sym ok))
+
+-- the commands of what was decoded are in the ranges of their types
+pub decoded_ranges : (s : Setting) (c : Command) → IsCommand c → All IsCommand (commands_of_decoded s (Ok c) ++ [])
+decoded_ranges s c fits = by (check s.scene c.name c.payload)
+  where
+    none : All IsCommand []
+    none i d low = absurd (omega (arith, low))
+
+    one : All IsCommand (c ∷ [])
+    one zero d low = fits
+    one (suc i) d low = absurd (omega (arith, low))
+
+    if_late : (early : Bool) → All IsCommand ((if early then [] else c ∷ []) ++ [])
+    if_late true = none
+    if_late false = one
+
+    by : (checked : Result (Unit {0}) CheckFault) → All IsCommand (if_allowed checked s.horizon c ++ [])
+    by (Ok done) = if_late (nat_lt c.name.tick s.horizon)
+    by (Err fault) = none

@@ -8,14 +8,18 @@ use Rattle.pf_links.specs.Link.{Frame, SameIn, SameOut, got, handed, known}
 use Rattle.pf_links.specs.declared.input.LinkIn.{LinkIn}
 use Rattle.pf_links.specs.declared.output.LinkOut.{LinkOut}
 use Rattle.pf_rollback.specs.Peer.{Peer as Player}
-use Rattle.pf_scripts.specs.Frames.{commands_in, refusal_of, with_frames}
+use Rattle.pf_scripts.specs.Frames.{Setting, commands_in, core_setting, refusal_of, with_frames}
 use Rattle.pf_scripts.specs.declared.peer.Peer.{Peer}
 
 -- the scene that a peer plays
 abbrev pub scene_of : Peer → Scene
 scene_of p = p.core.scene
 
--- its player, commands and reached tick
+-- the scene, and the peer's horizon
+abbrev pub setting_of : Peer → Setting
+setting_of p = core_setting p.core
+
+-- its player, horizon, commands and reached tick
 abbrev pub peer_of : Peer → Player
 peer_of p = p.core.peer
 
@@ -25,7 +29,7 @@ kept_of p = option_to_list p.kept
 
 -- the commands that a peer holds, and the one in the frame that it keeps
 abbrev pub commands_of : Peer → CommandMap
-commands_of p = put_all (peer_of p).commands (commands_in (scene_of p) (kept_of p))
+commands_of p = put_all (peer_of p).commands (commands_in (setting_of p) (kept_of p))
 
 -- ---- what came over links
 
@@ -60,14 +64,14 @@ WereHanded frames old new = SameOut old new × (handed new ≡ handed old ++ fra
 -- A peer has taken these frames: one that it kept, and then, link by link, those that have come.
 -- One more may have come, for which there was no memory: that one it keeps.
 pub record HasPolled (old new : Peer) (frames : List Frame) : Type 0 where
-  pub peer : peer_of new ≡ with_frames (scene_of old) (peer_of old) frames
-  pub scene : scene_of new ≡ scene_of old
+  pub peer : peer_of new ≡ with_frames (setting_of old) (peer_of old) frames
+  pub setting : setting_of new ≡ setting_of old
   pub all : frames ++ kept_of new ≡ kept_of old ++ all_fresh old.inputs.items new.inputs.items
-  pub ranges : All IsCommand (commands_in (scene_of old) (frames ++ kept_of new))
+  pub ranges : All IsCommand (commands_in (setting_of old) (frames ++ kept_of new))
   pub inputs : AllZip IsLaterByOne old.inputs.items new.inputs.items
   pub outputs : new.outputs ≡ old.outputs
 
 -- a peer keeps a frame that it does not refuse
 abbrev pub KeepsFrame : Peer → Type 0
 KeepsFrame p =
-    (frame : Frame) × (p.kept ≡ Some frame) × (refusal_of (scene_of p) frame ≡ None)
+    (frame : Frame) × (p.kept ≡ Some frame) × (refusal_of (setting_of p) frame ≡ None)

@@ -7,7 +7,7 @@ use Rattle.pf_rollback.specs.Kept.{settled_tick}
 use Rattle.pf_step.specs.declared.crew.CrewError.{CrewError}
 use Rattle.pf_step.specs.declared.crew.CrewError.TheVariants.{OutOfMemory, NoThread, GateShut, CrewLost}
 use Rattle.pf_scripts.specs.Frames.{commands_in}
-use Rattle.pf_scripts.specs.Peer.{IsLater, WereHanded, all_fresh, commands_of, peer_of, scene_of}
+use Rattle.pf_scripts.specs.Peer.{IsLater, WereHanded, all_fresh, commands_of, peer_of, setting_of}
 use Rattle.pf_scripts.specs.Script.{frames_of, script_fault, ticks_of}
 use Rattle.pf_scripts.specs.declared.fault.SessionFault.{SessionFault}
 use Rattle.pf_scripts.specs.declared.fault.SessionFault.TheVariants as faults
@@ -17,14 +17,15 @@ use Rattle.pf_scripts.specs.declared.turn.Turn.{Turn}
 -- A peer has taken these frames of its own and those that have come meanwhile, in whatever order.
 -- It has handed its own into all its links, and has gone on by so many ticks.
 pub record HasMoved (own : List Frame) (ticks : ℕ) (old new : Peer) : Type 0 where
-  pub scene : scene_of new ≡ scene_of old
+  pub setting : setting_of new ≡ setting_of old
+  pub base : (peer_of new).base ≡ (peer_of old).base
   pub player : (peer_of new).player ≡ (peer_of old).player
   pub reached : (peer_of new).reached ≡ (peer_of old).reached + ticks
   pub commands : commands_of new
       ≡ put_all (commands_of old)
-      (commands_in (scene_of old) (own ++ all_fresh old.inputs.items new.inputs.items))
+      (commands_in (setting_of old) (own ++ all_fresh old.inputs.items new.inputs.items))
   pub ranges : All IsCommand
-      (commands_in (scene_of old) (own ++ all_fresh old.inputs.items new.inputs.items))
+      (commands_in (setting_of old) (own ++ all_fresh old.inputs.items new.inputs.items))
   pub inputs : AllZip IsLater old.inputs.items new.inputs.items
   pub outputs : AllZip (WereHanded own) old.outputs.items new.outputs.items
 
@@ -33,7 +34,7 @@ pub record HasMoved (own : List Frame) (ticks : ℕ) (old new : Peer) : Type 0 w
 pub record HasPlayed (script : List Turn) (old new : Peer) : Type 0 where
   pub moved : HasMoved (frames_of script) (ticks_of script) old new
   pub no_fault : let p = peer_of old in
-      script_fault (scene_of old) p.player 0 p.reached script ≡ None
+      script_fault (setting_of old) p.player 0 p.reached script ≡ None
   pub done : 0 < length script
       → (new.kept ≡ None) × (settled_tick new.core.kept ≡ (peer_of new).reached)
   pub idle : script ≡ [] → new ≡ old

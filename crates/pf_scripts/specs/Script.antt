@@ -2,11 +2,10 @@
 use Rattle.std.specs.Prelude.{ℕ, ◌+◌, List, [], ◌∷◌, Option, Some, None, Vec, map, nat_le, option_map, sum_by, if◌then◌else◌}
 use Rattle.std.specs.Global.{Global}
 use Rattle.std.specs.List.{flat_map}
-use Rattle.pf_shapes.specs.Scene.{Scene}
 use Rattle.pf_cache.specs.Meter.{saturating_sum}
 use Rattle.pf_commands.specs.declared.name.TheConstants.{MAX_TICK}
 use Rattle.pf_links.specs.Link.{Frame}
-use Rattle.pf_scripts.specs.Frames.{refusal_of}
+use Rattle.pf_scripts.specs.Frames.{Setting, refusal_of}
 use Rattle.pf_scripts.specs.declared.fault.SessionFault.{SessionFault}
 use Rattle.pf_scripts.specs.declared.fault.SessionFault.TheVariants as faults
 use Rattle.pf_scripts.specs.declared.turn.Turn.{Turn}
@@ -32,9 +31,9 @@ abbrev pub first_fault : Option SessionFault → Option SessionFault → Option 
 first_fault (Some fault) later = Some fault
 first_fault None later = later
 
--- the fault of the first of these frames that the peers of the scene refuse, if they refuse one;
+-- the fault of the first of these frames that the peer refuses, if it refuses one;
 -- `place` is the number of the first frame in the script
-unfoldable pub frame_fault : Scene → ℕ → ℕ → List Frame → Option SessionFault
+unfoldable pub frame_fault : Setting → ℕ → ℕ → List Frame → Option SessionFault
 frame_fault s peer place [] = None
 frame_fault s peer place (frame ∷ frames) =
     first_fault (option_map (faults.Frame peer place) (refusal_of s frame))
@@ -51,12 +50,12 @@ place_after place [] = place
 place_after place (frame ∷ frames) = place_after (saturating_sum place 1) frames
 
 -- the first fault of a turn of a peer that has reached this tick
-abbrev pub turn_fault : Scene → ℕ → ℕ → ℕ → Turn → Option SessionFault
+abbrev pub turn_fault : Setting → ℕ → ℕ → ℕ → Turn → Option SessionFault
 turn_fault s peer place reached turn =
     first_fault (frame_fault s peer place (frames_in turn)) (tick_fault peer reached turn.ticks)
 
 -- the first fault of a script, turn by turn
-unfoldable pub script_fault : Scene → ℕ → ℕ → ℕ → List Turn → Option SessionFault
+unfoldable pub script_fault : Setting → ℕ → ℕ → ℕ → List Turn → Option SessionFault
 script_fault s peer place reached [] = None
 script_fault s peer place reached (turn ∷ turns) =
     first_fault (turn_fault s peer place reached turn)

@@ -3,7 +3,7 @@
 ghost use Rattle.std.specs.Prelude.{All};
 ghost use Rattle.std.specs.Option.{option_to_list};
 ghost use Rattle.pf_commands.specs.Merge.{IsCommand};
-ghost use Rattle.pf_scripts.specs.Frames.{commands_in};
+ghost use Rattle.pf_scripts.specs.Frames.{commands_in, core_setting};
 
 use crate::taking::take;
 use pf_commands::FRAME_LEN;
@@ -11,8 +11,9 @@ use pf_links::{LinkIn, LinkOut};
 use pf_rollback::PeerCore;
 use std::alloc::AllocError;
 
-/// A peer with the ends of its links to other peers of the same scene. It waits for none of them. It
-/// takes frames of any player, its own script's too: what a player may do, the scene says.
+/// A peer with the ends of its links to other peers of the same scene. It waits for none of them.
+/// It takes frames of any player, its own script's too: what a player may do, the scene says.
+/// Frames for ticks before the core's horizon are refused.
 #[derive(Drop)]
 pub struct Peer {
     pub(crate) core: PeerCore,
@@ -20,7 +21,7 @@ pub struct Peer {
     pub(crate) inputs: Vec<LinkIn>,
     /// A frame that has come, and for which there was no memory.
     pub(crate) kept: Option<[u8; FRAME_LEN]>,
-    ghost ranges: { All IsCommand (commands_in core.scene (option_to_list kept)) },
+    ghost ranges: { All IsCommand (commands_in (core_setting core) (option_to_list kept)) },
 }
 
 /// What a poll found: how many frames the peer has taken, and how many of these it refused.
@@ -36,7 +37,7 @@ impl Peer {
     ghost use Rattle.pf_links.specs.Link.{Frame};
     ghost use Rattle.std.specs.List.{AllZip};
     ghost use Rattle.pf_scripts.specs.Frames.{AreCounts, commands_in, refusal_of, refused_count, with_frames};
-    ghost use Rattle.pf_scripts.specs.Peer.{HasLooked, HasPolled, KeepsFrame, peer_of, scene_of};
+    ghost use Rattle.pf_scripts.specs.Peer.{HasLooked, HasPolled, KeepsFrame, peer_of, setting_of};
 
     /// A peer with its links.
     pub fn new(core: PeerCore, outputs: Vec<LinkOut>, inputs: Vec<LinkIn>) -> Peer
@@ -66,14 +67,14 @@ impl Peer {
     ) -> Result<(), AllocError>
         requires { (polled.old.taken < 2 ^ 63) × (polled.old.refused < 2 ^ 63) }
         ensures peer { OnOk result (peer_of self.new
-            ≡ with_frames (scene_of self.old) (peer_of self.old) (frame ∷ [])) }
-        ensures scene { scene_of self.new ≡ scene_of self.old }
-        ensures ranges { All IsCommand (commands_in (scene_of self.old) (frame ∷ [])) }
+            ≡ with_frames (setting_of self.old) (peer_of self.old) (frame ∷ [])) }
+        ensures setting { setting_of self.new ≡ setting_of self.old }
+        ensures ranges { All IsCommand (commands_in (setting_of self.old) (frame ∷ [])) }
         ensures kept { OnOk result (self.new.kept ≡ None) }
         ensures taken { OnOk result (polled.new.taken ≡ polled.old.taken + 1) }
-        ensures refused { let refused = refused_count (scene_of self.old) (frame ∷ []) in
+        ensures refused { let refused = refused_count (setting_of self.old) (frame ∷ []) in
             OnOk result (polled.new.refused ≡ polled.old.refused + refused) }
-        ensures memory { OnErr result (refusal_of (scene_of self.old) frame ≡ None) }
+        ensures memory { OnErr result (refusal_of (setting_of self.old) frame ≡ None) }
         ensures err { OnErr result (self.new.core ≡ self.old.core) }
         ensures again { OnErr result (self.new.kept ≡ Some frame) }
         ensures inputs { self.new.inputs ≡ self.old.inputs }
@@ -99,7 +100,7 @@ impl Peer {
     /// nobody.
     pub fn poll(&mut self) -> Result<Polled, AllocError>
         ensures polled { (frames : List Frame) × HasPolled self.old self.new frames
-            × IfOk result (AreCounts (scene_of self.old) frames) }
+            × IfOk result (AreCounts (setting_of self.old) frames) }
         ensures looked { OnOk result (AllZip HasLooked self.old.inputs.items self.new.inputs.items) }
         ensures ok { OnOk result (self.new.kept ≡ None) }
         ensures err { OnErr result (KeepsFrame self.new) }
@@ -120,8 +121,8 @@ impl Peer {
         Ok(polled)
     }
 
-    /// All that the peer holds: its core, the ends of its links, and the frame that it keeps, if there
-    /// is one. A peer made of the other three does not keep that.
+    /// All that the peer holds: its core, the ends of its links, and the frame that it keeps, if
+    /// there is one. A peer made of the other three does not keep that.
     pub fn into_parts(self) -> (PeerCore, Vec<LinkOut>, Vec<LinkIn>, Option<[u8; FRAME_LEN]>)
         ensures { (result.0 ≡ self.core) × (result.1 ≡ self.outputs) × (result.2 ≡ self.inputs)
             × (result.3 ≡ self.kept) }

@@ -37,7 +37,7 @@ impl Peer {
     ghost use Rattle.pf_rollback.specs.Kept.{settled_tick};
     ghost use Rattle.pf_step.specs.declared.crew.CrewError.TheVariants.{GateShut, OutOfMemory};
     ghost use Rattle.pf_scripts.specs.Frames.{commands_in, refusal_of};
-    ghost use Rattle.pf_scripts.specs.Peer.{commands_of, kept_of, peer_of, scene_of};
+    ghost use Rattle.pf_scripts.specs.Peer.{commands_of, kept_of, peer_of, setting_of};
     ghost use Rattle.pf_scripts.specs.Play.{HasMoved, HasPlayed, IsPeerFault, IsPlayError};
     ghost use Rattle.pf_peers.specs.Crews.{CanFail};
     ghost use Rattle.pf_scripts.specs.Script.{bytes_of, frame_fault, frames_in, place_after, script_fault, tick_fault, turn_fault};
@@ -47,7 +47,7 @@ impl Peer {
     fn in_range(&self)
         ensures core { IsCommandMap (peer_of self.now).commands }
         ensures all { IsCommandMap (commands_of self.now) }
-        ensures kept { All IsCommand (commands_in (scene_of self.now) (kept_of self.now)) }
+        ensures kept { All IsCommand (commands_in (setting_of self.now) (kept_of self.now)) }
     {
         let _count = self.core.commands().len();
     }
@@ -55,10 +55,10 @@ impl Peer {
     /// Takes a frame of the peer's own script, and hands it to all others.
     fn take_own(&mut self, place: usize, frame: &[u8]) -> Result<(), SessionFault>
         ensures moved { OnOk result (HasMoved (frame.now ∷ []) 0 self.old self.new) }
-        ensures no_fault { OnOk result (refusal_of (scene_of self.old) frame.now ≡ None) }
+        ensures no_fault { OnOk result (refusal_of (setting_of self.old) frame.now ≡ None) }
         ensures fault { let p = peer_of self.old in IfErr result (λ fault.
             IsPeerFault (λ error. error ≡ OutOfMemory) p.player fault
-            ⊎ (frame_fault (scene_of self.old) p.player place (frame.now ∷ []) ≡ Some fault)) }
+            ⊎ (frame_fault (setting_of self.old) p.player place (frame.now ∷ []) ≡ Some fault)) }
     {
         self.in_range();
         let player = self.core.player();
@@ -76,16 +76,16 @@ impl Peer {
         }
     }
 
-    /// Takes the frames of a turn. `place` is the number of the first one in the script; returns the
-    /// number behind the last one.
+    /// Takes the frames of a turn. `place` is the number of the first one in the script; returns
+    /// the number behind the last one.
     fn take_all_own(&mut self, place: usize, frames: &[Vec<u8>]) -> Result<usize, SessionFault>
         ensures moved { OnOk result (HasMoved (bytes_of frames.now) 0 self.old self.new) }
         ensures place { IfOk result (λ after. after ≡ place_after place (bytes_of frames.now)) }
         ensures no_fault { let p = peer_of self.old in OnOk result
-            (frame_fault (scene_of self.old) p.player place (bytes_of frames.now) ≡ None) }
+            (frame_fault (setting_of self.old) p.player place (bytes_of frames.now) ≡ None) }
         ensures fault { let p = peer_of self.old in IfErr result (λ fault.
             IsPeerFault (λ error. error ≡ OutOfMemory) p.player fault
-            ⊎ (frame_fault (scene_of self.old) p.player place (bytes_of frames.now) ≡ Some fault)) }
+            ⊎ (frame_fault (setting_of self.old) p.player place (bytes_of frames.now) ≡ Some fault)) }
     {
         self.in_range();
         let mut place = place;
@@ -174,10 +174,10 @@ impl Peer {
             (settled_tick self.new.core.kept ≡ (peer_of self.new).reached) }
         ensures place { IfOk result (λ after. after ≡ place_after place (frames_in turn.now)) }
         ensures no_fault { let p = peer_of self.old in OnOk result
-            (turn_fault (scene_of self.old) p.player place p.reached turn.now ≡ None) }
+            (turn_fault (setting_of self.old) p.player place p.reached turn.now ≡ None) }
         ensures fault { let p = peer_of self.old in IfErr result (λ fault.
             IsPeerFault (λ error. (error ≡ OutOfMemory) ⊎ CanFail C.may_fail error) p.player fault
-            ⊎ (turn_fault (scene_of self.old) p.player place p.reached turn.now ≡ Some fault)) }
+            ⊎ (turn_fault (setting_of self.old) p.player place p.reached turn.now ≡ Some fault)) }
     {
         self.in_range();
         let place = self.take_all_own(place, &turn.frames)?;
@@ -201,7 +201,7 @@ impl Peer {
         ensures fault { let p = peer_of self in IfErr result (λ fault.
             IsPeerFault (λ error. ((error ≡ OutOfMemory) ⊎ CanFail C.may_fail error)
             ⊎ ((error ≡ GateShut) × (G.ALWAYS ≡ false))) p.player fault
-            ⊎ (script_fault (scene_of self) p.player 0 p.reached script.now ≡ Some fault)) }
+            ⊎ (script_fault (setting_of self) p.player 0 p.reached script.now ≡ Some fault)) }
     {
         self.in_range();
         let mut peer = self;
@@ -216,15 +216,16 @@ impl Peer {
         Ok(peer)
     }
 
-    /// Plays a script. In each turn the peer passes the gate, with its player as the worker's number,
-    /// takes its own frames and hands each to all others, polls until a poll finds no frame, or
-    /// [`MAX_POLLS`] times, goes on by some ticks, and settles. With a crew, so many threads settle
-    /// the ticks: they are started first, pass an open gate, and are closed at the end.
+    /// Plays a script. In each turn the peer passes the gate, with its player as the worker's
+    /// number, takes its own frames and hands each to all others, polls until a poll finds no
+    /// frame, or [`MAX_POLLS`] times, goes on by some ticks, and settles. With a crew, so many
+    /// threads settle the ticks: they are started first, pass an open gate, and are closed at the
+    /// end.
     ///
     /// Returns the first fault that it meets, of the script or of the peer; then the peer is gone,
-    /// with all that it has taken. It waits for its gate and its crew, and for no other peer. Frames
-    /// for which a ring had no room go on when more are handed in; what is left at the end, the
-    /// peer's links hold.
+    /// with all that it has taken. It waits for its gate and its crew, and for no other peer.
+    /// Frames for which a ring had no room go on when more are handed in; what is left at the end,
+    /// the peer's links hold.
     pub fn play<R, G>(
         self,
         rt: R,
@@ -240,7 +241,7 @@ impl Peer {
         ensures played { IfOk result (HasPlayed script.now self) }
         ensures fault { let p = peer_of self in IfErr result (λ fault.
             IsPeerFault (IsPlayError G.ALWAYS crew) p.player fault
-            ⊎ (script_fault (scene_of self) p.player 0 p.reached script.now ≡ Some fault)) }
+            ⊎ (script_fault (setting_of self) p.player 0 p.reached script.now ≡ Some fault)) }
     {
         let Some(workers) = crew else {
             return self.play_by(&OneThread, alloc, script, &mut OneThread, gate);

@@ -5,7 +5,7 @@ use Rattle.std.specs.Prelude.{◌⊎◌, IfErr, IsTrue}
 use Rattle.pf_peers.specs.Crews.{CanFail}
 use Rattle.pf_step.specs.declared.crew.CrewError.{CrewError}
 use Rattle.pf_step.specs.declared.crew.CrewError.TheVariants.{GateShut, OutOfMemory}
-use Rattle.pf_scripts.specs.Peer.{peer_of, scene_of}
+use Rattle.pf_scripts.specs.Peer.{peer_of, setting_of}
 use Rattle.pf_scripts.specs.Play.{HasMoved, IsPeerFault}
 use Rattle.pf_scripts.specs.Script.{frames_in, frames_of, script_fault, ticks_of, turn_fault}
 use Rattle.pf_scripts.specs.declared.fault.SessionFault.TheVariants as faults
@@ -34,7 +34,7 @@ returns-then-not-pass-clause-fault g c =
 pub returns-in_err-place-clause-fault : goal.returns-in_err-place-clause-fault
 returns-in_err-place-clause-fault g c =
     let first = c.args.self in
-    let s = scene_of first in
+    let s = setting_of first in
     let p = peer_of first in
     let script = c.args.script.now in
     let n = c.loop-number.number in
@@ -49,13 +49,13 @@ returns-in_err-place-clause-fault g c =
     subst (λ r. IfErr r (λ f. IsPeerFault MayBe p.player f ⊎ (script_fault s p.player 0 p.reached script ≡ Some f))) (sym outcome)
     (⊎_elim (λ own. inl (own.0, inl own.1, own.2 ∙ ap (λ player. faults.Peer player own.0) is.moved.player))
     (λ own. inr (turn_fault_here s p.player 0 c.loop-number.place p.reached (peer_of c.loop-number.peer).reached script n turn low at is.fault fault
-    (ap₂ (λ z player. turn_fault z player c.loop-number.place (peer_of c.loop-number.peer).reached turn) (sym is.moved.scene) (sym is.moved.player) ∙ own)))
+    (ap₂ (λ z player. turn_fault z player c.loop-number.place (peer_of c.loop-number.peer).reached turn) (sym is.moved.setting) (sym is.moved.player) ∙ own)))
     c.in_err-place.ensures.fault)
 
 pub loop-number-preserved : goal.loop-number-preserved
 loop-number-preserved g c =
     let first = c.args.self in
-    let s = scene_of first in
+    let s = setting_of first in
     let p = peer_of first in
     let script = c.args.script.now in
     let n = c.loop-number.number in
@@ -67,7 +67,7 @@ loop-number-preserved g c =
     let at : get_or script n turn ≡ turn = search rules in
     let ok = c.in_ok-place.ensures in
     let none : turn_fault s p.player c.loop-number.place (peer_of now).reached turn ≡ None =
-    ap₂ (λ z player. turn_fault z player c.loop-number.place (peer_of now).reached turn) (sym is.moved.scene) (sym is.moved.player) ∙ ok.no_fault in record {
+    ap₂ (λ z player. turn_fault z player c.loop-number.place (peer_of now).reached turn) (sym is.moved.setting) (sym is.moved.player) ∙ ok.no_fault in record {
       moved = subst (λ t. HasMoved (frames_of (take (n + 1) script)) t first new) (sym (ticks_more script n turn low at))
           (subst (λ fs. HasMoved fs (ticks_of (take n script) + turn.ticks) first new) (sym (frames_more script n turn low at))
           (moved_then (frames_of (take n script)) (frames_in turn) (ticks_of (take n script)) turn.ticks first now new c.in_range.ensures.all is.moved ok.moved));
@@ -80,7 +80,7 @@ loop-number-preserved g c =
 pub returns-clause-played : goal.returns-clause-played
 returns-clause-played g c =
     let first = c.args.self in
-    let s = scene_of first in
+    let s = setting_of first in
     let p = peer_of first in
     let script = c.args.script.now in
     let n = c.loop-number.number in

@@ -6,7 +6,7 @@ use Rattle.std.specs.Prelude.{IsSome, All, ◌<◌}
 use Rattle.pf_commands.specs.Merge.{IsCommand}
 use Rattle.pf_links.specs.Link.{SameIn, got, known}
 use Rattle.pf_scripts.specs.Frames.{commands_in, refused_count, with_frames}
-use Rattle.pf_scripts.specs.Peer.{kept_of, peer_of, scene_of}
+use Rattle.pf_scripts.specs.Peer.{kept_of, peer_of, setting_of}
 use Rattle.pf_scripts.proofs.Polls.{ArePolled, later_none, later_one, nothing_polled, polled_more, polled_none, same_at, stops}
 use Rattle.pf_scripts.proofs.peer.Peer.poll.Goals as goal
 use Rattle.pf_scripts.proofs.peer.Peer.poll.Goals.{in-Some+in_ok-take_or_keep, in-Some-look+in_ok-take_or_keep-2, in_default, in_default-look}
@@ -19,7 +19,7 @@ returns-in_err-take_or_keep-clause-polled c =
 pub loop-number-init : goal.loop-number-init
 loop-number-init c =
     let old = c.args.self.now in
-    let s = scene_of old in
+    let s = setting_of old in
     let olds = old.inputs.items in
     elim c.match-self.branch [
       | in-Some+in_ok-take_or_keep w ↦
@@ -34,7 +34,7 @@ loop-number-init c =
                 (omega (arith, e.refused, ap (refused_count s) start))
                 (omega (arith, ap length start))
                 (subst (λ fs. All IsCommand (commands_in s fs)) (sym start) e.ranges));
-            scene = e.scene;
+            setting = e.setting;
             kept = e.kept;
             outputs = e.outputs;
           })
@@ -47,7 +47,7 @@ loop-number-init c =
                 (sym (ap (refused_count s) start))
                 (omega (arith, ap length start))
                 (subst (λ fs. All IsCommand (commands_in s fs)) (sym start) (λ i d low. absurd (omega (arith, low))));
-            scene = refl;
+            setting = refl;
             kept = w.in_default.is;
             outputs = refl;
           })
@@ -66,21 +66,21 @@ returns-in_err-take_or_keep-2-clause-polled c =
     let low : k < length olds = omega (arith, c.loop-number-test.true, many) in
     let at : c.index_mut.result.now ≡ get_or olds k l =
     c.index_mut.ensures.value ∙ get_or_default news k _ l (omega (arith, low, is.polled.long))
-    ∙ same_at (scene_of old) (peer_of old) (kept_of old) olds k news l low is.polled.long is.polled.rest in
+    ∙ same_at (setting_of old) (peer_of old) (kept_of old) olds k news l low is.polled.long is.polled.rest in
     let later = later_one (get_or olds k l) l c.in-Some-look.frame (subst (λ x. SameIn x l) at c.look.ensures.same)
     (subst (λ x. got l ≡ got x ++ c.in-Some-look.frame ∷ []) at c.in-Some-look.ensures.some) in
     let e = c.in_err-take_or_keep-2.ensures in
     let inputs : c.take_or_keep-in-Some-look.new.self.inputs.items ≡ set news k l = search rules in (
       _,
       stops old now c.take_or_keep-in-Some-look.new.self k l c.loop-number.polled c.in-Some-look.frame low is.polled later.0 later.1
-          is.scene is.outputs (search rules) inputs (search rules) e.again (subst (λ z. All IsCommand (commands_in z (c.in-Some-look.frame ∷ []))) is.scene e.ranges),
+          is.setting is.outputs (search rules) inputs (search rules) e.again (subst (λ z. All IsCommand (commands_in z (c.in-Some-look.frame ∷ []))) is.setting e.ranges),
       search rules,
     )
 
 pub loop-number-preserved : goal.loop-number-preserved
 loop-number-preserved c =
     let old = c.args.self.now in
-    let s = scene_of old in
+    let s = setting_of old in
     let many : c.len-links.result ≡ length old.inputs.items = search rules in
     let now = c.loop-number.self in
     let is = c.loop-number.invariant in
@@ -107,11 +107,11 @@ loop-number-preserved c =
             polled = subst (λ ls. ArePolled s (peer_of old) (kept_of old) olds (k + 1) (peer_of new) ls counted) inputs
                 (polled_more s (peer_of old) (kept_of old) olds k (peer_of now) (peer_of new) news l c.loop-number.polled counted low is.polled later.0
                 (λ some. ap length later.1)
-                (e.peer ∙ ap₂ (λ z fs. with_frames z (peer_of now) fs) is.scene came)
+                (e.peer ∙ ap₂ (λ z fs. with_frames z (peer_of now) fs) is.setting came)
                 (omega (arith, e.taken, ap length later.1))
-                (e.refused ∙ ap₂ (λ z fs. c.loop-number.polled.refused + refused_count z fs) is.scene came)
-                (subst (λ fs. All IsCommand (commands_in s fs)) came (subst (λ z. All IsCommand (commands_in z (frame ∷ []))) is.scene e.ranges)));
-            scene = e.scene ∙ is.scene;
+                (e.refused ∙ ap₂ (λ z fs. c.loop-number.polled.refused + refused_count z fs) is.setting came)
+                (subst (λ fs. All IsCommand (commands_in s fs)) came (subst (λ z. All IsCommand (commands_in z (frame ∷ []))) is.setting e.ranges)));
+            setting = e.setting ∙ is.setting;
             kept = e.kept;
             outputs = e.outputs ∙ is.outputs;
           })
@@ -125,7 +125,7 @@ loop-number-preserved c =
                 (omega (arith, ap length later.1))
                 (omega (arith, ap (refused_count s) later.1))
                 (subst (λ fs. All IsCommand (commands_in s fs)) came (λ i d none. absurd (omega (arith, none))));
-            scene = is.scene;
+            setting = is.setting;
             kept = is.kept;
             outputs = is.outputs;
           })

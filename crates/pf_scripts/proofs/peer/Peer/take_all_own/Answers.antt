@@ -4,7 +4,7 @@ use Rattle.std.proofs.lemmas.Result.{err_from_is_err_and}
 use Rattle.std.specs.Prelude.{◌⊎◌, IfErr}
 use Rattle.pf_step.specs.declared.crew.CrewError.TheVariants.{OutOfMemory}
 use Rattle.pf_scripts.specs.Frames.{refusal_of}
-use Rattle.pf_scripts.specs.Peer.{peer_of, scene_of}
+use Rattle.pf_scripts.specs.Peer.{peer_of, setting_of}
 use Rattle.pf_scripts.specs.Play.{HasMoved, IsPeerFault}
 use Rattle.pf_scripts.specs.Script.{bytes_of, frame_fault, place_after}
 use Rattle.pf_scripts.proofs.Faults.{bytes_at, fault_here, fault_later, frame_fault_end, place_after_end, place_later}
@@ -16,7 +16,7 @@ loop-number-init c = record { moved = moved_none c.args.self.now; place = refl; 
 
 pub returns-in_err-take_own-clause-fault : goal.returns-in_err-take_own-clause-fault
 returns-in_err-take_own-clause-fault c =
-    let s = scene_of c.args.self.now in
+    let s = setting_of c.args.self.now in
     let player = (peer_of c.args.self.now).player in
     let all = bytes_of c.args.frames.now in
     let n = c.loop-number.number in
@@ -33,12 +33,12 @@ returns-in_err-take_own-clause-fault c =
     subst (λ r. IfErr r (λ f. IsPeerFault (λ e. e ≡ OutOfMemory) player f ⊎ (frame_fault s player c.args.place all ≡ Some f))) (sym outcome)
     (⊎_elim (λ memory. inl (subst (λ p. IsPeerFault (λ e. e ≡ OutOfMemory) p fault) is.moved.player memory))
     (λ refused. inr (fault_here s player c.args.place c.loop-number.place all n frame low at fault is.fault
-    (ap₂ (λ z p. frame_fault z p c.loop-number.place (frame ∷ [])) (sym is.moved.scene) (sym is.moved.player) ∙ refused)))
+    (ap₂ (λ z p. frame_fault z p c.loop-number.place (frame ∷ [])) (sym is.moved.setting) (sym is.moved.player) ∙ refused)))
     c.in_err-take_own.ensures.fault)
 
 pub loop-number-preserved : goal.loop-number-preserved
 loop-number-preserved c =
-    let s = scene_of c.args.self.now in
+    let s = setting_of c.args.self.now in
     let player = (peer_of c.args.self.now).player in
     let all = bytes_of c.args.frames.now in
     let n = c.loop-number.number in
@@ -49,7 +49,7 @@ loop-number-preserved c =
     let v = c.index-frames-number.result in
     let here : get_or c.args.frames.now n v ≡ v = search rules in
     let at = bytes_at c.args.frames.now n v frame few (c.deref.ensures.value ∙ ap (λ (f : Vec ℕ Global). f.items) (sym here)) in
-    let none : refusal_of s frame ≡ None = ap (λ z. refusal_of z frame) (sym is.moved.scene) ∙ c.in_ok-take_own.ensures.no_fault in
+    let none : refusal_of s frame ≡ None = ap (λ z. refusal_of z frame) (sym is.moved.setting) ∙ c.in_ok-take_own.ensures.no_fault in
     let next = sym c.saturating_add-place.ensures in record {
       moved = subst (λ fs. HasMoved fs 0 c.args.self.now c.take_own.new.self) (ap (λ f. take n all ++ f ∷ []) (sym at) ∙ sym (take_more all n frame low))
           (moved_then (take n all) (frame ∷ []) 0 0 c.args.self.now c.loop-number.self c.take_own.new.self c.in_range.ensures.all is.moved c.in_ok-take_own.ensures.moved);
@@ -69,7 +69,7 @@ returns-clause-place c =
 
 pub returns-clause-no_fault : goal.returns-clause-no_fault
 returns-clause-no_fault c =
-    let s = scene_of c.args.self.now in
+    let s = setting_of c.args.self.now in
     let player = (peer_of c.args.self.now).player in
     let all = bytes_of c.args.frames.now in
     let over : length c.args.frames.now ≤ c.loop-number.number = search rules in
