@@ -1,5 +1,5 @@
 -- The end of a session, step by step.
-use Rattle.std.proofs.Common.{◌≡◌, ◌∙◌, List, [], ◌∷◌, Vec, ap, length, map, refl, subst, sym}
+use Rattle.std.proofs.Common.{◌≡◌, ◌∙◌, List, [], ◌∷◌, Vec, ap, arith, length, map, refl, subst, sym}
 use Rattle.std.proofs.lemmas.List.{length-map}
 use Rattle.std.specs.Global.{Global}
 use Rattle.std.specs.List.{AllZip}
@@ -10,7 +10,7 @@ use Rattle.pf_links.specs.declared.output.LinkOut.{LinkOut}
 use Rattle.pf_rollback.specs.Core.{PeerCore}
 use Rattle.pf_scripts.specs.declared.peer.Peer.{Peer}
 use Rattle.pf_step.specs.World.{World}
-use Rattle.pf_sessions.specs.Ending.{AllFinished, AreEnded, ShowsLast, inputs_in, receiver_of}
+use Rattle.pf_sessions.specs.Ending.{AllFinished, AreEnded, AreFinished, HasFinished, ShowsLast, inputs_in, receiver_of}
 use Rattle.pf_sessions.specs.Links.{AreLinked, IsDelivered, inputs_of, outputs_of, rows_of}
 use Rattle.pf_sessions.specs.Rest.{KeepsHanded}
 use Rattle.pf_sessions.specs.Table.{IsTable, transpose}
@@ -77,3 +77,35 @@ module _ (peers : List Peer) (linked : AreLinked AreEnds (outputs_of peers) (inp
 -- a receiver by its parts
 abbrev pub receiver_by : PeerCore → Vec LinkIn Global → Receiver
 receiver_by core inputs = record { core = core; inputs = inputs }
+
+-- ---- receivers that finish, one by one
+
+-- none finish
+pub none_finished : (receivers : List Receiver) (rows : List (List LinkOut)) → length receivers ≡ 0
+    → AllZip (AllZip AreEnds) rows (inputs_in receivers) → AreFinished receivers rows receivers rows
+none_finished [] [] none each = record { finished = tt; links = tt; handed = tt }
+none_finished [] (row ∷ rows) none each = absurd each
+none_finished (r ∷ receivers) rows none each = absurd (omega (arith, none))
+
+-- one and the others
+pub one_finished : (olds rest : List Receiver) (old : Receiver) (rows others : List (List LinkOut)) (row : List LinkOut)
+    (new : Receiver) (news : List Receiver) (after : List LinkOut) (afters : List (List LinkOut)) → olds ≡ old ∷ rest → rows ≡ row ∷ others
+    → HasFinished old row new → AllZip IsDelivered after new.inputs.items → AllZip KeepsHanded row after
+    → AreFinished rest others news afters → AreFinished olds rows (new ∷ news) (after ∷ afters)
+one_finished olds rest old rows others row new news after afters first first_row one links handed all =
+    subst (λ l. AreFinished l rows (new ∷ news) (after ∷ afters)) (sym first)
+    (subst (λ l. AreFinished (old ∷ rest) l (new ∷ news) (after ∷ afters)) (sym first_row) (record {
+      finished = (one, all.finished);
+      links = (links, all.links);
+      handed = (handed, all.handed);
+    }))
+
+-- the ends of the first receiver, and those of the others
+pub first_ends : (receivers rest : List Receiver) (receiver : Receiver) (rows others : List (List LinkOut)) (row : List LinkOut)
+    → receivers ≡ receiver ∷ rest → rows ≡ row ∷ others → AllZip (AllZip AreEnds) rows (inputs_in receivers)
+    → AllZip AreEnds row receiver.inputs.items × AllZip (AllZip AreEnds) others (inputs_in rest)
+first_ends receivers rest receiver rows others row first first_row each =
+    let both : AllZip (AllZip AreEnds) (row ∷ others) (inputs_in (receiver ∷ rest)) =
+    subst (λ l. AllZip (AllZip AreEnds) l (inputs_in (receiver ∷ rest))) first_row
+    (subst (λ l. AllZip (AllZip AreEnds) rows (inputs_in l)) first each) in
+    both

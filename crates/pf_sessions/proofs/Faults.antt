@@ -5,13 +5,14 @@ use Rattle.std.specs.List.{AllZip, range_with_len}
 use Rattle.pf_shapes.specs.Scene.{Scene}
 use Rattle.pf_rollback.specs.Core.{PeerCore}
 use Rattle.pf_scripts.specs.Play.{HasPlayed}
+use Rattle.pf_scripts.specs.Frames.{core_setting}
 use Rattle.pf_scripts.specs.Script.{first_fault, script_fault}
 use Rattle.pf_scripts.specs.declared.fault.SessionFault.{SessionFault}
 use Rattle.pf_scripts.specs.declared.fault.SessionFault.TheVariants as faults
 use Rattle.pf_scripts.specs.declared.peer.Peer.{Peer}
 use Rattle.pf_scripts.specs.declared.turn.Turn.{Turn}
 use Rattle.pf_sessions.specs.Playing.{AllPlayed, IsNewPeer, IsPlayFault, IsPlayersFault, LeastFails, own_fault}
-use Rattle.pf_sessions.specs.Session.{IsSessionFault, session_fault}
+use Rattle.pf_sessions.specs.Session.{unsealed, IsSessionFault, session_fault}
 
 abbrev pub HasNoFault : List Turn → Peer → Type 0
 HasNoFault script p = own_fault script p ≡ None
@@ -49,7 +50,7 @@ module _ (s : Scene) where
   -- scripts without a fault; the peer of the first has this number
   abbrev pub AreFaultless : ℕ → List (List Turn) → Type 0
   AreFaultless first [] = Unit {0}
-  AreFaultless first (script ∷ scripts) = (script_fault s first 0 0 script ≡ None) × AreFaultless (first + 1) scripts
+  AreFaultless first (script ∷ scripts) = (script_fault (unsealed s) first 0 0 script ≡ None) × AreFaultless (first + 1) scripts
 
   pub no_fault : (first : ℕ) (scripts : List (List Turn)) → AreFaultless first scripts → session_fault s first scripts ≡ None
   unfolding session_fault
@@ -58,19 +59,19 @@ module _ (s : Scene) where
       ap (λ f. first_fault f (session_fault s (first + 1) scripts)) none.0 ∙ no_fault (first + 1) scripts none.1
 
   pub fault_at : (first : ℕ) (lesser : List (List Turn)) (script : List Turn) (others : List (List Turn)) (fault : SessionFault) → AreFaultless first lesser
-      → script_fault s (first + length lesser) 0 0 script ≡ Some fault → session_fault s first (lesser ++ script ∷ others) ≡ Some fault
+      → script_fault (unsealed s) (first + length lesser) 0 0 script ≡ Some fault → session_fault s first (lesser ++ script ∷ others) ≡ Some fault
   unfolding session_fault
   fault_at first [] script others fault none is =
       let here : first + 0 ≡ first = omega arith in
-      ap (λ f. first_fault f (session_fault s (first + 1) others)) (ap (λ n. script_fault s n 0 0 script) (sym here) ∙ is)
+      ap (λ f. first_fault f (session_fault s (first + 1) others)) (ap (λ n. script_fault (unsealed s) n 0 0 script) (sym here) ∙ is)
   fault_at first (l ∷ lesser) script others fault none is =
       let there : (first + 1) + length lesser ≡ first + suc (length lesser) = omega arith in
       ap (λ f. first_fault f (session_fault s (first + 1) (lesser ++ script ∷ others))) none.0
-      ∙ fault_at (first + 1) lesser script others fault none.1 (ap (λ n. script_fault s n 0 0 script) there ∙ is)
+      ∙ fault_at (first + 1) lesser script others fault none.1 (ap (λ n. script_fault (unsealed s) n 0 0 script) there ∙ is)
 
   -- what a new peer's own fault is
-  own_is : (player : ℕ) (script : List Turn) (p : Peer) → IsNewPeer s player p → own_fault script p ≡ script_fault s player 0 0 script
-  own_is player script p is = ap (λ (core : PeerCore). script_fault core.scene core.peer.player 0 core.peer.reached script) is.core
+  own_is : (player : ℕ) (script : List Turn) (p : Peer) → IsNewPeer s player p → own_fault script p ≡ script_fault (unsealed s) player 0 0 script
+  own_is player script p is = ap (λ (core : PeerCore). script_fault (core_setting core) core.peer.player 0 core.peer.reached script) is.core
 
   pub all_faultless : (first n : ℕ) (scripts : List (List Turn)) (peers : List Peer) → AllZip (IsNewPeer s) (range_with_len first n) peers
       → AllZip HasNoFault scripts peers → AreFaultless first scripts
@@ -130,7 +131,7 @@ module _ (always : Bool) (crew : Option ℕ) (s : Scene) (count : ℕ) (scripts 
       by n lesser script others peer new n_is split none low (inr own) =
           let number : n ≡ 0 + length lesser = omega (arith, n_is) in
           inl (ap (session_fault s 0) split
-          ∙ fault_at s 0 lesser script others fault none (ap (λ k. script_fault s k 0 0 script) (sym number) ∙ sym (own_is s n script peer new) ∙ own))
+          ∙ fault_at s 0 lesser script others fault none (ap (λ k. script_fault (unsealed s) k 0 0 script) (sym number) ∙ sym (own_is s n script peer new) ∙ own))
 
   pub session_fault_of : (fault : SessionFault) → IsPlayersFault always crew scripts peers fault → IsSessionFault always crew s scripts fault
   session_fault_of fault (inl least) = of_least fault least

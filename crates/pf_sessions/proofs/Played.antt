@@ -11,24 +11,27 @@ use Rattle.pf_links.specs.Link.{Frame, got, handed}
 use Rattle.pf_links.specs.declared.input.LinkIn.{LinkIn}
 use Rattle.pf_links.specs.declared.output.LinkOut.{LinkOut}
 use Rattle.pf_rollback.specs.Core.{PeerCore}
-use Rattle.pf_scripts.specs.Frames.{commands_in}
-use Rattle.pf_scripts.specs.Peer.{IsLater, WereHanded, all_fresh, commands_of, peer_of, scene_of}
+use Rattle.pf_step.specs.World.{start_of}
+use Rattle.pf_scripts.specs.Frames.{commands_in, core_setting}
+use Rattle.pf_scripts.specs.Peer.{IsLater, WereHanded, all_fresh, commands_of, peer_of, setting_of}
 use Rattle.pf_scripts.specs.Play.{HasPlayed}
 use Rattle.pf_scripts.specs.Script.{frames_of, ticks_of}
 use Rattle.pf_scripts.specs.declared.peer.Peer.{Peer}
 use Rattle.pf_scripts.specs.declared.turn.Turn.{Turn}
 use Rattle.pf_sessions.specs.Playing.{AllPlayed, IsNewPeer}
+use Rattle.pf_sessions.specs.Session.{unsealed}
 use Rattle.pf_sessions.proofs.Linked.{HasGotNothing, HasSentNothing}
 use Rattle.pf_sessions.proofs.Zips.{all_on}
 
 -- a peer of the scene that has played this script as its first
 pub record IsPlayed (s : Scene) (player : ℕ) (script : List Turn) (p : Peer) : Type 0 where
-  pub scene : scene_of p ≡ s
+  pub setting : setting_of p ≡ unsealed s
+  pub base : (peer_of p).base ≡ start_of s
   pub player_is : (peer_of p).player ≡ player
   pub reached : (peer_of p).reached ≡ ticks_of script
   pub kept : p.kept ≡ None
-  pub commands : (peer_of p).commands ≡ put_all empty (commands_in s (frames_of script ++ flat_map got p.inputs.items))
-  pub ranges : All IsCommand (commands_in s (frames_of script ++ flat_map got p.inputs.items))
+  pub commands : (peer_of p).commands ≡ put_all empty (commands_in (unsealed s) (frames_of script ++ flat_map got p.inputs.items))
+  pub ranges : All IsCommand (commands_in (unsealed s) (frames_of script ++ flat_map got p.inputs.items))
   pub sent : All (λ o. handed o ≡ frames_of script) p.outputs.items
 
 abbrev pub ArePlayed : Scene → ℕ → List (List Turn) → List Peer → Type 0
@@ -55,25 +58,26 @@ module _ (s : Scene) (player : ℕ) (script : List Turn) (old new : Peer) (is : 
       by [] played = ap (λ (p : Peer). p.kept) (played.idle refl) ∙ is.kept
       by (turn ∷ turns) played = (played.done (omega arith)).0
 
-  scene_old : scene_of old ≡ s
-  scene_old = ap (λ (c : PeerCore). c.scene) is.core
+  setting_old : setting_of old ≡ unsealed s
+  setting_old = ap core_setting is.core
 
   came : all_fresh old.inputs.items new.inputs.items ≡ flat_map got new.inputs.items
   came = all_came old.inputs.items new.inputs.items got_none has.moved.inputs
 
   -- the frames that it took, as the play counts them and as they are counted here
-  frames_same : commands_in (scene_of old) (frames_of script ++ all_fresh old.inputs.items new.inputs.items)
-      ≡ commands_in s (frames_of script ++ flat_map got new.inputs.items)
-  frames_same = ap₂ (λ z (fs : List Frame). commands_in z (frames_of script ++ fs)) scene_old came
+  frames_same : commands_in (setting_of old) (frames_of script ++ all_fresh old.inputs.items new.inputs.items)
+      ≡ commands_in (unsealed s) (frames_of script ++ flat_map got new.inputs.items)
+  frames_same = ap₂ (λ z (fs : List Frame). commands_in z (frames_of script ++ fs)) setting_old came
 
   pub has_played : IsPlayed s player script new
   has_played =
       let none_old : commands_of old ≡ empty =
-      ap₂ (λ (c : PeerCore) k. put_all c.peer.commands (commands_in c.scene (option_to_list k))) is.core is.kept in
+      ap₂ (λ (c : PeerCore) k. put_all c.peer.commands (commands_in (core_setting c) (option_to_list k))) is.core is.kept in
       let none_new : commands_of new ≡ (peer_of new).commands =
-      ap (λ k. put_all (peer_of new).commands (commands_in (scene_of new) (option_to_list k))) kept_none in
+      ap (λ k. put_all (peer_of new).commands (commands_in (setting_of new) (option_to_list k))) kept_none in
       let zero_old : (peer_of old).reached ≡ 0 = ap (λ (c : PeerCore). c.peer.reached) is.core in record {
-        scene = has.moved.scene ∙ scene_old;
+        setting = has.moved.setting ∙ setting_old;
+        base = has.moved.base ∙ ap (λ (c : PeerCore). c.peer.base) is.core;
         player_is = has.moved.player ∙ ap (λ (c : PeerCore). c.peer.player) is.core;
         reached = omega (arith, has.moved.reached, zero_old);
         kept = kept_none;

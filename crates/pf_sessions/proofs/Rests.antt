@@ -11,7 +11,7 @@ use Rattle.pf_links.specs.declared.input.LinkIn.{LinkIn}
 use Rattle.pf_links.specs.declared.output.LinkOut.{LinkOut}
 use Rattle.pf_rollback.specs.Core.{PeerCore}
 use Rattle.pf_rollback.specs.Peer.{Peer as Player}
-use Rattle.pf_scripts.specs.Frames.{commands_in, with_frames}
+use Rattle.pf_scripts.specs.Frames.{commands_in, core_setting, with_frames}
 use Rattle.pf_scripts.specs.Peer.{IsLater, fresh}
 use Rattle.pf_scripts.proofs.Maps.{all_append, put_all-append}
 use Rattle.pf_sessions.specs.Rest.{HasTaken, left_on}
@@ -19,19 +19,19 @@ use Rattle.pf_sessions.specs.Rest.{HasTaken, left_on}
 -- ---- a peer that takes frames
 
 pub taken_none : (core : PeerCore) → HasTaken core core []
-taken_none core = record { scene = refl; peer = refl; ranges = λ k d low. absurd (omega (arith, low)) }
+taken_none core = record { setting = refl; peer = refl; ranges = λ k d low. absurd (omega (arith, low)) }
 
 pub taken_then : (a b c : PeerCore) (f g : List Frame) → HasTaken a b f → HasTaken b c g → HasTaken a c (f ++ g)
 taken_then a b c f g first second =
-    let s = a.scene in
+    let s = core_setting a in
     let split : commands_in s (f ++ g) ≡ commands_in s f ++ commands_in s g = flat_map-append _ f g in record {
-      scene = second.scene ∙ first.scene;
+      setting = second.setting ∙ first.setting;
       peer = second.peer
-          ∙ ap₂ (λ z (p : Player). with_frames z p g) first.scene first.peer
+          ∙ ap₂ (λ z (p : Player). with_frames z p g) first.setting first.peer
           ∙ ap (λ m. record a.peer { commands = m }) (put_all-append a.peer.commands (commands_in s f) (commands_in s g))
           ∙ ap (λ cs. record a.peer { commands = put_all a.peer.commands cs }) (sym split);
       ranges = subst (All IsCommand) (sym split)
-          (all_append IsCommand (commands_in s f) (commands_in s g) first.ranges (subst (λ z. All IsCommand (commands_in z g)) first.scene second.ranges));
+          (all_append IsCommand (commands_in s f) (commands_in s g) first.ranges (subst (λ z. All IsCommand (commands_in z g)) first.setting second.ranges));
     }
 
 -- ---- one link

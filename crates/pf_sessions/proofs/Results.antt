@@ -7,27 +7,27 @@ use Rattle.std.specs.FinMap.{empty}
 use Rattle.std.specs.List.{AllZip, flat_map}
 use Rattle.std.specs.Prelude.{All}
 use Rattle.pf_shapes.specs.Scene.{Scene}
-use Rattle.pf_commands.specs.Merge.{CommandMap, IsCommand, put_all}
+use Rattle.pf_commands.specs.Merge.{IsCommand, put_all}
 use Rattle.pf_commands.proofs.Lists.{put_all-same}
 use Rattle.pf_commands.proofs.Ranges.{AreCommands-empty}
 use Rattle.pf_links.specs.Link.{Frame, got, handed}
 use Rattle.pf_links.specs.declared.input.LinkIn.{LinkIn}
 use Rattle.pf_links.specs.declared.output.LinkOut.{LinkOut}
-use Rattle.pf_rollback.specs.Peer.{Peer as Player}
-use Rattle.pf_scripts.specs.Frames.{commands_in}
+use Rattle.pf_rollback.specs.Peer.{Peer as Player, world_of}
+use Rattle.pf_rollback.proofs.Simulation.{sim_at_start}
+use Rattle.pf_scripts.specs.Frames.{Setting, commands_in, core_setting}
 use Rattle.pf_scripts.specs.Peer.{peer_of}
 use Rattle.pf_scripts.specs.Script.{frames_of, ticks_of}
 use Rattle.pf_scripts.specs.declared.peer.Peer.{Peer}
 use Rattle.pf_scripts.specs.declared.turn.Turn.{Turn}
 use Rattle.pf_scripts.proofs.Maps.{all_append, put_all-append}
 use Rattle.pf_scripts.proofs.Members.{SameMembers, members_append, members_exchange, members_refl, members_then}
-use Rattle.pf_step.specs.Simulation.{sim}
-use Rattle.pf_step.specs.World.{World}
+use Rattle.pf_step.specs.World.{World, start_of}
 use Rattle.pf_sessions.specs.Ending.{AllFinished, AreEnded, HasFinished, IsTakenOrLeft, ShowsLast, receiver_of}
 use Rattle.pf_sessions.specs.Links.{inputs_of, outputs_of}
 use Rattle.pf_sessions.specs.Playing.{AllPlayed, AreNewPeers}
 use Rattle.pf_sessions.specs.Rest.{KeepsHanded, all_left, left_on}
-use Rattle.pf_sessions.specs.Session.{HasEnded, HasSent, PeerResult, all_commands, result_of, results_from, session_results, shown_by}
+use Rattle.pf_sessions.specs.Session.{unsealed, HasEnded, HasSent, PeerResult, all_commands, result_of, results_from, session_results, shown_by}
 use Rattle.pf_sessions.specs.Table.{IsTable, transpose}
 use Rattle.pf_sessions.proofs.Columns.{HasFor, columns_complete, members_joined}
 use Rattle.pf_sessions.proofs.Linked.{linked_on, nothing_got, nothing_sent, senders_new, table_on}
@@ -69,6 +69,9 @@ module _ (s : Scene) (scripts : List (List Turn)) where
   module _ (player : ℕ) (script : List Turn) (played : Peer) (senders : List LinkOut) (column : List (List Frame)) (e : Peer × World)
       (is : IsPlayed s player script played) (finished : HasFinished (receiver_of played) senders (receiver_of e.0)) (shown : ShowsLast e)
       (carried : AllZip CarriesFrames senders column) (complete : SameMembers (frames_of script ∷ column) (map frames_of scripts)) where
+    abbrev z : Setting
+    z = unsealed s
+
     -- the frames that it had taken when it ended, and those that were left for it
     had : List Frame
     had = frames_of script ++ flat_map got played.inputs.items
@@ -93,52 +96,50 @@ module _ (s : Scene) (scripts : List (List Turn)) where
         (members_joined (λ (frames : List Frame). frames) (f ∷ column) (map frames_of scripts) complete)
         (members_refl (flat_map (λ (frames : List Frame). frames) (map frames_of scripts)) every (frames_joined scripts)))
 
-    commands_same : SameMembers (commands_in s had ++ commands_in s left) (commands_in s every)
+    commands_same : SameMembers (commands_in z had ++ commands_in z left) (commands_in z every)
     commands_same =
-        members_then (commands_in s had ++ commands_in s left) (commands_in s (had ++ left)) (commands_in s every)
-        (members_refl (commands_in s had ++ commands_in s left) (commands_in s (had ++ left)) (sym (flat_map-append _ had left)))
+        members_then (commands_in z had ++ commands_in z left) (commands_in z (had ++ left)) (commands_in z every)
+        (members_refl (commands_in z had ++ commands_in z left) (commands_in z (had ++ left)) (sym (flat_map-append _ had left)))
         (members_joined _ (had ++ left) every frames_same)
 
-    scene_same : (receiver_of played).core.scene ≡ s
-    scene_same = is.scene
+    setting_same : core_setting (receiver_of played).core ≡ z
+    setting_same = is.setting
 
-    ranges : All IsCommand (commands_in s had ++ commands_in s left)
+    ranges : All IsCommand (commands_in z had ++ commands_in z left)
     unfolding had left
-    ranges = all_append IsCommand (commands_in s had) (commands_in s left) is.ranges (subst (λ z. All IsCommand (commands_in z left)) scene_same finished.ranges)
+    ranges = all_append IsCommand (commands_in z had) (commands_in z left) is.ranges (subst (λ x. All IsCommand (commands_in x left)) setting_same finished.ranges)
 
     -- the peer holds the commands of all scripts
     commands_are : (peer_of e.0).commands ≡ all_commands s scripts
     unfolding had left every
     commands_are =
         ap (λ (p : Player). p.commands) finished.peer
-        ∙ ap₂ (λ m z. put_all m (commands_in z left)) is.commands scene_same
-        ∙ put_all-append empty (commands_in s had) (commands_in s left)
-        ∙ put_all-same empty (commands_in s had ++ commands_in s left) (commands_in s every) AreCommands-empty
-        (λ c has. All-contains IsCommand (commands_in s had ++ commands_in s left) c ranges has) commands_same
+        ∙ ap₂ (λ m x. put_all m (commands_in x left)) is.commands setting_same
+        ∙ put_all-append empty (commands_in z had) (commands_in z left)
+        ∙ put_all-same empty (commands_in z had ++ commands_in z left) (commands_in z every) AreCommands-empty
+        (λ c has. All-contains IsCommand (commands_in z had ++ commands_in z left) c ranges has) commands_same
 
     pub has_ended : HasEnded s e.0
-    has_ended = record { scene = finished.scene ∙ is.scene; kept = shown.kept; settled = finished.settled }
+    has_ended = record { setting = finished.setting ∙ is.setting; kept = shown.kept; settled = finished.settled }
 
     pub result_is : shown_by e ≡ result_of s (all_commands s scripts) player script
     result_is =
         let who : (peer_of e.0).player ≡ player = ap (λ (p : Player). p.player) finished.peer ∙ is.player_is in
         let when : (peer_of e.0).reached ≡ ticks_of script = ap (λ (p : Player). p.reached) finished.peer ∙ is.reached in
-        same (peer_of e.0) player (all_commands s scripts) (ticks_of script) e.1 who commands_are when
+        let from : (peer_of e.0).horizon ≡ 0 = ap (λ (x : Setting). x.horizon) (finished.setting ∙ is.setting) in
+        let base : (peer_of e.0).base ≡ start_of s = ap (λ (p : Player). p.base) finished.peer ∙ is.base in
+        let peer : peer_of e.0 ≡ (result_of s (all_commands s scripts) player script).peer = λ i. record {
+          player = who i;
+          horizon = from i;
+          base = base i;
+          commands = commands_are i;
+          reached = when i;
+        } in
+        ap₂ pair_of peer
         (shown.world
-        ∙ ap (λ z. sim z (peer_of e.0).commands (peer_of e.0).reached) (finished.scene ∙ is.scene)
-        ∙ ap₂ (sim s) commands_are when)
-      where
-        named : (p : Player) (who : ℕ) (commands : CommandMap) (when : ℕ) → p.player ≡ who → p.commands ≡ commands → p.reached ≡ when
-            → p ≡ record { player = who; commands = commands; reached = when }
-        named p who commands when a b c =
-            ap (λ n. record p { player = n }) a ∙ ap (λ m. record p { player = who; commands = m }) b
-            ∙ ap (λ n. record p { player = who; commands = commands; reached = n }) c
-
-        same : (p : Player) (who : ℕ) (commands : CommandMap) (when : ℕ) (world : World) → p.player ≡ who → p.commands ≡ commands → p.reached ≡ when
-            → world ≡ sim s commands when
-            → pair_of p world ≡ pair_of (record { player = who; commands = commands; reached = when }) (sim s commands when)
-        same p who commands when world a b c d =
-            ap₂ pair_of (named p who commands when a b c) d
+        ∙ ap (λ (of : Scene). world_of of (peer_of e.0) (peer_of e.0).reached) (ap (λ (x : Setting). x.scene) (finished.setting ∙ is.setting))
+        ∙ ap (λ (p : Player). world_of s p p.reached) peer
+        ∙ sim_at_start s (all_commands s scripts) (ticks_of script))
 
   -- ---- all peers
 

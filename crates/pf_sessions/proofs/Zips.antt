@@ -87,6 +87,12 @@ module _ {X : Type 0} where
       let next = taken_off ys k rest x left some first in
       rw (add-one (suc k)) (ap (λ l. y ∷ l) (ap (λ n. take n ys) (sym (add-one k)) ∙ next.0), ap (λ n. drop n ys) (sym (add-one k)) ∙ next.1)
 
+-- a list whose first element was removed
+module _ {X : Type 0} where
+  pub first_removed : (xs rest : List X) (x : X) → 0 < length xs → x ≡ get_or xs 0 x → rest ≡ drop 1 xs → xs ≡ x ∷ rest
+  first_removed [] rest x some first left = absurd (omega (arith, some))
+  first_removed (y ∷ ys) rest x some first left = ap (λ z. z ∷ ys) (sym first) ∙ ap (λ l. x ∷ l) (sym left)
+
 -- ---- nothing related to nothing
 
 module _ {X Y : Type 0} where

@@ -6,10 +6,10 @@ use Rattle.pf_links.specs.Link.{got, handed}
 use Rattle.pf_links.specs.declared.input.LinkIn.{LinkIn}
 use Rattle.pf_links.specs.declared.output.LinkOut.{LinkOut}
 use Rattle.pf_rollback.specs.Kept.{settled_tick}
-use Rattle.pf_scripts.specs.Frames.{commands_in, with_frames}
+use Rattle.pf_rollback.specs.Peer.{world_of}
+use Rattle.pf_scripts.specs.Frames.{commands_in, core_setting, with_frames}
 use Rattle.pf_scripts.specs.Peer.{peer_of, scene_of}
 use Rattle.pf_scripts.specs.declared.peer.Peer.{Peer}
-use Rattle.pf_step.specs.Simulation.{sim}
 use Rattle.pf_step.specs.World.{World}
 use Rattle.pf_sessions.specs.Links.{AreLinked, IsDelivered, inputs_of, outputs_of}
 use Rattle.pf_sessions.specs.Rest.{KeepsHanded, all_left, left_on}
@@ -31,24 +31,34 @@ IsTakenOrLeft sender input = handed sender ≡ got input ++ left_on sender input
 -- a receiver has taken what was left on its links, of which these are the senders' ends, and has
 -- settled its ticks
 pub record HasFinished (old : Receiver) (senders : List LinkOut) (new : Receiver) : Type 0 where
-  pub scene : new.core.scene ≡ old.core.scene
+  pub setting : core_setting new.core ≡ core_setting old.core
   pub peer : new.core.peer
-      ≡ with_frames old.core.scene old.core.peer (all_left senders old.inputs.items)
-  pub ranges : All IsCommand (commands_in old.core.scene (all_left senders old.inputs.items))
+      ≡ with_frames (core_setting old.core) old.core.peer (all_left senders old.inputs.items)
+  pub ranges : All IsCommand
+      (commands_in (core_setting old.core) (all_left senders old.inputs.items))
   pub all : AllZip IsTakenOrLeft senders old.inputs.items
   pub settled : settled_tick new.core.kept ≡ new.core.peer.reached
 
--- each receiver has, with its row of senders' ends
+-- each receiver has finished, with its row of senders' ends
 abbrev pub AllFinished : List Receiver → List (List LinkOut) → List Receiver → Type 0
 AllFinished [] [] [] = ⊤
 AllFinished (old ∷ olds) (row ∷ rows) (new ∷ news) =
     HasFinished old row new × AllFinished olds rows news
 AllFinished olds rows news = ⊥
 
+-- each receiver has finished, and `after` are the senders' ends then: nothing is left on any link
+pub record AreFinished
+    (olds : List Receiver) (rows : List (List LinkOut))
+    (news : List Receiver) (after : List (List LinkOut))
+    : Type 0 where
+  pub finished : AllFinished olds rows news
+  pub links : AllZip (AllZip IsDelivered) after (inputs_in news)
+  pub handed : AllZip (AllZip KeepsHanded) rows after
+
 -- a peer keeps no frame, and its world is that of the tick that it has reached
 pub record ShowsLast (e : Peer × World) : Type 0 where
   pub kept : e.0.kept ≡ None
-  pub world : e.1 ≡ sim (scene_of e.0) (peer_of e.0).commands (peer_of e.0).reached
+  pub world : e.1 ≡ world_of (scene_of e.0) (peer_of e.0) (peer_of e.0).reached
 
 -- peers that have played, and what they are at the end
 pub record AreEnded (played : List Peer) (ended : List (Peer × World)) : Type 0 where

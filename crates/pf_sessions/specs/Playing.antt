@@ -3,7 +3,7 @@ use Rattle.std.specs.Prelude.{◌≡◌, ◌⊎◌, ℕ, ⊤, Bool, List, [], �
 use Rattle.std.specs.List.{AllZip, range_with_len}
 use Rattle.pf_shapes.specs.Scene.{Scene}
 use Rattle.pf_rollback.specs.Core.{new_core}
-use Rattle.pf_scripts.specs.Peer.{peer_of, scene_of}
+use Rattle.pf_scripts.specs.Peer.{peer_of, setting_of}
 use Rattle.pf_scripts.specs.Play.{HasPlayed, IsPeerFault, IsPlayError}
 use Rattle.pf_scripts.specs.Script.{script_fault}
 use Rattle.pf_scripts.specs.declared.fault.SessionFault.{SessionFault}
@@ -33,7 +33,7 @@ AllPlayed scripts olds news = ⊥
 -- the fault of a peer's script, if it has one
 abbrev pub own_fault : List Turn → Peer → Option SessionFault
 own_fault script p =
-    script_fault (scene_of p) (peer_of p).player 0 (peer_of p).reached script
+    script_fault (setting_of p) (peer_of p).player 0 (peer_of p).reached script
 
 -- with which fault a peer's play may end
 abbrev pub IsPlayFault : Bool → Option ℕ → List Turn → Peer → SessionFault → Type 0

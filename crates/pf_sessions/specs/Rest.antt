@@ -5,7 +5,7 @@ use Rattle.pf_links.specs.Link.{Frame, SameOut, got, handed}
 use Rattle.pf_links.specs.declared.input.LinkIn.{LinkIn}
 use Rattle.pf_links.specs.declared.output.LinkOut.{LinkOut}
 use Rattle.pf_rollback.specs.Core.{PeerCore}
-use Rattle.pf_scripts.specs.Frames.{commands_in, with_frames}
+use Rattle.pf_scripts.specs.Frames.{commands_in, core_setting, with_frames}
 
 -- the frames of a link that were not taken
 abbrev pub left_on : LinkOut → LinkIn → List Frame
@@ -24,6 +24,6 @@ pub record KeepsHanded (old new : LinkOut) : Type 0 where
 
 -- a peer has taken these frames, of which those that it refuses change nothing
 pub record HasTaken (old new : PeerCore) (frames : List Frame) : Type 0 where
-  pub scene : new.scene ≡ old.scene
-  pub peer : new.peer ≡ with_frames old.scene old.peer frames
-  pub ranges : All IsCommand (commands_in old.scene frames)
+  pub setting : core_setting new ≡ core_setting old
+  pub peer : new.peer ≡ with_frames (core_setting old) old.peer frames
+  pub ranges : All IsCommand (commands_in (core_setting old) frames)

@@ -7,12 +7,12 @@ use Rattle.pf_shapes.specs.Scene.{Scene}
 use Rattle.pf_commands.specs.Merge.{CommandMap, put_all}
 use Rattle.pf_links.specs.Link.{handed}
 use Rattle.pf_step.specs.Simulation.{sim}
-use Rattle.pf_step.specs.World.{World}
+use Rattle.pf_step.specs.World.{World, start_of}
 use Rattle.pf_step.specs.declared.crew.CrewError.{CrewError}
 use Rattle.pf_rollback.specs.Kept.{settled_tick}
 use Rattle.pf_rollback.specs.Peer.{Peer as Player}
-use Rattle.pf_scripts.specs.Frames.{commands_in}
-use Rattle.pf_scripts.specs.Peer.{peer_of, scene_of}
+use Rattle.pf_scripts.specs.Frames.{Setting, commands_in}
+use Rattle.pf_scripts.specs.Peer.{peer_of, setting_of}
 use Rattle.pf_scripts.specs.Play.{IsPlayError}
 use Rattle.pf_scripts.specs.Script.{first_fault, frames_of, script_fault, ticks_of}
 use Rattle.pf_scripts.specs.declared.fault.SessionFault.{SessionFault}
@@ -24,15 +24,20 @@ use Rattle.pf_scripts.specs.declared.turn.Turn.{Turn}
 abbrev pub turns_of : List (Vec Turn Global) → List (List Turn)
 turns_of scripts = map (λ script. script.items) scripts
 
+-- the scene, and the horizon of a peer that has sealed nothing
+abbrev pub unsealed : Scene → Setting
+unsealed s = record { scene = s; horizon = 0 }
+
 -- the fault of the least peer whose script has one; `first` is the number of the first peer
 unfoldable pub session_fault : Scene → ℕ → List (List Turn) → Option SessionFault
 session_fault s first [] = None
 session_fault s first (script ∷ scripts) =
-    first_fault (script_fault s first 0 0 script) (session_fault s (first + 1) scripts)
+    first_fault (script_fault (unsealed s) first 0 0 script) (session_fault s (first + 1) scripts)
 
 -- the commands of all scripts, merged
 abbrev pub all_commands : Scene → List (List Turn) → CommandMap
-all_commands s scripts = put_all empty (commands_in s (flat_map frames_of scripts))
+all_commands s scripts =
+    put_all empty (commands_in (unsealed s) (flat_map frames_of scripts))
 
 -- ---- at the end
 
@@ -45,7 +50,13 @@ pub record PeerResult : Type 0 where
 -- them, up to the sum of its own ticks
 abbrev pub result_of : Scene → CommandMap → ℕ → List Turn → PeerResult
 result_of s commands player script = record {
-  peer = record { player = player; commands = commands; reached = ticks_of script };
+  peer = record {
+    player = player;
+    horizon = 0;
+    base = start_of s;
+    commands = commands;
+    reached = ticks_of script;
+  };
   world = sim s commands (ticks_of script);
 }
 
@@ -63,9 +74,10 @@ session_results s scripts = results_from s (all_commands s scripts) 0 scripts
 abbrev pub shown_by : Peer × World → PeerResult
 shown_by e = record { peer = peer_of e.0; world = e.1 }
 
--- a peer of the scene that keeps no frame, and has settled each tick up to the reached one
+-- a peer of the scene that keeps no frame, has sealed nothing, and has settled each tick up to the
+-- reached one
 pub record HasEnded (s : Scene) (p : Peer) : Type 0 where
-  pub scene : scene_of p ≡ s
+  pub setting : setting_of p ≡ unsealed s
   pub kept : p.kept ≡ None
   pub settled : settled_tick p.core.kept ≡ (peer_of p).reached
 

@@ -1,10 +1,11 @@
 //! The end of a session: each peer takes what is left on its links, settles, and shows its world.
 
-ghost use Rattle.std.specs.Prelude.{◌≡◌, All, IfOk, OnOk, length, map};
+ghost use Rattle.std.specs.Prelude.{◌≡◌, All, IfOk, length, map};
 ghost use Rattle.std.specs.List.{AllZip};
+ghost use Rattle.std.specs.Thread.{IsSync};
 ghost use Rattle.pf_links.specs.Link.{AreEnds};
-ghost use Rattle.pf_step.specs.Simulation.{sim};
-ghost use Rattle.pf_sessions.specs.Ending.{AllFinished, AreEnded, HasFinished, ShowsLast, inputs_in, receiver_of};
+ghost use Rattle.pf_rollback.specs.Peer.{world_of};
+ghost use Rattle.pf_sessions.specs.Ending.{AreEnded, AreFinished, HasFinished, ShowsLast, inputs_in, receiver_of};
 ghost use Rattle.pf_sessions.specs.Links.{AreLinked, IsDelivered, inputs_of, outputs_of, rows_of};
 ghost use Rattle.pf_sessions.specs.Rest.{KeepsHanded};
 
@@ -15,6 +16,7 @@ use pf_rollback::{Fault, PeerCore};
 use pf_scripts::Peer;
 use pf_step::{Work, World};
 use std::alloc::{AllocError, Global};
+use std::thread::{Threads, join};
 
 /// A peer's core, and its ends of the links to it. A peer that has played keeps no frame.
 #[derive(Drop)]
@@ -45,61 +47,58 @@ fn take_apart(
 /// Lets a receiver take what is left on its links, and settle its ticks.
 fn finish(
     alloc: Global,
-    receiver: &mut Receiver,
-    senders: &mut Vec<LinkOut>,
-) -> Result<(), AllocError>
-    requires { AllZip AreEnds senders.old.items receiver.old.inputs.items }
-    ensures finished { OnOk result (HasFinished receiver.old senders.old.items receiver.new) }
-    ensures links { OnOk result
-        (AllZip IsDelivered senders.new.items receiver.new.inputs.items) }
-    ensures handed { OnOk result (AllZip KeepsHanded senders.old.items senders.new.items) }
+    receiver: Receiver,
+    senders: Vec<LinkOut>,
+) -> Result<(Receiver, Vec<LinkOut>), AllocError>
+    requires { AllZip AreEnds senders.items receiver.inputs.items }
+    ensures finished { IfOk result (λ ends. HasFinished receiver senders.items ends.0) }
+    ensures links { IfOk result (λ ends. AllZip IsDelivered ends.1.items ends.0.inputs.items) }
+    ensures handed { IfOk result (λ ends. AllZip KeepsHanded senders.items ends.1.items) }
 {
-    take_rest(&mut receiver.core, senders, &mut receiver.inputs)?;
+    let (mut receiver, mut senders) = (receiver, senders);
+    take_rest(&mut receiver.core, &mut senders, &mut receiver.inputs)?;
     receiver.core.settle_alone(alloc)?;
-    Ok(())
+    Ok((receiver, senders))
 }
 
-/// Lets each receiver do so, with its row of the senders' ends.
-fn finish_all(
-    alloc: Global,
-    receivers: &mut [Receiver],
-    senders: &mut [Vec<LinkOut>],
-) -> Result<(), AllocError>
-    requires { AllZip (AllZip AreEnds) (rows_of senders.old) (inputs_in receivers.old) }
-    ensures finished { OnOk result
-        (AllFinished receivers.old (rows_of senders.old) receivers.new) }
-    ensures links { OnOk result
-        (AllZip (AllZip IsDelivered) (rows_of senders.new) (inputs_in receivers.new)) }
-    ensures handed { OnOk result
-        (AllZip (AllZip KeepsHanded) (rows_of senders.old) (rows_of senders.new)) }
-{
-    let Some((receiver, receivers)) = receivers.split_first_mut() else {
-        return Ok(());
-    };
-    let Some((row, rows)) = senders.split_first_mut() else {
-        unreachable!()
-    };
-    finish(alloc, receiver, row)?;
-    finish_all(alloc, receivers, rows)
-}
-
-/// The receivers and the senders' ends when each receiver has done so.
-fn finish_each(
+/// Lets each receiver do so, with its row of the senders' ends, each in a thread of its own where
+/// one can be started.
+fn finish_all<R: Threads + Sync>(
+    rt: &R,
     alloc: Global,
     receivers: Vec<Receiver>,
     senders: Vec<Vec<LinkOut>>,
 ) -> Result<(Vec<Receiver>, Vec<Vec<LinkOut>>), AllocError>
     requires { AllZip (AllZip AreEnds) (rows_of senders.items) (inputs_in receivers.items) }
-    ensures finished { IfOk result (λ all.
-        AllFinished receivers.items (rows_of senders.items) all.0.items) }
-    ensures links { IfOk result (λ all.
-        AllZip (AllZip IsDelivered) (rows_of all.1.items) (inputs_in all.0.items)) }
-    ensures handed { IfOk result (λ all.
-        AllZip (AllZip KeepsHanded) (rows_of senders.items) (rows_of all.1.items)) }
+    ensures { IfOk result (λ ends.
+        AreFinished receivers.items (rows_of senders.items) ends.0.items (rows_of ends.1.items)) }
 {
-    let mut receivers = receivers;
-    let mut senders = senders;
-    finish_all(alloc, &mut receivers, &mut senders)?;
+    let (mut receivers, mut senders) = (receivers, senders);
+    if receivers.is_empty() {
+        return Ok((receivers, senders));
+    }
+    let receiver = receivers.remove(0);
+    let row = senders.remove(0);
+    let (finished, others) = join(
+        rt,
+        move || -> Result<(Receiver, Vec<LinkOut>), AllocError>
+            requires { AllZip AreEnds row.items receiver.inputs.items }
+            ensures finished { IfOk result (λ ends. HasFinished receiver row.items ends.0) }
+            ensures links { IfOk result (λ ends.
+                AllZip IsDelivered ends.1.items ends.0.inputs.items) }
+            ensures handed { IfOk result (λ ends. AllZip KeepsHanded row.items ends.1.items) }
+        { finish(alloc, receiver, row) },
+        move || -> Result<(Vec<Receiver>, Vec<Vec<LinkOut>>), AllocError>
+            requires sync { IsSync R.row }
+            requires ends { AllZip (AllZip AreEnds) (rows_of senders.items) (inputs_in receivers.items) }
+            ensures { IfOk result (λ ends. AreFinished receivers.items
+                (rows_of senders.items) ends.0.items (rows_of ends.1.items)) }
+        { finish_all(rt, alloc, receivers, senders) },
+    );
+    let (receiver, row) = finished?;
+    let (mut receivers, mut senders) = others?;
+    receivers.insert(0, receiver)?;
+    senders.insert(0, row)?;
     Ok((receivers, senders))
 }
 
@@ -107,7 +106,7 @@ fn finish_each(
 #[tactic(auto, using(crate::proofs::Worlds::last_shown, crate::proofs::Worlds::last_not_refused))]
 fn last_world(alloc: Global, core: &PeerCore) -> Result<World, AllocError>
     ensures { let c = core.now in
-        IfOk result (λ world. world ≡ sim c.scene c.peer.commands c.peer.reached) }
+        IfOk result (λ world. world ≡ world_of c.scene c.peer c.peer.reached) }
 {
     match core.world_at(alloc, core.reached(), &mut Work::new(alloc)) {
         Ok(world) => Ok(world),
@@ -141,14 +140,19 @@ fn show_all(
 }
 
 /// Ends a session of peers that have played: what is left on each link is taken, first from its
-/// ring and then from its backlog; each peer settles once more, and shows its world.
-pub fn end_session(alloc: Global, peers: Vec<Peer>) -> Result<Vec<(Peer, World)>, AllocError>
+/// ring and then from its backlog; each peer settles once more, side by side with the others, and
+/// shows its world.
+pub fn end_session<R: Threads + Sync>(
+    rt: &R,
+    alloc: Global,
+    peers: Vec<Peer>,
+) -> Result<Vec<(Peer, World)>, AllocError>
     requires { AreLinked AreEnds (outputs_of peers.items) (inputs_of peers.items) }
     ensures { IfOk result (λ ended. AreEnded peers.items ended.items) }
 {
     let (receivers, outputs) = take_apart(alloc, peers)?;
     let senders = transpose(alloc, outputs)?;
-    let (receivers, senders) = finish_each(alloc, receivers, senders)?;
+    let (receivers, senders) = finish_all(rt, alloc, receivers, senders)?;
     let outputs = transpose(alloc, senders)?;
     show_all(alloc, receivers, outputs)
 }

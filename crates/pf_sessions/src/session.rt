@@ -27,9 +27,9 @@ use std::thread::Threads;
 /// hold the commands of all scripts. The ends of a peer's links stand in the order of the other
 /// peers' numbers.
 ///
-/// Returns a fault of a peer, where no lesser peer's script has one; `NoThread` where a thread could
-/// not be started; and `OutOfMemory` where the caller is out of memory. It waits for all threads that
-/// it has started.
+/// Returns a fault of a peer, where no lesser peer's script has one; `NoThread` where a thread
+/// could not be started; and `OutOfMemory` where the caller is out of memory. It waits for all
+/// threads that it has started.
 pub fn run_session<R, G>(
     rt: &R,
     alloc: Global,
@@ -56,5 +56,5 @@ where
 {
     let peers = linked_peers(alloc, scene, scripts.len())?;
     let played = play_all(rt, alloc, scripts, crew, gate, peers)?;
-    Ok(end_session(alloc, played)?)
+    Ok(end_session(rt, alloc, played)?)
 }

@@ -1,4 +1,4 @@
-use Rattle.std.proofs.Common.{◌≡◌, ◌∙◌, Vec, ap, map}
+use Rattle.std.proofs.Common.{rules, ◌≡◌, ◌∙◌, Vec, ap, map}
 use Rattle.std.specs.Global.{Global}
 use Rattle.std.specs.Prelude.{All}
 use Rattle.pf_scripts.specs.declared.peer.Peer.{Peer}
@@ -10,22 +10,24 @@ use Rattle.pf_sessions.proofs.Ends.{all_ended, ends_by_receiver, rows_many, send
 use Rattle.pf_sessions.proofs.Zips.{ok_three}
 use Rattle.pf_sessions.proofs.ending.end_session.Goals as goal
 
-pub finish_each-requires : goal.finish_each-requires
-finish_each-requires c =
+pub finish_all-requires : goal.finish_all-requires
+finish_all-requires g c =
     let peers = c.args.peers.items in
-    let parts = c.in_ok-receivers.ensures in
-    ends_by_receiver peers c.requires c.in_ok-receivers.receivers.items (rows_of c.in_ok-senders.senders.items) parts.receivers
-    (c.in_ok-senders.ensures ∙ ap transpose parts.outputs)
+    let parts = c.in_ok-receivers.ensures in (
+      search rules,
+      ends_by_receiver peers c.requires c.in_ok-receivers.receivers.items (rows_of c.in_ok-senders.senders.items) parts.receivers
+          (c.in_ok-senders.ensures ∙ ap transpose parts.outputs),
+    )
 
 pub transpose-requires-2 : goal.transpose-requires-2
-transpose-requires-2 c =
+transpose-requires-2 g c =
     let peers = c.args.peers.items in
     let parts = c.in_ok-receivers.ensures in
     senders_table_on peers c.requires (rows_of c.in_ok-senders.senders.items) (rows_of c.in_ok-receivers-2.senders.items)
     (c.in_ok-senders.ensures ∙ ap transpose parts.outputs) c.in_ok-receivers-2.ensures.handed
 
 pub show_all-requires : goal.show_all-requires
-show_all-requires c =
+show_all-requires g c =
     let peers = c.args.peers.items in
     let parts = c.in_ok-receivers.ensures in
     let after = c.in_ok-receivers-2 in
@@ -33,7 +35,7 @@ show_all-requires c =
     (c.in_ok-senders.ensures ∙ ap transpose parts.outputs) after.ensures.handed c.in_ok-outputs.ensures after.ensures.links
 
 pub returns : goal.returns
-returns c =
+returns g c =
     let peers = c.args.peers.items in
     let parts = c.in_ok-receivers.ensures in
     let after = c.in_ok-receivers-2 in

@@ -6,7 +6,7 @@ use Rattle.std.specs.Prelude.{All}
 use Rattle.pf_links.specs.declared.output.LinkOut.{LinkOut}
 use Rattle.pf_rollback.specs.Core.{PeerCore}
 use Rattle.pf_scripts.specs.declared.peer.Peer.{Peer}
-use Rattle.pf_step.specs.Simulation.{sim}
+use Rattle.pf_rollback.specs.Peer.{world_of}
 use Rattle.pf_step.specs.World.{World}
 use Rattle.pf_sessions.specs.Ending.{ShowsLast, receiver_of}
 use Rattle.pf_sessions.specs.declared.ending.Receiver.{Receiver}
@@ -35,7 +35,7 @@ loop-preserved c =
     let e : Peer × World = (peer, c.in_ok-world.world) in
     let last : ShowsLast e = record {
       kept = made.3;
-      world = c.in_ok-world.ensures ∙ ap (λ (core : PeerCore). sim core.scene core.peer.commands core.peer.reached) (sym made.0);
+      world = c.in_ok-world.ensures ∙ ap (λ (core : PeerCore). world_of core.scene core.peer core.peer.reached) (sym made.0);
     } in
     let receivers_of : Peer × World → Receiver = λ x. receiver_of x.0 in
     let rows_in : Peer × World → List LinkOut = λ x. x.0.outputs.items in

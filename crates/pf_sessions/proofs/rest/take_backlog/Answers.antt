@@ -14,7 +14,7 @@ loop-index-preserved c =
       | in-Some+in_ok-take w ↦ subst (λ core. HasTaken first core (take (i + 1) all)) (sym w.core-is)
           (subst (HasTaken first w.take.new.core) (sym (take_found all i w.in-Some.frame (sym w.in-Some.ensures)))
           (taken_then first c.loop-index.core w.take.new.core (take i all) (w.in-Some.frame ∷ []) c.loop-index.invariant
-          (record { scene = w.take.ensures.scene; peer = w.in_ok-take.ensures.peer; ranges = w.take.ensures.ranges })))
+          (record { setting = w.take.ensures.setting; peer = w.in_ok-take.ensures.peer; ranges = w.take.ensures.ranges })))
       | in_default w ↦ subst (λ core. HasTaken first core (take (i + 1) all)) (sym w.core-is)
           (subst (HasTaken first c.loop-index.core) (sym (take_missing all i (sym w.in_default.ensures))) c.loop-index.invariant)
     ]

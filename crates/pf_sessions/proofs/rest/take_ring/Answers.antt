@@ -14,7 +14,7 @@ loop-frame-preserved c =
     let is = c.loop-frame.invariant in record {
       taken = subst (HasTaken c.args.core.now c.take.new.core) (sym (fresh_more first old new frame is.later c.bring.ensures.same more))
           (taken_then c.args.core.now c.loop-frame.core c.take.new.core (fresh first old) (frame ∷ []) is.taken
-          (record { scene = c.take.ensures.scene; peer = c.in_ok-take.ensures.peer; ranges = c.take.ensures.ranges }));
+          (record { setting = c.take.ensures.setting; peer = c.in_ok-take.ensures.peer; ranges = c.take.ensures.ranges }));
       later = later_more first old new frame is.later c.bring.ensures.same more;
       frames = leaves_then c.args.sender.now c.loop-frame.sender c.bring.new.from is.frames c.bring.ensures.frames;
       ends = c.bring.ensures.ends;

@@ -1,4 +1,4 @@
-use Rattle.std.proofs.Common.{◌≡◌, ◌∙◌, Err, Global, Vec, length, refl, subst, sym}
+use Rattle.std.proofs.Common.{rules, ◌≡◌, ◌∙◌, Err, Global, Vec, length, refl, subst, sym}
 use Rattle.std.proofs.lemmas.List.{length-map}
 use Rattle.std.proofs.lemmas.List.FromFn.{length-range_with_len}
 use Rattle.std.proofs.lemmas.Result.{err_from_is_err_and}
@@ -32,8 +32,10 @@ returns-in_err-played-clause-fault g c =
     (session_fault_of always c.args.crew scene count scripts c.in_ok-peers.peers.items c.in_ok-peers.ensures.peers.each many fault c.in_err-played.ensures.fault)
 
 pub end_session-requires : goal.end_session-requires
-end_session-requires g c =
-    linked_on (turns_of c.args.scripts.now) c.in_ok-peers.peers.items c.in_ok-played.played.items c.in_ok-peers.ensures.peers.links c.in_ok-played.ensures.played
+end_session-requires g c = (
+  search rules,
+  linked_on (turns_of c.args.scripts.now) c.in_ok-peers.peers.items c.in_ok-played.played.items c.in_ok-peers.ensures.peers.links c.in_ok-played.ensures.played,
+)
 
 pub returns-clause-no_fault : goal.returns-clause-no_fault
 returns-clause-no_fault g c =
