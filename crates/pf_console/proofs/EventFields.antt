@@ -11,17 +11,19 @@ use Rattle.pf_num.specs.Fx.{max_raw, IsRaw}
 use Rattle.pf_text.specs.Numbers.{whole_of, integer}
 use Rattle.pf_text.proofs.DecimalText.{whole-signed_decimal}
 use Rattle.pf_shapes.specs.declared.fixture.TheConstants.{PLAYERS}
+use Rattle.pf_shapes.specs.declared.scene.TheConstants.{MAX_POSITION}
+use Rattle.pf_commands.specs.Coordinate.{IsCoordinate}
 use Rattle.pf_commands.specs.declared.payload.Command.{Command}
 use Rattle.pf_commands.specs.declared.payload.Payload.{Payload}
-use Rattle.pf_commands.specs.declared.payload.Payload.TheVariants.{Push, Turn, Stop}
+use Rattle.pf_commands.specs.declared.payload.Payload.TheVariants.{Push, Turn, Stop, Place}
 use Rattle.pf_commands.specs.Payload.{IsPayload}
 use Rattle.pf_commands.specs.Frame.{IsFrameable, encoding}
 use Rattle.pf_commands.proofs.Encoding.{encoding_encodes}
 use Rattle.pf_commands.proofs.Frames.{encoded_decodes}
 use Rattle.pf_peers.specs.declared.event.Event.{Event}
-use Rattle.pf_peers.specs.declared.event.Event.TheVariants.{Issue, Take, Merge, Advance, Settle, Show}
+use Rattle.pf_peers.specs.declared.event.Event.TheVariants.{Issue, Take, Merge, Advance, Settle, Show, Seal}
 use Rattle.pf_console.specs.Digits.{frame_or_error, bytes_or_error, frame_of}
-use Rattle.pf_console.specs.Grammar.{peer_of, tick_of, body_of, real_of, event_of, issue_of, push_of, turn_of, stop_of, take_of, merge_of, advance_of, settle_of, show_of}
+use Rattle.pf_console.specs.Grammar.{peer_of, tick_of, body_of, real_of, coordinate_of, event_of, issue_of, push_of, turn_of, stop_of, place_of, take_of, merge_of, advance_of, settle_of, show_of, seal_of}
 use Rattle.pf_console.specs.EventEncoding.{payload_fields, event_fields, IsEncodable}
 
 -- ---- numbers
@@ -46,6 +48,9 @@ read_body body small = rw (read_number (pos 0) (pos 65535) (pos body) (omega ari
 read_real : (z : ℤ) → IsRaw z → real_of (signed_decimal z) ≡ Ok z
 read_real z raw = read_number (neg_ℤ max_raw) max_raw z (omega arith) (omega (arith, ints)) (omega (arith, ints))
 
+read_coordinate : (z : ℤ) → IsCoordinate z → coordinate_of (signed_decimal z) ≡ Ok z
+read_coordinate z small = read_number (neg_ℤ MAX_POSITION) MAX_POSITION z (omega arith) (omega (arith, ints)) (omega (arith, ints))
+
 -- ---- frames
 
 pub read_frame : (c : Command) → IsFrameable c → frame_of (encode_lower (encoding c)) ≡ Ok (Ok c)
@@ -57,15 +62,17 @@ read_frame c h =
 
 read_issue : (peers peer : ℕ) (payload : Payload) → peers ≤ PLAYERS → peer < peers → IsPayload payload
     → issue_of peers (decimal peer ∷ payload_fields payload) ≡ Ok (Issue peer payload)
-unfolding issue_of push_of turn_of stop_of
+unfolding issue_of push_of turn_of stop_of place_of
 read_issue peers peer (Push body x y) few e h =
     rw (read_peer peers peer few e, read_body body h.body, read_real x h.x, read_real y h.y) refl
 read_issue peers peer (Turn body x) few e h = rw (read_peer peers peer few e, read_body body h.body, read_real x h.x) refl
 read_issue peers peer (Stop body) few e h = rw (read_peer peers peer few e, read_body body h.body) refl
+read_issue peers peer (Place body x y) few e h =
+    rw (read_peer peers peer few e, read_body body h.body, read_coordinate x (h.coordinates refl).0, read_coordinate y (h.coordinates refl).1) refl
 
 pub read_event : (peers : ℕ) (event : Event) → peers ≤ PLAYERS → IsEncodable peers event
     → event_of peers (event_fields event) ≡ Ok event
-unfolding event_of take_of merge_of advance_of settle_of show_of
+unfolding event_of take_of merge_of advance_of settle_of show_of seal_of
 read_event peers (Issue peer payload) few h = read_issue peers peer payload few h.0 h.1
 read_event peers (Take peer (Ok c)) few h = rw (read_peer peers peer few h.0, read_frame c h.1) refl
 read_event peers (Take peer (Err fault)) few h = elim h [ ]
@@ -73,3 +80,4 @@ read_event peers (Merge peer other) few h = rw (read_peer peers peer few h.0, re
 read_event peers (Advance peer ticks) few h = rw (read_peer peers peer few h.0, read_tick ticks h.1) refl
 read_event peers (Settle peer) few h = rw (read_peer peers peer few h) refl
 read_event peers (Show peer tick) few h = rw (read_peer peers peer few h.0, read_tick tick h.1) refl
+read_event peers (Seal peer tick) few h = rw (read_peer peers peer few h.0, read_tick tick h.1) refl

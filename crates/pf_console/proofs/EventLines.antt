@@ -17,12 +17,12 @@ use Rattle.pf_text.proofs.DecimalText.{decimal_digits}
 use Rattle.pf_num.specs.Fx.{IsRaw}
 use Rattle.pf_shapes.specs.declared.fixture.TheConstants.{PLAYERS}
 use Rattle.pf_commands.specs.declared.payload.Payload.{Payload}
-use Rattle.pf_commands.specs.declared.payload.Payload.TheVariants.{Push, Turn, Stop}
+use Rattle.pf_commands.specs.declared.payload.Payload.TheVariants.{Push, Turn, Stop, Place}
 use Rattle.pf_commands.specs.Payload.{IsPayload}
 use Rattle.pf_commands.specs.Frame.{encoding}
 use Rattle.pf_commands.proofs.Encoding.{encoding_encodes}
 use Rattle.pf_peers.specs.declared.event.Event.{Event}
-use Rattle.pf_peers.specs.declared.event.Event.TheVariants.{Issue, Take, Merge, Advance, Settle, Show}
+use Rattle.pf_peers.specs.declared.event.Event.TheVariants.{Issue, Take, Merge, Advance, Settle, Show, Seal}
 use Rattle.pf_console.specs.Laws.{IsLineOf, AreLinesOf}
 use Rattle.pf_console.specs.EventEncoding.{payload_fields, event_fields, event_line, IsEncodable}
 use Rattle.pf_console.proofs.EventFields.{read_event}
@@ -142,6 +142,8 @@ payload_words (Turn body x) h =
     (word (codes "turn") refl (omega arith) (omega arith), (decimal_word body (omega (arith, h.body)), (signed_word x h.x, tt)))
 payload_words (Stop body) h =
     (word (codes "stop") refl (omega arith) (omega arith), (decimal_word body (omega (arith, h.body)), tt))
+payload_words (Place body x y) h =
+    (word (codes "place") refl (omega arith) (omega arith), (decimal_word body (omega (arith, h.body)), (signed_word x h.x, (signed_word y h.y, tt))))
 
 event_words : (peers : ℕ) (event : Event) → peers ≤ PLAYERS → IsEncodable peers event → AreWords (event_fields event)
 event_words peers (Issue peer payload) few h =
@@ -157,11 +159,14 @@ event_words peers (Settle peer) few h =
     (word (codes "settle") refl (omega arith) (omega arith), (peer_word peers peer few h, tt))
 event_words peers (Show peer tick) few h =
     (word (codes "show") refl (omega arith) (omega arith), (peer_word peers peer few h.0, (decimal_word tick (omega (arith, h.1)), tt)))
+event_words peers (Seal peer tick) few h =
+    (word (codes "seal") refl (omega arith) (omega arith), (peer_word peers peer few h.0, (decimal_word tick (omega (arith, h.1)), tt)))
 
 payload_count : (payload : Payload) → length (payload_fields payload) ≤ 4
 payload_count (Push body x y) = omega arith
 payload_count (Turn body x) = omega arith
 payload_count (Stop body) = omega arith
+payload_count (Place body x y) = omega arith
 
 event_count : (peers : ℕ) (event : Event) → peers ≤ PLAYERS → IsEncodable peers event → (0 < length (event_fields event)) × (length (event_fields event) ≤ 6)
 event_count peers (Issue peer payload) few h = (omega arith, omega (arith, payload_count payload))
@@ -171,17 +176,20 @@ event_count peers (Merge peer other) few h = (omega arith, omega arith)
 event_count peers (Advance peer ticks) few h = (omega arith, omega arith)
 event_count peers (Settle peer) few h = (omega arith, omega arith)
 event_count peers (Show peer tick) few h = (omega arith, omega arith)
+event_count peers (Seal peer tick) few h = (omega arith, omega arith)
 
 event_not_skipped : (peers : ℕ) (event : Event) → peers ≤ PLAYERS → IsEncodable peers event → is_skipped (event_line event) ≡ false
 event_not_skipped peers (Issue peer (Push body x y)) few h = refl
 event_not_skipped peers (Issue peer (Turn body x)) few h = refl
 event_not_skipped peers (Issue peer (Stop body)) few h = refl
+event_not_skipped peers (Issue peer (Place body x y)) few h = refl
 event_not_skipped peers (Take peer (Ok c)) few h = refl
 event_not_skipped peers (Take peer (Err fault)) few h = elim h [ ]
 event_not_skipped peers (Merge peer other) few h = refl
 event_not_skipped peers (Advance peer ticks) few h = refl
 event_not_skipped peers (Settle peer) few h = refl
 event_not_skipped peers (Show peer tick) few h = refl
+event_not_skipped peers (Seal peer tick) few h = refl
 
 pub line_of_event : (peers : ℕ) (event : Event) → peers ≤ PLAYERS → IsEncodable peers event
     → IsLineOf peers (event_line event) event

@@ -9,7 +9,7 @@ use Rattle.pf_links.specs.Link.{Frame}
 use Rattle.pf_scripts.specs.Frames.{commands_in}
 use Rattle.pf_scripts.specs.Script.{frames_of, ticks_of, frames_in}
 use Rattle.pf_scripts.specs.declared.turn.Turn.{Turn}
-use Rattle.pf_sessions.specs.Session.{all_commands, results_from, session_results}
+use Rattle.pf_sessions.specs.Session.{unsealed, all_commands, results_from, session_results}
 use Rattle.pf_console.specs.Blocks.{result_block}
 use Rattle.pf_console.specs.Scripts.{blocks_from, blocks_of, commands_of}
 use Rattle.pf_console.specs.Turns.{said_by}
@@ -33,7 +33,7 @@ same_all_frames [] = refl
 same_all_frames (script ∷ scripts) = rw (same_frames script, same_all_frames scripts) refl
 
 same_commands : (s : Scene) (scripts : List (List Turn)) → commands_of s (map (map said_by) scripts) ≡ all_commands s scripts
-same_commands s scripts = ap (λ (frames : List Frame). put_all empty (commands_in s frames)) (same_all_frames scripts)
+same_commands s scripts = ap (λ (frames : List Frame). put_all empty (commands_in (unsealed s) frames)) (same_all_frames scripts)
 
 blocks_are : (s : Scene) (commands : CommandMap) (first : ℕ) (scripts : List (List Turn))
     → flat_map (result_block s.fixtures) (results_from s commands first scripts) ≡ blocks_from s commands first (map (map said_by) scripts)

@@ -12,7 +12,7 @@ use Rattle.pf_scripts.specs.Script.{first_fault, frame_fault, frames_in, place_a
 use Rattle.pf_scripts.specs.declared.fault.SessionFault.{SessionFault}
 use Rattle.pf_scripts.specs.declared.fault.SessionFault.TheVariants as faults
 use Rattle.pf_scripts.specs.declared.turn.Turn.{Turn}
-use Rattle.pf_sessions.specs.Session.{session_fault}
+use Rattle.pf_sessions.specs.Session.{session_fault, unsealed}
 use Rattle.pf_console.specs.Blocks.{fault_of}
 use Rattle.pf_console.specs.Scripts.{first_of, frames_refusal, script_refusal, scripts_refusal, ticks_refusal}
 use Rattle.pf_console.specs.Turns.{said_by}
@@ -32,13 +32,13 @@ frame_tells : (peer place : ℕ) (refusal : Option Refusal) → Tells (option_ma
 frame_tells peer place (Some refusal) = refl
 frame_tells peer place None = refl
 
-frames_tell : (s : Scene) (peer place : ℕ) (frames : List Frame) → Tells (frame_fault s peer place frames) (frames_refusal s frames)
+frames_tell : (s : Scene) (peer place : ℕ) (frames : List Frame) → Tells (frame_fault (unsealed s) peer place frames) (frames_refusal s frames)
 unfolding frame_fault frames_refusal
 frames_tell s peer place [] = refl
 frames_tell s peer place (frame ∷ frames) =
-    first_tells (option_map (faults.Frame peer place) (refusal_of s frame)) (frame_fault s peer (saturating_sum place 1) frames)
-    (refusal_of s frame) (frames_refusal s frames)
-    (frame_tells peer place (refusal_of s frame)) (frames_tell s peer (saturating_sum place 1) frames)
+    first_tells (option_map (faults.Frame peer place) (refusal_of (unsealed s) frame)) (frame_fault (unsealed s) peer (saturating_sum place 1) frames)
+    (refusal_of (unsealed s) frame) (frames_refusal s frames)
+    (frame_tells peer place (refusal_of (unsealed s) frame)) (frames_tell s peer (saturating_sum place 1) frames)
 
 ticks_tell : (peer reached ticks : ℕ) → Tells (tick_fault peer reached ticks) (ticks_refusal reached ticks)
 ticks_tell peer reached ticks = by (nat_le (reached + ticks) MAX_TICK)
@@ -48,15 +48,15 @@ ticks_tell peer reached ticks = by (nat_le (reached + ticks) MAX_TICK)
     by false = refl
 
 script_tells : (s : Scene) (peer place reached : ℕ) (turns : List Turn)
-    → Tells (script_fault s peer place reached turns) (script_refusal s reached (map said_by turns))
+    → Tells (script_fault (unsealed s) peer place reached turns) (script_refusal s reached (map said_by turns))
 unfolding script_fault script_refusal
 script_tells s peer place reached [] = refl
 script_tells s peer place reached (turn ∷ turns) =
-    first_tells (turn_fault s peer place reached turn)
-    (script_fault s peer (place_after place (frames_in turn)) (reached + turn.ticks) turns)
+    first_tells (turn_fault (unsealed s) peer place reached turn)
+    (script_fault (unsealed s) peer (place_after place (frames_in turn)) (reached + turn.ticks) turns)
     (first_of (frames_refusal s (frames_in turn)) (ticks_refusal reached turn.ticks))
     (script_refusal s (reached + turn.ticks) (map said_by turns))
-    (first_tells (frame_fault s peer place (frames_in turn)) (tick_fault peer reached turn.ticks)
+    (first_tells (frame_fault (unsealed s) peer place (frames_in turn)) (tick_fault peer reached turn.ticks)
     (frames_refusal s (frames_in turn)) (ticks_refusal reached turn.ticks)
     (frames_tell s peer place (frames_in turn)) (ticks_tell peer reached turn.ticks))
     (script_tells s peer (place_after place (frames_in turn)) (reached + turn.ticks) turns)
@@ -66,7 +66,7 @@ pub session_tells : (s : Scene) (first : ℕ) (scripts : List (List Turn))
 unfolding session_fault scripts_refusal
 session_tells s first [] = refl
 session_tells s first (script ∷ scripts) =
-    first_tells (script_fault s first 0 0 script) (session_fault s (first + 1) scripts)
+    first_tells (script_fault (unsealed s) first 0 0 script) (session_fault s (first + 1) scripts)
     (script_refusal s 0 (map said_by script)) (scripts_refusal s (map (map said_by) scripts))
     (script_tells s first 0 0 script) (session_tells s (first + 1) scripts)
 

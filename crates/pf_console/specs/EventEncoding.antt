@@ -5,11 +5,11 @@ use Rattle.std.specs.Fmt.{signed_decimal}
 use Rattle.std.specs.List.{join_with_byte}
 use Rattle.hex.specs.Hex.{encode_lower}
 use Rattle.pf_commands.specs.declared.payload.Payload.{Payload}
-use Rattle.pf_commands.specs.declared.payload.Payload.TheVariants.{Push, Turn, Stop}
+use Rattle.pf_commands.specs.declared.payload.Payload.TheVariants.{Push, Turn, Stop, Place}
 use Rattle.pf_commands.specs.Payload.{IsPayload}
 use Rattle.pf_commands.specs.Frame.{IsFrameable, encoding}
 use Rattle.pf_peers.specs.declared.event.Event.{Event}
-use Rattle.pf_peers.specs.declared.event.Event.TheVariants.{Issue, Take, Merge, Advance, Settle, Show}
+use Rattle.pf_peers.specs.declared.event.Event.TheVariants.{Issue, Take, Merge, Advance, Settle, Show, Seal}
 
 -- what is issued: its kind, its body and its numbers
 abbrev pub payload_fields : Payload → List (List ℕ)
@@ -17,6 +17,8 @@ payload_fields (Push body x y) =
     codes "push" ∷ decimal body ∷ signed_decimal x ∷ signed_decimal y ∷ []
 payload_fields (Turn body x) = codes "turn" ∷ decimal body ∷ signed_decimal x ∷ []
 payload_fields (Stop body) = codes "stop" ∷ decimal body ∷ []
+payload_fields (Place body x y) =
+    codes "place" ∷ decimal body ∷ signed_decimal x ∷ signed_decimal y ∷ []
 
 -- the fields of an event; bytes that encode no command have no line here
 abbrev pub event_fields : Event → List (List ℕ)
@@ -27,6 +29,7 @@ event_fields (Merge peer other) = codes "merge" ∷ decimal peer ∷ decimal oth
 event_fields (Advance peer ticks) = codes "advance" ∷ decimal peer ∷ decimal ticks ∷ []
 event_fields (Settle peer) = codes "settle" ∷ decimal peer ∷ []
 event_fields (Show peer tick) = codes "show" ∷ decimal peer ∷ decimal tick ∷ []
+event_fields (Seal peer tick) = codes "seal" ∷ decimal peer ∷ decimal tick ∷ []
 
 -- the line of an event
 abbrev pub event_line : Event → List ℕ
@@ -41,3 +44,4 @@ IsEncodable peers (Merge peer other) = (peer < peers) × (other < peers)
 IsEncodable peers (Advance peer ticks) = (peer < peers) × (ticks < 2 ^ 32)
 IsEncodable peers (Settle peer) = peer < peers
 IsEncodable peers (Show peer tick) = (peer < peers) × (tick < 2 ^ 32)
+IsEncodable peers (Seal peer tick) = (peer < peers) × (tick < 2 ^ 32)

@@ -9,9 +9,10 @@ use Rattle.pf_text.specs.declared.fault.LineFault.TheVariants.{BadLine}
 use Rattle.pf_text.specs.Fault.{◌>>=◌}
 use Rattle.pf_text.specs.Numbers.{whole_of, integer}
 use Rattle.pf_rot.specs.Vector.{V2}
+use Rattle.pf_shapes.specs.declared.scene.TheConstants.{MAX_POSITION}
 use Rattle.pf_peers.specs.declared.event.Event.{Event}
-use Rattle.pf_commands.specs.declared.payload.Payload.TheVariants.{Push, Turn, Stop}
-use Rattle.pf_peers.specs.declared.event.Event.TheVariants.{Issue, Take, Merge, Advance, Settle, Show}
+use Rattle.pf_commands.specs.declared.payload.Payload.TheVariants.{Push, Turn, Stop, Place}
+use Rattle.pf_peers.specs.declared.event.Event.TheVariants.{Issue, Take, Merge, Advance, Settle, Show, Seal}
 use Rattle.pf_console.specs.declared.grammar.EventWord.{EventWord}
 use Rattle.pf_console.specs.declared.grammar.EventWord.TheVariants as words
 use Rattle.pf_console.specs.declared.grammar.Kind.{Kind}
@@ -39,7 +40,8 @@ word_of field =
     else (if bytes_eq field (codes "advance") then Some words.Advance
     else (if bytes_eq field (codes "settle") then Some words.Settle
     else (if bytes_eq field (codes "show") then Some words.Show
-    else None)))))
+    else (if bytes_eq field (codes "seal") then Some words.Seal
+    else None))))))
 
 -- the kind of a command
 abbrev pub kind_of : List ℕ → Option Kind
@@ -47,7 +49,8 @@ kind_of field =
     if bytes_eq field (codes "push") then Some kinds.Push
     else (if bytes_eq field (codes "turn") then Some kinds.Turn
     else (if bytes_eq field (codes "stop") then Some kinds.Stop
-    else None))
+    else (if bytes_eq field (codes "place") then Some kinds.Place
+    else None)))
 
 -- the number of a body
 abbrev pub body_of : List ℕ → Result ℕ LineFault
@@ -63,6 +66,17 @@ impulse_of x y = do
   x ← real_of x
   y ← real_of y
   Ok (record { x = x; y = y })
+
+-- a coordinate of a position, in the range of those of scenes
+abbrev pub coordinate_of : List ℕ → Result ℤ LineFault
+coordinate_of field = integer (neg_ℤ MAX_POSITION) MAX_POSITION (whole_of field)
+
+-- a position
+abbrev pub position_of : List ℕ → List ℕ → Result (ℤ × ℤ) LineFault
+position_of x y = do
+  x ← coordinate_of x
+  y ← coordinate_of y
+  Ok (x, y)
 
 -- `issue P push B X Y`
 unfoldable pub push_of : ℕ → List ℕ → List (List ℕ) → Result Event LineFault
@@ -90,10 +104,20 @@ stop_of peers peer (body ∷ []) = do
   Ok (Issue peer (Stop body))
 stop_of peers peer args = Err BadLine
 
+-- `issue P place B X Y`
+unfoldable pub place_of : ℕ → List ℕ → List (List ℕ) → Result Event LineFault
+place_of peers peer (body ∷ x ∷ y ∷ []) = do
+  peer ← peer_of peers peer
+  body ← body_of body
+  position ← position_of x y
+  Ok (Issue peer (Place body position.0 position.1))
+place_of peers peer args = Err BadLine
+
 abbrev pub issue_by_kind : ℕ → Option Kind → List ℕ → List (List ℕ) → Result Event LineFault
 issue_by_kind peers (Some kinds.Push) peer args = push_of peers peer args
 issue_by_kind peers (Some kinds.Turn) peer args = turn_of peers peer args
 issue_by_kind peers (Some kinds.Stop) peer args = stop_of peers peer args
+issue_by_kind peers (Some kinds.Place) peer args = place_of peers peer args
 issue_by_kind peers None peer args = Err BadLine
 
 -- `issue P` and what is issued
@@ -140,6 +164,14 @@ show_of peers (peer ∷ tick ∷ []) = do
   Ok (Show peer tick)
 show_of peers args = Err BadLine
 
+-- `seal P H`
+unfoldable pub seal_of : ℕ → List (List ℕ) → Result Event LineFault
+seal_of peers (peer ∷ tick ∷ []) = do
+  peer ← peer_of peers peer
+  tick ← tick_of tick
+  Ok (Seal peer tick)
+seal_of peers args = Err BadLine
+
 abbrev pub event_by_word : ℕ → Option EventWord → List (List ℕ) → Result Event LineFault
 event_by_word peers (Some words.Issue) args = issue_of peers args
 event_by_word peers (Some words.Take) args = take_of peers args
@@ -147,6 +179,7 @@ event_by_word peers (Some words.Merge) args = merge_of peers args
 event_by_word peers (Some words.Advance) args = advance_of peers args
 event_by_word peers (Some words.Settle) args = settle_of peers args
 event_by_word peers (Some words.Show) args = show_of peers args
+event_by_word peers (Some words.Seal) args = seal_of peers args
 event_by_word peers None args = Err BadLine
 
 -- the event that a line's fields encode, on one of so many peers

@@ -7,7 +7,7 @@ use Rattle.pf_commands.specs.declared.fault.FrameFault.TheVariants.{Short, Long,
 use Rattle.pf_commands.specs.declared.map.Put.{Put}
 use Rattle.pf_commands.specs.declared.map.Put.TheVariants.{New, Same, Greater, Lesser}
 use Rattle.pf_rollback.specs.declared.fault.Refusal.{Refusal}
-use Rattle.pf_rollback.specs.declared.fault.Refusal.TheVariants.{TickLimit, NumbersSpent, Frame, Check, NotReached}
+use Rattle.pf_rollback.specs.declared.fault.Refusal.TheVariants.{TickLimit, NumbersSpent, Frame, Check, NotReached, TooOld, HorizonsDiffer, BasesDiffer}
 use Rattle.pf_step.specs.declared.crew.CrewError.{CrewError}
 use Rattle.pf_step.specs.declared.crew.CrewError.TheVariants.{OutOfMemory, NoThread, GateShut, CrewLost}
 
@@ -31,6 +31,9 @@ refusal_name NumbersSpent = codes "NumbersSpent"
 refusal_name (Frame fault) = frame_fault_name fault
 refusal_name (Check fault) = check_fault_name fault
 refusal_name (NotReached reached) = codes "NotReached"
+refusal_name (TooOld horizon) = codes "TooOld"
+refusal_name (HorizonsDiffer own other) = codes "HorizonsDiffer"
+refusal_name BasesDiffer = codes "BasesDiffer"
 
 abbrev pub crew_error_name : CrewError → List ℕ
 crew_error_name OutOfMemory = codes "OutOfMemory"

@@ -7,13 +7,13 @@ use Rattle.pf_shapes.specs.Fixture.{Fixture, is_static}
 use Rattle.pf_shapes.specs.Body.{BodyState}
 use Rattle.pf_commands.specs.declared.payload.Command.{Command}
 use Rattle.pf_commands.specs.declared.payload.Payload.{Payload}
-use Rattle.pf_commands.specs.declared.payload.Payload.TheVariants.{Push, Turn, Stop}
+use Rattle.pf_commands.specs.declared.payload.Payload.TheVariants.{Push, Turn, Stop, Place}
 use Rattle.pf_cache.specs.Contact.{Contact}
 use Rattle.pf_peers.specs.declared.event.Reply.{Reply}
-use Rattle.pf_peers.specs.declared.event.Reply.TheVariants.{Issued, Took, Merged, Advanced, Settled, Shown, Refused}
+use Rattle.pf_peers.specs.declared.event.Reply.TheVariants.{Issued, Took, Merged, Advanced, Settled, Shown, Sealed, Refused}
 use Rattle.pf_step.specs.World.{World}
 use Rattle.pf_rollback.specs.declared.fault.Refusal.{Refusal}
-use Rattle.pf_rollback.specs.declared.fault.Refusal.TheVariants.{NotReached}
+use Rattle.pf_rollback.specs.declared.fault.Refusal.TheVariants.{NotReached, TooOld, HorizonsDiffer}
 use Rattle.pf_console.specs.Names.{put_name, refusal_name}
 
 -- what a command does, and the line's end
@@ -21,6 +21,7 @@ abbrev pub payload_text : Payload → List ℕ
 payload_text (Push body x y) = line_text (codes " push") (pos body ∷ x ∷ y ∷ [])
 payload_text (Turn body x) = line_text (codes " turn") (pos body ∷ x ∷ [])
 payload_text (Stop body) = line_text (codes " stop") (pos body ∷ [])
+payload_text (Place body x y) = line_text (codes " place") (pos body ∷ x ∷ y ∷ [])
 
 -- the line of a command: its name, and what it does
 unfoldable pub command_line : Command → List ℕ
@@ -75,8 +76,12 @@ reply_line word peer answer = words_text word (pos peer ∷ []) ++ 32 ∷ answer
 abbrev pub refusal_line : List ℕ → List ℕ
 refusal_line name = codes "refused " ++ name ++ 10 ∷ []
 
+-- a rejection by its name, and the ticks that it tells
 unfoldable pub refusal_text : Refusal → List ℕ
 refusal_text (NotReached reached) = line_text (codes "refused NotReached") (pos reached ∷ [])
+refusal_text (TooOld horizon) = line_text (codes "refused TooOld") (pos horizon ∷ [])
+refusal_text (HorizonsDiffer own other) =
+    line_text (codes "refused HorizonsDiffer") (pos own ∷ pos other ∷ [])
 refusal_text refusal = refusal_line (refusal_name refusal)
 
 -- the text of a reply, whose worlds have these fixtures
@@ -89,4 +94,5 @@ reply_text fixtures (Advanced peer reached) =
 reply_text fixtures (Settled peer reached) =
     line_text (codes "settle") (pos peer ∷ pos reached ∷ [])
 reply_text fixtures (Shown peer tick world) = block_text fixtures peer tick world
+reply_text fixtures (Sealed peer tick) = line_text (codes "seal") (pos peer ∷ pos tick ∷ [])
 reply_text fixtures (Refused refusal) = refusal_text refusal

@@ -16,6 +16,7 @@ use Rattle.pf_links.specs.Link.{Frame}
 use Rattle.pf_rollback.specs.declared.fault.Refusal.{Refusal}
 use Rattle.pf_rollback.specs.declared.fault.Refusal.TheVariants.{TickLimit}
 use Rattle.pf_scripts.specs.Frames.{commands_in, refusal_of}
+use Rattle.pf_sessions.specs.Session.{unsealed}
 use Rattle.pf_step.specs.Simulation.{sim}
 use Rattle.pf_console.specs.PlayRules.{PlayRules}
 use Rattle.pf_console.specs.Print.{block_text}
@@ -63,7 +64,8 @@ first_of None later = later
 -- why peers of the scene refuse the first of these frames that they refuse, if they refuse one
 unfoldable pub frames_refusal : Scene → List Frame → Option Refusal
 frames_refusal s [] = None
-frames_refusal s (frame ∷ frames) = first_of (refusal_of s frame) (frames_refusal s frames)
+frames_refusal s (frame ∷ frames) =
+    first_of (refusal_of (unsealed s) frame) (frames_refusal s frames)
 
 -- going on by so many ticks from this one is refused where it passes the last tick
 abbrev pub ticks_refusal : ℕ → ℕ → Option Refusal
@@ -88,7 +90,8 @@ scripts_refusal s (script ∷ scripts) =
 -- the commands of all scripts, merged
 abbrev pub commands_of : Scene → List (List Turn) → CommandMap
 commands_of s scripts =
-    put_all empty (commands_in s (flat_map (λ script. flat_map (λ turn. turn.frames) script) scripts))
+    put_all empty (commands_in (unsealed s)
+    (flat_map (λ script. flat_map (λ turn. turn.frames) script) scripts))
 
 -- each peer's block at the sum of its own ticks, of the simulation from tick zero of these commands;
 -- the first script is that of the peer of this number

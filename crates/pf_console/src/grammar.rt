@@ -2,13 +2,14 @@
 
 ghost use Rattle.std.specs.Prelude.{◌≡◌, ◌<◌, map, IfOk};
 ghost use Rattle.pf_peers.specs.Session.{IsAmong};
-ghost use Rattle.pf_console.specs.Grammar.{peer_of, tick_of, body_of, real_of, impulse_of, word_of, kind_of, push_of, turn_of, stop_of, issue_of, take_of, merge_of, advance_of, settle_of, show_of, event_of};
+ghost use Rattle.pf_console.specs.Grammar.{peer_of, tick_of, body_of, real_of, impulse_of, coordinate_of, position_of, word_of, kind_of, push_of, turn_of, stop_of, place_of, issue_of, take_of, merge_of, advance_of, settle_of, show_of, event_of, seal_of};
 
 use crate::digits::frame;
-use pf_commands::Payload;
+use pf_commands::{Coordinate, Payload};
 use pf_num::Fx;
 use pf_peers::Event;
 use pf_rot::V2;
+use pf_shapes::MAX_POSITION;
 use pf_text::{LineFault, ParsedNumber, number};
 
 /// The first field of an event's line.
@@ -20,6 +21,7 @@ pub enum EventWord {
     Advance,
     Settle,
     Show,
+    Seal,
 }
 
 /// What a command does, in the third field of its line.
@@ -28,6 +30,7 @@ pub enum Kind {
     Push,
     Turn,
     Stop,
+    Place,
 }
 
 /// The word that a field is, if it is one.
@@ -46,6 +49,8 @@ fn word(field: &[u8]) -> Option<EventWord>
         Some(EventWord::Settle)
     } else if field == b"show".as_slice() {
         Some(EventWord::Show)
+    } else if field == b"seal".as_slice() {
+        Some(EventWord::Seal)
     } else {
         None
     }
@@ -61,6 +66,8 @@ fn kind_in(field: &[u8]) -> Option<Kind>
         Some(Kind::Turn)
     } else if field == b"stop".as_slice() {
         Some(Kind::Stop)
+    } else if field == b"place".as_slice() {
+        Some(Kind::Place)
     } else {
         None
     }
@@ -117,6 +124,26 @@ fn impulse(x: &[u8], y: &[u8]) -> Result<V2, LineFault>
     })
 }
 
+/// A coordinate of a position, in units of 2^-24.
+fn coordinate(field: &[u8]) -> Result<Coordinate, LineFault>
+    ensures { result ≡ coordinate_of field.now }
+{
+    let ParsedNumber::InRange(raw) = number(field, -MAX_POSITION, MAX_POSITION) else {
+        return Err(LineFault::BadNumber);
+    };
+    match Fx::from_raw(raw) {
+        Some(value) => Coordinate::new(value).ok_or(LineFault::BadNumber),
+        None => Err(LineFault::BadNumber),
+    }
+}
+
+/// A position.
+fn position(x: &[u8], y: &[u8]) -> Result<(Coordinate, Coordinate), LineFault>
+    ensures { result ≡ position_of x.now y.now }
+{
+    Ok((coordinate(x)?, coordinate(y)?))
+}
+
 /// `issue P push B X Y`.
 #[tactic(auto, unfolding(crate::specs::Grammar::push_of))]
 fn push(peers: u8, of: &[u8], arguments: &[&[u8]]) -> Result<Event, LineFault>
@@ -164,6 +191,22 @@ fn stop(peers: u8, of: &[u8], arguments: &[&[u8]]) -> Result<Event, LineFault>
     Ok(Event::Issue { peer, payload })
 }
 
+/// `issue P place B X Y`.
+#[tactic(auto, unfolding(crate::specs::Grammar::place_of))]
+fn place(peers: u8, of: &[u8], arguments: &[&[u8]]) -> Result<Event, LineFault>
+    ensures value { result ≡ place_of peers of.now (map (λ field. field.now) arguments.now) }
+    ensures peer { IfOk result (IsAmong peers) }
+{
+    let [moved, x, y] = arguments else {
+        return Err(LineFault::BadLine);
+    };
+    let peer = peer(peers, of)?;
+    let body = body(moved)?;
+    let (x, y) = position(x, y)?;
+    let payload = Payload::Place { body, x, y };
+    Ok(Event::Issue { peer, payload })
+}
+
 /// `issue P` and what is issued.
 #[tactic(auto, unfolding(crate::specs::Grammar::issue_of))]
 fn issue(peers: u8, arguments: &[&[u8]]) -> Result<Event, LineFault>
@@ -177,6 +220,7 @@ fn issue(peers: u8, arguments: &[&[u8]]) -> Result<Event, LineFault>
         Some(Kind::Push) => push(peers, of, arguments),
         Some(Kind::Turn) => turn(peers, of, arguments),
         Some(Kind::Stop) => stop(peers, of, arguments),
+        Some(Kind::Place) => place(peers, of, arguments),
         None => Err(LineFault::BadLine),
     }
 }
@@ -253,6 +297,21 @@ fn show(peers: u8, arguments: &[&[u8]]) -> Result<Event, LineFault>
     })
 }
 
+/// `seal P H`.
+#[tactic(auto, unfolding(crate::specs::Grammar::seal_of))]
+fn seal(peers: u8, arguments: &[&[u8]]) -> Result<Event, LineFault>
+    ensures value { result ≡ seal_of peers (map (λ field. field.now) arguments.now) }
+    ensures peer { IfOk result (IsAmong peers) }
+{
+    let [of, horizon] = arguments else {
+        return Err(LineFault::BadLine);
+    };
+    Ok(Event::Seal {
+        peer: peer(peers, of)?,
+        tick: tick(horizon)?,
+    })
+}
+
 /// The event that a line's fields encode, on one of so many peers.
 #[tactic(auto, unfolding(crate::specs::Grammar::event_of))]
 pub fn event(peers: u8, fields: &[&[u8]]) -> Result<Event, LineFault>
@@ -269,6 +328,7 @@ pub fn event(peers: u8, fields: &[&[u8]]) -> Result<Event, LineFault>
         Some(EventWord::Advance) => advance(peers, arguments),
         Some(EventWord::Settle) => settle(peers, arguments),
         Some(EventWord::Show) => show(peers, arguments),
+        Some(EventWord::Seal) => seal(peers, arguments),
         None => Err(LineFault::BadLine),
     }
 }

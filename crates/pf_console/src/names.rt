@@ -42,6 +42,9 @@ pub fn refusal_name(refusal: Refusal) -> &'static str
         Refusal::Frame(fault) => frame_fault_name(fault),
         Refusal::Check(fault) => check_fault_name(fault),
         Refusal::NotReached(_) => "NotReached",
+        Refusal::TooOld(_) => "TooOld",
+        Refusal::HorizonsDiffer(..) => "HorizonsDiffer",
+        Refusal::BasesDiffer => "BasesDiffer",
     }
 }
 

@@ -31,6 +31,11 @@ fn push_payload(text: &mut String, payload: &Payload) -> Result<(), AllocError>
         }
         Payload::Turn { body, x } => push_line(text, " turn", &[i64::from(body), x.raw()]),
         Payload::Stop { body } => push_line(text, " stop", &[i64::from(body)]),
+        Payload::Place { body, x, y } => push_line(
+            text,
+            " place",
+            &[i64::from(body), x.value().raw(), y.value().raw()],
+        ),
     }
 }
 
@@ -155,6 +160,12 @@ fn push_refusal(text: &mut String, refusal: Refusal) -> Result<(), AllocError>
         Refusal::NotReached(reached) => {
             push_line(text, "refused NotReached", &[i64::from(reached)])
         }
+        Refusal::TooOld(horizon) => push_line(text, "refused TooOld", &[i64::from(horizon)]),
+        Refusal::HorizonsDiffer(own, other) => push_line(
+            text,
+            "refused HorizonsDiffer",
+            &[i64::from(own), i64::from(other)],
+        ),
         refusal => push_refusal_line(text, refusal_name(refusal)),
     }
 }
@@ -208,6 +219,9 @@ pub fn reply_text(alloc: Global, fixtures: &[Fixture], reply: &Reply) -> Result<
         }
         Reply::Shown { peer, tick, world } => {
             push_block(&mut text, fixtures, *peer, *tick, world)?;
+        }
+        Reply::Sealed { peer, tick } => {
+            push_line(&mut text, "seal", &[i64::from(*peer), i64::from(*tick)])?;
         }
         Reply::Refused(refusal) => push_refusal(&mut text, *refusal)?,
     }

@@ -46,7 +46,13 @@ pub fn run_text<P: Collider, R: Source, W: Sink, C: Crew>(
     ensures crew { FailsByCrew C.may_fail result }
 {
     let mut settler = Settler::new(collider, crew);
-    let read = drive(alloc, &mut settler, reader, writer, Phase::<Session>::first());
+    let read = drive(
+        alloc,
+        &mut settler,
+        reader,
+        writer,
+        Phase::<Session>::first(),
+    );
     outcome_of(read, settler.fault())?;
     Ok(())
 }

@@ -29,7 +29,8 @@ number of its command, and what it does:
 
   tick 0 player 0 number 0 push 0 16777216 0
   tick 0 player 0 number 1 turn 0 16777216
-  tick 0 player 0 number 2 stop 0";
+  tick 0 player 0 number 2 stop 0
+  tick 0 player 0 number 3 place 0 16777216 0";
 
 /// The option of `run` and of `session` that asks for crews.
 const CREW: &str = "crew";
@@ -48,11 +49,13 @@ each. P and Q are the numbers of peers, from 0:
   issue P push B X Y   gives body B an impulse now, and answers the command's frame
   issue P turn B X     gives body B an angular impulse
   issue P stop B       stops body B
+  issue P place B X Y  puts body B at (X, Y), at rest
   take P HEX           takes a command's frame, also of a tick that is past
   merge P Q            takes the commands of peer Q, and answers how many were new or greater
   advance P K          goes K ticks of 1/64 s further, and answers the tick reached
   settle P             simulates up to the tick reached, and answers that tick
   show P T             shows the world at tick T, at or below the tick reached
+  seal P H             forgets what came before tick H, which has been reached
 
 Numbers are whole, in units of 1/16777216. Save this text as scene.txt, a circle
 of mass 1 and radius 1 that falls with gravity 10:

@@ -104,7 +104,8 @@ fn a_session_has_the_same_blocks_with_crews(rt: HostRuntime) -> Result<(), Fail>
     Ok(())
 }
 
-/// A session of two peers, of which one has seventy frames in a turn: more than a link has room for.
+/// A session of two peers, of which one has seventy frames in a turn: more than a link has room
+/// for.
 fn seventy_frames(alloc: Global) -> Result<String, AllocError> {
     let mut text = String::from_str(
         alloc,
@@ -200,7 +201,7 @@ fn wrong_words_are_reported(rt: HostRuntime) -> Result<(), Fail> {
 }
 
 /// Digits of frames, and what is written of them: the lines that the help of `frame` shows.
-const FRAMES: [(&str, &str); 3] = [
+const FRAMES: [(&str, &str); 4] = [
     (
         "010000000000000000000000000000010000000000000000000000",
         "tick 0 player 0 number 0 push 0 16777216 0\n",
@@ -212,6 +213,10 @@ const FRAMES: [(&str, &str); 3] = [
     (
         "010000000000000202000000000000000000000000000000000000",
         "tick 0 player 0 number 2 stop 0\n",
+    ),
+    (
+        "020000000000000303000000000000010000000000000000000000",
+        "tick 0 player 0 number 3 place 0 16777216 0\n",
     ),
 ];
 
@@ -240,11 +245,13 @@ each. P and Q are the numbers of peers, from 0:
   issue P push B X Y   gives body B an impulse now, and answers the command's frame
   issue P turn B X     gives body B an angular impulse
   issue P stop B       stops body B
+  issue P place B X Y  puts body B at (X, Y), at rest
   take P HEX           takes a command's frame, also of a tick that is past
   merge P Q            takes the commands of peer Q, and answers how many were new or greater
   advance P K          goes K ticks of 1/64 s further, and answers the tick reached
   settle P             simulates up to the tick reached, and answers that tick
   show P T             shows the world at tick T, at or below the tick reached
+  seal P H             forgets what came before tick H, which has been reached
 
 Numbers are whole, in units of 1/16777216. Save this text as scene.txt, a circle
 of mass 1 and radius 1 that falls with gravity 10:
@@ -315,6 +322,7 @@ number of its command, and what it does:
   tick 0 player 0 number 0 push 0 16777216 0
   tick 0 player 0 number 1 turn 0 16777216
   tick 0 player 0 number 2 stop 0
+  tick 0 player 0 number 3 place 0 16777216 0
 ";
 
 #[test]

@@ -6,17 +6,17 @@ pub returns-clause-text : goal.returns-clause-text
 returns-clause-text g c = λ input before unread was.
     let t : Transfer = record {
       input = input;
-      left = g.R.Source.remaining c.drive.new.reader;
+      left = g.R.Source.remaining c.drive-read.new.reader;
       before = before;
-      after = g.W.Sink.contents c.drive.new.writer;
+      after = g.W.Sink.contents c.drive-read.new.writer;
     } in
-    rw c.outcome_of.ensures (reads t c.drive.result (rw c.first.ensures at (c.drive.ensures.driven input before unread was)))
+    rw c.outcome_of.ensures (reads t c.drive-read.result (rw c.first.ensures at (c.drive-read.ensures.driven input before unread was)))
 
 pub returns-clause-reads_counted : goal.returns-clause-reads_counted
-returns-clause-reads_counted g c = rw c.outcome_of.ensures (reads_counted _ _ c.drive.result c.drive.ensures.reads_counted)
+returns-clause-reads_counted g c = rw c.outcome_of.ensures (reads_counted _ _ c.drive-read.result c.drive-read.ensures.reads_counted)
 
 pub returns-clause-writes_counted : goal.returns-clause-writes_counted
-returns-clause-writes_counted g c = rw c.outcome_of.ensures (writes_counted _ _ c.drive.result c.drive.ensures.writes_counted)
+returns-clause-writes_counted g c = rw c.outcome_of.ensures (writes_counted _ _ c.drive-read.result c.drive-read.ensures.writes_counted)
 
 pub returns-clause-no_threads : goal.returns-clause-no_threads
-returns-clause-no_threads g c = rw c.outcome_of.ensures (names_none c.drive.result)
+returns-clause-no_threads g c = rw c.outcome_of.ensures (names_none c.drive-read.result)
