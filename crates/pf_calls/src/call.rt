@@ -2,7 +2,7 @@
 
 use crate::plan::{Plan, plan_of};
 use anyhow::{Context, Result, bail};
-use pf_commands::Payload;
+use pf_commands::{Coordinate, Payload};
 use pf_num::Fx;
 use pf_step::CrewError;
 use std::alloc::Global;
@@ -17,6 +17,9 @@ pub enum Call {
     Take { frame: Vec<u8> },
     /// Merges the commands of another peer.
     Merge { other: usize },
+    /// Merges what another peer holds, with its horizon and its world there.
+    MergeSealed { other: usize },
+    Seal { tick: u32 },
     Settle,
     /// Settles with a crew, which fails in this solve, if one is given.
     SettleWith { failure: Option<(u64, CrewError)> },
@@ -44,6 +47,11 @@ fn raw(word: &str) -> Result<Fx> {
     Fx::from_raw(raw).context("a number is out of range")
 }
 
+/// The coordinate in units of 2^-24 that a word encodes.
+fn coordinate(word: &str) -> Result<Coordinate> {
+    Coordinate::new(raw(word)?).context("a coordinate is out of range")
+}
+
 /// The number of a body that a word encodes.
 fn body_number(word: &str) -> Result<u16> {
     word.parse::<u16>().context("reading a body's number")
@@ -63,6 +71,11 @@ fn payload_of(words: &[&str]) -> Result<Payload> {
         },
         ["stop", body] => Payload::Stop {
             body: body_number(body)?,
+        },
+        ["place", body, x, y] => Payload::Place {
+            body: body_number(body)?,
+            x: coordinate(x)?,
+            y: coordinate(y)?,
         },
         _ => bail!("no such command"),
     })
@@ -106,6 +119,12 @@ fn call_of(alloc: Global, words: &[&str]) -> Result<Call> {
         },
         ["merge", _, other] => Call::Merge {
             other: number(other)? as usize,
+        },
+        ["merge-sealed", _, other] => Call::MergeSealed {
+            other: number(other)? as usize,
+        },
+        ["seal", _, tick] => Call::Seal {
+            tick: number(tick)?,
         },
         ["settle", _] => Call::Settle,
         ["crew", _, failure @ ..] => Call::SettleWith {

@@ -9,8 +9,11 @@
 //! | `new N PLAYER RING` | a peer that keeps so many settled worlds | `new PLAYER RING` |
 //! | `advance N TICKS` | goes on | `advance REACHED` |
 //! | `issue N push BODY X Y`, `turn BODY X`, `stop BODY` | issues a command | `issue FRAME` |
+//! | `issue N place BODY X Y` | the same | `issue FRAME` |
 //! | `take N FRAME` | takes a frame | `take new`, `same`, `greater` or `lesser` |
 //! | `merge N OTHER` | merges another peer's commands | `merge COUNT` |
+//! | `merge-sealed N OTHER` | the same, with the other's horizon and its world | `merge COUNT` |
+//! | `seal N TICK` | makes a tick the horizon | `seal TICK` |
 //! | `settle N` | settles on one thread | `settle REACHED` |
 //! | `crew N` | settles with a crew | `crew REACHED calls CALLS SEEN` |
 //! | `crew N NTH ERROR` | the same; this solve of the crew fails | `crew ERROR calls CALLS` |

@@ -100,6 +100,37 @@ pub fn merge(alloc: Global, peers: &mut [PeerCore], number: usize, other: usize)
     }
 }
 
+/// Merges what one peer holds into another one, with its horizon and its world there.
+pub fn merge_sealed(
+    alloc: Global,
+    peers: &mut [PeerCore],
+    number: usize,
+    other: usize,
+) -> Result<String> {
+    let later = number.max(other);
+    if number == other || later >= peers.len() {
+        bail!("no two peers");
+    }
+    let (low, high) = peers.split_at_mut(later);
+    let merged = if number < other {
+        low[number].merge_sealed(&high[0].sealed())
+    } else {
+        high[0].merge_sealed(&low[other].sealed())
+    };
+    match merged {
+        Ok(count) => Ok(format!(in alloc; "merge {count}")?),
+        Err(fault) => refused(alloc, fault),
+    }
+}
+
+/// Seals a tick.
+pub fn seal(alloc: Global, peer: &mut PeerCore, tick: u32) -> Result<String> {
+    match peer.seal(alloc, tick) {
+        Ok(()) => Ok(format!(in alloc; "seal {tick}")?),
+        Err(fault) => refused(alloc, fault),
+    }
+}
+
 /// Settles with a crew that counts its calls: one for each tick. An error of the crew is that of
 /// the call that it was told to fail in. Where memory is out, each tick that was settled has its
 /// call.

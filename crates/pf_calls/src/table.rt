@@ -46,6 +46,9 @@ impl<'r, R: Handle> Table<'r, R> {
         if let Call::Merge { other } = call {
             return peers::merge(alloc, &mut self.peers, number, *other);
         }
+        if let Call::MergeSealed { other } = call {
+            return peers::merge_sealed(alloc, &mut self.peers, number, *other);
+        }
         if let Call::Same { other, first, last } = call {
             let peer = self.peers.get(number).context("no such peer")?;
             let other = self.peers.get(*other).context("no other peer")?;
@@ -66,12 +69,12 @@ fn answer<'r, R: Handle>(
     call: &Call,
 ) -> Result<String> {
     match call {
-        Call::New { .. } | Call::Merge { .. } | Call::Same { .. } => bail!(
-            "a call on more than one peer"
-        ),
+        Call::New { .. } | Call::Merge { .. } | Call::MergeSealed { .. } | Call::Same { .. } =>
+            bail!("a call on more than one peer"),
         Call::Advance { ticks } => peers::advance(alloc, peer, *ticks),
         Call::Issue { payload } => peers::issue(alloc, peer, *payload),
         Call::Take { frame } => peers::take(alloc, peer, frame),
+        Call::Seal { tick } => peers::seal(alloc, peer, *tick),
         Call::Settle => peers::settle(alloc, peer),
         Call::SettleWith { failure } => peers::settle_with(rt, alloc, peer, *failure),
         Call::Crews { plan } => threads::make(rt, alloc, crew, *plan),

@@ -4,7 +4,9 @@
 ghost use Rattle.std.specs.Prelude.{◌<◌};
 
 use crate::scenes::scene_of;
-use pf_commands::{CheckFault, Command, CommandMap, MAX_TICK, Merged, Name, Payload, Put};
+use pf_commands::{
+    CheckFault, Command, CommandMap, Coordinate, MAX_TICK, Merged, Name, Payload, Put,
+};
 use pf_num::Fx;
 use pf_shapes::PLAYERS;
 use std::alloc::{AllocError, Global};
@@ -36,6 +38,18 @@ fn push(x: i64) -> Payload {
     }
 }
 
+/// A push of the body 3 by x units and 0, or where there is no x a place of it at the origin.
+fn push_or_place(x: Option<i64>) -> Payload {
+    match (x, Coordinate::new(Fx::ZERO)) {
+        (None, Some(zero)) => Payload::Place {
+            body: 3,
+            x: zero,
+            y: zero,
+        },
+        (x, _) => push(x.unwrap_or(0)),
+    }
+}
+
 /// The map of these commands.
 fn map_of(alloc: Global, commands: &[Command]) -> Result<CommandMap, AllocError> {
     let mut map = CommandMap::new(alloc);
@@ -53,26 +67,30 @@ fn held(map: &CommandMap, tick: u32, player: u8, number: u16) -> Option<Payload>
     map.get(Name::new(tick, player, number))
 }
 
-/// Two orders of the pushes by these numbers, under one name, and how each is put.
-const ORDERS: [([i64; 2], [Put; 2]); 2] = [
-    ([1, -1], [Put::New, Put::Greater]),
-    ([-1, 1], [Put::New, Put::Lesser]),
+/// Two pushes by these numbers, or a push and a place, under one name in either order; how each is
+/// put, and which stays.
+const ORDERS: [([Option<i64>; 2], [Put; 2], Option<i64>); 4] = [
+    ([Some(1), Some(-1)], [Put::New, Put::Greater], Some(-1)),
+    ([Some(-1), Some(1)], [Put::New, Put::Lesser], Some(-1)),
+    ([Some(-1), None], [Put::New, Put::Greater], None),
+    ([None, Some(-1)], [Put::New, Put::Lesser], None),
 ];
 
-/// How two pushes under one name are put into a map.
-fn put_two(map: &mut CommandMap, numbers: [i64; 2]) -> Result<[Put; 2], AllocError> {
-    let [first, second] = numbers;
-    let first = map.put(&command(5, 2, 7, push(first)))?;
-    let second = map.put(&command(5, 2, 7, push(second)))?;
+/// How two payloads under one name are put into a map.
+fn put_two(map: &mut CommandMap, payloads: [Payload; 2]) -> Result<[Put; 2], AllocError> {
+    let [first, second] = payloads;
+    let first = map.put(&command(5, 2, 7, first))?;
+    let second = map.put(&command(5, 2, 7, second))?;
     Ok([first, second])
 }
 
 #[test]
 fn the_greater_payload_stays_in_either_order(rt: HostRuntime) -> Result<(), Fail> {
-    for (numbers, puts) in ORDERS {
+    for ([first, second], puts, stays) in ORDERS {
         let mut map = CommandMap::new(rt.alloc());
-        let found = put_two(&mut map, numbers)?;
-        assert!(rt; found == puts && held(&map, 5, 2, 7) == Some(push(-1)) && map.len() == 1);
+        let found = put_two(&mut map, [push_or_place(first), push_or_place(second)])?;
+        let held = held(&map, 5, 2, 7);
+        assert!(rt; found == puts && held == Some(push_or_place(stays)) && map.len() == 1);
     }
     Ok(())
 }
@@ -127,6 +145,31 @@ fn greater_payloads_are_merged_once(rt: HostRuntime) -> Result<(), Fail> {
     let first = map.merge(&other)?;
     let second = map.merge(&other)?;
     assert!(rt; are_merged_once(&first, &second, &map));
+    Ok(())
+}
+
+/// Whether a map is that of three commands of the ticks 4 to 6 without the first.
+fn is_from_five(map: &CommandMap) -> bool {
+    map.len() == 2
+        && map.is_from(5)
+        && !map.is_from(6)
+        && held(map, 5, 0, 0) == Some(push(2))
+        && held(map, 6, 0, 0) == Some(push(3))
+}
+
+#[test]
+fn commands_before_a_tick_are_dropped(rt: HostRuntime) -> Result<(), Fail> {
+    let commands = [
+        command(4, 7, 0, push(1)),
+        command(5, 0, 0, push(2)),
+        command(6, 0, 0, push(3)),
+    ];
+    let mut map = map_of(rt.alloc(), &commands)?;
+    let whole = map.is_from(4) && !map.is_from(5);
+    map.drop_before(5);
+    assert!(rt; whole && is_from_five(&map));
+    map.drop_before(u32::MAX);
+    assert!(rt; map.is_empty() && map.is_from(u32::MAX));
     Ok(())
 }
 

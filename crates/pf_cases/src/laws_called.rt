@@ -92,6 +92,11 @@ fn laws_of_commands(_rt: HostRuntime) {
     laws::get_of_merge();
     laws::same_gets_same_map();
     laws::merge_stays_in_range();
+    laws::get_of_commands_from();
+    laws::ticks_make_up_the_map();
+    laws::drops_keep_later_ticks();
+    laws::merge_from_a_tick();
+    laws::maps_from_a_tick();
     laws::same_weight_same_payload();
     laws::first_error_is_returned();
     laws::named_limits();
@@ -110,6 +115,7 @@ fn laws_of_steps(rt: HostRuntime) {
     laws::impulses_are_within_friction();
     laws::commands_change_one_body();
     laws::stops_leave_no_velocity();
+    laws::places_put_their_body();
     laws::timers_count_still_ticks();
     laws::sleepers_were_still();
     laws::rotations_stay_at_most_one();
@@ -120,9 +126,14 @@ fn laws_of_peers(_rt: HostRuntime) {
     use pf_peers::laws as sessions;
     use pf_rollback::laws;
     laws::same_commands_same_worlds();
+    laws::unsealed_peers_simulate_from_tick_zero();
+    laws::seals_change_no_shown_world();
+    laws::shown_worlds_are_simulations_of_all_commands();
+    laws::other_calls_seal_nothing();
     laws::issued_commands_can_be_taken();
     laws::numbers_follow_the_greatest();
     laws::dropping_keeps_earlier_ticks();
+    laws::sealing_keeps_later_ticks();
     laws::settling_goes_on_tick_by_tick();
     laws::counts_are_saturated_sums();
     laws::last_ticks_are_greatest();

@@ -68,6 +68,36 @@ fn a_refused_frame_is_counted(rt: HostRuntime) -> Result<(), Fail> {
     Ok(())
 }
 
+/// The frame of a stop at tick 0.
+fn stop() -> [u8; FRAME_LEN] {
+    encode(&Command {
+        name: Name::new(0, 0, 0),
+        payload: Payload::Stop { body: 0 },
+    })
+}
+
+/// The peer at tick 1, which it has sealed.
+fn sealed(alloc: Global, peer: Peer) -> Result<Peer, Fail> {
+    let (mut core, outputs, inputs, _) = peer.into_parts();
+    if core.advance(1).is_err() || core.seal(alloc, 1).is_err() {
+        return Err(Fail::from("no seal"));
+    }
+    Ok(Peer::new(core, outputs, inputs))
+}
+
+#[test]
+fn a_frame_before_the_horizon_is_refused(rt: HostRuntime) -> Result<(), Fail> {
+    let alloc = rt.alloc();
+    let (output, _) = Link::pair(alloc, 1)?;
+    let (mut other, input) = Link::pair(alloc, 1)?;
+    let mut peer = sealed(alloc, peer_of(alloc, 1, output, input)?)?;
+    let handed = other.hand_in(stop()).is_ok();
+    let polled = peer.poll()?;
+    let refused = polled.taken == 1 && polled.refused == 1;
+    assert!(rt; handed && refused && peer.core().commands().is_empty());
+    Ok(())
+}
+
 /// Two peers that are linked to each other.
 fn two_peers(alloc: Global) -> Result<(Peer, Peer), Fail> {
     let (to_second, from_first) = Link::pair(alloc, 64)?;
@@ -96,14 +126,10 @@ fn has_played(peer: &Peer) -> bool {
 fn a_frame_is_taken_by_both_peers(rt: HostRuntime) -> Result<(), Fail> {
     let alloc = rt.alloc();
     let (first, second) = two_peers(alloc)?;
-    let stop = encode(&Command {
-        name: Name::new(0, 0, 0),
-        payload: Payload::Stop { body: 0 },
-    });
     let first = first.play(
         rt,
         alloc,
-        &script_of(alloc, Some(&stop))?,
+        &script_of(alloc, Some(&stop()))?,
         Some(2),
         &OpenGate,
     )?;
