@@ -100,7 +100,15 @@ pub fn merge(alloc: Global, peers: &mut [PeerCore], number: usize, other: usize)
     }
 }
 
-/// Merges what one peer holds into another one, with its horizon and its world there.
+/// Merges what another peer holds, with its horizon and its world there.
+fn merge_other(alloc: Global, peer: &mut PeerCore, other: &PeerCore) -> Result<String> {
+    match peer.merge_sealed(&other.sealed()) {
+        Ok(count) => Ok(format!(in alloc; "merge {count}")?),
+        Err(fault) => refused(alloc, fault),
+    }
+}
+
+/// The same of two of these peers.
 pub fn merge_sealed(
     alloc: Global,
     peers: &mut [PeerCore],
@@ -112,14 +120,10 @@ pub fn merge_sealed(
         bail!("no two peers");
     }
     let (low, high) = peers.split_at_mut(later);
-    let merged = if number < other {
-        low[number].merge_sealed(&high[0].sealed())
+    if number < other {
+        merge_other(alloc, &mut low[number], &high[0])
     } else {
-        high[0].merge_sealed(&low[other].sealed())
-    };
-    match merged {
-        Ok(count) => Ok(format!(in alloc; "merge {count}")?),
-        Err(fault) => refused(alloc, fault),
+        merge_other(alloc, &mut high[0], &low[other])
     }
 }
 
