@@ -15,8 +15,7 @@ use std::test::Fail;
 /// A circle of player 0.
 const SCENE: &[u8] = b"gravity 0 0\ncircle 0 16777216 0 16777216 0 0\nend\n";
 
-/// Peer 0 has issued a command and settled tick 4; peer 1 has merged the command at tick 0. Peer 0
-/// has sealed tick 4, so that it shows no earlier tick, and they can't merge any more.
+/// Peer 0 has issued a command and settled tick 4; peer 1 has merged the command at tick 0.
 fn are_the_replies(replies: &[Reply]) -> bool {
     matches!(
         replies,
@@ -32,9 +31,6 @@ fn are_the_replies(replies: &[Reply]) -> bool {
             },
             Reply::Merged { peer: 1, count: 1 },
             Reply::Refused(Refusal::NotReached(0)),
-            Reply::Sealed { peer: 0, tick: 4 },
-            Reply::Refused(Refusal::TooOld(4)),
-            Reply::Refused(Refusal::HorizonsDiffer(4, 0)),
         ]
     )
 }
@@ -51,9 +47,6 @@ fn events_have_replies(rt: HostRuntime) -> Result<(), Fail> {
         Event::Settle { peer: 0 },
         Event::Merge { peer: 1, other: 0 },
         Event::Show { peer: 1, tick: 1 },
-        Event::Seal { peer: 0, tick: 4 },
-        Event::Show { peer: 0, tick: 3 },
-        Event::Merge { peer: 0, other: 1 },
     ];
     let replies = run(rt.alloc(), &scene, 2, &events)?;
     assert!(rt; are_the_replies(replies.as_slice()));
