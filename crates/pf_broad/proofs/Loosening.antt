@@ -24,8 +24,8 @@ contains-IsOrdered a b within ordered =
     ends_in_order : (low high lo hi : ℤ) → is_within low high lo hi ≡ true → lo ≤ℤ hi → low ≤ℤ high
     ends_in_order low high lo hi is order = grind (arith, ints, nat_tests)
 
-pub loosened-IsOrdered : (loose bounds : List Bounds) → AreLoosened loose bounds → All IsOrdered bounds → All IsOrdered loose
-loosened-IsOrdered loose bounds is ordered =
+pub enlarged_bounds-IsOrdered : (loose bounds : List Bounds) → AreLoosened loose bounds → All IsOrdered bounds → All IsOrdered loose
+enlarged_bounds-IsOrdered loose bounds is ordered =
     All-from_get_or IsOrdered loose no_bounds (λ k below.
     let within : k < length bounds = omega (arith, is.as_many) in
     contains-IsOrdered (bounds_at loose k) (bounds_at bounds k) (is.each k within) (All-get_or IsOrdered bounds k no_bounds within ordered))
@@ -136,4 +136,4 @@ append-each P xs y i count here before k below =
 pub candidates_of : (loose bounds : List Bounds) (candidates : List Pair) → AreLoosened loose bounds → All IsOrdered bounds
     → length bounds ≤ MAX_BODIES → candidates ≡ pairs loose → AreCandidates loose candidates
 candidates_of loose bounds candidates is ordered few all =
-    record { few = omega (arith, is.as_many, few); ordered = loosened-IsOrdered loose bounds is ordered; pairs = all }
+    record { few = omega (arith, is.as_many, few); ordered = enlarged_bounds-IsOrdered loose bounds is ordered; pairs = all }

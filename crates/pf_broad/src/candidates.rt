@@ -30,8 +30,8 @@ pub(crate) fn touching(
     Ok(found)
 }
 
-/// Adds the partners of body `i` by its candidates, which stand from `place` on, as far as they
-/// may touch it still. Returns the place behind its candidates.
+/// Adds those partners of body `i` that are candidates, and whose enlarged bounds still overlap its
+/// own. The pairs of body `i` begin at `place`; returns the place behind the last of them.
 #[inline]
 pub(crate) fn add_candidates(
     partners: &mut Vec<u16>,
@@ -66,8 +66,8 @@ pub(crate) fn add_candidates(
     Ok(end)
 }
 
-/// Completes the partners of a body by those that left their enlarged bounds, in ascending order,
-/// each once. One that left them itself gets all anew.
+/// Adds the partners of a body that left their enlarged bounds, and puts all in ascending order,
+/// each once. For a body that left its own, all partners are searched for again.
 #[inline]
 pub(crate) fn complete(
     partners: &mut Vec<u16>,

@@ -58,7 +58,8 @@ impl CellRange {
             top: cell_number(bounds.high.y),
         }
     }
-    /// Whether there are more cells than a body is listed in.
+
+    /// Whether there are more than `MAX_CELLS` cells.
     #[inline]
     pub(crate) fn is_wide(self) -> bool
         requires { IsCellRange self }
@@ -68,7 +69,7 @@ impl CellRange {
     }
 }
 
-/// Whether so many columns and rows have more cells than a body is listed in.
+/// Whether a rectangle of so many columns and rows has more than `MAX_CELLS` cells.
 #[inline]
 fn exceeds(columns: i64, rows: i64) -> bool
     requires columns { unsigned_abs columns ≤ 2 ^ 31 + 1 }

@@ -3,7 +3,7 @@
 use crate::broad_phase::{add_pairs, all_pairs};
 use crate::candidates::{add_candidates, complete, touching};
 use crate::grid::Grid;
-use crate::loose::{all_loosened, left_bodies, refitted};
+use crate::loose::{all_enlarged_bounds, left_bodies, refit};
 use pf_shapes::{BodyState, Bounds, Pair};
 use std::alloc::{AllocError, Global};
 use std::marker::Model;
@@ -78,7 +78,7 @@ impl BroadPhase {
             return Ok(Vec::new(alloc));
         }
         let kept = mem::replace(self, BroadPhase::new(alloc));
-        let next = kept.refreshed(alloc, bounds, bodies)?;
+        let next = kept.refresh(alloc, bounds, bodies)?;
         let found = next.touching(alloc, bounds)?;
         *self = next;
         Ok(found)
@@ -94,7 +94,7 @@ impl BroadPhase {
 
     /// Enlarged bounds that contain these, and their pairs. Where few bodies have left their
     /// enlarged bounds, these alone are searched for.
-    fn refreshed(
+    fn refresh(
         self,
         alloc: Global,
         bounds: &[Bounds],
@@ -115,15 +115,15 @@ impl BroadPhase {
         if left.len() > MAX_LEFT {
             return BroadPhase::of(alloc, bounds, bodies);
         }
-        let loose = refitted(alloc, &self.loose, bounds, bodies)?;
-        let candidates = self.updated(alloc, &loose, &left)?;
+        let loose = refit(alloc, &self.loose, bounds, bodies)?;
+        let candidates = self.update_candidates(alloc, &loose, &left)?;
         Ok(BroadPhase { loose, candidates })
     }
 
-    /// The candidates after these bodies left their enlarged bounds and got others: those of the
-    /// other bodies are kept.
+    /// The pairs by new enlarged bounds, which differ from the old ones only for the bodies of
+    /// `left`. Pairs of two other bodies are taken over.
     #[inline(never)]
-    fn updated(
+    fn update_candidates(
         &self,
         alloc: Global,
         loose: &[Bounds],
@@ -155,7 +155,7 @@ impl BroadPhase {
         requires ordered { All IsOrdered bounds.now }
         ensures { IfOk result (λ kept. AreLoosened kept bounds.now) }
     {
-        let loose = all_loosened(alloc, bounds, bodies)?;
+        let loose = all_enlarged_bounds(alloc, bounds, bodies)?;
         let grid = Grid::of_bounds(alloc, &loose)?;
         let candidates = all_pairs(alloc, &grid, &loose)?;
         Ok(BroadPhase { loose, candidates })

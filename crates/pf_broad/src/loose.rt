@@ -28,8 +28,8 @@ fn is_within(outer_low: Fx, outer_high: Fx, low: Fx, high: Fx) -> bool
     (outer_low <= low) & (high <= outer_high)
 }
 
-/// An eighth: the length by which bounds are enlarged on each side, and the time, 8 ticks, whose
-/// way they are enlarged by ahead.
+/// An eighth. Bounds are enlarged by this length on each side, and in the direction of the velocity
+/// by the way of this time, 8 ticks.
 #[inline]
 fn eighth() -> Fx {
     Fx::from_raw(1 << 21).unwrap()
@@ -37,7 +37,7 @@ fn eighth() -> Fx {
 
 /// A lower bound, enlarged for a body with this velocity.
 #[inline]
-fn lowered(low: Fx, velocity: Fx) -> Fx
+fn enlarged_low(low: Fx, velocity: Fx) -> Fx
     ensures { result ≤ℤ low }
 {
     let way = velocity.mul(eighth()).min(Fx::ZERO);
@@ -46,7 +46,7 @@ fn lowered(low: Fx, velocity: Fx) -> Fx
 
 /// An upper bound, enlarged for a body with this velocity.
 #[inline]
-fn raised(high: Fx, velocity: Fx) -> Fx
+fn enlarged_high(high: Fx, velocity: Fx) -> Fx
     ensures { high ≤ℤ result }
 {
     let way = velocity.mul(eighth()).max(Fx::ZERO);
@@ -56,17 +56,17 @@ fn raised(high: Fx, velocity: Fx) -> Fx
 /// Enlarged bounds of a body with these bounds. By how much is said by no clause: only time
 /// depends on it.
 #[tactic(auto, unfolding(crate::specs::Loose::contains))]
-fn loosened(bounds: &Bounds, body: &BodyState) -> Bounds
+fn enlarged_bounds(bounds: &Bounds, body: &BodyState) -> Bounds
     ensures { contains result bounds.now ≡ true }
 {
     Bounds {
         low: V2 {
-            x: lowered(bounds.low.x, body.velocity.x),
-            y: lowered(bounds.low.y, body.velocity.y),
+            x: enlarged_low(bounds.low.x, body.velocity.x),
+            y: enlarged_low(bounds.low.y, body.velocity.y),
         },
         high: V2 {
-            x: raised(bounds.high.x, body.velocity.x),
-            y: raised(bounds.high.y, body.velocity.y),
+            x: enlarged_high(bounds.high.x, body.velocity.x),
+            y: enlarged_high(bounds.high.y, body.velocity.y),
         },
         is_static: bounds.is_static,
     }
@@ -74,7 +74,7 @@ fn loosened(bounds: &Bounds, body: &BodyState) -> Bounds
 
 /// Enlarged bounds of all bodies.
 #[inline(never)]
-pub(crate) fn all_loosened(
+pub(crate) fn all_enlarged_bounds(
     alloc: Global,
     bounds: &[Bounds],
     bodies: &[BodyState],
@@ -84,7 +84,7 @@ pub(crate) fn all_loosened(
 {
     let mut loose = Vec::with_capacity(alloc, bounds.len())?;
     for i in 0..bounds.len() {
-        loose.push(loosened(&bounds[i], &bodies[i]))?;
+        loose.push(enlarged_bounds(&bounds[i], &bodies[i]))?;
     }
     Ok(loose)
 }
@@ -111,7 +111,7 @@ pub(crate) fn left_bodies(
 
 /// Enlarged bounds of all bodies: the same, but new ones for those that left them.
 #[inline(never)]
-pub(crate) fn refitted(
+pub(crate) fn refit(
     alloc: Global,
     loose: &[Bounds],
     bounds: &[Bounds],
@@ -119,7 +119,7 @@ pub(crate) fn refitted(
 ) -> Result<Vec<Bounds>, AllocError>
     requires loose { length loose.now ≡ length bounds.now }
     requires bodies { length bodies.now ≡ length bounds.now }
-    ensures loosened { IfOk result (λ next. AreLoosened next.items bounds.now) }
+    ensures enlarged_bounds { IfOk result (λ next. AreLoosened next.items bounds.now) }
     ensures others { IfOk result
         (λ next. AreSameBut (left_bodies loose.now bounds.now) loose.now next.items) }
 {
@@ -128,7 +128,7 @@ pub(crate) fn refitted(
         if contains(&loose[i], &bounds[i]) {
             next.push(loose[i])?;
         } else {
-            next.push(loosened(&bounds[i], &bodies[i]))?;
+            next.push(enlarged_bounds(&bounds[i], &bodies[i]))?;
         }
     }
     Ok(next)

@@ -4,7 +4,8 @@ use Rattle.std.proofs.lemmas.Bool.Decides.{Decides-eqb}
 use Rattle.std.proofs.lemmas.List.Elements.{All-nil, All-cons, All-head, All-tail}
 use Rattle.std.specs.Prelude.{if◌then◌else◌, get_or}
 use Rattle.pf_manifold.specs.Key.{Key, IsRising, rank}
-use Rattle.pf_cache.specs.Contact.{Contact, no_impulses, impulses_at}
+use Rattle.pf_rows.specs.Impulses.{no_impulses}
+use Rattle.pf_cache.specs.Contact.{Contact, impulses_at}
 use Rattle.pf_cache.specs.Laws.{AreFound, IsNew}
 use Rattle.pf_manifold.proofs.Rising.{rising-all}
 use Rattle.pf_cache.proofs.Places.{other_rank}

@@ -5,8 +5,8 @@ use Rattle.std.proofs.lemmas.List.Elements.{All-cons, All-head, All-nil, All-tai
 use Rattle.std.specs.Prelude.{All, get_or, if◌then◌else◌}
 use Rattle.pf_manifold.specs.Key.{IsRising, Key, key_of, rank}
 use Rattle.pf_manifold.proofs.Rising.{rising-all}
-use Rattle.pf_cache.specs.Contact.{Impulses}
-use Rattle.pf_cache.specs.Row.{AreRows, Row, impulses_or}
+use Rattle.pf_rows.specs.Impulses.{Impulses}
+use Rattle.pf_rows.specs.Row.{AreRows, Row, impulses_or}
 use Rattle.pf_cache.proofs.RankedLists as ranked
 
 abbrev pub row_rank : Row → ℕ

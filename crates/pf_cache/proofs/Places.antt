@@ -3,7 +3,8 @@ use Rattle.std.proofs.Common.{◌≡◌, ◌∙◌, ℕ, ◌+◌, ◌≤◌, ◌
 use Rattle.std.specs.Option.{option_map_or}
 use Rattle.std.specs.Prelude.{drop, get_or}
 use Rattle.pf_manifold.specs.Key.{rank}
-use Rattle.pf_cache.specs.Contact.{Contact, Impulses, no_impulses, impulses_at}
+use Rattle.pf_rows.specs.Impulses.{Impulses, no_impulses}
+use Rattle.pf_cache.specs.Contact.{Contact, impulses_at}
 use Rattle.pf_cache.specs.Ranked.{element_at}
 use Rattle.pf_cache.proofs.RankedLists as ranked
 

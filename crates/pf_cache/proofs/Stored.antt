@@ -6,8 +6,10 @@ use Rattle.std.proofs.lemmas.List.Elements.{All-nil, All-cons, All-head, All-tai
 use Rattle.std.specs.Prelude.{All, get_or, if◌then◌else◌}
 use Rattle.pf_manifold.specs.Key.{IsKey, IsRising, Key, key_of, rank}
 use Rattle.pf_manifold.proofs.Rising.{rising-all}
-use Rattle.pf_cache.specs.Contact.{AreContacts, Contact, Impulses, no_contact}
-use Rattle.pf_cache.specs.Row.{AreRowsAt, Row, impulses_or, with_rows}
+use Rattle.pf_rows.specs.Impulses.{Impulses}
+use Rattle.pf_cache.specs.Contact.{AreContacts, Contact, no_contact}
+use Rattle.pf_rows.specs.Row.{Row, impulses_or}
+use Rattle.pf_cache.specs.ContactRows.{AreRowsAt, with_rows}
 use Rattle.pf_cache.proofs.FoundRows.{impulses_of, row_rank, rows_rise}
 use Rattle.pf_cache.proofs.RankedLists as ranked
 

@@ -5,7 +5,8 @@ use Rattle.std.proofs.lemmas.List.Elements.{All-head, All-tail}
 use Rattle.std.specs.Prelude.{All, drop, get_or}
 use Rattle.pf_manifold.specs.Touches.{Touch}
 use Rattle.pf_manifold.specs.Key.{IsRising, Key, key_of, rank}
-use Rattle.pf_cache.specs.Contact.{Contact, Impulses, impulses_at, kept_contact}
+use Rattle.pf_rows.specs.Impulses.{Impulses}
+use Rattle.pf_cache.specs.Contact.{Contact, impulses_at, kept_contact}
 use Rattle.pf_manifold.proofs.Rising.{rising-all, rising-drop}
 
 -- what each element of a list reads of another list from a place on. The elements are in the order

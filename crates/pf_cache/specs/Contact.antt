@@ -1,16 +1,9 @@
 -- Contacts: what is kept of a contact point from tick to tick, as Box2D-Lite's Arbiter keeps Pn and
 -- Pt. The next tick starts warm with them.
-use Rattle.std.specs.Prelude.{ℕ, ◌==◌, ℤ, pos, List, [], ◌∷◌, map, All, if◌then◌else◌}
+use Rattle.std.specs.Prelude.{ℕ, ◌==◌, List, [], ◌∷◌, map, All, if◌then◌else◌}
 use Rattle.pf_manifold.specs.Touches.{Touch}
 use Rattle.pf_manifold.specs.Key.{IsKey, IsRising, Key, key_of, rank}
-
--- the accumulated impulses along the normal and along the tangent
-pub record Impulses : Type 0 where
-  pub normal : ℤ
-  pub tangent : ℤ
-
-abbrev pub no_impulses : Impulses
-no_impulses = record { normal = pos 0; tangent = pos 0 }
+use Rattle.pf_rows.specs.Impulses.{Impulses, no_impulses}
 
 pub record Contact : Type 0 where
   pub key : Key
@@ -35,5 +28,5 @@ abbrev pub kept_contact : List Contact → Touch → Contact
 kept_contact old t = record { key = key_of t; impulses = impulses_at (rank (key_of t)) old }
 
 -- the contacts of these points: a key that is there keeps its impulses, a new one has none
-unfoldable pub updated : List Contact → List Touch → List Contact
-updated old touches = map (kept_contact old) touches
+unfoldable pub next_contacts : List Contact → List Touch → List Contact
+next_contacts old touches = map (kept_contact old) touches

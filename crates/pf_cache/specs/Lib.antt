@@ -3,8 +3,7 @@ pub mod Ranked
 pub mod Contact
 pub mod Same
 pub mod SameLaws
-pub mod Row
-pub mod Small
+pub mod ContactRows
 pub mod Meter
 pub mod Manifolds
 pub mod PlacedBodies

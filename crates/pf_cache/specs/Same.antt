@@ -1,12 +1,9 @@
 -- Tests of equality.
 use Rattle.std.specs.Prelude.{Bool, ◌&&◌, List}
-use Rattle.std.specs.Ordering.{int_eq}
 use Rattle.std.specs.Cmp.Lexicographic.{pointwise}
 use Rattle.pf_manifold.specs.SameKeys.{same_key}
-use Rattle.pf_cache.specs.Contact.{Contact, Impulses}
-
-abbrev pub same_impulses : Impulses → Impulses → Bool
-same_impulses a b = int_eq a.normal b.normal && int_eq a.tangent b.tangent
+use Rattle.pf_rows.specs.Impulses.{same_impulses}
+use Rattle.pf_cache.specs.Contact.{Contact}
 
 -- the same key and the same accumulated impulses
 unfoldable pub same_contact : Contact → Contact → Bool

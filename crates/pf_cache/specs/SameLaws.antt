@@ -3,21 +3,13 @@
 use Rattle.std.proofs.Common.{◌≡◌, refl, ap}
 use Rattle.std.specs.Bool.{Decides}
 use Rattle.std.specs.Cmp.{IsEquivalence, decided}
-use Rattle.std.proofs.lemmas.Bool.Decides.{Decides-int_eq, Decides-and, Decides-like}
+use Rattle.std.proofs.lemmas.Bool.Decides.{Decides-and, Decides-like}
 use Rattle.std.proofs.lemmas.Slice.Eq.{slice_eq-Decides}
 use Rattle.std.specs.Prelude.{List}
 use Rattle.pf_manifold.specs.SameKeys.{Decides-key}
-use Rattle.pf_cache.specs.Contact.{Contact, Impulses}
-use Rattle.pf_cache.specs.Same.{same_contact, same_contacts, same_impulses}
-
-Decides-impulses : (a b : Impulses) → Decides (same_impulses a b) (a ≡ b)
-Decides-impulses a b =
-    Decides-like (same_impulses a b) (λ e i. record {
-      normal = e.0 i;
-      tangent = e.1 i;
-    })
-    (λ e. (ap (λ (p : Impulses). p.normal) e, ap (λ (p : Impulses). p.tangent) e))
-    (Decides-and _ _ (Decides-int_eq a.normal b.normal) (Decides-int_eq a.tangent b.tangent))
+use Rattle.pf_rows.specs.ImpulsesLaws.{Decides-impulses}
+use Rattle.pf_cache.specs.Contact.{Contact}
+use Rattle.pf_cache.specs.Same.{same_contact, same_contacts}
 
 pub Decides-contact : (a b : Contact) → Decides (same_contact a b) (a ≡ b)
 unfolding same_contact
@@ -31,9 +23,6 @@ Decides-contact a b =
 
 pub Decides-contacts : (a b : List Contact) → Decides (same_contacts a b) (a ≡ b)
 Decides-contacts a b = slice_eq-Decides Decides-contact a b _ refl
-
-pub impulses_equivalent : IsEquivalence same_impulses
-impulses_equivalent = decided same_impulses Decides-impulses
 
 pub contacts_equivalent : IsEquivalence same_contact
 contacts_equivalent = decided same_contact Decides-contact

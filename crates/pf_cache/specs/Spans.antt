@@ -46,7 +46,8 @@ are_unmoved unmoved p = get_or unmoved p.a false && get_or unmoved p.b false
 
 -- how many of these pairs cannot reuse kept points: they are none of the kept ones, or a body moved
 abbrev pub computed_count_by_flags : List Pair → List Bool → List Pair → ℕ
-computed_count_by_flags kept unmoved pairs = count_by (λ p. not (has_pair kept p && are_unmoved unmoved p)) pairs
+computed_count_by_flags kept unmoved pairs =
+    count_by (λ p. not (has_pair kept p && are_unmoved unmoved p)) pairs
 
 -- a contact point is of this pair
 abbrev pub is_of_pair : Pair → Touch → Bool
@@ -71,14 +72,17 @@ pub record IsSpan (shapes : List PlacedShape) (touches : List Touch) (s : Span) 
   pub points : span_points touches s ≡ points_of_pair shapes s.pair
 
 -- a span of a pair of bodies, which holds the points of these shapes if both bodies are unmoved
-pub record IsKeptSpan (shapes : List PlacedShape) (unmoved : List Bool) (touches : List Touch) (s : Span)
+pub record IsKeptSpan
+    (shapes : List PlacedShape) (unmoved : List Bool) (touches : List Touch) (s : Span)
     : Type 0 where
   pub bodies : IsPairOf MAX_BODIES s.pair
   pub within : s.start + s.len ≤ length touches
-  pub points : are_unmoved unmoved s.pair ≡ true → span_points touches s ≡ points_of_pair shapes s.pair
+  pub points : are_unmoved unmoved s.pair ≡ true
+      → span_points touches s ≡ points_of_pair shapes s.pair
 
 -- spans in the order of their pairs, each pair once, and their points one after the other
-pub record AreSpans (shapes : List PlacedShape) (list : List Span) (touches : List Touch) : Type 0 where
+pub record AreSpans (shapes : List PlacedShape) (list : List Span) (touches : List Touch)
+    : Type 0 where
   pub rising : IsRising 0 (map (λ s. pair_rank s.pair) list)
   pub bodies : All (λ s. IsPairOf MAX_BODIES s.pair) list
   pub placed : list ≡ spans_from 0 shapes (map (λ s. s.pair) list)

@@ -1,56 +1,8 @@
 //! Contacts: what is kept of a contact point from tick to tick.
 
 use pf_manifold::Key;
-use pf_num::Fx;
+use pf_rows::Impulses;
 use std::marker::Model;
-
-/// The accumulated impulses of a contact, Box2D-Lite's `Pn` and `Pt`: what it applies in a tick,
-/// with which the next tick starts warm. In units of 2^-24.
-#[derive(Clone, Copy, Debug)]
-pub struct Impulses {
-    /// Along the normal.
-    pub normal: Fx,
-    /// Along the tangent.
-    pub tangent: Fx,
-}
-
-impl Model for Impulses {
-    ghost use Rattle.pf_cache.specs.Contact.{Impulses};
-
-    ghost Value = { Impulses };
-
-    ghost view = { λ p. record { normal = p.normal; tangent = p.tangent } };
-
-    ghost inverse = { λ p. record { normal = p.normal; tangent = p.tangent } };
-}
-
-impl PartialEq for Impulses {
-    ghost use Rattle.std.specs.Cmp.{partial_equiv_from_equiv};
-    ghost use Rattle.pf_cache.specs.Same.{same_impulses};
-    ghost use Rattle.pf_cache.specs.SameLaws.{impulses_equivalent};
-
-    ghost eq = { same_impulses };
-
-    ghost laws = { partial_equiv_from_equiv impulses_equivalent };
-
-    fn eq(&self, other: &Impulses) -> bool {
-        self.normal == other.normal && self.tangent == other.tangent
-    }
-}
-
-impl Eq for Impulses {
-    ghost use Rattle.pf_cache.specs.SameLaws.{impulses_equivalent};
-
-    ghost laws = { impulses_equivalent };
-}
-
-impl Impulses {
-    /// The impulses of a contact that is new.
-    pub const NONE: Impulses = Impulses {
-        normal: Fx::ZERO,
-        tangent: Fx::ZERO,
-    };
-}
 
 /// A contact of a world, with which the next tick starts warm.
 #[derive(Clone, Copy, Debug)]

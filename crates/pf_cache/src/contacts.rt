@@ -3,12 +3,12 @@
 ghost use Rattle.std.specs.Prelude.{◌≡◌, ◌≤◌, ◌<◌, ℕ, All, drop, length};
 ghost use Rattle.pf_manifold.specs.Key.{IsKey, rank};
 ghost use Rattle.pf_cache.specs.Contact.{AreContacts, impulses_at};
-ghost use Rattle.pf_cache.specs.Row.{AreRowsAt, with_rows};
+ghost use Rattle.pf_cache.specs.ContactRows.{AreRowsAt, with_rows};
 
-use crate::contact::{Contact, Impulses};
+use crate::contact::Contact;
 use crate::ranked::{Ranked, find_from};
-use crate::row::Row;
 use pf_manifold::{Key, Touch};
+use pf_rows::{Impulses, Row};
 use std::alloc::{AllocError, Global};
 use std::marker::Model;
 
@@ -88,8 +88,8 @@ fn store_at(contacts: &mut [Contact], rows: &[Row])
 impl Contacts {
     ghost use Rattle.std.specs.Prelude.{◌≡◌, [], IfOk, IsOk};
     ghost use Rattle.pf_manifold.specs.Key.{AreTouches};
-    ghost use Rattle.pf_cache.specs.Contact.{updated};
-    ghost use Rattle.pf_cache.specs.Row.{AreRowsAt, with_rows};
+    ghost use Rattle.pf_cache.specs.Contact.{next_contacts};
+    ghost use Rattle.pf_cache.specs.ContactRows.{AreRowsAt, with_rows};
     ghost use Rattle.pf_cache.specs.Same.{same_contacts};
 
     /// No contacts. Takes no memory.
@@ -116,7 +116,7 @@ impl Contacts {
     #[inline(never)]
     pub fn update(&self, room: Contacts, touches: &[Touch]) -> Result<Contacts, AllocError>
         requires { AreTouches touches.now }
-        ensures value { IfOk result (λ contacts. contacts ≡ updated self.now touches.now) }
+        ensures value { IfOk result (λ contacts. contacts ≡ next_contacts self.now touches.now) }
         ensures no_memory { touches.now ≡ [] → IsOk result }
     {
         let mut list = room.list;

@@ -179,7 +179,7 @@ pub struct PairPoints {
 }
 
 /// The contact points of the pairs after those that are done. Kept points of unmoved bodies are
-/// copied, the others are computed. Spans count from the number of points that are done.
+/// copied, the others are computed. The first span begins behind the points that are done.
 #[inline(never)]
 pub fn gather(
     alloc: Global,

@@ -6,13 +6,12 @@ ghost use Rattle.pf_shapes.specs.Pair.{Pair};
 ghost use Rattle.pf_manifold.specs.PlacedShape.{PlacedShape};
 ghost use Rattle.pf_manifold.specs.Touches.{Touch};
 ghost use Rattle.pf_manifold.specs.Key.{Key, key_of, rank};
-ghost use Rattle.pf_cache.specs.Contact.{AreContacts, Contact, Impulses, impulses_at, no_impulses, updated};
+ghost use Rattle.pf_rows.specs.Impulses.{Impulses, no_impulses};
+ghost use Rattle.pf_cache.specs.Contact.{AreContacts, Contact, impulses_at, next_contacts};
 ghost use Rattle.pf_cache.specs.Laws.{AreFound, IsNew, IsUnmoved};
 ghost use Rattle.pf_cache.specs.Manifolds.{Manifolds, is_reusable, points_of_pair};
-ghost use Rattle.pf_cache.specs.Row.{AreRows, Row, impulses_or, no_mass};
+ghost use Rattle.pf_rows.specs.Row.{AreRows, Row, impulses_or, no_mass};
 
-use crate::constraint::InverseMass;
-use crate::contact::Impulses;
 use crate::meter::Meter;
 
 /// Each contact of a list in the order of keys is found by its key, and a key that no contact has
@@ -36,7 +35,7 @@ pub fn rows_are_found()
 /// An update leaves exactly the keys of the points, in their order.
 pub fn updates_have_the_keys_of_points()
     ensures { (old : List Contact) (touches : List Touch)
-        → map (λ c. c.key) (updated old touches) ≡ map key_of touches }
+        → map (λ c. c.key) (next_contacts old touches) ≡ map key_of touches }
 {}
 
 /// The contact points of a pair can be reused exactly where the pair is one of those that are kept,
@@ -50,9 +49,9 @@ pub fn reusable_points_are_of_unmoved_bodies()
         → IsTrue (is_reusable m shapes p) → points_of_pair m.shapes p ≡ points_of_pair shapes p }
 {}
 
-/// The impulses of a new contact, the mass of a static body and the meter of no work are zeros.
-pub fn named_values() -> (Impulses, InverseMass, Meter)
-    ensures { result ≡ (no_impulses, no_mass, record { ticks = 0; collides = 0 }) }
+/// The meter of no work is zeros.
+pub fn no_work() -> Meter
+    ensures { result ≡ record { ticks = 0; collides = 0 } }
 {
-    (Impulses::NONE, InverseMass::NONE, Meter::NONE)
+    Meter::NONE
 }

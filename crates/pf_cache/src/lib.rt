@@ -3,7 +3,6 @@
 //! pairs, which are kept for reuse; and the meter of the work done.
 #![tactic(auto)]
 
-mod constraint;
 mod contact;
 mod contacts;
 mod gathered;
@@ -15,12 +14,9 @@ mod meter;
 mod placed_bodies;
 mod ranked;
 mod refresh;
-mod row;
 mod spans;
 
-pub use constraint::{Constraint, InverseMass, Prepared};
-pub use contact::{Contact, Impulses};
+pub use contact::Contact;
 pub use contacts::Contacts;
 pub use manifolds::{Manifolds, NarrowPhase};
 pub use meter::Meter;
-pub use row::{Entry, Row, Side};

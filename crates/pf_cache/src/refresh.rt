@@ -22,8 +22,8 @@ pub struct Progress {
     pub computed: usize,
 }
 
-/// Computes the contact points of a span's pair, and writes them over the old ones if they are as
-/// many. Whether they are.
+/// Computes the contact points of a span's pair. If there are as many as before, it writes them
+/// over the old ones and returns true.
 #[inline(never)]
 fn refresh_span(touches: &mut [Touch], span: &Span, shapes: &[KeptShape]) -> bool
     requires few { length shapes.now ≤ MAX_BODIES }
@@ -44,9 +44,9 @@ fn refresh_span(touches: &mut [Touch], span: &Span, shapes: &[KeptShape]) -> boo
     true
 }
 
-/// Updates the contact points of pairs in place: those of unmoved bodies are left, the others are
-/// computed and written over the old ones. It ends before the first pair that has no span at its
-/// place, or another number of points than before; that it goes so far is said by no clause.
+/// Updates the contact points of pairs in place. Those of unmoved bodies stay; the others are
+/// computed and written over the old ones. It stops at the first pair that has no span at its
+/// place, or another number of points than before. No clause says that it does not stop earlier.
 #[inline(never)]
 #[tactic(auto, using(crate::proofs::Refreshing::kept_after))]
 pub fn refresh(

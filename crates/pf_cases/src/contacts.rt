@@ -2,7 +2,8 @@
 
 use crate::scenes::scene_of;
 use pf_broad::pairs;
-use pf_cache::{Contact, Contacts, Impulses, Meter};
+use pf_cache::{Contact, Contacts, Meter};
+use pf_rows::Impulses;
 use pf_manifold::collide_list;
 use std::alloc::Global;
 use std::test::Fail;

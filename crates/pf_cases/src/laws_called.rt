@@ -61,10 +61,12 @@ fn laws_of_contact_points(_rt: HostRuntime) {
 fn laws_of_contacts(rt: HostRuntime) {
     use pf_cache::laws as contacts;
     use pf_islands::laws as groups;
+    use pf_rows::laws as rows;
     use pf_solver::laws;
     contacts::contacts_are_found();
     contacts::updates_have_the_keys_of_points();
-    contacts::named_values();
+    contacts::no_work();
+    rows::named_values();
     laws::rounds_keep_the_limits();
     laws::rounds_are_one_list();
     laws::named_limits();

@@ -11,7 +11,7 @@ use Rattle.pf_shapes.specs.declared.scene.TheConstants.{MAX_POSITION}
 use Rattle.pf_commands.specs.Coordinate.{IsCoordinate, is_coordinate}
 use Rattle.pf_commands.specs.declared.fault.FrameFault.{FrameFault}
 use Rattle.pf_commands.specs.declared.fault.FrameFault.TheVariants.{Short, Long, BadVersion, BadKind, NotCanonical, OutOfRange}
-use Rattle.pf_commands.specs.Frame.{Fields, IsBytes, IsFrameable, Encodes, version_of, fields_of, fields_in, is_version, has_kind, is_raw, is_part, is_canonical, is_in_range, payload_of, command_in, command_of, decode}
+use Rattle.pf_commands.specs.Frame.{Fields, IsBytes, IsFrameable, Encodes, version_of, fields_of, fields_in, is_version, has_kind, is_raw, is_component, is_canonical, is_in_range, payload_of, command_in, command_of, decode}
 use Rattle.pf_commands.specs.declared.payload.Command.{Command}
 use Rattle.pf_commands.specs.declared.payload.Payload.{Payload}
 use Rattle.pf_commands.specs.declared.payload.Payload.TheVariants.{Push, Turn, Stop, Place}
@@ -26,13 +26,13 @@ raw_passes z raw = rw (raw_again z raw) (le-leb (unsigned_abs z) (unsigned_abs m
 coordinate_passes : (z : ℤ) → IsRaw z → IsCoordinate z → is_coordinate (cast_signed w64 (cast_unsigned w64 z)) ≡ true
 coordinate_passes z raw small = rw (raw_again z raw) (le-leb (unsigned_abs z) (unsigned_abs MAX_POSITION) small)
 
-x_passes : (p : Payload) → IsPayload p → is_part (kind_of p) (cast_unsigned w64 (x_of p)) ≡ true
+x_passes : (p : Payload) → IsPayload p → is_component (kind_of p) (cast_unsigned w64 (x_of p)) ≡ true
 x_passes (Push body x y) fits = raw_passes x fits.x
 x_passes (Turn body x) fits = raw_passes x fits.x
 x_passes (Stop body) fits = refl
 x_passes (Place body x y) fits = coordinate_passes x fits.x (fits.coordinates refl).0
 
-y_passes : (p : Payload) → IsPayload p → is_part (kind_of p) (cast_unsigned w64 (y_of p)) ≡ true
+y_passes : (p : Payload) → IsPayload p → is_component (kind_of p) (cast_unsigned w64 (y_of p)) ≡ true
 y_passes (Push body x y) fits = raw_passes y fits.y
 y_passes (Turn body x) fits = refl
 y_passes (Stop body) fits = refl
@@ -141,7 +141,7 @@ record ReadsBack (p : Payload) (v k b m n : ℕ) : Type 0 where
   coordinates : HasCoordinates p
 
 payload_of-back : (version kind body x y : ℕ) → is_version version ≡ true → has_kind version kind ≡ true → is_canonical kind x y ≡ true → x < 2 ^ 64 → y < 2 ^ 64
-    → is_part kind x ≡ true → is_part kind y ≡ true → ReadsBack (payload_of kind body (cast_signed w64 x) (cast_signed w64 y)) version kind body x y
+    → is_component kind x ≡ true → is_component kind y ≡ true → ReadsBack (payload_of kind body (cast_signed w64 x) (cast_signed w64 y)) version kind body x y
 payload_of-back version zero body x y is has canonical x-lt y-lt part_x part_y = record {
   version = sym (first_version version 0 has (omega arith));
   kind = refl;
@@ -195,14 +195,14 @@ record IsInRange (f : Fields) : Type 0 where
   tick : f.tick < 2 ^ 20
   player : f.player < 8
   body : f.body < 2 ^ 10
-  x : is_part f.kind f.x ≡ true
-  y : is_part f.kind f.y ≡ true
+  x : is_component f.kind f.x ≡ true
+  y : is_component f.kind f.y ≡ true
 
 in_range : (f : Fields) → is_in_range f ≡ true → IsInRange f
 unfolding is_in_range
 in_range f passed =
-    let y = and_parts (nat_lt f.tick (2 ^ 20) && nat_lt f.player 8 && nat_lt f.body (2 ^ 10) && is_part f.kind f.x) (is_part f.kind f.y) passed in
-    let x = and_parts (nat_lt f.tick (2 ^ 20) && nat_lt f.player 8 && nat_lt f.body (2 ^ 10)) (is_part f.kind f.x) y.0 in
+    let y = and_parts (nat_lt f.tick (2 ^ 20) && nat_lt f.player 8 && nat_lt f.body (2 ^ 10) && is_component f.kind f.x) (is_component f.kind f.y) passed in
+    let x = and_parts (nat_lt f.tick (2 ^ 20) && nat_lt f.player 8 && nat_lt f.body (2 ^ 10)) (is_component f.kind f.x) y.0 in
     let body = and_parts (nat_lt f.tick (2 ^ 20) && nat_lt f.player 8) (nat_lt f.body (2 ^ 10)) x.0 in
     let both = and_parts (nat_lt f.tick (2 ^ 20)) (nat_lt f.player 8) body.0 in
     record {

@@ -121,15 +121,15 @@ is_raw z = nat_le (unsigned_abs z) (unsigned_abs max_raw)
 
 -- 64 bits in two's complement that are an x or a y of the kind: a coordinate for a place, which is
 -- kind 3, and a fixed-point number for the kinds below
-abbrev pub is_part : ℕ → ℕ → Bool
-is_part kind bits =
+abbrev pub is_component : ℕ → ℕ → Bool
+is_component kind bits =
     let z = cast_signed w64 bits in if nat_lt kind 3 then is_raw z else is_coordinate z
 
 -- the ranges of the fields
 unfoldable pub is_in_range : Fields → Bool
 is_in_range f =
     nat_lt f.tick (2 ^ 20) && nat_lt f.player 8 && nat_lt f.body (2 ^ 10)
-    && is_part f.kind f.x && is_part f.kind f.y
+    && is_component f.kind f.x && is_component f.kind f.y
 
 -- the payload of a kind
 abbrev pub payload_of : ℕ → ℕ → ℤ → ℤ → Payload

@@ -22,7 +22,7 @@ use std::marker::Model;
 pub const FRAME_LEN: usize = 27;
 
 /// The first byte of the frame of a push, a turn or a stop.
-const VERSION: u8 = 1;
+const FIRST_VERSION: u8 = 1;
 
 /// The first byte of the frame of a place.
 const PLACE_VERSION: u8 = 2;
@@ -73,7 +73,7 @@ impl Model for Fields {
 
 impl Fields {
     ghost use Rattle.std.specs.Prelude.{◌≡◌, ◌&&◌, length, Some, None, if◌then◌else◌};
-    ghost use Rattle.pf_commands.specs.Frame.{fields_of, fields_in, bytes_in, is_version, has_kind, is_canonical, is_part, payload_in, command_of};
+    ghost use Rattle.pf_commands.specs.Frame.{fields_of, fields_in, bytes_in, is_version, has_kind, is_canonical, is_component, payload_in, command_of};
 
     /// The fields of 27 bytes.
     #[tactic(auto, unfolding(crate::specs::Frame::fields_of))]
@@ -134,14 +134,14 @@ impl Fields {
     fn is_version(self) -> bool
         ensures { result ≡ is_version self.version }
     {
-        self.version == VERSION || self.version == PLACE_VERSION
+        self.version == FIRST_VERSION || self.version == PLACE_VERSION
     }
 
     /// Whether a frame of this version may have this kind.
     fn has_kind(self) -> bool
         ensures { result ≡ has_kind self.version self.kind }
     {
-        if self.version == VERSION {
+        if self.version == FIRST_VERSION {
             self.kind < PLACE
         } else {
             self.kind == PLACE
@@ -162,7 +162,7 @@ impl Fields {
 
     /// The payload, if x and y are in the range of the kind.
     fn payload(self) -> Option<Payload>
-        ensures { result ≡ (if is_part self.kind self.x && is_part self.kind self.y
+        ensures { result ≡ (if is_component self.kind self.x && is_component self.kind self.y
             then Some (payload_in self) else None) }
     {
         let x = Fx::from_raw(self.x.cast_signed())?;
@@ -211,7 +211,7 @@ fn version_of(payload: &Payload) -> u8
     ensures { result ≡ version_of payload.now }
 {
     match payload {
-        Payload::Push { .. } | Payload::Turn { .. } | Payload::Stop { .. } => VERSION,
+        Payload::Push { .. } | Payload::Turn { .. } | Payload::Stop { .. } => FIRST_VERSION,
         Payload::Place { .. } => PLACE_VERSION,
     }
 }

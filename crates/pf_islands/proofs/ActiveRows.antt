@@ -14,9 +14,10 @@ use Rattle.pf_shapes.specs.Scene.{Scene, is_static_at}
 use Rattle.pf_manifold.specs.Key.{AreTouches, IsKey, IsRising, key_of, rank}
 use Rattle.pf_manifold.specs.Touches.{IsTouchOf, Touch}
 use Rattle.pf_manifold.proofs.Rising.{rising-weaken}
-use Rattle.pf_cache.specs.declared.row.Side.TheVariants.{Static, Dynamic}
+use Rattle.pf_rows.specs.declared.row.Side.TheVariants.{Static, Dynamic}
 use Rattle.pf_cache.specs.Contact.{Contact, no_contact}
-use Rattle.pf_cache.specs.Row.{AreApart, AreRows, AreRowsAt, IsRowAt, IsSide, Row}
+use Rattle.pf_rows.specs.Row.{AreApart, AreRows, IsSide, Row}
+use Rattle.pf_cache.specs.ContactRows.{AreRowsAt, IsRowAt}
 use Rattle.pf_islands.specs.Rows.{IsRowOf, active_points, active_rows, is_active_contact, row_of, side_of}
 
 -- functions that agree where P holds

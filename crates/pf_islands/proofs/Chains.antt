@@ -4,7 +4,7 @@ use Rattle.std.proofs.lemmas.Bool.{cases_eq, cases_lt, cond_both, cond-false, co
 use Rattle.std.specs.Prelude.{if◌then◌else◌}
 use Rattle.pf_shapes.specs.Scene.{Scene}
 use Rattle.pf_manifold.specs.Touches.{Touch}
-use Rattle.pf_islands.specs.Group.{group, merged}
+use Rattle.pf_islands.specs.Group.{group, merged_name}
 use Rattle.pf_islands.specs.Reach.{AreNeighbours, IsChain, Reaches, connects}
 use Rattle.pf_islands.proofs.Starting.{group_low}
 
@@ -84,7 +84,7 @@ reaches_name s (t ∷ touches) i =
     let y = group s touches t.b in
     let name = group s touches i in
     let here = reaches_more s t touches i name (reaches_name s touches i) in
-    cond_both (connects s t) (merged x y name) name (λ n. Reaches s all i n)
+    cond_both (connects s t) (merged_name x y name) name (λ n. Reaches s all i n)
     (λ joins.
     cond_both (name == max x y) (min x y) name (λ n. Reaches s all i n)
     (λ e.
@@ -95,12 +95,12 @@ reaches_name s (t ∷ touches) i =
     (λ e. here)
 
 -- both names that are merged become the lesser
-merged_first : (x y : ℕ) → merged x y x ≡ min x y
+merged_first : (x y : ℕ) → merged_name x y x ≡ min x y
 merged_first x y =
     ⊎_elim (λ e. cond-true _ _ _ (eq-eqb x (max x y) e))
     (λ apart. cond-false _ _ _ (ne_eqb x (max x y) apart) ∙ omega (arith, apart)) (cases_eq x (max x y))
 
-merged_second : (x y : ℕ) → merged x y y ≡ min x y
+merged_second : (x y : ℕ) → merged_name x y y ≡ min x y
 merged_second x y =
     ⊎_elim (λ e. cond-true _ _ _ (eq-eqb y (max x y) e))
     (λ apart. cond-false _ _ _ (ne_eqb y (max x y) apart) ∙ omega (arith, apart)) (cases_eq y (max x y))
@@ -129,7 +129,7 @@ neighbours_one_name s (t ∷ touches) a b h =
     (λ same. ap (group s (t ∷ touches)) (sym same.1) ∙ sym one ∙ ap (group s (t ∷ touches)) same.0)
     here.1)
     (λ rest.
-    ap (λ n. if connects s t then merged (group s touches t.a) (group s touches t.b) n else n)
+    ap (λ n. if connects s t then merged_name (group s touches t.a) (group s touches t.b) n else n)
     (neighbours_one_name s touches a b rest))
     h
 

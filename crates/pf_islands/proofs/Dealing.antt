@@ -9,9 +9,9 @@ use Rattle.std.specs.List.{range_with_len}
 use Rattle.std.specs.Prelude.{All, ◌&&◌, ◌||◌, if◌then◌else◌}
 use Rattle.pf_shapes.specs.Body.{BodyState, no_state}
 use Rattle.pf_manifold.specs.Key.{IsRising}
-use Rattle.pf_cache.specs.declared.row.Side.{Side}
-use Rattle.pf_cache.specs.declared.row.Side.TheVariants.{Static, Dynamic}
-use Rattle.pf_cache.specs.Row.{IsSide, Row}
+use Rattle.pf_rows.specs.declared.row.Side.{Side}
+use Rattle.pf_rows.specs.declared.row.Side.TheVariants.{Static, Dynamic}
+use Rattle.pf_rows.specs.Row.{IsSide, Row}
 use Rattle.pf_islands.specs.Dealing.{ArePlaces, group_of_row, group_of_sides, placed_row, placed_side, slot_of, with_body, with_row}
 use Rattle.pf_islands.specs.Island.{has_number, is_among, members, place_of, row_among, rows_among, side_among, states_of, touches_one}
 use Rattle.pf_islands.specs.Rows.{is_awake_at}
@@ -127,10 +127,10 @@ module _ (names : List ℕ) (bodies : List BodyState) where
       → after ≡ set now (slot_of names bodies (get_or names k 0))
       (with_body k b (get_or now (slot_of names bodies (get_or names k 0)) no_island))
       → after ≡ map (first_part (k + 1)) (active_names names bodies)
-  dealt_more k b now after inside within woken awake is now_is after_is =
+  dealt_more k b now after inside within woken_bodies awake is now_is after_is =
       let name = get_or names k 0 in
       let slot = slot_of names bodies name in
-      let active = woken.active k inside awake in
+      let active = woken_bodies.active k inside awake in
       after_is
       ∙ ap (λ xs. set xs slot (with_body k b (get_or xs slot no_island))) now_is
       ∙ set_mapped (first_part k) (first_part (k + 1)) 0 (active_names names bodies) slot name _ names_rise
@@ -142,13 +142,13 @@ module _ (names : List ℕ) (bodies : List BodyState) where
   pub dealt_same : (k : ℕ) (now : List Island) → k < length names → AreWoken names bodies → is_awake_at bodies k ≡ false
       → now ≡ map (first_part k) (active_names names bodies)
       → now ≡ map (first_part (k + 1)) (active_names names bodies)
-  dealt_same k now inside woken asleep now_is =
+  dealt_same k now inside woken_bodies asleep now_is =
       now_is
       ∙ map_where (λ name. is_active_name names bodies name ≡ true) (first_part k) (first_part (k + 1))
       (λ name active.
       part_same k name (false_from_ne_true (get_or names k 0 == name)
       (λ own.
-      true≢false (sym (woken.whole k inside (ap (is_active_name names bodies) (eqb-true (get_or names k 0) name own) ∙ active)) ∙ asleep))))
+      true≢false (sym (woken_bodies.whole k inside (ap (is_active_name names bodies) (eqb-true (get_or names k 0) name own) ∙ active)) ∙ asleep))))
       (active_names names bodies) (chosen_pass (is_active_name names bodies) (range_with_len 0 (length names)))
 
   -- the place of a body that is dealt
@@ -231,11 +231,11 @@ module _ (names : List ℕ) (bodies : List BodyState) where
   -- its group is simulated
   pub group_active : (r : Row) → All (λ name. name < length names) names → AreWoken names bodies → IsActiveRow names bodies r
       → (group_of_row names r < length names) × (is_active_name names bodies (group_of_row names r) ≡ true)
-  group_active r named woken is = by r.entry.first r.entry.second is.first is.second is.together is.active
+  group_active r named woken_bodies is = by r.entry.first r.entry.second is.first is.second is.together is.active
     where
       at : (n : ℕ) → n < length names → is_awake_at bodies n ≡ true
           → (get_or names n 0 < length names) × (is_active_name names bodies (get_or names n 0) ≡ true)
-      at n within awake = (named n 0 within, woken.active n within awake)
+      at n within awake = (named n 0 within, woken_bodies.active n within awake)
 
       by : (first second : Side) → IsSide (length names) first → IsSide (length names) second → AreTogether names first second
           → (is_awake_side bodies first || is_awake_side bodies second) ≡ true
@@ -260,8 +260,8 @@ module _ (names : List ℕ) (bodies : List BodyState) where
   pub row_placed : (places : List ℕ) (r : Row) → All (λ name. name < length names) names → AreWoken names bodies
       → ArePlaces names bodies places → IsActiveRow names bodies r
       → placed_row places r ≡ row_among (members names (group_of_row names r)) r
-  row_placed places r named woken noted is =
-      let active = (group_active r named woken is).1 in
+  row_placed places r named woken_bodies noted is =
+      let active = (group_active r named woken_bodies is).1 in
       let sides = by r.entry.first r.entry.second is.first is.second is.together active in
       ap₂ (λ (f s : Side). record r { entry = record r.entry { first = f; second = s } }) sides.0 sides.1
     where
@@ -269,7 +269,7 @@ module _ (names : List ℕ) (bodies : List BodyState) where
           → placed_side places (Dynamic n) ≡ side_among (members names name) (Dynamic n)
       at n name within same active =
           ap (λ k. Dynamic k)
-          (noted n within (woken.whole n within (ap (is_active_name names bodies) same ∙ active))
+          (noted n within (woken_bodies.whole n within (ap (is_active_name names bodies) same ∙ active))
           ∙ ap (λ m. place_of (members names m) n) same)
 
       by : (first second : Side) → IsSide (length names) first → IsSide (length names) second → AreTogether names first second
@@ -302,15 +302,15 @@ module _ (names : List ℕ) (bodies : List BodyState) where
       → after ≡ set now (slot_of names bodies (group_of_row names r))
       (with_row (placed_row places r) (get_or now (slot_of names bodies (group_of_row names r)) no_island))
       → after ≡ map (full_part (rows ++ r ∷ [])) (active_names names bodies)
-  row_dealt rows r places now after named woken noted active now_is after_is =
+  row_dealt rows r places now after named woken_bodies noted active now_is after_is =
       let name = group_of_row names r in
       let slot = slot_of names bodies name in
-      let own = group_active r named woken active in
+      let own = group_active r named woken_bodies active in
       after_is
       ∙ ap (λ xs. set xs slot (with_row (placed_row places r) (get_or xs slot no_island))) now_is
       ∙ set_mapped (full_part rows) (full_part (rows ++ r ∷ [])) 0 (active_names names bodies) slot name _
       (names_rise names bodies) (name_at names bodies name own.0 own.1)
-      (ap₂ with_row (row_placed places r named woken noted active) (island_at names bodies (full_part rows) name own.0 own.1)
+      (ap₂ with_row (row_placed places r named woken_bodies noted active) (island_at names bodies (full_part rows) name own.0 own.1)
       ∙ ap (λ (rs : List Row). record (full_part rows name) { rows = rs })
       (sym (rows_more rows r (members names name) true (touches_group name r active ∙ eq-eqb name name refl))))
       (λ m apart.

@@ -13,14 +13,14 @@ use Rattle.pf_shapes.specs.Scene.{Scene}
 use Rattle.pf_manifold.specs.Key.{AreTouches, IsRising}
 use Rattle.pf_manifold.specs.Touches.{IsTouchOf, Touch}
 use Rattle.pf_cache.specs.Contact.{Contact}
-use Rattle.pf_cache.specs.Row.{AreRows, Row}
+use Rattle.pf_rows.specs.Row.{AreRows, Row}
 use Rattle.pf_islands.specs.Dealing.{group_of_row, slot_of}
 use Rattle.pf_islands.specs.Group.{group, groups}
 use Rattle.pf_islands.specs.Island.{members, rows_among, states_of, touches_one}
 use Rattle.pf_islands.specs.Laws.{HasBody, HasRow, active_bodies, islands_of, rows_of}
 use Rattle.pf_islands.specs.Reach.{Reaches}
 use Rattle.pf_islands.specs.Rows.{is_awake_at}
-use Rattle.pf_islands.specs.Sleep.{woken}
+use Rattle.pf_islands.specs.Sleep.{woken_bodies}
 use Rattle.pf_islands.specs.Split.{AreWoken, IsActiveRow, Island, active_names, is_active_name, island_of}
 use Rattle.pf_islands.proofs.ActiveRows.{map_where, rows_in_order}
 use Rattle.pf_islands.proofs.Chains.{one_name, reaches_one}
@@ -54,7 +54,7 @@ rising_once least (x ∷ ns) (suc k) (suc l) n rising here there = ap suc (risin
 -- the phase Activity keeps each body
 pub awake_long : (s : Scene) (touches : List Touch) (bodies : List BodyState) → length bodies ≡ length s.fixtures
     → length (active_bodies s touches bodies) ≡ length bodies
-unfolding woken
+unfolding woken_bodies
 awake_long s touches bodies count =
     length-map (zip (groups s touches) bodies) _
     ∙ length-zip (groups s touches) bodies ∙ omega (arith, count, groups_long s touches)

@@ -10,8 +10,10 @@ use Rattle.std.specs.List.{list_any, zip}
 use Rattle.std.specs.Prelude.{All, fold}
 use Rattle.pf_shapes.specs.Body.{BodyState, no_state}
 use Rattle.pf_manifold.specs.Key.{IsRising, rank}
-use Rattle.pf_cache.specs.Contact.{Contact, Impulses, no_contact}
-use Rattle.pf_cache.specs.Row.{AreRows, AreRowsAt, IsRowAt, Row, impulses_or, with_rows}
+use Rattle.pf_rows.specs.Impulses.{Impulses}
+use Rattle.pf_cache.specs.Contact.{Contact, no_contact}
+use Rattle.pf_rows.specs.Row.{AreRows, Row, impulses_or}
+use Rattle.pf_cache.specs.ContactRows.{AreRowsAt, IsRowAt, with_rows}
 use Rattle.pf_cache.proofs.FoundRows.{row_rank, rows_rise}
 use Rattle.pf_islands.specs.Island.{has_number, row_among, rows_among, states_of, touches_one}
 use Rattle.pf_islands.specs.Join.{joined_bodies, joined_contacts, with_states}

@@ -4,7 +4,7 @@ use Rattle.std.proofs.lemmas.Bool.{cases_Bool, cases_eq, cond_both, cond-false, 
 use Rattle.pf_shapes.specs.Scene.{Scene, is_static_at}
 use Rattle.pf_manifold.specs.Touches.{Touch}
 use Rattle.pf_islands.specs.Forest.{IsForest}
-use Rattle.pf_islands.specs.Group.{group, merged}
+use Rattle.pf_islands.specs.Group.{group, merged_name}
 use Rattle.pf_islands.specs.Reach.{connects}
 use Rattle.pf_islands.proofs.Chains.{linked_one_name}
 
@@ -35,18 +35,18 @@ module _ (s : Scene) (t : Touch) (passed : List Touch) (parents : List ℕ) wher
 
   -- a point that connects its bodies, a and b
   pub forest_of_link : (a b : ℕ) → a ≡ t.a → b ≡ t.b → connects s t ≡ true
-      → IsForest (λ i. merged (group s passed a) (group s passed b) (group s passed i)) parents
+      → IsForest (λ i. merged_name (group s passed a) (group s passed b) (group s passed i)) parents
       → IsForest (group s (t ∷ passed)) parents
   unfolding group
   forest_of_link a b first second joined =
-      forest_agree (λ i. merged (group s passed a) (group s passed b) (group s passed i)) (group s (t ∷ passed)) parents
+      forest_agree (λ i. merged_name (group s passed a) (group s passed b) (group s passed i)) (group s (t ∷ passed)) parents
       (λ i.
-      ap (λ x. merged (group s passed x) (group s passed b) (group s passed i)) first
-      ∙ ap (λ y. merged (group s passed t.a) (group s passed y) (group s passed i)) second
+      ap (λ x. merged_name (group s passed x) (group s passed b) (group s passed i)) first
+      ∙ ap (λ y. merged_name (group s passed t.a) (group s passed y) (group s passed i)) second
       ∙ sym (cond-true (connects s t) _ _ joined))
 
 -- the name of one group does not change where the group is merged with itself
-merged_one : (x y name : ℕ) → x ≡ y → merged x y name ≡ name
+merged_one : (x y name : ℕ) → x ≡ y → merged_name x y name ≡ name
 merged_one x y name same =
     ⊎_elim
     (λ e. cond-true _ _ _ (eq-eqb name (max x y) e) ∙ omega (arith, e, same))

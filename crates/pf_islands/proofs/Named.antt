@@ -8,7 +8,7 @@ use Rattle.std.specs.List.{range_with_len, zip}
 use Rattle.std.specs.Prelude.{All}
 use Rattle.pf_shapes.specs.Body.{BodyState}
 use Rattle.pf_islands.specs.Marks.{each_named, woken_body}
-use Rattle.pf_islands.specs.Sleep.{is_active, woken}
+use Rattle.pf_islands.specs.Sleep.{is_active, woken_bodies}
 
 -- the first i bodies are changed, each by its name
 module _ {X : Type 0} (change : ℕ × X → X) (names : List ℕ) (bodies now : List X) (i : ℕ)
@@ -77,8 +77,8 @@ module _ (names : List ℕ) (marks : List Bool) (bodies : List BodyState) (named
 
   -- bodies that are woken by these marks are woken
   pub woken_is : marks ≡ map (is_active names bodies) (range_with_len 0 (length names))
-      → each_named (woken_body marks) names bodies ≡ woken names bodies
-  unfolding woken
+      → each_named (woken_body marks) names bodies ≡ woken_bodies names bodies
+  unfolding woken_bodies
   woken_is are =
       changes_agree (woken_body marks) (λ m. record m.1 { awake = is_active names bodies m.0 }) (length names)
       (λ name b small. ap (λ mark. record b { awake = mark }) (mark_is (is_active names bodies) are name small))

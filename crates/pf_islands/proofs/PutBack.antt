@@ -6,8 +6,10 @@ use Rattle.std.specs.List.{zip}
 use Rattle.std.specs.Prelude.{All, fold, option_map}
 use Rattle.pf_shapes.specs.Body.{BodyState}
 use Rattle.pf_manifold.specs.Key.{IsKey, IsRising, Key, key_of, rank}
-use Rattle.pf_cache.specs.Contact.{AreContacts, Contact, Impulses, no_contact}
-use Rattle.pf_cache.specs.Row.{AreRows, AreRowsAt, IsRowAt, Row, impulses_or, with_rows}
+use Rattle.pf_rows.specs.Impulses.{Impulses}
+use Rattle.pf_cache.specs.Contact.{AreContacts, Contact, no_contact}
+use Rattle.pf_rows.specs.Row.{AreRows, Row, impulses_or}
+use Rattle.pf_cache.specs.ContactRows.{AreRowsAt, IsRowAt, with_rows}
 use Rattle.pf_cache.proofs.FoundRows.{all_found, none_found, row_rank, rows_rise}
 use Rattle.pf_islands.specs.Join.{IsAtHome, joined_bodies, joined_contacts, with_states}
 use Rattle.pf_islands.specs.Laws.{HasBody, HoldsRow}

@@ -10,7 +10,7 @@ use Rattle.pf_shapes.specs.Scene.{Scene}
 use Rattle.pf_manifold.specs.Touches.{Touch}
 use Rattle.pf_islands.specs.Group.{group, groups}
 use Rattle.pf_islands.specs.Reach.{Reaches}
-use Rattle.pf_islands.specs.Sleep.{at_sleep, is_active, is_resting, rested, woken}
+use Rattle.pf_islands.specs.Sleep.{at_sleep, is_active, is_resting, bodies_after_sleep, woken_bodies}
 use Rattle.pf_islands.proofs.Chains.{one_name, reaches_one}
 use Rattle.pf_islands.proofs.Looked.{all_at, all_from, any_found, any_from, zip_at}
 use Rattle.pf_islands.proofs.Starting.{groups_long}
@@ -39,10 +39,10 @@ module _ (s : Scene) (touches : List Touch) where
         name_at j (omega (arith, count, within))
 
     -- a group has an awake body exactly where a chain leads to one
-    pub woken_reach : (i : ℕ) (b : BodyState) → slice_get (woken (groups s touches) bodies) i ≡ Some b
+    pub woken_reach : (i : ℕ) (b : BodyState) → slice_get (woken_bodies (groups s touches) bodies) i ≡ Some b
         → (b.awake ≡ true) ↔ ((j : ℕ) × (c : BodyState) × (slice_get bodies j ≡ Some c) × (c.awake ≡ true)
         × Reaches s touches i j)
-    unfolding woken
+    unfolding woken_bodies
     woken_reach i b e =
         let names = groups s touches in
         let here = zip_at (λ (m : ℕ × BodyState). record m.1 { awake = is_active names bodies m.0 }) names bodies i b e in
@@ -78,10 +78,10 @@ module _ (s : Scene) (touches : List Touch) where
 
     -- a group sleeps exactly where each body that a chain leads to has this timer
     pub rested_reach : (full i : ℕ) (b after : BodyState) → slice_get bodies i ≡ Some b → b.awake ≡ true
-        → slice_get (rested full (groups s touches) bodies) i ≡ Some after
+        → slice_get (bodies_after_sleep full (groups s touches) bodies) i ≡ Some after
         → (after.awake ≡ false) ↔ ((j : ℕ) (c : BodyState) → slice_get bodies j ≡ Some c → Reaches s touches i j
         → c.timer ≡ full)
-    unfolding rested
+    unfolding bodies_after_sleep
     rested_reach full i b after is awake e =
         let names = groups s touches in
         let change = λ (m : ℕ × BodyState). if m.1.awake && is_resting full names bodies m.0 then at_sleep m.1 else m.1 in

@@ -8,7 +8,7 @@ use Rattle.std.specs.Prelude.{All}
 use Rattle.pf_shapes.specs.Scene.{Scene}
 use Rattle.pf_manifold.specs.Touches.{Touch}
 use Rattle.pf_islands.specs.Forest.{IsDownward, IsForest}
-use Rattle.pf_islands.specs.Group.{IsGroups, group, groups, merged}
+use Rattle.pf_islands.specs.Group.{IsGroups, group, groups, merged_name}
 use Rattle.pf_islands.specs.Reach.{connects}
 
 -- each body is its own parent
@@ -26,7 +26,7 @@ module _ (n : ℕ) where
   singles_forest = record { same = own_parent; own = λ i small e. refl }
 
 -- a merged name is not greater
-merged_low : (a b name : ℕ) → merged a b name ≤ name
+merged_low : (a b name : ℕ) → merged_name a b name ≤ name
 merged_low a b name =
     cond_both (name == max a b) (min a b) name (λ x. x ≤ name)
     (λ e. let same = eqb-true name (max a b) e in omega (arith, same)) (λ e. omega arith)
@@ -37,7 +37,7 @@ unfolding group
 group_low s [] i = omega arith
 group_low s (t ∷ touches) i =
     let low = group_low s touches i in
-    cond_both (connects s t) (merged (group s touches t.a) (group s touches t.b) (group s touches i)) (group s touches i)
+    cond_both (connects s t) (merged_name (group s touches t.a) (group s touches t.b) (group s touches i)) (group s touches i)
     (λ x. x ≤ i)
     (λ e. omega (arith, low, merged_low (group s touches t.a) (group s touches t.b) (group s touches i)))
     (λ e. low)

@@ -9,13 +9,13 @@ use Rattle.std.specs.Prelude.{All}
 use Rattle.pf_shapes.specs.Body.{BodyState, no_state}
 use Rattle.pf_shapes.specs.Scene.{Scene, is_static_at}
 use Rattle.pf_manifold.specs.Touches.{IsTouchOf, Touch}
-use Rattle.pf_cache.specs.declared.row.Side.TheVariants.{Static, Dynamic}
+use Rattle.pf_rows.specs.declared.row.Side.TheVariants.{Static, Dynamic}
 use Rattle.pf_cache.specs.Contact.{Contact}
-use Rattle.pf_cache.specs.Row.{IsSide, Row}
+use Rattle.pf_rows.specs.Row.{IsSide, Row}
 use Rattle.pf_islands.specs.Group.{group, groups}
 use Rattle.pf_islands.specs.Reach.{AreNeighbours, IsBetween, connects}
 use Rattle.pf_islands.specs.Rows.{active_points, active_rows, is_active_contact, is_awake_at, is_simulated_at, row_of, side_of}
-use Rattle.pf_islands.specs.Sleep.{is_active, woken}
+use Rattle.pf_islands.specs.Sleep.{is_active, woken_bodies}
 use Rattle.pf_islands.specs.Split.{AreTogether, AreWoken, IsActiveRow, is_active_name, is_awake_side}
 use Rattle.pf_islands.proofs.ActiveRows.{all_rows, row_at, row_holds, row_read}
 use Rattle.pf_islands.proofs.Chains.{one_name, reaches_name}
@@ -46,12 +46,12 @@ module _ (s : Scene) (touches : List Touch) where
     names = groups s touches
 
     abbrev after : List BodyState
-    after = woken names bodies
+    after = woken_bodies names bodies
 
     -- a body is awake afterwards where its group has an awake one
     pub woken_at : (i : ℕ) → i < length s.fixtures
         → is_awake_at after i ≡ is_active names bodies (group s touches i)
-    unfolding woken
+    unfolding woken_bodies
     woken_at i within =
         let first = slice_get-get_or names i 0 (omega (arith, groups_long s touches, within)) in
         let second = slice_get-get_or bodies i no_state (omega (arith, count, within)) in

@@ -11,10 +11,11 @@ use Rattle.pf_shapes.specs.Body.{BodyState}
 use Rattle.pf_shapes.specs.Scene.{Scene}
 use Rattle.pf_manifold.specs.Key.{IsKey, IsRising, key_of, rank}
 use Rattle.pf_manifold.proofs.Rising.{rising-weaken}
-use Rattle.pf_cache.specs.declared.row.Side.{Side}
-use Rattle.pf_cache.specs.declared.row.Side.TheVariants.{Static, Dynamic}
+use Rattle.pf_rows.specs.declared.row.Side.{Side}
+use Rattle.pf_rows.specs.declared.row.Side.TheVariants.{Static, Dynamic}
 use Rattle.pf_cache.specs.Contact.{Contact}
-use Rattle.pf_cache.specs.Row.{AreApart, AreRows, AreRowsAt, IsRowAt, IsSide, Row}
+use Rattle.pf_rows.specs.Row.{AreApart, AreRows, IsSide, Row}
+use Rattle.pf_cache.specs.ContactRows.{AreRowsAt, IsRowAt}
 use Rattle.pf_islands.specs.Dealing.{group_of_row, group_of_sides}
 use Rattle.pf_islands.specs.Island.{IsOwnOrOther, IsOwnSide, has_number, is_among, members, place_of, row_among, rows_among, side_among, states_of, touches_one}
 use Rattle.pf_islands.specs.Join.{IsAtHome}
@@ -158,15 +159,15 @@ module _ (names : List ℕ) (bodies : List BodyState) where
   -- a dynamic body of a contact that is simulated is awake
   pub sides_awake : (r : Row) → All (λ name. name < length names) names → AreWoken names bodies → IsActiveRow names bodies r
       → (j : ℕ) → (r.entry.first ≡ Dynamic j) ⊎ (r.entry.second ≡ Dynamic j) → is_awake_at bodies j ≡ true
-  sides_awake r named woken is j =
-      by r.entry.first r.entry.second is.first is.second is.together (group_active names bodies r named woken is).1
+  sides_awake r named woken_bodies is j =
+      by r.entry.first r.entry.second is.first is.second is.together (group_active names bodies r named woken_bodies is).1
     where
       at : (n name : ℕ) → n < length names → get_or names n 0 ≡ name → is_active_name names bodies name ≡ true
           → Dynamic n ≡ Dynamic j → is_awake_at bodies j ≡ true
       at n name within same active here =
           let is_j : n ≡ j = cc in
           subst (λ i. is_awake_at bodies i ≡ true) is_j
-          (woken.whole n within (ap (is_active_name names bodies) same ∙ active))
+          (woken_bodies.whole n within (ap (is_active_name names bodies) same ∙ active))
 
       by : (first second : Side) → IsSide (length names) first → IsSide (length names) second
           → AreTogether names first second → is_active_name names bodies (group_of_sides names first second) ≡ true
@@ -244,16 +245,16 @@ module _ (names : List ℕ) (bodies : List BodyState) where
     pub body_has_island : (j : ℕ) → j < length names → All (λ name. name < length names) names → AreWoken names bodies
         → is_awake_at bodies j ≡ true
         → list_any (λ (i : Island). has_number i.numbers j) (islands names bodies rows) ≡ true
-    body_has_island j within named woken awake =
-        any_island (λ i. has_number i.numbers j) (get_or names j 0) (named j 0 within) (woken.active j within awake)
+    body_has_island j within named woken_bodies awake =
+        any_island (λ i. has_number i.numbers j) (get_or names j 0) (named j 0 within) (woken_bodies.active j within awake)
         (is_member names bodies (get_or names j 0) j within ∙ eq-eqb (get_or names j 0) (get_or names j 0) refl)
 
     -- and so is each contact that is simulated
     pub row_has_island : (r : Row) → All (λ name. name < length names) names → AreWoken names bodies
         → IsActiveRow names bodies r
         → list_any (λ (i : Island). touches_one i.numbers r) (islands names bodies rows) ≡ true
-    row_has_island r named woken active =
-        let group = group_active names bodies r named woken active in
+    row_has_island r named woken_bodies active =
+        let group = group_active names bodies r named woken_bodies active in
         any_island (λ i. touches_one i.numbers r) (group_of_row names r) group.0 group.1
         (touches_group names bodies (group_of_row names r) r active
         ∙ eq-eqb (group_of_row names r) (group_of_row names r) refl)

@@ -2,9 +2,9 @@
 use Rattle.std.specs.Prelude.{◌≡◌, ℕ, ◌<◌, true, List, [], ◌∷◌, ◌++◌, length, filter, slice_index_or}
 use Rattle.std.specs.List.{range_with_len}
 use Rattle.pf_shapes.specs.Body.{BodyState}
-use Rattle.pf_cache.specs.declared.row.Side.{Side}
-use Rattle.pf_cache.specs.declared.row.Side.TheVariants.{Static, Dynamic}
-use Rattle.pf_cache.specs.Row.{Row}
+use Rattle.pf_rows.specs.declared.row.Side.{Side}
+use Rattle.pf_rows.specs.declared.row.Side.TheVariants.{Static, Dynamic}
+use Rattle.pf_rows.specs.Row.{Row}
 use Rattle.pf_islands.specs.Island.{members, place_of}
 use Rattle.pf_islands.specs.Rows.{is_awake_at}
 use Rattle.pf_islands.specs.Split.{Island, is_active_name}

@@ -7,15 +7,15 @@ use Rattle.pf_manifold.specs.Touches.{Touch}
 use Rattle.pf_islands.specs.Reach.{connects}
 
 -- the name of a group after the groups of two names became one: the greater became the lesser
-abbrev pub merged : ℕ → ℕ → ℕ → ℕ
-merged a b name = if name == max a b then min a b else name
+abbrev pub merged_name : ℕ → ℕ → ℕ → ℕ
+merged_name a b name = if name == max a b then min a b else name
 
 -- the name of a body's group: each body is alone at first, and each contact of two dynamic bodies
 -- merges their groups
 unfoldable pub group : Scene → List Touch → ℕ → ℕ
 group s [] i = i
 group s (t ∷ touches) i =
-    if connects s t then merged (group s touches t.a) (group s touches t.b) (group s touches i)
+    if connects s t then merged_name (group s touches t.a) (group s touches t.b) (group s touches i)
     else group s touches i
 
 -- the names of the groups of all bodies, by their numbers

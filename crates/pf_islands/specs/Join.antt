@@ -4,7 +4,7 @@ use Rattle.std.specs.Prelude.{◌≡◌, ℕ, ◌<◌, List, All, fold, length, 
 use Rattle.std.specs.List.{zip}
 use Rattle.pf_shapes.specs.Body.{BodyState}
 use Rattle.pf_cache.specs.Contact.{Contact}
-use Rattle.pf_cache.specs.Row.{with_rows}
+use Rattle.pf_cache.specs.ContactRows.{with_rows}
 use Rattle.pf_islands.specs.Split.{Island}
 
 -- the bodies, where each of an island has the state that it has there

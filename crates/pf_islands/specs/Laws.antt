@@ -5,16 +5,16 @@ use Rattle.pf_shapes.specs.Scene.{Scene}
 use Rattle.pf_manifold.specs.Key.{key_of}
 use Rattle.pf_manifold.specs.Touches.{Touch}
 use Rattle.pf_cache.specs.Contact.{Contact}
-use Rattle.pf_cache.specs.Row.{Row}
+use Rattle.pf_rows.specs.Row.{Row}
 use Rattle.pf_islands.specs.Group.{groups}
 use Rattle.pf_islands.specs.Island.{touches_one}
 use Rattle.pf_islands.specs.Rows.{active_rows}
-use Rattle.pf_islands.specs.Sleep.{woken}
+use Rattle.pf_islands.specs.Sleep.{woken_bodies}
 use Rattle.pf_islands.specs.Split.{Island, islands}
 
 -- bodies after the phase Activity
 abbrev pub active_bodies : Scene → List Touch → List BodyState → List BodyState
-active_bodies s touches bodies = woken (groups s touches) bodies
+active_bodies s touches bodies = woken_bodies (groups s touches) bodies
 
 -- the rows of the contacts that are simulated
 abbrev pub rows_of : Scene → List Touch → List BodyState → List Contact → List Row

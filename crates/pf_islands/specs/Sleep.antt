@@ -9,8 +9,9 @@ abbrev pub is_active : List ℕ → List BodyState → ℕ → Bool
 is_active names bodies name = list_any (λ m. (m.0 == name) && m.1.awake) (zip names bodies)
 
 -- Activity: the bodies of a group are awake where one of them is
-unfoldable pub woken : List ℕ → List BodyState → List BodyState
-woken names bodies = map (λ m. record m.1 { awake = is_active names bodies m.0 }) (zip names bodies)
+unfoldable pub woken_bodies : List ℕ → List BodyState → List BodyState
+woken_bodies names bodies =
+    map (λ m. record m.1 { awake = is_active names bodies m.0 }) (zip names bodies)
 
 -- each body of the group of this name has this timer
 abbrev pub is_resting : ℕ → List ℕ → List BodyState → ℕ → Bool
@@ -22,13 +23,13 @@ abbrev pub at_sleep : BodyState → BodyState
 at_sleep b = record (at_rest b) { timer = 0; awake = false }
 
 -- Sleep: the awake bodies of a group stop and sleep where each of its bodies has a full timer
-unfoldable pub rested : ℕ → List ℕ → List BodyState → List BodyState
-rested full names bodies =
+unfoldable pub bodies_after_sleep : ℕ → List ℕ → List BodyState → List BodyState
+bodies_after_sleep full names bodies =
     map
     (λ m. if m.1.awake && is_resting full names bodies m.0 then at_sleep m.1 else m.1)
     (zip names bodies)
 
 -- the phase Sleep of a group alone: its bodies stop and sleep where each of them has a full timer
-abbrev pub rested_alone : ℕ → List BodyState → List BodyState
-rested_alone full bodies =
+abbrev pub island_after_sleep : ℕ → List BodyState → List BodyState
+island_after_sleep full bodies =
     if list_all (λ b. b.timer == full) bodies then map at_sleep bodies else bodies

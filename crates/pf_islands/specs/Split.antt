@@ -4,9 +4,9 @@ use Rattle.std.specs.Prelude.{◌≡◌, ℕ, ◌<◌, ◌==◌, Bool, true, fal
 use Rattle.std.specs.List.{range_with_len}
 use Rattle.pf_shapes.specs.Body.{BodyState}
 use Rattle.pf_shapes.specs.Scene.{Scene}
-use Rattle.pf_cache.specs.declared.row.Side.{Side}
-use Rattle.pf_cache.specs.declared.row.Side.TheVariants.{Static, Dynamic}
-use Rattle.pf_cache.specs.Row.{IsSide, Row}
+use Rattle.pf_rows.specs.declared.row.Side.{Side}
+use Rattle.pf_rows.specs.declared.row.Side.TheVariants.{Static, Dynamic}
+use Rattle.pf_rows.specs.Row.{IsSide, Row}
 use Rattle.pf_islands.specs.Island.{members, rows_among, states_of}
 use Rattle.pf_islands.specs.Rows.{IsRowOf, is_awake_at}
 

@@ -32,7 +32,7 @@ impl Groups {
     ghost use Rattle.pf_shapes.specs.Scene.{Scene};
     ghost use Rattle.pf_manifold.specs.Touches.{IsTouchOf, Touch};
     ghost use Rattle.pf_islands.specs.Group.{groups};
-    ghost use Rattle.pf_islands.specs.Sleep.{woken};
+    ghost use Rattle.pf_islands.specs.Sleep.{woken_bodies};
     ghost use Rattle.pf_islands.specs.Split.{AreWoken};
 
     /// The groups of the scene's bodies that these contact points connect. Takes no memory where
@@ -63,8 +63,8 @@ impl Groups {
     #[inline(never)]
     pub fn wake(&mut self, bodies: &mut [BodyState])
         requires { length bodies.old ≡ length self.old }
-        ensures bodies { bodies.new ≡ woken self.old bodies.old }
-        ensures woken { (scene : Scene) (touches : List Touch)
+        ensures bodies { bodies.new ≡ woken_bodies self.old bodies.old }
+        ensures woken_bodies { (scene : Scene) (touches : List Touch)
             → self.old ≡ groups scene touches → AreWoken self.old bodies.new }
         ensures groups { self.new ≡ self.old }
     {

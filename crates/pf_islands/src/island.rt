@@ -3,7 +3,7 @@
 ghost use Rattle.std.specs.Prelude.{◌≡◌};
 
 use crate::rooms::Room;
-use pf_cache::Row;
+use pf_rows::Row;
 use pf_shapes::BodyState;
 use smallvec::SmallVec;
 use std::alloc::{AllocError, Global};

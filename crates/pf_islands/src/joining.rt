@@ -2,7 +2,7 @@
 
 ghost use Rattle.std.specs.Prelude.{◌≡◌, ◌<◌, All, fold, length, slice_set};
 ghost use Rattle.std.specs.List.{zip};
-ghost use Rattle.pf_cache.specs.Row.{AreRowsAt};
+ghost use Rattle.pf_cache.specs.ContactRows.{AreRowsAt};
 ghost use Rattle.pf_islands.specs.Join.{IsAtHome, joined_bodies, joined_contacts};
 
 use crate::island::Island;

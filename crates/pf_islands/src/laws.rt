@@ -6,14 +6,15 @@ ghost use Rattle.pf_shapes.specs.Scene.{Scene};
 ghost use Rattle.pf_manifold.specs.Key.{AreTouches, IsRising, key_of};
 ghost use Rattle.pf_manifold.specs.Touches.{IsTouchOf, Touch};
 ghost use Rattle.pf_cache.specs.Contact.{AreContacts, Contact};
-ghost use Rattle.pf_cache.specs.Row.{AreRows, AreRowsAt, Row};
+ghost use Rattle.pf_rows.specs.Row.{AreRows, Row};
+ghost use Rattle.pf_cache.specs.ContactRows.{AreRowsAt};
 ghost use Rattle.pf_islands.specs.Island.{rows_among};
 ghost use Rattle.pf_islands.specs.Laws.{HasBody, HasRow, HaveOwnBodies, HaveOwnContacts, HoldsRow, active_bodies, islands_of, rows_of};
 ghost use Rattle.pf_islands.specs.Join.{IsAtHome, joined_bodies, joined_contacts};
 ghost use Rattle.pf_islands.specs.Split.{Island};
 ghost use Rattle.pf_islands.specs.Reach.{Reaches};
 ghost use Rattle.pf_islands.specs.Group.{group, groups};
-ghost use Rattle.pf_islands.specs.Sleep.{rested, woken};
+ghost use Rattle.pf_islands.specs.Sleep.{bodies_after_sleep, woken_bodies};
 
 /// Two bodies are in one group exactly where a chain of contacts leads from one to the other. The
 /// name of a group is its least body.
@@ -31,7 +32,7 @@ pub fn groups_are_connected()
 pub fn active_bodies_reach_awake_ones()
     ensures { (s : Scene) (touches : List Touch) (bodies : List BodyState) (i : ℕ) (b : BodyState)
         → length bodies ≡ length s.fixtures
-        → slice_get (woken (groups s touches) bodies) i ≡ Some b
+        → slice_get (woken_bodies (groups s touches) bodies) i ≡ Some b
         → (b.awake ≡ true) ↔ ((j : ℕ) × (c : BodyState) × (slice_get bodies j ≡ Some c)
         × (c.awake ≡ true) × Reaches s touches i j) }
 {}
@@ -41,7 +42,7 @@ pub fn groups_sleep_as_wholes()
     ensures { (s : Scene) (touches : List Touch) (bodies : List BodyState) (full i : ℕ)
         (b after : BodyState) → length bodies ≡ length s.fixtures
         → slice_get bodies i ≡ Some b → b.awake ≡ true
-        → slice_get (rested full (groups s touches) bodies) i ≡ Some after
+        → slice_get (bodies_after_sleep full (groups s touches) bodies) i ≡ Some after
         → (after.awake ≡ false) ↔ ((j : ℕ) (c : BodyState) → slice_get bodies j ≡ Some c
         → Reaches s touches i j → c.timer ≡ full) }
 {}

@@ -2,7 +2,7 @@
 
 ghost use Rattle.std.specs.Prelude.{◌≡◌, ◌==◌, ◌↔◌, IsTrue, map};
 ghost use Rattle.std.specs.List.{list_all};
-ghost use Rattle.pf_islands.specs.Sleep.{at_sleep, rested_alone};
+ghost use Rattle.pf_islands.specs.Sleep.{at_sleep, island_after_sleep};
 
 use pf_num::Fx;
 use pf_rot::V2;
@@ -40,7 +40,7 @@ fn have_timer(bodies: &[BodyState], full: u8) -> bool
 /// memory.
 #[inline]
 pub fn rest_alone(bodies: &mut [BodyState], full: u8)
-    ensures { bodies.new ≡ rested_alone full bodies.old }
+    ensures { bodies.new ≡ island_after_sleep full bodies.old }
 {
     if have_timer(bodies, full) {
         fall_asleep_all(bodies);

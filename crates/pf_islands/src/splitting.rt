@@ -2,7 +2,7 @@
 
 ghost use Rattle.std.specs.Prelude.{◌≡◌, ◌<◌, ◌≤◌, ◌+◌, ◌++◌, ◌∷◌, [], All, IfOk, IsOk, OnOk, length, map, slice_index_or, slice_set, take};
 ghost use Rattle.std.specs.List.{range_with_len};
-ghost use Rattle.pf_cache.specs.Row.{IsSide};
+ghost use Rattle.pf_rows.specs.Row.{IsSide};
 ghost use Rattle.pf_manifold.specs.Touches.{IsTouchOf};
 ghost use Rattle.pf_islands.specs.Group.{groups as groups_of};
 ghost use Rattle.pf_islands.specs.Island.{members};
@@ -14,7 +14,8 @@ use crate::groups::Groups;
 use crate::island::Island;
 use crate::rooms::{Room, rooms};
 use crate::rows::{active_places, row_of};
-use pf_cache::{Contact, Row, Side};
+use pf_cache::Contact;
+use pf_rows::{Row, Side};
 use pf_manifold::Touch;
 use pf_shapes::{BodyState, Scene};
 use std::alloc::{AllocError, Global};
@@ -126,7 +127,7 @@ fn deal_bodies(
     requires slots { slots.now
         ≡ map (slot_of names.now bodies.now) (range_with_len 0 (length names.now)) }
     requires named { All (λ name. name < length names.now) names.now }
-    requires woken { AreWoken names.now bodies.now }
+    requires woken_bodies { AreWoken names.now bodies.now }
     requires empty { islands.old ≡ map (λ name. no_island) (active_names names.now bodies.now) }
     ensures islands { OnOk result (islands.new
         ≡ map (λ name. island_of bodies.now [] (members names.now name))
@@ -217,7 +218,7 @@ pub fn split(
     requires touches { All (IsTouchOf (length bodies.now)) touches.now }
     requires contacts { length contacts.now ≡ length touches.now }
     requires groups { groups.now ≡ groups_of scene.now touches.now }
-    requires woken { AreWoken groups.now bodies.now }
+    requires woken_bodies { AreWoken groups.now bodies.now }
     ensures value { IfOk result (λ found. found.items ≡ islands groups.now bodies.now
         (active_rows scene.now bodies.now touches.now contacts.now)) }
     ensures fit { IfOk result (λ found. All (IsIslandOf scene.now) found.items) }

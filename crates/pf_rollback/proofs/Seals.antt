@@ -30,7 +30,7 @@ use Rattle.pf_rollback.specs.Sealing.{HasSealed}
 use Rattle.pf_rollback.proofs.Allowed.{one_of}
 use Rattle.pf_rollback.proofs.Late.{from_put, from_merge}
 use Rattle.pf_rollback.proofs.Simulation.{sim_at_continued, sim_at_horizon, sim_at_sealed}
-use Rattle.pf_rollback.proofs.Worlds.{IsHeld, held_answer, world_at-held, world_at-above}
+use Rattle.pf_rollback.proofs.Worlds.{CanShow, held_answer, world_at-held, world_at-above}
 
 -- ---- the sealed peer
 
@@ -51,7 +51,7 @@ seal_again s p tick at is =
 
 -- what was sealed is the sealed peer
 pub record IsSealed (s : Scene) (p after : Peer) (tick : ℕ) : Type 0 where
-  pub held : IsHeld p tick
+  pub held : CanShow p tick
   pub peer : sealed_peer s p tick ≡ after
 
 pub is_sealed : (s : Scene) (p after : Peer) (tick : ℕ) → seal s p tick ≡ Ok (tt, after) → IsSealed s p after tick
@@ -61,7 +61,7 @@ is_sealed s p after tick sealed =
     record { held = is.0; peer = ap (λ (answer : Unit {0} × Peer). answer.1) is.1 }
 
 -- its worlds from the sealed tick on
-sealed_worlds : (s : Scene) (p : Peer) (tick later : ℕ) → IsHeld p tick → tick ≤ later
+sealed_worlds : (s : Scene) (p : Peer) (tick later : ℕ) → CanShow p tick → tick ≤ later
     → world_at s (sealed_peer s p tick) later ≡ world_at s p later
 sealed_worlds s p tick later held after = by (cases_lt p.reached later)
   where

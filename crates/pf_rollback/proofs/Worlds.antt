@@ -10,24 +10,24 @@ use Rattle.pf_step.specs.World.{World}
 use Rattle.pf_rollback.specs.declared.fault.Refusal.{Refusal}
 use Rattle.pf_rollback.specs.declared.fault.Refusal.TheVariants.{NotReached, TooOld}
 use Rattle.pf_rollback.specs.Horizon.{sim_at}
-use Rattle.pf_rollback.specs.Peer.{Peer, if_held, world_of, world_at}
+use Rattle.pf_rollback.specs.Peer.{Peer, if_shown, world_of, world_at}
 
 -- an answer about a tick is given from the horizon to the reached tick
-pub record IsHeld (p : Peer) (tick : ℕ) : Type 0 where
+pub record CanShow (p : Peer) (tick : ℕ) : Type 0 where
   pub later : p.horizon ≤ tick
   pub reached : tick ≤ p.reached
 
-pub held_answer : {A : Type 0} (p : Peer) (tick : ℕ) (answer value : A) → if_held p tick answer ≡ Ok value → IsHeld p tick × (answer ≡ value)
+pub held_answer : {A : Type 0} (p : Peer) (tick : ℕ) (answer value : A) → if_shown p tick answer ≡ Ok value → CanShow p tick × (answer ≡ value)
 held_answer {A} p tick answer value is = by (nat_lt p.reached tick) refl (nat_lt tick p.horizon) refl is
   where
     by : (above : Bool) → nat_lt p.reached tick ≡ above → (before : Bool) → nat_lt tick p.horizon ≡ before
         → ◌≡◌ {A = Result A Refusal} (if above then Err (NotReached p.reached) else (if before then Err (TooOld p.horizon) else Ok answer)) (Ok value)
-        → IsHeld p tick × (answer ≡ value)
+        → CanShow p tick × (answer ≡ value)
     by true above before old is = absurd cc
     by false above true old is = absurd cc
     by false above false old is = (record { later = grind (arith, nat_tests); reached = grind (arith, nat_tests) }, cc)
 
-pub world_at-held : (s : Scene) (p : Peer) (tick : ℕ) → IsHeld p tick → world_at s p tick ≡ Ok (world_of s p tick)
+pub world_at-held : (s : Scene) (p : Peer) (tick : ℕ) → CanShow p tick → world_at s p tick ≡ Ok (world_of s p tick)
 unfolding world_at
 world_at-held s p tick is =
     let low = is.later in

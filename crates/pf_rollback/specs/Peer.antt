@@ -143,14 +143,14 @@ pub record IsEmptyBefore (p : Peer) (tick : ℕ) : Type 0 where
   pub no_commands : (earlier : ℕ) → earlier < tick → payloads_at p.commands earlier ≡ []
 
 -- an answer about a tick that a peer has reached, and that is not before its horizon
-abbrev pub if_held : {A : Type 0} → Peer → ℕ → A → Result A Refusal
-if_held p tick answer =
+abbrev pub if_shown : {A : Type 0} → Peer → ℕ → A → Result A Refusal
+if_shown p tick answer =
     if nat_lt p.reached tick then Err (NotReached p.reached)
     else (if nat_lt tick p.horizon then Err (TooOld p.horizon) else Ok answer)
 
 -- a peer shows each tick from its horizon to the tick that it has reached
 unfoldable pub world_at : Scene → Peer → ℕ → Result World Refusal
-world_at s p tick = if_held p tick (world_of s p tick)
+world_at s p tick = if_shown p tick (world_of s p tick)
 
 -- ---- sealing
 
@@ -161,7 +161,7 @@ sealed_peer s p tick =
 
 -- a tick is sealed that the peer has reached, and that is not before its horizon
 unfoldable pub seal : Scene → Peer → ℕ → Result (Unit {0} × Peer) Refusal
-seal s p tick = if_held p tick (tt, sealed_peer s p tick)
+seal s p tick = if_shown p tick (tt, sealed_peer s p tick)
 
 -- a map is merged in whose owner has the same horizon, and the same world there
 unfoldable pub merge_sealed : Scene → Peer → ℕ → World → CommandMap → Result (ℕ × Peer) Refusal

@@ -26,7 +26,8 @@ islands_at core tick =
 
 -- so many calls of a crew, one for each tick from the peer's settled tick on, in their order, and
 -- each with the islands of its tick
-unfoldable pub AreCalls : {A : Type 0} → (A → List Island → A → Type 0) → PeerCore → ℕ → A → A → Type 0
+unfoldable pub AreCalls : {A : Type 0} → (A → List Island → A → Type 0)
+    → PeerCore → ℕ → A → A → Type 0
 AreCalls call core zero first last = first ≡ last
 AreCalls {A} call core (suc n) first last =
     (before : A) × AreCalls call core n first before

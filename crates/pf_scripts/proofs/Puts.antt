@@ -15,7 +15,7 @@ use Rattle.pf_rollback.specs.declared.fault.Fault.TheVariants.{OutOfMemory, Refu
 use Rattle.pf_rollback.specs.Peer.{Peer, if_allowed as answer_if_allowed, put, with_command}
 use Rattle.pf_rollback.specs.declared.fault.Refusal.{Refusal}
 use Rattle.pf_rollback.specs.declared.fault.Refusal.TheVariants.{TooOld}
-use Rattle.pf_scripts.specs.Frames.{Setting, commands_of_decoded, if_allowed, if_not_allowed, refusal_of_decoded}
+use Rattle.pf_scripts.specs.Frames.{Setting, commands_of_decoded, allowed_commands, check_refusal, refusal_of_decoded}
 
 module _ (s : Setting) (p : Peer) (c : Command) (here : p.horizon ≡ s.horizon) where
   -- the peer after a call that was not refused
@@ -30,13 +30,13 @@ module _ (s : Setting) (p : Peer) (c : Command) (here : p.horizon ≡ s.horizon)
       (if early then Err (TooOld p.horizon) else Ok (put_outcome (get p.commands c.name) c.payload, with_command p c))
 
   abbrev refusal_at : Result (Unit {0}) CheckFault → Bool → Option Refusal
-  refusal_at checked early = if_not_allowed checked (if early then Some (TooOld s.horizon) else None)
+  refusal_at checked early = check_refusal checked (if early then Some (TooOld s.horizon) else None)
 
   abbrev commands_at : Result (Unit {0}) CheckFault → Bool → List Command
   commands_at (Ok done) early = if early then [] else c ∷ []
   commands_at (Err fault) early = []
 
-  same_commands : (checked : Result (Unit {0}) CheckFault) → commands_at checked (nat_lt c.name.tick s.horizon) ≡ if_allowed checked s.horizon c
+  same_commands : (checked : Result (Unit {0}) CheckFault) → commands_at checked (nat_lt c.name.tick s.horizon) ≡ allowed_commands checked s.horizon c
   same_commands (Ok done) = refl
   same_commands (Err fault) = refl
 
@@ -109,6 +109,6 @@ decoded_ranges s c fits = by (check s.scene c.name c.payload)
     if_late true = none
     if_late false = one
 
-    by : (checked : Result (Unit {0}) CheckFault) → All IsCommand (if_allowed checked s.horizon c ++ [])
+    by : (checked : Result (Unit {0}) CheckFault) → All IsCommand (allowed_commands checked s.horizon c ++ [])
     by (Ok done) = if_late (nat_lt c.name.tick s.horizon)
     by (Err fault) = none

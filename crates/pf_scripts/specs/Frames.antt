@@ -25,18 +25,18 @@ abbrev pub core_setting : PeerCore → Setting
 core_setting core = record { scene = core.scene; horizon = core.peer.horizon }
 
 -- why a command of a tick is refused, if it is before the horizon
-abbrev pub if_too_old : ℕ → ℕ → Option Refusal
-if_too_old horizon tick = if nat_lt tick horizon then Some (refusals.TooOld horizon) else None
+abbrev pub horizon_refusal : ℕ → ℕ → Option Refusal
+horizon_refusal horizon tick = if nat_lt tick horizon then Some (refusals.TooOld horizon) else None
 
 -- why a command is refused, if the scene does not allow it, or for another reason
-abbrev pub if_not_allowed : Result (Unit {0}) CheckFault → Option Refusal → Option Refusal
-if_not_allowed (Ok done) other = other
-if_not_allowed (Err fault) other = Some (refusals.Check fault)
+abbrev pub check_refusal : Result (Unit {0}) CheckFault → Option Refusal → Option Refusal
+check_refusal (Ok done) other = other
+check_refusal (Err fault) other = Some (refusals.Check fault)
 
 -- why what was decoded is refused, if it is
 abbrev pub refusal_of_decoded : Setting → Result Command FrameFault → Option Refusal
 refusal_of_decoded s (Ok c) =
-    if_not_allowed (check s.scene c.name c.payload) (if_too_old s.horizon c.name.tick)
+    check_refusal (check s.scene c.name c.payload) (horizon_refusal s.horizon c.name.tick)
 refusal_of_decoded s (Err fault) = Some (refusals.Frame fault)
 
 -- why a peer refuses a frame, if it does: it encodes no command, or one that the scene does not
@@ -45,12 +45,12 @@ abbrev pub refusal_of : Setting → Frame → Option Refusal
 refusal_of s frame = refusal_of_decoded s (decode frame)
 
 -- a command, if the scene allows it, and if it is not before the horizon
-abbrev pub if_allowed : Result (Unit {0}) CheckFault → ℕ → Command → List Command
-if_allowed (Ok done) horizon c = if nat_lt c.name.tick horizon then [] else c ∷ []
-if_allowed (Err fault) horizon c = []
+abbrev pub allowed_commands : Result (Unit {0}) CheckFault → ℕ → Command → List Command
+allowed_commands (Ok done) horizon c = if nat_lt c.name.tick horizon then [] else c ∷ []
+allowed_commands (Err fault) horizon c = []
 
 abbrev pub commands_of_decoded : Setting → Result Command FrameFault → List Command
-commands_of_decoded s (Ok c) = if_allowed (check s.scene c.name c.payload) s.horizon c
+commands_of_decoded s (Ok c) = allowed_commands (check s.scene c.name c.payload) s.horizon c
 commands_of_decoded s (Err fault) = []
 
 -- the commands of those frames that a peer does not refuse

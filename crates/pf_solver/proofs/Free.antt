@@ -4,11 +4,11 @@ use Rattle.std.specs.Prelude.{if◌then◌else◌}
 use Rattle.pf_rot.specs.Vector.{V2}
 use Rattle.pf_shapes.specs.Body.{BodyState}
 use Rattle.pf_shapes.specs.Scene.{Scene}
-use Rattle.pf_cache.specs.Row.{Row}
+use Rattle.pf_rows.specs.Row.{Row}
 use Rattle.pf_solver.specs.declared.velocities.TheConstants.{ROUNDS}
 use Rattle.pf_solver.specs.Bodies.{after_gravity, after_motion, after_timer, each_awake, gravity_per_tick}
 use Rattle.pf_solver.specs.Impulse.{after_round}
-use Rattle.pf_solver.specs.Solve.{solved}
+use Rattle.pf_solver.specs.Solve.{solved_batch}
 use Rattle.pf_solver.specs.Velocities.{Batch, pass}
 use Rattle.pf_solver.proofs.Passes.{passes_nothing}
 
@@ -40,8 +40,8 @@ pub free_is_solved : (s : Scene) (bodies : List BodyState) (rows : List Row) →
     → record {
       bodies = each_awake (λ b. after_timer (after_motion (after_gravity (gravity_per_tick s.gravity) b))) bodies;
       rows = rows;
-    } ≡ solved s bodies rows
-unfolding solved pass
+    } ≡ solved_batch s bodies rows
+unfolding solved_batch pass
 free_is_solved s bodies [] none =
     let fallen = each_awake (after_gravity (gravity_per_tick s.gravity)) bodies in
     ap (λ bs. record { bodies = bs; rows = [] }) (sym (each_both (gravity_per_tick s.gravity) bodies))

@@ -4,7 +4,7 @@ use Rattle.std.proofs.lemmas.Int.{ints, clamps}
 use Rattle.std.specs.Int.{int_min, int_max}
 use Rattle.pf_num.specs.Fx.{product, sum}
 use Rattle.pf_rot.specs.Vector.{dot}
-use Rattle.pf_cache.specs.Row.{Constraint}
+use Rattle.pf_rows.specs.Row.{Constraint}
 use Rattle.pf_solver.specs.Impulse.{ContactState, after_friction_step, after_normal_step, after_round, friction_limit, normal_impulse, relative_velocity, tangent_impulse}
 
 above-max : (a b : ℤ) → a ≤ℤ int_max a b

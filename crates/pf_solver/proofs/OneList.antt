@@ -5,7 +5,7 @@ use Rattle.std.proofs.lemmas.List.Sums.{fold-append}
 use Rattle.std.specs.List.{fold, range_with_len}
 use Rattle.std.specs.Prelude.{slice_get}
 use Rattle.pf_shapes.specs.Body.{BodyState}
-use Rattle.pf_cache.specs.Row.{Row}
+use Rattle.pf_rows.specs.Row.{Row}
 use Rattle.pf_solver.specs.Laws.{places_written, solved_at, solved_where}
 use Rattle.pf_solver.specs.Velocities.{Batch, Step, bodies_after, pass, passes, row_after}
 use Rattle.pf_solver.proofs.Passes.{rows_length}

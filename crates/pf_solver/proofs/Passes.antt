@@ -4,10 +4,10 @@ use Rattle.std.proofs.lemmas.List.{append-nil, drop_all, drop_more, take_all, ta
 use Rattle.std.proofs.lemmas.List.Elements.{All-cons, All-head, All-nil, All-tail}
 use Rattle.std.specs.Prelude.{All}
 use Rattle.pf_shapes.specs.Body.{BodyState}
-use Rattle.pf_cache.specs.declared.row.Side.{Side}
-use Rattle.pf_cache.specs.declared.row.Side.TheVariants.{Static, Dynamic}
-use Rattle.pf_cache.specs.Contact.{Impulses}
-use Rattle.pf_cache.specs.Row.{IsEntryOf, Row}
+use Rattle.pf_rows.specs.declared.row.Side.{Side}
+use Rattle.pf_rows.specs.declared.row.Side.TheVariants.{Static, Dynamic}
+use Rattle.pf_rows.specs.Impulses.{Impulses}
+use Rattle.pf_rows.specs.Row.{IsEntryOf, Row}
 use Rattle.pf_solver.specs.Impulse.{Motion}
 use Rattle.pf_solver.specs.Velocities.{Batch, Step, bodies_after, with_motion, pass, passes, row_after}
 

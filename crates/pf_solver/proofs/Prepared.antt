@@ -4,7 +4,7 @@ use Rattle.std.proofs.lemmas.List.Elements.{All-map, All-weaker}
 use Rattle.std.specs.Prelude.{All}
 use Rattle.pf_shapes.specs.Body.{BodyState}
 use Rattle.pf_shapes.specs.Scene.{Scene}
-use Rattle.pf_cache.specs.Row.{IsEntryOf, Row}
+use Rattle.pf_rows.specs.Row.{IsEntryOf, Row}
 use Rattle.pf_solver.specs.Solve.{prepared_row}
 use Rattle.pf_islands.specs.Rows.{IsRowOf}
 

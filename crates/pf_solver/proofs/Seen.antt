@@ -9,14 +9,14 @@ use Rattle.std.specs.Prelude.{All, ◌==◌, ◌||◌, if◌then◌else◌, slic
 use Rattle.pf_shapes.specs.Body.{BodyState, at_rest, no_state}
 use Rattle.pf_shapes.specs.Scene.{Scene}
 use Rattle.pf_manifold.specs.Key.{IsRising}
-use Rattle.pf_cache.specs.declared.row.Side.{Side}
-use Rattle.pf_cache.specs.declared.row.Side.TheVariants.{Static, Dynamic}
-use Rattle.pf_cache.specs.Row.{InverseMass, Row}
+use Rattle.pf_rows.specs.declared.row.Side.{Side}
+use Rattle.pf_rows.specs.declared.row.Side.TheVariants.{Static, Dynamic}
+use Rattle.pf_rows.specs.Row.{InverseMass, Row}
 use Rattle.pf_solver.specs.Alone.{seen_from}
 use Rattle.pf_solver.specs.declared.velocities.TheConstants.{ROUNDS}
 use Rattle.pf_solver.specs.Bodies.{after_gravity, after_motion, after_timer, each_awake, gravity_per_tick}
 use Rattle.pf_solver.specs.Impulse.{ContactState, Motion, after_round, after_warm_start}
-use Rattle.pf_solver.specs.Solve.{pre_step_body, prepared_row, solved}
+use Rattle.pf_solver.specs.Solve.{pre_step_body, prepared_row, solved_batch}
 use Rattle.pf_solver.specs.Velocities.{Batch, Step, bodies_after, bodies_with, contact_state, motion_at, pass, passes, row_after, with_motion}
 use Rattle.pf_islands.specs.Island.{has_number, place_of, states_of, is_among, side_among, touches_one, row_among, rows_among, IsOwnSide, IsOwnOrOther}
 use Rattle.pf_solver.proofs.Passes.{after_length, bodies_length, with_length}
@@ -353,9 +353,9 @@ prepared_seen numbers s bodies (r ∷ rows) own =
 pub solved_seen : (numbers : List ℕ) (s : Scene) (bodies : List BodyState) (rows : List Row)
     → IsRising 0 numbers → All (λ n. n < length bodies) numbers
     → All (IsOwnOrOther numbers) rows
-    → solved s (states_of numbers bodies) (rows_among numbers rows)
-    ≡ seen_from numbers (solved s bodies rows)
-unfolding solved
+    → solved_batch s (states_of numbers bodies) (rows_among numbers rows)
+    ≡ seen_from numbers (solved_batch s bodies rows)
+unfolding solved_batch
 solved_seen numbers s bodies rows rising within own =
     ap (λ bs. finish (pass after_warm_start bs (map (prepared_row s bs) (rows_among numbers rows))))
     (each_seen numbers fall bodies)

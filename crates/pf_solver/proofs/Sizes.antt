@@ -5,8 +5,8 @@ use Rattle.std.proofs.Math.Nat.{mul-le-mul, mul-le-mul_left}
 use Rattle.std.specs.Int.{int_max, int_min}
 use Rattle.std.specs.Int.RustNames.{unsigned_abs}
 use Rattle.pf_rot.specs.Vector.{V2, zero_vector}
-use Rattle.pf_cache.specs.Row.{InverseMass, no_mass}
-use Rattle.pf_cache.specs.Small.{IsHeavy, IsShort, IsSmallArm}
+use Rattle.pf_rows.specs.Row.{InverseMass, no_mass}
+use Rattle.pf_rows.specs.Small.{IsHeavy, IsShort, IsSmallArm}
 use Rattle.pf_solver.specs.FastPath.{IsMassOf}
 
 -- a product of numbers up to m and n is at most m * n

@@ -10,15 +10,17 @@ use Rattle.std.specs.Prelude.{All, if◌then◌else◌, slice_get, slice_index_o
 use Rattle.pf_rot.specs.Vector.{V2}
 use Rattle.pf_shapes.specs.Body.{BodyState, at_rest, no_state}
 use Rattle.pf_shapes.specs.Scene.{Scene, fixture_at}
-use Rattle.pf_cache.specs.declared.row.Side.{Side}
-use Rattle.pf_cache.specs.declared.row.Side.TheVariants.{Static, Dynamic}
-use Rattle.pf_cache.specs.Contact.{Contact, no_impulses}
-use Rattle.pf_cache.specs.Row.{IsRowAt, Row}
+use Rattle.pf_rows.specs.declared.row.Side.{Side}
+use Rattle.pf_rows.specs.declared.row.Side.TheVariants.{Static, Dynamic}
+use Rattle.pf_rows.specs.Impulses.{no_impulses}
+use Rattle.pf_cache.specs.Contact.{Contact}
+use Rattle.pf_rows.specs.Row.{Row}
+use Rattle.pf_cache.specs.ContactRows.{IsRowAt}
 use Rattle.pf_solver.specs.declared.velocities.TheConstants.{ROUNDS}
 use Rattle.pf_solver.specs.Bodies.{after_gravity, after_motion, after_timer, each_awake, gravity_per_tick}
 use Rattle.pf_solver.specs.Constraint.{constraint_of, friction_of}
 use Rattle.pf_solver.specs.Impulse.{Motion, after_round, after_warm_start, friction_limit}
-use Rattle.pf_solver.specs.Solve.{pre_step_body, prepared_row, solved}
+use Rattle.pf_solver.specs.Solve.{pre_step_body, prepared_row, solved_batch}
 use Rattle.pf_solver.specs.Velocities.{Batch, Step, bodies_after, body_with, pass, passes, row_after, with_motion}
 use Rattle.pf_solver.proofs.Limits.{never_pulls, within_friction}
 
@@ -266,23 +268,23 @@ module _ (s : Scene) (bodies : List BodyState) (rows : List Row) where
       ∙ (pass_bodies after_warm_start fallen prepared ∙ fallen_rest pull bodies)
 
   -- the bodies stay as many
-  pub solved_length : length (solved s bodies rows).bodies ≡ length bodies
-  unfolding solved
+  pub solved_length : length (solved_batch s bodies rows).bodies ≡ length bodies
+  unfolding solved_batch
   solved_length =
       length-map after.bodies if_moved
       ∙ (sym (length-map after.bodies at_rest) ∙ (ap length bodies_same ∙ length-map bodies at_rest))
 
   -- the contact points stay as they are
-  pub solved_touches : map (λ r. r.entry.touch) (solved s bodies rows).rows ≡ map (λ r. r.entry.touch) rows
-  unfolding solved
+  pub solved_touches : map (λ r. r.entry.touch) (solved_batch s bodies rows).rows ≡ map (λ r. r.entry.touch) rows
+  unfolding solved_batch
   solved_touches =
       sym (touches_unloaded after.rows)
       ∙ (ap (map (λ (r : Row). r.entry.touch)) rows_same ∙ (touches_unloaded prepared ∙ touches_prepared s fallen rows))
 
   -- rows stay at the places of their contacts
   pub solved_at_places : (contacts : List Contact) → All (IsRowAt contacts) rows
-      → All (IsRowAt contacts) (solved s bodies rows).rows
-  unfolding solved prepared_row
+      → All (IsRowAt contacts) (solved_batch s bodies rows).rows
+  unfolding solved_batch prepared_row
   solved_at_places contacts at =
       All-weaker (λ r. IsRowAt contacts (unloaded r)) (IsRowAt contacts)
       (λ r h. record { within = h.within; key = h.key }) after.rows
@@ -293,16 +295,16 @@ module _ (s : Scene) (bodies : List BodyState) (rows : List Row) where
 
   -- rows keep their sides
   pub solved_sides : (P : Side → Side → Type 0) → All (λ r. P r.entry.first r.entry.second) rows
-      → All (λ r. P r.entry.first r.entry.second) (solved s bodies rows).rows
-  unfolding solved prepared_row
+      → All (λ r. P r.entry.first r.entry.second) (solved_batch s bodies rows).rows
+  unfolding solved_batch prepared_row
   solved_sides P at =
       still (λ r. P r.entry.first r.entry.second) prepared after.rows rows_same
       (All-map (λ r. P r.entry.first r.entry.second) (prepared_row s fallen) rows at)
 
   -- each body has another velocity and spin after the phase Velocities, and is then moved
-  pub solved_body : (i : ℕ) (c : BodyState) → slice_get (solved s bodies rows).bodies i ≡ Some c
+  pub solved_body : (i : ℕ) (c : BodyState) → slice_get (solved_batch s bodies rows).bodies i ≡ Some c
       → IsSolvedAt bodies i c
-  unfolding solved
+  unfolding solved_batch
   solved_body i c found =
       let (m, m_stands, c_is) = from_map if_moved after.bodies i c found in
       let rests : slice_get (map at_rest bodies) i ≡ Some (at_rest m) =
@@ -319,9 +321,9 @@ module _ (s : Scene) (bodies : List BodyState) (rows : List Row) where
 
   -- a body that no row touches has its velocity and spin after gravity
   pub untouched_body : (i : ℕ) (b : BodyState) → slice_get bodies i ≡ Some b → All (IsAway i) rows
-      → slice_get (solved s bodies rows).bodies i
+      → slice_get (solved_batch s bodies rows).bodies i
       ≡ Some (if b.awake then after_timer (after_motion (after_gravity (gravity_per_tick s.gravity) b)) else b)
-  unfolding solved
+  unfolding solved_batch
   untouched_body i b stands away =
       let away_then = prepared_away s fallen i rows away in
       let away_warm = still (IsAway i) prepared warm.rows (pass_rows after_warm_start fallen prepared) away_then in
@@ -331,13 +333,13 @@ module _ (s : Scene) (bodies : List BodyState) (rows : List Row) where
       slice_get-map if_moved after.bodies i ∙ (ap (option_map if_moved) fell ∙ ap Some (fallen_moved pull b))
 
   -- the accumulated impulses of all rows are within their limits
-  pub solved_limits : All IsLimited (solved s bodies rows).rows
-  unfolding solved
+  pub solved_limits : All IsLimited (solved_batch s bodies rows).rows
+  unfolding solved_batch
   solved_limits = last_limits 9 warm
 
   -- the coefficient of friction of each row is that of its two bodies
-  pub solved_friction : All (HasFriction s) (solved s bodies rows).rows
-  unfolding solved
+  pub solved_friction : All (HasFriction s) (solved_batch s bodies rows).rows
+  unfolding solved_batch
   solved_friction =
       still (HasFriction s) prepared after.rows rows_same
       (All-map (HasFriction s) (prepared_row s fallen) rows

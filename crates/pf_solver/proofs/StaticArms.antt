@@ -4,7 +4,7 @@ use Rattle.std.specs.Int.{int_max, int_min}
 use Rattle.pf_num.specs.Fx.{difference, product, saturate, sum}
 use Rattle.pf_num.proofs.Operations.{product-zero}
 use Rattle.pf_rot.specs.Vector.{V2, add, cross, cross_sv, dot, scale, sub, zero_vector}
-use Rattle.pf_cache.specs.Row.{Constraint}
+use Rattle.pf_rows.specs.Row.{Constraint}
 use Rattle.pf_solver.specs.Impulse.{ContactState, Motion, after_friction_step, after_impulse, after_normal_step, after_round, after_warm_start, first_after, friction_limit, normal_impulse, relative_velocity, second_after, tangent_impulse}
 use Rattle.pf_solver.specs.FastPath.{IsArmFor, StandsFor}
 use Rattle.pf_solver.specs.Velocities.{static_motion}

@@ -5,19 +5,19 @@ use Rattle.pf_rot.specs.Vector.{V2}
 use Rattle.pf_shapes.specs.Body.{BodyState}
 use Rattle.pf_shapes.specs.Scene.{Scene}
 use Rattle.pf_islands.specs.Island.{rows_among, states_of}
-use Rattle.pf_islands.specs.Sleep.{at_sleep, rested_alone}
+use Rattle.pf_islands.specs.Sleep.{at_sleep, island_after_sleep}
 use Rattle.pf_islands.specs.Split.{Island}
 use Rattle.pf_solver.specs.declared.bodies.TheConstants.{STILL_TICKS}
 use Rattle.pf_solver.specs.Bodies.{after_gravity, after_motion, after_timer}
-use Rattle.pf_solver.specs.Solve.{solved}
+use Rattle.pf_solver.specs.Solve.{solved_batch}
 use Rattle.pf_solver.specs.Velocities.{Batch}
 
 -- an island after a tick of its own: its bodies are solved with no other contacts than its own, and
 -- all of them go to sleep if every timer is full
 abbrev pub island_after_tick : Scene → Island → Island
 island_after_tick s i =
-    let after = solved s i.bodies i.rows in
-    record i { bodies = rested_alone STILL_TICKS after.bodies; rows = after.rows }
+    let after = solved_batch s i.bodies i.rows in
+    record i { bodies = island_after_sleep STILL_TICKS after.bodies; rows = after.rows }
 
 -- the part of a batch that belongs to the island of these bodies
 abbrev pub seen_from : List ℕ → Batch → Batch

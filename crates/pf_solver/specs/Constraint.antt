@@ -6,7 +6,7 @@ use Rattle.std.specs.Int.{int_min, int_max}
 use Rattle.pf_num.specs.Fx.{one, sum, difference, product, quotient, root}
 use Rattle.pf_rot.specs.Vector.{V2, sub, dot}
 use Rattle.pf_manifold.specs.ContactPoint.{ContactPoint}
-use Rattle.pf_cache.specs.Row.{Constraint, InverseMass}
+use Rattle.pf_rows.specs.Row.{Constraint, InverseMass}
 use Rattle.pf_solver.specs.declared.constraint.TheConstants.{BIAS_FACTOR, SLOP}
 
 -- the tangent: the normal, a quarter turn clockwise

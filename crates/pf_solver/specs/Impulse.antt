@@ -4,8 +4,8 @@ use Rattle.std.specs.Prelude.{ℤ, pos, neg_ℤ}
 use Rattle.std.specs.Int.{int_min, int_max}
 use Rattle.pf_num.specs.Fx.{sum, difference, product}
 use Rattle.pf_rot.specs.Vector.{V2, add, sub, scale, dot, cross, cross_sv}
-use Rattle.pf_cache.specs.Contact.{Impulses}
-use Rattle.pf_cache.specs.Row.{Constraint, InverseMass}
+use Rattle.pf_rows.specs.Impulses.{Impulses}
+use Rattle.pf_rows.specs.Row.{Constraint, InverseMass}
 
 -- what impulses change of a body, and how easily
 pub record Motion : Type 0 where

@@ -1,7 +1,7 @@
 -- Words of the laws of the solver.
 use Rattle.std.specs.Prelude.{ℕ, zero, suc, Option, None, Some, List, [], ◌++◌, slice_get, slice_set}
 use Rattle.std.specs.List.{range_with_len}
-use Rattle.pf_cache.specs.Row.{Row}
+use Rattle.pf_rows.specs.Row.{Row}
 use Rattle.pf_solver.specs.Velocities.{Batch, Step, bodies_after, row_after}
 
 -- the places from 0 on of so many rows, all of them, n times over

@@ -6,9 +6,9 @@ use Rattle.std.specs.Prelude.{ℕ, List, map, slice_index_or}
 use Rattle.pf_shapes.specs.Fixture.{Fixture, inverse_mass, inverse_inertia}
 use Rattle.pf_shapes.specs.Body.{BodyState, no_state}
 use Rattle.pf_shapes.specs.Scene.{Scene, fixture_at}
-use Rattle.pf_cache.specs.declared.row.Side.{Side}
-use Rattle.pf_cache.specs.declared.row.Side.TheVariants.{Static, Dynamic}
-use Rattle.pf_cache.specs.Row.{InverseMass, Row, no_mass}
+use Rattle.pf_rows.specs.declared.row.Side.{Side}
+use Rattle.pf_rows.specs.declared.row.Side.TheVariants.{Static, Dynamic}
+use Rattle.pf_rows.specs.Row.{InverseMass, Row, no_mass}
 use Rattle.pf_solver.specs.declared.velocities.TheConstants.{ROUNDS}
 use Rattle.pf_solver.specs.Bodies.{after_gravity, after_motion, after_timer, each_awake, gravity_per_tick}
 use Rattle.pf_solver.specs.Constraint.{PreStepBody, constraint_of}
@@ -52,7 +52,7 @@ solved_velocities s bodies rows =
     passes ROUNDS after_round (pass after_warm_start fallen (map (prepared_row s fallen) rows))
 
 -- the bodies and rows after the phases Gravity to Timers
-unfoldable pub solved : Scene → List BodyState → List Row → Batch
-solved s bodies rows =
+unfoldable pub solved_batch : Scene → List BodyState → List Row → Batch
+solved_batch s bodies rows =
     let after = solved_velocities s bodies rows in
     record after { bodies = each_awake (λ b. after_timer (after_motion b)) after.bodies }

@@ -4,9 +4,9 @@
 use Rattle.std.specs.Prelude.{ℕ, zero, suc, pos, List, [], ◌∷◌, slice_index_or, slice_set}
 use Rattle.pf_rot.specs.Vector.{zero_vector}
 use Rattle.pf_shapes.specs.Body.{BodyState, no_state}
-use Rattle.pf_cache.specs.declared.row.Side.{Side}
-use Rattle.pf_cache.specs.declared.row.Side.TheVariants.{Static, Dynamic}
-use Rattle.pf_cache.specs.Row.{Constraint, InverseMass, Row, no_mass}
+use Rattle.pf_rows.specs.declared.row.Side.{Side}
+use Rattle.pf_rows.specs.declared.row.Side.TheVariants.{Static, Dynamic}
+use Rattle.pf_rows.specs.Row.{Constraint, InverseMass, Row, no_mass}
 use Rattle.pf_solver.specs.Impulse.{ContactState, Motion}
 
 -- a static body at a contact: it does not move, and no impulse moves it

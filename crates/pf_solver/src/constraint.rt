@@ -3,7 +3,7 @@
 ghost use Rattle.std.specs.Prelude.{◌≡◌};
 ghost use Rattle.pf_solver.specs.Constraint.{bias_of, constraint_of, effective_mass, friction_of, squared_lever_arm, mobility, tangent_of};
 
-use pf_cache::{Constraint, InverseMass};
+use pf_rows::{Constraint, InverseMass};
 use pf_manifold::ContactPoint;
 use pf_num::Fx;
 use pf_rot::V2;

@@ -5,25 +5,25 @@ ghost use Rattle.std.specs.Prelude.{◌≡◌, ◌+◌, ◌*◌, ◌≤◌, ◌^
 ghost use Rattle.std.specs.Int.RustNames.{unsigned_abs};
 ghost use Rattle.pf_num.specs.Fx.{product};
 ghost use Rattle.pf_rot.specs.Vector.{add, cross, cross_sv, dot, scale};
-ghost use Rattle.pf_cache.specs.Small.{HasShortDirections, HasSmallNumbers, IsHeavy, IsShort, IsSmallArm};
+ghost use Rattle.pf_rows.specs.Small.{HasShortDirections, HasSmallNumbers, IsHeavy, IsShort, IsSmallArm};
 ghost use Rattle.pf_solver.specs.Impulse.{after_friction_step, after_impulse, after_normal_step, after_round, after_warm_start, first_after, friction_limit, normal_impulse, relative_velocity, second_after, tangent_impulse};
 ghost use Rattle.pf_solver.specs.Velocities.{static_motion};
 ghost use Rattle.pf_solver.specs.FastPath.{AreNudged, ArePushed, AreSlow, HasSmallArms, IsArmFor, IsMassOf, IsNudged, IsPushed, IsSlow, StandsFor};
 
 use crate::impulse::{ContactState, Motion};
-use pf_cache::{Constraint, Impulses, InverseMass, Prepared};
+use pf_rows::{Constraint, Impulses, InverseMass, Prepared};
 use pf_num::Fx;
 use pf_rot::V2;
 
-/// The greatest part of a velocity, and the greatest spin, at which the fast path begins: 32
-/// lengths and 32 radians a second.
+/// The greatest x or y of a velocity, and the greatest spin, that the fast path starts from: 32
+/// lengths a second and 32 radians a second.
 const SPEED_LIMIT: i64 = 1 << 29;
-/// The greatest spin between the steps, change of speed that a step aims at, and accumulated normal
-/// impulse: 128.
+/// A limit of three numbers, 128 each: the spin between two steps, the change of speed that a step
+/// aims at, and the accumulated normal impulse.
 const PART_LIMIT: i64 = 1 << 31;
-/// The greatest impulse of a step, and of a warm start along each direction: 4.
+/// The greatest impulse that a step applies, and that warm starting applies along each direction: 4.
 const STEP_LIMIT: i64 = 1 << 26;
-/// The greatest accumulated impulse at which a round begins on the fast path: 65,536.
+/// The greatest accumulated impulse that a round of the fast path starts from: 65,536.
 const IMPULSE_LIMIT: i64 = 1 << 40;
 
 /// A spin times a part of an arm.
@@ -491,8 +491,8 @@ fn small_arm(own: &InverseMass, arm: V2, is_small: bool, body: &Motion) -> Optio
     }
 }
 
-/// The constraint with a great arm of a static body replaced by zero; `None` where it is still not
-/// small.
+/// The constraint for the fast path. The arm of a static body has no effect, so one that is too
+/// great for the fast path becomes zero. `None` where another number is too great.
 #[inline(always)]
 #[tactic(auto, using(crate::proofs::Sizes::heavy))]
 fn small_constraint(prepared: &Prepared, state: &ContactState) -> Option<Constraint>

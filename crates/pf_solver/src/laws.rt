@@ -4,12 +4,12 @@ ghost use Rattle.std.specs.Prelude.{◌≡◌, ℕ, ◌+◌, ◌*◌, ◌^◌, �
 ghost use Rattle.pf_shapes.specs.Body.{BodyState};
 ghost use Rattle.pf_shapes.specs.Scene.{Scene};
 ghost use Rattle.pf_manifold.specs.Key.{IsRising};
-ghost use Rattle.pf_cache.specs.Row.{Constraint, Row};
+ghost use Rattle.pf_rows.specs.Row.{Constraint, Row};
 ghost use Rattle.pf_solver.specs.Impulse.{ContactState, after_round, friction_limit};
 ghost use Rattle.pf_solver.specs.Alone.{seen_from};
 ghost use Rattle.pf_islands.specs.Island.{states_of, rows_among, IsOwnOrOther};
 ghost use Rattle.pf_solver.specs.Laws.{places_written, solved_at};
-ghost use Rattle.pf_solver.specs.Solve.{solved};
+ghost use Rattle.pf_solver.specs.Solve.{solved_batch};
 ghost use Rattle.pf_solver.specs.Velocities.{Batch, Step, passes};
 
 use crate::bodies::{STILL_SPEED, STILL_SPIN, STILL_TICKS};
@@ -41,8 +41,8 @@ pub fn islands_are_solved_alone()
     ensures { (s : Scene) (numbers : List ℕ) (bodies : List BodyState) (rows : List Row)
         → IsRising 0 numbers → All (λ n. n < length bodies) numbers
         → All (IsOwnOrOther numbers) rows
-        → solved s (states_of numbers bodies) (rows_among numbers rows)
-        ≡ seen_from numbers (solved s bodies rows) }
+        → solved_batch s (states_of numbers bodies) (rows_among numbers rows)
+        ≡ seen_from numbers (solved_batch s bodies rows) }
 {}
 
 /// A still body moves at most 1/64 of a length and turns by at most 1/32 of a radian a second; a

@@ -2,16 +2,16 @@
 //! of bodies that no contact touches.
 
 ghost use Rattle.std.specs.Prelude.{◌≡◌, ◌<◌, All, if◌then◌else◌, length, map};
-ghost use Rattle.pf_cache.specs.Row.{IsSide};
+ghost use Rattle.pf_rows.specs.Row.{IsSide};
 ghost use Rattle.pf_solver.specs.Alone.{body_after_tick};
 ghost use Rattle.pf_solver.specs.Bodies.{after_gravity, after_motion, after_timer, each_awake, gravity_per_tick};
-ghost use Rattle.pf_solver.specs.Solve.{pre_step_body, mass_of, prepared_row, solved};
+ghost use Rattle.pf_solver.specs.Solve.{pre_step_body, mass_of, prepared_row, solved_batch};
 ghost use Rattle.pf_islands.specs.Rows.{IsRowOf};
 
 use crate::bodies::{STILL_TICKS, after_gravity, after_motion, after_timer};
 use crate::constraint::{LastFriction, PreStepBody, constraint_of};
 use crate::velocities::{rounds, warm_start};
-use pf_cache::{InverseMass, Prepared, Row, Side};
+use pf_rows::{InverseMass, Prepared, Row, Side};
 use pf_islands::fall_asleep;
 use pf_num::Fx;
 use pf_rot::V2;
@@ -162,11 +162,11 @@ pub fn solve_untouched(scene: &Scene, bodies: &mut [BodyState])
 /// of all bodies that rows name, in the order of the rows. All of a row but its entry is computed
 /// anew. Takes no memory.
 #[inline(never)]
-#[tactic(auto, unfolding(crate::specs::Solve::solved))]
+#[tactic(auto, unfolding(crate::specs::Solve::solved_batch))]
 pub(crate) fn solve_list(scene: &Scene, bodies: &mut [BodyState], rows: &mut [Row])
     requires { All (IsRowOf scene.now (length bodies.old)) rows.old }
     ensures { record { bodies = bodies.new; rows = rows.new }
-        ≡ solved scene.now bodies.old rows.old }
+        ≡ solved_batch scene.now bodies.old rows.old }
 {
     fall(scene.gravity().scale(Fx::TICK), bodies);
     prepare_all(scene, bodies, rows);

@@ -10,13 +10,13 @@ use Rattle.pf_rot.specs.Vector.{V2}
 use Rattle.pf_shapes.specs.Body.{BodyState, no_state}
 use Rattle.pf_shapes.specs.Scene.{Scene}
 use Rattle.pf_commands.specs.declared.payload.Payload.{Payload}
-use Rattle.pf_islands.specs.Sleep.{at_sleep, is_active, is_resting, rested, woken, rested_alone}
+use Rattle.pf_islands.specs.Sleep.{at_sleep, is_active, is_resting, bodies_after_sleep, woken_bodies, island_after_sleep}
 use Rattle.pf_islands.proofs.ActiveRows.{map_where}
 use Rattle.pf_islands.proofs.Members.{chosen_pass, range_within}
 use Rattle.pf_islands.proofs.Starting.{groups_long}
 use Rattle.pf_solver.specs.declared.bodies.TheConstants.{STILL_TICKS}
 use Rattle.pf_solver.specs.Bodies.{after_motion, after_timer}
-use Rattle.pf_solver.specs.Solve.{solved}
+use Rattle.pf_solver.specs.Solve.{solved_batch}
 use Rattle.pf_solver.specs.Velocities.{Batch}
 use Rattle.pf_islands.specs.Island.{states_of, rows_among, members}
 use Rattle.pf_solver.proofs.Solved.{moved_on, solved_body, solved_length}
@@ -101,9 +101,9 @@ resting_from full name p f k (n ∷ names) (b ∷ bodies) paired chosen state =
 -- the bodies of a group that is awake, after the phase Sleep
 pub rested_seen : (full : ℕ) (names : List ℕ) (bodies : List BodyState) (name : ℕ) → length names ≡ length bodies
     → All (λ i. (slice_index_or bodies i no_state).awake ≡ true) (members names name)
-    → states_of (members names name) (rested full names bodies)
-    ≡ rested_alone full (states_of (members names name) bodies)
-unfolding rested
+    → states_of (members names name) (bodies_after_sleep full names bodies)
+    ≡ island_after_sleep full (states_of (members names name) bodies)
+unfolding bodies_after_sleep
 rested_seen full names bodies name paired awake =
     map_where (λ i. IsMember names bodies paired name i × ((slice_index_or bodies i no_state).awake ≡ true))
     (λ i. slice_index_or (map one (zip names bodies)) i no_state)
@@ -130,7 +130,7 @@ rested_seen full names bodies name paired awake =
     by : (r : Bool)
         → r ≡ list_all (λ (b : BodyState). b.timer == full) (states_of (members names name) bodies)
         → map (λ i. if r then at_sleep (slice_index_or bodies i no_state) else slice_index_or bodies i no_state) (members names name)
-        ≡ rested_alone full (states_of (members names name) bodies)
+        ≡ island_after_sleep full (states_of (members names name) bodies)
     by r is =
         whole r
         ∙ ap (λ t. if t then map at_sleep (states_of (members names name) bodies) else states_of (members names name) bodies) is
@@ -161,12 +161,12 @@ pub group_after : (s : Scene) (w : World) (payloads : List Payload) (name : ℕ)
     → let batch = batch_of_tick s w payloads in
     let own = members (names_of_tick s w payloads) name in
     states_of own (step s w payloads).bodies
-    ≡ rested_alone STILL_TICKS (solved s (states_of own batch.bodies) (rows_among own batch.rows)).bodies
-unfolding step woken
+    ≡ island_after_sleep STILL_TICKS (solved_batch s (states_of own batch.bodies) (rows_among own batch.rows)).bodies
+unfolding step woken_bodies
 group_after s w payloads name paired active =
     rested_seen STILL_TICKS names after name long
     (λ i d inside. awake_after (get_or own i d) (members_are names after long name i d inside))
-    ∙ ap (λ (b : Batch). rested_alone STILL_TICKS b.bodies) (sym (groups_alone s w payloads name paired))
+    ∙ ap (λ (b : Batch). island_after_sleep STILL_TICKS b.bodies) (sym (groups_alone s w payloads name paired))
   where
     commanded : List BodyState
     commanded = after_commands s.fixtures w.bodies payloads
@@ -178,10 +178,10 @@ group_after s w payloads name paired active =
     own = members names name
 
     awake : List BodyState
-    awake = woken names commanded
+    awake = woken_bodies names commanded
 
     after : List BodyState
-    after = (solved s awake (batch_of_tick s w payloads).rows).bodies
+    after = (solved_batch s awake (batch_of_tick s w payloads).rows).bodies
 
     count : length commanded ≡ length s.fixtures
     count = commands_length s.fixtures w.bodies payloads ∙ paired

@@ -8,11 +8,13 @@ use Rattle.pf_shapes.specs.Scene.{IsScene, Scene}
 use Rattle.pf_manifold.specs.Key.{key_of, rank}
 use Rattle.pf_manifold.specs.Touches.{Touch}
 use Rattle.pf_commands.specs.declared.payload.Payload.{Payload}
-use Rattle.pf_cache.specs.Contact.{Contact, Impulses, impulses_at, updated}
-use Rattle.pf_cache.specs.Row.{AreRows, Row, impulses_or, with_rows}
+use Rattle.pf_rows.specs.Impulses.{Impulses}
+use Rattle.pf_cache.specs.Contact.{Contact, impulses_at, next_contacts}
+use Rattle.pf_rows.specs.Row.{AreRows, Row, impulses_or}
+use Rattle.pf_cache.specs.ContactRows.{with_rows}
 use Rattle.pf_cache.proofs.FoundRows.{all_found, row_rank, rows_rise}
 use Rattle.pf_islands.specs.Island.{states_of, touches_one, row_among, rows_among, members}
-use Rattle.pf_solver.specs.Solve.{solved}
+use Rattle.pf_solver.specs.Solve.{solved_batch}
 use Rattle.pf_solver.specs.Velocities.{Batch}
 use Rattle.pf_solver.proofs.Solved.{solved_touches}
 use Rattle.pf_step.specs.Commands.{after_commands}
@@ -52,8 +54,8 @@ stored_at n p (x ∷ contacts) rows k c here is found =
 
 -- an update has a contact for each point
 updated_has : (old : List Contact) (points : List Touch) (k : ℕ) (t : Touch) → slice_get points k ≡ Some t
-    → HasContact (updated old points) t
-unfolding updated
+    → HasContact (next_contacts old points) t
+unfolding next_contacts
 updated_has old points k t here =
     (k, _, slice_get-map _ points k ∙ ap (option_map _) here, refl)
 
@@ -62,13 +64,13 @@ module _ (s : Scene) (w : World) (payloads : List Payload) (paired : length w.bo
   points = touching s (after_commands s.fixtures w.bodies payloads)
 
   abbrev contacts : List Contact
-  contacts = updated w.contacts points
+  contacts = next_contacts w.contacts points
 
   abbrev batch : Batch
   batch = batch_of_tick s w payloads
 
   abbrev after : List Row
-  after = (solved s batch.bodies batch.rows).rows
+  after = (solved_batch s batch.bodies batch.rows).rows
 
   -- the rows have the contact points that they had, in their order
   same_touches : map (λ r. r.entry.touch) after ≡ map (λ r. r.entry.touch) batch.rows
@@ -110,7 +112,7 @@ module _ (s : Scene) (w : World) (payloads : List Payload) (paired : length w.bo
   pub group_stored : (name : ℕ)
       → let own = members (names_of_tick s w payloads) name in
       All (λ r. impulses_at (rank (key_of r.entry.touch)) (step s w payloads).contacts ≡ r.entry.impulses)
-      (solved s (states_of own batch.bodies) (rows_among own batch.rows)).rows
+      (solved_batch s (states_of own batch.bodies) (rows_among own batch.rows)).rows
   group_stored name =
       let own = members (names_of_tick s w payloads) name in
       let Stored : Row → Type 0 =

@@ -7,17 +7,17 @@ use Rattle.pf_shapes.specs.Scene.{Scene}
 use Rattle.pf_manifold.specs.Key.{IsRising}
 use Rattle.pf_manifold.specs.Touches.{IsTouchOf, Touch}
 use Rattle.pf_commands.specs.declared.payload.Payload.{Payload}
-use Rattle.pf_cache.specs.Contact.{updated}
+use Rattle.pf_cache.specs.Contact.{next_contacts}
 use Rattle.pf_islands.specs.Split.{IsActiveRow}
 use Rattle.pf_islands.proofs.Together.{rows_are_active}
 use Rattle.pf_islands.proofs.Whole.{own_or_other}
 use Rattle.pf_islands.specs.Group.{groups}
-use Rattle.pf_islands.specs.Sleep.{woken}
+use Rattle.pf_islands.specs.Sleep.{woken_bodies}
 use Rattle.pf_islands.proofs.Members.{filter_rises, range_rises, range_within}
 use Rattle.pf_islands.proofs.Starting.{groups_long}
 use Rattle.pf_solver.specs.Alone.{seen_from}
 use Rattle.pf_islands.specs.Island.{states_of, rows_among, IsOwnOrOther, members}
-use Rattle.pf_solver.specs.Solve.{solved}
+use Rattle.pf_solver.specs.Solve.{solved_batch}
 use Rattle.pf_solver.proofs.Seen.{solved_seen}
 use Rattle.pf_step.specs.Commands.{after_commands}
 use Rattle.pf_step.specs.Activity.{batch_of_tick, names_of_tick}
@@ -54,20 +54,20 @@ pub groups_alone : (s : Scene) (w : World) (payloads : List Payload) (name : ℕ
     → length w.bodies ≡ length s.fixtures
     → let batch = batch_of_tick s w payloads in
     let own = members (names_of_tick s w payloads) name in
-    solved s (states_of own batch.bodies) (rows_among own batch.rows)
-    ≡ seen_from own (solved s batch.bodies batch.rows)
+    solved_batch s (states_of own batch.bodies) (rows_among own batch.rows)
+    ≡ seen_from own (solved_batch s batch.bodies batch.rows)
 groups_alone s w payloads name paired =
     let commanded = after_commands s.fixtures w.bodies payloads in
     let count = commands_length s.fixtures w.bodies payloads ∙ paired in
     let points = touching s commanded in
-    let awake = woken (groups s points) commanded in
+    let awake = woken_bodies (groups s points) commanded in
     let long =
     woken_length (groups s points) commanded (groups_long s points ∙ sym count) ∙ count in
     solved_seen (members (groups s points) name) s awake
-    (active_rows s awake points (updated w.contacts points))
+    (active_rows s awake points (next_contacts w.contacts points))
     (numbers_rise s points name)
     (subst (λ n. All (λ i. i < n) (members (groups s points) name)) (sym long) (numbers_within s points name))
     (All-weaker (IsActiveRow (groups s points) awake) (IsOwnOrOther (members (groups s points) name))
-    (λ r is. own_or_other (groups s points) awake name r is) (active_rows s awake points (updated w.contacts points))
-    (rows_are_active s points awake (updated w.contacts points) long
+    (λ r is. own_or_other (groups s points) awake name r is) (active_rows s awake points (next_contacts w.contacts points))
+    (rows_are_active s points awake (next_contacts w.contacts points) long
     (subst (λ n. All (IsTouchOf n) points) (count ∙ sym long) (points_of_bodies s commanded count))))

@@ -15,14 +15,16 @@ use Rattle.pf_commands.specs.declared.payload.Payload.{Payload}
 use Rattle.pf_commands.specs.Merge.{CommandMap, payloads_at}
 use Rattle.pf_manifold.specs.Key.{AreTouches, IsKey, IsRising, Key, key_of, rank}
 use Rattle.pf_manifold.specs.Touches.{IsTouchOf, Touch}
-use Rattle.pf_cache.specs.Contact.{AreContacts, Contact, Impulses, impulses_at, no_impulses, updated}
-use Rattle.pf_cache.specs.Row.{AreRows, Row, impulses_or, with_rows}
+use Rattle.pf_rows.specs.Impulses.{Impulses, no_impulses}
+use Rattle.pf_cache.specs.Contact.{AreContacts, Contact, impulses_at, next_contacts}
+use Rattle.pf_rows.specs.Row.{AreRows, Row, impulses_or}
+use Rattle.pf_cache.specs.ContactRows.{with_rows}
 use Rattle.pf_cache.proofs.Kept.{same_keys}
 use Rattle.pf_islands.specs.Group.{groups}
-use Rattle.pf_islands.specs.Sleep.{woken}
+use Rattle.pf_islands.specs.Sleep.{woken_bodies}
 use Rattle.pf_solver.specs.Constraint.{friction_of}
 use Rattle.pf_solver.specs.Impulse.{friction_limit}
-use Rattle.pf_solver.specs.Solve.{solved}
+use Rattle.pf_solver.specs.Solve.{solved_batch}
 use Rattle.pf_solver.proofs.Solved.{HasFriction, IsLimited, solved_friction, solved_limits, solved_touches}
 use Rattle.pf_islands.proofs.Elements.{all_unmapped}
 use Rattle.pf_step.specs.Commands.{after_commands}
@@ -147,14 +149,14 @@ module _ (s : Scene) where
 
   all_limited : (old : List Contact) (points : List Touch) (rows : List Row) → All (λ t. IsKey (key_of t)) points
       → All (λ c. IsKey c.key) old → All Limited old → All RowLimited rows
-      → All Limited (with_rows (updated old points) rows)
-  unfolding with_rows updated
+      → All Limited (with_rows (next_contacts old points) rows)
+  unfolding with_rows next_contacts
   all_limited old [] rows keys old_keys h limited = All-nil Limited
   all_limited old (t ∷ points) rows keys old_keys h limited =
       let key = All-head (λ x. IsKey (key_of x)) t points keys in
       let k = key_of t in
       let p = impulses_at (rank k) old in
-      All-cons Limited (record { key = k; impulses = impulses_or p (rank k) rows }) (with_rows (updated old points) rows)
+      All-cons Limited (record { key = k; impulses = impulses_or p (rank k) rows }) (with_rows (next_contacts old points) rows)
       (rows_limited k key p (old_limited k key old old_keys h) rows limited)
       (all_limited old points rows (All-tail (λ x. IsKey (key_of x)) t points keys) old_keys h limited)
 
@@ -187,9 +189,9 @@ module _ (s : Scene) (scene : IsScene s) where
   LimitedRow r = IsKey (key_of r.entry.touch) × IsWithinFriction s (key_of r.entry.touch) r.entry.impulses
 
   -- solved rows have keys, and their accumulated impulses are within their limits
-  solved_rows : (bodies : List BodyState) (rows : List Row) → AreRows rows → All LimitedRow (solved s bodies rows).rows
+  solved_rows : (bodies : List BodyState) (rows : List Row) → AreRows rows → All LimitedRow (solved_batch s bodies rows).rows
   solved_rows bodies rows order =
-      let after = (solved s bodies rows).rows in
+      let after = (solved_batch s bodies rows).rows in
       let keys : All (λ (r : Row). IsKey (key_of r.entry.touch)) after =
       all_unmapped (λ (t : Touch). IsKey (key_of t)) (λ (r : Row). r.entry.touch) after
       (subst (All (λ (t : Touch). IsKey (key_of t))) (sym (solved_touches s bodies rows)) order.keys) in
@@ -206,10 +208,10 @@ module _ (s : Scene) (scene : IsScene s) where
       let points = touching s commanded in
       let count = commands_length s.fixtures w.bodies payloads ∙ paired in
       let in_order = points_in_order s commanded count scene in
-      let awake = woken (groups s points) commanded in
-      let rows = active_rows s awake points (updated w.contacts points) in
-      all_limited s w.contacts points (solved s awake rows).rows in_order.keys order.keys h
-      (solved_rows awake rows (rows_in_order s awake points (updated w.contacts points) in_order))
+      let awake = woken_bodies (groups s points) commanded in
+      let rows = active_rows s awake points (next_contacts w.contacts points) in
+      all_limited s w.contacts points (solved_batch s awake rows).rows in_order.keys order.keys h
+      (solved_rows awake rows (rows_in_order s awake points (next_contacts w.contacts points) in_order))
 
   step_order : (w : World) (payloads : List Payload) → length w.bodies ≡ length s.fixtures
       → AreContacts (step s w payloads).contacts

@@ -8,10 +8,11 @@ use Rattle.pf_commands.specs.Payload.{body_of}
 use Rattle.pf_commands.specs.declared.payload.Payload.{Payload}
 use Rattle.pf_broad.specs.Pairs.{all_bounds, pairs}
 use Rattle.pf_manifold.specs.Touches.{Touch, touches}
-use Rattle.pf_cache.specs.Contact.{Contact, updated}
-use Rattle.pf_cache.specs.Row.{Row, with_rows}
-use Rattle.pf_islands.specs.Sleep.{rested, woken}
-use Rattle.pf_solver.specs.Solve.{solved}
+use Rattle.pf_cache.specs.Contact.{Contact, next_contacts}
+use Rattle.pf_rows.specs.Row.{Row}
+use Rattle.pf_cache.specs.ContactRows.{with_rows}
+use Rattle.pf_islands.specs.Sleep.{bodies_after_sleep, woken_bodies}
+use Rattle.pf_solver.specs.Solve.{solved_batch}
 use Rattle.pf_solver.proofs.Solved.{solved_length}
 use Rattle.pf_step.specs.Commands.{bodies_with, after_command, after_commands}
 use Rattle.pf_step.specs.Simulation.{sim}
@@ -45,25 +46,25 @@ pub none_long : {X : Type 0} (xs : List X) → length xs ≡ 0 → xs ≡ []
 none_long [] none = refl
 none_long (x ∷ xs) none = absurd (omega (arith, none))
 
-woken-empty : (names : List ℕ) → woken names [] ≡ []
-unfolding woken
-woken-empty [] = refl
-woken-empty (name ∷ names) = refl
+woken_bodies-empty : (names : List ℕ) → woken_bodies names [] ≡ []
+unfolding woken_bodies
+woken_bodies-empty [] = refl
+woken_bodies-empty (name ∷ names) = refl
 
-rested-empty : (full : ℕ) (names : List ℕ) → rested full names [] ≡ []
-unfolding rested
-rested-empty full [] = refl
-rested-empty full (name ∷ names) = refl
+bodies_after_sleep-empty : (full : ℕ) (names : List ℕ) → bodies_after_sleep full names [] ≡ []
+unfolding bodies_after_sleep
+bodies_after_sleep-empty full [] = refl
+bodies_after_sleep-empty full (name ∷ names) = refl
 
-solved-empty : (s : Scene) (bodies : List BodyState) (rows : List Row) → bodies ≡ [] → (solved s bodies rows).bodies ≡ []
-solved-empty s bodies rows none = none_long (solved s bodies rows).bodies (solved_length s bodies rows ∙ ap length none)
+solved_batch-empty : (s : Scene) (bodies : List BodyState) (rows : List Row) → bodies ≡ [] → (solved_batch s bodies rows).bodies ≡ []
+solved_batch-empty s bodies rows none = none_long (solved_batch s bodies rows).bodies (solved_length s bodies rows ∙ ap length none)
 
 pub step_empty : (s : Scene) (w : World) (payloads : List Payload) → w.bodies ≡ [] → (step s w payloads).bodies ≡ []
 unfolding step
 step_empty s w payloads none =
     let commanded : after_commands s.fixtures w.bodies payloads ≡ [] =
     ap (λ bodies. after_commands s.fixtures bodies payloads) none ∙ after_commands-empty s.fixtures payloads in
-    ap (rested _ _) (solved-empty s _ _ (ap (woken _) commanded ∙ woken-empty _)) ∙ rested-empty _ _
+    ap (bodies_after_sleep _ _) (solved_batch-empty s _ _ (ap (woken_bodies _) commanded ∙ woken_bodies-empty _)) ∙ bodies_after_sleep-empty _ _
 
 -- a scene without bodies has worlds without bodies
 pub sim_empty : (s : Scene) (m : CommandMap) (tick : ℕ) → s.starts ≡ [] → (sim s m tick).bodies ≡ []
@@ -80,8 +81,8 @@ touching-empty s = by s.fixtures
     by [] = refl
     by (f ∷ fixtures) = refl
 
-rows-empty : (contacts : List Contact) (points : List Touch) (rows : List Row) → points ≡ [] → with_rows (updated contacts points) rows ≡ []
-unfolding updated with_rows
+rows-empty : (contacts : List Contact) (points : List Touch) (rows : List Row) → points ≡ [] → with_rows (next_contacts contacts points) rows ≡ []
+unfolding next_contacts with_rows
 rows-empty contacts points rows none = rw none refl
 
 pub step_no_contacts : (s : Scene) (w : World) (payloads : List Payload) → w.bodies ≡ [] → (step s w payloads).contacts ≡ []

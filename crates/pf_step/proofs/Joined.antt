@@ -10,12 +10,13 @@ use Rattle.pf_shapes.specs.Scene.{Scene}
 use Rattle.pf_manifold.specs.Key.{AreTouches}
 use Rattle.pf_manifold.specs.Touches.{IsTouchOf, Touch}
 use Rattle.pf_cache.specs.Contact.{Contact}
-use Rattle.pf_cache.specs.Row.{AreRows, AreRowsAt}
+use Rattle.pf_rows.specs.Row.{AreRows}
+use Rattle.pf_cache.specs.ContactRows.{AreRowsAt}
 use Rattle.pf_cache.proofs.Kept.{same_keys}
 use Rattle.pf_islands.specs.Island.{has_number, is_among, members, rows_among, states_of, touches_one}
 use Rattle.pf_islands.specs.Join.{IsAtHome, joined_bodies, joined_contacts}
 use Rattle.pf_islands.specs.Rows.{is_awake_at}
-use Rattle.pf_islands.specs.Sleep.{at_sleep, is_active, is_resting, rested}
+use Rattle.pf_islands.specs.Sleep.{at_sleep, is_active, is_resting, bodies_after_sleep}
 use Rattle.pf_islands.specs.Split.{AreWoken, IsActiveRow, Island, active_names, is_active_name, island_of}
 use Rattle.pf_islands.proofs.ActiveRows.{rows_beside, rows_in_order}
 use Rattle.pf_islands.proofs.Elements.{zip_at}
@@ -26,7 +27,7 @@ use Rattle.pf_islands.proofs.Together.{groups_woken, name_of, rows_are_active, w
 use Rattle.pf_islands.proofs.Whole.{body_has_island, islands_at_contacts, islands_at_home, row_has_island, sides_awake}
 use Rattle.pf_solver.specs.declared.bodies.TheConstants.{STILL_TICKS}
 use Rattle.pf_solver.specs.Alone.{island_after_tick}
-use Rattle.pf_solver.specs.Solve.{solved}
+use Rattle.pf_solver.specs.Solve.{solved_batch}
 use Rattle.pf_solver.specs.Velocities.{Batch}
 use Rattle.pf_solver.proofs.AfterTick.{after_tick_at_contacts, after_tick_at_home}
 use Rattle.pf_solver.proofs.Solved.{IsAway, solved_sides, solved_touches, untouched_body}
@@ -62,7 +63,7 @@ module _ (s : Scene) (before : List Contact) (commanded : List BodyState) (count
   contacts = contacts_of_bodies s before commanded
 
   abbrev after : Batch
-  after = solved s batch.bodies batch.rows
+  after = solved_batch s batch.bodies batch.rows
 
   abbrev found : List Island
   found = islands_of_bodies s before commanded
@@ -174,7 +175,7 @@ module _ (s : Scene) (before : List Contact) (commanded : List BodyState) (count
   -- so they stay as they are
   stays : (j : ℕ) → j < length s.fixtures → is_awake_at batch.bodies j ≡ false
       → get_or batch.bodies j no_state ≡ get_or (world_after s before commanded).bodies j no_state
-  unfolding rested
+  unfolding bodies_after_sleep
   stays j within sleeps =
       let b = get_or batch.bodies j no_state in
       let here : slice_get batch.bodies j ≡ Some b =

@@ -8,11 +8,13 @@ use Rattle.pf_shapes.specs.Scene.{IsScene, Scene, is_static_at}
 use Rattle.pf_commands.specs.Merge.{CommandMap, payloads_at}
 use Rattle.pf_manifold.specs.Key.{IsKey, key_of, rank}
 use Rattle.pf_manifold.specs.Touches.{IsTouchOf, Touch}
-use Rattle.pf_cache.specs.Contact.{Contact, Impulses, impulses_at, updated}
-use Rattle.pf_cache.specs.Row.{Row, impulses_or, with_rows}
+use Rattle.pf_rows.specs.Impulses.{Impulses}
+use Rattle.pf_cache.specs.Contact.{Contact, impulses_at, next_contacts}
+use Rattle.pf_rows.specs.Row.{Row, impulses_or}
+use Rattle.pf_cache.specs.ContactRows.{with_rows}
 use Rattle.pf_islands.specs.Group.{groups}
-use Rattle.pf_islands.specs.Sleep.{woken}
-use Rattle.pf_solver.specs.Solve.{solved}
+use Rattle.pf_islands.specs.Sleep.{woken_bodies}
+use Rattle.pf_solver.specs.Solve.{solved_batch}
 use Rattle.pf_solver.proofs.Solved.{solved_touches}
 use Rattle.pf_step.specs.Laws.{IsUndisturbed, commanded_bodies}
 use Rattle.pf_islands.specs.Rows.{active_rows, is_active_contact, is_simulated_at, row_of}
@@ -53,8 +55,8 @@ stays_at n (c ∷ contacts) rows h = by (rank c.key == n) refl (stays_at n conta
 
 -- an update keeps the impulses of each key that has a point
 kept_at : (old : List Contact) (points : List Touch) (k : ℕ) (t : Touch) → slice_get points k ≡ Some t
-    → impulses_at (rank (key_of t)) (updated old points) ≡ impulses_at (rank (key_of t)) old
-unfolding updated
+    → impulses_at (rank (key_of t)) (next_contacts old points) ≡ impulses_at (rank (key_of t)) old
+unfolding next_contacts
 kept_at old [] k t here = absurd cc
 kept_at old (x ∷ points) zero t here =
     let is : x ≡ t = same_element x t here in
@@ -62,8 +64,8 @@ kept_at old (x ∷ points) zero t here =
 kept_at old (x ∷ points) (suc k) t here = by (rank (key_of x) == rank (key_of t)) refl (kept_at old points k t here)
   where
     by : (e : Bool) → (rank (key_of x) == rank (key_of t)) ≡ e
-        → impulses_at (rank (key_of t)) (updated old points) ≡ impulses_at (rank (key_of t)) old
-        → (if e then impulses_at (rank (key_of x)) old else impulses_at (rank (key_of t)) (updated old points))
+        → impulses_at (rank (key_of t)) (next_contacts old points) ≡ impulses_at (rank (key_of t)) old
+        → (if e then impulses_at (rank (key_of x)) old else impulses_at (rank (key_of t)) (next_contacts old points))
         ≡ impulses_at (rank (key_of t)) old
     by true test rest = ap (λ n. impulses_at n old) (eqb-true (rank (key_of x)) (rank (key_of t)) test)
     by false test rest = rest
@@ -76,10 +78,10 @@ module _ (s : Scene) (scene : IsScene s) (m : CommandMap) (tick : ℕ) where
   points = touching s bodies
 
   abbrev awake : List BodyState
-  awake = woken (groups s points) bodies
+  awake = woken_bodies (groups s points) bodies
 
   abbrev contacts : List Contact
-  contacts = updated (sim s m tick).contacts points
+  contacts = next_contacts (sim s m tick).contacts points
 
   abbrev rows : List Row
   rows = active_rows s awake points contacts
@@ -99,7 +101,7 @@ module _ (s : Scene) (scene : IsScene s) (m : CommandMap) (tick : ℕ) where
       ∙ ap₂ (λ a b. is_simulated_at s awake a || is_simulated_at s awake b) one.0 one.1 ∙ inactive)
 
   others : (k : ℕ) (t : Touch) → slice_get points k ≡ Some t → is_active_contact s awake t ≡ false
-      → All (λ r. IsOther (rank (key_of t)) r.entry.touch) (solved s awake rows).rows
+      → All (λ r. IsOther (rank (key_of t)) r.entry.touch) (solved_batch s awake rows).rows
   unfolding row_of
   others k t here inactive =
       let n = rank (key_of t) in
@@ -107,7 +109,7 @@ module _ (s : Scene) (scene : IsScene s) (m : CommandMap) (tick : ℕ) where
       all_rows s awake (λ r. IsOther n r.entry.touch) points contacts
       (all_from (HoldsWhere s awake (λ r. IsOther n r.entry.touch)) points
       (λ j u there active place c. other_rank k j t u here inactive there active)) in
-      all_unmapped (IsOther n) (λ (r : Row). r.entry.touch) (solved s awake rows).rows
+      all_unmapped (IsOther n) (λ (r : Row). r.entry.touch) (solved_batch s awake rows).rows
       (subst (All (IsOther n)) (sym (solved_touches s awake rows))
       (All-map (IsOther n) (λ (r : Row). r.entry.touch) rows before))
 
@@ -120,5 +122,5 @@ module _ (s : Scene) (scene : IsScene s) (m : CommandMap) (tick : ℕ) where
       let inactive : is_active_contact s awake t ≡ false =
       contact_inactive s (sim s m tick).contacts bodies count (statics_sleep s m tick scene) i b there quiet dynamic k t here
       (omega (arith, of.0, of.1)) of.1 names in
-      stays_at (rank (key_of t)) contacts (solved s awake rows).rows (others k t here inactive)
+      stays_at (rank (key_of t)) contacts (solved_batch s awake rows).rows (others k t here inactive)
       ∙ kept_at (sim s m tick).contacts points k t here

@@ -7,12 +7,12 @@ use Rattle.pf_shapes.specs.Scene.{IsScene, Scene}
 use Rattle.pf_manifold.specs.Touches.{Touch}
 use Rattle.pf_commands.specs.declared.payload.Payload.{Payload}
 use Rattle.pf_commands.specs.Merge.{CommandMap, payloads_at}
-use Rattle.pf_cache.specs.Contact.{Contact, updated}
+use Rattle.pf_cache.specs.Contact.{Contact, next_contacts}
 use Rattle.pf_islands.specs.Group.{groups}
-use Rattle.pf_islands.specs.Sleep.{rested, woken}
+use Rattle.pf_islands.specs.Sleep.{bodies_after_sleep, woken_bodies}
 use Rattle.pf_islands.proofs.Starting.{groups_long}
 use Rattle.pf_solver.specs.declared.bodies.TheConstants.{STILL_TICKS}
-use Rattle.pf_solver.specs.Solve.{solved}
+use Rattle.pf_solver.specs.Solve.{solved_batch}
 use Rattle.pf_solver.proofs.Solved.{solved_length}
 use Rattle.pf_step.specs.Commands.{after_commands}
 use Rattle.pf_islands.specs.Rows.{active_rows}
@@ -23,13 +23,13 @@ use Rattle.pf_step.proofs.Commanding.{commands_length}
 use Rattle.pf_islands.proofs.Elements.{zip_length}
 
 pub woken_length : (names : List ℕ) (bodies : List BodyState) → length names ≡ length bodies
-    → length (woken names bodies) ≡ length bodies
-unfolding woken
+    → length (woken_bodies names bodies) ≡ length bodies
+unfolding woken_bodies
 woken_length names bodies same = length-map (zip names bodies) _ ∙ zip_length names bodies same
 
 pub rested_length : (full : ℕ) (names : List ℕ) (bodies : List BodyState) → length names ≡ length bodies
-    → length (rested full names bodies) ≡ length bodies
-unfolding rested
+    → length (bodies_after_sleep full names bodies) ≡ length bodies
+unfolding bodies_after_sleep
 rested_length full names bodies same = length-map (zip names bodies) _ ∙ zip_length names bodies same
 
 -- each body has a name
@@ -38,8 +38,8 @@ pub named : (s : Scene) (points : List Touch) (bodies : List BodyState) → leng
 named s points bodies paired = groups_long s points ∙ sym paired
 
 -- each contact point has a contact
-pub updated_length : (old : List Contact) (points : List Touch) → length (updated old points) ≡ length points
-unfolding updated
+pub updated_length : (old : List Contact) (points : List Touch) → length (next_contacts old points) ≡ length points
+unfolding next_contacts
 updated_length old points = length-map points _
 
 -- a world has one state for each body of the scene
@@ -48,11 +48,11 @@ pub world_after_length : (s : Scene) (before : List Contact) (bodies : List Body
 world_after_length s before bodies paired =
     let points = touching s bodies in
     let names = groups s points in
-    let awake = woken names bodies in
-    let rows = active_rows s awake points (updated before points) in
+    let awake = woken_bodies names bodies in
+    let rows = active_rows s awake points (next_contacts before points) in
     let woke : length awake ≡ length bodies = woken_length names bodies (named s points bodies paired) in
-    let moved : length (solved s awake rows).bodies ≡ length s.fixtures = solved_length s awake rows ∙ woke ∙ paired in
-    rested_length STILL_TICKS names (solved s awake rows).bodies (named s points (solved s awake rows).bodies moved) ∙ moved
+    let moved : length (solved_batch s awake rows).bodies ≡ length s.fixtures = solved_length s awake rows ∙ woke ∙ paired in
+    rested_length STILL_TICKS names (solved_batch s awake rows).bodies (named s points (solved_batch s awake rows).bodies moved) ∙ moved
 
 pub step_length : (s : Scene) (w : World) (payloads : List Payload) → length w.bodies ≡ length s.fixtures
     → length (step s w payloads).bodies ≡ length s.fixtures

@@ -8,13 +8,13 @@ use Rattle.pf_rot.proofs.Directions.{turned_at_most_one}
 use Rattle.pf_shapes.specs.Body.{BodyState}
 use Rattle.pf_shapes.specs.Scene.{Scene}
 use Rattle.pf_commands.specs.declared.payload.Payload.{Payload}
-use Rattle.pf_cache.specs.Contact.{updated}
+use Rattle.pf_cache.specs.Contact.{next_contacts}
 use Rattle.pf_islands.specs.Group.{groups}
-use Rattle.pf_islands.specs.Sleep.{at_sleep, is_active, is_resting, rested, woken}
+use Rattle.pf_islands.specs.Sleep.{at_sleep, is_active, is_resting, bodies_after_sleep, woken_bodies}
 use Rattle.pf_islands.proofs.Looked.{all_at, any_from, zip_at}
 use Rattle.pf_solver.specs.declared.bodies.TheConstants.{STILL_TICKS}
 use Rattle.pf_solver.specs.Bodies.{after_motion, after_timer, is_still}
-use Rattle.pf_solver.specs.Solve.{solved}
+use Rattle.pf_solver.specs.Solve.{solved_batch}
 use Rattle.pf_solver.proofs.Solved.{moved_on, solved_body}
 use Rattle.pf_step.specs.Commands.{after_commands}
 use Rattle.pf_step.specs.Laws.{bodies_before_sleep}
@@ -48,8 +48,8 @@ record IsWoken (bodies : List BodyState) (i : ℕ) (c : BodyState) : Type 0 wher
   stays : from.awake ≡ true → flag ≡ true
 
 woken_at : (names : List ℕ) (bodies : List BodyState) (i : ℕ) (c : BodyState)
-    → slice_get (woken names bodies) i ≡ Some c → IsWoken bodies i c
-unfolding woken
+    → slice_get (woken_bodies names bodies) i ≡ Some c → IsWoken bodies i c
+unfolding woken_bodies
 woken_at names bodies i c here =
     let found = zip_at (λ (m : ℕ × BodyState). record m.1 { awake = is_active names bodies m.0 }) names bodies i c here in
     record {
@@ -70,8 +70,8 @@ record IsRested (full : ℕ) (bodies : List BodyState) (i : ℕ) (c : BodyState)
   value : (c ≡ from) ⊎ ((from.awake ≡ true) × (from.timer ≡ full) × (c ≡ at_sleep from))
 
 rested_at : (full : ℕ) (names : List ℕ) (bodies : List BodyState) (i : ℕ) (c : BodyState)
-    → slice_get (rested full names bodies) i ≡ Some c → IsRested full bodies i c
-unfolding rested
+    → slice_get (bodies_after_sleep full names bodies) i ≡ Some c → IsRested full bodies i c
+unfolding bodies_after_sleep
 rested_at full names bodies i c here =
     let found =
     zip_at (λ (m : ℕ × BodyState). if m.1.awake && is_resting full names bodies m.0 then at_sleep m.1 else m.1) names bodies i c here in
@@ -141,9 +141,9 @@ ticked_body s w payloads i c here =
     let commanded = after_commands s.fixtures w.bodies payloads in
     let points = touching s commanded in
     let names = groups s points in
-    let awake = woken names commanded in
-    let rows = active_rows s awake points (updated w.contacts points) in
-    let rest = rested_at STILL_TICKS names (solved s awake rows).bodies i c here in
+    let awake = woken_bodies names commanded in
+    let rows = active_rows s awake points (next_contacts w.contacts points) in
+    let rest = rested_at STILL_TICKS names (solved_batch s awake rows).bodies i c here in
     let solve = solved_body s awake rows i rest.from rest.is_there in
     let wake = woken_at names commanded i solve.before solve.stood in
     let moved : rest.from ≡ moved_on solve.velocity solve.spin (record wake.from { awake = wake.flag }) =
@@ -180,9 +180,9 @@ slept s w payloads i c d here asleep before =
     let commanded = after_commands s.fixtures w.bodies payloads in
     let points = touching s commanded in
     let names = groups s points in
-    let awake = woken names commanded in
-    let rows = active_rows s awake points (updated w.contacts points) in
-    let rest = rested_at STILL_TICKS names (solved s awake rows).bodies i c here in
+    let awake = woken_bodies names commanded in
+    let rows = active_rows s awake points (next_contacts w.contacts points) in
+    let rest = rested_at STILL_TICKS names (solved_batch s awake rows).bodies i c here in
     let solve = solved_body s awake rows i rest.from rest.is_there in
     let wake = woken_at names commanded i solve.before solve.stood in
     let moved : rest.from ≡ moved_on solve.velocity solve.spin (record wake.from { awake = wake.flag }) =
@@ -207,8 +207,8 @@ stays_awake s w payloads i b d here waking before =
     let commanded = after_commands s.fixtures w.bodies payloads in
     let points = touching s commanded in
     let names = groups s points in
-    let awake = woken names commanded in
-    let rows = active_rows s awake points (updated w.contacts points) in
+    let awake = woken_bodies names commanded in
+    let rows = active_rows s awake points (next_contacts w.contacts points) in
     let solve = solved_body s awake rows i d before in
     let wake = woken_at names commanded i solve.before solve.stood in
     let is : wake.from ≡ b = same_element wake.from b (sym wake.is_there ∙ here) in

@@ -10,16 +10,16 @@ use Rattle.pf_shapes.specs.Scene.{AreStarts, IsScene, Scene, fixture_at, is_stat
 use Rattle.pf_manifold.specs.Touches.{IsTouchOf, Touch}
 use Rattle.pf_commands.specs.declared.payload.Payload.{Payload}
 use Rattle.pf_commands.specs.Merge.{CommandMap, payloads_at}
-use Rattle.pf_cache.specs.declared.row.Side.TheVariants.{Static, Dynamic}
-use Rattle.pf_cache.specs.Contact.{Contact, updated}
-use Rattle.pf_cache.specs.Row.{Row}
+use Rattle.pf_rows.specs.declared.row.Side.TheVariants.{Static, Dynamic}
+use Rattle.pf_cache.specs.Contact.{Contact, next_contacts}
+use Rattle.pf_rows.specs.Row.{Row}
 use Rattle.pf_islands.specs.Group.{group, groups}
 use Rattle.pf_islands.specs.Reach.{AreNeighbours, IsBetween, Reaches, connects}
-use Rattle.pf_islands.specs.Sleep.{at_sleep, is_active, is_resting, rested, woken}
+use Rattle.pf_islands.specs.Sleep.{at_sleep, is_active, is_resting, bodies_after_sleep, woken_bodies}
 use Rattle.pf_islands.proofs.Together.{neighbours_at}
 use Rattle.pf_islands.proofs.Sleeping.{name_at, woken_reach}
 use Rattle.pf_solver.specs.declared.bodies.TheConstants.{STILL_TICKS}
-use Rattle.pf_solver.specs.Solve.{solved}
+use Rattle.pf_solver.specs.Solve.{solved_batch}
 use Rattle.pf_solver.proofs.Solved.{IsAway, untouched_body}
 use Rattle.pf_step.specs.Commands.{after_commands}
 use Rattle.pf_step.specs.Laws.{IsUndisturbed, commanded_bodies}
@@ -78,10 +78,10 @@ module _ (s : Scene) (old : List Contact) (commanded : List BodyState) (count : 
   names = groups s points
 
   abbrev awake : List BodyState
-  awake = woken names commanded
+  awake = woken_bodies names commanded
 
   abbrev rows : List Row
-  rows = active_rows s awake points (updated old points)
+  rows = active_rows s awake points (next_contacts old points)
 
   here_reached : (i : ℕ) → Reaches s points i i
   here_reached i = ([], refl)
@@ -89,7 +89,7 @@ module _ (s : Scene) (old : List Contact) (commanded : List BodyState) (count : 
   -- the body of a number after the phase Activity
   woken_is : (i : ℕ) (b : BodyState) → slice_get commanded i ≡ Some b
       → slice_get awake i ≡ Some (record b { awake = is_active names commanded (group s points i) })
-  unfolding woken
+  unfolding woken_bodies
   woken_is i b here =
       let within = slice_get_within commanded i b here in
       let named = name_at s points i (omega (arith, within, count)) in
@@ -168,7 +168,7 @@ module _ (s : Scene) (old : List Contact) (commanded : List BodyState) (count : 
     rows_away : All (IsAway i) rows
     unfolding row_of
     rows_away =
-        all_rows s awake (IsAway i) points (updated old points)
+        all_rows s awake (IsAway i) points (next_contacts old points)
         (all_from (HoldsWhere s awake (IsAway i)) points away_at)
       where
         first_away : (k : ℕ) (t : Touch) → slice_get points k ≡ Some t → is_active_contact s awake t ≡ true → side_of s t.a ≢ Dynamic i
@@ -198,25 +198,25 @@ module _ (s : Scene) (old : List Contact) (commanded : List BodyState) (count : 
   static_away : (i : ℕ) → is_static_at s i ≡ true → All (IsAway i) rows
   unfolding row_of
   static_away i static =
-      all_rows s awake (IsAway i) points (updated old points)
+      all_rows s awake (IsAway i) points (next_contacts old points)
       (all_from (HoldsWhere s awake (IsAway i)) points
       (λ k t stands active place c. (static_side i t.a static, static_side i t.b static)))
 
   -- where no row touches an undisturbed body, it is as before when the phase Sleep comes
   solved_same : (i : ℕ) (b : BodyState) → slice_get commanded i ≡ Some b → IsUndisturbed s commanded i → All (IsAway i) rows
-      → slice_get (solved s awake rows).bodies i ≡ Some b
+      → slice_get (solved_batch s awake rows).bodies i ≡ Some b
   solved_same i b here quiet away =
       untouched_body s awake rows i b (woken_same i b here quiet) away
       ∙ rw (quiet i b here (here_reached i)) refl
 
   -- and after it
   rested_same : (i : ℕ) (b : BodyState) → slice_get commanded i ≡ Some b → IsUndisturbed s commanded i → All (IsAway i) rows
-      → slice_get (rested STILL_TICKS names (solved s awake rows).bodies) i ≡ Some b
-  unfolding rested
+      → slice_get (bodies_after_sleep STILL_TICKS names (solved_batch s awake rows).bodies) i ≡ Some b
+  unfolding bodies_after_sleep
   rested_same i b here quiet away =
       let within = slice_get_within commanded i b here in
       let named = name_at s points i (omega (arith, within, count)) in
-      let bodies = (solved s awake rows).bodies in
+      let bodies = (solved_batch s awake rows).bodies in
       slice_get-map (λ (m : ℕ × BodyState). if m.1.awake && is_resting STILL_TICKS names bodies m.0 then at_sleep m.1 else m.1) (zip names bodies) i
       ∙ ap (option_map (λ (m : ℕ × BodyState). if m.1.awake && is_resting STILL_TICKS names bodies m.0 then at_sleep m.1 else m.1))
       (zip_at names bodies i (group s points i) b named (solved_same i b here quiet away))

@@ -8,15 +8,16 @@ use Rattle.pf_rot.specs.Vector.{V2}
 use Rattle.pf_shapes.specs.Body.{BodyState}
 use Rattle.pf_shapes.specs.Scene.{Scene}
 use Rattle.pf_manifold.specs.Touches.{Touch}
-use Rattle.pf_cache.specs.Contact.{Contact, updated}
-use Rattle.pf_cache.specs.Row.{Row, with_rows}
+use Rattle.pf_cache.specs.Contact.{Contact, next_contacts}
+use Rattle.pf_rows.specs.Row.{Row}
+use Rattle.pf_cache.specs.ContactRows.{with_rows}
 use Rattle.pf_islands.specs.Group.{group, groups}
 use Rattle.pf_islands.specs.Rows.{active_rows}
-use Rattle.pf_islands.specs.Sleep.{at_sleep, is_active, is_resting, rested, woken}
+use Rattle.pf_islands.specs.Sleep.{at_sleep, is_active, is_resting, bodies_after_sleep, woken_bodies}
 use Rattle.pf_solver.specs.declared.bodies.TheConstants.{STILL_TICKS}
 use Rattle.pf_solver.specs.Alone.{asleep_if_still, body_after_tick}
 use Rattle.pf_solver.specs.Bodies.{after_gravity, after_motion, after_timer, each_awake, gravity_per_tick}
-use Rattle.pf_solver.specs.Solve.{solved}
+use Rattle.pf_solver.specs.Solve.{solved_batch}
 use Rattle.pf_solver.specs.Velocities.{Batch}
 use Rattle.pf_solver.proofs.Free.{free_is_solved}
 use Rattle.pf_step.specs.Step.{touching, world_after}
@@ -94,16 +95,16 @@ map_same [] = refl
 map_same (b ∷ bodies) = ap (λ bs. b ∷ bs) (map_same bodies)
 
 -- to wake groups of one body changes nothing
-woken_same : (bodies : List BodyState) → woken (own_names 0 bodies) bodies ≡ bodies
-unfolding woken
+woken_same : (bodies : List BodyState) → woken_bodies (own_names 0 bodies) bodies ≡ bodies
+unfolding woken_bodies
 woken_same bodies =
     map_named (λ m. record m.1 { awake = is_active (own_names 0 bodies) bodies m.0 }) (λ b. b) 0 bodies
     (λ name i b is at. ap (λ t. record b { awake = t }) (one_named (λ b. b.awake) 0 i name bodies b is at))
     ∙ map_same bodies
 
 -- and each body sleeps if its own timer is full
-rested_each : (bodies : List BodyState) → rested STILL_TICKS (own_names 0 bodies) bodies ≡ map asleep_if_still bodies
-unfolding rested
+rested_each : (bodies : List BodyState) → bodies_after_sleep STILL_TICKS (own_names 0 bodies) bodies ≡ map asleep_if_still bodies
+unfolding bodies_after_sleep
 rested_each bodies =
     map_named
     (λ m. if m.1.awake && is_resting STILL_TICKS (own_names 0 bodies) bodies m.0 then at_sleep m.1 else m.1)
@@ -134,31 +135,31 @@ module _ (s : Scene) (bodies : List BodyState) (count : length bodies ≡ length
   moved = each_awake (λ b. after_timer (after_motion (after_gravity (gravity_per_tick s.gravity) b))) bodies
 
   bodies_alone : (contacts : List Contact)
-      → rested STILL_TICKS (groups s [])
-      (solved s (woken (groups s []) bodies) (active_rows s (woken (groups s []) bodies) [] contacts)).bodies
+      → bodies_after_sleep STILL_TICKS (groups s [])
+      (solved_batch s (woken_bodies (groups s []) bodies) (active_rows s (woken_bodies (groups s []) bodies) [] contacts)).bodies
       ≡ map (body_after_tick (gravity_per_tick s.gravity)) bodies
   bodies_alone contacts =
-      let awake : woken (groups s []) bodies ≡ bodies = ap (λ ns. woken ns bodies) are_own ∙ woken_same bodies in
+      let awake : woken_bodies (groups s []) bodies ≡ bodies = ap (λ ns. woken_bodies ns bodies) are_own ∙ woken_same bodies in
       let none : List Row = [] in
-      ap (λ bs. rested STILL_TICKS (groups s []) (solved s bs none).bodies) awake
-      ∙ ap (λ (b : Batch). rested STILL_TICKS (groups s []) b.bodies) (sym (free_is_solved s bodies none refl))
-      ∙ ap (λ ns. rested STILL_TICKS ns moved) (are_own ∙ ap (range_with_len 0) (sym (length-map bodies _)))
+      ap (λ bs. bodies_after_sleep STILL_TICKS (groups s []) (solved_batch s bs none).bodies) awake
+      ∙ ap (λ (b : Batch). bodies_after_sleep STILL_TICKS (groups s []) b.bodies) (sym (free_is_solved s bodies none refl))
+      ∙ ap (λ ns. bodies_after_sleep STILL_TICKS ns moved) (are_own ∙ ap (range_with_len 0) (sym (length-map bodies _)))
       ∙ rested_each moved ∙ moved_and_rested (gravity_per_tick s.gravity) bodies
 
 -- the world after a tick with these contact points
 abbrev world_with : Scene → List Contact → List BodyState → List Touch → World
 world_with s before bodies points =
-    let contacts = updated before points in
+    let contacts = next_contacts before points in
     let names = groups s points in
-    let awake = woken names bodies in
-    let after = solved s awake (active_rows s awake points contacts) in
+    let awake = woken_bodies names bodies in
+    let after = solved_batch s awake (active_rows s awake points contacts) in
     record {
-      bodies = rested STILL_TICKS names after.bodies;
+      bodies = bodies_after_sleep STILL_TICKS names after.bodies;
       contacts = with_rows contacts after.rows;
     }
 
-no_contacts : (contacts : List Contact) (rows : List Row) → with_rows (updated contacts []) rows ≡ []
-unfolding updated with_rows
+no_contacts : (contacts : List Contact) (rows : List Row) → with_rows (next_contacts contacts []) rows ≡ []
+unfolding next_contacts with_rows
 no_contacts contacts rows = refl
 
 pub untouched_world : (s : Scene) (before : List Contact) (bodies : List BodyState) → length bodies ≡ length s.fixtures
@@ -167,4 +168,4 @@ pub untouched_world : (s : Scene) (before : List Contact) (bodies : List BodySta
     ≡ record { bodies = map (body_after_tick (gravity_per_tick s.gravity)) bodies; contacts = [] }
 untouched_world s before bodies paired none =
     ap (world_with s before bodies) none
-    ∙ ap₂ (λ bs cs. record { bodies = bs; contacts = cs }) (bodies_alone s bodies paired (updated before [])) (no_contacts before _)
+    ∙ ap₂ (λ bs cs. record { bodies = bs; contacts = cs }) (bodies_alone s bodies paired (next_contacts before [])) (no_contacts before _)

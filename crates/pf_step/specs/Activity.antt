@@ -4,10 +4,10 @@ use Rattle.std.specs.Prelude.{ℕ, List}
 use Rattle.pf_shapes.specs.Body.{BodyState}
 use Rattle.pf_shapes.specs.Scene.{Scene}
 use Rattle.pf_commands.specs.declared.payload.Payload.{Payload}
-use Rattle.pf_cache.specs.Contact.{Contact, updated}
+use Rattle.pf_cache.specs.Contact.{Contact, next_contacts}
 use Rattle.pf_islands.specs.Group.{groups}
 use Rattle.pf_islands.specs.Rows.{active_rows}
-use Rattle.pf_islands.specs.Sleep.{woken}
+use Rattle.pf_islands.specs.Sleep.{woken_bodies}
 use Rattle.pf_islands.specs.Split.{Island, islands}
 use Rattle.pf_solver.specs.Velocities.{Batch}
 use Rattle.pf_step.specs.Commands.{after_commands}
@@ -20,14 +20,14 @@ names_of_bodies s bodies = groups s (touching s bodies)
 
 -- their contacts, with what those of the last tick accumulated
 abbrev pub contacts_of_bodies : Scene → List Contact → List BodyState → List Contact
-contacts_of_bodies s contacts bodies = updated contacts (touching s bodies)
+contacts_of_bodies s contacts bodies = next_contacts contacts (touching s bodies)
 
 -- the bodies and contacts that are solved, in one list each
 abbrev pub batch_of_bodies : Scene → List Contact → List BodyState → Batch
 batch_of_bodies s contacts bodies =
     let points = touching s bodies in
-    let awake = woken (groups s points) bodies in
-    record { bodies = awake; rows = active_rows s awake points (updated contacts points) }
+    let awake = woken_bodies (groups s points) bodies in
+    record { bodies = awake; rows = active_rows s awake points (next_contacts contacts points) }
 
 -- and as islands
 abbrev pub islands_of_bodies : Scene → List Contact → List BodyState → List Island

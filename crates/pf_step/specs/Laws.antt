@@ -6,10 +6,10 @@ use Rattle.pf_shapes.specs.Scene.{Scene, fixture_at}
 use Rattle.pf_manifold.specs.Key.{Key}
 use Rattle.pf_commands.specs.declared.payload.Payload.{Payload}
 use Rattle.pf_commands.specs.Merge.{CommandMap, payloads_at}
-use Rattle.pf_cache.specs.Contact.{Impulses}
+use Rattle.pf_rows.specs.Impulses.{Impulses}
 use Rattle.pf_islands.specs.Reach.{Reaches}
 use Rattle.pf_solver.specs.Constraint.{friction_of}
-use Rattle.pf_solver.specs.Solve.{solved}
+use Rattle.pf_solver.specs.Solve.{solved_batch}
 use Rattle.pf_step.specs.Activity.{batch_of_tick}
 use Rattle.pf_step.specs.Commands.{after_commands}
 use Rattle.pf_step.specs.Simulation.{sim}
@@ -31,7 +31,7 @@ IsUndisturbed s bodies i =
 abbrev pub bodies_before_sleep : Scene → World → List Payload → List BodyState
 bodies_before_sleep s w payloads =
     let batch = batch_of_tick s w payloads in
-    (solved s batch.bodies batch.rows).bodies
+    (solved_batch s batch.bodies batch.rows).bodies
 
 -- the accumulated impulses are within their limits: the normal impulse is not below 0, and the
 -- tangent impulse is within the limit of friction, by the coefficient of friction of both bodies

@@ -7,13 +7,13 @@ use Rattle.pf_shapes.specs.Scene.{Scene}
 use Rattle.pf_broad.specs.Pairs.{all_bounds, pairs}
 use Rattle.pf_manifold.specs.Touches.{Touch, touches}
 use Rattle.pf_commands.specs.declared.payload.Payload.{Payload}
-use Rattle.pf_cache.specs.Contact.{Contact, updated}
+use Rattle.pf_cache.specs.Contact.{Contact, next_contacts}
 use Rattle.pf_cache.specs.Manifolds.{Manifolds, NarrowPhase, computed_count, manifolds_of, placed_shapes}
-use Rattle.pf_cache.specs.Row.{with_rows}
+use Rattle.pf_cache.specs.ContactRows.{with_rows}
 use Rattle.pf_islands.specs.Group.{groups}
-use Rattle.pf_islands.specs.Sleep.{rested, woken}
+use Rattle.pf_islands.specs.Sleep.{bodies_after_sleep, woken_bodies}
 use Rattle.pf_solver.specs.declared.bodies.TheConstants.{STILL_TICKS}
-use Rattle.pf_solver.specs.Solve.{solved}
+use Rattle.pf_solver.specs.Solve.{solved_batch}
 use Rattle.pf_step.specs.Commands.{after_commands}
 use Rattle.pf_islands.specs.Rows.{active_rows}
 use Rattle.pf_step.specs.World.{World}
@@ -41,12 +41,12 @@ narrow_phase_of_tick s w payloads kept =
 abbrev pub world_after : Scene → List Contact → List BodyState → World
 world_after s before bodies =
     let points = touching s bodies in
-    let contacts = updated before points in
+    let contacts = next_contacts before points in
     let names = groups s points in
-    let awake = woken names bodies in
-    let after = solved s awake (active_rows s awake points contacts) in
+    let awake = woken_bodies names bodies in
+    let after = solved_batch s awake (active_rows s awake points contacts) in
     record {
-      bodies = rested STILL_TICKS names after.bodies;
+      bodies = bodies_after_sleep STILL_TICKS names after.bodies;
       contacts = with_rows contacts after.rows;
     }
 

@@ -23,7 +23,7 @@ pub enum CrewError {
     /// The gate of a worker was shut.
     #[error("a gate is shut")]
     GateShut,
-    /// A worker ended before its time. The crew is of no use any more.
+    /// A worker ended while the crew was in use. The crew can't be used any more.
     #[error("a worker is lost")]
     CrewLost,
 }
@@ -34,7 +34,7 @@ pub enum StepError {
     /// There was no memory for the next world.
     #[error("out of memory")]
     OutOfMemory,
-    /// The crew did not solve the islands.
+    /// The crew could not solve the islands.
     #[error("the crew failed: {0}")]
     Crew(CrewError),
 }

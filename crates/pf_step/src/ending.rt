@@ -4,7 +4,7 @@ ghost use Rattle.std.specs.Prelude.{◌≡◌, ◌≢◌, [], Err, All, IfErr, I
 ghost use Rattle.pf_manifold.specs.Key.{AreTouches};
 ghost use Rattle.pf_manifold.specs.Touches.{IsTouchOf};
 ghost use Rattle.pf_cache.specs.Manifolds.{kept_touches};
-ghost use Rattle.pf_cache.specs.Row.{AreRowsAt};
+ghost use Rattle.pf_cache.specs.ContactRows.{AreRowsAt};
 ghost use Rattle.pf_islands.specs.Join.{IsAtHome, joined_bodies, joined_contacts};
 ghost use Rattle.pf_islands.specs.Split.{IsIslandOf};
 ghost use Rattle.pf_solver.specs.Alone.{body_after_tick};

@@ -15,11 +15,11 @@ ghost use Rattle.pf_commands.specs.Payload.{body_of};
 ghost use Rattle.pf_commands.specs.Merge.{CommandMap, merge, payloads_at, singleton};
 ghost use Rattle.pf_commands.specs.Name.{Name};
 ghost use Rattle.pf_cache.specs.Contact.{AreContacts, impulses_at};
-ghost use Rattle.pf_islands.specs.Sleep.{is_active, rested_alone};
+ghost use Rattle.pf_islands.specs.Sleep.{is_active, island_after_sleep};
 ghost use Rattle.pf_solver.specs.Bodies.{is_still};
 ghost use Rattle.pf_solver.specs.Alone.{seen_from};
 ghost use Rattle.pf_islands.specs.Island.{states_of, rows_among, members};
-ghost use Rattle.pf_solver.specs.Solve.{solved};
+ghost use Rattle.pf_solver.specs.Solve.{solved_batch};
 ghost use Rattle.pf_step.specs.Commands.{after_commands, apply};
 ghost use Rattle.pf_step.specs.Activity.{batch_of_tick, names_of_tick};
 ghost use Rattle.pf_step.specs.Laws.{IsUndisturbed, IsWithinFriction, bodies_before_sleep, commanded_bodies};
@@ -72,8 +72,8 @@ pub fn groups_are_solved_alone()
         → length w.bodies ≡ length scene.fixtures
         → let batch = batch_of_tick scene w payloads in
         let numbers = members (names_of_tick scene w payloads) name in
-        solved scene (states_of numbers batch.bodies) (rows_among numbers batch.rows)
-        ≡ seen_from numbers (solved scene batch.bodies batch.rows) }
+        solved_batch scene (states_of numbers batch.bodies) (rows_among numbers batch.rows)
+        ≡ seen_from numbers (solved_batch scene batch.bodies batch.rows) }
 {}
 
 /// After a tick the bodies of a group that is simulated are as the group alone has them: solved
@@ -86,13 +86,13 @@ pub fn groups_go_through_ticks_alone()
         (after_commands scene.fixtures w.bodies payloads) name ≡ true
         → let batch = batch_of_tick scene w payloads in
         let numbers = members (names_of_tick scene w payloads) name in
-        let alone = solved scene (states_of numbers batch.bodies) (rows_among numbers batch.rows) in
-        states_of numbers (step scene w payloads).bodies ≡ rested_alone STILL_TICKS alone.bodies }
+        let alone = solved_batch scene (states_of numbers batch.bodies) (rows_among numbers batch.rows) in
+        states_of numbers (step scene w payloads).bodies ≡ island_after_sleep STILL_TICKS alone.bodies }
     ensures impulses { (scene : Scene) (w : World) (payloads : List Payload) (name : ℕ)
         → IsScene scene → length w.bodies ≡ length scene.fixtures
         → let batch = batch_of_tick scene w payloads in
         let numbers = members (names_of_tick scene w payloads) name in
-        let alone = solved scene (states_of numbers batch.bodies) (rows_among numbers batch.rows) in
+        let alone = solved_batch scene (states_of numbers batch.bodies) (rows_among numbers batch.rows) in
         All (λ r. impulses_at (rank (key_of r.entry.touch)) (step scene w payloads).contacts
         ≡ r.entry.impulses) alone.rows }
 {}

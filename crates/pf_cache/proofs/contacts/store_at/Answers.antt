@@ -1,6 +1,6 @@
 use Rattle.std.proofs.Common.{◌∙◌, ap, subst, sym}
 use Rattle.pf_cache.specs.Contact.{AreContacts, Contact}
-use Rattle.pf_cache.specs.Row.{Entry, Row}
+use Rattle.pf_rows.specs.Row.{Entry, Row}
 use Rattle.pf_cache.proofs.Stored.{all_stored, none_stored, stored_are_contacts, stored_more}
 use Rattle.pf_cache.proofs.contacts.store_at.Goals as goal
 

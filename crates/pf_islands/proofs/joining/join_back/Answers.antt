@@ -3,7 +3,7 @@ use Rattle.std.proofs.Math.Seq.{drop-cons}
 use Rattle.std.specs.Prelude.{drop, fold, slice_set}
 use Rattle.std.specs.List.{zip}
 use Rattle.pf_cache.specs.Contact.{Contact}
-use Rattle.pf_cache.specs.Row.{AreRowsAt, with_rows}
+use Rattle.pf_cache.specs.ContactRows.{AreRowsAt, with_rows}
 use Rattle.pf_islands.specs.Join.{joined_bodies, joined_contacts, with_states}
 use Rattle.pf_islands.specs.Split.{Island}
 use Rattle.pf_islands.proofs.HomeAgain.{rows_at_same_keys, with_rows_keys}

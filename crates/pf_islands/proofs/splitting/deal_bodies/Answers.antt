@@ -27,7 +27,7 @@ add_body-requires c =
     let awake : is_awake_at bodies k ≡ true = sym (ap (λ (b : BodyState). b.awake) (c.body.view_is ∙ read)) ∙ c.if-body.true in
     let slot = ap (λ xs. get_or xs name 0) c.requires.slots
     ∙ get_or-map-range_with_len (slot_of names bodies) 0 (length names) name name 0 named (omega arith) in
-    let within = slot_within names bodies (first_part names bodies k) name named (c.requires.woken.active k inside awake) in
+    let within = slot_within names bodies (first_part names bodies k) name named (c.requires.woken_bodies.active k inside awake) in
     omega (arith, slot, within, ap length c.loop-number.invariant.islands)
 
 pub loop-number-preserved : goal.loop-number-preserved
@@ -47,12 +47,12 @@ loop-number-preserved c =
     record {
       islands = elim c.if-body.branch [
         | then-body+in_ok-places w ↦ w.islands-is
-            ∙ dealt_more names bodies k body c.loop-number.islands w.add_body.new.islands inside named c.requires.woken
+            ∙ dealt_more names bodies k body c.loop-number.islands w.add_body.new.islands inside named c.requires.woken_bodies
             (same_awake ∙ w.if-body.true) read now_is
             (w.in_ok-places.ensures.added
             ∙ ap (λ n. set c.loop-number.islands n (with_body k body (get_or c.loop-number.islands n no_island))) slot)
         | else-body w ↦ w.islands-is
-            ∙ dealt_same names bodies k c.loop-number.islands inside c.requires.woken (same_awake ∙ w.if-body.false) now_is
+            ∙ dealt_same names bodies k c.loop-number.islands inside c.requires.woken_bodies (same_awake ∙ w.if-body.false) now_is
       ];
       places = elim c.if-body.branch [
         | then-body+in_ok-places w ↦ rw w.places-is
@@ -60,7 +60,7 @@ loop-number-preserved c =
             (w.in_ok-places.ensures.place
             ∙ ap₂ (λ xs n. length (get_or xs n no_island).numbers) now_is slot
             ∙ ap (λ (i : Island). length i.numbers)
-            (island_at names bodies (first_part names bodies k) name named (c.requires.woken.active k inside (same_awake ∙ w.if-body.true))))
+            (island_at names bodies (first_part names bodies k) name named (c.requires.woken_bodies.active k inside (same_awake ∙ w.if-body.true))))
             c.loop-number.invariant.places)
         | else-body w ↦ rw w.places-is
             (placed_same names bodies k c.loop-number.places (same_awake ∙ w.if-body.false) c.loop-number.invariant.places)

@@ -2,7 +2,7 @@ use Rattle.std.proofs.Common.{◌≡◌, ◌<◌, ◌∙◌, refl, [], ◌∷◌
 use Rattle.std.specs.Prelude.{All}
 use Rattle.std.proofs.lemmas.List.{map_more, with_items_is}
 use Rattle.std.proofs.lemmas.List.FromFn.{get_or-map-range_with_len, length-map-range_with_len}
-use Rattle.pf_cache.specs.Row.{Row}
+use Rattle.pf_rows.specs.Row.{Row}
 use Rattle.pf_islands.specs.Dealing.{ArePlaces, group_of_row, placed_row, slot_of, with_row}
 use Rattle.pf_islands.specs.Rows.{active_rows}
 use Rattle.pf_islands.specs.Split.{AreWoken, IsActiveRow, IsIslandOf, active_names, islands, no_island}
@@ -79,8 +79,8 @@ deal_row-requires-clause-group c =
     (items_are ∙ c.in_ok-active.ensures.value) c.loop-place-test.true c.index-touches-place.is c.index-contacts-place.is
     c.row_of-row.ensures in
     let named = subst (λ (ns : List ℕ). All (λ name. name < length ns) ns) (sym c.names-names.ensures.value) c.names-names.ensures.named in
-    let woken = subst (λ ns. AreWoken ns bodies) (sym c.names-names.ensures.value) c.requires.woken in
-    let own = group_active names bodies c.row_of-row.result named woken read.0 in
+    let woken_bodies = subst (λ ns. AreWoken ns bodies) (sym c.names-names.ensures.value) c.requires.woken_bodies in
+    let own = group_active names bodies c.row_of-row.result named woken_bodies read.0 in
     own.0
 
 pub deal_row-requires-clause-slot : goal.deal_row-requires-clause-slot
@@ -96,8 +96,8 @@ deal_row-requires-clause-slot c =
     (items_are ∙ c.in_ok-active.ensures.value) c.loop-place-test.true c.index-touches-place.is c.index-contacts-place.is
     c.row_of-row.ensures in
     let named = subst (λ (ns : List ℕ). All (λ name. name < length ns) ns) (sym c.names-names.ensures.value) c.names-names.ensures.named in
-    let woken = subst (λ ns. AreWoken ns bodies) (sym c.names-names.ensures.value) c.requires.woken in
-    let own = group_active names bodies c.row_of-row.result named woken read.0 in
+    let woken_bodies = subst (λ ns. AreWoken ns bodies) (sym c.names-names.ensures.value) c.requires.woken_bodies in
+    let own = group_active names bodies c.row_of-row.result named woken_bodies read.0 in
     let name = group_of_row names c.row_of-row.result in
     let slot = ap (λ xs. get_or xs name 0) (c.deref-in-loop-place.ensures.value ∙ c.in_ok-made.ensures.slots)
     ∙ get_or-map-range_with_len (slot_of names bodies) 0 (length names) name name 0 own.0 (omega arith) in
@@ -119,8 +119,8 @@ loop-place-preserved c =
     (items_are ∙ c.in_ok-active.ensures.value) c.loop-place-test.true c.index-touches-place.is c.index-contacts-place.is
     c.row_of-row.ensures in
     let named = subst (λ (ns : List ℕ). All (λ name. name < length ns) ns) (sym c.names-names.ensures.value) c.names-names.ensures.named in
-    let woken = subst (λ ns. AreWoken ns bodies) (sym c.names-names.ensures.value) c.requires.woken in
-    let own = group_active names bodies c.row_of-row.result named woken read.0 in
+    let woken_bodies = subst (λ ns. AreWoken ns bodies) (sym c.names-names.ensures.value) c.requires.woken_bodies in
+    let own = group_active names bodies c.row_of-row.result named woken_bodies read.0 in
     let name = group_of_row names c.row_of-row.result in
     let slot = ap (λ xs. get_or xs name 0) (c.deref-in-loop-place.ensures.value ∙ c.in_ok-made.ensures.slots)
     ∙ get_or-map-range_with_len (slot_of names bodies) 0 (length names) name name 0 own.0 (omega arith) in
@@ -134,7 +134,7 @@ loop-place-preserved c =
     ∙ with_items_is c.resize.new.self c.deal_bodies.new.places (c.deal_bodies.auto.places ∙ c.deref_mut-2.ensures.len)))
     c.in_ok-deal_bodies.ensures.places in
     with_items_is c.loop-place.made c.deal_row.new.islands (c.deal_row.auto.islands ∙ c.deref_mut-in-loop-place.ensures.len)
-    ∙ row_dealt names bodies (map at (take k items)) row places now c.deal_row.new.islands named woken noted read.0
+    ∙ row_dealt names bodies (map at (take k items)) row places now c.deal_row.new.islands named woken_bodies noted read.0
     (c.deref_mut-in-loop-place.ensures.value ∙ c.loop-place.invariant)
     (c.in_ok-deal_row.ensures
     ∙ ap (λ n. set now n (with_row (placed_row places row) (get_or now n no_island))) slot)

@@ -1,7 +1,7 @@
 use Rattle.std.proofs.Common.{length, ap, subst, sym, ◌∙◌}
 use Rattle.std.proofs.lemmas.List.{length-map}
 use Rattle.std.specs.Prelude.{All}
-use Rattle.pf_cache.specs.Row.{IsEntryOf}
+use Rattle.pf_rows.specs.Row.{IsEntryOf}
 use Rattle.pf_solver.proofs.Prepared.{prepared_fit}
 use Rattle.pf_solver.proofs.solve.solve_list.Goals as goal
 

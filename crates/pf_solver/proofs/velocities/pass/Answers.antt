@@ -1,5 +1,5 @@
 use Rattle.std.proofs.Common.{◌∙◌, ap, ap₂, sym, subst₂, refl}
-use Rattle.pf_cache.specs.Row.{IsEntryOf, Row}
+use Rattle.pf_rows.specs.Row.{IsEntryOf, Row}
 use Rattle.pf_solver.specs.Velocities.{Batch, bodies_after, pass, row_after}
 use Rattle.pf_solver.proofs.Passes.{pass_more, passed_fit, row_is, rows_more, whole_pass}
 use Rattle.pf_solver.proofs.velocities.pass.Goals as goal

@@ -1,5 +1,5 @@
 use Rattle.std.proofs.Common.{◌≡◌, All, length}
-use Rattle.pf_cache.specs.Row.{IsEntryOf}
+use Rattle.pf_rows.specs.Row.{IsEntryOf}
 use Rattle.pf_solver.specs.Impulse.{after_round}
 use Rattle.pf_solver.specs.Velocities.{passes}
 use Rattle.pf_solver.proofs.velocities.rounds.Given as goal

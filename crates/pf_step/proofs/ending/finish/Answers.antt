@@ -2,7 +2,7 @@ use Rattle.std.proofs.Common.{rules, ◌≡◌, ◌∙◌, List, ap, ap₂, leng
 use Rattle.std.specs.Prelude.{All}
 use Rattle.pf_shapes.specs.Body.{BodyState}
 use Rattle.pf_cache.specs.Manifolds.{NarrowPhase, kept_touches}
-use Rattle.pf_cache.specs.Row.{AreRowsAt}
+use Rattle.pf_cache.specs.ContactRows.{AreRowsAt}
 use Rattle.pf_islands.specs.Join.{IsAtHome, joined_bodies, joined_contacts}
 use Rattle.pf_islands.specs.Split.{Island}
 use Rattle.pf_solver.specs.Alone.{island_after_tick}

@@ -1,11 +1,11 @@
 use Rattle.std.proofs.Common.{◌≡◌, ◌∙◌, ap, ap₂, length, subst, sym}
 use Rattle.std.proofs.lemmas.List.{with_items_is}
 use Rattle.pf_manifold.specs.Key.{AreTouches}
-use Rattle.pf_cache.specs.Contact.{updated}
+use Rattle.pf_cache.specs.Contact.{next_contacts}
 use Rattle.pf_cache.specs.Manifolds.{NarrowPhase, kept_touches}
 use Rattle.pf_islands.specs.Group.{groups}
 use Rattle.pf_islands.specs.Rows.{active_rows}
-use Rattle.pf_islands.specs.Sleep.{woken}
+use Rattle.pf_islands.specs.Sleep.{woken_bodies}
 use Rattle.pf_islands.specs.Split.{AreWoken, islands}
 use Rattle.pf_islands.proofs.Starting.{groups_long}
 use Rattle.pf_step.specs.Activity.{contacts_of_bodies, names_of_bodies}
@@ -17,19 +17,19 @@ wake-requires c =
     ap length c.deref_mut.ensures.value ∙ c.requires.bodies
     ∙ sym (ap length c.in_ok-groups.ensures.value ∙ groups_long c.args.scene.now c.touches-touches.result.now)
 
-pub split-requires-clause-woken : goal.split-requires-clause-woken
-split-requires-clause-woken c =
+pub split-requires-clause-woken_bodies : goal.split-requires-clause-woken_bodies
+split-requires-clause-woken_bodies c =
     let now : c.deref.result.now ≡ c.wake.new.bodies =
     c.deref.ensures.value ∙ with_items_is c.args.bodies c.wake.new.bodies (c.wake.auto.bodies ∙ c.deref_mut.ensures.len) in
     subst (λ ns. AreWoken ns c.deref.result.now) (sym c.wake.ensures.groups)
     (subst (AreWoken c.in_ok-groups.groups) (sym now)
-    (c.wake.ensures.woken c.args.scene.now c.touches-touches.result.now c.in_ok-groups.ensures.value))
+    (c.wake.ensures.woken_bodies c.args.scene.now c.touches-touches.result.now c.in_ok-groups.ensures.value))
 
 pub returns-clause-contacts : goal.returns-clause-contacts
 returns-clause-contacts c =
     let points : c.touches-touches.result.now ≡ touching c.args.scene.now c.args.bodies.items =
     c.touches-touches.ensures.value ∙ ap (λ (f : NarrowPhase). kept_touches f.manifolds) c.found.view_is ∙ c.requires.points in
-    c.in_ok-contacts.ensures.value ∙ ap (updated c.args.contacts.now) points
+    c.in_ok-contacts.ensures.value ∙ ap (next_contacts c.args.contacts.now) points
 
 pub returns-clause-islands : goal.returns-clause-islands
 returns-clause-islands c =
@@ -40,15 +40,15 @@ returns-clause-islands c =
     c.touches-touches.ensures.value ∙ ap (λ (f : NarrowPhase). kept_touches f.manifolds) c.found.view_is ∙ c.requires.points in
     let names : c.wake.new.self ≡ names_of_bodies s bodies =
     c.wake.ensures.groups ∙ c.in_ok-groups.ensures.value ∙ ap (groups s) points in
-    let awake : c.deref.result.now ≡ woken (names_of_bodies s bodies) bodies =
+    let awake : c.deref.result.now ≡ woken_bodies (names_of_bodies s bodies) bodies =
     c.deref.ensures.value ∙ with_items_is c.args.bodies c.wake.new.bodies (c.wake.auto.bodies ∙ c.deref_mut.ensures.len)
-    ∙ c.wake.ensures.bodies ∙ ap₂ woken (c.in_ok-groups.ensures.value ∙ ap (groups s) points) c.deref_mut.ensures.value in
+    ∙ c.wake.ensures.bodies ∙ ap₂ woken_bodies (c.in_ok-groups.ensures.value ∙ ap (groups s) points) c.deref_mut.ensures.value in
     let contacts : c.as_slice.result.now ≡ contacts_of_bodies s before bodies =
-    c.as_slice.ensures.value ∙ c.in_ok-contacts.ensures.value ∙ ap (updated before) points in
+    c.as_slice.ensures.value ∙ c.in_ok-contacts.ensures.value ∙ ap (next_contacts before) points in
     c.in_ok-islands.ensures.value
     ∙ ap₂ (λ ns bs. islands ns bs (active_rows s bs c.touches-touches.result.now c.as_slice.result.now)) names awake
-    ∙ ap₂ (λ ts cs. islands (names_of_bodies s bodies) (woken (names_of_bodies s bodies) bodies)
-    (active_rows s (woken (names_of_bodies s bodies) bodies) ts cs)) points contacts
+    ∙ ap₂ (λ ts cs. islands (names_of_bodies s bodies) (woken_bodies (names_of_bodies s bodies) bodies)
+    (active_rows s (woken_bodies (names_of_bodies s bodies) bodies) ts cs)) points contacts
 
 pub returns-clause-order : goal.returns-clause-order
 returns-clause-order c =

@@ -1,5 +1,5 @@
 use Rattle.std.proofs.Common.{rules, ◌∙◌, ap}
-use Rattle.pf_cache.specs.Contact.{updated}
+use Rattle.pf_cache.specs.Contact.{next_contacts}
 use Rattle.pf_cache.proofs.Kept.{finished, finished_are_contacts}
 use Rattle.pf_cache.proofs.Walk.{made_step, same_step}
 use Rattle.pf_cache.proofs.contacts.Contacts.update.Goals as goal
@@ -11,7 +11,7 @@ invariant_of-result c =
 pub returns-clause-value : goal.returns-clause-value
 returns-clause-value c =
     finished c.self.inside.list.items c.args.touches.now _ _ c.loop-touch-test.false c.loop-touch.invariant.made
-    ∙ ap (λ old. updated old c.args.touches.now) c.self.view_is
+    ∙ ap (λ old. next_contacts old c.args.touches.now) c.self.view_is
 
 pub loop-touch-preserved : goal.loop-touch-preserved
 loop-touch-preserved c = record {

@@ -1,6 +1,6 @@
 use Rattle.std.proofs.Common.{◌≡◌, ◌∙◌, ap, length, subst, sym}
 use Rattle.pf_islands.specs.Marks.{woken_body}
-use Rattle.pf_islands.specs.Sleep.{is_active, woken}
+use Rattle.pf_islands.specs.Sleep.{is_active, woken_bodies}
 use Rattle.pf_islands.specs.Group.{groups}
 use Rattle.pf_islands.specs.Split.{AreWoken}
 use Rattle.pf_islands.proofs.Starting.{groups_long}
@@ -17,13 +17,13 @@ returns-clause-bodies c =
     c.deref.ensures.value c.deref-3.ensures.value c.mark_active.ensures
     (c.mark_active.auto.marks ∙ c.deref_mut.ensures.len) c.deref-2.ensures.value c.wake_marked.ensures in
     through.0 ∙ woken_is names c.mark_active.new.marks bodies c.self.invariant.named through.1
-    ∙ ap (λ ns. woken ns bodies) c.self.view_is
+    ∙ ap (λ ns. woken_bodies ns bodies) c.self.view_is
 
-pub returns-clause-woken : goal.returns-clause-woken
-returns-clause-woken c = λ s touches named.
+pub returns-clause-woken_bodies : goal.returns-clause-woken_bodies
+returns-clause-woken_bodies c = λ s touches named.
     let bodies = c.args.bodies.now in
     let long : length bodies ≡ length s.fixtures = c.requires ∙ ap length named ∙ groups_long s touches in
-    let awake : c.wake_marked.new.bodies ≡ woken (groups s touches) bodies =
-    returns-clause-bodies c ∙ ap (λ ns. woken ns bodies) named in
+    let awake : c.wake_marked.new.bodies ≡ woken_bodies (groups s touches) bodies =
+    returns-clause-bodies c ∙ ap (λ ns. woken_bodies ns bodies) named in
     subst (λ ns. AreWoken ns c.wake_marked.new.bodies) (sym named)
     (subst (AreWoken (groups s touches)) (sym awake) (groups_woken s touches bodies long))

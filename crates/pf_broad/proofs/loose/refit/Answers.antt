@@ -5,8 +5,8 @@ use Rattle.pf_broad.specs.Pairs.{no_bounds, bounds_at}
 use Rattle.pf_broad.specs.Loose.{contains}
 use Rattle.pf_broad.proofs.Loosening.{append-each}
 use Rattle.pf_broad.proofs.Leaving.{same_but_left}
-use Rattle.pf_broad.proofs.loose.refitted.Goals as goal
-use Rattle.pf_broad.proofs.loose.refitted.Goals.{then-contains+in_ok-push, else-contains+in_ok-push-2}
+use Rattle.pf_broad.proofs.loose.refit.Goals as goal
+use Rattle.pf_broad.proofs.loose.refit.Goals.{then-contains+in_ok-push, else-contains+in_ok-push-2}
 
 pub loop-i-preserved : goal.loop-i-preserved
 loop-i-preserved c =
@@ -31,9 +31,9 @@ loop-i-preserved c =
             same = append-each Q done next i c.loop-i.invariant.count (λ _. same) c.loop-i.invariant.same;
           }
       | else-contains+in_ok-push-2 w ↦
-          let next = w.loosened.result in
+          let next = w.enlarged_bounds.result in
           let read = get_or_read bs i w.index-bounds-i-else-contains.result c.loop-i-test.true w.index-bounds-i-else-contains.is no_bounds in
-          let here : contains next (bounds_at bs i) ≡ true = ap (contains next) (sym read) ∙ w.loosened.ensures in
+          let here : contains next (bounds_at bs i) ≡ true = ap (contains next) (sym read) ∙ w.enlarged_bounds.ensures in
           rw (w.next-is, w.in_ok-push-2.ensures.items)
           record {
             count = omega (arith, length-append done (next ∷ []));

@@ -2,7 +2,7 @@
 
 ghost use Rattle.std.specs.Prelude.{◌≡◌, ◌*◌, ◌≤◌, ◌↔◌, IsTrue};
 ghost use Rattle.std.specs.Int.RustNames.{unsigned_abs};
-ghost use Rattle.pf_cache.specs.Small.{HasShortDirections, HasSmallNumbers, IsHeavy, IsShort, IsSmallArm};
+ghost use Rattle.pf_rows.specs.Small.{HasShortDirections, HasSmallNumbers, IsHeavy, IsShort, IsSmallArm};
 
 use pf_num::Fx;
 use pf_rot::V2;
@@ -31,7 +31,7 @@ pub struct InverseMass {
 }
 
 impl Model for InverseMass {
-    ghost use Rattle.pf_cache.specs.Row.{InverseMass};
+    ghost use Rattle.pf_rows.specs.Row.{InverseMass};
 
     ghost Value = { InverseMass };
 
@@ -77,7 +77,7 @@ pub struct Constraint {
 }
 
 impl Model for Constraint {
-    ghost use Rattle.pf_cache.specs.Row.{Constraint};
+    ghost use Rattle.pf_rows.specs.Row.{Constraint};
 
     ghost Value = { Constraint };
 
@@ -131,8 +131,8 @@ pub struct Prepared {
 }
 
 impl Model for Prepared {
-    ghost use Rattle.pf_cache.specs.Row.{Prepared};
-    ghost use Rattle.pf_cache.specs.Small.{IsKnown};
+    ghost use Rattle.pf_rows.specs.Row.{Prepared};
+    ghost use Rattle.pf_rows.specs.Small.{IsKnown};
 
     ghost Value = { Prepared };
 
@@ -217,7 +217,7 @@ fn has_small_numbers(c: &Constraint) -> bool
 
 impl Prepared {
     ghost use Rattle.std.specs.Prelude.{◌≡◌, ◌↔◌, IsTrue};
-    ghost use Rattle.pf_cache.specs.Small.{HasSmallFirstArm, HasSmallSecondArm, IsSmall};
+    ghost use Rattle.pf_rows.specs.Small.{HasSmallFirstArm, HasSmallSecondArm, IsSmall};
 
     /// Of bodies of these masses, and this constraint.
     pub fn new(

@@ -1,7 +1,7 @@
 use Rattle.std.proofs.Common.{◌≡◌, ℕ, ◌<◌, length, true}
 use Rattle.pf_broad.specs.Pairs.{bounds_at}
 use Rattle.pf_broad.specs.Loose.{contains}
-use Rattle.pf_broad.proofs.loose.all_loosened.Given as goal
+use Rattle.pf_broad.proofs.loose.all_enlarged_bounds.Given as goal
 
 abbrev pub invariant-loop-i : goal.invariant-loop-i
 invariant-loop-i l = record {

@@ -1,12 +1,12 @@
 -- A contact of a tick as the solver takes it, as Box2D-Lite's Arbiter with its Contact: its point,
 -- its accumulated impulses, where its bodies stand, and what its pre-step found.
-use Rattle.std.specs.Prelude.{◌≡◌, ◌≢◌, ℕ, ◌<◌, ◌==◌, ℤ, pos, List, [], ◌∷◌, All, length, map, slice_index_or, if◌then◌else◌}
+use Rattle.std.specs.Prelude.{◌≢◌, ℕ, ◌<◌, ◌==◌, ℤ, pos, List, [], ◌∷◌, map, if◌then◌else◌}
 use Rattle.pf_rot.specs.Vector.{V2, zero_vector}
 use Rattle.pf_manifold.specs.Touches.{Touch}
-use Rattle.pf_cache.specs.declared.row.Side.{Side}
-use Rattle.pf_cache.specs.declared.row.Side.TheVariants.{Static, Dynamic}
+use Rattle.pf_rows.specs.declared.row.Side.{Side}
+use Rattle.pf_rows.specs.declared.row.Side.TheVariants.{Static, Dynamic}
 use Rattle.pf_manifold.specs.Key.{AreTouches, key_of, rank}
-use Rattle.pf_cache.specs.Contact.{Contact, Impulses, no_contact}
+use Rattle.pf_rows.specs.Impulses.{Impulses}
 
 -- a contact point with its accumulated impulses, its place among all contacts, and where its bodies
 -- stand in a list of bodies
@@ -91,23 +91,8 @@ pub record IsEntryOf (bodies : ℕ) (e : Entry) : Type 0 where
 abbrev pub AreRows : List Row → Type 0
 AreRows rows = AreTouches (map (λ r. r.entry.touch) rows)
 
--- the contact at the place of a row has its key
-pub record IsRowAt (contacts : List Contact) (r : Row) : Type 0 where
-  pub within : r.entry.place < length contacts
-  pub key : (slice_index_or contacts r.entry.place no_contact).key ≡ key_of r.entry.touch
-
--- rows in the order of their keys, each with the key of the contact at its place
-pub record AreRowsAt (contacts : List Contact) (rows : List Row) : Type 0 where
-  pub order : AreRows rows
-  pub places : All (IsRowAt contacts) rows
-
 -- the accumulated impulses of the row of this rank, or these where there is no such row
 abbrev pub impulses_or : Impulses → ℕ → List Row → Impulses
 impulses_or p n [] = p
 impulses_or p n (r ∷ rows) =
     if rank (key_of r.entry.touch) == n then r.entry.impulses else impulses_or p n rows
-
--- the contacts, where each that has a row has the accumulated impulses of its row
-unfoldable pub with_rows : List Contact → List Row → List Contact
-with_rows contacts rows =
-    map (λ (c : Contact). record c { impulses = impulses_or c.impulses (rank c.key) rows }) contacts

@@ -3,8 +3,8 @@
 use Rattle.std.specs.Prelude.{ℕ, ◌*◌, ◌≤◌, ◌↔◌, Bool, IsTrue}
 use Rattle.std.specs.Int.RustNames.{unsigned_abs}
 use Rattle.pf_rot.specs.Vector.{V2}
-use Rattle.pf_cache.specs.declared.constraint.TheConstants.{ARM_LIMIT, DIRECTION_LIMIT, INVERSE_INERTIA_LIMIT, INVERSE_MASS_LIMIT, PART_LIMIT, TURN_LIMIT}
-use Rattle.pf_cache.specs.Row.{Constraint, InverseMass, Prepared}
+use Rattle.pf_rows.specs.declared.constraint.TheConstants.{ARM_LIMIT, DIRECTION_LIMIT, INVERSE_INERTIA_LIMIT, INVERSE_MASS_LIMIT, PART_LIMIT, TURN_LIMIT}
+use Rattle.pf_rows.specs.Row.{Constraint, InverseMass, Prepared}
 
 -- both parts of a vector are at most this in magnitude
 pub record IsShort (limit : ℕ) (v : V2) : Type 0 where

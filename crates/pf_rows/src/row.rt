@@ -1,10 +1,10 @@
 //! Rows: contacts as the solver takes them, as Box2D-Lite's `Arbiter` with its `Contact`.
 
 ghost use Rattle.std.specs.Prelude.{◌≡◌};
-ghost use Rattle.pf_cache.specs.Row.{new_row};
+ghost use Rattle.pf_rows.specs.Row.{new_row};
 
 use crate::constraint::{Constraint, InverseMass, Prepared};
-use crate::contact::Impulses;
+use crate::impulses::Impulses;
 use pf_manifold::Touch;
 use std::marker::Model;
 
@@ -34,7 +34,7 @@ pub struct Entry {
 }
 
 impl Model for Entry {
-    ghost use Rattle.pf_cache.specs.Row.{Entry};
+    ghost use Rattle.pf_rows.specs.Row.{Entry};
 
     ghost Value = { Entry };
 
@@ -65,7 +65,7 @@ pub struct Row {
 }
 
 impl Model for Row {
-    ghost use Rattle.pf_cache.specs.Row.{Row};
+    ghost use Rattle.pf_rows.specs.Row.{Row};
 
     ghost Value = { Row };
 

@@ -7,7 +7,7 @@ use Rattle.pf_broad.specs.Loose.{behind, seconds}
 use Rattle.pf_broad.proofs.Finding.{pairs-more}
 use Rattle.pf_broad.proofs.Leaving.{first_seconds, first_behind, kept_partners, AreBodies-within}
 use Rattle.pf_broad.proofs.Within.{pairs-IsPairOf}
-use Rattle.pf_broad.proofs.kept.BroadPhase.updated.Goals as goal
+use Rattle.pf_broad.proofs.kept.BroadPhase.update_candidates.Goals as goal
 
 pub add_candidates-requires-clause-pairs : goal.add_candidates-requires-clause-pairs
 add_candidates-requires-clause-pairs c =

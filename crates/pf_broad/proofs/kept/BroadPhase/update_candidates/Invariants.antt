@@ -1,7 +1,7 @@
 use Rattle.std.proofs.Common.{◌≡◌, ◌≤◌, ◌-◌, length, drop}
 use Rattle.std.specs.List.{flat_map, range_with_len}
 use Rattle.pf_broad.specs.Pairs.{pairs_of}
-use Rattle.pf_broad.proofs.kept.BroadPhase.updated.Given as goal
+use Rattle.pf_broad.proofs.kept.BroadPhase.update_candidates.Given as goal
 
 abbrev pub invariant-loop-i : goal.invariant-loop-i
 invariant-loop-i l = record {

@@ -1,0 +1,52 @@
+//! The accumulated impulses of a contact.
+
+use pf_num::Fx;
+use std::marker::Model;
+
+/// The accumulated impulses of a contact, Box2D-Lite's `Pn` and `Pt`: what it applies in a tick,
+/// with which the next tick starts warm. In units of 2^-24.
+#[derive(Clone, Copy, Debug)]
+pub struct Impulses {
+    /// Along the normal.
+    pub normal: Fx,
+    /// Along the tangent.
+    pub tangent: Fx,
+}
+
+impl Model for Impulses {
+    ghost use Rattle.pf_rows.specs.Impulses.{Impulses};
+
+    ghost Value = { Impulses };
+
+    ghost view = { λ p. record { normal = p.normal; tangent = p.tangent } };
+
+    ghost inverse = { λ p. record { normal = p.normal; tangent = p.tangent } };
+}
+
+impl PartialEq for Impulses {
+    ghost use Rattle.std.specs.Cmp.{partial_equiv_from_equiv};
+    ghost use Rattle.pf_rows.specs.Impulses.{same_impulses};
+    ghost use Rattle.pf_rows.specs.ImpulsesLaws.{impulses_equivalent};
+
+    ghost eq = { same_impulses };
+
+    ghost laws = { partial_equiv_from_equiv impulses_equivalent };
+
+    fn eq(&self, other: &Impulses) -> bool {
+        self.normal == other.normal && self.tangent == other.tangent
+    }
+}
+
+impl Eq for Impulses {
+    ghost use Rattle.pf_rows.specs.ImpulsesLaws.{impulses_equivalent};
+
+    ghost laws = { impulses_equivalent };
+}
+
+impl Impulses {
+    /// The impulses of a contact that is new.
+    pub const NONE: Impulses = Impulses {
+        normal: Fx::ZERO,
+        tangent: Fx::ZERO,
+    };
+}

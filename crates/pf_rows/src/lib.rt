@@ -1,0 +1,12 @@
+//! Rows: contacts as the solver takes them, with the constraint that a pre-step makes of each, and
+//! whether its numbers are small enough for the fast path.
+#![tactic(auto)]
+
+mod constraint;
+mod impulses;
+pub mod laws;
+mod row;
+
+pub use constraint::{Constraint, InverseMass, Prepared};
+pub use impulses::Impulses;
+pub use row::{Entry, Row, Side};
