@@ -3,8 +3,8 @@
 use crate::scenes::scene_of;
 use pf_broad::pairs;
 use pf_cache::{Contact, Contacts, Meter};
-use pf_rows::Impulses;
 use pf_manifold::collide_list;
+use pf_rows::Impulses;
 use std::alloc::Global;
 use std::test::Fail;
 

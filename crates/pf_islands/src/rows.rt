@@ -5,8 +5,8 @@ ghost use Rattle.pf_manifold.specs.Touches.{IsTouchOf};
 ghost use Rattle.pf_islands.specs.Rows.{active_points, is_active_contact, is_simulated_at, row_of, side_of};
 
 use pf_cache::Contact;
-use pf_rows::{Entry, Row, Side};
 use pf_manifold::Touch;
+use pf_rows::{Entry, Row, Side};
 use pf_shapes::{BodyState, Scene};
 use std::alloc::{AllocError, Global};
 

@@ -15,8 +15,8 @@ use crate::island::Island;
 use crate::rooms::{Room, rooms};
 use crate::rows::{active_places, row_of};
 use pf_cache::Contact;
-use pf_rows::{Row, Side};
 use pf_manifold::Touch;
+use pf_rows::{Row, Side};
 use pf_shapes::{BodyState, Scene};
 use std::alloc::{AllocError, Global};
 

@@ -20,12 +20,13 @@ use Rattle.pf_islands.specs.Split.{Island}
 use Rattle.pf_rollback.specs.Core.{PeerCore, IsPeerCore, HasSettled, AreAllowed, count_after, news_tick, peer_of}
 use Rattle.pf_rollback.specs.Horizon.{sim_at}
 use Rattle.pf_rollback.specs.Kept.{Ticks, no_ticks, settled_tick, ticks_after_more, ticks_after_settling}
-use Rattle.pf_rollback.specs.Peer.{Peer, with_command, with_commands, world_of}
+use Rattle.pf_rollback.specs.Peer.{Peer, with_command, with_commands, world_at, world_of}
 use Rattle.pf_rollback.specs.Settling.{AreCalls, islands_at}
 use Rattle.pf_rollback.specs.Snapshots.{Snapshots, IsKept, kept_world, ticks_of}
 use Rattle.pf_rollback.proofs.Allowed.{allowed_empty, allowed_from, allowed_put, allowed_merge}
 use Rattle.pf_rollback.proofs.KeptWorlds.{horizon_low}
 use Rattle.pf_rollback.proofs.Late.{from_none, from_put, from_merge}
+use Rattle.pf_rollback.proofs.Worlds.{world_at-held}
 use Rattle.pf_rollback.proofs.Simulation.{sim_at_bodies, sim_at_horizon, sim_at_more, sim_at_same, sim_at_sealed, sim_at_start}
 
 -- ---- worlds after news
@@ -160,6 +161,12 @@ pub unsealed_world : (s : Scene) (player reached : ℕ) (m : CommandMap) (kept :
     → kept.horizon ≡ 0 → kept_world s m kept tick ≡ sim s m tick
 unsealed_world s player reached m kept tick is first =
     ap (λ (h : ℕ). sim_at s kept.base h m tick) first ∙ ap (λ (b : World). sim_at s b 0 m tick) (is.start first) ∙ sim_at_start s m tick
+
+-- a peer shows the settled tick: the kept world there
+pub settled_shown : (s : Scene) (player reached : ℕ) (m : CommandMap) (kept : Snapshots) → IsPeerCore s (peer_of player m reached kept) kept
+    → world_at s (peer_of player m reached kept) (settled_tick (ticks_of kept)) ≡ Ok (kept_world s m kept (settled_tick (ticks_of kept)))
+settled_shown s player reached m kept is =
+    world_at-held s (peer_of player m reached kept) _ (record { later = horizon_low kept; reached = is.settled })
 
 -- a core after a tick is sealed
 pub core_sealed : (s : Scene) (player reached : ℕ) (m commands : CommandMap) (kept after : Snapshots) (tick : ℕ) (world : World)

@@ -169,6 +169,17 @@ impl PeerCore {
         self.snapshots.settled()
     }
 
+    /// The world of the settled tick, which the peer lends without a copy. Simulates nothing and
+    /// takes no memory.
+    pub fn settled_world(&self) -> &World
+        ensures value { let p = self.now.peer in
+            world_at self.now.scene p (settled_tick self.now.kept) ≡ Ok result.now }
+        ensures from_zero { let p = self.now.peer in p.horizon ≡ 0
+            → result.now ≡ sim self.now.scene p.commands (settled_tick self.now.kept) }
+    {
+        self.snapshots.latest()
+    }
+
     /// How much work was done to settle and to seal ticks.
     pub fn meter(&self) -> Meter
         ensures { result ≡ self.now.meter }

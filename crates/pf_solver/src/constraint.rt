@@ -3,10 +3,10 @@
 ghost use Rattle.std.specs.Prelude.{◌≡◌};
 ghost use Rattle.pf_solver.specs.Constraint.{bias_of, constraint_of, effective_mass, friction_of, squared_lever_arm, mobility, tangent_of};
 
-use pf_rows::{Constraint, InverseMass};
 use pf_manifold::ContactPoint;
 use pf_num::Fx;
 use pf_rot::V2;
+use pf_rows::{Constraint, InverseMass};
 use std::marker::Model;
 
 /// Baumgarte's factor a second, in units of 2^-24: 0.2 times 64 ticks, which is 12.8. Box2D-Lite's

@@ -11,9 +11,9 @@ ghost use Rattle.pf_solver.specs.Velocities.{static_motion};
 ghost use Rattle.pf_solver.specs.FastPath.{AreNudged, ArePushed, AreSlow, HasSmallArms, IsArmFor, IsMassOf, IsNudged, IsPushed, IsSlow, StandsFor};
 
 use crate::impulse::{ContactState, Motion};
-use pf_rows::{Constraint, Impulses, InverseMass, Prepared};
 use pf_num::Fx;
 use pf_rot::V2;
+use pf_rows::{Constraint, Impulses, InverseMass, Prepared};
 
 /// The greatest x or y of a velocity, and the greatest spin, that the fast path starts from: 32
 /// lengths a second and 32 radians a second.

@@ -3,9 +3,9 @@
 ghost use Rattle.std.specs.Prelude.{◌≡◌};
 ghost use Rattle.pf_solver.specs.Impulse.{first_after, second_after, after_impulse, relative_velocity, after_warm_start, normal_impulse, friction_limit, tangent_impulse, after_normal_step, after_friction_step, after_round};
 
-use pf_rows::{Constraint, Impulses, InverseMass};
 use pf_num::Fx;
 use pf_rot::{V2, cross_sv};
+use pf_rows::{Constraint, Impulses, InverseMass};
 use std::marker::Model;
 
 /// What impulses change of a body, and how easily.

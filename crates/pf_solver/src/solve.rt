@@ -11,10 +11,10 @@ ghost use Rattle.pf_islands.specs.Rows.{IsRowOf};
 use crate::bodies::{STILL_TICKS, after_gravity, after_motion, after_timer};
 use crate::constraint::{LastFriction, PreStepBody, constraint_of};
 use crate::velocities::{rounds, warm_start};
-use pf_rows::{InverseMass, Prepared, Row, Side};
 use pf_islands::fall_asleep;
 use pf_num::Fx;
 use pf_rot::V2;
+use pf_rows::{InverseMass, Prepared, Row, Side};
 use pf_shapes::{BodyState, Fixture, Scene};
 
 /// How easily impulses move a body of this fixture.

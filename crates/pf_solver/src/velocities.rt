@@ -8,9 +8,9 @@ ghost use Rattle.pf_solver.specs.Velocities.{Batch, bodies_after, bodies_with, w
 
 use crate::fast_path::{fast_round, fast_warm_start};
 use crate::impulse::{ContactState, Motion, after_round, after_warm_start};
-use pf_rows::{Constraint, InverseMass, Prepared, Row, Side};
 use pf_num::Fx;
 use pf_rot::V2;
+use pf_rows::{Constraint, InverseMass, Prepared, Row, Side};
 use pf_shapes::BodyState;
 
 /// How many rounds there are in a tick, Box2D-Lite's `iterations`.
