@@ -32,6 +32,8 @@ pub enum Call {
     /// Ends the crew of threads.
     Close,
     World { tick: u32 },
+    /// The world that the peer lends.
+    Latest,
     /// Compares the worlds of another peer at each tick from a first to a last one.
     Same { other: usize, first: u32, last: u32 },
 }
@@ -141,6 +143,7 @@ fn call_of(alloc: Global, words: &[&str]) -> Result<Call> {
         ["world", _, tick] => Call::World {
             tick: number(tick)?,
         },
+        ["latest", _] => Call::Latest,
         ["same", _, other, first, last] => Call::Same {
             other: number(other)? as usize,
             first: number(first)?,

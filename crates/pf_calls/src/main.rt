@@ -23,6 +23,7 @@
 //! | `close N` | ends it | `close` |
 //! | `same N OTHER FIRST LAST` | compares worlds of peers | `same COUNT`: the ticks with one world |
 //! | `world N TICK` | the world at a tick | `world TICKS`, its bodies and its contacts |
+//! | `latest N` | the latest settled world | `world 0`, its bodies and its contacts |
 //!
 //! SEEN is what the crew was last given: the number of islands, of their bodies and of their
 //! contacts, and the least body. TICKS is how many ticks were simulated for the world. Lines of

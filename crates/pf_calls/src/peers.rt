@@ -189,6 +189,11 @@ pub fn world(alloc: Global, peer: &PeerCore, tick: u32) -> Result<String> {
     }
 }
 
+/// Shows the latest settled world, for which nothing is simulated.
+pub fn latest(alloc: Global, peer: &PeerCore) -> Result<String> {
+    world_text(alloc, peer.scene(), peer.settled_world(), 0)
+}
+
 /// Whether two peers show the same world at a tick.
 fn is_same_at(alloc: Global, peer: &PeerCore, other: &PeerCore, tick: u32) -> Result<bool> {
     let mut work = Work::new(alloc);

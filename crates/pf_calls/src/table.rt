@@ -82,5 +82,6 @@ fn answer<'r, R: Handle>(
         Call::Dismiss { worker } => threads::dismiss(alloc, crew, *worker),
         Call::Close => threads::close(alloc, crew),
         Call::World { tick } => peers::world(alloc, peer, *tick),
+        Call::Latest => peers::latest(alloc, peer),
     }
 }

@@ -7,7 +7,6 @@ ghost use Rattle.pf_peers.specs.Session.{other_of, peer_of};
 use crate::scenes::scene_of;
 use pf_commands::Payload;
 use pf_peers::{Event, Reply, Session, run};
-use pf_rollback::Refusal;
 use pf_step::Work;
 use std::alloc::Global;
 use std::test::Fail;
@@ -15,7 +14,8 @@ use std::test::Fail;
 /// A circle of player 0.
 const SCENE: &[u8] = b"gravity 0 0\ncircle 0 16777216 0 16777216 0 0\nend\n";
 
-/// Peer 0 has issued a command and settled tick 4; peer 1 has merged the command at tick 0.
+/// Peer 0 has issued a command and settled tick 4, which it seals at last; peer 1 has merged the
+/// command at tick 0.
 fn are_the_replies(replies: &[Reply]) -> bool {
     matches!(
         replies,
@@ -30,7 +30,7 @@ fn are_the_replies(replies: &[Reply]) -> bool {
                 reached: 4
             },
             Reply::Merged { peer: 1, count: 1 },
-            Reply::Refused(Refusal::NotReached(0)),
+            Reply::Sealed { peer: 0, tick: 4 },
         ]
     )
 }
@@ -46,7 +46,7 @@ fn events_have_replies(rt: HostRuntime) -> Result<(), Fail> {
         },
         Event::Settle { peer: 0 },
         Event::Merge { peer: 1, other: 0 },
-        Event::Show { peer: 1, tick: 1 },
+        Event::Seal { peer: 0, tick: 4 },
     ];
     let replies = run(rt.alloc(), &scene, 2, &events)?;
     assert!(rt; are_the_replies(replies.as_slice()));
