@@ -1,0 +1,62 @@
+//! One error for all calls of the core.
+
+ghost use Rattle.std.specs.Prelude.{◌≡◌};
+ghost use Rattle.buyosen.specs.declared.error.Error.TheVariants as errors;
+
+use pf_rollback::{Fault, Refusal};
+use pf_shapes::ReadError;
+use pf_step::{CrewError, StepError};
+use std::alloc::AllocError;
+use thiserror::Error;
+
+/// Why a call of the core failed. The errors of all calls turn into it by `?`.
+#[derive(Clone, Copy, Debug, PartialEq, Eq, Error)]
+pub enum Error {
+    /// The text is no scene.
+    #[error("the scene, {0}")]
+    Scene(ReadError),
+    /// A peer rejected the call, which changed nothing.
+    #[error("rejected: {0}")]
+    Refused(Refusal),
+    /// A crew of threads failed. The ticks that were settled before stay settled.
+    #[error("the crew failed: {0}")]
+    Crew(CrewError),
+    /// An allocation failed.
+    #[error("out of memory")]
+    OutOfMemory,
+}
+
+impl From<AllocError> for Error {
+    ghost from_gives = { λ _ error. error ≡ errors.OutOfMemory };
+
+    fn from(_error: AllocError) -> Error {
+        Error::OutOfMemory
+    }
+}
+
+impl From<ReadError> for Error {
+    fn from(error: ReadError) -> Error {
+        match error {
+            ReadError::Memory => Error::OutOfMemory,
+            ReadError::Line(..) => Error::Scene(error),
+        }
+    }
+}
+
+impl From<Fault> for Error {
+    fn from(fault: Fault) -> Error {
+        match fault {
+            Fault::Refused(refusal) => Error::Refused(refusal),
+            Fault::OutOfMemory => Error::OutOfMemory,
+        }
+    }
+}
+
+impl From<StepError> for Error {
+    fn from(error: StepError) -> Error {
+        match error {
+            StepError::Crew(CrewError::OutOfMemory) | StepError::OutOfMemory => Error::OutOfMemory,
+            StepError::Crew(error) => Error::Crew(error),
+        }
+    }
+}
