@@ -1,4 +1,5 @@
 -- What the contracts of the calls that this crate gathers cite.
+pub mod Error
 pub use Rattle.pf_shapes.specs.Scene
 pub use Rattle.pf_shapes.specs.Fixture
 pub use Rattle.pf_shapes.specs.Body

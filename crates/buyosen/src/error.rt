@@ -1,7 +1,8 @@
 //! One error for all calls of the core.
 
 ghost use Rattle.std.specs.Prelude.{◌≡◌};
-ghost use Rattle.buyosen.specs.declared.error.Error.TheVariants as errors;
+ghost use Rattle.buyosen.specs.declared.error.Error.TheVariants.{OutOfMemory};
+ghost use Rattle.buyosen.specs.Error.{peer_error, scene_error, settle_error};
 
 use pf_rollback::{Fault, Refusal};
 use pf_shapes::ReadError;
@@ -27,7 +28,7 @@ pub enum Error {
 }
 
 impl From<AllocError> for Error {
-    ghost from_gives = { λ _ error. error ≡ errors.OutOfMemory };
+    ghost from_gives = { λ _ error. error ≡ OutOfMemory };
 
     fn from(_error: AllocError) -> Error {
         Error::OutOfMemory
@@ -35,6 +36,8 @@ impl From<AllocError> for Error {
 }
 
 impl From<ReadError> for Error {
+    ghost from_gives = { λ error result. result ≡ scene_error error };
+
     fn from(error: ReadError) -> Error {
         match error {
             ReadError::Memory => Error::OutOfMemory,
@@ -44,6 +47,8 @@ impl From<ReadError> for Error {
 }
 
 impl From<Fault> for Error {
+    ghost from_gives = { λ fault result. result ≡ peer_error fault };
+
     fn from(fault: Fault) -> Error {
         match fault {
             Fault::Refused(refusal) => Error::Refused(refusal),
@@ -53,6 +58,8 @@ impl From<Fault> for Error {
 }
 
 impl From<StepError> for Error {
+    ghost from_gives = { λ error result. result ≡ settle_error error };
+
     fn from(error: StepError) -> Error {
         match error {
             StepError::Crew(CrewError::OutOfMemory) | StepError::OutOfMemory => Error::OutOfMemory,

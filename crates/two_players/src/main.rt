@@ -2,7 +2,7 @@
 //! player 1, whose peer then simulates again and draws the same bodies.
 #![tactic(auto)]
 
-use buyosen::{Error, Fx, Payload, PeerCore, Scene, World};
+use buyosen::{Error, Fx, Payload, PeerCore, Scene, World, world_at};
 use std::alloc::{AllocError, Global};
 use std::io;
 
@@ -57,6 +57,9 @@ fn play(alloc: Global) -> Result<String, Error> {
     theirs.take(&frame)?;
     theirs.settle_alone(alloc)?;
     text.push_str(&draw(alloc, "player 1 later", theirs.settled_world())?)?;
+
+    let replay = world_at(alloc, &theirs, 10)?;
+    text.push_str(&draw(alloc, "tick 10       ", &replay)?)?;
     Ok(text)
 }
 
