@@ -8,7 +8,8 @@ const data = JSON.parse(document.getElementById("data").textContent);
 const element = (id) => document.getElementById(id);
 const moving = data.bodies.filter((body) => !body.static);
 const placeOf = new Map(moving.map((body, k) => [body.number, k]));
-const state = { tick: 0, reading: 0, islands: false, timer: null, view: null, pointer: null };
+const state = { tick: 0, reading: 0, islands: false, timer: null, view: null, pointer: null,
+  arrow: null };
 
 // ---- numbers
 
@@ -192,6 +193,18 @@ function drawBody(pen, canvas, body, pose, colour, differs) {
   }
 }
 
+/** The longest arrow, in lengths, and the normal impulse that it stands for. */
+function arrowScale() {
+  const sizes = moving.map((body) => Math.max(...halves(body))).sort((a, b) => a - b);
+  let most = 1e-9;
+  for (const track of reading().tracks) {
+    for (let at = 3; at < track.contacts.length; at += 5) {
+      most = Math.max(most, Number(track.contacts[at]) / UNIT);
+    }
+  }
+  return { length: 3 * (sizes[sizes.length >> 1] || 1), most };
+}
+
 function drawContacts(pen, canvas, track, tick, contacts) {
   pen.strokeStyle = pen.fillStyle = "#111";
   pen.lineWidth = 1.5;
@@ -199,7 +212,7 @@ function drawContacts(pen, canvas, track, tick, contacts) {
     const [a, b] = [data.bodies[contact.i], data.bodies[contact.j]];
     const [poseA, poseB] = [a, b].map((body) => poseOf(track, Math.max(0, tick - 1), body));
     const { at, normal } = pointOf(a, poseA, b, poseB, contact.feature);
-    const length = Math.min(2, 0.15 * Math.sqrt(Math.max(0, contact.normal)));
+    const length = state.arrow.length * Math.sqrt(Math.max(0, contact.normal) / state.arrow.most);
     const [x, y] = toScreen(canvas, at);
     const [u, v] = toScreen(canvas, [at[0] + normal[0] * length, at[1] + normal[1] * length]);
     pen.beginPath(); pen.arc(x, y, 2.5, 0, 2 * Math.PI); pen.fill();
@@ -338,7 +351,9 @@ function setReading(number) {
   element("slider").max = lastTick();
   element("last").textContent = lastTick();
   element("differences").textContent = differenceText();
+  element("differences").className = reading().first ? "differ" : "note";
   state.view = wholeView();
+  state.arrow = arrowScale();
   goTo(state.tick);
 }
 
