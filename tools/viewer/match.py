@@ -106,6 +106,7 @@ class Match:
 
     def __init__(self, program, text):
         self.program = program
+        self.tracks = {}  # by the text that they were made from
         lines = lines_of(text)
         replies = run(program, text)
         end = next(k for k, words in enumerate(lines) if words == ["end"])
@@ -144,12 +145,15 @@ class Match:
     def at_the_end(self, number):
         """The worlds that the commands held at the end make, tick by tick."""
         peer = self.peers[number]
-        takes = [f"take 0 {command.frame}" for command in peer.held.values()]
+        held = sorted(peer.held.values(), key=lambda command: command.name)
+        takes = [f"take 0 {command.frame}" for command in held]
         return self.worlds(takes, peer.reached)
 
     def at_the_time(self, number):
         """The worlds that the peer showed at each tick when it first reached it."""
         peer = self.peers[number]
+        if not self.has_late(peer):
+            return self.at_the_end(number)
         lines, reached = [], 0
         for what, value in peer.moments:
             if what == "hold":
@@ -158,6 +162,17 @@ class Match:
                 lines += self.steps(reached, value)
                 reached = max(reached, value)
         return self.worlds(lines, 0)
+
+    @staticmethod
+    def has_late(peer):
+        """Whether the peer came to hold a command after it had gone on from its tick."""
+        reached = 0
+        for what, value in peer.moments:
+            if what == "reach":
+                reached = value
+            elif value.tick < reached:
+                return True
+        return False
 
     @staticmethod
     def steps(reached, last):
@@ -170,7 +185,10 @@ class Match:
     def worlds(self, lines, last):
         """A track: the worlds that are shown by these lines and by going on to the last tick."""
         text = [self.scene, "peers 1", "show 0 0", *lines, *self.steps(0, last)]
-        return Track(run(self.program, "\n".join(text) + "\n"))
+        text = "\n".join(text) + "\n"
+        if text not in self.tracks:
+            self.tracks[text] = Track(run(self.program, text))
+        return self.tracks[text]
 
 
 class Track:
