@@ -10,6 +10,7 @@ use Rattle.pf_scripts.specs.Peer.{IsLater, WereHanded}
 use Rattle.pf_scripts.specs.Script.{frames_of}
 use Rattle.pf_scripts.specs.declared.peer.Peer.{Peer}
 use Rattle.pf_scripts.specs.declared.turn.Turn.{Turn}
+use Rattle.pf_sessions.specs.Session.{HasCarried}
 use Rattle.pf_sessions.specs.Links.{AreLinked, IsNewLink, inputs_of, outputs_of}
 use Rattle.pf_sessions.specs.Playing.{AllPlayed}
 use Rattle.pf_sessions.specs.Table.{IsTable, transpose}
@@ -99,7 +100,7 @@ abbrev pub HasGotNothing : Peer → Type 0
 HasGotNothing p = All (λ i. got i ≡ []) p.inputs.items
 
 abbrev pub HasSentNothing : Peer → Type 0
-HasSentNothing p = All (λ o. handed o ≡ []) p.outputs.items
+HasSentNothing p = All (HasCarried []) p.outputs.items
 
 pub nothing_got : (rows : List (List LinkOut)) (peers : List Peer) → AllZip (AllZip IsNewLink) rows (inputs_of peers) → All HasGotNothing peers
 nothing_got [] [] each = λ k d low. absurd (omega (arith, low))
@@ -113,7 +114,7 @@ nothing_sent [] [] each = λ k d low. absurd (omega (arith, low))
 nothing_sent [] (p ∷ peers) each = absurd each
 nothing_sent (row ∷ rows) [] each = absurd each
 nothing_sent (row ∷ rows) (p ∷ peers) each =
-    All-cons HasSentNothing p peers (zip_all (λ (i : LinkIn) (o : LinkOut). IsNewLink o i) (λ o. handed o ≡ []) (λ i o is. is.handed) row p.outputs.items each.0)
+    All-cons HasSentNothing p peers (zip_all (λ (i : LinkIn) (o : LinkOut). IsNewLink o i) (HasCarried []) (λ i o is. record { handed = is.handed; capacity = is.capacity }) row p.outputs.items each.0)
     (nothing_sent rows peers each.1)
 
 -- ---- tables by receiver

@@ -18,6 +18,7 @@ use Rattle.pf_scripts.specs.Play.{HasPlayed}
 use Rattle.pf_scripts.specs.Script.{frames_of, ticks_of}
 use Rattle.pf_scripts.specs.declared.peer.Peer.{Peer}
 use Rattle.pf_scripts.specs.declared.turn.Turn.{Turn}
+use Rattle.pf_sessions.specs.Session.{HasCarried}
 use Rattle.pf_sessions.specs.Playing.{AllPlayed, IsNewPeer}
 use Rattle.pf_sessions.specs.Session.{unsealed}
 use Rattle.pf_sessions.proofs.Linked.{HasGotNothing, HasSentNothing}
@@ -32,7 +33,7 @@ pub record IsPlayed (s : Scene) (player : ℕ) (script : List Turn) (p : Peer) :
   pub kept : p.kept ≡ None
   pub commands : (peer_of p).commands ≡ put_all empty (commands_in (unsealed s) (frames_of script ++ flat_map got p.inputs.items))
   pub ranges : All IsCommand (commands_in (unsealed s) (frames_of script ++ flat_map got p.inputs.items))
-  pub sent : All (λ o. handed o ≡ frames_of script) p.outputs.items
+  pub sent : All (HasCarried (frames_of script)) p.outputs.items
 
 abbrev pub ArePlayed : Scene → ℕ → List (List Turn) → List Peer → Type 0
 ArePlayed s first [] [] = Unit {0}
@@ -83,8 +84,12 @@ module _ (s : Scene) (player : ℕ) (script : List Turn) (old new : Peer) (is : 
         kept = kept_none;
         commands = sym none_new ∙ has.moved.commands ∙ ap₂ (λ m cs. put_all m cs) none_old frames_same;
         ranges = subst (All IsCommand) frames_same has.moved.ranges;
-        sent = all_on (λ (o : LinkOut). handed o ≡ []) (WereHanded (frames_of script)) (λ (o : LinkOut). handed o ≡ frames_of script)
-            (λ o p none more. more.1 ∙ ap (λ l. l ++ frames_of script) none) old.outputs.items new.outputs.items sent_none has.moved.outputs;
+        sent = all_on (HasCarried []) (WereHanded (frames_of script)) (HasCarried (frames_of script))
+            (λ o p none more. record {
+              handed = more.1 ∙ ap (λ l. l ++ frames_of script) none.handed;
+              capacity = more.0.1 ∙ none.capacity;
+            })
+            old.outputs.items new.outputs.items sent_none has.moved.outputs;
       }
 
 pub all_have_played : (s : Scene) (first n : ℕ) (scripts : List (List Turn)) (olds news : List Peer) → AllZip (IsNewPeer s) (range_with_len first n) olds

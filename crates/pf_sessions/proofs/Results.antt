@@ -27,7 +27,7 @@ use Rattle.pf_sessions.specs.Ending.{AllFinished, AreEnded, HasFinished, IsTaken
 use Rattle.pf_sessions.specs.Links.{inputs_of, outputs_of}
 use Rattle.pf_sessions.specs.Playing.{AllPlayed, AreNewPeers}
 use Rattle.pf_sessions.specs.Rest.{KeepsHanded, all_left, left_on}
-use Rattle.pf_sessions.specs.Session.{unsealed, HasEnded, HasSent, PeerResult, all_commands, result_of, results_from, session_results, shown_by}
+use Rattle.pf_sessions.specs.Session.{unsealed, HasCarried, HasEnded, HasSent, PeerResult, all_commands, result_of, results_from, session_results, shown_by}
 use Rattle.pf_sessions.specs.Table.{IsTable, transpose}
 use Rattle.pf_sessions.proofs.Columns.{HasFor, columns_complete, members_joined}
 use Rattle.pf_sessions.proofs.Linked.{linked_on, nothing_got, nothing_sent, senders_new, table_on}
@@ -183,7 +183,7 @@ rows_carry s first [] [] are = tt
 rows_carry s first [] (p ∷ played) are = absurd are
 rows_carry s first (script ∷ scripts) [] are = absurd are
 rows_carry s first (script ∷ scripts) (p ∷ played) are =
-    (All-map (λ (frames : List Frame). frames ≡ frames_of script) handed p.outputs.items are.0.sent, rows_carry s (first + 1) scripts played are.1)
+    (All-map (λ (frames : List Frame). frames ≡ frames_of script) handed p.outputs.items (λ k d low. (are.0.sent k d low).handed), rows_carry s (first + 1) scripts played are.1)
 
 -- and so it does at the end
 pub sent_still : (s : Scene) (first : ℕ) (scripts : List (List Turn)) (played ended : List Peer) → ArePlayed s first scripts played
@@ -194,8 +194,8 @@ sent_still s first [] (p ∷ played) ended are kept = absurd are
 sent_still s first (script ∷ scripts) [] ended are kept = absurd are
 sent_still s first (script ∷ scripts) (p ∷ played) [] are kept = absurd kept
 sent_still s first (script ∷ scripts) (p ∷ played) (e ∷ ended) are kept = (
-  all_on (λ (o : LinkOut). handed o ≡ frames_of script) KeepsHanded (λ (o : LinkOut). handed o ≡ frames_of script) (λ o q is keeps. keeps.handed ∙ is) p.outputs.items
-      e.outputs.items are.0.sent kept.0,
+  all_on (HasCarried (frames_of script)) KeepsHanded (HasCarried (frames_of script))
+      (λ o q is keeps. record { handed = keeps.handed ∙ is.handed; capacity = keeps.same.1 ∙ is.capacity }) p.outputs.items e.outputs.items are.0.sent kept.0,
   sent_still s (first + 1) scripts played ended are.1 kept.1,
 )
 

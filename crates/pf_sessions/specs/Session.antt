@@ -5,7 +5,8 @@ use Rattle.std.specs.Global.{Global}
 use Rattle.std.specs.List.{flat_map}
 use Rattle.pf_shapes.specs.Scene.{Scene}
 use Rattle.pf_commands.specs.Merge.{CommandMap, put_all}
-use Rattle.pf_links.specs.Link.{handed}
+use Rattle.pf_links.specs.Link.{Frame, capacity_of, handed}
+use Rattle.pf_links.specs.declared.output.LinkOut.{LinkOut}
 use Rattle.pf_step.specs.Simulation.{sim}
 use Rattle.pf_step.specs.World.{World, start_of}
 use Rattle.pf_step.specs.declared.crew.CrewError.{CrewError}
@@ -19,6 +20,7 @@ use Rattle.pf_scripts.specs.declared.fault.SessionFault.{SessionFault}
 use Rattle.pf_scripts.specs.declared.fault.SessionFault.TheVariants as faults
 use Rattle.pf_scripts.specs.declared.peer.Peer.{Peer}
 use Rattle.pf_scripts.specs.declared.turn.Turn.{Turn}
+use Rattle.pf_sessions.specs.declared.links.TheConstants.{LINK_CAPACITY}
 
 -- the turns of each script
 abbrev pub turns_of : List (Vec Turn Global) → List (List Turn)
@@ -81,9 +83,14 @@ pub record HasEnded (s : Scene) (p : Peer) : Type 0 where
   pub kept : p.kept ≡ None
   pub settled : settled_tick p.core.kept ≡ (peer_of p).reached
 
+-- these frames were handed into a link, and no others; its ring has room for `LINK_CAPACITY` of them
+pub record HasCarried (frames : List Frame) (link : LinkOut) : Type 0 where
+  pub handed : handed link ≡ frames
+  pub capacity : capacity_of link ≡ LINK_CAPACITY
+
 -- a peer has handed the frames of its script to each other peer, and no others
 abbrev pub HasSent : List Turn → Peer → Type 0
-HasSent script p = All (λ link. handed link ≡ frames_of script) p.outputs.items
+HasSent script p = All (HasCarried (frames_of script)) p.outputs.items
 
 -- ---- faults
 

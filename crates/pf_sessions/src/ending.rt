@@ -25,7 +25,7 @@ pub struct Receiver {
     inputs: Vec<LinkIn>,
 }
 
-/// The receivers, and for each the ends of its links to the others.
+/// Splits peers into receivers and, for each, the ends of its links to the others.
 fn take_apart(
     alloc: Global,
     peers: Vec<Peer>,
@@ -61,8 +61,8 @@ fn finish(
     Ok((receiver, senders))
 }
 
-/// Lets each receiver do so, with its row of the senders' ends, each in a thread of its own where
-/// one can be started.
+/// Lets each receiver finish with its row of the senders' ends, each in a thread of its own where one
+/// can be started.
 fn finish_all<R: Threads + Sync>(
     rt: &R,
     alloc: Global,

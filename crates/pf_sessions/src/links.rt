@@ -55,9 +55,9 @@ fn links_among(
     Ok((transpose(alloc, senders)?, inputs))
 }
 
-/// So many new peers of the scene, each two of which are linked both ways. The player of each is its
-/// number; its ends of links are in the order of the others. For whoever starts the threads of peers
-/// by other means than a session's.
+/// `count` new peers of the scene, each two of which are linked both ways. The player of each is its
+/// number; its ends of links are in the order of the others. For a game that starts the threads of
+/// its peers itself.
 pub fn linked_peers(alloc: Global, scene: &Scene, count: usize) -> Result<Vec<Peer>, AllocError>
     requires { count ≤ PLAYERS }
     ensures peers { IfOk result (λ peers. AreNewPeers scene.now count peers.items) }

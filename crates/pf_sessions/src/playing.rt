@@ -31,8 +31,8 @@ impl<G: Gate> Promise<Result<Peer, SessionFault>> for PlayPromise<G> {
 }
 
 /// Starts a thread for each peer, the last one first, and joins them. Each peer plays its script in
-/// its own. Returns an error where a thread could not be started; else the fault of a peer where no
-/// lesser script has one; and out of memory.
+/// its own. Returns an error where a thread could not be started or memory is out, or the fault of a
+/// peer where no lesser script has one.
 fn play_in_threads<'s, 'e: 's, R, G>(
     rt: &'e R,
     alloc: Global,
@@ -84,7 +84,9 @@ where
     }
 }
 
-/// Lets each peer play its script in a thread of its own, and joins the threads. Errors as above.
+/// Lets each peer play its script in a thread of its own, and joins the threads. Returns an error
+/// where a thread could not be started or memory is out, or the fault of a peer where no lesser
+/// script has one.
 pub fn play_all<R, G>(
     rt: &R,
     alloc: Global,

@@ -20,8 +20,9 @@ use std::thread::Threads;
 
 /// Plays a session. Each script has a peer, whose player is the script's number, and a thread in
 /// which the peer plays it by [`Peer::play`], and passes the gate in each turn. `crew` is how many
-/// workers settle each peer's ticks; with none its own thread does. When all have played, each peer
-/// takes what is left on its links, and settles, on the caller's thread.
+/// workers settle each peer's ticks while it plays; with none its own thread does. When all have
+/// played, each peer takes what is left on its links, and settles on one thread, side by side with
+/// the others.
 ///
 /// Returns each peer with its world at the tick that it has reached. Under every schedule all peers
 /// hold the commands of all scripts. The ends of a peer's links stand in the order of the other
