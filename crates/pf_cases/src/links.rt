@@ -79,9 +79,8 @@ fn stop() -> [u8; FRAME_LEN] {
 /// The peer at tick 1, which it has sealed.
 fn sealed(alloc: Global, peer: Peer) -> Result<Peer, Fail> {
     let (mut core, outputs, inputs, _) = peer.into_parts();
-    if core.advance(1).is_err() || core.seal(alloc, 1).is_err() {
-        return Err(Fail::from("no seal"));
-    }
+    core.advance(1)?;
+    core.seal(alloc, 1)?;
     Ok(Peer::new(core, outputs, inputs))
 }
 
