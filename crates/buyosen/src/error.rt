@@ -2,7 +2,7 @@
 
 ghost use Rattle.std.specs.Prelude.{◌≡◌};
 ghost use Rattle.buyosen.specs.declared.error.Error.TheVariants.{OutOfMemory};
-ghost use Rattle.buyosen.specs.Error.{peer_error, scene_error, settle_error};
+ghost use Rattle.buyosen.specs.Error.{crew_error, peer_error, scene_error, settle_error};
 
 use pf_rollback::{Fault, Refusal};
 use pf_shapes::ReadError;
@@ -57,13 +57,24 @@ impl From<Fault> for Error {
     }
 }
 
+impl From<CrewError> for Error {
+    ghost from_gives = { λ error result. result ≡ crew_error error };
+
+    fn from(error: CrewError) -> Error {
+        match error {
+            CrewError::OutOfMemory => Error::OutOfMemory,
+            _ => Error::Crew(error),
+        }
+    }
+}
+
 impl From<StepError> for Error {
     ghost from_gives = { λ error result. result ≡ settle_error error };
 
     fn from(error: StepError) -> Error {
         match error {
-            StepError::Crew(CrewError::OutOfMemory) | StepError::OutOfMemory => Error::OutOfMemory,
-            StepError::Crew(error) => Error::Crew(error),
+            StepError::OutOfMemory => Error::OutOfMemory,
+            StepError::Crew(error) => Error::from(error),
         }
     }
 }
