@@ -5,7 +5,7 @@ ghost use Rattle.std.specs.Prelude.{IfOk};
 use crate::scenes::scene_of;
 use pf_commands::{Command, FRAME_LEN, Name, Payload, encode};
 use pf_links::{Link, LinkIn, LinkOut};
-use pf_rollback::{MAX_RING, PeerCore, Refusal};
+use pf_rollback::{Fault, MAX_RING, PeerCore, Refusal};
 use pf_scripts::{Peer, SessionFault, Turn};
 use pf_step::CrewError;
 use pf_workers::{Gate, OpenGate};
@@ -76,11 +76,16 @@ fn stop() -> [u8; FRAME_LEN] {
     })
 }
 
+/// Goes on to tick 1, and seals it.
+fn seal_first(alloc: Global, core: &mut PeerCore) -> Result<(), Fault> {
+    core.advance(1)?;
+    core.seal(alloc, 1)
+}
+
 /// The peer at tick 1, which it has sealed.
 fn sealed(alloc: Global, peer: Peer) -> Result<Peer, Fail> {
     let (mut core, outputs, inputs, _) = peer.into_parts();
-    core.advance(1)?;
-    core.seal(alloc, 1)?;
+    seal_first(alloc, &mut core)?;
     Ok(Peer::new(core, outputs, inputs))
 }
 
