@@ -10,7 +10,7 @@ use pf_step::{CrewError, StepError};
 use std::alloc::AllocError;
 use thiserror::Error;
 
-/// Why a call of the core failed. The errors of all calls turn into it by `?`.
+/// Why a call failed. The errors of scenes, peers and crews turn into it by `?`.
 #[derive(Clone, Copy, Debug, PartialEq, Eq, Error)]
 pub enum Error {
     /// The text is no scene.
