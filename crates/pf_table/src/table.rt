@@ -3,7 +3,7 @@
 ghost use Rattle.std.specs.Prelude.{◌≡◌, ◌+◌, ◌^◌, ◌<◌, ◌↔◌, [], ℕ, IfErr, IfNone, IfOk, IfSome, IsErrAnd, IsErrOf, IsOk, IsSome, OnErr, OnOk, OnSome, length, option_copied};
 ghost use Rattle.std.specs.Option.{option_copied_mut};
 ghost use Rattle.std.specs.Borrow.{Lends, sem};
-ghost use Rattle.pf_table.specs.Table.{HasFree, IsFree, slot_at};
+ghost use Rattle.pf_table.specs.Table.{HasFree, IsFirstFree, slot_at};
 
 use crate::key::Key;
 use std::alloc::Global;
@@ -84,14 +84,15 @@ impl<T> Slot<T> {
 // The index of the first slot that is free.
 fn first_free<T>(slots: &[Slot<T>]) -> Option<usize>
     ensures within { IfSome result (λ index. index < length slots.now) }
-    ensures free { IfSome result (λ index. IsFree (slot_at slots.now index)) }
+    ensures first { IfSome result (IsFirstFree slots.now) }
+    ensures none { IfNone result (IsFirstFree slots.now (length slots.now)) }
     ensures found { HasFree slots.now → IsSome result }
 {
     slots.iter().position(|slot| slot.value.is_none() && slot.generation < GENERATIONS)
 }
 
 impl<T: Drop> Table<T> {
-    ghost use Rattle.pf_table.specs.Table.{HasFree, IsFree, IsFull, IsPast, KeepsOthers, KeepsPast, KeepsSlots, slot_at, value_at, value_count};
+    ghost use Rattle.pf_table.specs.Table.{HasFree, IsFirstFree, IsFree, IsFull, IsNextKey, IsOut, key_at, slot_at, value_at, value_count, with_new_value, with_slot, with_value, with_value_out, without_value};
     ghost use Rattle.pf_table.specs.Loan.{LendsValue, LendsValueIf};
 
     /// A table of no values. Takes no memory.
@@ -146,51 +147,48 @@ impl<T: Drop> Table<T> {
         self.slots[key.index as usize].value_mut()
     }
 
-    /// Puts the value into a free slot, or into a new one where none is free, and returns its key,
-    /// which was never given out before. Takes memory only for a new slot. Where there is none, or
-    /// no index is left for a new slot, the value comes back, and the table is as it was.
+    /// Puts the value into the first free slot, or into a new one behind the last where none is
+    /// free, and returns its key, which was never given out before. Takes memory only for a new
+    /// slot. Where there is none, or no index is left for a new slot, the value comes back, and the
+    /// table is as it was.
     pub fn insert(&mut self, value: T) -> Result<Key, Rejection<T>>
-        // The key names the value. It named nothing before, and no value was removed under it.
-        ensures value { IfOk result (λ key. value_at self.new key ≡ Some value) }
-        ensures no_value { IfOk result (λ key. value_at self.old key ≡ None) }
-        ensures not_past { IfOk result (λ key. IsPast self.old key → ⊥) }
-
-        // No other key is touched, and no other slot.
-        ensures others { IfOk result (λ key. KeepsOthers self.old self.new key) }
-        ensures still_past { KeepsPast self.old self.new }
-        ensures slots { IfOk result (λ key. KeepsSlots self.old self.new key.index) }
-        ensures count { OnOk result (value_count self.new ≡ value_count self.old + 1) }
+        ensures key { IfOk result (λ key. IsNextKey self.old key) }
+        ensures table { IfOk result (λ key. self.new ≡ with_new_value self.old key value) }
 
         // A free slot is enough. A full table says so, and the only other error is no memory.
         ensures free { HasFree self.old → IsOk result }
-        ensures no_new { HasFree self.old → length self.new ≡ length self.old }
         ensures full { IsErrAnd result (λ r. r.error ≡ TableError.Full) ↔ IsFull self.old }
         ensures back { IfErr result (λ r. r.value ≡ value) }
         ensures err { OnErr result (self.new ≡ self.old) }
     {
-        let index = match self.free_slot() {
-            Ok(index) => index,
-            Err(error) => return Err(Rejection { value, error }),
-        };
-        let slot = &mut self.slots[index];
-        slot.value = Some(value);
-        Ok(Key {
-            index: index as u32,
-            generation: slot.generation as u32,
-        })
+        match self.free_slot() {
+            Ok(index) => Ok(self.fill(index, value)),
+            Err(error) => Err(Rejection { value, error }),
+        }
     }
 
-    // The index of a free slot, which is a new one where none is free. No key is touched: an index
-    // past the last slot is like a slot that was never used.
-    #[tactic(auto, using(crate::proofs::Slots::same_slots, crate::proofs::Slots::same_count))]
-    fn free_slot(&mut self) -> Result<usize, TableError>
-        ensures within { IfOk result (λ index. index < length self.new) }
-        ensures free { IfOk result (λ index. IsFree (slot_at self.new index)) }
-        ensures same { (index : ℕ) → slot_at self.new index ≡ slot_at self.old index }
-        ensures count { value_count self.new ≡ value_count self.old }
+    // Puts the value into a free slot, and returns its key.
+    fn fill(&mut self, index: usize, value: T) -> Key
+        requires within { index < length self.old }
+        requires free { IsFree (slot_at self.old index) }
+        ensures key { result ≡ key_at self.old index }
+        ensures table { self.new ≡ with_value self.old result value }
+    {
+        let slot = &mut self.slots[index];
+        slot.value = Some(value);
+        Key {
+            index: index as u32,
+            generation: slot.generation as u32,
+        }
+    }
 
+    // The index of the first free slot, which is a new one where none is free.
+    fn free_slot(&mut self) -> Result<usize, TableError>
+        ensures free { IfOk result (λ index. IsFirstFree self.old index) }
+        ensures table { IfOk result (λ index. self.new ≡ with_slot self.old index) }
+        ensures within { IfOk result (λ index. index < length self.new) }
+        ensures same { IfOk result (λ index. slot_at self.new index ≡ slot_at self.old index) }
         ensures found { HasFree self.old → IsOk result }
-        ensures no_new { HasFree self.old → length self.new ≡ length self.old }
         ensures full { IsErrOf result TableError.Full ↔ IsFull self.old }
         ensures err { OnErr result (self.new ≡ self.old) }
     {
@@ -215,16 +213,8 @@ impl<T: Drop> Table<T> {
     /// is past, and names nothing ever after. Takes no memory.
     pub fn remove(&mut self, key: Key) -> Option<T>
         ensures value { result ≡ value_at self.old key }
-        ensures gone { value_at self.new key ≡ None }
-        ensures past { IsSome result → IsPast self.new key }
-        ensures free { IsSome result → key.generation + 1 < 2 ^ 32 → HasFree self.new }
+        ensures table { OnSome result (self.new ≡ without_value self.old key) }
         ensures none { IfNone result (self.new ≡ self.old) }
-
-        // No other key is touched, and no other slot.
-        ensures others { KeepsOthers self.old self.new key }
-        ensures still_past { KeepsPast self.old self.new }
-        ensures slots { KeepsSlots self.old self.new key.index }
-        ensures count { OnSome result (value_count self.new + 1 ≡ value_count self.old) }
     {
         let slot = self.slots.get_mut(key.index as usize)?;
         if slot.generation != u64::from(key.generation) {
@@ -233,5 +223,30 @@ impl<T: Drop> Table<T> {
         let value = slot.value.take()?;
         slot.generation += 1;
         Some(value)
+    }
+
+    /// Takes the value that the key names out for a while, if there is one, so that it can be
+    /// changed beside the others; [`Table::put_back`] puts it back under its key. Until then the
+    /// key names nothing, and its slot counts as free: a value that is inserted meanwhile may get
+    /// this very key. Takes no memory.
+    pub fn take_out(&mut self, key: Key) -> Option<T>
+        ensures value { result ≡ value_at self.old key }
+        ensures table { OnSome result (self.new ≡ with_value_out self.old key) }
+        ensures out { OnSome result (IsOut self.new key) }
+        ensures none { IfNone result (self.new ≡ self.old) }
+    {
+        let held = self.slots.get_mut(key.index as usize)?;
+        if held.generation != u64::from(key.generation) {
+            return None;
+        }
+        held.value.take()
+    }
+
+    /// Puts a value under the key of one that is out. Takes no memory.
+    pub fn put_back(&mut self, key: Key, value: T)
+        requires { IsOut self.old key }
+        ensures { self.new ≡ with_value self.old key value }
+    {
+        self.slots[key.index as usize].value = Some(value);
     }
 }

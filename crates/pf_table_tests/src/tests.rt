@@ -41,10 +41,28 @@ fn a_value_is_changed_where_it_stands(rt: HostRuntime) -> Result<(), Fail> {
 }
 
 #[test]
+fn a_value_that_was_out_stands_under_its_key(rt: HostRuntime) -> Result<(), Fail> {
+    let mut table = Table::new(rt.alloc());
+    let first = table.insert(10u32)?;
+    let second = table.insert(20u32)?;
+    let Some(value) = table.take_out(first) else {
+        return Ok(());
+    };
+    assert!(rt; table.get(first).is_none() && table.get(second) == Some(&20));
+    table.put_back(first, value + 1);
+    assert!(rt; table.get(first) == Some(&11) && table.len() == 2);
+    Ok(())
+}
+
+#[test]
 fn laws_are_called(rt: HostRuntime) {
     laws::keys_are_unique::<u32>();
     laws::past_keys_name_nothing::<u32>();
     laws::past_keys_stay_past::<u32>();
     laws::loans_change_one_value::<u32>();
+    laws::next_keys_are_new::<u32>();
+    laws::insertions_change_one_key::<u32>();
+    laws::removals_change_one_key::<u32>();
+    laws::values_come_back::<u32>();
     assert!(rt; true);
 }
