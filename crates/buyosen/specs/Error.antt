@@ -1,8 +1,8 @@
 -- The one error that the errors of all calls turn into.
 use Rattle.pf_shapes.specs.declared.read.ReadError.{ReadError}
 use Rattle.pf_shapes.specs.declared.read.ReadError.TheVariants as reading
-use Rattle.pf_rollback.specs.declared.fault.Fault.{Fault}
-use Rattle.pf_rollback.specs.declared.fault.Fault.TheVariants as faults
+use Rattle.pf_rollback.specs.declared.error.PeerError.{PeerError}
+use Rattle.pf_rollback.specs.declared.error.PeerError.TheVariants as peer_errors
 use Rattle.pf_step.specs.declared.crew.CrewError.{CrewError}
 use Rattle.pf_step.specs.declared.crew.CrewError.TheVariants as crews
 use Rattle.pf_step.specs.declared.crew.StepError.{StepError}
@@ -16,9 +16,9 @@ scene_error (reading.Line number fault) = errors.Scene (reading.Line number faul
 scene_error reading.Memory = errors.OutOfMemory
 
 -- why a call of a peer failed
-abbrev pub peer_error : Fault → Error
-peer_error (faults.Refused refusal) = errors.Refused refusal
-peer_error faults.OutOfMemory = errors.OutOfMemory
+abbrev pub peer_error : PeerError → Error
+peer_error (peer_errors.Refused refusal) = errors.Refused refusal
+peer_error peer_errors.OutOfMemory = errors.OutOfMemory
 
 -- why a crew did not solve the islands of a tick
 abbrev pub crew_error : CrewError → Error

@@ -4,7 +4,7 @@ ghost use Rattle.std.specs.Prelude.{◌≡◌};
 ghost use Rattle.buyosen.specs.declared.error.Error.TheVariants.{OutOfMemory};
 ghost use Rattle.buyosen.specs.Error.{crew_error, peer_error, scene_error, settle_error};
 
-use pf_rollback::{Fault, Refusal};
+use pf_rollback::{PeerError, Refusal};
 use pf_shapes::ReadError;
 use pf_step::{CrewError, StepError};
 use std::alloc::AllocError;
@@ -16,8 +16,8 @@ pub enum Error {
     /// The text is no scene.
     #[error("the scene, {0}")]
     Scene(ReadError),
-    /// A peer rejected the call, which changed nothing.
-    #[error("rejected: {0}")]
+    /// A peer refused the call, which changed nothing.
+    #[error("refused: {0}")]
     Refused(Refusal),
     /// A crew of threads failed. The ticks that were settled before stay settled.
     #[error("the crew failed: {0}")]
@@ -46,13 +46,13 @@ impl From<ReadError> for Error {
     }
 }
 
-impl From<Fault> for Error {
+impl From<PeerError> for Error {
     ghost from_gives = { λ fault result. result ≡ peer_error fault };
 
-    fn from(fault: Fault) -> Error {
+    fn from(fault: PeerError) -> Error {
         match fault {
-            Fault::Refused(refusal) => Error::Refused(refusal),
-            Fault::OutOfMemory => Error::OutOfMemory,
+            PeerError::Refused(refusal) => Error::Refused(refusal),
+            PeerError::OutOfMemory => Error::OutOfMemory,
         }
     }
 }

@@ -12,15 +12,15 @@
 //!
 //! let frame = ours.issue(Payload::Push { body: 0, x: push, y: Fx::ZERO })?;
 //! ours.advance(20)?;
-//! ours.settle_alone(alloc)?;
+//! ours.settle(alloc)?;
 //! draw(ours.settled_world());
 //!
 //! theirs.advance(20)?;
-//! theirs.settle_alone(alloc)?;
+//! theirs.settle(alloc)?;
 //! draw(theirs.settled_world()); // another world: the frame has not come yet
 //!
 //! theirs.take(&frame)?; // it comes 20 ticks late
-//! theirs.settle_alone(alloc)?; // the peer simulates again
+//! theirs.settle(alloc)?; // the peer simulates again
 //! draw(theirs.settled_world()); // the same world as ours, bit for bit
 //! ```
 //!
@@ -31,10 +31,10 @@
 //! - **Commands**: a [`Payload`] is what a player does to a body. [`PeerCore::issue`] gives it a
 //!   [`Name`], and [`encode`] and [`decode`] make and read its frame. A [`CommandMap`] holds
 //!   commands; merging maps is associative, commutative and idempotent.
-//! - **Peers**: [`PeerCore::take`], [`PeerCore::merge`] and [`PeerCore::merge_sealed`] take commands
-//!   of others; [`PeerCore::advance`] goes on; [`PeerCore::settle_alone`] and
-//!   [`PeerCore::settle_with`] simulate what is missing; [`PeerCore::seal`] forgets what lies before
-//!   a tick. What each returns, and what an error leaves, stands beside it.
+//! - **Peers**: [`PeerCore::take`], [`PeerCore::merge`] and [`PeerCore::merge_sealed`] take
+//!   commands of others; [`PeerCore::advance`] goes on; [`PeerCore::settle`] and
+//!   [`PeerCore::settle_with`] simulate what is missing; [`PeerCore::seal`] forgets what lies
+//!   before a tick. What each returns, and what an error leaves, stands beside it.
 //! - **Worlds**: [`PeerCore::settled_world`] lends the latest one, and [`world_at`] makes that of
 //!   any tick from the horizon to the reached one.
 //! - **Crews**: a [`StandingCrew`] or a [`ScopedCrew`] solves the islands of a tick by several
@@ -52,7 +52,7 @@ pub use pf_commands::{
 };
 pub use pf_manifold::Key;
 pub use pf_num::Fx;
-pub use pf_rollback::{Fault, KEYFRAME_INTERVAL, MAX_RING, PeerCore, Refusal, Sealed};
+pub use pf_rollback::{KEYFRAME_INTERVAL, MAX_RING, PeerCore, PeerError, Refusal, Sealed};
 pub use pf_rot::{Rot, V2};
 pub use pf_rows::Impulses;
 pub use pf_shapes::{

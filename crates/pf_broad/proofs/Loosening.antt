@@ -105,9 +105,9 @@ flat_map-same f g a (suc n) h =
     ∙ ap (λ l. g a ++ l) (flat_map-same f g (a + 1) n (λ k l. h k (omega arith)))
 
 -- the candidates that may touch are the pairs
-pub touching-pairs : (loose bounds : List Bounds) → AreLoosened loose bounds
+pub overlapping-pairs : (loose bounds : List Bounds) → AreLoosened loose bounds
     → filter (λ p. may_touch (bounds_at bounds p.a) (bounds_at bounds p.b)) (pairs loose) ≡ pairs bounds
-touching-pairs loose bounds is =
+overlapping-pairs loose bounds is =
     let t : Pair → Bool = λ p. may_touch (bounds_at bounds p.a) (bounds_at bounds p.b) in
     filter-flat_map t (pairs_of loose) (range_with_len 0 (length loose))
     ∙ flat_map-same (λ i. filter t (pairs_of loose i)) (pairs_of bounds) 0 (length loose) (λ i below.

@@ -6,20 +6,21 @@ ghost use Rattle.pf_broad.specs.Pairs.{bounds_at, is_pair, may_touch, partners_o
 ghost use Rattle.pf_broad.specs.Partners.{has_body, AreBodies};
 ghost use Rattle.pf_broad.specs.Loose.{behind, seconds};
 
-use crate::partners::{add_later, add_touching, may_touch};
+use crate::partners::{add_later, add_overlapping, may_touch};
 use pf_shapes::{Bounds, MAX_BODIES, Pair};
 use std::alloc::{AllocError, Global};
 
 /// Of candidates those whose bodies may touch.
 #[inline(never)]
-pub(crate) fn touching(
+pub(crate) fn overlapping(
     alloc: Global,
     candidates: &[Pair],
     bounds: &[Bounds],
 ) -> Result<Vec<Pair>, AllocError>
     requires { All (IsPairOf (length bounds.now)) candidates.now }
     ensures { IfOk result (λ found. found.items
-        ≡ filter (λ p. may_touch (bounds_at bounds.now p.a) (bounds_at bounds.now p.b)) candidates.now) }
+        ≡ filter (λ p. may_touch (bounds_at bounds.now p.a) (bounds_at bounds.now p.b))
+        candidates.now) }
 {
     let mut found = Vec::with_capacity(alloc, candidates.len())?;
     for pair in candidates {
@@ -87,7 +88,7 @@ pub(crate) fn complete(
         partners.clear();
         return add_later(partners, loose, i);
     }
-    add_touching(partners, loose, i, left)?;
+    add_overlapping(partners, loose, i, left)?;
     partners.sort_unstable();
     partners.dedup();
     Ok(())

@@ -1,7 +1,7 @@
 //! The broad phase that is kept from tick to tick.
 
 use crate::broad_phase::{add_pairs, all_pairs};
-use crate::candidates::{add_candidates, complete, touching};
+use crate::candidates::{add_candidates, complete, overlapping};
 use crate::grid::Grid;
 use crate::loose::{all_enlarged_bounds, left_bodies, refit};
 use pf_shapes::{BodyState, Bounds, Pair};
@@ -79,21 +79,21 @@ impl BroadPhase {
         }
         let kept = mem::replace(self, BroadPhase::new(alloc));
         let next = kept.refresh(alloc, bounds, bodies)?;
-        let found = next.touching(alloc, bounds)?;
+        let found = next.overlapping(alloc, bounds)?;
         *self = next;
         Ok(found)
     }
 
     /// Of the candidates those whose bodies may touch.
-    fn touching(&self, alloc: Global, bounds: &[Bounds]) -> Result<Vec<Pair>, AllocError>
+    fn overlapping(&self, alloc: Global, bounds: &[Bounds]) -> Result<Vec<Pair>, AllocError>
         requires { AreLoosened self.now bounds.now }
         ensures { IfOk result (λ found. found.items ≡ pairs bounds.now) }
     {
-        touching(alloc, &self.candidates, bounds)
+        overlapping(alloc, &self.candidates, bounds)
     }
 
     /// Enlarged bounds that contain these, and their pairs. Where few bodies have left their
-    /// enlarged bounds, these alone are searched for.
+    /// enlarged bounds, only these are searched for.
     fn refresh(
         self,
         alloc: Global,

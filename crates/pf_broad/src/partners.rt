@@ -33,7 +33,7 @@ pub(crate) fn find_partners(
         return add_later(partners, bounds, i);
     }
     add_from_cells(partners, grid, bounds, i, range)?;
-    add_touching(partners, bounds, i, grid.wide())?;
+    add_overlapping(partners, bounds, i, grid.wide())?;
     partners.sort_unstable();
     partners.dedup();
     Ok(())
@@ -102,14 +102,14 @@ fn add_from_column(
         || (is_pair bounds.now i j && is_found_in_column bounds.now x range j))) }
 {
     for y in range.bottom..range.top + 1 {
-        add_touching(partners, bounds, i, grid.bodies_in(Cell { x, y }))?;
+        add_overlapping(partners, bounds, i, grid.bodies_in(Cell { x, y }))?;
     }
     Ok(())
 }
 
 /// Adds those of some bodies that are later and that a body may touch.
 #[inline]
-pub(crate) fn add_touching(
+pub(crate) fn add_overlapping(
     partners: &mut Vec<u16>,
     bounds: &[Bounds],
     i: usize,

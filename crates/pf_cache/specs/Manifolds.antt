@@ -18,7 +18,7 @@ pub record Manifolds : Type 0 where
 
 -- what the narrow phase of a tick found: the contact points of its pairs, and how many of the pairs
 -- could not reuse kept points
-pub record NarrowPhase : Type 0 where
+pub record Collisions : Type 0 where
   pub manifolds : Manifolds
   pub computed : ℕ
 

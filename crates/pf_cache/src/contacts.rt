@@ -111,15 +111,15 @@ impl Contacts {
 
     /// The contacts of these points, as Box2D-Lite's `Arbiter::Update`: a key of the old contacts
     /// keeps its impulses, a new key has none, and a contact without a point is gone. The
-    /// points are in the order of their keys. The list is made in the memory of `room`, whose
+    /// points are in the order of their keys. The list is made in the memory of `spare`, whose
     /// contacts are gone, and takes more only where that is too little.
     #[inline(never)]
-    pub fn update(&self, room: Contacts, touches: &[Touch]) -> Result<Contacts, AllocError>
+    pub fn update(&self, spare: Contacts, touches: &[Touch]) -> Result<Contacts, AllocError>
         requires { AreTouches touches.now }
         ensures value { IfOk result (λ contacts. contacts ≡ next_contacts self.now touches.now) }
         ensures no_memory { touches.now ≡ [] → IsOk result }
     {
-        let mut list = room.list;
+        let mut list = spare.list;
         list.clear();
         list.reserve(touches.len())?;
         let mut place = 0;

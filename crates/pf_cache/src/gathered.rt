@@ -202,7 +202,8 @@ pub fn gather(
     ensures touches { IfOk result
         (λ found. found.touches.items ≡ flat_map (points_of_pair shapes.now) pairs.now) }
     ensures computed { IfOk result (λ found. found.computed
-        ≡ computed_count_by_flags (map (λ s. s.pair) kept.now.spans.now) kept.now.unmoved.now pairs.now) }
+        ≡ computed_count_by_flags (map (λ s. s.pair) kept.now.spans.now) kept.now.unmoved.now
+        pairs.now) }
 {
     let mut spans = Vec::with_capacity(alloc, pairs.len())?;
     let mut points = GatheredPoints::new(alloc, kept.touches, done.points)?;

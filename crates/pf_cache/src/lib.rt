@@ -18,5 +18,5 @@ mod spans;
 
 pub use contact::Contact;
 pub use contacts::Contacts;
-pub use manifolds::{Manifolds, NarrowPhase};
+pub use manifolds::{Collisions, Manifolds};
 pub use meter::Meter;

@@ -47,7 +47,8 @@ pub fn computed_if_many(
     requires ascending { IsAscending pairs.now }
     requires rising { IsRising 0 (map (λ s. pair_rank s.pair) spans.now) }
     requires bodies { All (λ s. IsPairOf MAX_BODIES s.pair) spans.now }
-    ensures { result ≡ (let count = computed_count_by_flags (map (λ s. s.pair) spans.now) unmoved.now
+    ensures { result
+        ≡ (let count = computed_count_by_flags (map (λ s. s.pair) spans.now) unmoved.now
         pairs.now in if nat_lt count many then None else Some count) }
 {
     if pairs.len() < many {

@@ -51,17 +51,17 @@ impl Model for Manifolds {
 
 /// What the narrow phase of a tick found.
 #[derive(Debug, Drop)]
-pub struct NarrowPhase {
+pub struct Collisions {
     /// The contact points of the tick's pairs.
     pub manifolds: Manifolds,
     /// How many pairs could not reuse kept points.
     pub computed: usize,
 }
 
-impl Model for NarrowPhase {
-    ghost use Rattle.pf_cache.specs.Manifolds.{NarrowPhase};
+impl Model for Collisions {
+    ghost use Rattle.pf_cache.specs.Manifolds.{Collisions};
 
-    ghost Value = { NarrowPhase };
+    ghost Value = { Collisions };
 
     ghost view = { λ n. record { manifolds = n.manifolds; computed = n.computed } };
 }
@@ -177,7 +177,7 @@ impl Manifolds {
         alloc: Global,
         scene: &Scene,
         bodies: &[BodyState],
-    ) -> Result<NarrowPhase, AllocError>
+    ) -> Result<Collisions, AllocError>
         requires can { C.can_collide collider.now }
         requires bodies { length bodies.now ≡ length scene.now.fixtures }
         ensures manifolds { IfOk result (λ found. found.manifolds
@@ -189,12 +189,12 @@ impl Manifolds {
         ensures no_memory { bodies.now ≡ [] → IsOk result }
     {
         if bodies.is_empty() {
-            return Ok(NarrowPhase {
+            return Ok(Collisions {
                 manifolds: Manifolds::new(alloc),
                 computed: 0,
             });
         }
-        let (placed, unmoved) = self.placed.refreshed(alloc, scene, bodies)?;
+        let (placed, unmoved) = self.placed.update(alloc, scene, bodies)?;
         let kept_spans = self.spans;
         let kept_touches = self.touches;
         let mut broad_phase = self.broad_phase;
@@ -213,7 +213,7 @@ impl Manifolds {
             spans: points.spans,
             touches: points.touches,
         };
-        Ok(NarrowPhase {
+        Ok(Collisions {
             manifolds,
             computed,
         })

@@ -130,7 +130,7 @@ impl PlacedBodies {
 
     /// All bodies of a scene as they stand, in the lists of the old ones if these are as many; and
     /// for each whether it is unmoved. Each body is compared once.
-    pub fn refreshed(
+    pub fn update(
         self,
         alloc: Global,
         scene: &Scene,

@@ -64,7 +64,8 @@ pub fn refresh(
         result.pairs result.points }
     ensures kept { All (IsKeptSpan shapes.now unmoved.now touches.new) spans.now }
     ensures computed { result.computed
-        ≡ computed_count_by_flags (map (λ s. s.pair) spans.now) unmoved.now (take result.pairs pairs.now) }
+        ≡ computed_count_by_flags (map (λ s. s.pair) spans.now) unmoved.now
+        (take result.pairs pairs.now) }
 {
     let mut place = 0;
     let mut points = 0;

@@ -21,20 +21,21 @@
 //! | `threads N` | settles with it | `threads REACHED NOTED` or `threads ERROR NOTED` |
 //! | `dismiss N WORKER` | ends a worker of it, if that was started once | `dismiss WORKER` |
 //! | `close N` | ends it | `close` |
-//! | `same N OTHER FIRST LAST` | compares worlds of peers | `same COUNT`: the ticks with one world |
+//! | `same N OTHER FIRST LAST` | compares peers' worlds | `same COUNT`: the ticks with one world |
 //! | `world N TICK` | the world at a tick | `world TICKS`, its bodies and its contacts |
 //! | `latest N` | the latest settled world | `world 0`, its bodies and its contacts |
 //!
 //! SEEN is what the crew was last given: the number of islands, of their bodies and of their
 //! contacts, and the least body. TICKS is how many ticks were simulated for the world. Lines of
 //! bodies are as `pf_play` shows them, and a line `contacts COUNT NORMAL TANGENT` has the sums of
-//! what contacts have accumulated. A call that is rejected prints `refused` and why.
+//! what contacts have accumulated. A call that is refused prints `refused` and why.
 //!
 //! LIFE is `scoped` or `standing`. GATE is `open`; `meeting`, where each worker waits in each solve
 //! until each other worker has come; `counting`, the same, but open also where one did not come;
 //! `shut WORKER TURN`, which is shut for this worker in this turn; or `shut-from WORKER TURN`, for
-//! this one and those of greater numbers. NOTED is `shut COUNT`, how often the gate should have been
-//! shut, and for each worker how often it came, and for how many turns. The open gate notes nothing.
+//! this one and those of greater numbers. NOTED is `shut COUNT`, how often the gate should have
+//! been shut, and for each worker how often it came, and for how many turns. The open gate notes
+//! nothing.
 //!
 //! After each call stands a line `state N PLAYER BODIES COMMANDS REACHED SETTLED TICKS COLLIDES`:
 //! the last two are the counts of the peer's meter. A line that begins with `#` is printed as it

@@ -2,17 +2,17 @@
 
 use anyhow::{Result, bail};
 use pf_cache::Contact;
-use pf_rollback::{Fault, PeerCore};
+use pf_rollback::{PeerCore, PeerError};
 use pf_shapes::Scene;
 use pf_step::World;
 use pf_trials::push_bodies;
 use std::alloc::Global;
 
 /// The text of a fault of a peer, unless memory ran out.
-pub fn refused(alloc: Global, fault: Fault) -> Result<String> {
+pub fn refused(alloc: Global, fault: PeerError) -> Result<String> {
     match fault {
-        Fault::Refused(refusal) => Ok(format!(in alloc; "refused {refusal}")?),
-        Fault::OutOfMemory => bail!("out of memory"),
+        PeerError::Refused(refusal) => Ok(format!(in alloc; "refused {refusal}")?),
+        PeerError::OutOfMemory => bail!("out of memory"),
     }
 }
 

@@ -67,6 +67,7 @@ fn laws_of_contacts(rt: HostRuntime) {
     contacts::updates_have_the_keys_of_points();
     contacts::no_work();
     rows::named_values();
+    rows::named_limits();
     laws::rounds_keep_the_limits();
     laws::rounds_are_one_list();
     laws::named_limits();
@@ -113,7 +114,7 @@ fn laws_of_steps(rt: HostRuntime) {
     laws::sleepers_stay();
     laws::contacts_of_sleepers_keep_their_impulses();
     laws::static_bodies_never_move();
-    laws::contacts_are_those_of_touching_keys();
+    laws::contacts_have_the_keys_of_touches();
     laws::impulses_are_within_friction();
     laws::commands_change_one_body();
     laws::stops_leave_no_velocity();

@@ -5,8 +5,8 @@ ghost use Rattle.std.specs.Prelude.{IfOk};
 use crate::scenes::scene_of;
 use pf_commands::{Command, FRAME_LEN, Name, Payload, encode};
 use pf_links::{Link, LinkIn, LinkOut};
-use pf_rollback::{Fault, MAX_RING, PeerCore, Refusal};
-use pf_scripts::{Peer, SessionFault, Turn};
+use pf_rollback::{MAX_RING, PeerCore, PeerError, Refusal};
+use pf_scripts::{Peer, SessionError, Turn};
 use pf_step::CrewError;
 use pf_workers::{Gate, OpenGate};
 use std::alloc::{AllocError, Global};
@@ -77,7 +77,7 @@ fn stop() -> [u8; FRAME_LEN] {
 }
 
 /// Goes on to tick 1, and seals it.
-fn seal_first(alloc: Global, core: &mut PeerCore) -> Result<(), Fault> {
+fn seal_first(alloc: Global, core: &mut PeerCore) -> Result<(), PeerError> {
     core.advance(1)?;
     core.seal(alloc, 1)
 }
@@ -163,7 +163,7 @@ fn a_play_ends_at_its_first_fault(rt: HostRuntime) -> Result<(), Fail> {
     let (first, second) = two_peers(alloc)?;
     let short = second.play(rt, alloc, &script_of(alloc, Some(&[1]))?, None, &OpenGate);
     let shut = first.play(rt, alloc, &script_of(alloc, None)?, None, &ShutGate);
-    assert!(rt; matches!(short, Err(SessionFault::Frame(1, 0, Refusal::Frame(_)))));
-    assert!(rt; matches!(shut, Err(SessionFault::Peer(0, CrewError::GateShut))));
+    assert!(rt; matches!(short, Err(SessionError::Frame(1, 0, Refusal::Frame(_)))));
+    assert!(rt; matches!(shut, Err(SessionError::Peer(0, CrewError::GateShut))));
     Ok(())
 }

@@ -86,7 +86,7 @@ type Case = (
 );
 
 const CASES: [Case; 7] = [
-    // Box and circle stand on the floor. Of one another they touch the bounds alone.
+    // Box and circle stand on the floor. Of one another they touch only the bounds.
     (
         TOUCHING,
         &[(0, 1), (0, 2), (1, 2)],

@@ -6,7 +6,7 @@ use pf_shapes::{
     BodyState, Bounds, Fixture, MAX_BODIES, Progress, ReadError, Scene, SceneFault, SceneReader,
     Shape,
 };
-use pf_text::TakeRefusal;
+use pf_text::TakeError;
 use std::alloc::{AllocError, Global};
 use std::test::Fail;
 
@@ -140,8 +140,8 @@ fn a_scene_has_no_more_bodies(rt: HostRuntime) -> Result<(), Fail> {
     }
 }
 
-/// Why a reader of no bodies rejects a circle with fields that are no numbers.
-fn refused(alloc: Global) -> Result<Option<TakeRefusal<SceneFault>>, TakeRefusal<SceneFault>> {
+/// Why a reader of no bodies refuses a circle with fields that are no numbers.
+fn refused(alloc: Global) -> Result<Option<TakeError<SceneFault>>, TakeError<SceneFault>> {
     let fields = [b"gravity".as_slice(), b"0".as_slice(), b"0".as_slice()];
     let Progress::More(reader) = SceneReader::new(0).take(alloc, &fields)? else {
         return Ok(None);
@@ -154,14 +154,14 @@ fn refused(alloc: Global) -> Result<Option<TakeRefusal<SceneFault>>, TakeRefusal
 #[test]
 fn no_more_bodies_are_refused_before_their_fields(rt: HostRuntime) -> Result<(), Fail> {
     let found = refused(rt.alloc())?;
-    assert!(rt; found == Some(TakeRefusal::Fault(SceneFault::TooMany)));
+    assert!(rt; found == Some(TakeError::Fault(SceneFault::TooMany)));
     Ok(())
 }
 
 #[test]
 fn no_fields_are_a_bad_line(rt: HostRuntime) {
     let refused = SceneReader::new(0).take(rt.alloc(), &[]).err();
-    assert!(rt; refused == Some(TakeRefusal::Fault(SceneFault::BadLine)));
+    assert!(rt; refused == Some(TakeError::Fault(SceneFault::BadLine)));
 }
 
 /// The ends of bounds: x and y of the low one, then of the high one.

@@ -1,8 +1,8 @@
-//! A session as a list of events. Late commands, merges, limits and commands that are rejected
+//! A session as a list of events. Late commands, merges, limits and commands that are refused
 //! stand in the stored runs of `pf_runs` and `pf_calls`.
 
 ghost use Rattle.std.specs.Prelude.{◌≡◌};
-ghost use Rattle.pf_peers.specs.Session.{other_of, peer_of};
+ghost use Rattle.pf_peers.specs.Session.{other_peer_of, peer_of};
 
 use crate::scenes::scene_of;
 use pf_commands::Payload;
@@ -56,7 +56,7 @@ fn events_have_replies(rt: HostRuntime) -> Result<(), Fail> {
 /// Has a session answer an event on its first peer.
 fn answer_first(session: &mut Session, alloc: Global, event: Event) -> Result<(), Fail>
     requires peer { peer_of event ≡ 0 }
-    requires other { other_of event ≡ 0 }
+    requires other { other_peer_of event ≡ 0 }
 {
     if session.peer_count() == 0 {
         return Err(Fail::from("no peer"));

@@ -2,7 +2,7 @@
 
 use crate::scenes::scene_of;
 use pf_shapes::Scene;
-use pf_step::{Work, World, step_alone};
+use pf_step::{Work, World, step_on_one_thread};
 use std::alloc::{AllocError, Global};
 use std::test::Fail;
 
@@ -12,7 +12,7 @@ const FALLING: &[u8] = b"gravity 0 -167772160\ncircle 0 16777216 0 16777216 0 0\
 /// The first world of a scene, and the next.
 fn first_two(alloc: Global, scene: &Scene) -> Result<(World, World), AllocError> {
     let start = World::start(alloc, scene)?;
-    let next = step_alone(alloc, scene, &start, &[], &mut Work::new(alloc))?;
+    let next = step_on_one_thread(alloc, scene, &start, &[], &mut Work::new(alloc))?;
     Ok((start, next))
 }
 

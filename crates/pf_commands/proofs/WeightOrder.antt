@@ -9,9 +9,9 @@ use Rattle.std.proofs.lemmas.Bool.Decides.{nat_tests}
 use Rattle.std.specs.Prelude.{Some}
 use Rattle.pf_num.specs.Fx.{IsRaw}
 use Rattle.pf_commands.specs.News.{put_outcome}
-use Rattle.pf_commands.specs.declared.map.Put.{Put}
-use Rattle.pf_commands.specs.declared.map.Put.TheVariants as put
-use Rattle.pf_commands.specs.declared.map.Put.TheVariants.{Same, Lesser}
+use Rattle.pf_commands.specs.declared.outcome.Put.{Put}
+use Rattle.pf_commands.specs.declared.outcome.Put.TheVariants as put
+use Rattle.pf_commands.specs.declared.outcome.Put.TheVariants.{Same, Lesser}
 use Rattle.pf_commands.specs.Payload.{weight, IsPayload, kind_of, body_of, x_of, y_of}
 use Rattle.pf_commands.specs.declared.payload.Payload.{Payload}
 use Rattle.pf_commands.specs.declared.payload.Payload.TheVariants.{Push, Turn, Stop, Place}

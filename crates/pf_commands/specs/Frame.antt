@@ -104,7 +104,7 @@ encoding c = bytes_in (fields_in c)
 abbrev pub is_version : ℕ → Bool
 is_version version = version == 1 || version == 2
 
--- version 1 has the kinds 0 to 2, version 2 the kind 3 alone
+-- version 1 has the kinds 0 to 2, version 2 only the kind 3
 abbrev pub has_kind : ℕ → ℕ → Bool
 has_kind version kind = if version == 1 then nat_lt kind 3 else kind == 3
 

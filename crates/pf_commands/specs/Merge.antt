@@ -41,7 +41,7 @@ IsCommandMap m =
     (name : Name) (payload : Payload)
     → get m name ≡ Some payload → IsName name × IsPayload payload
 
--- the map of one command alone
+-- the map of only one command
 abbrev pub singleton : Name → Payload → CommandMap
 singleton name payload = insert empty name payload
 

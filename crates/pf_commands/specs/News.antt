@@ -5,8 +5,8 @@ use Rattle.pf_commands.specs.Name.{Name}
 use Rattle.pf_commands.specs.Payload.{weight}
 use Rattle.pf_commands.specs.Merge.{CommandMap}
 use Rattle.pf_commands.specs.declared.payload.Payload.{Payload}
-use Rattle.pf_commands.specs.declared.map.Put.{Put}
-use Rattle.pf_commands.specs.declared.map.Put.TheVariants.{New, Same, Greater, Lesser}
+use Rattle.pf_commands.specs.declared.outcome.Put.{Put}
+use Rattle.pf_commands.specs.declared.outcome.Put.TheVariants.{New, Same, Greater, Lesser}
 
 -- the outcome of putting a payload, given the payload that is held under its name
 abbrev pub put_outcome : Option Payload → Payload → Put

@@ -9,6 +9,7 @@ mod frame;
 pub mod laws;
 mod map;
 mod name;
+mod outcome;
 mod payload;
 mod weight;
 
@@ -16,6 +17,7 @@ pub use checking::{CheckFault, check};
 pub use coordinate::Coordinate;
 pub use fault::FrameFault;
 pub use frame::{FRAME_LEN, decode, encode};
-pub use map::{CommandMap, Merged, Put};
+pub use map::CommandMap;
 pub use name::{MAX_TICK, NUMBERS, Name};
+pub use outcome::{Merged, Put};
 pub use payload::{Command, Payload};

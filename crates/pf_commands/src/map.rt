@@ -1,52 +1,18 @@
 //! Maps of commands: from names to payloads, in the order of names.
 
 ghost use Rattle.std.specs.Prelude.{◌≡◌};
-ghost use Rattle.pf_commands.specs.News.{put_outcome, lesser_number};
+ghost use Rattle.pf_commands.specs.News.{lesser_number};
 
 use crate::checking::{CheckFault, check};
 use crate::name::{MAX_TICK, Name};
+use crate::outcome::{Merged, Put, compared};
 use crate::payload::{Command, Payload};
-use crate::weight::{read_ranges, weight_parts};
+use crate::weight::read_ranges;
 use pf_shapes::{PLAYERS, Scene};
 use std::alloc::{AllocError, Global};
-use std::cmp::Ordering;
 use std::collections::BTreeMap;
 use std::collections::btree_map::Iter;
 use std::marker::Model;
-
-/// What putting a command into a map did.
-#[derive(Clone, Copy, Debug, PartialEq, Eq)]
-pub enum Put {
-    /// Its name was new.
-    New,
-    /// The map held the same command.
-    Same,
-    /// The new payload is the greater one, and stays.
-    Greater,
-    /// The new payload is the lesser one: the old one stays.
-    Lesser,
-}
-
-impl Put {
-    ghost use Rattle.std.specs.Prelude.{◌≡◌};
-    ghost use Rattle.pf_commands.specs.News.{is_change};
-
-    /// Whether the map has changed.
-    pub fn is_change(self) -> bool
-        ensures { result ≡ is_change self }
-    {
-        matches!(self, Put::New | Put::Greater)
-    }
-}
-
-/// What merging a map into another did.
-#[derive(Clone, Copy, Debug, PartialEq, Eq)]
-pub struct Merged {
-    /// How many names were new, or have a greater payload now.
-    pub count: usize,
-    /// The least tick of these names, if there are any.
-    pub least: Option<u32>,
-}
 
 /// Commands by their names. Of two payloads of one name the one of greater weight stays, so a map
 /// depends on which commands were put into it, and neither on their order nor on how often.
@@ -164,7 +130,7 @@ impl CommandMap {
     }
 
     /// The payloads of the tick, in order of player, then number. Takes logarithmic time, and then
-    /// time and memory for these payloads alone, so none for a tick that has none.
+    /// time and memory only for these payloads, so none for a tick that has none.
     pub fn at_tick(&self, alloc: Global, tick: u32) -> Result<Vec<Payload>, AllocError>
         ensures items { IfOk result (λ payloads. payloads.items ≡ payloads_at self.now tick) }
         ensures no_memory { payloads_at self.now tick ≡ [] → IsOk result }
@@ -290,17 +256,6 @@ impl CommandMap {
             }
         }
         Ok(())
-    }
-}
-
-/// The outcome of putting a payload under a name that has another.
-fn compared(held: &Payload, payload: &Payload) -> Put
-    ensures { result ≡ put_outcome (Some held.now) payload.now }
-{
-    match weight_parts(held).cmp(&weight_parts(payload)) {
-        Ordering::Less => Put::Greater,
-        Ordering::Equal => Put::Same,
-        Ordering::Greater => Put::Lesser,
     }
 }
 

@@ -4,11 +4,11 @@ use Rattle.std.specs.Io.KnownBytes.{Appends}
 use Rattle.pf_text.specs.Lines.{AppendsPrefix}
 use Rattle.pf_text.specs.Streams.{Transfer}
 use Rattle.pf_text.proofs.Taking.{appends_known}
-use Rattle.pf_rollback.specs.declared.fault.Refusal.{Refusal}
+use Rattle.pf_rollback.specs.declared.error.Refusal.{Refusal}
 use Rattle.pf_step.specs.declared.crew.CrewError.{CrewError}
-use Rattle.pf_console.specs.declared.fault.PlayFault.{PlayFault}
-use Rattle.pf_console.specs.declared.fault.PlayFault.TheVariants.{Words, Line, Frame, Session, Memory, Crew, Read, Write}
-use Rattle.pf_console.specs.Crews.{IsSessionError}
+use Rattle.pf_console.specs.declared.error.ProgramError.{ProgramError}
+use Rattle.pf_console.specs.declared.error.ProgramError.TheVariants.{Words, Line, Frame, Session, Memory, Crew, Read, Write}
+use Rattle.pf_console.specs.Crews.{IsCrewErrorOfSession}
 use Rattle.pf_console.specs.Scripts.{Scripts, blocks_of, scripts_refusal}
 use Rattle.pf_console.specs.SessionText.{EndsBy, PlaysSession, ReadsScripts, SessionText, WritesNothing, scripts_of, session_text_of, text_of_scripts, text_unless}
 
@@ -18,7 +18,7 @@ text_is : (t : Transfer) (s : Scripts) (refusal : Option Refusal) → scripts_of
 text_is t s refusal is refused = ap text_of_scripts is ∙ ap (text_unless (blocks_of s)) refused
 
 -- a call whose lines were not read
-pub read_ends : (t : Transfer) (fault : PlayFault) → WritesNothing t × ReadsScripts t (Err fault) → PlaysSession t (Err fault)
+pub read_ends : (t : Transfer) (fault : ProgramError) → WritesNothing t × ReadsScripts t (Err fault) → PlaysSession t (Err fault)
 read_ends t (Line number fault) h = (h.1.0, h.0, ap (λ (text : SessionText). text.fault) (ap text_of_scripts h.1.1))
 read_ends t Memory h = (h.0, inl h.1)
 read_ends t Read h = (h.0, h.1)
@@ -29,7 +29,7 @@ read_ends t (Session refusal) h = elim h.1 [ ]
 read_ends t (Crew error) h = elim h.1 [ ]
 
 -- a call whose session was not played to its end
-pub play_ends : (t : Transfer) (s : Scripts) (crew : Option ℕ) (fault : PlayFault) → WritesNothing t × ReadsScripts t (Ok s) → EndsBy crew s fault
+pub play_ends : (t : Transfer) (s : Scripts) (crew : Option ℕ) (fault : ProgramError) → WritesNothing t × ReadsScripts t (Ok s) → EndsBy crew s fault
     → PlaysSession t (Err fault)
 play_ends t s crew (Session refusal) h ends =
     (h.1.0, h.0, ap (λ (text : SessionText). text.fault) (text_is t s (Some refusal) h.1.1 ends))
@@ -42,8 +42,8 @@ play_ends t s crew (Words text) h ends = elim ends [ ]
 play_ends t s crew (Frame fault) h ends = elim ends [ ]
 
 -- its error is one of its threads, if it is one of threads at all
-pub threads_named : (crew : Option ℕ) (s : Scripts) (fault : PlayFault) → EndsBy crew s fault
-    → (error : CrewError) → fault ≡ Crew error → IsSessionError crew error
+pub threads_named : (crew : Option ℕ) (s : Scripts) (fault : ProgramError) → EndsBy crew s fault
+    → (error : CrewError) → fault ≡ Crew error → IsCrewErrorOfSession crew error
 threads_named crew s fault ends error is = subst (EndsBy crew s) is ends
 
 module _ (t : Transfer) (between : Option (List ℕ)) (s : Scripts) (blocks : List ℕ) where

@@ -8,9 +8,9 @@ use Rattle.pf_text.specs.Streams.{Transfer}
 use Rattle.pf_text.proofs.LinesOf.{lines_of-AreLines}
 use Rattle.pf_text.proofs.Outputs.{answers-append}
 use Rattle.pf_shapes.specs.declared.fault.SceneFault.{SceneFault}
-use Rattle.pf_console.specs.declared.fault.PlayFault.{PlayFault}
-use Rattle.pf_console.specs.declared.fault.PlayFault.TheVariants.{Words, Line, Frame, Memory, Crew, Read, Write}
-use Rattle.pf_console.specs.declared.fault.PlayFault.TheVariants as faults
+use Rattle.pf_console.specs.declared.error.ProgramError.{ProgramError}
+use Rattle.pf_console.specs.declared.error.ProgramError.TheVariants.{Words, Line, Frame, Memory, Crew, Read, Write}
+use Rattle.pf_console.specs.declared.error.ProgramError.TheVariants as errors
 use Rattle.pf_peers.specs.Session.{Session}
 use Rattle.pf_console.specs.declared.phase.Phase.{Phase}
 use Rattle.pf_console.specs.Laws.{NothingFailed}
@@ -60,7 +60,7 @@ write_prefix t stops = (
   stops.after_is ∙ ap (λ (bytes : List ℕ). Some bytes) (append_assoc t.before stops.text stops.part),
 )
 
-pub runs_write_prefix : (t : Transfer) (result : Result (Unit {0}) PlayFault) → Runs t result → WritesPrefix t (text_of t.input).written
+pub runs_write_prefix : (t : Transfer) (result : Result (Unit {0}) ProgramError) → Runs t result → WritesPrefix t (text_of t.input).written
 runs_write_prefix t (Ok done) h = ((text_of t.input).written, [], append-nil _, h.1)
 runs_write_prefix t (Err (Line number fault)) h = ((text_of t.input).written, [], append-nil _, h.1)
 runs_write_prefix t (Err Memory) h = stopped_prefix t h
@@ -69,9 +69,9 @@ runs_write_prefix t (Err Read) h = read_prefix t h
 runs_write_prefix t (Err Write) h = write_prefix t h
 runs_write_prefix t (Err (Words text)) h = elim h [ ]
 runs_write_prefix t (Err (Frame fault)) h = elim h [ ]
-runs_write_prefix t (Err (faults.Session refusal)) h = elim h [ ]
+runs_write_prefix t (Err (errors.Session refusal)) h = elim h [ ]
 
-pub runs_write_all : (t : Transfer) (result : Result (Unit {0}) PlayFault) → Runs t result → NothingFailed result
+pub runs_write_all : (t : Transfer) (result : Result (Unit {0}) ProgramError) → Runs t result → NothingFailed result
     → t.after ≡ Some (t.before ++ (text_of t.input).written)
 runs_write_all t (Ok done) h fine = h.1
 runs_write_all t (Err (Line number fault)) h fine = h.1
@@ -81,14 +81,14 @@ runs_write_all t (Err Read) h fine = elim fine [ ]
 runs_write_all t (Err Write) h fine = elim fine [ ]
 runs_write_all t (Err (Words text)) h fine = elim fine [ ]
 runs_write_all t (Err (Frame fault)) h fine = elim fine [ ]
-runs_write_all t (Err (faults.Session refusal)) h fine = elim h [ ]
+runs_write_all t (Err (errors.Session refusal)) h fine = elim h [ ]
 
 -- how a run ends in which nothing failed
-abbrev ending_of : Option (ℕ × SceneFault) → Result (Unit {0}) PlayFault
+abbrev ending_of : Option (ℕ × SceneFault) → Result (Unit {0}) ProgramError
 ending_of None = Ok tt
 ending_of (Some fault) = Err (Line fault.0 fault.1)
 
-runs_end : (t : Transfer) (result : Result (Unit {0}) PlayFault) → Runs t result → NothingFailed result → result ≡ ending_of (text_of t.input).fault
+runs_end : (t : Transfer) (result : Result (Unit {0}) ProgramError) → Runs t result → NothingFailed result → result ≡ ending_of (text_of t.input).fault
 runs_end t (Ok done) h fine = sym (ap ending_of h.2)
 runs_end t (Err (Line number fault)) h fine = sym (ap ending_of h.2)
 runs_end t (Err Memory) h fine = elim fine [ ]
@@ -97,9 +97,9 @@ runs_end t (Err Read) h fine = elim fine [ ]
 runs_end t (Err Write) h fine = elim fine [ ]
 runs_end t (Err (Words text)) h fine = elim fine [ ]
 runs_end t (Err (Frame fault)) h fine = elim fine [ ]
-runs_end t (Err (faults.Session refusal)) h fine = elim h [ ]
+runs_end t (Err (errors.Session refusal)) h fine = elim h [ ]
 
-pub runs_alike : (t u : Transfer) (first second : Result (Unit {0}) PlayFault) → Runs t first → Runs u second → NothingFailed first → NothingFailed second
+pub runs_alike : (t u : Transfer) (first second : Result (Unit {0}) ProgramError) → Runs t first → Runs u second → NothingFailed first → NothingFailed second
     → t.input ≡ u.input → t.before ≡ u.before → (t.after ≡ u.after) × (first ≡ second)
 runs_alike t u first second h k fine good input before = (
   runs_write_all t first h fine ∙ ap (λ (b : List ℕ). Some (b ++ (text_of t.input).written)) before

@@ -1,13 +1,13 @@
 -- How the lines of a session's text were read.
 use Rattle.std.proofs.Common.{◌≡◌, ◌≢◌, ℕ, Result, Ok, Err, ap, inl, inr, is_ok}
-use Rattle.pf_text.specs.declared.driver.DriveFault.{DriveFault}
-use Rattle.pf_text.specs.declared.driver.DriveFault.TheVariants as drives
+use Rattle.pf_text.specs.declared.driver.DriveError.{DriveError}
+use Rattle.pf_text.specs.declared.driver.DriveError.TheVariants as drives
 use Rattle.pf_text.specs.Driver.{Completes, Drives, StopsAtLine, text_output}
 use Rattle.pf_text.specs.Driver as counts
 use Rattle.pf_text.specs.Streams.{Transfer}
 use Rattle.pf_shapes.specs.declared.fault.SceneFault.{SceneFault}
 use Rattle.pf_step.specs.declared.crew.CrewError.{CrewError}
-use Rattle.pf_console.specs.declared.fault.PlayFault.TheVariants.{Crew, Memory}
+use Rattle.pf_console.specs.declared.error.ProgramError.TheVariants.{Crew, Memory}
 use Rattle.pf_console.specs.declared.phase.Phase.{Phase}
 use Rattle.pf_console.specs.declared.phase.Phase.TheVariants.{Reading, Seating, Playing}
 use Rattle.pf_console.specs.Phase.{first_phase}
@@ -33,7 +33,7 @@ scripts_are t ending is = ap scripts_at is
 ends_early : (t : Transfer) (ended : ℕ × Phase Scripts) → Completes session_rules first_phase t ended → StopsAt session_rules t ended.0
 ends_early t ended h = inr (h.left_is, ap is_ok h.ending_is)
 
-pub reads : (t : Transfer) (read : Result (ℕ × Phase Scripts) (DriveFault SceneFault)) → Drives session_rules first_phase t read
+pub reads : (t : Transfer) (read : Result (ℕ × Phase Scripts) (DriveError SceneFault)) → Drives session_rules first_phase t read
     → WritesNothing t × ReadsScripts t (outcome_of Memory read)
 reads t (Ok (number, Reading reader)) h =
     (complete_quiet t (number, Reading reader) h, (ends_early t (number, Reading reader) h, scripts_are t (Ok (number, Reading reader)) h.ending_is))
@@ -47,7 +47,7 @@ reads t (Err drives.Memory) h = (memory_quiet t h, h)
 reads t (Err drives.Read) h = (read_quiet t h, h)
 reads t (Err drives.Write) h = absurd (never_writes t h)
 
-pub reads_counted : (before after : ℕ) (read : Result (ℕ × Phase Scripts) (DriveFault SceneFault)) → counts.CountsReads before read after
+pub reads_counted : (before after : ℕ) (read : Result (ℕ × Phase Scripts) (DriveError SceneFault)) → counts.CountsReads before read after
     → CountsReads before (outcome_of Memory read) after
 reads_counted before after (Ok (number, Reading reader)) h = h
 reads_counted before after (Ok (number, Seating scene)) h = h
@@ -57,7 +57,7 @@ reads_counted before after (Err drives.Memory) h = h
 reads_counted before after (Err drives.Read) h = h
 reads_counted before after (Err drives.Write) h = h
 
-pub writes_counted : (before after : ℕ) (read : Result (ℕ × Phase Scripts) (DriveFault SceneFault)) → counts.CountsWrites before read after
+pub writes_counted : (before after : ℕ) (read : Result (ℕ × Phase Scripts) (DriveError SceneFault)) → counts.CountsWrites before read after
     → CountsWrites before (outcome_of Memory read) after
 writes_counted before after (Ok (number, Reading reader)) h = h
 writes_counted before after (Ok (number, Seating scene)) h = h
@@ -68,7 +68,7 @@ writes_counted before after (Err drives.Read) h = h
 writes_counted before after (Err drives.Write) h = h
 
 -- no thread was started
-pub names_none : (read : Result (ℕ × Phase Scripts) (DriveFault SceneFault)) (error : CrewError) → outcome_of Memory read ≢ Err (Crew error)
+pub names_none : (read : Result (ℕ × Phase Scripts) (DriveError SceneFault)) (error : CrewError) → outcome_of Memory read ≢ Err (Crew error)
 names_none (Ok (number, Reading reader)) error = λ e. absurd cc
 names_none (Ok (number, Seating scene)) error = λ e. absurd cc
 names_none (Ok (number, Playing s)) error = λ e. absurd cc

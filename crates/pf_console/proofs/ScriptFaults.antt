@@ -5,30 +5,30 @@ use Rattle.pf_shapes.specs.Scene.{Scene}
 use Rattle.pf_cache.specs.Meter.{saturating_sum}
 use Rattle.pf_commands.specs.declared.name.TheConstants.{MAX_TICK}
 use Rattle.pf_links.specs.Link.{Frame}
-use Rattle.pf_rollback.specs.declared.fault.Refusal.{Refusal}
-use Rattle.pf_rollback.specs.declared.fault.Refusal.TheVariants.{TickLimit}
+use Rattle.pf_rollback.specs.declared.error.Refusal.{Refusal}
+use Rattle.pf_rollback.specs.declared.error.Refusal.TheVariants.{TickLimit}
 use Rattle.pf_scripts.specs.Frames.{refusal_of}
 use Rattle.pf_scripts.specs.Script.{first_fault, frame_fault, frames_in, place_after, script_fault, tick_fault, turn_fault}
-use Rattle.pf_scripts.specs.declared.fault.SessionFault.{SessionFault}
-use Rattle.pf_scripts.specs.declared.fault.SessionFault.TheVariants as faults
+use Rattle.pf_scripts.specs.declared.error.SessionError.{SessionError}
+use Rattle.pf_scripts.specs.declared.error.SessionError.TheVariants as errors
 use Rattle.pf_scripts.specs.declared.turn.Turn.{Turn}
 use Rattle.pf_sessions.specs.Session.{session_fault, unsealed}
 use Rattle.pf_console.specs.Blocks.{fault_of}
 use Rattle.pf_console.specs.Scripts.{first_of, frames_refusal, script_refusal, scripts_refusal, ticks_refusal}
 use Rattle.pf_console.specs.Turns.{said_by}
-use Rattle.pf_console.specs.declared.fault.PlayFault.TheVariants.{Session}
+use Rattle.pf_console.specs.declared.error.ProgramError.TheVariants.{Session}
 
 -- a refusal is what the program makes of a fault
-abbrev pub Tells : Option SessionFault → Option Refusal → Type 0
+abbrev pub Tells : Option SessionError → Option Refusal → Type 0
 Tells fault refusal = option_map fault_of fault ≡ option_map Session refusal
 
-first_tells : (a b : Option SessionFault) (c d : Option Refusal) → Tells a c → Tells b d → Tells (first_fault a b) (first_of c d)
+first_tells : (a b : Option SessionError) (c d : Option Refusal) → Tells a c → Tells b d → Tells (first_fault a b) (first_of c d)
 first_tells (Some fault) b (Some refusal) d first later = first
 first_tells (Some fault) b None d first later = absurd cc
 first_tells None b (Some refusal) d first later = absurd cc
 first_tells None b None d first later = later
 
-frame_tells : (peer place : ℕ) (refusal : Option Refusal) → Tells (option_map (faults.Frame peer place) refusal) refusal
+frame_tells : (peer place : ℕ) (refusal : Option Refusal) → Tells (option_map (errors.Frame peer place) refusal) refusal
 frame_tells peer place (Some refusal) = refl
 frame_tells peer place None = refl
 
@@ -36,14 +36,14 @@ frames_tell : (s : Scene) (peer place : ℕ) (frames : List Frame) → Tells (fr
 unfolding frame_fault frames_refusal
 frames_tell s peer place [] = refl
 frames_tell s peer place (frame ∷ frames) =
-    first_tells (option_map (faults.Frame peer place) (refusal_of (unsealed s) frame)) (frame_fault (unsealed s) peer (saturating_sum place 1) frames)
+    first_tells (option_map (errors.Frame peer place) (refusal_of (unsealed s) frame)) (frame_fault (unsealed s) peer (saturating_sum place 1) frames)
     (refusal_of (unsealed s) frame) (frames_refusal s frames)
     (frame_tells peer place (refusal_of (unsealed s) frame)) (frames_tell s peer (saturating_sum place 1) frames)
 
 ticks_tell : (peer reached ticks : ℕ) → Tells (tick_fault peer reached ticks) (ticks_refusal reached ticks)
 ticks_tell peer reached ticks = by (nat_le (reached + ticks) MAX_TICK)
   where
-    by : (fits : Bool) → Tells (if fits then None else Some (faults.TickLimit peer)) (if fits then None else Some TickLimit)
+    by : (fits : Bool) → Tells (if fits then None else Some (errors.TickLimit peer)) (if fits then None else Some TickLimit)
     by true = refl
     by false = refl
 
@@ -80,7 +80,7 @@ none_refused s scripts none = by (scripts_refusal s (map (map said_by) scripts))
     by (Some refusal) is = absurd cc
 
 -- a fault of a script is reported as its refusal
-pub some_refused : (s : Scene) (scripts : List (List Turn)) (fault : SessionFault) → session_fault s 0 scripts ≡ Some fault
+pub some_refused : (s : Scene) (scripts : List (List Turn)) (fault : SessionError) → session_fault s 0 scripts ≡ Some fault
     → (refusal : Refusal) × (scripts_refusal s (map (map said_by) scripts) ≡ Some refusal) × (fault_of fault ≡ Session refusal)
 some_refused s scripts fault some = by (scripts_refusal s (map (map said_by) scripts)) (sym (session_tells s 0 scripts) ∙ ap (option_map fault_of) some)
   where

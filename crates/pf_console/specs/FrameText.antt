@@ -3,10 +3,10 @@ use Rattle.std.specs.Prelude.{◌≡◌, ℕ, List, ◌++◌, Some, Result, Ok, 
 use Rattle.pf_text.specs.declared.fault.LineFault.{LineFault}
 use Rattle.pf_commands.specs.declared.fault.FrameFault.{FrameFault}
 use Rattle.pf_commands.specs.declared.payload.Command.{Command}
-use Rattle.pf_console.specs.declared.fault.DigitsFault.{DigitsFault}
-use Rattle.pf_console.specs.declared.fault.DigitsFault.TheVariants.{BadNumber, Refused}
-use Rattle.pf_console.specs.declared.fault.PlayFault.{PlayFault}
-use Rattle.pf_console.specs.declared.fault.PlayFault.TheVariants.{Frame, Memory, Write}
+use Rattle.pf_console.specs.declared.error.DigitsFault.{DigitsFault}
+use Rattle.pf_console.specs.declared.error.DigitsFault.TheVariants.{BadNumber, Refused}
+use Rattle.pf_console.specs.declared.error.ProgramError.{ProgramError}
+use Rattle.pf_console.specs.declared.error.ProgramError.TheVariants.{Frame, Memory, Write}
 use Rattle.pf_console.specs.Digits.{frame_of}
 use Rattle.pf_console.specs.Print.{command_line}
 use Rattle.pf_text.specs.Streams.{Written}
@@ -26,7 +26,7 @@ digits_command digits = digits_result (frame_of digits)
 -- The line of the digits' command was written; or their error was returned and nothing written.
 -- Memory runs out only for digits that encode a command, and nothing is written then; where the
 -- writer failed, a part of the line was.
-abbrev pub PrintsFrame : List ℕ → Written → Result (Unit {0}) PlayFault → Type 0
+abbrev pub PrintsFrame : List ℕ → Written → Result (Unit {0}) ProgramError → Type 0
 PrintsFrame digits w (Ok done) =
     (command : Command) × (digits_command digits ≡ Ok command)
     × (w.after ≡ Some (w.before ++ command_line command))

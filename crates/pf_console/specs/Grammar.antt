@@ -13,10 +13,10 @@ use Rattle.pf_shapes.specs.declared.scene.TheConstants.{MAX_POSITION}
 use Rattle.pf_peers.specs.declared.event.Event.{Event}
 use Rattle.pf_commands.specs.declared.payload.Payload.TheVariants.{Push, Turn, Stop, Place}
 use Rattle.pf_peers.specs.declared.event.Event.TheVariants.{Issue, Take, Merge, Advance, Settle, Show, Seal}
-use Rattle.pf_console.specs.declared.grammar.EventWord.{EventWord}
-use Rattle.pf_console.specs.declared.grammar.EventWord.TheVariants as words
-use Rattle.pf_console.specs.declared.grammar.Kind.{Kind}
-use Rattle.pf_console.specs.declared.grammar.Kind.TheVariants as kinds
+use Rattle.pf_console.specs.declared.fields.EventWord.{EventWord}
+use Rattle.pf_console.specs.declared.fields.EventWord.TheVariants as words
+use Rattle.pf_console.specs.declared.fields.Kind.{Kind}
+use Rattle.pf_console.specs.declared.fields.Kind.TheVariants as kinds
 use Rattle.pf_console.specs.Digits.{frame_of}
 
 abbrev pub as_natural : Result ℤ LineFault → Result ℕ LineFault
@@ -129,8 +129,8 @@ issue_of peers args = Err BadLine
 unfoldable pub take_of : ℕ → List (List ℕ) → Result Event LineFault
 take_of peers (peer ∷ digits ∷ []) = do
   peer ← peer_of peers peer
-  frame ← frame_of digits
-  Ok (Take peer frame)
+  decoded ← frame_of digits
+  Ok (Take peer decoded)
 take_of peers args = Err BadLine
 
 -- `merge P Q`

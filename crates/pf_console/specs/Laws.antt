@@ -6,9 +6,9 @@ use Rattle.pf_text.specs.Driver.{Output, is_plain, is_skipped}
 use Rattle.pf_shapes.specs.declared.fault.SceneFault.{SceneFault}
 use Rattle.pf_peers.specs.declared.event.Event.{Event}
 use Rattle.pf_peers.specs.Session.{Session, replies_to, session_after_all}
-use Rattle.pf_console.specs.declared.fault.PlayFault.{PlayFault}
-use Rattle.pf_console.specs.declared.fault.PlayFault.TheVariants.{Line}
-use Rattle.pf_console.specs.declared.fault.PlayFault.TheVariants as faults
+use Rattle.pf_console.specs.declared.error.ProgramError.{ProgramError}
+use Rattle.pf_console.specs.declared.error.ProgramError.TheVariants.{Line}
+use Rattle.pf_console.specs.declared.error.ProgramError.TheVariants as errors
 use Rattle.pf_console.specs.declared.phase.Phase.{Phase}
 use Rattle.pf_console.specs.declared.phase.Phase.TheVariants.{Playing}
 use Rattle.pf_console.specs.Grammar.{event_of}
@@ -38,8 +38,8 @@ session_output number s events = record {
 }
 
 -- nothing failed: a text came to its end or to its first invalid line, or a script of it is refused
-abbrev pub NothingFailed : Result (Unit {0}) PlayFault → Type 0
+abbrev pub NothingFailed : Result (Unit {0}) ProgramError → Type 0
 NothingFailed (Ok done) = Unit {0}
 NothingFailed (Err (Line number fault)) = Unit {0}
-NothingFailed (Err (faults.Session refusal)) = Unit {0}
+NothingFailed (Err (errors.Session refusal)) = Unit {0}
 NothingFailed (Err other) = ⊥

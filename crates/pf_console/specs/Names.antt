@@ -4,10 +4,10 @@ use Rattle.pf_commands.specs.declared.checking.CheckFault.{CheckFault}
 use Rattle.pf_commands.specs.declared.checking.CheckFault.TheVariants.{UnknownBody, StaticBody, NotOwner}
 use Rattle.pf_commands.specs.declared.fault.FrameFault.{FrameFault}
 use Rattle.pf_commands.specs.declared.fault.FrameFault.TheVariants.{Short, Long, BadVersion, BadKind, NotCanonical, OutOfRange}
-use Rattle.pf_commands.specs.declared.map.Put.{Put}
-use Rattle.pf_commands.specs.declared.map.Put.TheVariants.{New, Same, Greater, Lesser}
-use Rattle.pf_rollback.specs.declared.fault.Refusal.{Refusal}
-use Rattle.pf_rollback.specs.declared.fault.Refusal.TheVariants.{TickLimit, NumbersSpent, Frame, Check, NotReached, TooOld, HorizonsDiffer, BasesDiffer}
+use Rattle.pf_commands.specs.declared.outcome.Put.{Put}
+use Rattle.pf_commands.specs.declared.outcome.Put.TheVariants.{New, Same, Greater, Lesser}
+use Rattle.pf_rollback.specs.declared.error.Refusal.{Refusal}
+use Rattle.pf_rollback.specs.declared.error.Refusal.TheVariants.{TickLimit, NumbersSpent, Frame, Check, NotReached, TooOld, HorizonsDiffer, BasesDiffer}
 use Rattle.pf_step.specs.declared.crew.CrewError.{CrewError}
 use Rattle.pf_step.specs.declared.crew.CrewError.TheVariants.{OutOfMemory, NoThread, GateShut, CrewLost}
 
@@ -24,7 +24,7 @@ check_fault_name UnknownBody = codes "UnknownBody"
 check_fault_name StaticBody = codes "StaticBody"
 check_fault_name NotOwner = codes "NotOwner"
 
--- the name of a rejection
+-- the name of a refusal
 abbrev pub refusal_name : Refusal → List ℕ
 refusal_name TickLimit = codes "TickLimit"
 refusal_name NumbersSpent = codes "NumbersSpent"

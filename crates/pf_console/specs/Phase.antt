@@ -58,7 +58,7 @@ after_line play (Reading reader) fields = after_scene_line (line_of reader field
 after_line play (Seating scene) fields = with_peers play scene (peer_count_of fields)
 after_line play (Playing begun) fields = after_play_line (play.after begun fields)
 
--- the lines of a scene take memory for bodies alone
+-- the lines of a scene take memory only for bodies
 unfoldable pub allocates : {B : Type 0} → Phase B → List (List ℕ) → Bool
 allocates (Reading reader) fields = is_body_line fields
 allocates (Seating scene) fields = true

@@ -12,8 +12,8 @@ use Rattle.pf_cache.specs.Contact.{Contact}
 use Rattle.pf_peers.specs.declared.event.Reply.{Reply}
 use Rattle.pf_peers.specs.declared.event.Reply.TheVariants.{Issued, Took, Merged, Advanced, Settled, Shown, Sealed, Refused}
 use Rattle.pf_step.specs.World.{World}
-use Rattle.pf_rollback.specs.declared.fault.Refusal.{Refusal}
-use Rattle.pf_rollback.specs.declared.fault.Refusal.TheVariants.{NotReached, TooOld, HorizonsDiffer}
+use Rattle.pf_rollback.specs.declared.error.Refusal.{Refusal}
+use Rattle.pf_rollback.specs.declared.error.Refusal.TheVariants.{NotReached, TooOld, HorizonsDiffer}
 use Rattle.pf_console.specs.Names.{put_name, refusal_name}
 
 -- what a command does, and the line's end
@@ -72,11 +72,11 @@ block_text fixtures peer tick w =
 abbrev pub reply_line : List ℕ → ℕ → List ℕ → List ℕ
 reply_line word peer answer = words_text word (pos peer ∷ []) ++ 32 ∷ answer ++ 10 ∷ []
 
--- a rejection by its name
+-- a refusal by its name
 abbrev pub refusal_line : List ℕ → List ℕ
 refusal_line name = codes "refused " ++ name ++ 10 ∷ []
 
--- a rejection by its name, and the ticks that it tells
+-- a refusal by its name, and the ticks that it tells
 unfoldable pub refusal_text : Refusal → List ℕ
 refusal_text (NotReached reached) = line_text (codes "refused NotReached") (pos reached ∷ [])
 refusal_text (TooOld horizon) = line_text (codes "refused TooOld") (pos horizon ∷ [])

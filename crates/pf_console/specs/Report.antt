@@ -6,12 +6,12 @@ use Rattle.pf_text.specs.Streams.{SinkCall}
 use Rattle.pf_shapes.specs.declared.fault.SceneFault.{SceneFault}
 use Rattle.pf_shapes.specs.declared.fault.SceneFault.TheVariants.{BadLine, BadNumber, TooMany, BadMass, BadSize}
 use Rattle.pf_step.specs.declared.crew.CrewError.{CrewError}
-use Rattle.pf_rollback.specs.declared.fault.Refusal.{Refusal}
+use Rattle.pf_rollback.specs.declared.error.Refusal.{Refusal}
 use Rattle.pf_console.specs.Names.{crew_error_name, frame_fault_name, refusal_name}
-use Rattle.pf_console.specs.declared.fault.DigitsFault.{DigitsFault}
-use Rattle.pf_console.specs.declared.fault.DigitsFault.TheVariants as digits
-use Rattle.pf_console.specs.declared.fault.PlayFault.{PlayFault}
-use Rattle.pf_console.specs.declared.fault.PlayFault.TheVariants.{Words, Line, Frame, Session, Memory, Crew, Read, Write}
+use Rattle.pf_console.specs.declared.error.DigitsFault.{DigitsFault}
+use Rattle.pf_console.specs.declared.error.DigitsFault.TheVariants as digits
+use Rattle.pf_console.specs.declared.error.ProgramError.{ProgramError}
+use Rattle.pf_console.specs.declared.error.ProgramError.TheVariants.{Words, Line, Frame, Session, Memory, Crew, Read, Write}
 
 abbrev pub fault_name : SceneFault → List ℕ
 fault_name BadLine = codes "BadLine"
@@ -41,7 +41,7 @@ crew_error_text error = codes "pf_play: crew: " ++ crew_error_name error ++ code
 unfoldable pub refused_script_text : Refusal → List ℕ
 refused_script_text refusal = codes "pf_play: session: " ++ refusal_name refusal ++ codes "\n"
 
-abbrev pub fault_text : PlayFault → List ℕ
+abbrev pub fault_text : ProgramError → List ℕ
 fault_text (Words text) = string_bytes text
 fault_text (Line number fault) = invalid_line_text number fault
 fault_text (Frame fault) = invalid_frame_text fault
@@ -51,7 +51,7 @@ fault_text (Crew error) = crew_error_text error
 fault_text Read = codes "pf_play: read failed\n"
 fault_text Write = codes "pf_play: write failed\n"
 
-abbrev pub status_of : PlayFault → ℕ
+abbrev pub status_of : ProgramError → ℕ
 status_of (Words text) = 2
 status_of (Line number fault) = 1
 status_of (Frame fault) = 1
@@ -62,11 +62,11 @@ status_of Read = 3
 status_of Write = 3
 
 -- the same of how the program ended: no text and 0 where there is no error
-abbrev pub outcome_text : Result (Unit {0}) PlayFault → List ℕ
+abbrev pub outcome_text : Result (Unit {0}) ProgramError → List ℕ
 outcome_text (Ok done) = []
 outcome_text (Err fault) = fault_text fault
 
-abbrev pub outcome_status : Result (Unit {0}) PlayFault → ℕ
+abbrev pub outcome_status : Result (Unit {0}) ProgramError → ℕ
 outcome_status (Ok done) = 0
 outcome_status (Err fault) = status_of fault
 

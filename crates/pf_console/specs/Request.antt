@@ -3,8 +3,8 @@ use Rattle.std.specs.Prelude.{◌≡◌, ℕ, ◌<◌, ◌≤◌, IfSome, List, 
 use Rattle.pf_islands.specs.Split.{Island}
 use Rattle.pf_pool.specs.declared.pool.TheConstants.{MAX_WORKERS}
 use Rattle.pf_step.specs.declared.crew.CrewError.{CrewError}
-use Rattle.pf_console.specs.declared.fault.PlayFault.{PlayFault}
-use Rattle.pf_console.specs.declared.fault.PlayFault.TheVariants.{Write}
+use Rattle.pf_console.specs.declared.error.ProgramError.{ProgramError}
+use Rattle.pf_console.specs.declared.error.ProgramError.TheVariants.{Write}
 use Rattle.pf_console.specs.declared.request.Request.{Request}
 use Rattle.pf_console.specs.declared.request.Request.TheVariants.{Run, Session, Frame, Help, Version}
 use Rattle.pf_console.specs.Crews.{FailsByCrew, FailsByThreads}
@@ -15,7 +15,7 @@ use Rattle.pf_text.specs.Streams.{Transfer, Written, written}
 
 -- a text was written behind the bytes that were there before, or a part of it where the writer
 -- failed
-abbrev pub Writes : List ℕ → Written → Result (Unit {0}) PlayFault → Type 0
+abbrev pub Writes : List ℕ → Written → Result (Unit {0}) ProgramError → Type 0
 Writes text w (Ok done) = w.after ≡ Some (w.before ++ text)
 Writes text w (Err Write) =
     (part : List ℕ) × (rest : List ℕ) × (part ++ rest ≡ text) × (w.after ≡ Some (w.before ++ part))
@@ -23,7 +23,7 @@ Writes text w (Err other) = ⊥
 
 -- What was done for a request: a run of the input, a session of it, the line of a frame, a help or
 -- the version. Only runs and sessions read.
-abbrev pub Performs : Request → Transfer → Result (Unit {0}) PlayFault → Type 0
+abbrev pub Performs : Request → Transfer → Result (Unit {0}) ProgramError → Type 0
 Performs (Run workers) t result = Runs t result
 Performs (Session workers) t result = PlaysSession t result
 Performs (Frame digits) t result =
@@ -40,6 +40,6 @@ CanStart request = Unit {0}
 
 -- an error of threads comes from those of a session, or else from the crew that was lent
 abbrev pub FailsByThreadsOf : {A : Type 0} → (A → List Island → CrewError → A → Type 0) → Request
-    → Result (Unit {0}) PlayFault → Type 0
+    → Result (Unit {0}) ProgramError → Type 0
 FailsByThreadsOf may_fail (Session crew) result = FailsByThreads crew result
 FailsByThreadsOf may_fail request result = FailsByCrew may_fail result

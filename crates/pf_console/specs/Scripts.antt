@@ -5,16 +5,16 @@ use Rattle.std.specs.List.{flat_map}
 use Rattle.pf_text.specs.declared.fault.LineFault.{LineFault}
 use Rattle.pf_text.specs.declared.fault.LineError.{LineError}
 use Rattle.pf_text.specs.declared.fault.LineError.TheVariants as errors
-use Rattle.pf_text.specs.declared.driver.TakeRefusal.{TakeRefusal}
-use Rattle.pf_text.specs.declared.driver.TakeRefusal.TheVariants as refusals
+use Rattle.pf_text.specs.declared.driver.TakeError.{TakeError}
+use Rattle.pf_text.specs.declared.driver.TakeError.TheVariants as take_errors
 use Rattle.pf_shapes.specs.declared.fault.SceneFault.{SceneFault}
 use Rattle.pf_shapes.specs.Fault.{scene_fault_of}
 use Rattle.pf_shapes.specs.Scene.{Scene}
 use Rattle.pf_commands.specs.Merge.{CommandMap, put_all}
 use Rattle.pf_commands.specs.declared.name.TheConstants.{MAX_TICK}
 use Rattle.pf_links.specs.Link.{Frame}
-use Rattle.pf_rollback.specs.declared.fault.Refusal.{Refusal}
-use Rattle.pf_rollback.specs.declared.fault.Refusal.TheVariants.{TickLimit}
+use Rattle.pf_rollback.specs.declared.error.Refusal.{Refusal}
+use Rattle.pf_rollback.specs.declared.error.Refusal.TheVariants.{TickLimit}
 use Rattle.pf_scripts.specs.Frames.{commands_in, refusal_of}
 use Rattle.pf_sessions.specs.Session.{unsealed}
 use Rattle.pf_step.specs.Simulation.{sim}
@@ -44,9 +44,9 @@ after_turn s (Ok added) = Ok ([], record s { scripts = with_turn s.scripts added
 after_turn s (Err fault) = Err (scene_fault_of fault)
 
 -- why a line of a turn was not taken
-abbrev pub refusal_of_line : LineError → TakeRefusal SceneFault
-refusal_of_line errors.Memory = refusals.Memory
-refusal_of_line (errors.Fault fault) = refusals.Fault (scene_fault_of fault)
+abbrev pub take_error_of_line : LineError → TakeError SceneFault
+take_error_of_line errors.Memory = take_errors.Memory
+take_error_of_line (errors.Fault fault) = take_errors.Fault (scene_fault_of fault)
 
 -- peers without turns, and then lines of turns
 abbrev pub session_play : PlayRules Scripts
@@ -93,8 +93,8 @@ commands_of s scripts =
     put_all empty (commands_in (unsealed s)
     (flat_map (λ script. flat_map (λ turn. turn.frames) script) scripts))
 
--- each peer's block at the sum of its own ticks, of the simulation from tick zero of these commands;
--- the first script is that of the peer of this number
+-- each peer's block at the sum of its own ticks, of the simulation from tick zero of these
+-- commands; the first script is that of the peer of this number
 unfoldable pub blocks_from : Scene → CommandMap → ℕ → List (List Turn) → List ℕ
 blocks_from s commands first [] = []
 blocks_from s commands first (script ∷ scripts) =

@@ -4,12 +4,12 @@ use Rattle.pf_text.specs.Driver.{Rules, StopsForMemory, StopsForRead, text_outpu
 use Rattle.pf_text.specs.Streams.{Transfer}
 use Rattle.pf_shapes.specs.declared.fault.SceneFault.{SceneFault}
 use Rattle.pf_shapes.specs.declared.fault.SceneFault.TheVariants.{BadLine}
-use Rattle.pf_rollback.specs.declared.fault.Refusal.{Refusal}
-use Rattle.pf_console.specs.declared.fault.PlayFault.{PlayFault}
-use Rattle.pf_console.specs.declared.fault.PlayFault.TheVariants.{Words, Line, Frame, Session, Memory, Crew, Read, Write}
+use Rattle.pf_rollback.specs.declared.error.Refusal.{Refusal}
+use Rattle.pf_console.specs.declared.error.ProgramError.{ProgramError}
+use Rattle.pf_console.specs.declared.error.ProgramError.TheVariants.{Words, Line, Frame, Session, Memory, Crew, Read, Write}
 use Rattle.pf_console.specs.declared.phase.Phase.{Phase}
 use Rattle.pf_console.specs.declared.phase.Phase.TheVariants.{Reading, Seating, Playing}
-use Rattle.pf_console.specs.Crews.{IsSessionError}
+use Rattle.pf_console.specs.Crews.{IsCrewErrorOfSession}
 use Rattle.pf_console.specs.Phase.{first_phase, phase_rules}
 use Rattle.pf_console.specs.Scripts.{Scripts, blocks_of, scripts_refusal, session_play}
 use Rattle.pf_console.specs.Text.{StopsAt, WritesPrefix}
@@ -33,7 +33,7 @@ scripts_of input = scripts_at (text_output session_rules first_phase input).endi
 -- what is written, and the fault, if there is one
 pub record SessionText : Type 0 where
   pub written : List ℕ
-  pub fault : Option PlayFault
+  pub fault : Option ProgramError
 
 abbrev pub text_unless : List ℕ → Option Refusal → SessionText
 text_unless blocks None = record { written = blocks; fault = None }
@@ -55,7 +55,7 @@ abbrev pub WritesNothing : Transfer → Type 0
 WritesNothing t = t.after ≡ Some t.before
 
 -- how the lines of a text were read, before anything is written
-abbrev pub ReadsScripts : Transfer → Result Scripts PlayFault → Type 0
+abbrev pub ReadsScripts : Transfer → Result Scripts ProgramError → Type 0
 ReadsScripts t (Ok scripts) = (t.left ≡ Some []) × (scripts_of t.input ≡ Ok scripts)
 ReadsScripts t (Err (Line number fault)) =
     StopsAt session_rules t number × (scripts_of t.input ≡ Err (number, fault))
@@ -64,9 +64,9 @@ ReadsScripts t (Err Read) = StopsForRead session_rules first_phase t
 ReadsScripts t (Err other) = ⊥
 
 -- how a session of scripts ends that writes nothing: its peers may have crews of so many workers
-abbrev pub EndsBy : Option ℕ → Scripts → PlayFault → Type 0
+abbrev pub EndsBy : Option ℕ → Scripts → ProgramError → Type 0
 EndsBy crew s (Session refusal) = scripts_refusal s.scene s.scripts ≡ Some refusal
-EndsBy crew s (Crew error) = IsSessionError crew error
+EndsBy crew s (Crew error) = IsCrewErrorOfSession crew error
 EndsBy crew s Memory = Unit {0}
 EndsBy crew s other = ⊥
 
@@ -77,7 +77,7 @@ HasScripts t = (t.left ≡ Some []) × ((s : Scripts) × (scripts_of t.input ≡
 -- How a call ended, and what it read and wrote. All of the text is read, up to the first invalid
 -- line, before anything is written. Memory may run out at a valid line or behind all lines, and
 -- threads fail behind all lines.
-abbrev pub PlaysSession : Transfer → Result (Unit {0}) PlayFault → Type 0
+abbrev pub PlaysSession : Transfer → Result (Unit {0}) ProgramError → Type 0
 PlaysSession t (Ok done) =
     (t.left ≡ Some []) × (t.after ≡ Some (t.before ++ (session_text_of t.input).written))
     × ((session_text_of t.input).fault ≡ None)

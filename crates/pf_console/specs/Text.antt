@@ -2,12 +2,12 @@
 use Rattle.std.specs.Prelude.{◌≡◌, ◌⊎◌, ℕ, ◌+◌, List, [], ◌++◌, length, Option, Some, None, Result, Ok, Err, IsOk}
 use Rattle.pf_text.specs.Driver.{Rules, TakesLine, StopsForMemory, StopsForRead, StopsForWrite, text_output}
 use Rattle.pf_text.specs.Streams.{Transfer}
-use Rattle.pf_text.specs.declared.driver.DriveFault.{DriveFault}
-use Rattle.pf_text.specs.declared.driver.DriveFault.TheVariants as drives
+use Rattle.pf_text.specs.declared.driver.DriveError.{DriveError}
+use Rattle.pf_text.specs.declared.driver.DriveError.TheVariants as drives
 use Rattle.pf_shapes.specs.declared.fault.SceneFault.{SceneFault}
 use Rattle.pf_shapes.specs.declared.fault.SceneFault.TheVariants.{BadLine}
-use Rattle.pf_console.specs.declared.fault.PlayFault.{PlayFault}
-use Rattle.pf_console.specs.declared.fault.PlayFault.TheVariants.{Words, Line, Frame, Session, Memory, Crew, Read, Write}
+use Rattle.pf_console.specs.declared.error.ProgramError.{ProgramError}
+use Rattle.pf_console.specs.declared.error.ProgramError.TheVariants.{Words, Line, Frame, Session, Memory, Crew, Read, Write}
 use Rattle.pf_console.specs.declared.phase.Phase.{Phase}
 use Rattle.pf_console.specs.declared.phase.Phase.TheVariants.{Reading, Seating, Playing}
 use Rattle.pf_console.specs.Phase.{first_phase}
@@ -36,7 +36,8 @@ text_of input = record {
 -- what the end of a text's lines is for the program, where a valid line without a reply has this
 -- fault
 abbrev pub outcome_of
-    : {B : Type 0} → PlayFault → Result (ℕ × Phase B) (DriveFault SceneFault) → Result B PlayFault
+    : {B : Type 0} → ProgramError → Result (ℕ × Phase B) (DriveError SceneFault)
+    → Result B ProgramError
 outcome_of missing (Ok (number, Reading reader)) = Err (Line number BadLine)
 outcome_of missing (Ok (number, Seating scene)) = Err (Line number BadLine)
 outcome_of missing (Ok (number, Playing begun)) = Ok begun
@@ -61,7 +62,7 @@ WritesPrefix t text =
 -- How a run ended, and what it read and wrote. It runs out of memory, or its crew fails, only at a
 -- valid line; there, and where the reader failed, the lines before are valid and their output was
 -- written; where the writer failed, a part of the next reply stands behind that.
-abbrev pub Runs : Transfer → Result (Unit {0}) PlayFault → Type 0
+abbrev pub Runs : Transfer → Result (Unit {0}) ProgramError → Type 0
 Runs t (Ok done) =
     (t.left ≡ Some []) × (t.after ≡ Some (t.before ++ (text_of t.input).written))
     × ((text_of t.input).fault ≡ None)
@@ -77,17 +78,17 @@ Runs t (Err (Frame fault)) = ⊥
 Runs t (Err (Session refusal)) = ⊥
 
 -- a run that ends because its reader failed counts one failure of it, and any other run none
-abbrev pub CountsReads : {X : Type 0} → ℕ → Result X PlayFault → ℕ → Type 0
+abbrev pub CountsReads : {X : Type 0} → ℕ → Result X ProgramError → ℕ → Type 0
 CountsReads before (Err Read) after = after ≡ before + 1
 CountsReads before result after = after ≡ before
 
 -- the same of its writer
-abbrev pub CountsWrites : {X : Type 0} → ℕ → Result X PlayFault → ℕ → Type 0
+abbrev pub CountsWrites : {X : Type 0} → ℕ → Result X ProgramError → ℕ → Type 0
 CountsWrites before (Err Write) after = after ≡ before + 1
 CountsWrites before result after = after ≡ before
 
--- a call that reads nothing has no error of a reader, nor of a crew, which a text alone uses
-abbrev pub ReadsNothing : Result (Unit {0}) PlayFault → Type 0
+-- a call that reads nothing has no error of a reader, nor of a crew, which only a text uses
+abbrev pub ReadsNothing : Result (Unit {0}) ProgramError → Type 0
 ReadsNothing (Err Read) = ⊥
 ReadsNothing (Err (Crew error)) = ⊥
 ReadsNothing result = Unit {0}

@@ -5,7 +5,7 @@ ghost use Rattle.pf_console.specs.Text.{CountsWrites, ReadsNothing};
 ghost use Rattle.pf_console.specs.FrameText.{digits_command, PrintsFrame};
 
 use crate::digits::frame;
-use crate::fault::{DigitsFault, PlayFault};
+use crate::error::{DigitsFault, ProgramError};
 use crate::print::command_text;
 use pf_commands::Command;
 use pf_text::Sink;
@@ -23,7 +23,7 @@ fn read(digits: &[u8]) -> Result<Command, DigitsFault>
 }
 
 /// Writes the fields of the frame that hexadecimal digits encode, as one line.
-pub fn frame_text<W: Sink>(alloc: Global, digits: &str, writer: &mut W) -> Result<(), PlayFault>
+pub fn frame_text<W: Sink>(alloc: Global, digits: &str, writer: &mut W) -> Result<(), ProgramError>
     requires { W.failures writer.old + 1 < 2 ^ 64 }
     ensures text { (before : List ℕ) → W.contents writer.old ≡ Some before
         → PrintsFrame digits.now
@@ -31,7 +31,7 @@ pub fn frame_text<W: Sink>(alloc: Global, digits: &str, writer: &mut W) -> Resul
     ensures reads_nothing { ReadsNothing result }
     ensures writes_counted { CountsWrites (W.failures writer.old) result (W.failures writer.new) }
 {
-    let command = read(digits.as_bytes()).map_err(PlayFault::Frame)?;
+    let command = read(digits.as_bytes()).map_err(ProgramError::Frame)?;
     let text = command_text(alloc, &command)?;
     Ok(writer.write_all(text.as_bytes())?)
 }

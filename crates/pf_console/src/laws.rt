@@ -12,8 +12,8 @@ ghost use Rattle.pf_scripts.specs.declared.turn.Turn.{Turn};
 ghost use Rattle.pf_sessions.specs.Session.{session_fault, session_results};
 ghost use Rattle.pf_peers.specs.declared.event.Event.{Event};
 ghost use Rattle.pf_peers.specs.Session as peers;
-ghost use Rattle.pf_console.specs.declared.fault.PlayFault.{PlayFault};
-ghost use Rattle.pf_console.specs.declared.fault.PlayFault.TheVariants.{Session};
+ghost use Rattle.pf_console.specs.declared.error.ProgramError.{ProgramError};
+ghost use Rattle.pf_console.specs.declared.error.ProgramError.TheVariants.{Session};
 ghost use Rattle.pf_console.specs.declared.phase.Phase.TheVariants.{Playing};
 ghost use Rattle.pf_console.specs.Digits.{frame_of};
 ghost use Rattle.pf_console.specs.EventEncoding.{event_line, IsEncodable};
@@ -35,7 +35,8 @@ pub fn event_lines_have_replies()
         → AreLinesOf (length s.peers) lines events
         → lines_output text_rules number (Playing s) lines
         ≡ session_output (number + length lines) s events }
-    ensures written { (number : ℕ) (s : peers.Session) (events : List Event) → length s.peers ≤ PLAYERS
+    ensures written { (number : ℕ) (s : peers.Session) (events : List Event)
+        → length s.peers ≤ PLAYERS
         → All (IsEncodable (length s.peers)) events
         → lines_output text_rules number (Playing s) (map event_line events)
         ≡ session_output (number + length events) s events }
@@ -51,11 +52,11 @@ pub fn event_lines_encode_events()
 /// input, and all of it where nothing failed. So two runs of one text in which nothing failed wrote
 /// the same and ended alike.
 pub fn runs_write_one_text()
-    ensures prefix { (t : Transfer) (result : Result (Unit {0}) PlayFault) → Runs t result
+    ensures prefix { (t : Transfer) (result : Result (Unit {0}) ProgramError) → Runs t result
         → WritesPrefix t (text_of t.input).written }
-    ensures all { (t : Transfer) (result : Result (Unit {0}) PlayFault) → Runs t result
+    ensures all { (t : Transfer) (result : Result (Unit {0}) ProgramError) → Runs t result
         → NothingFailed result → t.after ≡ Some (t.before ++ (text_of t.input).written) }
-    ensures alike { (t u : Transfer) (first second : Result (Unit {0}) PlayFault)
+    ensures alike { (t u : Transfer) (first second : Result (Unit {0}) ProgramError)
         → Runs t first → Runs u second → NothingFailed first → NothingFailed second
         → t.input ≡ u.input → t.before ≡ u.before
         → (t.after ≡ u.after) × (first ≡ second) }
@@ -65,11 +66,12 @@ pub fn runs_write_one_text()
 /// input, and all of it where nothing failed. So two sessions of one text in which nothing failed
 /// wrote the same and ended alike.
 pub fn sessions_write_one_text()
-    ensures prefix { (t : Transfer) (result : Result (Unit {0}) PlayFault) → PlaysSession t result
+    ensures prefix { (t : Transfer) (result : Result (Unit {0}) ProgramError)
+        → PlaysSession t result
         → WritesPrefix t (session_text_of t.input).written }
-    ensures all { (t : Transfer) (result : Result (Unit {0}) PlayFault) → PlaysSession t result
+    ensures all { (t : Transfer) (result : Result (Unit {0}) ProgramError) → PlaysSession t result
         → NothingFailed result → t.after ≡ Some (t.before ++ (session_text_of t.input).written) }
-    ensures alike { (t u : Transfer) (first second : Result (Unit {0}) PlayFault)
+    ensures alike { (t u : Transfer) (first second : Result (Unit {0}) ProgramError)
         → PlaysSession t first → PlaysSession u second → NothingFailed first
         → NothingFailed second → t.input ≡ u.input → t.before ≡ u.before
         → (t.after ≡ u.after) × (first ≡ second) }

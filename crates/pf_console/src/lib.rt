@@ -4,7 +4,8 @@
 
 mod digits;
 mod ending;
-mod fault;
+mod error;
+mod fields;
 mod frame;
 mod grammar;
 pub mod laws;
@@ -20,7 +21,7 @@ mod session;
 mod settler;
 mod turns;
 
-pub use fault::{DigitsFault, PlayFault};
+pub use error::{DigitsFault, ProgramError};
 pub use frame::frame_text;
 pub use reporting::{finish, report};
 pub use request::{Request, VERSION, perform};

@@ -32,7 +32,7 @@ pub fn check_fault_name(fault: CheckFault) -> &'static str
     }
 }
 
-/// The name of a rejection.
+/// The name of a refusal.
 pub fn refusal_name(refusal: Refusal) -> &'static str
     ensures { result.now ≡ refusal_name refusal }
 {

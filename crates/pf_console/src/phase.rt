@@ -5,7 +5,7 @@ ghost use Rattle.pf_text.specs.Driver.{Produces};
 ghost use Rattle.pf_console.specs.Phase.{after_scene_line, peer_count_of, phase_rules, with_peers};
 
 use pf_shapes::{MAX_BODIES, Progress, Scene, SceneFault, SceneReader};
-use pf_text::{LineFault, Machine, TakeRefusal, integer};
+use pf_text::{LineFault, Machine, TakeError, integer};
 use std::alloc::{AllocError, Global};
 
 /// How many peers a text may have.
@@ -34,7 +34,7 @@ pub trait Play<L>: Drop {
         alloc: Global,
         lent: &mut L,
         fields: &[&[u8]],
-    ) -> Result<(String, Self), TakeRefusal<SceneFault>>
+    ) -> Result<(String, Self), TakeError<SceneFault>>
     where
         Self: Sized,
         ensures { Produces result (play.after self (map (λ field. field.now) fields.now)) };
@@ -95,11 +95,11 @@ fn after_peers_line<L, B: Play<L>>(
     alloc: Global,
     scene: Scene,
     fields: &[&[u8]],
-) -> Result<(String, Phase<B>), TakeRefusal<SceneFault>>
+) -> Result<(String, Phase<B>), TakeError<SceneFault>>
     ensures { Produces result
         (with_peers B.play scene (peer_count_of (map (λ field. field.now) fields.now))) }
 {
-    let count = peer_count(fields).map_err(TakeRefusal::Fault)?;
+    let count = peer_count(fields).map_err(TakeError::Fault)?;
     let begun = B::begin(alloc, scene, count)?;
     Ok((String::new(alloc), Phase::Playing(begun)))
 }
@@ -119,7 +119,7 @@ impl<L, B: Play<L>> Machine<L> for Phase<B> {
         alloc: Global,
         lent: &mut L,
         fields: &[&[u8]],
-    ) -> Result<(String, Self), TakeRefusal<SceneFault>> {
+    ) -> Result<(String, Self), TakeError<SceneFault>> {
         match self {
             Phase::Reading(reader) => {
                 let progress = reader.take(alloc, fields)?;

@@ -18,7 +18,7 @@ use pf_text::{push_line, push_words};
 use std::alloc::{AllocError, Global};
 
 /// Room for the text of a reply of one line.
-const LINE_ROOM: usize = 64;
+const LINE_CAPACITY: usize = 64;
 
 /// Adds what a command does, and the line's end.
 fn push_payload(text: &mut String, payload: &Payload) -> Result<(), AllocError>
@@ -142,7 +142,7 @@ fn push_reply(text: &mut String, word: &str, peer: u8, answer: &str) -> Result<(
     text.push('\n')
 }
 
-/// Adds the line of a rejection by its name.
+/// Adds the line of a refusal by its name.
 fn push_refusal_line(text: &mut String, name: &str) -> Result<(), AllocError>
     ensures { OnOk result (string_bytes text.new ≡ string_bytes text.old ++ refusal_line name.now) }
 {
@@ -151,7 +151,7 @@ fn push_refusal_line(text: &mut String, name: &str) -> Result<(), AllocError>
     text.push('\n')
 }
 
-/// Adds the text of a rejection.
+/// Adds the text of a refusal.
 #[tactic(auto, unfolding(crate::specs::Print::refusal_text))]
 fn push_refusal(text: &mut String, refusal: Refusal) -> Result<(), AllocError>
     ensures { OnOk result (string_bytes text.new ≡ string_bytes text.old ++ refusal_text refusal) }
@@ -193,7 +193,7 @@ pub fn push_block(
 pub fn reply_text(alloc: Global, fixtures: &[Fixture], reply: &Reply) -> Result<String, AllocError>
     ensures { IfOk result (λ text. string_bytes text ≡ reply_text fixtures.now reply.now) }
 {
-    let mut text = String::with_capacity(alloc, LINE_ROOM)?;
+    let mut text = String::with_capacity(alloc, LINE_CAPACITY)?;
     match reply {
         Reply::Issued { peer, frame } => {
             let digits = hex::encode(alloc, frame.as_slice())?;

@@ -14,7 +14,7 @@ use pf_manifold::Collider;
 use pf_peers::{Event, Session};
 use pf_shapes::{Scene, SceneFault};
 use pf_step::Crew;
-use pf_text::TakeRefusal;
+use pf_text::TakeError;
 use std::alloc::{AllocError, Global};
 
 /// The reply to an event, and the session after it.
@@ -23,7 +23,7 @@ fn after_known_event<P: Collider, C: Crew>(
     settler: &mut Settler<P, C>,
     session: Session,
     event: Event,
-) -> Result<(String, Session), TakeRefusal<SceneFault>>
+) -> Result<(String, Session), TakeError<SceneFault>>
     requires { IsAmong (length session.peers) event }
     ensures { Produces result (after_event session (Ok event)) }
 {
@@ -45,10 +45,10 @@ impl<P: Collider, C: Crew> Play<Settler<'_, P, C>> for Session {
         alloc: Global,
         settler: &mut Settler<'_, P, C>,
         fields: &[&[u8]],
-    ) -> Result<(String, Session), TakeRefusal<SceneFault>> {
+    ) -> Result<(String, Session), TakeError<SceneFault>> {
         match event(self.peer_count(), fields) {
             Ok(event) => after_known_event(alloc, settler, self, event),
-            Err(fault) => Err(TakeRefusal::Fault(SceneFault::from(fault))),
+            Err(fault) => Err(TakeError::Fault(SceneFault::from(fault))),
         }
     }
 }

@@ -3,7 +3,7 @@
 ghost use Rattle.std.specs.Prelude.{◌≡◌, ◌+◌, ◌^◌, ◌<◌};
 ghost use Rattle.pf_console.specs.Report.{fault_name, digits_fault_name, invalid_line_text, invalid_frame_text, crew_error_text, refused_script_text, fault_text, status_of, outcome_text, outcome_status, Reports};
 
-use crate::fault::{DigitsFault, PlayFault};
+use crate::error::{DigitsFault, ProgramError};
 use crate::names::{crew_error_name, frame_fault_name, refusal_name};
 use arrayvec::ArrayString;
 use itoa::Buffer;
@@ -13,7 +13,7 @@ use pf_step::CrewError;
 use pf_text::Sink;
 
 /// More bytes than the text about an invalid line can have.
-const FAULT_ROOM: usize = 64;
+const ERROR_TEXT_CAPACITY: usize = 64;
 
 /// The name of an error of a line.
 fn fault_name(fault: SceneFault) -> &'static str
@@ -40,7 +40,7 @@ fn digits_fault_name(fault: DigitsFault) -> &'static str
 
 /// The text about an invalid frame.
 #[tactic(auto, unfolding(crate::specs::Report::invalid_frame_text))]
-fn invalid_frame_text(fault: DigitsFault) -> ArrayString<FAULT_ROOM>
+fn invalid_frame_text(fault: DigitsFault) -> ArrayString<ERROR_TEXT_CAPACITY>
     ensures { result.bytes ≡ invalid_frame_text fault }
 {
     let mut line = ArrayString::new();
@@ -52,7 +52,7 @@ fn invalid_frame_text(fault: DigitsFault) -> ArrayString<FAULT_ROOM>
 
 /// The text about a script that is refused.
 #[tactic(auto, unfolding(crate::specs::Report::refused_script_text))]
-fn refused_script_text(refusal: Refusal) -> ArrayString<FAULT_ROOM>
+fn refused_script_text(refusal: Refusal) -> ArrayString<ERROR_TEXT_CAPACITY>
     ensures { result.bytes ≡ refused_script_text refusal }
 {
     let mut line = ArrayString::new();
@@ -64,7 +64,7 @@ fn refused_script_text(refusal: Refusal) -> ArrayString<FAULT_ROOM>
 
 /// The text about a crew that failed.
 #[tactic(auto, unfolding(crate::specs::Report::crew_error_text))]
-fn crew_error_text(error: CrewError) -> ArrayString<FAULT_ROOM>
+fn crew_error_text(error: CrewError) -> ArrayString<ERROR_TEXT_CAPACITY>
     ensures { result.bytes ≡ crew_error_text error }
 {
     let mut line = ArrayString::new();
@@ -76,7 +76,7 @@ fn crew_error_text(error: CrewError) -> ArrayString<FAULT_ROOM>
 
 /// The text about an invalid line, on the stack: it takes no memory.
 #[tactic(auto, unfolding(crate::specs::Report::invalid_line_text))]
-fn invalid_line_text(number: u64, fault: SceneFault) -> ArrayString<FAULT_ROOM>
+fn invalid_line_text(number: u64, fault: SceneFault) -> ArrayString<ERROR_TEXT_CAPACITY>
     ensures { result.bytes ≡ invalid_line_text number fault }
 {
     let mut line = ArrayString::new();
@@ -91,7 +91,7 @@ fn invalid_line_text(number: u64, fault: SceneFault) -> ArrayString<FAULT_ROOM>
 /// Returns the status that the program ends with, 0 where there is no error, and writes the text
 /// about an error.
 #[tactic(auto, using(pf_text::proofs::Taking::appends_none))]
-pub fn finish<W: Sink>(outcome: Result<(), PlayFault>, writer: &mut W) -> u8
+pub fn finish<W: Sink>(outcome: Result<(), ProgramError>, writer: &mut W) -> u8
     requires { W.failures writer.old + 1 < 2 ^ 64 }
     ensures status { result ≡ outcome_status outcome }
     ensures text { Reports (record {
@@ -110,7 +110,7 @@ pub fn finish<W: Sink>(outcome: Result<(), PlayFault>, writer: &mut W) -> u8
 
 /// Writes the text about an error, and returns its status. A writer that fails does not change the
 /// status.
-pub fn report<W: Sink>(fault: &PlayFault, writer: &mut W) -> u8
+pub fn report<W: Sink>(fault: &ProgramError, writer: &mut W) -> u8
     requires { W.failures writer.old + 1 < 2 ^ 64 }
     ensures status { result ≡ status_of fault.now }
     ensures text { Reports (record {
@@ -122,29 +122,32 @@ pub fn report<W: Sink>(fault: &PlayFault, writer: &mut W) -> u8
         (fault_text fault.now) }
 {
     let _ = match fault {
-        PlayFault::Words(text) => writer.write_all(text.as_bytes()),
-        PlayFault::Line(number, name) => {
+        ProgramError::Words(text) => writer.write_all(text.as_bytes()),
+        ProgramError::Line(number, name) => {
             writer.write_all(invalid_line_text(*number, *name).as_str().as_bytes())
         }
-        PlayFault::Frame(name) => writer.write_all(invalid_frame_text(*name).as_str().as_bytes()),
-        PlayFault::Session(refusal) => {
+        ProgramError::Frame(name) => writer.write_all(
+            invalid_frame_text(*name).as_str().as_bytes(),
+        ),
+        ProgramError::Session(refusal) => {
             writer.write_all(refused_script_text(*refusal).as_str().as_bytes())
         }
-        PlayFault::Memory => writer.write_all(b"pf_play: out of memory\n"),
-        PlayFault::Crew(error) => writer.write_all(crew_error_text(*error).as_str().as_bytes()),
-        PlayFault::Read => writer.write_all(b"pf_play: read failed\n"),
-        PlayFault::Write => writer.write_all(b"pf_play: write failed\n"),
+        ProgramError::Memory => writer.write_all(b"pf_play: out of memory\n"),
+        ProgramError::Crew(error) => writer.write_all(crew_error_text(*error).as_str().as_bytes()),
+        ProgramError::Read => writer.write_all(b"pf_play: read failed\n"),
+        ProgramError::Write => writer.write_all(b"pf_play: write failed\n"),
     };
     status(fault)
 }
 
 /// The status of an error.
-fn status(fault: &PlayFault) -> u8
+fn status(fault: &ProgramError) -> u8
     ensures { result ≡ status_of fault.now }
 {
     match fault {
-        PlayFault::Line(_, _) | PlayFault::Frame(_) | PlayFault::Session(_) => 1,
-        PlayFault::Words(_) => 2,
-        PlayFault::Memory | PlayFault::Crew(_) | PlayFault::Read | PlayFault::Write => 3,
+        ProgramError::Line(_, _) | ProgramError::Frame(_) | ProgramError::Session(_) => 1,
+        ProgramError::Words(_) => 2,
+        ProgramError::Memory | ProgramError::Crew(_) | ProgramError::Read | ProgramError::Write =>
+            3,
     }
 }

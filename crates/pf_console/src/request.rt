@@ -5,7 +5,7 @@ ghost use Rattle.pf_text.specs.Streams.{IfExposed};
 ghost use Rattle.pf_console.specs.Request.{CanStart, FailsByThreadsOf, Performs, Writes};
 ghost use Rattle.pf_console.specs.Text.{CountsReads, CountsWrites, ReadsNothing};
 
-use crate::fault::PlayFault;
+use crate::error::ProgramError;
 use crate::frame::frame_text;
 use crate::run::run_text;
 use crate::session::session_text;
@@ -36,7 +36,7 @@ pub enum Request<'a> {
 }
 
 /// Writes a text.
-fn say<W: Sink>(text: &str, writer: &mut W) -> Result<(), PlayFault>
+fn say<W: Sink>(text: &str, writer: &mut W) -> Result<(), ProgramError>
     requires { W.failures writer.old + 1 < 2 ^ 64 }
     ensures text { (before : List ℕ) → W.contents writer.old ≡ Some before
         → Writes text.now (record { before = before; after = W.contents writer.new }) result }
@@ -58,7 +58,7 @@ pub fn perform<T, P: Collider, R: Source, W: Sink, C: Crew>(
     reader: &mut R,
     writer: &mut W,
     crew: &mut C,
-) -> Result<(), PlayFault>
+) -> Result<(), ProgramError>
 where
     T: Threads + Wait + Copy + Send + Sync + 'static,
     requires start { CanStart request }

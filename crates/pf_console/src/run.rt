@@ -6,7 +6,7 @@ ghost use Rattle.pf_console.specs.Crews.{FailsByCrew};
 ghost use Rattle.pf_console.specs.Text.{Runs, CountsReads, CountsWrites};
 
 use crate::ending::outcome_of;
-use crate::fault::PlayFault;
+use crate::error::ProgramError;
 use crate::phase::Phase;
 use crate::settler::Settler;
 use pf_manifold::Collider;
@@ -29,7 +29,7 @@ pub fn run_text<P: Collider, R: Source, W: Sink, C: Crew>(
     reader: &mut R,
     writer: &mut W,
     crew: &mut C,
-) -> Result<(), PlayFault>
+) -> Result<(), ProgramError>
     requires can { P.can_collide collider.now }
     requires reads { R.failures reader.old + 1 < 2 ^ 64 }
     requires writes { W.failures writer.old + 1 < 2 ^ 64 }

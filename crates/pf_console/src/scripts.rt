@@ -6,20 +6,20 @@ ghost use Rattle.std.specs.String.{string_bytes};
 ghost use Rattle.pf_pool.specs.declared.pool.TheConstants.{MAX_WORKERS};
 ghost use Rattle.pf_sessions.specs.Session.{shown_by};
 ghost use Rattle.pf_console.specs.Blocks.{fault_of, result_block};
-ghost use Rattle.pf_console.specs.Scripts.{blocks_of, refusal_of_line, scripts_refusal, session_play, with_turn};
+ghost use Rattle.pf_console.specs.Scripts.{blocks_of, take_error_of_line, scripts_refusal, session_play, with_turn};
 ghost use Rattle.pf_console.specs.SessionText.{EndsBy};
 ghost use Rattle.pf_console.specs.Turns.{said, said_by};
 
-use crate::fault::PlayFault;
+use crate::error::ProgramError;
 use crate::phase::Play;
 use crate::print::push_block;
 use crate::turns::turn;
 use pf_rollback::Refusal;
-use pf_scripts::{Peer, SessionFault, Turn};
+use pf_scripts::{Peer, SessionError, Turn};
 use pf_sessions::run_session;
 use pf_shapes::{Fixture, Scene, SceneFault};
 use pf_step::{CrewError, World};
-use pf_text::{LineError, TakeRefusal};
+use pf_text::{LineError, TakeError};
 use pf_workers::OpenGate;
 use std::alloc::{AllocError, Global};
 use std::marker::Model;
@@ -52,12 +52,12 @@ impl Model for Scripts {
 }
 
 /// Why a line was not taken.
-fn refusal_of_line(error: LineError) -> TakeRefusal<SceneFault>
-    ensures { result ≡ refusal_of_line error }
+fn take_error_of_line(error: LineError) -> TakeError<SceneFault>
+    ensures { result ≡ take_error_of_line error }
 {
     match error {
-        LineError::Memory => TakeRefusal::Memory,
-        LineError::Fault(fault) => TakeRefusal::Fault(SceneFault::from(fault)),
+        LineError::Memory => TakeError::Memory,
+        LineError::Fault(fault) => TakeError::Fault(SceneFault::from(fault)),
     }
 }
 
@@ -89,26 +89,26 @@ impl Play<()> for Scripts {
         alloc: Global,
         _lent: &mut (),
         fields: &[&[u8]],
-    ) -> Result<(String, Scripts), TakeRefusal<SceneFault>> {
+    ) -> Result<(String, Scripts), TakeError<SceneFault>> {
         let Scripts { scene, mut scripts } = self;
-        let (peer, turn) = turn(alloc, scripts.len() as u8, fields).map_err(refusal_of_line)?;
+        let (peer, turn) = turn(alloc, scripts.len() as u8, fields).map_err(take_error_of_line)?;
         add_turn(&mut scripts, peer, turn)?;
         Ok((String::new(alloc), Scripts { scene, scripts }))
     }
 }
 
 /// What a fault of a session is for the program.
-fn fault_of(fault: SessionFault) -> PlayFault
+fn fault_of(fault: SessionError) -> ProgramError
     ensures { result ≡ fault_of fault }
 {
     match fault {
-        SessionFault::Frame(_, _, refusal) => PlayFault::Session(refusal),
-        SessionFault::TickLimit(_) => PlayFault::Session(Refusal::TickLimit),
-        SessionFault::Peer(_, CrewError::OutOfMemory) | SessionFault::OutOfMemory => {
-            PlayFault::Memory
+        SessionError::Frame(_, _, refusal) => ProgramError::Session(refusal),
+        SessionError::TickLimit(_) => ProgramError::Session(Refusal::TickLimit),
+        SessionError::Peer(_, CrewError::OutOfMemory) | SessionError::OutOfMemory => {
+            ProgramError::Memory
         }
-        SessionFault::Peer(_, error) => PlayFault::Crew(error),
-        SessionFault::NoThread => PlayFault::Crew(CrewError::NoThread),
+        SessionError::Peer(_, error) => ProgramError::Crew(error),
+        SessionError::NoThread => ProgramError::Crew(CrewError::NoThread),
     }
 }
 
@@ -140,7 +140,7 @@ impl Scripts {
         rt: &T,
         alloc: Global,
         crew: Option<usize>,
-    ) -> Result<String, PlayFault>
+    ) -> Result<String, ProgramError>
         requires { IfSome crew (λ workers. (0 < workers) × (workers ≤ MAX_WORKERS)) }
         ensures blocks { IfOk result (λ text. string_bytes text ≡ blocks_of self.now) }
         ensures taken { OnOk result (scripts_refusal self.now.scene self.now.scripts ≡ None) }

@@ -4,13 +4,13 @@ ghost use Rattle.std.specs.Prelude.{◌≡◌, ◌≢◌, ◌+◌, ◌^◌, ◌<
 ghost use Rattle.pf_pool.specs.declared.pool.TheConstants.{MAX_WORKERS};
 ghost use Rattle.pf_text.specs.Streams.{IfExposed};
 ghost use Rattle.pf_step.specs.declared.crew.CrewError.{CrewError};
-ghost use Rattle.pf_console.specs.declared.fault.PlayFault.TheVariants.{Crew};
+ghost use Rattle.pf_console.specs.declared.error.ProgramError.TheVariants.{Crew};
 ghost use Rattle.pf_console.specs.Crews.{FailsByThreads};
 ghost use Rattle.pf_console.specs.SessionText.{PlaysSession, ReadsScripts, WritesNothing};
 ghost use Rattle.pf_console.specs.Text.{CountsReads, CountsWrites};
 
 use crate::ending::outcome_of;
-use crate::fault::PlayFault;
+use crate::error::ProgramError;
 use crate::phase::Phase;
 use crate::scripts::Scripts;
 use pf_text::{Sink, Source, drive};
@@ -23,7 +23,7 @@ fn read_scripts<R: Source, W: Sink>(
     alloc: Global,
     reader: &mut R,
     writer: &mut W,
-) -> Result<Scripts, PlayFault>
+) -> Result<Scripts, ProgramError>
     requires reads { R.failures reader.old + 1 < 2 ^ 64 }
     requires writes { W.failures writer.old + 1 < 2 ^ 64 }
     ensures text { IfExposed (record {
@@ -38,7 +38,7 @@ fn read_scripts<R: Source, W: Sink>(
     ensures no_threads { (error : CrewError) → result ≢ Err (Crew error) }
 {
     let read = drive(alloc, &mut (), reader, writer, Phase::<Scripts>::first());
-    outcome_of(read, PlayFault::Memory)
+    outcome_of(read, ProgramError::Memory)
 }
 
 /// Processes a text of a scene, its peers and their turns: when all of it is read, each peer plays
@@ -53,7 +53,7 @@ pub fn session_text<T: Threads + Wait + Copy + Send + Sync + 'static, R: Source,
     reader: &mut R,
     writer: &mut W,
     crew: Option<usize>,
-) -> Result<(), PlayFault>
+) -> Result<(), ProgramError>
     requires crew { IfSome crew (λ workers. (0 < workers) × (workers ≤ MAX_WORKERS)) }
     requires reads { R.failures reader.old + 1 < 2 ^ 64 }
     requires writes { W.failures writer.old + 1 < 2 ^ 64 }

@@ -4,9 +4,9 @@ ghost use Rattle.std.specs.Prelude.{◌≡◌, ◌≢◌, ℕ, None, length, IfO
 ghost use Rattle.pf_peers.specs.Crews.{CanFail};
 ghost use Rattle.pf_peers.specs.Session.{IsAmong, answer};
 ghost use Rattle.pf_peers.specs.declared.event.Event.TheVariants.{Settle};
-ghost use Rattle.pf_console.specs.Crews.{fault_of_missing_reply};
+ghost use Rattle.pf_console.specs.Crews.{error_of_missing_reply};
 
-use crate::fault::PlayFault;
+use crate::error::ProgramError;
 use pf_manifold::Collider;
 use pf_peers::{Event, Reply, Session};
 use pf_step::{Crew, CrewError, StepError};
@@ -76,13 +76,13 @@ impl<'a, P: Collider, C: Crew> Settler<'a, P, C> {
 
     /// Why a valid line had no reply: the crew's error, or out of memory if it has not failed. An
     /// error of the crew is one with which a call of it may fail.
-    pub fn fault(&self) -> PlayFault
-        ensures value { result ≡ fault_of_missing_reply self.now }
+    pub fn fault(&self) -> ProgramError
+        ensures value { result ≡ error_of_missing_reply self.now }
         ensures failed { IfSome self.now (CanFail C.may_fail) }
     {
         match self.failed {
-            Some(error) => PlayFault::Crew(error),
-            None => PlayFault::Memory,
+            Some(error) => ProgramError::Crew(error),
+            None => ProgramError::Memory,
         }
     }
 }

@@ -8,7 +8,7 @@ ghost use Rattle.pf_console.specs.Digits.{bytes_of};
 ghost use Rattle.pf_console.specs.Turns.{frames_of, said_by, turn_of};
 
 use crate::digits::{are_bytes, bytes};
-use crate::grammar::{peer, tick};
+use crate::fields::{peer, tick};
 use pf_scripts::Turn;
 use pf_text::{LineError, LineFault};
 use std::alloc::{AllocError, Global};

@@ -2,36 +2,37 @@
 //! reports stand in the stored run of `pf_runs`, and what is reported of memory and of readers and
 //! writers in the tests of `pf_play`.
 
+mod streams;
+
 use pf_commands::FrameFault;
-use pf_console::{DigitsFault, PlayFault, finish, laws, report, run_text};
+use pf_console::{DigitsFault, ProgramError, finish, laws, report, run_text};
 use pf_islands::Island;
 use pf_manifold::{Collider, OneThread, SeveralThreads};
 use pf_shapes::{Scene, SceneFault};
 use pf_step::{Crew, CrewError};
-use pf_text::{Bytes, Collected, Input, Output};
+use pf_text::{Bytes, Collected};
 use std::alloc::{AllocError, Global};
-use std::io::{Error, ErrorKind, Read, Write};
 use std::test::Fail;
 
 /// A circle that falls, shown twice.
-const FALLING: &[u8] =
-    b"gravity 0 -167772160\ncircle 0 16777216 0 16777216 0 0\nend\npeers 1\nadvance 0 2\nshow 0 1\nshow 0 2\n";
+pub(crate) const FALLING: &[u8] = b"gravity 0 -167772160\ncircle 0 16777216 0 16777216 0 0\nend\n\
+    peers 1\nadvance 0 2\nshow 0 1\nshow 0 2\n";
 
-const FALLEN: &[u8] = b"advance 0 2\n\
+pub(crate) const FALLEN: &[u8] = b"advance 0 2\n\
     show 0 1\nbody 0 0 -40960 16777216 0 0 -2621440 0 0 1\nend\n\
     show 0 2\nbody 0 0 -122880 16777216 0 0 -5242880 0 0 1\nend\n";
 
 /// Where the first and the second reply to that text end.
-const FIRST_REPLY: usize = 12;
+pub(crate) const FIRST_REPLY: usize = 12;
 
-const SECOND_REPLY: usize = 69;
+pub(crate) const SECOND_REPLY: usize = 69;
 
 /// The greatest number of a line in what is reported of it.
 const GREATEST: &[u8] = b"pf_play: line 18446744073709551615: BadNumber\n";
 
 #[test]
 fn the_greatest_number_of_a_line_is_reported(rt: HostRuntime) -> Result<(), Fail> {
-    let fault = PlayFault::Line(u64::MAX, SceneFault::BadNumber);
+    let fault = ProgramError::Line(u64::MAX, SceneFault::BadNumber);
     let mut said = Collected::new(rt.alloc());
     let status = report(&fault, &mut said);
     if said.bytes().is_empty() {
@@ -42,23 +43,32 @@ fn the_greatest_number_of_a_line_is_reported(rt: HostRuntime) -> Result<(), Fail
 }
 
 /// Whether an error prints this text.
-fn prints(alloc: Global, fault: &PlayFault, text: &str) -> Result<bool, AllocError> {
+fn prints(alloc: Global, fault: &ProgramError, text: &str) -> Result<bool, AllocError> {
     Ok(fault.to_string(alloc)?.as_str() == text)
 }
 
 /// An error of each kind but words, by its number, and its text.
-fn row(number: u8) -> (PlayFault, &'static str) {
+fn row(number: u8) -> (ProgramError, &'static str) {
     match number {
-        0 => (PlayFault::Line(7, SceneFault::BadMass), "line 7: BadMass"),
-        1 => (PlayFault::Frame(DigitsFault::BadNumber), "frame: BadNumber"),
+        0 => (
+            ProgramError::Line(7, SceneFault::BadMass),
+            "line 7: BadMass",
+        ),
+        1 => (
+            ProgramError::Frame(DigitsFault::BadNumber),
+            "frame: BadNumber",
+        ),
         2 => (
-            PlayFault::Frame(DigitsFault::Refused(FrameFault::Short)),
+            ProgramError::Frame(DigitsFault::Refused(FrameFault::Short)),
             "frame: Short",
         ),
-        3 => (PlayFault::Memory, "out of memory"),
-        4 => (PlayFault::Read, "read failed"),
-        5 => (PlayFault::Crew(CrewError::GateShut), "crew: a gate is shut"),
-        _ => (PlayFault::Write, "write failed"),
+        3 => (ProgramError::Memory, "out of memory"),
+        4 => (ProgramError::Read, "read failed"),
+        5 => (
+            ProgramError::Crew(CrewError::GateShut),
+            "crew: a gate is shut",
+        ),
+        _ => (ProgramError::Write, "write failed"),
     }
 }
 
@@ -69,149 +79,13 @@ fn errors_print_their_texts(rt: HostRuntime) -> Result<(), Fail> {
         let is_printed = prints(rt.alloc(), &fault, text)?;
         assert!(rt; is_printed, "{text}");
     }
-    let words = PlayFault::Words(String::from_str(rt.alloc(), "error: such words\n")?);
+    let words = ProgramError::Words(String::from_str(rt.alloc(), "error: such words\n")?);
     let is_printed = prints(rt.alloc(), &words, "error: such words\n")?;
     assert!(rt; is_printed);
     Ok(())
 }
 
-/// A reader of a text that gives a byte at a time, is interrupted before each, and fails at one
-/// call.
-#[derive(Drop)]
-struct Trickle {
-    taken: usize,
-    calls: usize,
-    fails_at: usize,
-}
-
-impl Read for Trickle {
-    fn read(&mut self, buffer: &mut [u8]) -> std::io::Result<usize> {
-        self.calls = self.calls.wrapping_add(1);
-        if self.calls == self.fails_at {
-            return Err(Error::from(ErrorKind::BrokenPipe));
-        }
-        if self.calls % 2 == 1 {
-            return Err(Error::from(ErrorKind::Interrupted));
-        }
-        match FALLING.get(self.taken) {
-            Some(byte) if !buffer.is_empty() => {
-                buffer[0] = *byte;
-                self.taken = self.taken.wrapping_add(1);
-                Ok(1)
-            }
-            _ => Ok(0),
-        }
-    }
-}
-
-/// What is written by a run of the text whose reader fails at one call, and how it ends.
-fn run_trickle(
-    alloc: Global,
-    fails_at: usize,
-) -> Result<(Collected, Result<(), PlayFault>), AllocError> {
-    let reader = Trickle {
-        taken: 0,
-        calls: 0,
-        fails_at,
-    };
-    let mut output = Collected::new(alloc);
-    let mut reader = Input::new(reader);
-    match run_text(&OneThread, alloc, &mut reader, &mut output, &mut OneThread) {
-        Err(PlayFault::Memory | PlayFault::Write) => Err(AllocError),
-        outcome => Ok((output, outcome)),
-    }
-}
-
-/// Whether this is right of a reader that fails at one call: the replies to the lines that were
-/// read are written.
-fn is_cut(fails_at: usize, written: &[u8], outcome: &Result<(), PlayFault>) -> bool {
-    let calls = 2 * (FALLING.len() + 1);
-    if fails_at == 0 {
-        return false;
-    }
-    if fails_at > calls {
-        return outcome.is_ok() && written == FALLEN;
-    }
-    let read = FALLING.iter().take((fails_at - 1) / 2);
-    let lines = read.filter(|byte| **byte == b'\n').count();
-    let lengths = [0, 0, 0, 0, 0, FIRST_REPLY, SECOND_REPLY, FALLEN.len()];
-    matches!(outcome, Err(PlayFault::Read))
-        && lengths.get(lines) == Some(&written.len())
-        && FALLEN.starts_with(written)
-}
-
-#[test]
-fn a_reader_may_fail_at_each_call(rt: HostRuntime) -> Result<(), Fail> {
-    for fails_at in 1..2 * FALLING.len() + 4 {
-        let (output, outcome) = run_trickle(rt.alloc(), fails_at)?;
-        assert!(rt;
-            is_cut(fails_at, output.bytes(), &outcome),
-            "call {fails_at}"
-        );
-    }
-    Ok(())
-}
-
-/// A writer that takes three bytes at a time and fails at one call.
-#[derive(Drop)]
-struct Brittle {
-    taken: Vec<u8>,
-    calls: usize,
-    fails_at: usize,
-}
-
-impl Write for Brittle {
-    fn write(&mut self, bytes: &[u8]) -> std::io::Result<usize> {
-        self.calls = self.calls.wrapping_add(1);
-        if self.calls == self.fails_at {
-            return Err(Error::from(ErrorKind::BrokenPipe));
-        }
-        let count = bytes.len().min(3);
-        self.taken.extend_from_slice(&bytes[..count])?;
-        Ok(count)
-    }
-
-    fn flush(&mut self) -> std::io::Result<()> {
-        Ok(())
-    }
-}
-
-/// Whether this is right of a writer that fails at one call, and then at the report's.
-fn is_broken_off(writer: &mut Brittle, outcome: &Result<(), PlayFault>) -> bool {
-    if writer.calls < writer.fails_at {
-        return outcome.is_ok() && writer.taken.as_slice() == FALLEN;
-    }
-    matches!(outcome, Err(PlayFault::Write))
-        && FALLEN.starts_with(writer.taken.as_slice())
-        && finish(Err(PlayFault::Write), &mut Output::new(writer)) == 3
-}
-
-#[test]
-fn a_writer_may_fail_at_each_call(rt: HostRuntime) -> Result<(), Fail> {
-    for fails_at in 1..60 {
-        let mut writer = Brittle {
-            taken: Vec::new(rt.alloc()),
-            calls: 0,
-            fails_at,
-        };
-        let mut output = Output::new(&mut writer);
-        let mut reader = Bytes::new(FALLING);
-        let outcome = run_text(
-            &OneThread,
-            rt.alloc(),
-            &mut reader,
-            &mut output,
-            &mut OneThread,
-        );
-        if writer.calls < fails_at && outcome.is_err() {
-            return Err(AllocError)?;
-        }
-        assert!(rt; is_broken_off(&mut writer, &outcome), "call {fails_at}");
-    }
-    Ok(())
-}
-
-/// Texts with several peers, late commands and rejected events, and the replies to them.
+/// Texts with several peers, late commands and refused events, and the replies to them.
 const TEXTS: [(&[u8], &[u8]); 4] = [
     (
         b"gravity 0 0\ncircle 0 16777216 0 16777216 0 0\n\
@@ -266,7 +140,7 @@ fn is_answered<P: Collider>(
     let mut output = Collected::new(alloc);
     let mut reader = Bytes::new(text);
     match run_text(collider, alloc, &mut reader, &mut output, &mut OneThread) {
-        Err(PlayFault::Memory | PlayFault::Write) => Err(AllocError),
+        Err(ProgramError::Memory | ProgramError::Write) => Err(AllocError),
         outcome => Ok(outcome.is_ok() && output.bytes() == replies),
     }
 }
@@ -274,9 +148,9 @@ fn is_answered<P: Collider>(
 #[test]
 fn replies_are_the_same_with_any_collider(rt: HostRuntime) -> Result<(), Fail> {
     for (text, replies) in TEXTS {
-        let alone = is_answered(&OneThread, rt.alloc(), text, replies)?;
+        let by_one = is_answered(&OneThread, rt.alloc(), text, replies)?;
         let by_threads = is_answered(&SeveralThreads { rt: &rt }, rt.alloc(), text, replies)?;
-        assert!(rt; alone && by_threads);
+        assert!(rt; by_one && by_threads);
     }
     Ok(())
 }
@@ -321,7 +195,7 @@ fn a_crew_that_fails_is_reported(rt: HostRuntime) -> Result<(), Fail> {
         let mut errors = Collected::new(rt.alloc());
         let mut reader = Bytes::new(SETTLED);
         let outcome = run_text(&OneThread, rt.alloc(), &mut reader, &mut output, &mut crew);
-        if let Err(PlayFault::Memory | PlayFault::Write) = outcome {
+        if let Err(ProgramError::Memory | ProgramError::Write) = outcome {
             return Err(AllocError)?;
         }
         let status = finish(outcome, &mut errors);

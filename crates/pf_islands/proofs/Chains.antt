@@ -1,10 +1,10 @@
--- Chains of contacts, and the names of the groups that they lead through.
+-- Chains of contacts, and the labels of the groups that they lead through.
 use Rattle.std.proofs.Common.{◌≡◌, ◌∙◌, inl, inr, ⊎_elim, ℕ, ◌==◌, ◌≤◌, true, List, [], ◌∷◌, max, min, refl, sym, ap, subst, subst₂, arith}
 use Rattle.std.proofs.lemmas.Bool.{cases_eq, cases_lt, cond_both, cond-false, cond-true, eq-eqb, eqb-true, ne_eqb}
 use Rattle.std.specs.Prelude.{if◌then◌else◌}
 use Rattle.pf_shapes.specs.Scene.{Scene}
 use Rattle.pf_manifold.specs.Touches.{Touch}
-use Rattle.pf_islands.specs.Group.{group, merged_name}
+use Rattle.pf_islands.specs.Group.{group, merged_label}
 use Rattle.pf_islands.specs.Reach.{AreNeighbours, IsChain, Reaches, connects}
 use Rattle.pf_islands.proofs.Starting.{group_low}
 
@@ -64,7 +64,7 @@ reaches_lesser s touches x y reach =
     subst₂ (Reaches s touches) (sym top) (sym low) reach)
     (cases_lt x y)
 
--- the names of the bodies of a contact point, where these reach their names without it
+-- the labels of the bodies of a contact point, where these reach their labels without it
 names_reach : (s : Scene) (t : Touch) (touches : List Touch) (x y : ℕ) → connects s t ≡ true
     → Reaches s touches t.a x → Reaches s touches t.b y → Reaches s (t ∷ touches) x y
 names_reach s t touches x y joins first second =
@@ -74,7 +74,7 @@ names_reach s t touches x y joins first second =
     let step : Reaches s (t ∷ touches) t.a t.b = reaches_next s all t.a t.b (inl (joins, inl (refl, refl))) in
     reaches_through s all x t.a y back (reaches_through s all t.a t.b y step on)
 
--- each body reaches the body that its group is named by
+-- each body reaches the body that its group is labelled by
 pub reaches_name : (s : Scene) (touches : List Touch) (i : ℕ) → Reaches s touches i (group s touches i)
 unfolding group
 reaches_name s [] i = ([], refl)
@@ -82,25 +82,25 @@ reaches_name s (t ∷ touches) i =
     let all = t ∷ touches in
     let x = group s touches t.a in
     let y = group s touches t.b in
-    let name = group s touches i in
-    let here = reaches_more s t touches i name (reaches_name s touches i) in
-    cond_both (connects s t) (merged_name x y name) name (λ n. Reaches s all i n)
+    let label = group s touches i in
+    let here = reaches_more s t touches i label (reaches_name s touches i) in
+    cond_both (connects s t) (merged_label x y label) label (λ n. Reaches s all i n)
     (λ joins.
-    cond_both (name == max x y) (min x y) name (λ n. Reaches s all i n)
+    cond_both (label == max x y) (min x y) label (λ n. Reaches s all i n)
     (λ e.
-    let names = reaches_lesser s all x y (names_reach s t touches x y joins (reaches_name s touches t.a) (reaches_name s touches t.b)) in
-    reaches_through s all i name (min x y) here
-    (subst (λ m. Reaches s all m (min x y)) (sym (eqb-true name (max x y) e)) names))
+    let labels = reaches_lesser s all x y (names_reach s t touches x y joins (reaches_name s touches t.a) (reaches_name s touches t.b)) in
+    reaches_through s all i label (min x y) here
+    (subst (λ m. Reaches s all m (min x y)) (sym (eqb-true label (max x y) e)) labels))
     (λ e. here))
     (λ e. here)
 
--- both names that are merged become the lesser
-merged_first : (x y : ℕ) → merged_name x y x ≡ min x y
+-- both labels that are merged become the lesser
+merged_first : (x y : ℕ) → merged_label x y x ≡ min x y
 merged_first x y =
     ⊎_elim (λ e. cond-true _ _ _ (eq-eqb x (max x y) e))
     (λ apart. cond-false _ _ _ (ne_eqb x (max x y) apart) ∙ omega (arith, apart)) (cases_eq x (max x y))
 
-merged_second : (x y : ℕ) → merged_name x y y ≡ min x y
+merged_second : (x y : ℕ) → merged_label x y y ≡ min x y
 merged_second x y =
     ⊎_elim (λ e. cond-true _ _ _ (eq-eqb y (max x y) e))
     (λ apart. cond-false _ _ _ (ne_eqb y (max x y) apart) ∙ omega (arith, apart)) (cases_eq y (max x y))
@@ -129,7 +129,7 @@ neighbours_one_name s (t ∷ touches) a b h =
     (λ same. ap (group s (t ∷ touches)) (sym same.1) ∙ sym one ∙ ap (group s (t ∷ touches)) same.0)
     here.1)
     (λ rest.
-    ap (λ n. if connects s t then merged_name (group s touches t.a) (group s touches t.b) n else n)
+    ap (λ n. if connects s t then merged_label (group s touches t.a) (group s touches t.b) n else n)
     (neighbours_one_name s touches a b rest))
     h
 
@@ -153,7 +153,7 @@ reaches_one s touches a b same =
     (subst (Reaches s touches a) same (reaches_name s touches a))
     (reaches_back s touches b (group s touches b) (reaches_name s touches b))
 
--- the name is the least body that is reached
+-- the label is the least body that is reached
 pub name_least : (s : Scene) (touches : List Touch) (i j : ℕ) → Reaches s touches i j → group s touches i ≤ j
 name_least s touches i j reach =
     let same = one_name s touches i j reach in

@@ -21,7 +21,7 @@ use Rattle.pf_islands.specs.Laws.{HasBody, HasRow, active_bodies, islands_of, ro
 use Rattle.pf_islands.specs.Reach.{Reaches}
 use Rattle.pf_islands.specs.Rows.{is_awake_at}
 use Rattle.pf_islands.specs.Sleep.{woken_bodies}
-use Rattle.pf_islands.specs.Split.{AreWoken, IsActiveRow, Island, active_names, is_active_name, island_of}
+use Rattle.pf_islands.specs.Split.{AreWoken, IsActiveRow, Island, active_labels, is_active_label, island_of}
 use Rattle.pf_islands.proofs.ActiveRows.{map_where, rows_in_order}
 use Rattle.pf_islands.proofs.Chains.{one_name, reaches_one}
 use Rattle.pf_islands.proofs.Dealing.{group_active, name_at, touches_group}
@@ -60,8 +60,8 @@ awake_long s touches bodies count =
     ∙ length-zip (groups s touches) bodies ∙ omega (arith, count, groups_long s touches)
 
 module _ (s : Scene) (touches : List Touch) (bodies : List BodyState) (contacts : List Contact) where
-  abbrev names : List ℕ
-  names = groups s touches
+  abbrev labels : List ℕ
+  labels = groups s touches
 
   abbrev awake : List BodyState
   awake = active_bodies s touches bodies
@@ -70,45 +70,45 @@ module _ (s : Scene) (touches : List Touch) (bodies : List BodyState) (contacts 
   rows = rows_of s touches bodies contacts
 
   abbrev island_named : ℕ → Island
-  island_named name = island_of awake rows (members names name)
+  island_named label = island_of awake rows (members labels label)
 
   abbrev chosen : List ℕ
-  chosen = active_names names awake
+  chosen = active_labels labels awake
 
   chosen_rise : IsRising 0 chosen
-  chosen_rise = filter_rises (is_active_name names awake) 0 (range_with_len 0 (length names)) (range_rises 0 (length names))
+  chosen_rise = filter_rises (is_active_label labels awake) 0 (range_with_len 0 (length labels)) (range_rises 0 (length labels))
 
   -- an island is that of a group that is simulated
   island_at : (k : ℕ) (i : Island) → slice_get (islands_of s touches bodies contacts) k ≡ Some i
-      → (name : ℕ) × (slice_get chosen k ≡ Some name) × (island_named name ≡ i)
+      → (label : ℕ) × (slice_get chosen k ≡ Some label) × (island_named label ≡ i)
   island_at k i here = let is = mapped island_named chosen k i here in (is.from, is.is_there, is.value)
 
-  -- the name is that of the group of each of its bodies
+  -- the label is that of the group of each of its bodies
   named_body : (k n : ℕ) (b : BodyState) → HasBody (islands_of s touches bodies contacts) k n b
-      → (name : ℕ) × (slice_get chosen k ≡ Some name) × (n < length names) × (get_or names n 0 ≡ name)
+      → (label : ℕ) × (slice_get chosen k ≡ Some label) × (n < length labels) × (get_or labels n 0 ≡ label)
       × (b ≡ get_or awake n no_state)
   named_body k n b has =
       let at = island_at k has.island has.is_there in
-      let numbers : slice_get (members names at.0) has.place ≡ Some n =
+      let numbers : slice_get (members labels at.0) has.place ≡ Some n =
       ap (λ (i : Island). slice_get i.numbers has.place) at.2 ∙ has.number in
-      let state : slice_get (states_of (members names at.0) awake) has.place ≡ Some b =
+      let state : slice_get (states_of (members labels at.0) awake) has.place ≡ Some b =
       ap (λ (i : Island). slice_get i.bodies has.place) at.2 ∙ has.state in
-      let own = all_at (λ i. (get_or names i 0 == at.0) ≡ true) (members names at.0) has.place n
-      (chosen_pass (λ i. get_or names i 0 == at.0) (range_with_len 0 (length names))) numbers in
-      let within = all_at (λ i. i < length names) (members names at.0) has.place n
-      (All-filter (λ i. get_or names i 0 == at.0) (λ i. i < length names) (range_with_len 0 (length names))
-      (range_within 0 (length names) (length names) (omega arith))) numbers in (
+      let own = all_at (λ i. (get_or labels i 0 == at.0) ≡ true) (members labels at.0) has.place n
+      (chosen_pass (λ i. get_or labels i 0 == at.0) (range_with_len 0 (length labels))) numbers in
+      let within = all_at (λ i. i < length labels) (members labels at.0) has.place n
+      (All-filter (λ i. get_or labels i 0 == at.0) (λ i. i < length labels) (range_with_len 0 (length labels))
+      (range_within 0 (length labels) (length labels) (omega arith))) numbers in (
         at.0,
         at.1,
         within,
-        eqb-true (get_or names n 0) at.0 own,
+        eqb-true (get_or labels n 0) at.0 own,
         same_Some b (get_or awake n no_state)
-            (sym state ∙ slice_get-map (λ m. get_or awake m no_state) (members names at.0) has.place
+            (sym state ∙ slice_get-map (λ m. get_or awake m no_state) (members labels at.0) has.place
             ∙ ap (option_map (λ m. get_or awake m no_state)) numbers),
       )
 
   module _ (count : length bodies ≡ length s.fixtures) where
-    are_woken : AreWoken names awake
+    are_woken : AreWoken labels awake
     are_woken = groups_woken s touches bodies count
 
     -- nothing but bodies that are simulated
@@ -117,10 +117,10 @@ module _ (s : Scene) (touches : List Touch) (bodies : List BodyState) (contacts 
         → (slice_get awake n ≡ Some b) × (b.awake ≡ true)
     bodies_simulated k n b long has =
         let at = named_body k n b has in
-        let active = all_at (λ m. is_active_name names awake m ≡ true) chosen k at.0
-        (chosen_pass (is_active_name names awake) (range_with_len 0 (length names))) at.1 in
+        let active = all_at (λ m. is_active_label labels awake m ≡ true) chosen k at.0
+        (chosen_pass (is_active_label labels awake) (range_with_len 0 (length labels))) at.1 in
         let wakes : is_awake_at awake n ≡ true =
-        are_woken.whole n at.2 (ap (is_active_name names awake) at.3 ∙ active) in (
+        are_woken.whole n at.2 (ap (is_active_label labels awake) at.3 ∙ active) in (
           slice_get-get_or awake n no_state (omega (arith, at.2, long, count, groups_long s touches)) ∙ ap Some (sym at.4),
           ap (λ (x : BodyState). x.awake) at.4 ∙ wakes,
         )
@@ -129,23 +129,23 @@ module _ (s : Scene) (touches : List Touch) (bodies : List BodyState) (contacts 
     pub simulated_bodies : (n : ℕ) (b : BodyState) → length awake ≡ length bodies → slice_get awake n ≡ Some b → b.awake ≡ true
         → (k : ℕ) × HasBody (islands_of s touches bodies contacts) k n b
     simulated_bodies n b long here wakes =
-        let inside : n < length names = omega (arith, slice_get_within awake n b here, long, count, groups_long s touches) in
+        let inside : n < length labels = omega (arith, slice_get_within awake n b here, long, count, groups_long s touches) in
         let read = get_or_from_slice_get awake n b no_state here in
-        let name = get_or names n 0 in
+        let label = get_or labels n 0 in
         let active = are_woken.active n inside (ap (λ (x : BodyState). x.awake) read ∙ wakes) in
-        let named = groups_named s touches n 0 inside in
+        let labelled = groups_named s touches n 0 inside in
         let from_zero : 0 + n ≡ n = omega arith in
-        let own = λ (j : ℕ). get_or names j 0 == name in
-        let number : slice_get (members names name) (length (filter own (range_with_len 0 n))) ≡ Some n =
-        chosen_at own 0 (length names) n inside (ap own from_zero ∙ eq-eqb name name refl) ∙ ap Some from_zero in (
-          slot_of names awake name,
+        let own = λ (j : ℕ). get_or labels j 0 == label in
+        let number : slice_get (members labels label) (length (filter own (range_with_len 0 n))) ≡ Some n =
+        chosen_at own 0 (length labels) n inside (ap own from_zero ∙ eq-eqb label label refl) ∙ ap Some from_zero in (
+          slot_of labels awake label,
           record {
-            island = island_named name;
+            island = island_named label;
             place = length (filter own (range_with_len 0 n));
-            is_there = slice_get-map island_named chosen (slot_of names awake name)
-                ∙ ap (option_map island_named) (name_at names awake name named active);
+            is_there = slice_get-map island_named chosen (slot_of labels awake label)
+                ∙ ap (option_map island_named) (name_at labels awake label labelled active);
             number = number;
-            state = slice_get-map (λ m. get_or awake m no_state) (members names name) _
+            state = slice_get-map (λ m. get_or awake m no_state) (members labels label) _
                 ∙ ap (option_map (λ m. get_or awake m no_state)) number ∙ ap Some read;
           },
         )
@@ -173,32 +173,32 @@ module _ (s : Scene) (touches : List Touch) (bodies : List BodyState) (contacts 
     -- ---- contacts
 
     module _ (of : All (IsTouchOf (length bodies)) touches) (long : length awake ≡ length bodies) where
-      are_active : All (IsActiveRow names awake) rows
+      are_active : All (IsActiveRow labels awake) rows
       are_active =
           rows_are_active s touches awake contacts (long ∙ count) (subst (λ n. All (IsTouchOf n) touches) (sym long) of)
 
       -- a contact touches the island of its group
-      row_named : (k : ℕ) (r : Row) → IsActiveRow names awake r → HasRow (islands_of s touches bodies contacts) k r
-          → slice_get chosen k ≡ Some (group_of_row names r)
+      row_named : (k : ℕ) (r : Row) → IsActiveRow labels awake r → HasRow (islands_of s touches bodies contacts) k r
+          → slice_get chosen k ≡ Some (group_of_row labels r)
       row_named k r active has =
           let at = island_at k has.island has.is_there in
-          let touched : touches_one (members names at.0) r ≡ true =
+          let touched : touches_one (members labels at.0) r ≡ true =
           ap (λ (i : Island). touches_one i.numbers r) at.2 ∙ has.touched in
           at.1
-          ∙ ap Some (sym (eqb-true (group_of_row names r) at.0 (sym (touches_group names awake at.0 r active) ∙ touched)))
+          ∙ ap Some (sym (eqb-true (group_of_row labels r) at.0 (sym (touches_group labels awake at.0 r active) ∙ touched)))
 
       pub rows_whole : All (λ r. (k : ℕ) × HasRow (islands_of s touches bodies contacts) k r) rows
       rows_whole =
-          All-weaker (IsActiveRow names awake) (λ r. (k : ℕ) × HasRow (islands_of s touches bodies contacts) k r)
+          All-weaker (IsActiveRow labels awake) (λ r. (k : ℕ) × HasRow (islands_of s touches bodies contacts) k r)
           (λ r active.
-          let own = group_active names awake r (groups_named s touches) are_woken active in
-          let name = group_of_row names r in (
-            slot_of names awake name,
+          let own = group_active labels awake r (groups_named s touches) are_woken active in
+          let label = group_of_row labels r in (
+            slot_of labels awake label,
             record {
-              island = island_named name;
-              is_there = slice_get-map island_named chosen (slot_of names awake name)
-                  ∙ ap (option_map island_named) (name_at names awake name own.0 own.1);
-              touched = touches_group names awake name r active ∙ eq-eqb name name refl;
+              island = island_named label;
+              is_there = slice_get-map island_named chosen (slot_of labels awake label)
+                  ∙ ap (option_map island_named) (name_at labels awake label own.0 own.1);
+              touched = touches_group labels awake label r active ∙ eq-eqb label label refl;
             },
           ))
           rows are_active
@@ -206,11 +206,11 @@ module _ (s : Scene) (touches : List Touch) (bodies : List BodyState) (contacts 
       pub rows_once : All (λ r. (k l : ℕ) → HasRow (islands_of s touches bodies contacts) k r
           → HasRow (islands_of s touches bodies contacts) l r → k ≡ l) rows
       rows_once =
-          All-weaker (IsActiveRow names awake)
+          All-weaker (IsActiveRow labels awake)
           (λ r. (k l : ℕ) → HasRow (islands_of s touches bodies contacts) k r
           → HasRow (islands_of s touches bodies contacts) l r → k ≡ l)
           (λ r active k l first second.
-          rising_once 0 chosen k l (group_of_row names r) chosen_rise (row_named k r active first) (row_named l r active second))
+          rising_once 0 chosen k l (group_of_row labels r) chosen_rise (row_named k r active first) (row_named l r active second))
           rows are_active
 
   -- the contacts of an island are those that touch its bodies
@@ -223,7 +223,7 @@ module _ (s : Scene) (touches : List Touch) (bodies : List BodyState) (contacts 
   rows_of_islands_rise order =
       All-map (λ (i : Island). AreRows i.rows) island_named chosen
       (λ k d within.
-      rows_in_order_among (members names (get_or chosen k d)) rows (rows_in_order s awake touches contacts order))
+      rows_in_order_among (members labels (get_or chosen k d)) rows (rows_in_order s awake touches contacts order))
 
   -- ---- order
 
@@ -232,34 +232,34 @@ module _ (s : Scene) (touches : List Touch) (bodies : List BodyState) (contacts 
   numbers_rise =
       All-map (λ (i : Island). IsRising 0 i.numbers) island_named chosen
       (λ k d within.
-      filter_rises (λ i. get_or names i 0 == get_or chosen k d) 0 (range_with_len 0 (length names)) (range_rises 0 (length names)))
+      filter_rises (λ i. get_or labels i 0 == get_or chosen k d) 0 (range_with_len 0 (length labels)) (range_rises 0 (length labels)))
 
-  -- no body below a name is in its group
-  none_below : (name start count : ℕ) → start + count ≤ name → name < length s.fixtures
-      → filter (λ i. get_or names i 0 == name) (range_with_len start count) ≡ []
-  none_below name start zero low within = refl
-  none_below name start (suc count) low within =
-      ap (λ e. cond e (start ∷ rest) rest) apart ∙ none_below name (start + 1) count (omega (arith, low)) within
+  -- no body below a label is in its group
+  none_below : (label start count : ℕ) → start + count ≤ label → label < length s.fixtures
+      → filter (λ i. get_or labels i 0 == label) (range_with_len start count) ≡ []
+  none_below label start zero low within = refl
+  none_below label start (suc count) low within =
+      ap (λ e. cond e (start ∷ rest) rest) apart ∙ none_below label (start + 1) count (omega (arith, low)) within
     where
       rest : List ℕ
-      rest = filter (λ i. get_or names i 0 == name) (range_with_len (start + 1) count)
+      rest = filter (λ i. get_or labels i 0 == label) (range_with_len (start + 1) count)
 
-      apart : (get_or names start 0 == name) ≡ false
+      apart : (get_or labels start 0 == label) ≡ false
       apart =
           let small : start < length s.fixtures = omega (arith, low, within) in
-          ne_eqb (get_or names start 0) name
+          ne_eqb (get_or labels start 0) label
           (λ same. omega (arith, same, name_of s touches start small, group_low s touches start, low))
 
-  -- so the least body of an island is the name of its group
-  least_is : (name : ℕ) → name < length s.fixtures → is_active_name names awake name ≡ true
-      → get_or (members names name) 0 0 ≡ name
-  least_is name within active =
-      let own = λ (i : ℕ). get_or names i 0 == name in
-      let from_zero : 0 + name ≡ name = omega arith in
-      let is_own = (and_parts (own name) (is_awake_at awake name) active).0 in
-      get_or_from_slice_get (members names name) 0 name 0
-      (ap (λ (ns : List ℕ). slice_get (members names name) (length ns)) (sym (none_below name 0 name (omega arith) within))
-      ∙ chosen_at own 0 (length names) name (omega (arith, within, groups_long s touches)) (ap own from_zero ∙ is_own)
+  -- so the least body of an island is the label of its group
+  least_is : (label : ℕ) → label < length s.fixtures → is_active_label labels awake label ≡ true
+      → get_or (members labels label) 0 0 ≡ label
+  least_is label within active =
+      let own = λ (i : ℕ). get_or labels i 0 == label in
+      let from_zero : 0 + label ≡ label = omega arith in
+      let is_own = (and_parts (own label) (is_awake_at awake label) active).0 in
+      get_or_from_slice_get (members labels label) 0 label 0
+      (ap (λ (ns : List ℕ). slice_get (members labels label) (length ns)) (sym (none_below label 0 label (omega arith) within))
+      ∙ chosen_at own 0 (length labels) label (omega (arith, within, groups_long s touches)) (ap own from_zero ∙ is_own)
       ∙ ap Some from_zero)
 
   -- and the least bodies of islands ascend
@@ -267,13 +267,13 @@ module _ (s : Scene) (touches : List Touch) (bodies : List BodyState) (contacts 
   least_rise =
       subst (IsRising 0)
       (sym (map-map (λ (i : Island). get_or i.numbers 0 0) island_named chosen
-      ∙ map_where (λ name. (name < length names) × (is_active_name names awake name ≡ true))
-      (λ name. get_or (members names name) 0 0) (λ name. name)
-      (λ name is. least_is name (omega (arith, is.0, groups_long s touches)) is.1) chosen
+      ∙ map_where (λ label. (label < length labels) × (is_active_label labels awake label ≡ true))
+      (λ label. get_or (members labels label) 0 0) (λ label. label)
+      (λ label is. least_is label (omega (arith, is.0, groups_long s touches)) is.1) chosen
       (λ k d within. (
-        All-filter (is_active_name names awake) (λ i. i < length names) (range_with_len 0 (length names))
-            (range_within 0 (length names) (length names) (omega arith)) k d within,
-        chosen_pass (is_active_name names awake) (range_with_len 0 (length names)) k d within,
+        All-filter (is_active_label labels awake) (λ i. i < length labels) (range_with_len 0 (length labels))
+            (range_within 0 (length labels) (length labels) (omega arith)) k d within,
+        chosen_pass (is_active_label labels awake) (range_with_len 0 (length labels)) k d within,
       ))
       ∙ map_self chosen))
       chosen_rise

@@ -2,7 +2,7 @@
 pub mod Roots
 pub mod Linked
 pub mod Noted
-pub mod Named
+pub mod Labelled
 pub mod Starting
 pub mod Chains
 pub mod Looked

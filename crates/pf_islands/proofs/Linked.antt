@@ -4,7 +4,7 @@ use Rattle.std.proofs.lemmas.Bool.{cases_Bool, cases_eq, cond_both, cond-false, 
 use Rattle.pf_shapes.specs.Scene.{Scene, is_static_at}
 use Rattle.pf_manifold.specs.Touches.{Touch}
 use Rattle.pf_islands.specs.Forest.{IsForest}
-use Rattle.pf_islands.specs.Group.{group, merged_name}
+use Rattle.pf_islands.specs.Group.{group, merged_label}
 use Rattle.pf_islands.specs.Reach.{connects}
 use Rattle.pf_islands.proofs.Chains.{linked_one_name}
 
@@ -35,31 +35,31 @@ module _ (s : Scene) (t : Touch) (passed : List Touch) (parents : List ℕ) wher
 
   -- a point that connects its bodies, a and b
   pub forest_of_link : (a b : ℕ) → a ≡ t.a → b ≡ t.b → connects s t ≡ true
-      → IsForest (λ i. merged_name (group s passed a) (group s passed b) (group s passed i)) parents
+      → IsForest (λ i. merged_label (group s passed a) (group s passed b) (group s passed i)) parents
       → IsForest (group s (t ∷ passed)) parents
   unfolding group
   forest_of_link a b first second joined =
-      forest_agree (λ i. merged_name (group s passed a) (group s passed b) (group s passed i)) (group s (t ∷ passed)) parents
+      forest_agree (λ i. merged_label (group s passed a) (group s passed b) (group s passed i)) (group s (t ∷ passed)) parents
       (λ i.
-      ap (λ x. merged_name (group s passed x) (group s passed b) (group s passed i)) first
-      ∙ ap (λ y. merged_name (group s passed t.a) (group s passed y) (group s passed i)) second
+      ap (λ x. merged_label (group s passed x) (group s passed b) (group s passed i)) first
+      ∙ ap (λ y. merged_label (group s passed t.a) (group s passed y) (group s passed i)) second
       ∙ sym (cond-true (connects s t) _ _ joined))
 
--- the name of one group does not change where the group is merged with itself
-merged_one : (x y name : ℕ) → x ≡ y → merged_name x y name ≡ name
-merged_one x y name same =
+-- the label of one group does not change where the group is merged with itself
+merged_one : (x y label : ℕ) → x ≡ y → merged_label x y label ≡ label
+merged_one x y label same =
     ⊎_elim
-    (λ e. cond-true _ _ _ (eq-eqb name (max x y) e) ∙ omega (arith, e, same))
-    (λ apart. cond-false _ _ _ (ne_eqb name (max x y) apart)) (cases_eq name (max x y))
+    (λ e. cond-true _ _ _ (eq-eqb label (max x y) e) ∙ omega (arith, e, same))
+    (λ apart. cond-false _ _ _ (ne_eqb label (max x y) apart)) (cases_eq label (max x y))
 
--- a point of two bodies of one group changes no name
+-- a point of two bodies of one group changes no label
 of_one_group : (s : Scene) (t : Touch) (passed : List Touch) (i : ℕ) → group s passed t.a ≡ group s passed t.b
     → group s (t ∷ passed) i ≡ group s passed i
 unfolding group
 of_one_group s t passed i same =
-    cond_both (connects s t) _ _ (λ name. name ≡ group s passed i) (λ _. merged_one _ _ _ same) (λ _. refl)
+    cond_both (connects s t) _ _ (λ label. label ≡ group s passed i) (λ _. merged_one _ _ _ same) (λ _. refl)
 
--- a point of these bodies changes no name
+-- a point of these bodies changes no label
 abbrev pub ChangesNone : Scene → ℕ → ℕ → List Touch → Type 0
 ChangesNone s a b passed =
     (t : Touch) → t.a ≡ a → t.b ≡ b → (i : ℕ) → group s (t ∷ passed) i ≡ group s passed i

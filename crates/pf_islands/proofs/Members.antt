@@ -1,4 +1,4 @@
--- Chosen numbers of a range: the members of groups, and the names of those that are simulated.
+-- Chosen numbers of a range: the members of groups, and the labels of those that are simulated.
 use Rattle.std.proofs.Common.{◌≡◌, ◌≢◌, ◌∙◌, ℕ, zero, suc, ◌+◌, ◌<◌, ◌≤◌, ◌==◌, Bool, true, false, cond, List, [], ◌∷◌, ◌++◌, Some, length, filter, map, set, refl, sym, ap, ap₂, arith, slice_get}
 use Rattle.std.proofs.lemmas.Bool.{ne_eqb, true≢false}
 use Rattle.std.proofs.lemmas.Bool.Decides.{Decides-eqb}

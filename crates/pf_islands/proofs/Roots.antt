@@ -5,7 +5,7 @@ use Rattle.std.proofs.lemmas.List.{get_or-set_same, get_or-set_other, length-set
 use Rattle.std.proofs.lemmas.List.FromFn.{map-range_with_len_more}
 use Rattle.std.specs.List.{range_with_len}
 use Rattle.pf_islands.specs.Forest.{IsDownward, IsForest}
-use Rattle.pf_islands.specs.Group.{merged_name}
+use Rattle.pf_islands.specs.Group.{merged_label}
 
 -- a parent is written
 module _ (parents : List ℕ) (place above : ℕ) (within : place < length parents) where
@@ -91,7 +91,7 @@ module _ (parents : List ℕ) (x y : ℕ) (root : ℕ → ℕ) (x_in : x < lengt
     (x_own : root x ≡ x) (y_own : root y ≡ y) where
   -- the roots after the link
   abbrev after : ℕ → ℕ
-  after i = merged_name x y (root i)
+  after i = merged_label x y (root i)
 
   -- the greater root is a body
   max_within : max x y < length parents
@@ -108,17 +108,17 @@ module _ (parents : List ℕ) (x y : ℕ) (root : ℕ → ℕ) (x_in : x < lengt
       (cases_lt x y)
 
   -- the greater root is merged into the lesser, and all others stay
-  merged_max : merged_name x y (max x y) ≡ min x y
+  merged_max : merged_label x y (max x y) ≡ min x y
   merged_max = cond-true _ _ _ (eq-eqb (max x y) (max x y) refl)
 
-  merged_min : merged_name x y (min x y) ≡ min x y
+  merged_min : merged_label x y (min x y) ≡ min x y
   merged_min =
       ⊎_elim
       (λ e. cond-true _ _ _ (eq-eqb (min x y) (max x y) e))
       (λ apart. cond-false _ _ _ (ne_eqb (min x y) (max x y) apart))
       (cases_eq (min x y) (max x y))
 
-  merged_other : (i : ℕ) → (i ≡ max x y → ⊥) → merged_name x y i ≡ i
+  merged_other : (i : ℕ) → (i ≡ max x y → ⊥) → merged_label x y i ≡ i
   merged_other i apart = cond-false _ _ _ (ne_eqb i (max x y) apart)
 
   -- the link leads to a lesser body
@@ -129,24 +129,24 @@ module _ (parents : List ℕ) (x y : ℕ) (root : ℕ → ℕ) (x_in : x < lengt
   forest_linked : IsForest root parents → IsForest after (set parents (max x y) (min x y))
   forest_linked forest =
       let owns = root_at (λ i. root i ≡ i) x_own y_own in
-      let at_max : after (max x y) ≡ min x y = ap (merged_name x y) owns.0 ∙ merged_max in
-      let at_min : after (min x y) ≡ min x y = ap (merged_name x y) owns.1 ∙ merged_min in
+      let at_max : after (max x y) ≡ min x y = ap (merged_label x y) owns.0 ∙ merged_max in
+      let at_min : after (min x y) ≡ min x y = ap (merged_label x y) owns.1 ∙ merged_min in
       record {
         same = each_parent parents (max x y) (min x y) max_within (λ i p. after p ≡ after i) (at_min ∙ sym at_max)
-            (λ i small _. ap (merged_name x y) (forest.same i small));
+            (λ i small _. ap (merged_label x y) (forest.same i small));
         own = each_parent parents (max x y) (min x y) max_within (λ i p. p ≡ i → after i ≡ i) (λ e. at_max ∙ e)
-            (λ i small apart e. ap (merged_name x y) (forest.own i small e) ∙ merged_other i apart);
+            (λ i small apart e. ap (merged_label x y) (forest.own i small e) ∙ merged_other i apart);
       }
 
 -- a link of the roots that were found for two bodies, at the greater and the lesser that were computed
 pub found_linked : (parents : List ℕ) (x y high low first second : ℕ) (root : ℕ → ℕ)
     → x < length parents → y < length parents → root x ≡ x → root y ≡ y → x ≡ first → y ≡ second
     → high ≡ max x y → low ≡ min x y → IsForest root parents
-    → IsForest (λ i. merged_name first second (root i)) (set parents high low)
+    → IsForest (λ i. merged_label first second (root i)) (set parents high low)
 found_linked parents x y high low first second root x_in y_in x_own y_own one two top least forest =
     let linked = forest_linked parents x y root x_in y_in x_own y_own forest in
-    let named = subst₂ (λ a b. IsForest (λ i. merged_name a b (root i)) (set parents (max x y) (min x y))) one two linked in
-    subst₂ (λ m l. IsForest (λ i. merged_name first second (root i)) (set parents m l)) (sym top) (sym least) named
+    let labelled = subst₂ (λ a b. IsForest (λ i. merged_label a b (root i)) (set parents (max x y) (min x y))) one two linked in
+    subst₂ (λ m l. IsForest (λ i. merged_label first second (root i)) (set parents m l)) (sym top) (sym least) labelled
 
 -- the list of numbers, with one more
 pub range_more : (n : ℕ) → range_with_len 0 n ++ n ∷ [] ≡ range_with_len 0 (n + 1)

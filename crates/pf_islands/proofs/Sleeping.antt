@@ -17,21 +17,21 @@ use Rattle.pf_islands.proofs.Starting.{groups_long}
 
 -- the groups of a scene
 module _ (s : Scene) (touches : List Touch) where
-  -- the name at a place is that of the body's group
+  -- the label at a place is that of the body's group
   pub name_at : (j : ℕ) → j < length s.fixtures → slice_get (groups s touches) j ≡ Some (group s touches j)
   name_at j small =
       slice_get-get_or (groups s touches) j 0 (omega (arith, groups_long s touches, small))
       ∙ ap (λ x. Some x) (get_or-map-range_with_len (group s touches) 0 (length s.fixtures) j j 0 small (omega arith))
 
   -- so it is no other
-  name_is : (j name : ℕ) → slice_get (groups s touches) j ≡ Some name → name ≡ group s touches j
-  name_is j name e =
-      let within = slice_get_within (groups s touches) j name e in
-      same_Some name (group s touches j) (sym e ∙ name_at j (omega (arith, groups_long s touches, within)))
+  name_is : (j label : ℕ) → slice_get (groups s touches) j ≡ Some label → label ≡ group s touches j
+  name_is j label e =
+      let within = slice_get_within (groups s touches) j label e in
+      same_Some label (group s touches j) (sym e ∙ name_at j (omega (arith, groups_long s touches, within)))
 
   -- as many bodies
   module _ (bodies : List BodyState) (count : length bodies ≡ length s.fixtures) where
-    -- each body has the name of its group
+    -- each body has the label of its group
     body_name : (j : ℕ) (c : BodyState) → slice_get bodies j ≡ Some c
         → slice_get (groups s touches) j ≡ Some (group s touches j)
     body_name j c e =
@@ -44,28 +44,28 @@ module _ (s : Scene) (touches : List Touch) where
         × Reaches s touches i j)
     unfolding woken_bodies
     woken_reach i b e =
-        let names = groups s touches in
-        let here = zip_at (λ (m : ℕ × BodyState). record m.1 { awake = is_active names bodies m.0 }) names bodies i b e in
-        let name = here.0 in
-        let named = name_is i name here.2 in
+        let labels = groups s touches in
+        let here = zip_at (λ (m : ℕ × BodyState). record m.1 { awake = is_active labels bodies m.0 }) labels bodies i b e in
+        let label = here.0 in
+        let labelled = name_is i label here.2 in
         let awake = ap (λ (x : BodyState). x.awake) here.4 in
-        let test = λ (m : ℕ × BodyState). (m.0 == name) && m.1.awake in (
+        let test = λ (m : ℕ × BodyState). (m.0 == label) && m.1.awake in (
           λ is_awake.
-              let found = any_found test names bodies (awake ∙ is_awake) in
-              let parts = and_parts (found.1 == name) found.2.awake found.5 in (
+              let found = any_found test labels bodies (awake ∙ is_awake) in
+              let parts = and_parts (found.1 == label) found.2.awake found.5 in (
                 found.0,
                 found.2,
                 found.4,
                 parts.1,
                 reaches_one s touches i found.0
-                    (sym named ∙ sym (eqb-true found.1 name parts.0) ∙ name_is found.0 found.1 found.3),
+                    (sym labelled ∙ sym (eqb-true found.1 label parts.0) ∙ name_is found.0 found.1 found.3),
               ),
           λ reached.
               let same = one_name s touches i reached.0 reached.4 in
               sym awake
-              ∙ any_from test names bodies reached.0 (group s touches reached.0) reached.1
+              ∙ any_from test labels bodies reached.0 (group s touches reached.0) reached.1
               (body_name reached.0 reached.1 reached.2) reached.2
-              (and_from _ _ (eq-eqb (group s touches reached.0) name (sym (named ∙ same))) reached.3),
+              (and_from _ _ (eq-eqb (group s touches reached.0) label (sym (labelled ∙ same))) reached.3),
         )
 
     -- an awake body stays awake unless its group rests
@@ -83,31 +83,31 @@ module _ (s : Scene) (touches : List Touch) where
         → c.timer ≡ full)
     unfolding bodies_after_sleep
     rested_reach full i b after is awake e =
-        let names = groups s touches in
-        let change = λ (m : ℕ × BodyState). if m.1.awake && is_resting full names bodies m.0 then at_sleep m.1 else m.1 in
-        let here = zip_at change names bodies i after e in
-        let name = here.0 in
-        let named = name_is i name here.2 in
+        let labels = groups s touches in
+        let change = λ (m : ℕ × BodyState). if m.1.awake && is_resting full labels bodies m.0 then at_sleep m.1 else m.1 in
+        let here = zip_at change labels bodies i after e in
+        let label = here.0 in
+        let labelled = name_is i label here.2 in
         let same_body = same_Some here.1 b (sym here.3 ∙ is) in
-        let rests = is_resting full names bodies name in
-        let left = sym (ap (λ (x : BodyState). x.awake) (sym (ap (λ x. change (name, x)) same_body) ∙ here.4))
+        let rests = is_resting full labels bodies label in
+        let left = sym (ap (λ (x : BodyState). x.awake) (sym (ap (λ x. change (label, x)) same_body) ∙ here.4))
         ∙ awake_after b rests awake in
-        let test = λ (m : ℕ × BodyState). not (m.0 == name) || (m.1.timer == full) in (
+        let test = λ (m : ℕ × BodyState). not (m.0 == label) || (m.1.timer == full) in (
           λ asleep j c at reach.
               let all = not-false rests (sym left ∙ asleep) in
-              let same = eq-eqb (group s touches j) name (sym (named ∙ one_name s touches i j reach)) in
-              let passes = all_at test names bodies j (group s touches j) c all (body_name j c at) at in
-              eqb-true c.timer full (second_part (group s touches j == name) (c.timer == full) same passes),
+              let same = eq-eqb (group s touches j) label (sym (labelled ∙ one_name s touches i j reach)) in
+              let passes = all_at test labels bodies j (group s touches j) c all (body_name j c at) at in
+              eqb-true c.timer full (second_part (group s touches j == label) (c.timer == full) same passes),
           λ each.
               left ∙ not_from_true rests
-              (all_from test names bodies
+              (all_from test labels bodies
               (λ j other c at_name at.
               ⊎_elim
               (λ same.
               or_right _ _ (eq-eqb c.timer full (each j c at
-              (reaches_one s touches i j (sym named ∙ sym (eqb-true other name same) ∙ name_is j other at_name)))))
-              (λ apart. or_left _ _ (not_from_false (other == name) apart))
-              (cases_Bool (other == name)))),
+              (reaches_one s touches i j (sym labelled ∙ sym (eqb-true other label same) ∙ name_is j other at_name)))))
+              (λ apart. or_left _ _ (not_from_false (other == label) apart))
+              (cases_Bool (other == label)))),
         )
       where
         second_part : (x y : Bool) → x ≡ true → (not x || y) ≡ true → y ≡ true

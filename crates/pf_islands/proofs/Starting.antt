@@ -1,4 +1,4 @@
--- Bodies that are each alone, and the names that a union-find leaves.
+-- Bodies that are each alone, and the labels that a union-find leaves.
 use Rattle.std.proofs.Common.{◌≡◌, ◌∙◌, ℕ, ◌<◌, ◌≤◌, ◌==◌, Bool, List, [], ◌∷◌, ◌++◌, length, map, take, get_or, max, min, refl, sym, ap, subst, arith}
 use Rattle.std.proofs.lemmas.Bool.{cond_both, eqb-true}
 use Rattle.std.proofs.lemmas.List.{take_at}
@@ -8,7 +8,7 @@ use Rattle.std.specs.Prelude.{All}
 use Rattle.pf_shapes.specs.Scene.{Scene}
 use Rattle.pf_manifold.specs.Touches.{Touch}
 use Rattle.pf_islands.specs.Forest.{IsDownward, IsForest}
-use Rattle.pf_islands.specs.Group.{IsGroups, group, groups, merged_name}
+use Rattle.pf_islands.specs.Group.{IsGroups, group, groups, merged_label}
 use Rattle.pf_islands.specs.Reach.{connects}
 
 -- each body is its own parent
@@ -25,30 +25,30 @@ module _ (n : ℕ) where
   pub singles_forest : IsForest (λ i. i) (range_with_len 0 n)
   singles_forest = record { same = own_parent; own = λ i small e. refl }
 
--- a merged name is not greater
-merged_low : (a b name : ℕ) → merged_name a b name ≤ name
-merged_low a b name =
-    cond_both (name == max a b) (min a b) name (λ x. x ≤ name)
-    (λ e. let same = eqb-true name (max a b) e in omega (arith, same)) (λ e. omega arith)
+-- a merged label is not greater
+merged_low : (a b label : ℕ) → merged_label a b label ≤ label
+merged_low a b label =
+    cond_both (label == max a b) (min a b) label (λ x. x ≤ label)
+    (λ e. let same = eqb-true label (max a b) e in omega (arith, same)) (λ e. omega arith)
 
--- a group is named by a body that is not greater
+-- a group is labelled by a body that is not greater
 pub group_low : (s : Scene) (touches : List Touch) (i : ℕ) → group s touches i ≤ i
 unfolding group
 group_low s [] i = omega arith
 group_low s (t ∷ touches) i =
     let low = group_low s touches i in
-    cond_both (connects s t) (merged_name (group s touches t.a) (group s touches t.b) (group s touches i)) (group s touches i)
+    cond_both (connects s t) (merged_label (group s touches t.a) (group s touches t.b) (group s touches i)) (group s touches i)
     (λ x. x ≤ i)
     (λ e. omega (arith, low, merged_low (group s touches t.a) (group s touches t.b) (group s touches i)))
     (λ e. low)
 
--- each body has a name
+-- each body has a label
 pub groups_long : (s : Scene) (touches : List Touch) → length (groups s touches) ≡ length s.fixtures
 groups_long s touches = length-map-range_with_len (group s touches) 0 (length s.fixtures)
 
--- each name is the number of a body
+-- each label is the number of a body
 pub groups_named : (s : Scene) (touches : List Touch)
-    → All (λ name. name < length (groups s touches)) (groups s touches)
+    → All (λ label. label < length (groups s touches)) (groups s touches)
 groups_named s touches i d small =
     let long = groups_long s touches in
     let n = length s.fixtures in
@@ -57,7 +57,7 @@ groups_named s touches i d small =
     let low = group_low s touches i in
     omega (arith, is, low, long, inside)
 
--- the names that are left where the parents were lent, linked and written back, lent, flattened and written back
+-- the labels that are left where the parents were lent, linked and written back, lent, flattened and written back
 pub names_found : (s : Scene) (touches : List Touch) (len : ℕ) (linked lent flat behind rest : List ℕ)
     → len ≡ length s.fixtures → length linked ≡ len → lent ≡ take len (linked ++ behind)
     → IsForest (group s touches) linked
@@ -71,10 +71,10 @@ names_found s touches len linked lent flat behind rest count long back forest fl
     take_at flat rest len flat_long ∙ flat_is
     ∙ ap (λ n. map (group s touches) (range_with_len 0 n)) (lent_long ∙ count)
 
--- these names, and as many marks as bodies, are groups
-pub found_are_groups : (s : Scene) (touches : List Touch) (names : List ℕ) (marks : List Bool)
-    → length marks ≡ length s.fixtures → names ≡ groups s touches → IsGroups names marks
-found_are_groups s touches names marks long are = record {
+-- these labels, and as many marks as bodies, are groups
+pub found_are_groups : (s : Scene) (touches : List Touch) (labels : List ℕ) (marks : List Bool)
+    → length marks ≡ length s.fixtures → labels ≡ groups s touches → IsGroups labels marks
+found_are_groups s touches labels marks long are = record {
   paired = long ∙ sym (ap length are ∙ groups_long s touches);
-  named = subst (λ ns. All (λ name. name < length ns) ns) (sym are) (groups_named s touches);
+  labelled = subst (λ ns. All (λ label. label < length ns) ns) (sym are) (groups_named s touches);
 }

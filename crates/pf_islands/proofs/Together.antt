@@ -16,7 +16,7 @@ use Rattle.pf_islands.specs.Group.{group, groups}
 use Rattle.pf_islands.specs.Reach.{AreNeighbours, IsBetween, connects}
 use Rattle.pf_islands.specs.Rows.{active_points, active_rows, is_active_contact, is_awake_at, is_simulated_at, row_of, side_of}
 use Rattle.pf_islands.specs.Sleep.{is_active, woken_bodies}
-use Rattle.pf_islands.specs.Split.{AreTogether, AreWoken, IsActiveRow, is_active_name, is_awake_side}
+use Rattle.pf_islands.specs.Split.{AreTogether, AreWoken, IsActiveRow, is_active_label, is_awake_side}
 use Rattle.pf_islands.proofs.ActiveRows.{all_rows, row_at, row_holds, row_read}
 use Rattle.pf_islands.proofs.Chains.{one_name, reaches_name}
 use Rattle.pf_islands.proofs.Elements.{same_element, zip_at}
@@ -31,61 +31,61 @@ neighbours_at s (x ∷ touches) zero t a b here between =
 neighbours_at s (x ∷ touches) (suc k) t a b here between = inr (neighbours_at s touches k t a b here between)
 
 module _ (s : Scene) (touches : List Touch) where
-  -- the name of a body's group
+  -- the label of a body's group
   pub name_of : (i : ℕ) → i < length s.fixtures → get_or (groups s touches) i 0 ≡ group s touches i
   name_of i within = get_or-map-range_with_len (group s touches) 0 (length s.fixtures) i i 0 within (omega arith)
 
-  -- a name is that of its own group
+  -- a label is that of its own group
   own_name : (i : ℕ) → group s touches (group s touches i) ≡ group s touches i
   own_name i = sym (one_name s touches i (group s touches i) (reaches_name s touches i))
 
   -- ---- groups awake as wholes
 
   module _ (bodies : List BodyState) (count : length bodies ≡ length s.fixtures) where
-    abbrev names : List ℕ
-    names = groups s touches
+    abbrev labels : List ℕ
+    labels = groups s touches
 
     abbrev after : List BodyState
-    after = woken_bodies names bodies
+    after = woken_bodies labels bodies
 
     -- a body is awake afterwards where its group has an awake one
     pub woken_at : (i : ℕ) → i < length s.fixtures
-        → is_awake_at after i ≡ is_active names bodies (group s touches i)
+        → is_awake_at after i ≡ is_active labels bodies (group s touches i)
     unfolding woken_bodies
     woken_at i within =
-        let first = slice_get-get_or names i 0 (omega (arith, groups_long s touches, within)) in
+        let first = slice_get-get_or labels i 0 (omega (arith, groups_long s touches, within)) in
         let second = slice_get-get_or bodies i no_state (omega (arith, count, within)) in
         ap (λ (b : BodyState). b.awake)
-        (get_or_from_slice_get (map wake (zip names bodies)) i (wake (get_or names i 0, get_or bodies i no_state)) no_state
-        (slice_get-map wake (zip names bodies) i
-        ∙ ap (option_map wake) (zip_at names bodies i (get_or names i 0) (get_or bodies i no_state) first second)))
-        ∙ ap (is_active names bodies) (name_of i within)
+        (get_or_from_slice_get (map wake (zip labels bodies)) i (wake (get_or labels i 0, get_or bodies i no_state)) no_state
+        (slice_get-map wake (zip labels bodies) i
+        ∙ ap (option_map wake) (zip_at labels bodies i (get_or labels i 0) (get_or bodies i no_state) first second)))
+        ∙ ap (is_active labels bodies) (name_of i within)
       where
         wake : ℕ × BodyState → BodyState
-        wake m = record m.1 { awake = is_active names bodies m.0 }
+        wake m = record m.1 { awake = is_active labels bodies m.0 }
 
     -- the least body of a group is awake where its group has an awake body
     least_awake : (i : ℕ) → i < length s.fixtures
-        → is_awake_at after (group s touches i) ≡ is_active names bodies (group s touches i)
+        → is_awake_at after (group s touches i) ≡ is_active labels bodies (group s touches i)
     least_awake i within =
         let low = group_low s touches i in
-        woken_at (group s touches i) (omega (arith, low, within)) ∙ ap (is_active names bodies) (own_name i)
+        woken_at (group s touches i) (omega (arith, low, within)) ∙ ap (is_active labels bodies) (own_name i)
 
-    pub groups_woken : AreWoken names after
+    pub groups_woken : AreWoken labels after
     groups_woken = record {
       active = λ i inside awake.
           let within : i < length s.fixtures = omega (arith, inside, groups_long s touches) in
           let low = group_low s touches i in
-          subst (λ n. is_active_name names after n ≡ true) (sym (name_of i within))
+          subst (λ n. is_active_label labels after n ≡ true) (sym (name_of i within))
           (and_from _ _
-          (eq-eqb (get_or names (group s touches i) 0) (group s touches i)
+          (eq-eqb (get_or labels (group s touches i) 0) (group s touches i)
           (name_of (group s touches i) (omega (arith, low, within)) ∙ own_name i))
           (least_awake i within ∙ sym (woken_at i within) ∙ awake));
       whole = λ i inside active.
           let within : i < length s.fixtures = omega (arith, inside, groups_long s touches) in
-          let at = subst (λ n. is_active_name names after n ≡ true) (name_of i within) active in
+          let at = subst (λ n. is_active_label labels after n ≡ true) (name_of i within) active in
           woken_at i within ∙ sym (least_awake i within)
-          ∙ (and_parts (get_or names (group s touches i) 0 == group s touches i) (is_awake_at after (group s touches i)) at).1;
+          ∙ (and_parts (get_or labels (group s touches i) 0 == group s touches i) (is_awake_at after (group s touches i)) at).1;
     }
 
   -- ---- contacts within one group
@@ -150,16 +150,16 @@ module _ (s : Scene) (touches : List Touch) where
       })
 
   -- and so is the one that is read at a place of a contact that is simulated
-  pub read_row_is_active : (bodies : List BodyState) (contacts : List Contact) (names places : List ℕ) (k : ℕ)
-      (t : Touch) (c : Contact) (r : Row) → names ≡ groups s touches → length bodies ≡ length s.fixtures
+  pub read_row_is_active : (bodies : List BodyState) (contacts : List Contact) (labels places : List ℕ) (k : ℕ)
+      (t : Touch) (c : Contact) (r : Row) → labels ≡ groups s touches → length bodies ≡ length s.fixtures
       → All (IsTouchOf (length bodies)) touches → length contacts ≡ length touches
       → All (λ place. place < length touches) places
       → places ≡ map (λ (m : ℕ × Touch). m.0) (active_points s bodies touches)
       → k < length places → t ≡ get_or touches (get_or places k 0) t → c ≡ get_or contacts (get_or places k 0) c
       → r ≡ row_of s (get_or places k 0) t c
-      → IsActiveRow names bodies r × (r ≡ row_at s touches contacts (get_or places k 0))
-  read_row_is_active bodies contacts given places k t c r named count of same inside are within t_is c_is r_is =
+      → IsActiveRow labels bodies r × (r ≡ row_at s touches contacts (get_or places k 0))
+  read_row_is_active bodies contacts given places k t c r labelled count of same inside are within t_is c_is r_is =
       let at = row_read s touches contacts (get_or places k 0) t c r same (inside k 0 within) t_is c_is r_is in
       let active = row_holds s bodies touches contacts (IsActiveRow (groups s touches) bodies) places k
       (rows_are_active bodies contacts count of) are within in
-      (subst (λ (ns : List ℕ). IsActiveRow ns bodies r) (sym named) (subst (IsActiveRow (groups s touches) bodies) (sym at) active), at)
+      (subst (λ (ns : List ℕ). IsActiveRow ns bodies r) (sym labelled) (subst (IsActiveRow (groups s touches) bodies) (sym at) active), at)

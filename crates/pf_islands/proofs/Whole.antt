@@ -20,7 +20,7 @@ use Rattle.pf_islands.specs.Dealing.{group_of_row, group_of_sides}
 use Rattle.pf_islands.specs.Island.{IsOwnOrOther, IsOwnSide, has_number, is_among, members, place_of, row_among, rows_among, side_among, states_of, touches_one}
 use Rattle.pf_islands.specs.Join.{IsAtHome}
 use Rattle.pf_islands.specs.Rows.{IsRowOf, is_awake_at}
-use Rattle.pf_islands.specs.Split.{AreTogether, AreWoken, IsActiveRow, IsIslandOf, Island, active_names, is_active_name, island_of, islands}
+use Rattle.pf_islands.specs.Split.{AreTogether, AreWoken, IsActiveRow, IsIslandOf, Island, active_labels, is_active_label, island_of, islands}
 use Rattle.pf_islands.proofs.Elements.{all_unmapped}
 use Rattle.pf_islands.proofs.Dealing.{group_active, is_member, name_at, touches_group}
 use Rattle.pf_islands.proofs.Members.{chosen_pass, range_within}
@@ -132,10 +132,10 @@ rows_among_at contacts numbers rows are = record {
 
 -- ---- the islands of a tick
 
-module _ (names : List ℕ) (bodies : List BodyState) where
+module _ (labels : List ℕ) (bodies : List BodyState) where
   -- a contact touches the bodies of one group alone
-  pub own_or_other : (name : ℕ) (r : Row) → IsActiveRow names bodies r → IsOwnOrOther (members names name) r
-  own_or_other name r is = by r.entry.first r.entry.second is.first is.second is.together
+  pub own_or_other : (label : ℕ) (r : Row) → IsActiveRow labels bodies r → IsOwnOrOther (members labels label) r
+  own_or_other label r is = by r.entry.first r.entry.second is.first is.second is.together
     where
       left : (x : Bool) → (x || false) ≡ true → x ≡ true
       left true h = refl
@@ -145,116 +145,116 @@ module _ (names : List ℕ) (bodies : List BodyState) where
       both true y same h = (refl, sym same)
       both false y same h = absurd (true≢false (sym h ∙ sym same))
 
-      by : (first second : Side) → IsSide (length names) first → IsSide (length names) second
-          → AreTogether names first second
-          → (is_among (members names name) first || is_among (members names name) second) ≡ true
-          → IsOwnSide (members names name) first × IsOwnSide (members names name) second
+      by : (first second : Side) → IsSide (length labels) first → IsSide (length labels) second
+          → AreTogether labels first second
+          → (is_among (members labels label) first || is_among (members labels label) second) ≡ true
+          → IsOwnSide (members labels label) first × IsOwnSide (members labels label) second
       by Static Static one two same h = (tt, tt)
       by Static (Dynamic b) one two same h = (tt, h)
-      by (Dynamic a) Static one two same h = (left (has_number (members names name) a) h, tt)
+      by (Dynamic a) Static one two same h = (left (has_number (members labels label) a) h, tt)
       by (Dynamic a) (Dynamic b) one two same h =
-          both (has_number (members names name) a) (has_number (members names name) b)
-          (is_member names bodies name a one ∙ ap (λ n. n == name) same ∙ sym (is_member names bodies name b two)) h
+          both (has_number (members labels label) a) (has_number (members labels label) b)
+          (is_member labels bodies label a one ∙ ap (λ n. n == label) same ∙ sym (is_member labels bodies label b two)) h
 
   -- a dynamic body of a contact that is simulated is awake
-  pub sides_awake : (r : Row) → All (λ name. name < length names) names → AreWoken names bodies → IsActiveRow names bodies r
+  pub sides_awake : (r : Row) → All (λ label. label < length labels) labels → AreWoken labels bodies → IsActiveRow labels bodies r
       → (j : ℕ) → (r.entry.first ≡ Dynamic j) ⊎ (r.entry.second ≡ Dynamic j) → is_awake_at bodies j ≡ true
-  sides_awake r named woken_bodies is j =
-      by r.entry.first r.entry.second is.first is.second is.together (group_active names bodies r named woken_bodies is).1
+  sides_awake r labelled woken_bodies is j =
+      by r.entry.first r.entry.second is.first is.second is.together (group_active labels bodies r labelled woken_bodies is).1
     where
-      at : (n name : ℕ) → n < length names → get_or names n 0 ≡ name → is_active_name names bodies name ≡ true
+      at : (n label : ℕ) → n < length labels → get_or labels n 0 ≡ label → is_active_label labels bodies label ≡ true
           → Dynamic n ≡ Dynamic j → is_awake_at bodies j ≡ true
-      at n name within same active here =
+      at n label within same active here =
           let is_j : n ≡ j = cc in
           subst (λ i. is_awake_at bodies i ≡ true) is_j
-          (woken_bodies.whole n within (ap (is_active_name names bodies) same ∙ active))
+          (woken_bodies.whole n within (ap (is_active_label labels bodies) same ∙ active))
 
-      by : (first second : Side) → IsSide (length names) first → IsSide (length names) second
-          → AreTogether names first second → is_active_name names bodies (group_of_sides names first second) ≡ true
+      by : (first second : Side) → IsSide (length labels) first → IsSide (length labels) second
+          → AreTogether labels first second → is_active_label labels bodies (group_of_sides labels first second) ≡ true
           → (first ≡ Dynamic j) ⊎ (second ≡ Dynamic j) → is_awake_at bodies j ≡ true
-      by (Dynamic a) second one two same active (inl here) = at a (get_or names a 0) one refl active here
-      by (Dynamic a) (Dynamic b) one two same active (inr here) = at b (get_or names a 0) two (sym same) active here
+      by (Dynamic a) second one two same active (inl here) = at a (get_or labels a 0) one refl active here
+      by (Dynamic a) (Dynamic b) one two same active (inr here) = at b (get_or labels a 0) two (sym same) active here
       by (Dynamic a) Static one two same active (inr here) = absurd cc
       by Static (Dynamic b) one two same active (inl here) = absurd cc
-      by Static (Dynamic b) one two same active (inr here) = at b (get_or names b 0) two refl active here
+      by Static (Dynamic b) one two same active (inr here) = at b (get_or labels b 0) two refl active here
       by Static Static one two same active (inl here) = absurd cc
       by Static Static one two same active (inr here) = absurd cc
 
   -- members are bodies
-  pub members_within : (name : ℕ) → All (λ n. n < length names) (members names name)
-  members_within name =
-      All-filter (λ i. get_or names i 0 == name) (λ n. n < length names) (range_with_len 0 (length names))
-      (range_within 0 (length names) (length names) (omega arith))
+  pub members_within : (label : ℕ) → All (λ n. n < length labels) (members labels label)
+  members_within label =
+      All-filter (λ i. get_or labels i 0 == label) (λ n. n < length labels) (range_with_len 0 (length labels))
+      (range_within 0 (length labels) (length labels) (omega arith))
 
   module _ (rows : List Row) where
     abbrev island_named : ℕ → Island
-    island_named name = island_of bodies rows (members names name)
+    island_named label = island_of bodies rows (members labels label)
 
     -- each island fits the scene
-    pub islands_fit : (s : Scene) → All (IsActiveRow names bodies) rows → All (IsRowOf s (length bodies)) rows
-        → All (IsIslandOf s) (islands names bodies rows)
+    pub islands_fit : (s : Scene) → All (IsActiveRow labels bodies) rows → All (IsRowOf s (length bodies)) rows
+        → All (IsIslandOf s) (islands labels bodies rows)
     islands_fit s active fits =
-        All-map (IsIslandOf s) island_named (active_names names bodies)
-        (λ k d within. fit (get_or (active_names names bodies) k d))
+        All-map (IsIslandOf s) island_named (active_labels labels bodies)
+        (λ k d within. fit (get_or (active_labels labels bodies) k d))
       where
-        fit : (name : ℕ) → IsIslandOf s (island_named name)
-        fit name =
-            let numbers = members names name in
+        fit : (label : ℕ) → IsIslandOf s (island_named label)
+        fit label =
+            let numbers = members labels label in
             let long : length (states_of numbers bodies) ≡ length numbers = length-map numbers _ in
             record {
               paired = long;
               rows = subst (λ n. All (IsRowOf s n) (rows_among numbers rows)) (sym long)
                   (all_among (IsRowOf s (length numbers)) numbers rows
-                  (All-weaker (IsActiveRow names bodies) (IsOwnOrOther numbers) (λ r is. own_or_other name r is) rows active)
+                  (All-weaker (IsActiveRow labels bodies) (IsOwnOrOther numbers) (λ r is. own_or_other label r is) rows active)
                   (λ k d within first second.
                   row_fits_island s (length bodies) numbers (get_or rows k d) (fits k d within) first second));
             }
 
     -- each has its place in the world
-    pub islands_at_home : All (IsAtHome (length names)) (islands names bodies rows)
+    pub islands_at_home : All (IsAtHome (length labels)) (islands labels bodies rows)
     islands_at_home =
-        All-map (IsAtHome (length names)) island_named (active_names names bodies)
+        All-map (IsAtHome (length labels)) island_named (active_labels labels bodies)
         (λ k d within. record {
-          paired = length-map (members names (get_or (active_names names bodies) k d)) _;
-          within = members_within (get_or (active_names names bodies) k d);
+          paired = length-map (members labels (get_or (active_labels labels bodies) k d)) _;
+          within = members_within (get_or (active_labels labels bodies) k d);
         })
 
     -- and its contacts have theirs
     pub islands_at_contacts : (contacts : List Contact) → AreRowsAt contacts rows
-        → All (λ (i : Island). AreRowsAt contacts i.rows) (islands names bodies rows)
+        → All (λ (i : Island). AreRowsAt contacts i.rows) (islands labels bodies rows)
     islands_at_contacts contacts are =
-        All-map (λ (i : Island). AreRowsAt contacts i.rows) island_named (active_names names bodies)
-        (λ k d within. rows_among_at contacts (members names (get_or (active_names names bodies) k d)) rows are)
+        All-map (λ (i : Island). AreRowsAt contacts i.rows) island_named (active_labels labels bodies)
+        (λ k d within. rows_among_at contacts (members labels (get_or (active_labels labels bodies) k d)) rows are)
 
-    -- the group of this name has an island
-    any_island : (q : Island → Bool) (name : ℕ) → name < length names → is_active_name names bodies name ≡ true
-        → q (island_named name) ≡ true → list_any q (islands names bodies rows) ≡ true
-    any_island q name within active passes =
-        any_named (active_names names bodies) (length (filter (is_active_name names bodies) (range_with_len 0 name)))
-        (name_at names bodies name within active)
+    -- the group of this label has an island
+    any_island : (q : Island → Bool) (label : ℕ) → label < length labels → is_active_label labels bodies label ≡ true
+        → q (island_named label) ≡ true → list_any q (islands labels bodies rows) ≡ true
+    any_island q label within active passes =
+        any_named (active_labels labels bodies) (length (filter (is_active_label labels bodies) (range_with_len 0 label)))
+        (name_at labels bodies label within active)
       where
-        any_named : (ns : List ℕ) (k : ℕ) → slice_get ns k ≡ Some name → list_any q (map island_named ns) ≡ true
+        any_named : (ns : List ℕ) (k : ℕ) → slice_get ns k ≡ Some label → list_any q (map island_named ns) ≡ true
         any_named [] k here = absurd cc
         any_named (n ∷ ns) zero here =
             or_left (q (island_named n)) (list_any q (map island_named ns))
-            (ap (λ m. q (island_named m)) (same_Some n name here) ∙ passes)
+            (ap (λ m. q (island_named m)) (same_Some n label here) ∙ passes)
         any_named (n ∷ ns) (suc k) here =
             or_right (q (island_named n)) (list_any q (map island_named ns)) (any_named ns k here)
 
     -- each awake body is in an island
-    pub body_has_island : (j : ℕ) → j < length names → All (λ name. name < length names) names → AreWoken names bodies
+    pub body_has_island : (j : ℕ) → j < length labels → All (λ label. label < length labels) labels → AreWoken labels bodies
         → is_awake_at bodies j ≡ true
-        → list_any (λ (i : Island). has_number i.numbers j) (islands names bodies rows) ≡ true
-    body_has_island j within named woken_bodies awake =
-        any_island (λ i. has_number i.numbers j) (get_or names j 0) (named j 0 within) (woken_bodies.active j within awake)
-        (is_member names bodies (get_or names j 0) j within ∙ eq-eqb (get_or names j 0) (get_or names j 0) refl)
+        → list_any (λ (i : Island). has_number i.numbers j) (islands labels bodies rows) ≡ true
+    body_has_island j within labelled woken_bodies awake =
+        any_island (λ i. has_number i.numbers j) (get_or labels j 0) (labelled j 0 within) (woken_bodies.active j within awake)
+        (is_member labels bodies (get_or labels j 0) j within ∙ eq-eqb (get_or labels j 0) (get_or labels j 0) refl)
 
     -- and so is each contact that is simulated
-    pub row_has_island : (r : Row) → All (λ name. name < length names) names → AreWoken names bodies
-        → IsActiveRow names bodies r
-        → list_any (λ (i : Island). touches_one i.numbers r) (islands names bodies rows) ≡ true
-    row_has_island r named woken_bodies active =
-        let group = group_active names bodies r named woken_bodies active in
-        any_island (λ i. touches_one i.numbers r) (group_of_row names r) group.0 group.1
-        (touches_group names bodies (group_of_row names r) r active
-        ∙ eq-eqb (group_of_row names r) (group_of_row names r) refl)
+    pub row_has_island : (r : Row) → All (λ label. label < length labels) labels → AreWoken labels bodies
+        → IsActiveRow labels bodies r
+        → list_any (λ (i : Island). touches_one i.numbers r) (islands labels bodies rows) ≡ true
+    row_has_island r labelled woken_bodies active =
+        let group = group_active labels bodies r labelled woken_bodies active in
+        any_island (λ i. touches_one i.numbers r) (group_of_row labels r) group.0 group.1
+        (touches_group labels bodies (group_of_row labels r) r active
+        ∙ eq-eqb (group_of_row labels r) (group_of_row labels r) refl)

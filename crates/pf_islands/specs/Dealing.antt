@@ -7,12 +7,12 @@ use Rattle.pf_rows.specs.declared.row.Side.TheVariants.{Static, Dynamic}
 use Rattle.pf_rows.specs.Row.{Row}
 use Rattle.pf_islands.specs.Island.{members, place_of}
 use Rattle.pf_islands.specs.Rows.{is_awake_at}
-use Rattle.pf_islands.specs.Split.{Island, is_active_name}
+use Rattle.pf_islands.specs.Split.{Island, is_active_label}
 
--- how many groups that are simulated have lesser names: the place of a group among the islands
+-- how many groups that are simulated have lesser labels: the place of a group among the islands
 abbrev pub slot_of : List ℕ → List BodyState → ℕ → ℕ
-slot_of names bodies name =
-    length (filter (is_active_name names bodies) (range_with_len 0 name))
+slot_of labels bodies label =
+    length (filter (is_active_label labels bodies) (range_with_len 0 label))
 
 -- an island with one body more
 abbrev pub with_body : ℕ → BodyState → Island → Island
@@ -25,16 +25,16 @@ with_body number body i = record i {
 abbrev pub with_row : Row → Island → Island
 with_row row i = record i { rows = i.rows ++ row ∷ [] }
 
--- the name of the group of a contact: that of its first dynamic body
+-- the label of the group of a contact: that of its first dynamic body
 abbrev pub group_of_sides : List ℕ → Side → Side → ℕ
-group_of_sides names (Dynamic n) second = slice_index_or names n 0
-group_of_sides names Static (Dynamic n) = slice_index_or names n 0
-group_of_sides names Static Static = 0
+group_of_sides labels (Dynamic n) second = slice_index_or labels n 0
+group_of_sides labels Static (Dynamic n) = slice_index_or labels n 0
+group_of_sides labels Static Static = 0
 
 abbrev pub group_of_row : List ℕ → Row → ℕ
-group_of_row names r = group_of_sides names r.entry.first r.entry.second
+group_of_row labels r = group_of_sides labels r.entry.first r.entry.second
 
--- the side that names a body by its place in place of its number
+-- the side of a body, by its place in place of its number
 abbrev pub placed_side : List ℕ → Side → Side
 placed_side places Static = Static
 placed_side places (Dynamic n) = Dynamic (slice_index_or places n 0)
@@ -50,6 +50,6 @@ placed_row places r = record r {
 
 -- each awake body has its place in the island of its group
 abbrev pub ArePlaces : List ℕ → List BodyState → List ℕ → Type 0
-ArePlaces names bodies places =
-    (i : ℕ) → i < length names → is_awake_at bodies i ≡ true
-    → slice_index_or places i 0 ≡ place_of (members names (slice_index_or names i 0)) i
+ArePlaces labels bodies places =
+    (i : ℕ) → i < length labels → is_awake_at bodies i ≡ true
+    → slice_index_or places i 0 ≡ place_of (members labels (slice_index_or labels i 0)) i

@@ -1,28 +1,29 @@
--- Groups of bodies that contacts connect, each named by its least body, as a union-find keeps them.
--- A law says that two bodies are in one group exactly where one reaches the other.
+-- Groups of bodies that contacts connect, each labelled by its least body, as a union-find keeps
+-- them. A law says that two bodies are in one group exactly where one reaches the other.
 use Rattle.std.specs.Prelude.{◌≡◌, ◌<◌, ℕ, ◌==◌, min, max, Bool, List, [], ◌∷◌, length, map, All, if◌then◌else◌}
 use Rattle.std.specs.List.{range_with_len}
 use Rattle.pf_shapes.specs.Scene.{Scene}
 use Rattle.pf_manifold.specs.Touches.{Touch}
 use Rattle.pf_islands.specs.Reach.{connects}
 
--- the name of a group after the groups of two names became one: the greater became the lesser
-abbrev pub merged_name : ℕ → ℕ → ℕ → ℕ
-merged_name a b name = if name == max a b then min a b else name
+-- the label of a group after the groups of two labels became one: the greater became the lesser
+abbrev pub merged_label : ℕ → ℕ → ℕ → ℕ
+merged_label a b label = if label == max a b then min a b else label
 
--- the name of a body's group: each body is alone at first, and each contact of two dynamic bodies
+-- the label of a body's group: each body is alone at first, and each contact of two dynamic bodies
 -- merges their groups
 unfoldable pub group : Scene → List Touch → ℕ → ℕ
 group s [] i = i
 group s (t ∷ touches) i =
-    if connects s t then merged_name (group s touches t.a) (group s touches t.b) (group s touches i)
+    if connects s t
+    then merged_label (group s touches t.a) (group s touches t.b) (group s touches i)
     else group s touches i
 
--- the names of the groups of all bodies, by their numbers
+-- the labels of the groups of all bodies, by their numbers
 abbrev pub groups : Scene → List Touch → List ℕ
 groups s touches = map (group s touches) (range_with_len 0 (length s.fixtures))
 
--- the names of groups, with as many marks: each name is the number of a body
-pub record IsGroups (names : List ℕ) (marks : List Bool) : Type 0 where
-  pub paired : length marks ≡ length names
-  pub named : All (λ name. name < length names) names
+-- the labels of groups, with as many marks: each label is the number of a body
+pub record IsGroups (labels : List ℕ) (marks : List Bool) : Type 0 where
+  pub paired : length marks ≡ length labels
+  pub labelled : All (λ label. label < length labels) labels

@@ -1,5 +1,5 @@
 -- Islands, as Box2D 2.x's b2Island: some bodies that contacts connect, with the contacts that touch
--- them. Its contacts name its bodies by their places in the island.
+-- them. Its contacts have its bodies by their places in the island.
 use Rattle.std.specs.Prelude.{◌≡◌, ℕ, suc, ◌==◌, Bool, true, false, ◌||◌, List, [], ◌∷◌, length, map, filter, slice_index_or, if◌then◌else◌}
 use Rattle.std.specs.List.{list_any, range_with_len}
 use Rattle.pf_shapes.specs.Body.{BodyState, no_state}
@@ -7,10 +7,10 @@ use Rattle.pf_rows.specs.declared.row.Side.{Side}
 use Rattle.pf_rows.specs.declared.row.Side.TheVariants.{Static, Dynamic}
 use Rattle.pf_rows.specs.Row.{Row}
 
--- the bodies of the group of this name, by their numbers
+-- the bodies of the group of this label, by their numbers
 abbrev pub members : List ℕ → ℕ → List ℕ
-members names name =
-    filter (λ i. slice_index_or names i 0 == name) (range_with_len 0 (length names))
+members labels label =
+    filter (λ i. slice_index_or labels i 0 == label) (range_with_len 0 (length labels))
 
 -- a body is one of these
 abbrev pub has_number : List ℕ → ℕ → Bool
@@ -30,7 +30,7 @@ abbrev pub is_among : List ℕ → Side → Bool
 is_among numbers Static = false
 is_among numbers (Dynamic n) = has_number numbers n
 
--- the side that names a body by its place among these, in place of its number
+-- the side of a body, by its place among these, in place of its number
 abbrev pub side_among : List ℕ → Side → Side
 side_among numbers Static = Static
 side_among numbers (Dynamic n) = Dynamic (place_of numbers n)

@@ -7,6 +7,6 @@ use Rattle.pf_shapes.specs.Body.{BodyState}
 abbrev pub woken_body : List Bool → ℕ × BodyState → BodyState
 woken_body marks m = record m.1 { awake = slice_index_or marks m.0 false }
 
--- the bodies, each changed by its state and the name of its group
-abbrev pub each_named : (ℕ × BodyState → BodyState) → List ℕ → List BodyState → List BodyState
-each_named change names bodies = map change (zip names bodies)
+-- the bodies, each changed by its state and the label of its group
+abbrev pub each_labelled : (ℕ × BodyState → BodyState) → List ℕ → List BodyState → List BodyState
+each_labelled change labels bodies = map change (zip labels bodies)

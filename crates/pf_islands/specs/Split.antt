@@ -25,15 +25,15 @@ pub record IsIslandOf (s : Scene) (i : Island) : Type 0 where
 abbrev pub no_island : Island
 no_island = record { numbers = []; bodies = []; rows = [] }
 
--- this is the name of a group that is simulated: the number of a body that is its own group's least
--- body, and awake
-abbrev pub is_active_name : List ℕ → List BodyState → ℕ → Bool
-is_active_name names bodies i = (slice_index_or names i 0 == i) && is_awake_at bodies i
+-- this is the label of a group that is simulated: the number of a body that is its own group's
+-- least body, and awake
+abbrev pub is_active_label : List ℕ → List BodyState → ℕ → Bool
+is_active_label labels bodies i = (slice_index_or labels i 0 == i) && is_awake_at bodies i
 
--- the names of the groups that are simulated, in ascending order
-abbrev pub active_names : List ℕ → List BodyState → List ℕ
-active_names names bodies =
-    filter (is_active_name names bodies) (range_with_len 0 (length names))
+-- the labels of the groups that are simulated, in ascending order
+abbrev pub active_labels : List ℕ → List BodyState → List ℕ
+active_labels labels bodies =
+    filter (is_active_label labels bodies) (range_with_len 0 (length labels))
 
 -- what an island of these bodies has of all bodies and contacts
 abbrev pub island_of : List BodyState → List Row → List ℕ → Island
@@ -45,16 +45,16 @@ island_of bodies rows numbers = record {
 
 -- one island for each group that is simulated, in the order of their least bodies
 abbrev pub islands : List ℕ → List BodyState → List Row → List Island
-islands names bodies rows =
-    map (λ name. island_of bodies rows (members names name)) (active_names names bodies)
+islands labels bodies rows =
+    map (λ label. island_of bodies rows (members labels label)) (active_labels labels bodies)
 
 -- groups are awake as wholes: the awake bodies are those of the groups that are simulated
-pub record AreWoken (names : List ℕ) (bodies : List BodyState) : Type 0 where
+pub record AreWoken (labels : List ℕ) (bodies : List BodyState) : Type 0 where
   pub active :
-      (i : ℕ) → i < length names → is_awake_at bodies i ≡ true
-      → is_active_name names bodies (slice_index_or names i 0) ≡ true
+      (i : ℕ) → i < length labels → is_awake_at bodies i ≡ true
+      → is_active_label labels bodies (slice_index_or labels i 0) ≡ true
   pub whole :
-      (i : ℕ) → i < length names → is_active_name names bodies (slice_index_or names i 0) ≡ true
+      (i : ℕ) → i < length labels → is_active_label labels bodies (slice_index_or labels i 0) ≡ true
       → is_awake_at bodies i ≡ true
 
 -- the body on a side is awake
@@ -64,12 +64,12 @@ is_awake_side bodies (Dynamic n) = is_awake_at bodies n
 
 -- two dynamic bodies are in one group
 abbrev pub AreTogether : List ℕ → Side → Side → Type 0
-AreTogether names (Dynamic a) (Dynamic b) = slice_index_or names a 0 ≡ slice_index_or names b 0
-AreTogether names first second = Unit {0}
+AreTogether labels (Dynamic a) (Dynamic b) = slice_index_or labels a 0 ≡ slice_index_or labels b 0
+AreTogether labels first second = Unit {0}
 
 -- a contact with a body that is simulated; its dynamic bodies are in one group
-pub record IsActiveRow (names : List ℕ) (bodies : List BodyState) (r : Row) : Type 0 where
-  pub first : IsSide (length names) r.entry.first
-  pub second : IsSide (length names) r.entry.second
+pub record IsActiveRow (labels : List ℕ) (bodies : List BodyState) (r : Row) : Type 0 where
+  pub first : IsSide (length labels) r.entry.first
+  pub second : IsSide (length labels) r.entry.second
   pub active : (is_awake_side bodies r.entry.first || is_awake_side bodies r.entry.second) ≡ true
-  pub together : AreTogether names r.entry.first r.entry.second
+  pub together : AreTogether labels r.entry.first r.entry.second

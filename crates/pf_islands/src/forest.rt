@@ -5,7 +5,7 @@ ghost use Rattle.std.specs.Prelude.{◌≡◌, ◌≤◌, ◌<◌, ◌∷◌, �
 ghost use Rattle.std.specs.List.{range_with_len};
 ghost use Rattle.pf_manifold.specs.Touches.{IsTouchOf, Touch};
 ghost use Rattle.pf_islands.specs.Forest.{IsDownward, IsForest};
-ghost use Rattle.pf_islands.specs.Group.{group, merged_name};
+ghost use Rattle.pf_islands.specs.Group.{group, merged_label};
 ghost use Rattle.pf_islands.specs.Reach.{connects};
 
 use pf_manifold::Touch;
@@ -61,7 +61,7 @@ fn link(parents: &mut [usize], a: usize, b: usize)
     requires second { b < length parents.old }
     requires down { IsDownward parents.old }
     ensures roots { (root : ℕ → ℕ) → IsForest root parents.old
-        → IsForest (λ i. merged_name (root a) (root b) (root i)) parents.new }
+        → IsForest (λ i. merged_label (root a) (root b) (root i)) parents.new }
     ensures down { IsDownward parents.new }
 {
     let first = find(parents, a);

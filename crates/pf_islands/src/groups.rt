@@ -8,11 +8,11 @@ use std::alloc::{AllocError, Global};
 use std::marker::Model;
 
 /// The groups of a scene's bodies that contacts connect, never through a static body. Contracts see
-/// the name of each body's group, which is the least body of the group.
+/// the label of each body's group, which is the least body of the group.
 #[derive(Drop)]
 pub struct Groups {
-    names: Vec<usize>,
-    /// Scratch space of `wake`: a mark for each group, at its name.
+    labels: Vec<usize>,
+    /// Scratch space of `wake`: a mark for each group, at its label.
     marks: Vec<bool>,
 }
 
@@ -22,9 +22,9 @@ impl Model for Groups {
 
     ghost Value = { List ℕ };
 
-    ghost view = { λ g. g.names.items };
+    ghost view = { λ g. g.labels.items };
 
-    ghost invariant = { λ g. IsGroups g.names.items g.marks.items };
+    ghost invariant = { λ g. IsGroups g.labels.items g.marks.items };
 }
 
 impl Groups {
@@ -44,19 +44,19 @@ impl Groups {
         ensures no_memory { scene.now.fixtures ≡ [] → IsOk result }
     {
         let len = scene.len();
-        let mut names = singles(alloc, len)?;
+        let mut labels = singles(alloc, len)?;
         let marks = unmarked(alloc, len)?;
-        link_all(&mut names, scene, touches);
-        flatten(&mut names);
-        Ok(Groups { names, marks })
+        link_all(&mut labels, scene, touches);
+        flatten(&mut labels);
+        Ok(Groups { labels, marks })
     }
 
-    /// The name of each body's group.
-    pub(crate) fn names(&self) -> &[usize]
+    /// The label of each body's group.
+    pub(crate) fn labels(&self) -> &[usize]
         ensures value { result.now ≡ self.now }
-        ensures named { All (λ name. name < length self.now) self.now }
+        ensures labelled { All (λ label. label < length self.now) self.now }
     {
-        self.names.as_slice()
+        self.labels.as_slice()
     }
 
     /// The phase Activity: wakes the bodies of each group that has an awake one. Takes no memory.
@@ -68,7 +68,7 @@ impl Groups {
             → self.old ≡ groups scene touches → AreWoken self.old bodies.new }
         ensures groups { self.new ≡ self.old }
     {
-        mark_active(&mut self.marks, &self.names, bodies);
-        wake_marked(&self.marks, &self.names, bodies);
+        mark_active(&mut self.marks, &self.labels, bodies);
+        wake_marked(&self.marks, &self.labels, bodies);
     }
 }

@@ -2,7 +2,7 @@
 
 ghost use Rattle.std.specs.Prelude.{◌≡◌};
 
-use crate::rooms::Room;
+use crate::sizes::IslandSize;
 use pf_rows::Row;
 use pf_shapes::BodyState;
 use smallvec::SmallVec;
@@ -10,11 +10,11 @@ use std::alloc::{AllocError, Global};
 use std::marker::Model;
 
 /// An island keeps its memory up to so many times what it needs, and gives back more than that.
-const MOST_ROOM: usize = 4;
+const MAX_SPARE: usize = 4;
 
 /// Some bodies of a world that contacts connect, and the contacts that touch them, as Box2D 2.x's
 /// `b2Island`. It has its own copies of all, so it can be solved apart from the others. Its rows
-/// name its bodies by their places in the island. A body without contacts needs no memory beside
+/// have its bodies by their places in the island. A body without contacts needs no memory beside
 /// the island itself.
 #[derive(Debug, Drop)]
 pub struct Island {
@@ -53,29 +53,29 @@ impl Island {
         }
     }
 
-    /// Whether it has far more room than this.
-    fn has_too_much_room(&self, room: Room) -> bool {
-        self.bodies.capacity() / MOST_ROOM > room.bodies
-            || self.rows.capacity() / MOST_ROOM > room.rows
+    /// Whether it has far more memory than an island of this size needs.
+    fn has_too_much_memory(&self, size: IslandSize) -> bool {
+        self.bodies.capacity() / MAX_SPARE > size.bodies
+            || self.rows.capacity() / MAX_SPARE > size.rows
     }
 
-    /// Drops its bodies and contacts, and makes room for so many others. Its memory stays, unless
-    /// it is far too much. Takes no memory for one body without contacts.
-    pub(crate) fn clear(&mut self, room: Room) -> Result<(), AllocError>
+    /// Drops its bodies and contacts, and reserves memory for so many others. Its memory stays,
+    /// unless it is far too much. Takes no memory for one body without contacts.
+    pub(crate) fn clear(&mut self, size: IslandSize) -> Result<(), AllocError>
         ensures value { OnOk result (self.new ≡ no_island) }
-        ensures no_memory { room.bodies ≤ 1 → room.rows ≡ 0 → IsOk result }
+        ensures no_memory { size.bodies ≤ 1 → size.rows ≡ 0 → IsOk result }
     {
-        if self.has_too_much_room(room) {
+        if self.has_too_much_memory(size) {
             *self = Island::new(*self.rows.allocator());
         }
         self.numbers.clear();
         self.bodies.clear();
         self.rows.clear();
-        if room.bodies > 1 {
-            self.numbers.reserve(room.bodies)?;
-            self.bodies.reserve(room.bodies)?;
+        if size.bodies > 1 {
+            self.numbers.reserve(size.bodies)?;
+            self.bodies.reserve(size.bodies)?;
         }
-        self.rows.reserve(room.rows)
+        self.rows.reserve(size.rows)
     }
 
     /// Adds a body with this number. After an error a part of it may have been added.

@@ -17,7 +17,7 @@ ghost use Rattle.pf_islands.specs.Group.{group, groups};
 ghost use Rattle.pf_islands.specs.Sleep.{bodies_after_sleep, woken_bodies};
 
 /// Two bodies are in one group exactly where a chain of contacts leads from one to the other. The
-/// name of a group is its least body.
+/// label of a group is its least body.
 pub fn groups_are_connected()
     ensures connected { (s : Scene) (touches : List Touch) (a b : ℕ)
         → Reaches s touches a b ↔ (group s touches a ≡ group s touches b) }
@@ -72,7 +72,7 @@ pub fn islands_have_each_simulated_body()
         × All (λ i. IsRising 0 i.numbers) (islands_of s touches bodies contacts) }
 {}
 
-/// The islands of a tick have each contact that is simulated, and each in one island alone; they
+/// The islands of a tick have each contact that is simulated, and each in exactly one island; they
 /// have no other contact. The contacts of an island are in the order of their keys.
 pub fn islands_have_each_simulated_contact()
     ensures whole { (s : Scene) (touches : List Touch) (bodies : List BodyState)

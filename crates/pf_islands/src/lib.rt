@@ -7,8 +7,8 @@ mod island;
 mod joining;
 pub mod laws;
 mod marks;
-mod rooms;
 mod rows;
+mod sizes;
 mod sleep;
 mod splitting;
 

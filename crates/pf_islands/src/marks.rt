@@ -1,8 +1,8 @@
-//! Marks of groups, by their names.
+//! Marks of groups, by their labels.
 
 ghost use Rattle.std.specs.Prelude.{◌≡◌, ◌<◌, All, IfOk, IsOk, length, map};
 ghost use Rattle.std.specs.List.{range_with_len};
-ghost use Rattle.pf_islands.specs.Marks.{each_named, woken_body};
+ghost use Rattle.pf_islands.specs.Marks.{each_labelled, woken_body};
 ghost use Rattle.pf_islands.specs.Sleep.{is_active};
 
 use pf_shapes::BodyState;
@@ -19,29 +19,29 @@ pub fn unmarked(alloc: Global, len: usize) -> Result<Vec<bool>, AllocError>
 }
 
 /// Marks the groups that have an awake body.
-pub fn mark_active(marks: &mut [bool], names: &[usize], bodies: &[BodyState])
-    requires marks { length marks.old ≡ length names.now }
-    requires bodies { length bodies.now ≡ length names.now }
-    requires named { All (λ name. name < length names.now) names.now }
+pub fn mark_active(marks: &mut [bool], labels: &[usize], bodies: &[BodyState])
+    requires marks { length marks.old ≡ length labels.now }
+    requires bodies { length bodies.now ≡ length labels.now }
+    requires labelled { All (λ label. label < length labels.now) labels.now }
     ensures { marks.new
-        ≡ map (is_active names.now bodies.now) (range_with_len 0 (length names.now)) }
+        ≡ map (is_active labels.now bodies.now) (range_with_len 0 (length labels.now)) }
 {
     marks.fill(false);
     for (number, body) in bodies.iter().enumerate() {
         if body.awake {
-            marks[names[number]] = true;
+            marks[labels[number]] = true;
         }
     }
 }
 
 /// A body is awake afterwards exactly where its group has a mark.
-pub fn wake_marked(marks: &[bool], names: &[usize], bodies: &mut [BodyState])
-    requires marks { length marks.now ≡ length names.now }
-    requires bodies { length bodies.old ≡ length names.now }
-    requires named { All (λ name. name < length names.now) names.now }
-    ensures { bodies.new ≡ each_named (woken_body marks.now) names.now bodies.old }
+pub fn wake_marked(marks: &[bool], labels: &[usize], bodies: &mut [BodyState])
+    requires marks { length marks.now ≡ length labels.now }
+    requires bodies { length bodies.old ≡ length labels.now }
+    requires labelled { All (λ label. label < length labels.now) labels.now }
+    ensures { bodies.new ≡ each_labelled (woken_body marks.now) labels.now bodies.old }
 {
     for (number, body) in bodies.iter_mut().enumerate() {
-        body.awake = marks[names[number]];
+        body.awake = marks[labels[number]];
     }
 }

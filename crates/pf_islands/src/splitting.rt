@@ -7,37 +7,37 @@ ghost use Rattle.pf_manifold.specs.Touches.{IsTouchOf};
 ghost use Rattle.pf_islands.specs.Group.{groups as groups_of};
 ghost use Rattle.pf_islands.specs.Island.{members};
 ghost use Rattle.pf_islands.specs.Rows.{active_rows};
-ghost use Rattle.pf_islands.specs.Split.{AreWoken, IsIslandOf, active_names, is_active_name, island_of, islands, no_island};
+ghost use Rattle.pf_islands.specs.Split.{AreWoken, IsIslandOf, active_labels, is_active_label, island_of, islands, no_island};
 ghost use Rattle.pf_islands.specs.Dealing.{ArePlaces, group_of_row, group_of_sides, placed_row, placed_side, slot_of, with_body, with_row};
 
 use crate::groups::Groups;
 use crate::island::Island;
-use crate::rooms::{Room, rooms};
 use crate::rows::{active_places, row_of};
+use crate::sizes::{IslandSize, sizes};
 use pf_cache::Contact;
 use pf_manifold::Touch;
 use pf_rows::{Row, Side};
 use pf_shapes::{BodyState, Scene};
 use std::alloc::{AllocError, Global};
 
-/// Whether a body is awake and gives its group the name, as the least body of it.
+/// Whether a body is awake and the least of its group, so that its number is the label.
 #[inline]
-fn is_active_name(names: &[usize], bodies: &[BodyState], number: usize) -> bool
-    requires number { number < length names.now }
-    requires bodies { length bodies.now ≡ length names.now }
-    ensures { result ≡ is_active_name names.now bodies.now number }
+fn is_active_label(labels: &[usize], bodies: &[BodyState], number: usize) -> bool
+    requires number { number < length labels.now }
+    requires bodies { length bodies.now ≡ length labels.now }
+    ensures { result ≡ is_active_label labels.now bodies.now number }
 {
     let body = &bodies[number];
-    names[number] == number && body.awake
+    labels[number] == number && body.awake
 }
 
-/// Clears the island at a place, with room for so many bodies and contacts; or adds such an island,
-/// if `place` is the length of the list.
+/// Clears the island at a place, with memory for so many bodies and contacts; or adds such an
+/// island, if `place` is the length of the list.
 fn clear_at(
     alloc: Global,
     islands: &mut Vec<Island>,
     place: usize,
-    room: Room,
+    size: IslandSize,
 ) -> Result<(), AllocError>
     requires { place ≤ length islands.old.items }
     ensures cleared { OnOk result
@@ -48,34 +48,34 @@ fn clear_at(
         islands.push(Island::new(alloc))?;
     }
     let island = &mut islands[place];
-    island.clear(room)
+    island.clear(size)
 }
 
-/// An island without bodies for each group that is simulated, in the order of their names, made in
-/// the memory of the spare islands; and for each body how many of these names are less than its
+/// An island without bodies for each group that is simulated, in the order of their labels, made in
+/// the memory of the spare islands; and for each body how many of these labels are less than its
 /// number.
 fn empty_islands(
     alloc: Global,
     spare: Vec<Island>,
-    names: &[usize],
+    labels: &[usize],
     bodies: &[BodyState],
-    rooms: &[Room],
+    sizes: &[IslandSize],
 ) -> Result<(Vec<Island>, Vec<usize>), AllocError>
-    requires bodies { length bodies.now ≡ length names.now }
-    requires rooms { length rooms.now ≡ length names.now }
+    requires bodies { length bodies.now ≡ length labels.now }
+    requires sizes { length sizes.now ≡ length labels.now }
     ensures islands { IfOk result
-        (λ made. made.0.items ≡ map (λ name. no_island) (active_names names.now bodies.now)) }
+        (λ made. made.0.items ≡ map (λ label. no_island) (active_labels labels.now bodies.now)) }
     ensures slots { IfOk result (λ made. made.1.items
-        ≡ map (slot_of names.now bodies.now) (range_with_len 0 (length names.now))) }
-    ensures no_memory { length names.now ≡ 0 → IsOk result }
+        ≡ map (slot_of labels.now bodies.now) (range_with_len 0 (length labels.now))) }
+    ensures no_memory { length labels.now ≡ 0 → IsOk result }
 {
     let mut islands = spare;
-    let mut slots = Vec::with_capacity(alloc, names.len())?;
+    let mut slots = Vec::with_capacity(alloc, labels.len())?;
     let mut count = 0;
-    for number in 0..names.len() {
+    for number in 0..labels.len() {
         slots.push_reserved(count);
-        if is_active_name(names, bodies, number) {
-            clear_at(alloc, &mut islands, count, rooms[number])?;
+        if is_active_label(labels, bodies, number) {
+            clear_at(alloc, &mut islands, count, sizes[number])?;
             count += 1;
         }
     }
@@ -119,33 +119,33 @@ fn deal_bodies(
     islands: &mut [Island],
     places: &mut [usize],
     slots: &[usize],
-    names: &[usize],
+    labels: &[usize],
     bodies: &[BodyState],
 ) -> Result<(), AllocError>
-    requires bodies { length bodies.now ≡ length names.now }
-    requires places { length places.old ≡ length names.now }
+    requires bodies { length bodies.now ≡ length labels.now }
+    requires places { length places.old ≡ length labels.now }
     requires slots { slots.now
-        ≡ map (slot_of names.now bodies.now) (range_with_len 0 (length names.now)) }
-    requires named { All (λ name. name < length names.now) names.now }
-    requires woken_bodies { AreWoken names.now bodies.now }
-    requires empty { islands.old ≡ map (λ name. no_island) (active_names names.now bodies.now) }
+        ≡ map (slot_of labels.now bodies.now) (range_with_len 0 (length labels.now)) }
+    requires labelled { All (λ label. label < length labels.now) labels.now }
+    requires woken_bodies { AreWoken labels.now bodies.now }
+    requires empty { islands.old ≡ map (λ label. no_island) (active_labels labels.now bodies.now) }
     ensures islands { OnOk result (islands.new
-        ≡ map (λ name. island_of bodies.now [] (members names.now name))
-        (active_names names.now bodies.now)) }
-    ensures places { OnOk result (ArePlaces names.now bodies.now places.new) }
+        ≡ map (λ label. island_of bodies.now [] (members labels.now label))
+        (active_labels labels.now bodies.now)) }
+    ensures places { OnOk result (ArePlaces labels.now bodies.now places.new) }
     ensures no_memory { bodies.now ≡ [] → IsOk result }
 {
     for number in 0..bodies.len() {
         let body = &bodies[number];
         if body.awake {
-            let slot = slots[names[number]];
+            let slot = slots[labels[number]];
             places[number] = add_body(islands, slot, number, body)?;
         }
     }
     Ok(())
 }
 
-/// The side that names a body by its place in its island.
+/// The side of a body, by its place in its island.
 #[inline]
 fn placed_side(places: &[usize], side: Side) -> Side
     requires { IsSide (length places.now) side }
@@ -157,15 +157,15 @@ fn placed_side(places: &[usize], side: Side) -> Side
     }
 }
 
-/// The name of the group of a contact: that of its first dynamic body.
+/// The label of the group of a contact: that of its first dynamic body.
 #[inline]
-fn group_of_sides(names: &[usize], first: Side, second: Side) -> usize
-    requires first { IsSide (length names.now) first }
-    requires second { IsSide (length names.now) second }
-    ensures { result ≡ group_of_sides names.now first second }
+fn group_of_sides(labels: &[usize], first: Side, second: Side) -> usize
+    requires first { IsSide (length labels.now) first }
+    requires second { IsSide (length labels.now) second }
+    ensures { result ≡ group_of_sides labels.now first second }
 {
     match (first, second) {
-        (Side::Dynamic(number), _) | (Side::Static, Side::Dynamic(number)) => names[number],
+        (Side::Dynamic(number), _) | (Side::Static, Side::Dynamic(number)) => labels[number],
         (Side::Static, Side::Static) => 0,
     }
 }
@@ -176,22 +176,22 @@ fn deal_row(
     islands: &mut [Island],
     slots: &[usize],
     places: &[usize],
-    names: &[usize],
+    labels: &[usize],
     row: Row,
 ) -> Result<(), AllocError>
-    requires first { IsSide (length names.now) row.entry.first }
-    requires second { IsSide (length names.now) row.entry.second }
-    requires slots { length slots.now ≡ length names.now }
-    requires places { length places.now ≡ length names.now }
-    requires group { group_of_row names.now row < length names.now }
-    requires slot { slice_index_or slots.now (group_of_row names.now row) 0 < length islands.old }
+    requires first { IsSide (length labels.now) row.entry.first }
+    requires second { IsSide (length labels.now) row.entry.second }
+    requires slots { length slots.now ≡ length labels.now }
+    requires places { length places.now ≡ length labels.now }
+    requires group { group_of_row labels.now row < length labels.now }
+    requires slot { slice_index_or slots.now (group_of_row labels.now row) 0 < length islands.old }
     ensures { OnOk result (
-        let slot = slice_index_or slots.now (group_of_row names.now row) 0 in
+        let slot = slice_index_or slots.now (group_of_row labels.now row) 0 in
         islands.new ≡ slice_set islands.old slot
         (with_row (placed_row places.now row) (slice_index_or islands.old slot no_island))) }
 {
     let entry = row.entry;
-    let slot = slots[group_of_sides(names, entry.first, entry.second)];
+    let slot = slots[group_of_sides(labels, entry.first, entry.second)];
     let mut row = row;
     row.entry.first = placed_side(places, entry.first);
     row.entry.second = placed_side(places, entry.second);
@@ -224,17 +224,17 @@ pub fn split(
     ensures fit { IfOk result (λ found. All (IsIslandOf scene.now) found.items) }
     ensures no_memory { bodies.now ≡ [] → touches.now ≡ [] → IsOk result }
 {
-    let names = groups.names();
+    let labels = groups.labels();
     let active = active_places(alloc, scene, bodies, touches)?;
-    let rooms = rooms(alloc, names, bodies, touches, &active)?;
-    let (mut made, slots) = empty_islands(alloc, spare, names, bodies, &rooms)?;
-    let mut places = Vec::with_capacity(alloc, names.len())?;
-    places.resize(names.len(), 0)?;
-    deal_bodies(&mut made, &mut places, &slots, names, bodies)?;
+    let sizes = sizes(alloc, labels, bodies, touches, &active)?;
+    let (mut made, slots) = empty_islands(alloc, spare, labels, bodies, &sizes)?;
+    let mut places = Vec::with_capacity(alloc, labels.len())?;
+    places.resize(labels.len(), 0)?;
+    deal_bodies(&mut made, &mut places, &slots, labels, bodies)?;
     for place in &active {
         let place = *place;
         let row = row_of(scene, place, &touches[place], &contacts[place]);
-        deal_row(&mut made, &slots, &places, names, row)?;
+        deal_row(&mut made, &slots, &places, labels, row)?;
     }
     Ok(made)
 }

@@ -36,7 +36,8 @@ Decides-point a b =
     ))
     (Decides-and _ _ (Decides-eqb a.feature b.feature)
     (Decides-and _ _ (Decides-vector a.position b.position)
-    (Decides-and _ _ (Decides-vector a.normal b.normal) (Decides-int_eq a.separation b.separation))))
+    (Decides-and _ _ (Decides-vector a.normal b.normal)
+    (Decides-int_eq a.separation b.separation))))
 
 pub Decides-touch : (a b : Touch) → Decides (same_touch a b) (a ≡ b)
 unfolding same_touch

@@ -113,7 +113,7 @@ pub trait Collider {
             (λ found. found.items ≡ touches scene.now.fixtures bodies.now pairs.now) };
 }
 
-/// The thread of the caller alone.
+/// Only the thread of the caller.
 #[derive(Clone, Copy, Debug)]
 pub struct OneThread;
 

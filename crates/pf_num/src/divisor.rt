@@ -5,8 +5,8 @@ use crate::guess::reciprocal_near;
 use crate::quotient::rounded_quotient;
 use std::marker::Model;
 
-/// A number by which others are divided. It keeps what a guess at their quotients takes, so to divide
-/// two numbers by it takes less time than two divisions.
+/// A number by which others are divided. It keeps what a guess at their quotients takes, so to
+/// divide two numbers by it takes less time than two divisions.
 ///
 /// Contracts see it as the raw number.
 #[derive(Debug, Drop)]

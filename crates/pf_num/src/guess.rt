@@ -8,8 +8,8 @@ use std::num::{f64_to_bits_with_nan, nearest_i64_to_f64};
 /// 2^24, the raw value of the number 1.
 const ONE: f64 = 16_777_216.0;
 
-/// 2^52. Floating-point numbers from here up to 2^53 are whole, and their low 52 bits are the number
-/// less 2^52.
+/// 2^52. Floating-point numbers from here up to 2^53 are whole, and their low 52 bits are the
+/// number less 2^52.
 const WHOLE: f64 = 4_503_599_627_370_496.0;
 
 /// Slightly more than a half: what is added so that rounding to the nearest gives the next whole

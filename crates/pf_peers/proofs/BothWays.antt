@@ -64,7 +64,7 @@ checked s (e ∷ es) sorted each =
 map_checked : (s : Scene) (m : CommandMap) → AreAllowed s m → check_all s (entries m) ≡ Ok tt
 map_checked s m are = checked s (entries m) (entries_sorted m) (λ name payload found. are name payload (get-entries m name ∙ found))
 
--- ---- a merge that is not rejected
+-- ---- a merge that is not refused
 
 -- a peer that merges another one with the same horizon and the same world there
 merged_peer : (s : Scene) (q p : Peer) (i j : ℕ) → j ≢ i → p.horizon ≡ q.horizon → p.base ≡ q.base → AreAllowed s q.commands → IsFrom q.horizon q.commands

@@ -6,7 +6,7 @@ use Rattle.std.proofs.lemmas.Bool.Decides.{nat_tests}
 use Rattle.std.proofs.lemmas.List.{ext_get_or, get_or-set_same, get_or-set_other}
 use Rattle.pf_shapes.specs.Scene.{Scene}
 use Rattle.pf_commands.specs.declared.checking.CheckFault.{CheckFault}
-use Rattle.pf_commands.specs.declared.map.Put.{Put}
+use Rattle.pf_commands.specs.declared.outcome.Put.{Put}
 use Rattle.pf_commands.specs.declared.name.TheConstants.{MAX_TICK, NUMBERS}
 use Rattle.pf_commands.specs.declared.payload.Command.{Command}
 use Rattle.pf_commands.specs.declared.payload.Payload.{Payload}
@@ -14,11 +14,11 @@ use Rattle.pf_commands.specs.Check.{check, check_all}
 use Rattle.pf_commands.specs.Merge.{CommandMap, merge, singleton, put_all}
 use Rattle.pf_commands.specs.Ticks.{IsFrom, commands_before, commands_from, is_from}
 use Rattle.pf_commands.specs.News.{news, put_outcome}
-use Rattle.pf_rollback.specs.declared.fault.Refusal.{Refusal}
+use Rattle.pf_rollback.specs.declared.error.Refusal.{Refusal}
 use Rattle.pf_commands.proofs.Merging.{merge_assoc}
 use Rattle.pf_commands.proofs.Since.{before-merge-from, is_from-IsFrom}
 use Rattle.pf_step.specs.World.{same_world}
-use Rattle.pf_rollback.specs.declared.fault.Refusal.TheVariants.{TooOld}
+use Rattle.pf_rollback.specs.declared.error.Refusal.TheVariants.{TooOld}
 use Rattle.pf_rollback.specs.Peer.{Peer, if_allowed, new_peer, with_command, with_commands, with_frame, put, issue, merge_map, merge_sealed, advance, next_command, next_number, seal, sealed_peer}
 use Rattle.pf_rollback.specs.Sealing.{HasSealed}
 use Rattle.pf_rollback.proofs.Seals.{is_sealed, seal_seals, sealed_stays}
@@ -34,7 +34,7 @@ use Rattle.pf_peers.proofs.Sessions.{length-session_after}
 
 -- ---- one peer
 
--- a call that brings commands, rejected or not: the player, the horizon and the world there stay; the
+-- a call that brings commands, refused or not: the player, the horizon and the world there stay; the
 -- map is the one with these commands put in, of which none is before the horizon
 pub record Brings {A : Type 0} (p : Peer) (cs : List Command) (r : Result (A × Peer) Refusal) : Type 0 where
   pub player : (reply : A → Reply) → (reply_and_peer reply p r).1.player ≡ p.player
@@ -43,9 +43,9 @@ pub record Brings {A : Type 0} (p : Peer) (cs : List Command) (r : Result (A × 
   pub commands : (reply : A → Reply) → (reply_and_peer reply p r).1.commands ≡ put_all p.commands (if_taken r cs)
   pub from : (reply : A → Reply) → IsFrom p.horizon p.commands → IsFrom p.horizon (reply_and_peer reply p r).1.commands
 
--- a call that is rejected
-rejected : {A : Type 0} (p : Peer) (cs : List Command) (refusal : Refusal) → Brings {A = A} p cs (Err refusal)
-rejected p cs refusal = record {
+-- a call that is refused
+refused_outcome : {A : Type 0} (p : Peer) (cs : List Command) (refusal : Refusal) → Brings {A = A} p cs (Err refusal)
+refused_outcome p cs refusal = record {
   player = λ reply. refl;
   horizon = λ reply. refl;
   base = λ reply. refl;
@@ -63,11 +63,11 @@ either Holds false r s first second = second
 allowed : {A : Type 0} (p : Peer) (cs : List Command) (checked : Result (Unit {0}) CheckFault) (r : Result (A × Peer) Refusal)
     → Brings p cs r → Brings p cs (if_allowed checked r)
 allowed p cs (Ok done) r brings = brings
-allowed p cs (Err fault) r brings = rejected p cs _
+allowed p cs (Err fault) r brings = refused_outcome p cs _
 
 put_late : (p : Peer) (c : Command) (outcome : Put) (early : Bool) → nat_lt c.name.tick p.horizon ≡ early
     → Brings p (c ∷ []) (if early then Err (TooOld p.horizon) else Ok (outcome, with_command p c))
-put_late p c outcome true test = rejected p (c ∷ []) _
+put_late p c outcome true test = refused_outcome p (c ∷ []) _
 put_late p c outcome false test = record {
   player = λ reply. refl;
   horizon = λ reply. refl;
@@ -85,7 +85,7 @@ merge_late p others count true test = record {
   commands = λ reply. sym (put_all-commands_of p.commands others);
   from = λ reply from. IsFrom-merge p.horizon p.commands others from (is_from-IsFrom p.horizon others test);
 }
-merge_late p others count false test = rejected p (commands_of others) _
+merge_late p others count false test = refused_outcome p (commands_of others) _
 
 pub puts : (s : Scene) (p : Peer) (c : Command) → Brings p (c ∷ []) (put s p c)
 unfolding put
@@ -100,14 +100,14 @@ framed p c (Ok outcome) brings = record {
   commands = λ reply. brings.commands (λ put. Took 0 put);
   from = λ reply. brings.from (λ put. Took 0 put);
 }
-framed p c (Err refusal) brings = rejected p (c ∷ []) refusal
+framed p c (Err refusal) brings = refused_outcome p (c ∷ []) refusal
 
 pub issues : (s : Scene) (p : Peer) (payload : Payload) → Brings p (next_command p payload ∷ []) (issue s p payload)
 unfolding issue
 issues s p payload =
     let c = next_command p payload in
-    either (Brings p (c ∷ [])) (nat_le MAX_TICK p.reached) (Err _) _ (rejected p (c ∷ []) _)
-    (either (Brings p (c ∷ [])) (nat_le NUMBERS (next_number p.commands p.reached p.player)) (Err _) _ (rejected p (c ∷ []) _)
+    either (Brings p (c ∷ [])) (nat_le MAX_TICK p.reached) (Err _) _ (refused_outcome p (c ∷ []) _)
+    (either (Brings p (c ∷ [])) (nat_le NUMBERS (next_number p.commands p.reached p.player)) (Err _) _ (refused_outcome p (c ∷ []) _)
     (framed p c (put s p c) (puts s p c)))
 
 merges_map : (s : Scene) (p : Peer) (others : CommandMap) → Brings p (commands_of others) (merge_map s p others)
@@ -121,7 +121,7 @@ unfolding merge_sealed
 merges s p q =
     let cs = commands_of q.commands in
     either (Brings p cs) (p.horizon == q.horizon) _ _
-    (either (Brings p cs) (same_world p.base q.base) _ _ (merges_map s p q.commands) (rejected p cs _)) (rejected p cs _)
+    (either (Brings p cs) (same_world p.base q.base) _ _ (merges_map s p q.commands) (refused_outcome p cs _)) (refused_outcome p cs _)
 
 pub advances : (p : Peer) (ticks : ℕ) → Brings p [] (advance p ticks)
 unfolding advance
@@ -131,7 +131,7 @@ advances p ticks = either (Brings p []) (nat_le (p.reached + ticks) MAX_TICK) _ 
   base = λ reply. refl;
   commands = λ reply. refl;
   from = λ reply from. from;
-}) (rejected p [] _)
+}) (refused_outcome p [] _)
 
 -- ---- what a peer has sealed, and what it holds
 

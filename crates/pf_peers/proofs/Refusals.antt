@@ -1,10 +1,10 @@
--- A rejected event changes nothing.
+-- A refused event changes nothing.
 use Rattle.std.proofs.Common.{◌≡◌, ◌==◌, if◌then◌else◌, Bool, true, false, ℕ, List, Result, Ok, Err, refl, ap, ◌∙◌, rules}
 use Rattle.std.specs.Prelude.{slice_set}
 use Rattle.std.proofs.lemmas.List.{set-get_or}
-use Rattle.pf_commands.specs.declared.map.Put.{Put}
+use Rattle.pf_commands.specs.declared.outcome.Put.{Put}
 use Rattle.pf_shapes.specs.Scene.{Scene}
-use Rattle.pf_rollback.specs.declared.fault.Refusal.{Refusal}
+use Rattle.pf_rollback.specs.declared.error.Refusal.{Refusal}
 use Rattle.pf_rollback.specs.Peer.{Peer, advance, issue, new_peer, seal, take}
 use Rattle.pf_peers.specs.declared.event.Event.{Event}
 use Rattle.pf_peers.specs.declared.event.Event.TheVariants.{Issue, Take, Merge, Advance, Settle, Show, Seal}
@@ -12,7 +12,7 @@ use Rattle.pf_peers.specs.declared.event.Reply.{Reply}
 use Rattle.pf_peers.specs.declared.event.Reply.TheVariants.{Issued, Took, Merged, Advanced, Sealed, Refused}
 use Rattle.pf_peers.specs.Session.{Session, merge_of, other_peer_at, peer_answer, peer_at, peer_of, reply_and_peer, reply_to, session_after}
 
--- the reply is no rejection
+-- the reply is no refusal
 abbrev IsNoRefusal : Reply → Type 0
 IsNoRefusal reply = (refusal : Refusal) → reply ≡ Refused refusal → ⊥
 

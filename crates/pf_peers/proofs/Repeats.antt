@@ -6,22 +6,22 @@ use Rattle.std.specs.FinMap.{get, get-insert, entries}
 use Rattle.pf_shapes.specs.Scene.{Scene}
 use Rattle.pf_commands.specs.declared.checking.CheckFault.{CheckFault}
 use Rattle.pf_commands.specs.declared.fault.FrameFault.{FrameFault}
-use Rattle.pf_commands.specs.declared.map.Put.{Put}
+use Rattle.pf_commands.specs.declared.outcome.Put.{Put}
 use Rattle.pf_commands.specs.declared.payload.Command.{Command}
 use Rattle.pf_commands.specs.Check.{check, check_all}
 use Rattle.pf_commands.specs.Merge.{CommandMap, merge, put_all, singleton}
 use Rattle.pf_commands.specs.Ticks.{IsFrom, commands_from, is_from}
 use Rattle.pf_commands.specs.Name.{Name}
 use Rattle.pf_commands.specs.News.{is_change, is_news, news, put_outcome}
-use Rattle.pf_commands.specs.declared.map.Put.TheVariants.{Same}
+use Rattle.pf_commands.specs.declared.outcome.Put.TheVariants.{Same}
 use Rattle.pf_commands.specs.declared.payload.Payload.{Payload}
 use Rattle.pf_commands.proofs.Changes.{merge_one-changed}
 use Rattle.pf_commands.proofs.Names.{name_cmp_total}
 use Rattle.pf_commands.proofs.Since.{IsFrom-is_from, commands_from-IsFrom, commands_from-merge, is_from-IsFrom}
 use Rattle.pf_step.specs.World.{same_world}
 use Rattle.pf_step.specs.WorldLaws.{Decides-world}
-use Rattle.pf_rollback.specs.declared.fault.Refusal.{Refusal}
-use Rattle.pf_rollback.specs.declared.fault.Refusal.TheVariants.{BasesDiffer, HorizonsDiffer, TooOld}
+use Rattle.pf_rollback.specs.declared.error.Refusal.{Refusal}
+use Rattle.pf_rollback.specs.declared.error.Refusal.TheVariants.{BasesDiffer, HorizonsDiffer, TooOld}
 use Rattle.pf_rollback.specs.Peer.{Peer, advance, if_allowed, issue, merge_map, merge_sealed, put, seal, with_command, with_commands}
 use Rattle.pf_rollback.proofs.Seals.{is_sealed}
 use Rattle.pf_peers.specs.declared.event.Event.{Event}
@@ -133,7 +133,7 @@ on_events s (event ∷ events) i within =
 with_same : (q : Peer) (m : CommandMap) → Absorbs q.commands m → record q { commands = merge q.commands m } ≡ q
 with_same q m same = ap (λ (k : CommandMap). record q { commands = k }) same
 
--- A command that p took, or that it rejected, is either rejected by a later peer, or the later peer
+-- A command that p took, or that it refused, is either refused by a later peer, or the later peer
 -- has it.
 late_again : (p q : Peer) (c : Command) (before : Put) → IsOn (reply_and_peer (λ outcome. Took 0 outcome) p
     (if nat_lt c.name.tick p.horizon then Err (TooOld p.horizon) else Ok (before, with_command p c))).1 q
@@ -229,7 +229,7 @@ reply_again p q c i before put (Ok done) on same = by (nat_lt c.name.tick q.hori
 
 -- ---- a map that is merged again
 
--- a map that p merged, or rejected, is either rejected by a later peer, or the later peer has it
+-- a map that p merged, or refused, is either refused by a later peer, or the later peer has it
 map_again : (p q : Peer) (m : CommandMap) (before : ℕ) → IsOn (reply_and_peer (λ count. Merged 0 count) p
     (if is_from p.horizon m then Ok (before, with_commands p m) else Err (TooOld p.horizon))).1 q
     → is_from q.horizon m ≡ true → Absorbs q.commands m

@@ -21,7 +21,7 @@ use Rattle.pf_peers.specs.declared.event.Reply.{Reply}
 use Rattle.pf_peers.specs.declared.event.Reply.TheVariants.{Merged}
 use Rattle.pf_peers.specs.Answers.{IsMergeReply}
 use Rattle.pf_peers.specs.Crews.{IsCoreAt}
-use Rattle.pf_peers.specs.Session.{AreCores, IsAmong, NeedsNoMemory, Session, answer, merge_of, other_of, other_peer_at, peer_answer, peer_at, peer_of, replies_to, reply_and_peer, reply_to, session_after}
+use Rattle.pf_peers.specs.Session.{AreCores, IsAmong, NeedsNoMemory, Session, answer, merge_of, other_peer_of, other_peer_at, peer_answer, peer_at, peer_of, replies_to, reply_and_peer, reply_to, session_after}
 
 -- the core of a peer that begins
 abbrev pub new_core : Scene → ℕ → PeerCore
@@ -61,7 +61,7 @@ core_at scene cores i core within is scenes = record {
 -- the reply of one peer is that of the session, and its core after it goes to its place
 pub peer_answer_is : (scene : Scene) (cores : List PeerCore) (event : Event) (old other new : PeerCore) (reply : Reply)
     → peer_of event < length cores → old ≡ get_or cores (peer_of event) old
-    → other_of event < length cores → other ≡ get_or cores (other_of event) other
+    → other_peer_of event < length cores → other ≡ get_or cores (other_peer_of event) other
     → ((k : ℕ) (d : PeerCore) → k < length cores → (get_or cores k d).scene ≡ scene)
     → ◌≡◌ {A = Reply × Peer} (reply, new.peer) (peer_answer old.scene other.peer old.peer event)
     → ◌≡◌ {A = Reply × Session} (reply, record { scene = scene; peers = peers_of (slice_set cores (peer_of event) new) })
@@ -71,7 +71,7 @@ peer_answer_is scene cores event old other new reply within is other_within othe
     let s : Session = record { scene = scene; peers = peers_of cores } in
     let same_scene : old.scene ≡ scene = ap (λ (core : PeerCore). core.scene) is ∙ scenes i old within in
     let same_peer : peer_at s i ≡ old.peer = peer_of_core scene cores i old within is in
-    let same_other : other_peer_at s event ≡ other.peer = peer_of_core scene cores (other_of event) other other_within other_is in
+    let same_other : other_peer_at s event ≡ other.peer = peer_of_core scene cores (other_peer_of event) other other_within other_is in
     let called_there : ◌≡◌ {A = Reply × Peer} (reply, new.peer) (peer_answer scene (other_peer_at s event) (peer_at s i) event) =
     called ∙ ap (λ (s : Scene). peer_answer s other.peer old.peer event) same_scene
     ∙ ap (λ (q : Peer). peer_answer scene q old.peer event) (sym same_other)
@@ -96,7 +96,7 @@ same_peers cores i old new is same =
 -- ---- events on two peers, which are merges
 
 -- the reply of a peer to one
-merge_answer : (s : Scene) (q p : Peer) (event : Event) → other_of event ≢ peer_of event
+merge_answer : (s : Scene) (q p : Peer) (event : Event) → other_peer_of event ≢ peer_of event
     → peer_answer s q p event ≡ reply_and_peer (λ count. Merged (peer_of event) count) p (merge_of s p q)
 unfolding peer_answer
 merge_answer s q p (Issue peer payload) two = absurd (two refl)
@@ -107,7 +107,7 @@ merge_answer s q p (Settle peer) two = absurd (two refl)
 merge_answer s q p (Show peer tick) two = absurd (two refl)
 merge_answer s q p (Seal peer tick) two = absurd (two refl)
 
-merge_needs_none : (s : Scene) (q p : Peer) (event : Event) → other_of event ≢ peer_of event → NeedsNoMemory s q p event
+merge_needs_none : (s : Scene) (q p : Peer) (event : Event) → other_peer_of event ≢ peer_of event → NeedsNoMemory s q p event
     → IsErr (merge_of s p q) ⊎ (news p.commands q.commands ≡ [])
 merge_needs_none s q p (Issue peer payload) two none = absurd (two refl)
 merge_needs_none s q p (Take peer frame) two none = absurd (two refl)
@@ -140,8 +140,8 @@ err_anyway (Ok value) P is = tt
 err_anyway (Err error) P is = is
 
 pub merged_cores : (scene : Scene) (cores after : List PeerCore) (event : Event) (result : Result Reply AllocError)
-    → AreCores scene cores → IsAmong (length cores) event → other_of event ≢ peer_of event
-    → ((old others : PeerCore) → slice_get cores (peer_of event) ≡ Some old → slice_get cores (other_of event) ≡ Some others
+    → AreCores scene cores → IsAmong (length cores) event → other_peer_of event ≢ peer_of event
+    → ((old others : PeerCore) → slice_get cores (peer_of event) ≡ Some old → slice_get cores (other_peer_of event) ≡ Some others
     → (new : PeerCore) × (after ≡ slice_set cores (peer_of event) new) × IsMergeReply (peer_of event) others.peer old new result)
     → AreCoresAfter scene cores after event result
 merged_cores scene cores after event result are among two merged =
@@ -149,13 +149,13 @@ merged_cores scene cores after event result are among two merged =
     let i = peer_of event in
     let s = session_of scene cores in
     let old = get_or cores i d in
-    let others = get_or cores (other_of event) d in
-    let step = merged old others (slice_get-get_or cores i d among.0) (slice_get-get_or cores (other_of event) d among.1) in
+    let others = get_or cores (other_peer_of event) d in
+    let step = merged old others (slice_get-get_or cores i d among.0) (slice_get-get_or cores (other_peer_of event) d among.1) in
     let old_is : old ≡ get_or cores i old = get_or_default cores i d old among.0 in
-    let others_is : others ≡ get_or cores (other_of event) others = get_or_default cores (other_of event) d others among.1 in
+    let others_is : others ≡ get_or cores (other_peer_of event) others = get_or_default cores (other_peer_of event) d others among.1 in
     let same_scene : old.scene ≡ scene = are.scenes i d among.0 in
     let same_peer : peer_at s i ≡ old.peer = peer_of_core scene cores i old among.0 old_is in
-    let same_others : other_peer_at s event ≡ others.peer = peer_of_core scene cores (other_of event) others among.1 others_is in
+    let same_others : other_peer_at s event ≡ others.peer = peer_of_core scene cores (other_peer_of event) others among.1 others_is in
     let session : List PeerCore → Session = session_of scene in
     record {
       are = rw step.1 (record {

@@ -7,7 +7,7 @@ use Rattle.pf_commands.specs.Name.{Name}
 use Rattle.pf_commands.proofs.Merging.{same_commands}
 use Rattle.pf_step.specs.Simulation.{sim}
 use Rattle.pf_step.specs.World.{World}
-use Rattle.pf_rollback.specs.declared.fault.Refusal.{Refusal}
+use Rattle.pf_rollback.specs.declared.error.Refusal.{Refusal}
 use Rattle.pf_rollback.specs.Peer.{Peer, world_of}
 use Rattle.pf_rollback.specs.Horizon.{sim_at}
 use Rattle.pf_rollback.specs.Sealing.{HasSealed}

@@ -6,14 +6,14 @@ use Rattle.pf_commands.specs.Merge.{CommandMap, IsCommandMap}
 use Rattle.pf_commands.specs.Ticks.{IsFrom}
 use Rattle.pf_commands.specs.Name.{Name}
 use Rattle.pf_commands.specs.declared.payload.Command.{Command}
-use Rattle.pf_rollback.specs.declared.fault.Refusal.{Refusal}
+use Rattle.pf_rollback.specs.declared.error.Refusal.{Refusal}
 use Rattle.pf_rollback.specs.Core.{AreAllowed}
 use Rattle.pf_rollback.specs.Peer.{Peer, issue, next_command, put}
 use Rattle.pf_peers.specs.declared.event.Event.{Event}
 use Rattle.pf_peers.specs.declared.event.Event.TheVariants.{Issue, Take, Merge, Advance, Settle, Show, Seal}
 use Rattle.pf_peers.specs.Session.{Session, merge_of, other_peer_at, peer_at, peer_of, session_after}
 
--- the commands of a call, unless the call is rejected
+-- the commands of a call, unless the call is refused
 abbrev pub if_taken : {A : Type 0} → Result A Refusal → List Command → List Command
 if_taken (Ok answer) commands = commands
 if_taken (Err refusal) commands = []

@@ -7,7 +7,7 @@ use Rattle.pf_shapes.specs.Scene.{Scene}
 use Rattle.pf_shapes.specs.declared.fixture.TheConstants.{PLAYERS}
 use Rattle.pf_commands.specs.News.{news}
 use Rattle.pf_step.specs.World.{World}
-use Rattle.pf_rollback.specs.declared.fault.Refusal.{Refusal}
+use Rattle.pf_rollback.specs.declared.error.Refusal.{Refusal}
 use Rattle.pf_rollback.specs.Core.{PeerCore}
 use Rattle.pf_rollback.specs.Peer.{Peer, new_peer, put, issue, take, merge_sealed, advance, seal, IsEmptyBefore, world_at}
 use Rattle.pf_peers.specs.declared.event.Event.{Event}
@@ -37,7 +37,7 @@ peer_at s i = slice_index_or s.peers i (new_peer s.scene 0)
 -- the number of an event's peer
 abbrev pub peer_of : Event → ℕ
 peer_of (Issue peer payload) = peer
-peer_of (Take peer frame) = peer
+peer_of (Take peer decoded) = peer
 peer_of (Merge peer other) = peer
 peer_of (Advance peer ticks) = peer
 peer_of (Settle peer) = peer
@@ -45,18 +45,18 @@ peer_of (Show peer tick) = peer
 peer_of (Seal peer tick) = peer
 
 -- the number of the peer whose commands are merged; for other events that of their peer
-abbrev pub other_of : Event → ℕ
-other_of (Issue peer payload) = peer
-other_of (Take peer frame) = peer
-other_of (Merge peer other) = other
-other_of (Advance peer ticks) = peer
-other_of (Settle peer) = peer
-other_of (Show peer tick) = peer
-other_of (Seal peer tick) = peer
+abbrev pub other_peer_of : Event → ℕ
+other_peer_of (Issue peer payload) = peer
+other_peer_of (Take peer decoded) = peer
+other_peer_of (Merge peer other) = other
+other_peer_of (Advance peer ticks) = peer
+other_peer_of (Settle peer) = peer
+other_peer_of (Show peer tick) = peer
+other_peer_of (Seal peer tick) = peer
 
 -- ---- one event
 
--- the reply to a call, and the peer after it; a rejected call changes nothing
+-- the reply to a call, and the peer after it; a refused call changes nothing
 abbrev pub reply_and_peer
     : {A : Type 0} → (A → Reply) → Peer → Result (A × Peer) Refusal → Reply × Peer
 reply_and_peer reply p (Ok answer) = (reply answer.0, answer.1)
@@ -77,8 +77,8 @@ merge_of s p q = merge_sealed s p q.horizon q.base q.commands
 unfoldable pub peer_answer : Scene → Peer → Peer → Event → Reply × Peer
 peer_answer s q p (Issue peer payload) =
     reply_and_peer (λ frame. Issued peer frame) p (issue s p payload)
-peer_answer s q p (Take peer frame) =
-    reply_and_peer (λ put. Took peer put) p (take s p frame)
+peer_answer s q p (Take peer decoded) =
+    reply_and_peer (λ put. Took peer put) p (take s p decoded)
 peer_answer s q p (Merge peer other) =
     if other == peer then (Merged peer 0, p)
     else reply_and_peer (λ count. Merged peer count) p (merge_of s p q)
@@ -89,7 +89,7 @@ peer_answer s q p (Show peer tick) = (world_reply peer tick (world_at s p tick),
 peer_answer s q p (Seal peer tick) =
     reply_and_peer (λ done. Sealed peer tick) p (seal s p tick)
 
--- no memory is needed for the reply to an event: it is rejected, or a name that is held is taken,
+-- no memory is needed for the reply to an event: it is refused, or a name that is held is taken,
 -- or no command that is merged is new or greater, or ticks are advanced, or the reached tick is the
 -- horizon, or a world without bodies is shown or sealed before any command, or the horizon is
 -- sealed again
@@ -107,7 +107,7 @@ NeedsNoMemory s q p (Seal peer tick) =
 
 -- the other peer of an event
 abbrev pub other_peer_at : Session → Event → Peer
-other_peer_at s event = peer_at s (other_of event)
+other_peer_at s event = peer_at s (other_peer_of event)
 
 -- the reply to an event on a session, and the session after it
 abbrev pub answer : Session → Event → Reply × Session
@@ -136,4 +136,4 @@ session_after_all s (event ∷ events) = session_after_all (session_after s even
 
 -- the event is on one of so many peers, and so is the other peer of a merge
 abbrev pub IsAmong : ℕ → Event → Type 0
-IsAmong peers event = (peer_of event < peers) × (other_of event < peers)
+IsAmong peers event = (peer_of event < peers) × (other_peer_of event < peers)

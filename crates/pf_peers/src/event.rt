@@ -15,9 +15,9 @@ pub enum Event {
     /// Take a frame: the command that it encodes, or why it encodes none.
     Take {
         peer: u8,
-        frame: Result<Command, FrameFault>,
+        decoded: Result<Command, FrameFault>,
     },
-    /// Merge the commands that another peer holds. Rejected unless both have one horizon and one
+    /// Merge the commands that another peer holds. Refused unless both have one horizon and one
     /// world there.
     Merge {
         peer: u8,
@@ -28,7 +28,8 @@ pub enum Event {
         peer: u8,
         ticks: u32,
     },
-    /// Simulate each tick up to the reached one, and keep worlds to show others from.
+    /// Simulate each tick up to the reached one, and keep worlds from which other ones are
+    /// simulated.
     Settle {
         peer: u8,
     },
@@ -46,7 +47,7 @@ pub enum Event {
 
 impl Event {
     ghost use Rattle.std.specs.Prelude.{◌≡◌};
-    ghost use Rattle.pf_peers.specs.Session.{other_of, peer_of};
+    ghost use Rattle.pf_peers.specs.Session.{other_peer_of, peer_of};
 
     /// The number of the peer.
     pub fn peer(&self) -> u8
@@ -63,9 +64,10 @@ impl Event {
         }
     }
 
-    /// The number of the peer whose commands are merged; for other events that of their peer.
-    pub fn other(&self) -> u8
-        ensures { result ≡ other_of self.now }
+    /// The number of the peer whose commands are merged; for other events the number of their own
+    /// peer.
+    pub fn other_peer(&self) -> u8
+        ensures { result ≡ other_peer_of self.now }
     {
         match self {
             Event::Merge { other, .. } => *other,
@@ -77,7 +79,7 @@ impl Event {
 /// The reply to an event.
 #[derive(Debug, Drop)]
 pub enum Reply {
-    /// The peer holds its own command, which has this frame.
+    /// The peer has issued a command: this is its frame.
     Issued { peer: u8, frame: [u8; FRAME_LEN] },
     /// The peer holds the command, or a greater one of its name.
     Took { peer: u8, put: Put },
@@ -85,12 +87,12 @@ pub enum Reply {
     Merged { peer: u8, count: usize },
     /// The peer has reached this tick.
     Advanced { peer: u8, reached: u32 },
-    /// Each tick up to the reached one, this, is settled.
+    /// Each tick up to this one, the reached tick, is settled.
     Settled { peer: u8, reached: u32 },
     /// The world at this tick.
     Shown { peer: u8, tick: u32, world: World },
     /// This tick is the horizon.
     Sealed { peer: u8, tick: u32 },
-    /// The event was rejected and changed nothing.
+    /// The event was refused and changed nothing.
     Refused(Refusal),
 }

@@ -7,10 +7,10 @@ ghost use Rattle.pf_commands.specs.declared.fault.FrameFault.{FrameFault};
 ghost use Rattle.pf_commands.specs.Merge.{CommandMap, IsCommand, IsCommandMap, merge, put_all};
 ghost use Rattle.pf_commands.specs.Name.{Name};
 ghost use Rattle.pf_commands.specs.News.{is_change};
-ghost use Rattle.pf_commands.specs.declared.map.Put.{Put};
+ghost use Rattle.pf_commands.specs.declared.outcome.Put.{Put};
 ghost use Rattle.pf_step.specs.Simulation.{sim};
 ghost use Rattle.pf_step.specs.World.{World};
-ghost use Rattle.pf_rollback.specs.declared.fault.Refusal.{Refusal};
+ghost use Rattle.pf_rollback.specs.declared.error.Refusal.{Refusal};
 ghost use Rattle.pf_rollback.specs.Sealing.{HasSealed};
 ghost use Rattle.pf_peers.specs.declared.event.Event.{Event};
 ghost use Rattle.pf_peers.specs.declared.event.Event.TheVariants.{Merge, Settle, Show, Take};
@@ -34,7 +34,7 @@ pub fn shown_worlds_are_simulated()
         (put_all (merge sealed (peer_at s i).commands) (commands_for s i events)) tick) }
 {}
 
-/// A rejected event changes nothing, and so no later reply.
+/// A refused event changes nothing, and so no later reply.
 pub fn refused_events_change_nothing()
     ensures { (s : Session) (event : Event) (refusal : Refusal)
         → reply_to s event ≡ Refused refusal → session_after s event ≡ s }

@@ -1,6 +1,7 @@
 //! Peers of one scene, and lists of events on them.
 #![tactic(auto)]
 
+mod answering;
 mod event;
 pub mod laws;
 mod replay;

@@ -2,4 +2,7 @@
 //! not prove them.
 
 mod calls;
+mod errors;
+mod help;
+mod sessions;
 mod words;

@@ -9,7 +9,7 @@
 //! | `turn P K FRAME ..` | adds a turn to peer P's script: these frames, and K ticks | nothing |
 //! | `session GATE` | plays all scripts, each peer in a thread of its own | below |
 //! | `crews N GATE` | the same, each peer with a crew of N workers | below |
-//! | `two GATE` | peers 0 and 1 play in threads, and take nothing that is left | `two`, and counts |
+//! | `two GATE` | peers 0 and 1 play in threads, and take no rest | `two`, and counts |
 //!
 //! GATE is `open`; `meeting N`, where each peer waits in each turn until those below N have come;
 //! `counting N`, the same, but open also where one did not come; `shut-from P TURN`, which is shut

@@ -7,7 +7,7 @@ ghost use Rattle.pf_shapes.specs.declared.fixture.TheConstants.{PLAYERS};
 use crate::gates::{NotedGate, SessionGate, gate_of};
 use crate::script::Scripts;
 use anyhow::{Context, Result, bail};
-use pf_scripts::{Peer, SessionFault, Turn};
+use pf_scripts::{Peer, SessionError, Turn};
 use pf_sessions::run_session;
 use pf_shapes::{PLAYERS, Scene};
 use pf_step::World;
@@ -47,9 +47,9 @@ fn peers_text(alloc: Global, scene: &Scene, ended: &[(Peer, World)]) -> Result<S
 }
 
 /// The line of a session that failed.
-fn fault_text(alloc: Global, fault: SessionFault) -> Result<String> {
+fn fault_text(alloc: Global, fault: SessionError) -> Result<String> {
     match fault {
-        SessionFault::OutOfMemory => bail!("out of memory"),
+        SessionError::OutOfMemory => bail!("out of memory"),
         _ => Ok(format!(in alloc; "session {fault:?}\n")?),
     }
 }

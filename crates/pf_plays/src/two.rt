@@ -4,7 +4,7 @@ use crate::gates::{SessionGate, gate_of};
 use crate::script::Scripts;
 use crate::sessions::Handle;
 use anyhow::{Result, bail};
-use pf_scripts::{Peer, SessionFault, Turn};
+use pf_scripts::{Peer, SessionError, Turn};
 use pf_sessions::linked_peers;
 use pf_shapes::Scene;
 use pf_trials::TrialGate;
@@ -12,7 +12,7 @@ use std::alloc::Global;
 use std::thread;
 
 /// How many commands a peer holds that has played, and how many ticks it has simulated.
-fn counts_of(played: Result<Peer, SessionFault>) -> Result<(usize, u64)> {
+fn counts_of(played: Result<Peer, SessionError>) -> Result<(usize, u64)> {
     match played {
         Ok(peer) => Ok((peer.core().commands().len(), peer.core().meter().ticks)),
         Err(fault) => bail!("a fault: {fault:?}"),
@@ -27,7 +27,7 @@ fn play_by<R: Handle>(
     second: Peer,
     scripts: (&[Turn], &[Turn]),
     gate: &TrialGate<false>,
-) -> (Result<Peer, SessionFault>, Result<Peer, SessionFault>) {
+) -> (Result<Peer, SessionError>, Result<Peer, SessionError>) {
     let (one, two) = scripts;
     thread::join(
         rt,

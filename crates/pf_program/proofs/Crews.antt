@@ -7,11 +7,11 @@ use Rattle.pf_workers.specs.Crew.{FailsStanding, IsStartError, StandingCrew}
 use Rattle.pf_console.specs.declared.request.Request.{Request}
 use Rattle.pf_console.specs.declared.request.Request.TheVariants.{Help, Run, Version}
 use Rattle.pf_console.specs.declared.request.Request.TheVariants as requests
-use Rattle.pf_console.specs.declared.fault.PlayFault.TheVariants as faults
-use Rattle.pf_program.specs.Program.{IsCrewFault, IsStartFault, WantsCrew, crew_for}
+use Rattle.pf_console.specs.declared.error.ProgramError.TheVariants as errors
+use Rattle.pf_program.specs.Program.{IsCrewError, IsCrewStartError, WantsCrew, crew_for}
 use Rattle.pf_step.specs.declared.crew.CrewError.{CrewError}
-use Rattle.pf_console.specs.declared.fault.PlayFault.{PlayFault}
-use Rattle.pf_console.specs.declared.fault.PlayFault.TheVariants.{Words, Line, Frame, Memory, Crew, Read, Write}
+use Rattle.pf_console.specs.declared.error.ProgramError.{ProgramError}
+use Rattle.pf_console.specs.declared.error.ProgramError.TheVariants.{Words, Line, Frame, Memory, Crew, Read, Write}
 use Rattle.pf_program.specs.Options.{FailsByWordsOrMemory, HasCrewSize}
 use Rattle.pf_console.specs.Crews.{FailsByCrew, FailsByThreads}
 use Rattle.pf_console.specs.Request.{CanStart, FailsByThreadsOf}
@@ -19,13 +19,13 @@ use Rattle.pf_islands.specs.Split.{Island}
 use Rattle.pf_peers.specs.Crews.{CanFail}
 
 -- words that could not be read name no crew
-pub words_name_none : {X : Type 0} (words : Result X PlayFault) → FailsByWordsOrMemory words → (fault : PlayFault) → words ≡ Err fault
+pub words_name_none : {X : Type 0} (words : Result X ProgramError) → FailsByWordsOrMemory words → (fault : ProgramError) → words ≡ Err fault
     → (error : CrewError) → fault ≢ Crew error
 words_name_none (Ok read) h fault is error = λ e. absurd cc
 words_name_none (Err (Words text)) h fault is error = λ e. absurd cc
 words_name_none (Err (Line number name)) h fault is error = elim h [ ]
 words_name_none (Err (Frame name)) h fault is error = elim h [ ]
-words_name_none (Err (faults.Session refusal)) h fault is error = elim h [ ]
+words_name_none (Err (errors.Session refusal)) h fault is error = elim h [ ]
 words_name_none (Err Memory) h fault is error = λ e. absurd cc
 words_name_none (Err (Crew name)) h fault is error = elim h [ ]
 words_name_none (Err Read) h fault is error = elim h [ ]
@@ -47,10 +47,10 @@ start_not_shut NoThread is = λ e. absurd cc
 start_not_shut GateShut is = absurd is
 start_not_shut CrewLost is = absurd is
 
-pub err_same : {r : Result (Unit {0}) PlayFault} {f g : PlayFault} → r ≡ Err f → r ≡ Err g → g ≡ f
+pub err_same : {r : Result (Unit {0}) ProgramError} {f g : ProgramError} → r ≡ Err f → r ≡ Err g → g ≡ f
 err_same first second = cc
 
-pub started_not_shut : (request : Request) (fault : PlayFault) → IsStartFault request fault → (error : CrewError) → fault ≡ Crew error → error ≢ GateShut
+pub started_not_shut : (request : Request) (fault : ProgramError) → IsCrewStartError request fault → (error : CrewError) → fault ≡ Crew error → error ≢ GateShut
 started_not_shut request fault start error is =
     let same : start.1.0 ≡ error = by start.1.1 is in
     λ shut. start_not_shut start.1.0 start.1.2 (same ∙ shut)
@@ -73,10 +73,10 @@ can_start (requests.Frame digits) h = tt
 can_start (Help text) h = tt
 can_start Version h = tt
 
-module _ {A : Type 0} (may_fail : A → List Island → CrewError → A → Type 0) (outcome : Result (Unit {0}) PlayFault) where
+module _ {A : Type 0} (may_fail : A → List Island → CrewError → A → Type 0) (outcome : Result (Unit {0}) ProgramError) where
   -- without a crew only a session has an error of threads
   pub names_alone : (request : Request) → ((error : CrewError) → CanFail may_fail error → ⊥) → FailsByThreadsOf may_fail request outcome
-      → (error : CrewError) → outcome ≡ Err (Crew error) → IsCrewFault request error
+      → (error : CrewError) → outcome ≡ Err (Crew error) → IsCrewError request error
   names_alone (requests.Session workers) never fails error is = inr (workers, refl, fails error is)
   names_alone (Run workers) never fails error is = absurd (never error (fails error is))
   names_alone (requests.Frame digits) never fails error is = absurd (never error (fails error is))

@@ -12,8 +12,8 @@ use Rattle.clap.specs.declared.error.kind.ErrorKind.{ErrorKind}
 use Rattle.clap.specs.declared.error.kind.ErrorKind.TheVariants as kind
 use Rattle.pf_console.specs.declared.request.Request.{Request}
 use Rattle.pf_console.specs.declared.request.Request.TheVariants.{Run, Session, Frame, Help, Version}
-use Rattle.pf_console.specs.declared.fault.PlayFault.{PlayFault}
-use Rattle.pf_console.specs.declared.fault.PlayFault.TheVariants.{Words, Memory}
+use Rattle.pf_console.specs.declared.error.ProgramError.{ProgramError}
+use Rattle.pf_console.specs.declared.error.ProgramError.TheVariants.{Words, Memory}
 use Rattle.pf_pool.specs.declared.pool.TheConstants.{MAX_WORKERS}
 
 -- the flags `--help` and `--version`, and a subcommand, which has to be there
@@ -110,7 +110,7 @@ AsksFor entered Version = ⊥
 
 -- words that have one of these errors, or none where the list is empty, and enter this subcommand
 -- are parsed as that
-abbrev pub ParsesAs : Kinds → Option (Text × List Row) → Result Request PlayFault → Type 0
+abbrev pub ParsesAs : Kinds → Option (Text × List Row) → Result Request ProgramError → Type 0
 ParsesAs errors entered (Ok (Help text)) = IsAmong kind.DisplayHelp errors
 ParsesAs errors entered (Ok Version) = IsAmong kind.DisplayVersion errors
 ParsesAs errors entered (Ok request) = (errors ≡ []) × AsksFor entered request
@@ -119,11 +119,11 @@ ParsesAs errors entered (Err (Words text)) =
 ParsesAs errors entered (Err Memory) = Unit {0}
 ParsesAs errors entered (Err other) = ⊥
 
-abbrev pub RunsUnlessMemory : Result Request PlayFault → Type 0
+abbrev pub RunsUnlessMemory : Result Request ProgramError → Type 0
 RunsUnlessMemory r = (r ≡ Ok (Run None)) ⊎ (r ≡ Err Memory)
 
 -- words that could not be read are no text, or memory ran out
-abbrev pub FailsByWordsOrMemory : {X : Type 0} → Result X PlayFault → Type 0
+abbrev pub FailsByWordsOrMemory : {X : Type 0} → Result X ProgramError → Type 0
 FailsByWordsOrMemory (Ok words) = Unit {0}
 FailsByWordsOrMemory (Err (Words text)) = Unit {0}
 FailsByWordsOrMemory (Err Memory) = Unit {0}

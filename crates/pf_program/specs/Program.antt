@@ -7,17 +7,17 @@ use Rattle.pf_step.specs.declared.crew.CrewError.TheVariants.{GateShut}
 use Rattle.pf_workers.specs.Crew.{IsStartError, StandingCrew, new_crew}
 use Rattle.pf_console.specs.declared.request.Request.{Request}
 use Rattle.pf_console.specs.declared.request.Request.TheVariants.{Run, Session}
-use Rattle.pf_console.specs.declared.fault.PlayFault.{PlayFault}
-use Rattle.pf_console.specs.declared.fault.PlayFault.TheVariants.{Crew}
-use Rattle.pf_console.specs.Crews.{IsSessionError}
+use Rattle.pf_console.specs.declared.error.ProgramError.{ProgramError}
+use Rattle.pf_console.specs.declared.error.ProgramError.TheVariants.{Crew}
+use Rattle.pf_console.specs.Crews.{IsCrewErrorOfSession}
 use Rattle.pf_console.specs.Report.{outcome_status, outcome_text}
 use Rattle.pf_console.specs.Request.{Performs}
 use Rattle.pf_program.specs.Options.{ParsesAs, command_line}
 
 -- what the words of a call, with these texts, ask for; words that could not be read ask for nothing
 -- but their error
-abbrev pub Asks : {S A : Type 0} → (S → List ℕ) → Result (Vec S A) PlayFault
-    → Result Request PlayFault → Type 0
+abbrev pub Asks : {S A : Type 0} → (S → List ℕ) → Result (Vec S A) ProgramError
+    → Result Request ProgramError → Type 0
 Asks text (Ok words) asked =
     let them = map text words.items in
     ParsesAs (fault_of command_line them) (subcommand_of command_line them) asked
@@ -33,18 +33,19 @@ crew_for (Run (Some size)) = Some (new_crew size)
 crew_for request = None
 
 -- the error with which the crew that a request asks for could not be started
-abbrev pub IsStartFault : Request → PlayFault → Type 0
-IsStartFault request fault =
+abbrev pub IsCrewStartError : Request → ProgramError → Type 0
+IsCrewStartError request fault =
     WantsCrew request × ((error : CrewError) × (fault ≡ Crew error) × IsStartError error)
 
--- an error of the crew that a request asks for, whose gates are open, or of the threads of a session
-abbrev pub IsCrewFault : Request → CrewError → Type 0
-IsCrewFault request error =
+-- an error of the crew that a request asks for, whose gates are open, or of the threads of a
+-- session
+abbrev pub IsCrewError : Request → CrewError → Type 0
+IsCrewError request error =
     (WantsCrew request × (error ≢ GateShut))
-    ⊎ ((crew : Option ℕ) × (request ≡ Session crew) × IsSessionError crew error)
+    ⊎ ((crew : Option ℕ) × (request ≡ Session crew) × IsCrewErrorOfSession crew error)
 
 -- an error is the outcome, and nothing was read or written
-pub record Fails (fault : PlayFault) (s : Streams) (outcome : Result (Unit {0}) PlayFault)
+pub record Fails (fault : ProgramError) (s : Streams) (outcome : Result (Unit {0}) ProgramError)
     : Type 0 where
   pub outcome_is : outcome ≡ Err fault
   pub left_is : s.left ≡ s.unread
@@ -52,32 +53,33 @@ pub record Fails (fault : PlayFault) (s : Streams) (outcome : Result (Unit {0}) 
 
 -- A request was performed, where reader and writer expose their bytes, or else the crew that it
 -- asks for could not be started. An error of what is asked for is the outcome.
-abbrev pub Does : Result Request PlayFault → Streams → Result (Unit {0}) PlayFault → Type 0
+abbrev pub Does : Result Request ProgramError → Streams → Result (Unit {0}) ProgramError → Type 0
 Does (Ok request) s outcome =
     IfExposed s (λ transfer. Performs request transfer outcome)
-    ⊎ ((fault : PlayFault) × IsStartFault request fault × Fails fault s outcome)
+    ⊎ ((fault : ProgramError) × IsCrewStartError request fault × Fails fault s outcome)
 Does (Err fault) s outcome = Fails fault s outcome
 
--- an error of a crew comes only where a request asks for one or for a session, and never from a gate
-abbrev pub NamesCrew : Result Request PlayFault → Result (Unit {0}) PlayFault → Type 0
+-- an error of a crew comes only where a request asks for one or for a session, and never from a
+-- gate
+abbrev pub NamesCrew : Result Request ProgramError → Result (Unit {0}) ProgramError → Type 0
 NamesCrew (Ok request) outcome =
-    (error : CrewError) → outcome ≡ Err (Crew error) → IsCrewFault request error
+    (error : CrewError) → outcome ≡ Err (Crew error) → IsCrewError request error
 NamesCrew (Err fault) outcome = (error : CrewError) → outcome ≢ Err (Crew error)
 
 -- the outcome of a call: one thing that its words ask for was done
-pub record Plays {S A : Type 0} (text : S → List ℕ) (words : Result (Vec S A) PlayFault)
-    (s : Streams) (outcome : Result (Unit {0}) PlayFault) : Type 0 where
-  pub asked : Result Request PlayFault
+pub record Plays {S A : Type 0} (text : S → List ℕ) (words : Result (Vec S A) ProgramError)
+    (s : Streams) (outcome : Result (Unit {0}) ProgramError) : Type 0 where
+  pub asked : Result Request ProgramError
   pub asks : Asks text words asked
   pub does : Does asked s outcome
   pub crew : NamesCrew asked outcome
 
 -- how a call ends: it has one outcome, whose failures were counted, whose text was reported and
 -- whose status is returned
-pub record Ends (Played Counted : Result (Unit {0}) PlayFault → Type 0)
+pub record Ends (Played Counted : Result (Unit {0}) ProgramError → Type 0)
     (Reported : List ℕ → Type 0) (status : ℕ)
     : Type 0 where
-  pub outcome : Result (Unit {0}) PlayFault
+  pub outcome : Result (Unit {0}) ProgramError
   pub played : Played outcome
   pub counted : Counted outcome
   pub reported : Reported (outcome_text outcome)

@@ -7,10 +7,10 @@ ghost use Rattle.pf_workers.specs.Crew.{IsStartError, new_crew};
 ghost use Rattle.pf_console.specs.Report.{Reports};
 ghost use Rattle.pf_console.specs.Text.{CountsReads, CountsWrites};
 ghost use Rattle.pf_program.specs.Options.{FailsByWordsOrMemory, HasCrewSize};
-ghost use Rattle.pf_program.specs.Program.{Ends, IsStartFault, Plays, crew_for};
+ghost use Rattle.pf_program.specs.Program.{Ends, IsCrewStartError, Plays, crew_for};
 
 use crate::command_line::options;
-use pf_console::{PlayFault, Request, finish, perform};
+use pf_console::{ProgramError, Request, finish, perform};
 use pf_manifold::OneThread;
 use pf_text::{Sink, Source};
 use pf_workers::{OpenGate, Workers};
@@ -25,10 +25,10 @@ fn crew_of<T: Threads + Wait + Copy + Send + Sync + 'static>(
     rt: T,
     alloc: Global,
     request: &Request,
-) -> Result<Option<Workers<T, OpenGate>>, PlayFault>
+) -> Result<Option<Workers<T, OpenGate>>, ProgramError>
     requires { HasCrewSize request.now }
     ensures crew { IfOk result (λ made. option_map (λ w. w.crew) made ≡ crew_for request.now) }
-    ensures fault { IfErr result (IsStartFault request.now) }
+    ensures fault { IfErr result (IsCrewStartError request.now) }
 {
     let Request::Run {
         crew_size: Some(size),
@@ -38,7 +38,7 @@ fn crew_of<T: Threads + Wait + Copy + Send + Sync + 'static>(
     };
     match Workers::start(rt, alloc, *size, OpenGate) {
         Ok(workers) => Ok(Some(workers)),
-        Err(error) => Err(PlayFault::Crew(error)),
+        Err(error) => Err(ProgramError::Crew(error)),
     }
 }
 
@@ -48,10 +48,10 @@ fn crew_of<T: Threads + Wait + Copy + Send + Sync + 'static>(
 fn play<S: AsStr + Drop, R: Source, W: Sink, T: Threads + Wait + Copy + Send + Sync + 'static>(
     rt: T,
     alloc: Global,
-    words: Result<Vec<S>, PlayFault>,
+    words: Result<Vec<S>, ProgramError>,
     reader: &mut R,
     writer: &mut W,
-) -> Result<(), PlayFault>
+) -> Result<(), ProgramError>
     requires words { FailsByWordsOrMemory words }
     requires reads { R.failures reader.old + 1 < 2 ^ 64 }
     requires writes { W.failures writer.old + 1 < 2 ^ 64 }
@@ -94,7 +94,7 @@ pub fn program<
 >(
     rt: T,
     alloc: Global,
-    words: Result<Vec<S>, PlayFault>,
+    words: Result<Vec<S>, ProgramError>,
     reader: &mut R,
     writer: &mut W,
     errors: &mut E,

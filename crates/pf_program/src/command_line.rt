@@ -7,7 +7,7 @@ ghost use Rattle.pf_program.specs.Options.{ParsesAs, AsksFor, FailsByWordsOrMemo
 
 use clap::error::ErrorKind;
 use clap::{Arg, ArgMatches, Command, Error, value_parser};
-use pf_console::{PlayFault, Request};
+use pf_console::{ProgramError, Request};
 use pf_workers::MAX_WORKERS;
 use std::alloc::{AllocError, Global};
 use std::convert::AsStr;
@@ -193,15 +193,15 @@ fn command<'a>(alloc: Global) -> Result<Command<'a>, AllocError>
 
 /// What an error of `clap` means here: a request for help or the version, a mistake in the words,
 /// or a lack of memory.
-fn request_of<'a>(alloc: Global, error: &Error) -> Result<Request<'a>, PlayFault>
+fn request_of<'a>(alloc: Global, error: &Error) -> Result<Request<'a>, ProgramError>
     ensures parses { ParsesAs (kind_of error.now ∷ []) None result }
     ensures crew_size { IfOk result HasCrewSize }
 {
     match error.kind() {
-        ErrorKind::OutOfMemory => Err(PlayFault::Memory),
+        ErrorKind::OutOfMemory => Err(ProgramError::Memory),
         ErrorKind::DisplayHelp => Ok(Request::Help(error.to_string(alloc)?)),
         ErrorKind::DisplayVersion => Ok(Request::Version),
-        _ => Err(PlayFault::Words(error.to_string(alloc)?)),
+        _ => Err(ProgramError::Words(error.to_string(alloc)?)),
     }
 }
 
@@ -251,18 +251,18 @@ fn request_for<'a>(matches: &ArgMatches<'a>) -> Request<'a>
 }
 
 /// The words of this call, the program's name first.
-pub fn words_of<R: Env + Alloc<A = Global>>(rt: &R) -> Result<Vec<String>, PlayFault>
+pub fn words_of<R: Env + Alloc<A = Global>>(rt: &R) -> Result<Vec<String>, ProgramError>
     ensures { FailsByWordsOrMemory result }
 {
     match env::args(rt) {
         Ok(words) => Ok(words.collect(rt.alloc())?),
-        Err(error) if error.kind() == io::ErrorKind::OutOfMemory => Err(PlayFault::Memory),
-        Err(_) => Err(PlayFault::Words(String::from_str(rt.alloc(), NOT_TEXT)?)),
+        Err(error) if error.kind() == io::ErrorKind::OutOfMemory => Err(ProgramError::Memory),
+        Err(_) => Err(ProgramError::Words(String::from_str(rt.alloc(), NOT_TEXT)?)),
     }
 }
 
 /// Parses the words of a call, of which the first is the program's name.
-pub fn options<'a, S: AsStr>(alloc: Global, words: &'a [S]) -> Result<Request<'a>, PlayFault>
+pub fn options<'a, S: AsStr>(alloc: Global, words: &'a [S]) -> Result<Request<'a>, ProgramError>
     ensures parses { let them = map S.text words.now in
         ParsesAs (fault_of command_line them) (subcommand_of command_line them) result }
     ensures crew_size { IfOk result HasCrewSize }

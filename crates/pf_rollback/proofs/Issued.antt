@@ -17,7 +17,7 @@ use Rattle.pf_commands.specs.News.{put_outcome}
 use Rattle.pf_commands.specs.Payload.{IsPayload, body_of}
 use Rattle.pf_commands.proofs.Frames.{encoded_decodes}
 use Rattle.pf_commands.proofs.Encoding.{encoding_encodes}
-use Rattle.pf_rollback.specs.declared.fault.Refusal.TheVariants.{TickLimit, NumbersSpent, TooOld}
+use Rattle.pf_rollback.specs.declared.error.Refusal.TheVariants.{TickLimit, NumbersSpent, TooOld}
 use Rattle.pf_rollback.specs.Peer.{Peer, IsPeer, if_allowed, next_number, next_command, with_command, with_frame, put, take, issue}
 
 -- what holds where a command was issued

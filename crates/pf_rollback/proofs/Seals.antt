@@ -6,7 +6,7 @@ use Rattle.std.proofs.lemmas.Bool.Decides.{nat_tests}
 use Rattle.pf_shapes.specs.Scene.{Scene}
 use Rattle.pf_commands.specs.declared.checking.CheckFault.{CheckFault}
 use Rattle.pf_commands.specs.declared.fault.FrameFault.{FrameFault}
-use Rattle.pf_commands.specs.declared.map.Put.{Put}
+use Rattle.pf_commands.specs.declared.outcome.Put.{Put}
 use Rattle.pf_commands.specs.declared.name.TheConstants.{MAX_TICK, NUMBERS}
 use Rattle.pf_commands.specs.declared.payload.Command.{Command}
 use Rattle.pf_commands.specs.declared.payload.Payload.{Payload}
@@ -23,8 +23,8 @@ use Rattle.pf_commands.proofs.Weights.{heavier_of-none}
 use Rattle.pf_step.specs.Simulation.{sim}
 use Rattle.pf_step.specs.World.{World, same_world}
 use Rattle.pf_step.proofs.Ticks.{sim_same}
-use Rattle.pf_rollback.specs.declared.fault.Refusal.{Refusal}
-use Rattle.pf_rollback.specs.declared.fault.Refusal.TheVariants.{TickLimit, NumbersSpent, TooOld, HorizonsDiffer, BasesDiffer}
+use Rattle.pf_rollback.specs.declared.error.Refusal.{Refusal}
+use Rattle.pf_rollback.specs.declared.error.Refusal.TheVariants.{TickLimit, NumbersSpent, TooOld, HorizonsDiffer, BasesDiffer}
 use Rattle.pf_rollback.specs.Peer.{Peer, IsPeer, if_allowed, new_peer, with_command, with_commands, with_frame, next_command, next_number, put, take, issue, merge_map, merge_sealed, advance, world_of, world_at, sealed_peer, seal}
 use Rattle.pf_rollback.specs.Sealing.{HasSealed}
 use Rattle.pf_rollback.proofs.Allowed.{one_of}

@@ -7,8 +7,8 @@ use Rattle.pf_commands.specs.Merge.{CommandMap}
 use Rattle.pf_commands.specs.Name.{Name}
 use Rattle.pf_commands.proofs.Merging.{same_commands}
 use Rattle.pf_step.specs.World.{World}
-use Rattle.pf_rollback.specs.declared.fault.Refusal.{Refusal}
-use Rattle.pf_rollback.specs.declared.fault.Refusal.TheVariants.{NotReached, TooOld}
+use Rattle.pf_rollback.specs.declared.error.Refusal.{Refusal}
+use Rattle.pf_rollback.specs.declared.error.Refusal.TheVariants.{NotReached, TooOld}
 use Rattle.pf_rollback.specs.Horizon.{sim_at}
 use Rattle.pf_rollback.specs.Peer.{Peer, if_shown, world_of, world_at}
 

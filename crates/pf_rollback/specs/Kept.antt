@@ -18,7 +18,7 @@ pub record AreRising (k : Ticks) : Type 0 where
   pub recent : IsStrictlyIncreasing k.recent
   pub keyframes : IsStrictlyIncreasing k.keyframes
 
--- at first there is the horizon alone, which is tick 0
+-- at first there is only the horizon, which is tick 0
 abbrev pub no_ticks : ℕ → Ticks
 no_ticks ring = record { horizon = 0; recent = []; keyframes = []; ring = ring }
 

@@ -1,6 +1,6 @@
 -- The abstract peer: a player, its horizon and the world there, the commands that it holds from
 -- there on, and the tick that it has reached; what each call on it returns and leaves. A call
--- returns its answer with the peer after it, or why it is rejected.
+-- returns its answer with the peer after it, or why it is refused.
 use Rattle.std.specs.Prelude.{◌≡◌, ◌<◌, ◌≤◌, ◌==◌, ℕ, zero, suc, ◌+◌, length, List, [], Option, Some, None, Result, Ok, Err, is_some, nat_le, nat_lt, if◌then◌else◌}
 use Rattle.std.specs.FinMap.{get, empty, entries}
 use Rattle.pf_shapes.specs.Scene.{Scene}
@@ -8,7 +8,7 @@ use Rattle.pf_commands.specs.declared.name.TheConstants.{MAX_TICK, NUMBERS}
 use Rattle.pf_shapes.specs.declared.fixture.TheConstants.{PLAYERS}
 use Rattle.pf_commands.specs.declared.checking.CheckFault.{CheckFault}
 use Rattle.pf_commands.specs.declared.fault.FrameFault.{FrameFault}
-use Rattle.pf_commands.specs.declared.map.Put.{Put}
+use Rattle.pf_commands.specs.declared.outcome.Put.{Put}
 use Rattle.pf_commands.specs.declared.payload.Command.{Command}
 use Rattle.pf_commands.specs.declared.payload.Payload.{Payload}
 use Rattle.pf_commands.specs.Check.{check, check_all}
@@ -16,8 +16,8 @@ use Rattle.pf_commands.specs.Frame.{encoding}
 use Rattle.pf_commands.specs.Merge.{CommandMap, merge, singleton, name_at, payloads_at}
 use Rattle.pf_commands.specs.Ticks.{IsFrom, commands_from, is_from}
 use Rattle.pf_commands.specs.News.{put_outcome, news}
-use Rattle.pf_rollback.specs.declared.fault.Refusal.{Refusal}
-use Rattle.pf_rollback.specs.declared.fault.Refusal.TheVariants.{TickLimit, NumbersSpent, Frame, Check, NotReached, TooOld, HorizonsDiffer, BasesDiffer}
+use Rattle.pf_rollback.specs.declared.error.Refusal.{Refusal}
+use Rattle.pf_rollback.specs.declared.error.Refusal.TheVariants.{TickLimit, NumbersSpent, Frame, Check, NotReached, TooOld, HorizonsDiffer, BasesDiffer}
 use Rattle.pf_step.specs.World.{World, same_world, start_of}
 use Rattle.pf_rollback.specs.Horizon.{sim_at}
 

@@ -6,7 +6,7 @@ ghost use Rattle.std.specs.FinMap.{empty, get};
 ghost use Rattle.std.specs.List.Sorted.{IsStrictlyIncreasing};
 ghost use Rattle.pf_shapes.specs.Scene.{IsScene, Scene};
 ghost use Rattle.pf_commands.specs.declared.fault.FrameFault.{FrameFault};
-ghost use Rattle.pf_commands.specs.declared.map.Put.{Put};
+ghost use Rattle.pf_commands.specs.declared.outcome.Put.{Put};
 ghost use Rattle.pf_commands.specs.declared.payload.Command.{Command};
 ghost use Rattle.pf_commands.specs.declared.payload.Payload.{Payload};
 ghost use Rattle.pf_commands.specs.Frame.{decode};
@@ -87,7 +87,7 @@ pub fn other_calls_seal_nothing()
 {}
 
 /// What a peer issues, each peer of its scene can take whose horizon is not after the command's
-/// tick: the frame that is returned encodes the command, and taking the command is not rejected.
+/// tick: the frame that is returned encodes the command, and taking the command is not refused.
 pub fn issued_commands_can_be_taken()
     ensures encoded { (scene : Scene) (p after : Peer) (payload : Payload) (frame : List ℕ)
         → IsScene scene → IsPeer p → IsPayload payload

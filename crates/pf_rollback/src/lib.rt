@@ -5,14 +5,14 @@
 //! holds and of those that it has sealed.
 #![tactic(auto)]
 
-mod fault;
+mod error;
 pub mod laws;
 mod peer;
 mod sealed;
 mod simulate;
 mod snapshots;
 
-pub use fault::{Fault, Refusal};
+pub use error::{PeerError, Refusal};
 pub use peer::{MAX_RING, PeerCore};
 pub use sealed::Sealed;
 pub use snapshots::KEYFRAME_INTERVAL;

@@ -10,7 +10,7 @@ ghost use Rattle.pf_rollback.specs.Snapshots.{IsKept, kept_world, ticks_of};
 use crate::snapshots::Snapshots;
 use pf_commands::CommandMap;
 use pf_shapes::Scene;
-use pf_step::{Work, World, step_alone};
+use pf_step::{Work, World, step_on_one_thread};
 use std::alloc::{AllocError, Global};
 
 /// The world at a tick that is not before the horizon, simulated from the last kept world that is
@@ -42,7 +42,7 @@ pub(crate) fn simulate_from(
     let mut world = kept.try_clone()?;
     for at in from..tick {
         let payloads = commands.at_tick(alloc, at)?;
-        let next = step_alone(alloc, scene, &world, &payloads, work)?;
+        let next = step_on_one_thread(alloc, scene, &world, &payloads, work)?;
         world.lend(work);
         world = next;
     }

@@ -94,7 +94,7 @@ impl Snapshots {
     ghost use Rattle.pf_rollback.specs.Kept.{AreRising, no_ticks, settled_tick, nearest_tick, ticks_after_news, ticks_after_seal, ticks_after_settling, ticks_up_to};
     ghost use Rattle.pf_rollback.specs.Snapshots.{ticks_of, IsKept, IsRecent};
 
-    /// The start world alone, with a ring of so many places.
+    /// Only the start world, with a ring of so many places.
     pub(crate) fn new(alloc: Global, start: World, ring: usize) -> Result<Snapshots, AllocError>
         requires { 0 < ring }
         ensures ticks { IfOk result (λ s. ticks_of s ≡ no_ticks ring) }

@@ -3,7 +3,7 @@
 use Rattle.std.specs.Prelude.{ℕ, ◌*◌, ◌≤◌, ◌↔◌, Bool, IsTrue}
 use Rattle.std.specs.Int.RustNames.{unsigned_abs}
 use Rattle.pf_rot.specs.Vector.{V2}
-use Rattle.pf_rows.specs.declared.constraint.TheConstants.{ARM_LIMIT, DIRECTION_LIMIT, INVERSE_INERTIA_LIMIT, INVERSE_MASS_LIMIT, PART_LIMIT, TURN_LIMIT}
+use Rattle.pf_rows.specs.declared.limits.TheConstants.{ARM_LIMIT, CONSTRAINT_LIMIT, DIRECTION_LIMIT, INVERSE_INERTIA_LIMIT, INVERSE_MASS_LIMIT, TURN_LIMIT}
 use Rattle.pf_rows.specs.Row.{Constraint, InverseMass, Prepared}
 
 -- both parts of a vector are at most this in magnitude
@@ -29,10 +29,10 @@ pub record HasShortDirections (c : Constraint) : Type 0 where
 
 -- the numbers of a constraint are small
 pub record HasSmallNumbers (c : Constraint) : Type 0 where
-  pub normal_mass : unsigned_abs c.normal_mass ≤ PART_LIMIT
-  pub tangent_mass : unsigned_abs c.tangent_mass ≤ PART_LIMIT
-  pub bias : unsigned_abs c.bias ≤ PART_LIMIT
-  pub friction : unsigned_abs c.friction ≤ PART_LIMIT
+  pub normal_mass : unsigned_abs c.normal_mass ≤ CONSTRAINT_LIMIT
+  pub tangent_mass : unsigned_abs c.tangent_mass ≤ CONSTRAINT_LIMIT
+  pub bias : unsigned_abs c.bias ≤ CONSTRAINT_LIMIT
+  pub friction : unsigned_abs c.friction ≤ CONSTRAINT_LIMIT
 
 -- all of it but the arms is small
 pub record IsSmall (p : Prepared) : Type 0 where

@@ -4,22 +4,13 @@ ghost use Rattle.std.specs.Prelude.{◌≡◌, ◌*◌, ◌≤◌, ◌↔◌, Is
 ghost use Rattle.std.specs.Int.RustNames.{unsigned_abs};
 ghost use Rattle.pf_rows.specs.Small.{HasShortDirections, HasSmallNumbers, IsHeavy, IsShort, IsSmallArm};
 
+use crate::limits::{
+    ARM_LIMIT, CONSTRAINT_LIMIT, DIRECTION_LIMIT, INVERSE_INERTIA_LIMIT, INVERSE_MASS_LIMIT,
+    TURN_LIMIT,
+};
 use pf_num::Fx;
 use pf_rot::V2;
 use std::marker::Model;
-
-/// The greatest part of a normal or a tangent on the fast path: 2 lengths.
-const DIRECTION_LIMIT: u64 = 1 << 25;
-/// The greatest part of an arm on the fast path: 16 lengths.
-const ARM_LIMIT: u64 = 1 << 28;
-/// The greatest inverse mass on the fast path: 64.
-const INVERSE_MASS_LIMIT: u64 = 1 << 30;
-/// The greatest inverse inertia on the fast path: 2,048.
-const INVERSE_INERTIA_LIMIT: u64 = 1 << 35;
-/// The greatest exact product of an inverse inertia and a part of an arm on the fast path: 256.
-const TURN_LIMIT: u64 = 1 << 56;
-/// The greatest effective mass, bias and friction on the fast path: 128.
-const PART_LIMIT: u64 = 1 << 31;
 
 /// How easily impulses move a body, as Box2D-Lite's `invMass` and `invI`. In units of 2^-24.
 #[derive(Clone, Copy, Debug)]
@@ -209,10 +200,10 @@ fn has_short_directions(c: &Constraint) -> bool
 fn has_small_numbers(c: &Constraint) -> bool
     ensures { IsTrue result ↔ HasSmallNumbers c.now }
 {
-    is_within(c.normal_mass, PART_LIMIT)
-        && is_within(c.tangent_mass, PART_LIMIT)
-        && is_within(c.bias, PART_LIMIT)
-        && is_within(c.friction, PART_LIMIT)
+    is_within(c.normal_mass, CONSTRAINT_LIMIT)
+        && is_within(c.tangent_mass, CONSTRAINT_LIMIT)
+        && is_within(c.bias, CONSTRAINT_LIMIT)
+        && is_within(c.friction, CONSTRAINT_LIMIT)
 }
 
 impl Prepared {

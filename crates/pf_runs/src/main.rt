@@ -65,12 +65,12 @@ fn print<T: Threads + Sync, W: Write>(
     text: &[u8],
     writer: &mut W,
 ) -> Result<()> {
-    let alone = run(&OneThread, alloc, text)?;
+    let by_one = run(&OneThread, alloc, text)?;
     let by_threads = run(&SeveralThreads { rt }, alloc, text)?;
-    if alone.bytes() != by_threads.bytes() {
+    if by_one.bytes() != by_threads.bytes() {
         bail!("threads change what is written");
     }
-    writer.write_all(alone.bytes())?;
+    writer.write_all(by_one.bytes())?;
     Ok(())
 }
 

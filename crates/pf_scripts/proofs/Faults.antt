@@ -7,35 +7,35 @@ use Rattle.std.specs.Prelude.{option_map}
 use Rattle.pf_scripts.specs.Frames.{Setting}
 use Rattle.pf_cache.specs.Meter.{saturating_sum}
 use Rattle.pf_links.specs.Link.{Frame}
-use Rattle.pf_rollback.specs.declared.fault.Refusal.{Refusal}
+use Rattle.pf_rollback.specs.declared.error.Refusal.{Refusal}
 use Rattle.pf_scripts.specs.Frames.{refusal_of}
 use Rattle.pf_scripts.specs.Script.{bytes_of, first_fault, frame_fault, frames_in, frames_of, place_after, script_fault, ticks_of, turn_fault}
 use Rattle.pf_scripts.specs.declared.turn.Turn.{Turn}
-use Rattle.pf_scripts.specs.declared.fault.SessionFault.{SessionFault}
-use Rattle.pf_scripts.specs.declared.fault.SessionFault.TheVariants as faults
+use Rattle.pf_scripts.specs.declared.error.SessionError.{SessionError}
+use Rattle.pf_scripts.specs.declared.error.SessionError.TheVariants as errors
 
 -- the first frame is refused
 pub frame_fault_here : (s : Setting) (peer place : ℕ) (frame : Frame) (frames : List Frame) (refusal : Refusal) → refusal_of s frame ≡ Some refusal
-    → frame_fault s peer place (frame ∷ frames) ≡ Some (faults.Frame peer place refusal)
+    → frame_fault s peer place (frame ∷ frames) ≡ Some (errors.Frame peer place refusal)
 unfolding frame_fault
 frame_fault_here s peer place frame frames refusal is =
-    ap (λ r. first_fault (option_map (faults.Frame peer place) r) (frame_fault s peer (saturating_sum place 1) frames)) is
+    ap (λ r. first_fault (option_map (errors.Frame peer place) r) (frame_fault s peer (saturating_sum place 1) frames)) is
 
 -- the first frame is taken
 pub frame_fault_later : (s : Setting) (peer place : ℕ) (frame : Frame) (frames : List Frame) → refusal_of s frame ≡ None
     → frame_fault s peer place (frame ∷ frames) ≡ frame_fault s peer (saturating_sum place 1) frames
 unfolding frame_fault
 frame_fault_later s peer place frame frames is =
-    ap (λ r. first_fault (option_map (faults.Frame peer place) r) (frame_fault s peer (saturating_sum place 1) frames)) is
+    ap (λ r. first_fault (option_map (errors.Frame peer place) r) (frame_fault s peer (saturating_sum place 1) frames)) is
 
 -- where a frame is refused alone, it is refused as the first of several
-pub frame_fault_first : (s : Setting) (peer place : ℕ) (frame : Frame) (frames : List Frame) (fault : SessionFault)
+pub frame_fault_first : (s : Setting) (peer place : ℕ) (frame : Frame) (frames : List Frame) (fault : SessionError)
     → frame_fault s peer place (frame ∷ []) ≡ Some fault → frame_fault s peer place (frame ∷ frames) ≡ Some fault
 unfolding frame_fault
 frame_fault_first s peer place frame frames fault = by (refusal_of s frame)
   where
-    by : (r : Option Refusal) → first_fault (option_map (faults.Frame peer place) r) None ≡ Some fault
-        → first_fault (option_map (faults.Frame peer place) r) (frame_fault s peer (saturating_sum place 1) frames) ≡ Some fault
+    by : (r : Option Refusal) → first_fault (option_map (errors.Frame peer place) r) None ≡ Some fault
+        → first_fault (option_map (errors.Frame peer place) r) (frame_fault s peer (saturating_sum place 1) frames) ≡ Some fault
     by None same = absurd cc
     by (Some refusal) same = same
 
@@ -58,7 +58,7 @@ module _ (s : Setting) (player first place : ℕ) (all : List Frame) (n : ℕ) (
   left : drop n all ≡ frame ∷ drop (n + 1) all
   left = drop_more all n frame low ∙ ap (λ f. f ∷ drop (n + 1) all) at
 
-  pub fault_here : (fault : SessionFault) → frame_fault s player first all ≡ frame_fault s player place (drop n all)
+  pub fault_here : (fault : SessionError) → frame_fault s player first all ≡ frame_fault s player place (drop n all)
       → frame_fault s player place (frame ∷ []) ≡ Some fault → frame_fault s player first all ≡ Some fault
   fault_here fault kept is =
       kept ∙ ap (frame_fault s player place) left ∙ frame_fault_first s player place frame (drop (n + 1) all) fault is
@@ -91,7 +91,7 @@ module _ (s : Setting) (player first place from reached : ℕ) (script : List Tu
   left_turns = drop_more script n turn low ∙ ap (λ t. t ∷ drop (n + 1) script) at
 
   -- a turn has a fault
-  pub turn_fault_here : (fault : SessionFault) → turn_fault s player place reached turn ≡ Some fault → script_fault s player first from script ≡ Some fault
+  pub turn_fault_here : (fault : SessionError) → turn_fault s player place reached turn ≡ Some fault → script_fault s player first from script ≡ Some fault
   unfolding script_fault
   turn_fault_here fault is =
       kept ∙ ap (script_fault s player place reached) left_turns

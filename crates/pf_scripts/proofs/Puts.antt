@@ -7,14 +7,14 @@ use Rattle.pf_commands.specs.Check.{check}
 use Rattle.pf_commands.specs.Merge.{IsCommand, put_all}
 use Rattle.pf_commands.specs.News.{put_outcome}
 use Rattle.pf_commands.specs.declared.checking.CheckFault.{CheckFault}
-use Rattle.pf_commands.specs.declared.map.Put.{Put}
+use Rattle.pf_commands.specs.declared.outcome.Put.{Put}
 use Rattle.pf_commands.specs.declared.payload.Command.{Command}
 use Rattle.pf_rollback.specs.Calls.{Refines}
-use Rattle.pf_rollback.specs.declared.fault.Fault.{Fault}
-use Rattle.pf_rollback.specs.declared.fault.Fault.TheVariants.{OutOfMemory, Refused}
+use Rattle.pf_rollback.specs.declared.error.PeerError.{PeerError}
+use Rattle.pf_rollback.specs.declared.error.PeerError.TheVariants.{OutOfMemory, Refused}
 use Rattle.pf_rollback.specs.Peer.{Peer, if_allowed as answer_if_allowed, put, with_command}
-use Rattle.pf_rollback.specs.declared.fault.Refusal.{Refusal}
-use Rattle.pf_rollback.specs.declared.fault.Refusal.TheVariants.{TooOld}
+use Rattle.pf_rollback.specs.declared.error.Refusal.{Refusal}
+use Rattle.pf_rollback.specs.declared.error.Refusal.TheVariants.{TooOld}
 use Rattle.pf_scripts.specs.Frames.{Setting, commands_of_decoded, allowed_commands, check_refusal, refusal_of_decoded}
 
 module _ (s : Setting) (p : Peer) (c : Command) (here : p.horizon ≡ s.horizon) where
@@ -75,18 +75,18 @@ module _ (s : Setting) (p : Peer) (c : Command) (here : p.horizon ≡ s.horizon)
       by (Err fault) early same = (cc, refl)
 
   -- what is refused changes nothing
-  pub refused : (refusal : Refusal) (q : Peer) (outcome : Result Put Fault) → outcome ≡ Err (Refused refusal) → Refines outcome p q (put s.scene p c)
+  pub refused : (refusal : Refusal) (q : Peer) (outcome : Result Put PeerError) → outcome ≡ Err (Refused refusal) → Refines outcome p q (put s.scene p c)
       → (refusal_of_decoded s (Ok c) ≡ Some refusal) × (q ≡ record p { commands = put_all p.commands (commands_of_decoded s (Ok c) ++ []) })
   refused refusal q outcome is refines =
-      let both : (put s.scene p c ≡ Err refusal) × (q ≡ p) = subst (λ (r : Result Put Fault). Refines r p q (put s.scene p c)) is refines in
+      let both : (put s.scene p c ≡ Err refusal) × (q ≡ p) = subst (λ (r : Result Put PeerError). Refines r p q (put s.scene p c)) is refines in
       let nothing = refused_by refusal both.0 in
       (nothing.0, both.1 ∙ ap (λ cs. record p { commands = put_all p.commands (cs ++ []) }) (sym nothing.1))
 
   -- what found no memory was not refused
-  pub not_refused : (q : Peer) (outcome : Result Put Fault) → outcome ≡ Err OutOfMemory → Refines outcome p q (put s.scene p c)
+  pub not_refused : (q : Peer) (outcome : Result Put PeerError) → outcome ≡ Err OutOfMemory → Refines outcome p q (put s.scene p c)
       → refusal_of_decoded s (Ok c) ≡ None
   not_refused q outcome is refines =
-      let both : IsOk (put s.scene p c) × (q ≡ p) = subst (λ (r : Result Put Fault). Refines r p q (put s.scene p c)) is refines in
+      let both : IsOk (put s.scene p c) × (q ≡ p) = subst (λ (r : Result Put PeerError). Refines r p q (put s.scene p c)) is refines in
       put_is (λ r why cs. IsOk r → why ≡ None) by both.0
     where
       by : (checked : Result (Unit {0}) CheckFault) (early : Bool) → IsOk (call checked early) → refusal_at checked early ≡ None

@@ -10,12 +10,12 @@ use Rattle.pf_commands.specs.declared.name.TheConstants.{MAX_TICK}
 use Rattle.pf_rollback.specs.Calls.{Refines}
 use Rattle.pf_rollback.specs.Core.{PeerCore}
 use Rattle.pf_rollback.specs.Settling.{IsSettle}
-use Rattle.pf_rollback.specs.declared.fault.Fault.{Fault}
-use Rattle.pf_rollback.specs.declared.fault.Fault.TheVariants.{Refused, OutOfMemory}
-use Rattle.pf_rollback.specs.declared.fault.Refusal.{Refusal}
-use Rattle.pf_rollback.specs.declared.fault.Refusal.TheVariants.{TickLimit}
+use Rattle.pf_rollback.specs.declared.error.PeerError.{PeerError}
+use Rattle.pf_rollback.specs.declared.error.PeerError.TheVariants.{Refused, OutOfMemory}
+use Rattle.pf_rollback.specs.declared.error.Refusal.{Refusal}
+use Rattle.pf_rollback.specs.declared.error.Refusal.TheVariants.{TickLimit}
 use Rattle.pf_scripts.specs.Script.{tick_fault}
-use Rattle.pf_scripts.specs.declared.fault.SessionFault.TheVariants as faults
+use Rattle.pf_scripts.specs.declared.error.SessionError.TheVariants as errors
 use Rattle.pf_commands.specs.Merge.{IsCommand, IsCommandMap, put_all}
 use Rattle.pf_commands.proofs.Lists.{put_all-same}
 use Rattle.pf_links.specs.Link.{Frame}
@@ -86,21 +86,21 @@ module _ (p : Player) (ticks : ℕ) where
   advanced reached q = by (nat_le (p.reached + ticks) MAX_TICK)
     where
       by : (b : Bool) → (if b then on else Err TickLimit) ≡ Ok (reached, q)
-          → (q ≡ record p { reached = p.reached + ticks }) × ((if b then None else Some (faults.TickLimit p.player)) ≡ None)
+          → (q ≡ record p { reached = p.reached + ticks }) × ((if b then None else Some (errors.TickLimit p.player)) ≡ None)
       by true same = (sym (ap after same), refl)
       by false same = absurd cc
 
-  pub passed_last : (refusal : Refusal) → advance p ticks ≡ Err refusal → tick_fault p.player p.reached ticks ≡ Some (faults.TickLimit p.player)
+  pub passed_last : (refusal : Refusal) → advance p ticks ≡ Err refusal → tick_fault p.player p.reached ticks ≡ Some (errors.TickLimit p.player)
   unfolding advance
   passed_last refusal = by (nat_le (p.reached + ticks) MAX_TICK)
     where
       by : (b : Bool) → (if b then on else Err TickLimit) ≡ Err refusal
-          → (if b then None else Some (faults.TickLimit p.player)) ≡ Some (faults.TickLimit p.player)
+          → (if b then None else Some (errors.TickLimit p.player)) ≡ Some (errors.TickLimit p.player)
       by true same = absurd cc
       by false same = refl
 
-  pub not_advanced : (q : Player) (outcome : Result ℕ Fault) → Refines outcome p q (advance p ticks) → outcome ≢ Err OutOfMemory → IsErr outcome
-      → tick_fault p.player p.reached ticks ≡ Some (faults.TickLimit p.player)
+  pub not_advanced : (q : Player) (outcome : Result ℕ PeerError) → Refines outcome p q (advance p ticks) → outcome ≢ Err OutOfMemory → IsErr outcome
+      → tick_fault p.player p.reached ticks ≡ Some (errors.TickLimit p.player)
   not_advanced q (Ok reached) refines memory err = absurd (true≢false (sym err))
   not_advanced q (Err (Refused refusal)) refines memory err = passed_last refusal refines.0
   not_advanced q (Err OutOfMemory) refines memory err = absurd (memory refl)
@@ -139,12 +139,12 @@ moved_own old new frame map kept_ranges ranges setting peer kept inputs outputs 
 -- ---- what calls of a core leave
 
 -- going on leaves the scene and the horizon
-pub setting_advanced : (old new : PeerCore) (ticks : ℕ) (outcome : Result ℕ Fault) → Refines outcome old.peer new.peer (advance old.peer ticks)
+pub setting_advanced : (old new : PeerCore) (ticks : ℕ) (outcome : Result ℕ PeerError) → Refines outcome old.peer new.peer (advance old.peer ticks)
     → new ≡ record old { peer = new.peer } → core_setting new ≡ core_setting old
 setting_advanced old new ticks outcome refines rest =
     ap core_setting rest ∙ ap (λ (h : ℕ). let z : Setting = record { scene = old.scene; horizon = h } in z) (same outcome refines)
   where
-    same : (o : Result ℕ Fault) → Refines o old.peer new.peer (advance old.peer ticks) → new.peer.horizon ≡ old.peer.horizon
+    same : (o : Result ℕ PeerError) → Refines o old.peer new.peer (advance old.peer ticks) → new.peer.horizon ≡ old.peer.horizon
     same (Ok reached) is = ap (λ (p : Player). p.horizon) (advanced old.peer ticks reached new.peer is).0
     same (Err (Refused refusal)) is = ap (λ (p : Player). p.horizon) is.1
     same (Err OutOfMemory) is = ap (λ (p : Player). p.horizon) is.1

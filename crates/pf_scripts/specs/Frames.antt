@@ -11,8 +11,8 @@ use Rattle.pf_commands.specs.declared.payload.Command.{Command}
 use Rattle.pf_links.specs.Link.{Frame}
 use Rattle.pf_rollback.specs.Core.{PeerCore}
 use Rattle.pf_rollback.specs.Peer.{Peer}
-use Rattle.pf_rollback.specs.declared.fault.Refusal.{Refusal}
-use Rattle.pf_rollback.specs.declared.fault.Refusal.TheVariants as refusals
+use Rattle.pf_rollback.specs.declared.error.Refusal.{Refusal}
+use Rattle.pf_rollback.specs.declared.error.Refusal.TheVariants as refusals
 use Rattle.pf_scripts.specs.declared.peer.Polled.{Polled}
 
 -- what decides which commands a peer takes: the scene that it plays, and its horizon

@@ -9,8 +9,8 @@ use Rattle.pf_step.specs.declared.crew.CrewError.TheVariants.{OutOfMemory, NoThr
 use Rattle.pf_scripts.specs.Frames.{commands_in}
 use Rattle.pf_scripts.specs.Peer.{IsLater, WereHanded, all_fresh, commands_of, peer_of, setting_of}
 use Rattle.pf_scripts.specs.Script.{frames_of, script_fault, ticks_of}
-use Rattle.pf_scripts.specs.declared.fault.SessionFault.{SessionFault}
-use Rattle.pf_scripts.specs.declared.fault.SessionFault.TheVariants as faults
+use Rattle.pf_scripts.specs.declared.error.SessionError.{SessionError}
+use Rattle.pf_scripts.specs.declared.error.SessionError.TheVariants as errors
 use Rattle.pf_scripts.specs.declared.peer.Peer.{Peer}
 use Rattle.pf_scripts.specs.declared.turn.Turn.{Turn}
 
@@ -41,13 +41,13 @@ pub record HasPlayed (script : List Turn) (old new : Peer) : Type 0 where
 
 -- an error with which a play may end, whatever the script. A gate that lets everybody through is
 -- never shut. Without a crew there is no error of threads.
-abbrev pub IsPlayError : Bool → Option ℕ → CrewError → Type 0
-IsPlayError always crew OutOfMemory = ⊤
-IsPlayError always crew NoThread = IsSome crew
-IsPlayError always crew GateShut = always ≡ false
-IsPlayError always crew CrewLost = IsSome crew
+abbrev pub IsCrewErrorOfPlay : Bool → Option ℕ → CrewError → Type 0
+IsCrewErrorOfPlay always crew OutOfMemory = ⊤
+IsCrewErrorOfPlay always crew NoThread = IsSome crew
+IsCrewErrorOfPlay always crew GateShut = always ≡ false
+IsCrewErrorOfPlay always crew CrewLost = IsSome crew
 
 -- the fault of this player's peer, with an error that may come
-abbrev pub IsPeerFault : (CrewError → Type 0) → ℕ → SessionFault → Type 0
-IsPeerFault may_be player fault =
-    (error : CrewError) × may_be error × (fault ≡ faults.Peer player error)
+abbrev pub IsPeerError : (CrewError → Type 0) → ℕ → SessionError → Type 0
+IsPeerError may_be player fault =
+    (error : CrewError) × may_be error × (fault ≡ errors.Peer player error)

@@ -2,14 +2,14 @@
 //! takes those that have come over its links, and goes on by some ticks.
 #![tactic(auto)]
 
-mod fault;
+mod error;
 pub mod laws;
 mod peer;
 mod play;
 mod taking;
 mod turn;
 
-pub use fault::SessionFault;
+pub use error::SessionError;
 pub use peer::{Peer, Polled};
 pub use play::MAX_POLLS;
 pub use taking::take;

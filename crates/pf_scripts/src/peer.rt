@@ -101,7 +101,8 @@ impl Peer {
     pub fn poll(&mut self) -> Result<Polled, AllocError>
         ensures polled { (frames : List Frame) × HasPolled self.old self.new frames
             × IfOk result (AreCounts (setting_of self.old) frames) }
-        ensures looked { OnOk result (AllZip HasLooked self.old.inputs.items self.new.inputs.items) }
+        ensures looked { OnOk result
+            (AllZip HasLooked self.old.inputs.items self.new.inputs.items) }
         ensures ok { OnOk result (self.new.kept ≡ None) }
         ensures err { OnErr result (KeepsFrame self.new) }
     {

@@ -4,7 +4,7 @@ ghost use Rattle.std.specs.Prelude.{◌≡◌, ◌⊎◌, ◌∷◌, [], IfErr, 
 ghost use Rattle.std.specs.List.{AllZip};
 ghost use Rattle.pf_scripts.specs.Peer.{WereHanded};
 
-use crate::fault::SessionFault;
+use crate::error::SessionError;
 use crate::peer::Peer;
 use crate::taking::take;
 use crate::turn::Turn;
@@ -38,10 +38,10 @@ impl Peer {
     ghost use Rattle.pf_step.specs.declared.crew.CrewError.TheVariants.{GateShut, OutOfMemory};
     ghost use Rattle.pf_scripts.specs.Frames.{commands_in, refusal_of};
     ghost use Rattle.pf_scripts.specs.Peer.{commands_of, kept_of, peer_of, setting_of};
-    ghost use Rattle.pf_scripts.specs.Play.{HasMoved, HasPlayed, IsPeerFault, IsPlayError};
+    ghost use Rattle.pf_scripts.specs.Play.{HasMoved, HasPlayed, IsPeerError, IsCrewErrorOfPlay};
     ghost use Rattle.pf_peers.specs.Crews.{CanFail};
     ghost use Rattle.pf_scripts.specs.Script.{bytes_of, frame_fault, frames_in, place_after, script_fault, tick_fault, turn_fault};
-    ghost use Rattle.pf_scripts.specs.declared.fault.SessionFault.TheVariants as faults;
+    ghost use Rattle.pf_scripts.specs.declared.error.SessionError.TheVariants as errors;
 
     /// Does nothing. What its clauses say is what the types of the core and of the peer ensure.
     fn in_range(&self)
@@ -53,39 +53,40 @@ impl Peer {
     }
 
     /// Takes a frame of the peer's own script, and hands it to all others.
-    fn take_own(&mut self, place: usize, frame: &[u8]) -> Result<(), SessionFault>
+    fn take_own(&mut self, place: usize, frame: &[u8]) -> Result<(), SessionError>
         ensures moved { OnOk result (HasMoved (frame.now ∷ []) 0 self.old self.new) }
         ensures no_fault { OnOk result (refusal_of (setting_of self.old) frame.now ≡ None) }
         ensures fault { let p = peer_of self.old in IfErr result (λ fault.
-            IsPeerFault (λ error. error ≡ OutOfMemory) p.player fault
+            IsPeerError (λ error. error ≡ OutOfMemory) p.player fault
             ⊎ (frame_fault (setting_of self.old) p.player place (frame.now ∷ []) ≡ Some fault)) }
     {
         self.in_range();
         let player = self.core.player();
         match take(&mut self.core, frame) {
             Ok(None) => {}
-            Ok(Some(refusal)) => return Err(SessionFault::Frame(player, place, refusal)),
-            Err(_) => return Err(SessionFault::Peer(player, CrewError::OutOfMemory)),
+            Ok(Some(refusal)) => return Err(SessionError::Frame(player, place, refusal)),
+            Err(_) => return Err(SessionError::Peer(player, CrewError::OutOfMemory)),
         }
         let Ok(frame) = <[u8; FRAME_LEN]>::try_from(frame) else {
             unreachable!()
         };
         match hand_to_all(&mut self.outputs, frame) {
             Ok(()) => Ok(()),
-            Err(_) => Err(SessionFault::Peer(player, CrewError::OutOfMemory)),
+            Err(_) => Err(SessionError::Peer(player, CrewError::OutOfMemory)),
         }
     }
 
     /// Takes the frames of a turn. `place` is the number of the first one in the script; returns
     /// the number behind the last one.
-    fn take_all_own(&mut self, place: usize, frames: &[Vec<u8>]) -> Result<usize, SessionFault>
+    fn take_all_own(&mut self, place: usize, frames: &[Vec<u8>]) -> Result<usize, SessionError>
         ensures moved { OnOk result (HasMoved (bytes_of frames.now) 0 self.old self.new) }
         ensures place { IfOk result (λ after. after ≡ place_after place (bytes_of frames.now)) }
         ensures no_fault { let p = peer_of self.old in OnOk result
             (frame_fault (setting_of self.old) p.player place (bytes_of frames.now) ≡ None) }
         ensures fault { let p = peer_of self.old in IfErr result (λ fault.
-            IsPeerFault (λ error. error ≡ OutOfMemory) p.player fault
-            ⊎ (frame_fault (setting_of self.old) p.player place (bytes_of frames.now) ≡ Some fault)) }
+            IsPeerError (λ error. error ≡ OutOfMemory) p.player fault
+            ⊎ (frame_fault (setting_of self.old) p.player place (bytes_of frames.now)
+            ≡ Some fault)) }
     {
         self.in_range();
         let mut place = place;
@@ -97,11 +98,11 @@ impl Peer {
     }
 
     /// Polls until a poll finds no frame, or [`MAX_POLLS`] times.
-    fn poll_all(&mut self) -> Result<(), SessionFault>
+    fn poll_all(&mut self) -> Result<(), SessionError>
         ensures moved { OnOk result (HasMoved [] 0 self.old self.new) }
         ensures kept { OnOk result (self.new.kept ≡ None) }
         ensures fault { IfErr result
-            (IsPeerFault (λ error. error ≡ OutOfMemory) (peer_of self.old).player) }
+            (IsPeerError (λ error. error ≡ OutOfMemory) (peer_of self.old).player) }
     {
         self.in_range();
         let player = self.core.player();
@@ -109,14 +110,14 @@ impl Peer {
             match self.poll() {
                 Ok(polled) if polled.taken == 0 => return Ok(()),
                 Ok(_) => {}
-                Err(_) => return Err(SessionFault::Peer(player, CrewError::OutOfMemory)),
+                Err(_) => return Err(SessionError::Peer(player, CrewError::OutOfMemory)),
             }
         }
         Ok(())
     }
 
     /// Goes on by some ticks.
-    fn go_on(&mut self, ticks: u32) -> Result<(), SessionFault>
+    fn go_on(&mut self, ticks: u32) -> Result<(), SessionError>
         ensures moved { OnOk result (HasMoved [] ticks self.old self.new) }
         ensures kept { self.new.kept ≡ self.old.kept }
         ensures no_fault { let p = peer_of self.old in
@@ -127,7 +128,7 @@ impl Peer {
         let player = self.core.player();
         match self.core.advance(ticks) {
             Ok(_) => Ok(()),
-            Err(_) => Err(SessionFault::TickLimit(player)),
+            Err(_) => Err(SessionError::TickLimit(player)),
         }
     }
 
@@ -137,22 +138,22 @@ impl Peer {
         collider: &P,
         alloc: Global,
         crew: &mut C,
-    ) -> Result<(), SessionFault>
+    ) -> Result<(), SessionError>
         requires { P.can_collide collider.now }
         ensures moved { OnOk result (HasMoved [] 0 self.old self.new) }
         ensures kept { self.new.kept ≡ self.old.kept }
         ensures settled { OnOk result
             (settled_tick self.new.core.kept ≡ (peer_of self.new).reached) }
-        ensures fault { IfErr result (IsPeerFault
+        ensures fault { IfErr result (IsPeerError
             (λ error. (error ≡ OutOfMemory) ⊎ CanFail C.may_fail error) (peer_of self.old).player) }
     {
         let player = self.core.player();
         match self.core.settle_by(collider, alloc, crew) {
             Ok(_) => Ok(()),
             Err(StepError::OutOfMemory) => {
-                Err(SessionFault::Peer(player, CrewError::OutOfMemory))
+                Err(SessionError::Peer(player, CrewError::OutOfMemory))
             }
-            Err(StepError::Crew(error)) => Err(SessionFault::Peer(player, error)),
+            Err(StepError::Crew(error)) => Err(SessionError::Peer(player, error)),
         }
     }
 
@@ -165,7 +166,7 @@ impl Peer {
         place: usize,
         turn: &Turn,
         crew: &mut C,
-    ) -> Result<usize, SessionFault>
+    ) -> Result<usize, SessionError>
         requires { P.can_collide collider.now }
         ensures moved { OnOk result
             (HasMoved (frames_in turn.now) turn.now.ticks self.old self.new) }
@@ -176,7 +177,7 @@ impl Peer {
         ensures no_fault { let p = peer_of self.old in OnOk result
             (turn_fault (setting_of self.old) p.player place p.reached turn.now ≡ None) }
         ensures fault { let p = peer_of self.old in IfErr result (λ fault.
-            IsPeerFault (λ error. (error ≡ OutOfMemory) ⊎ CanFail C.may_fail error) p.player fault
+            IsPeerError (λ error. (error ≡ OutOfMemory) ⊎ CanFail C.may_fail error) p.player fault
             ⊎ (turn_fault (setting_of self.old) p.player place p.reached turn.now ≡ Some fault)) }
     {
         self.in_range();
@@ -195,11 +196,11 @@ impl Peer {
         script: &[Turn],
         crew: &mut C,
         gate: &G,
-    ) -> Result<Peer, SessionFault>
+    ) -> Result<Peer, SessionError>
         requires { P.can_collide collider.now }
         ensures played { IfOk result (HasPlayed script.now self) }
         ensures fault { let p = peer_of self in IfErr result (λ fault.
-            IsPeerFault (λ error. ((error ≡ OutOfMemory) ⊎ CanFail C.may_fail error)
+            IsPeerError (λ error. ((error ≡ OutOfMemory) ⊎ CanFail C.may_fail error)
             ⊎ ((error ≡ GateShut) × (G.ALWAYS ≡ false))) p.player fault
             ⊎ (script_fault (setting_of self) p.player 0 p.reached script.now ≡ Some fault)) }
     {
@@ -209,7 +210,7 @@ impl Peer {
         let mut place = 0;
         for number in 0..script.len() {
             if !gate.pass(usize::from(player), number) {
-                return Err(SessionFault::Peer(player, CrewError::GateShut));
+                return Err(SessionError::Peer(player, CrewError::GateShut));
             }
             place = peer.play_turn(collider, alloc, place, &script[number], crew)?;
         }
@@ -233,14 +234,14 @@ impl Peer {
         script: &[Turn],
         crew: Option<usize>,
         gate: &G,
-    ) -> Result<Peer, SessionFault>
+    ) -> Result<Peer, SessionError>
     where
         R: Threads + Wait + Copy + Send + 'static,
         G: Gate,
         requires { IfSome crew (λ workers. (0 < workers) × (workers ≤ MAX_WORKERS)) }
         ensures played { IfOk result (HasPlayed script.now self) }
         ensures fault { let p = peer_of self in IfErr result (λ fault.
-            IsPeerFault (IsPlayError G.ALWAYS crew) p.player fault
+            IsPeerError (IsCrewErrorOfPlay G.ALWAYS crew) p.player fault
             ⊎ (script_fault (setting_of self) p.player 0 p.reached script.now ≡ Some fault)) }
     {
         let Some(workers) = crew else {
@@ -249,7 +250,7 @@ impl Peer {
         let player = self.core.player();
         let Workers { mut crew, collider } = match Workers::start(rt, alloc, workers, OpenGate) {
             Ok(workers) => workers,
-            Err(error) => return Err(SessionFault::Peer(player, error)),
+            Err(error) => return Err(SessionError::Peer(player, error)),
         };
         let played = self.play_by(&collider, alloc, script, &mut crew, gate);
         crew.close();

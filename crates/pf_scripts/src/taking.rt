@@ -6,13 +6,14 @@ ghost use Rattle.pf_commands.specs.Merge.{IsCommand};
 ghost use Rattle.pf_scripts.specs.Frames.{commands_in, core_setting, refusal_of, with_frames};
 
 use pf_commands::decode;
-use pf_rollback::{Fault, PeerCore, Refusal};
+use pf_rollback::{PeerCore, PeerError, Refusal};
 use std::alloc::AllocError;
 
 /// Takes a frame. Returns why it was refused, if it was. Only a frame that is not refused can be
 /// out of memory, which leaves the peer as it was.
 pub fn take(core: &mut PeerCore, frame: &[u8]) -> Result<Option<Refusal>, AllocError>
-    ensures refusal { IfOk result (λ refusal. refusal ≡ refusal_of (core_setting core.old) frame.now) }
+    ensures refusal { IfOk result
+        (λ refusal. refusal ≡ refusal_of (core_setting core.old) frame.now) }
     ensures long { result ≡ Ok None → length frame.now ≡ FRAME_LEN }
     ensures peer { OnOk result
         (core.new.peer ≡ with_frames (core_setting core.old) core.old.peer (frame.now ∷ [])) }
@@ -28,7 +29,7 @@ pub fn take(core: &mut PeerCore, frame: &[u8]) -> Result<Option<Refusal>, AllocE
     };
     match core.put(&command) {
         Ok(_) => Ok(None),
-        Err(Fault::Refused(refusal)) => Ok(Some(refusal)),
-        Err(Fault::OutOfMemory) => Err(AllocError),
+        Err(PeerError::Refused(refusal)) => Ok(Some(refusal)),
+        Err(PeerError::OutOfMemory) => Err(AllocError),
     }
 }

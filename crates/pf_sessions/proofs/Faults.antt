@@ -7,12 +7,12 @@ use Rattle.pf_rollback.specs.Core.{PeerCore}
 use Rattle.pf_scripts.specs.Play.{HasPlayed}
 use Rattle.pf_scripts.specs.Frames.{core_setting}
 use Rattle.pf_scripts.specs.Script.{first_fault, script_fault}
-use Rattle.pf_scripts.specs.declared.fault.SessionFault.{SessionFault}
-use Rattle.pf_scripts.specs.declared.fault.SessionFault.TheVariants as faults
+use Rattle.pf_scripts.specs.declared.error.SessionError.{SessionError}
+use Rattle.pf_scripts.specs.declared.error.SessionError.TheVariants as errors
 use Rattle.pf_scripts.specs.declared.peer.Peer.{Peer}
 use Rattle.pf_scripts.specs.declared.turn.Turn.{Turn}
-use Rattle.pf_sessions.specs.Playing.{AllPlayed, IsNewPeer, IsPlayFault, IsPlayersFault, LeastFails, own_fault}
-use Rattle.pf_sessions.specs.Session.{unsealed, IsSessionFault, session_fault}
+use Rattle.pf_sessions.specs.Playing.{AllPlayed, IsNewPeer, IsPlayError, IsPlayersError, LeastFails, own_fault}
+use Rattle.pf_sessions.specs.Session.{unsealed, IsSessionError, session_fault}
 
 abbrev pub HasNoFault : List Turn → Peer → Type 0
 HasNoFault script p = own_fault script p ≡ None
@@ -58,7 +58,7 @@ module _ (s : Scene) where
   no_fault first (script ∷ scripts) none =
       ap (λ f. first_fault f (session_fault s (first + 1) scripts)) none.0 ∙ no_fault (first + 1) scripts none.1
 
-  pub fault_at : (first : ℕ) (lesser : List (List Turn)) (script : List Turn) (others : List (List Turn)) (fault : SessionFault) → AreFaultless first lesser
+  pub fault_at : (first : ℕ) (lesser : List (List Turn)) (script : List Turn) (others : List (List Turn)) (fault : SessionError) → AreFaultless first lesser
       → script_fault (unsealed s) (first + length lesser) 0 0 script ≡ Some fault → session_fault s first (lesser ++ script ∷ others) ≡ Some fault
   unfolding session_fault
   fault_at first [] script others fault none is =
@@ -106,7 +106,7 @@ module _ (s : Scene) where
 
 module _ (always : Bool) (crew : Option ℕ) (s : Scene) (count : ℕ) (scripts : List (List Turn)) (peers : List Peer)
     (are : AllZip (IsNewPeer s) (range_with_len 0 count) peers) (many : count ≡ length scripts) where
-  of_least : (fault : SessionFault) → LeastFails always crew scripts peers fault → IsSessionFault always crew s scripts fault
+  of_least : (fault : SessionError) → LeastFails always crew scripts peers fault → IsSessionError always crew s scripts fault
   of_least fault least =
       let lesser = least.lesser_scripts in
       let n = length lesser in
@@ -117,13 +117,13 @@ module _ (always : Bool) (crew : Option ℕ) (s : Scene) (count : ℕ) (scripts 
       by n lesser least.script least.other_scripts least.peer new refl least.scripts_are here.faultless (omega (arith, here.among, many)) least.fails
     where
       by : (n : ℕ) (lesser : List (List Turn)) (script : List Turn) (others : List (List Turn)) (peer : Peer) → IsNewPeer s n peer → n ≡ length lesser
-          → scripts ≡ lesser ++ script ∷ others → AreFaultless s 0 lesser → n < length scripts → IsPlayFault always crew script peer fault
-          → IsSessionFault always crew s scripts fault
+          → scripts ≡ lesser ++ script ∷ others → AreFaultless s 0 lesser → n < length scripts → IsPlayError always crew script peer fault
+          → IsSessionError always crew s scripts fault
       by n lesser script others peer new n_is split none low (inl alone) =
           inr (inl (record {
             player = n;
             error = alone.0;
-            fault_is = alone.2 ∙ ap (λ (core : PeerCore). faults.Peer core.peer.player alone.0) new.core;
+            fault_is = alone.2 ∙ ap (λ (core : PeerCore). errors.Peer core.peer.player alone.0) new.core;
             among = low;
             may_be = alone.1;
             lesser = ap (session_fault s 0) (ap (take n) split ∙ take_at lesser (script ∷ others) n (sym n_is)) ∙ no_fault s 0 lesser none;
@@ -133,7 +133,7 @@ module _ (always : Bool) (crew : Option ℕ) (s : Scene) (count : ℕ) (scripts 
           inl (ap (session_fault s 0) split
           ∙ fault_at s 0 lesser script others fault none (ap (λ k. script_fault (unsealed s) k 0 0 script) (sym number) ∙ sym (own_is s n script peer new) ∙ own))
 
-  pub session_fault_of : (fault : SessionFault) → IsPlayersFault always crew scripts peers fault → IsSessionFault always crew s scripts fault
+  pub session_fault_of : (fault : SessionError) → IsPlayersError always crew scripts peers fault → IsSessionError always crew s scripts fault
   session_fault_of fault (inl least) = of_least fault least
   session_fault_of fault (inr other) = inr (inr other)
 
@@ -142,8 +142,8 @@ module _ (always : Bool) (crew : Option ℕ) (s : Scene) (count : ℕ) (scripts 
 
 -- ---- one peer more, behind the others
 
-module _ (always : Bool) (crew : Option ℕ) (scripts : List (List Turn)) (peers : List Peer) (script : List Turn) (peer : Peer) (fault : SessionFault) where
-  pub fails_still : IsPlayersFault always crew scripts peers fault → IsPlayersFault always crew (scripts ++ script ∷ []) (peers ++ peer ∷ []) fault
+module _ (always : Bool) (crew : Option ℕ) (scripts : List (List Turn)) (peers : List Peer) (script : List Turn) (peer : Peer) (fault : SessionError) where
+  pub fails_still : IsPlayersError always crew scripts peers fault → IsPlayersError always crew (scripts ++ script ∷ []) (peers ++ peer ∷ []) fault
   fails_still (inr other) = inr other
   fails_still (inl least) = inl (record {
     lesser_scripts = least.lesser_scripts;
@@ -162,8 +162,8 @@ module _ (always : Bool) (crew : Option ℕ) (scripts : List (List Turn)) (peers
       append_behind [] x ys zs = refl
       append_behind (y ∷ xs) x ys zs = ap (λ l. y ∷ l) (append_behind xs x ys zs)
 
-  pub last_fails : (played : List Peer) → AllPlayed scripts peers played → IsPlayFault always crew script peer fault
-      → IsPlayersFault always crew (scripts ++ script ∷ []) (peers ++ peer ∷ []) fault
+  pub last_fails : (played : List Peer) → AllPlayed scripts peers played → IsPlayError always crew script peer fault
+      → IsPlayersError always crew (scripts ++ script ∷ []) (peers ++ peer ∷ []) fault
   last_fails played all fails = inl (record {
     lesser_scripts = scripts;
     script = script;
@@ -180,16 +180,16 @@ module _ (always : Bool) (crew : Option ℕ) (scripts : List (List Turn)) (peers
 -- the same of lists that are these with one more
 module _ (always : Bool) (crew : Option ℕ) (scripts : List (List Turn)) (peers : List Peer) (script : List Turn) (peer : Peer) (all_scripts : List (List Turn))
     (all_peers : List Peer) (scripts_are : all_scripts ≡ scripts ++ script ∷ []) (peers_are : all_peers ≡ peers ++ peer ∷ []) where
-  of_all : (fault : SessionFault) → IsPlayersFault always crew (scripts ++ script ∷ []) (peers ++ peer ∷ []) fault → IsPlayersFault always crew all_scripts all_peers fault
+  of_all : (fault : SessionError) → IsPlayersError always crew (scripts ++ script ∷ []) (peers ++ peer ∷ []) fault → IsPlayersError always crew all_scripts all_peers fault
   of_all fault is =
-      subst (λ l. IsPlayersFault always crew l all_peers fault) (sym scripts_are)
-      (subst (λ l. IsPlayersFault always crew (scripts ++ script ∷ []) l fault) (sym peers_are) is)
+      subst (λ l. IsPlayersError always crew l all_peers fault) (sym scripts_are)
+      (subst (λ l. IsPlayersError always crew (scripts ++ script ∷ []) l fault) (sym peers_are) is)
 
-  pub lesser_fault : (fault : SessionFault) → IsPlayersFault always crew scripts peers fault → IsPlayersFault always crew all_scripts all_peers fault
+  pub lesser_fault : (fault : SessionError) → IsPlayersError always crew scripts peers fault → IsPlayersError always crew all_scripts all_peers fault
   lesser_fault fault is = of_all fault (fails_still always crew scripts peers script peer fault is)
 
-  pub last_fault : (fault : SessionFault) (played : List Peer) → AllPlayed scripts peers played → IsPlayFault always crew script peer fault
-      → IsPlayersFault always crew all_scripts all_peers fault
+  pub last_fault : (fault : SessionError) (played : List Peer) → AllPlayed scripts peers played → IsPlayError always crew script peer fault
+      → IsPlayersError always crew all_scripts all_peers fault
   last_fault fault played all fails = of_all fault (last_fails always crew scripts peers script peer fault played all fails)
 
   pub all_played : (played news : List Peer) (last : Peer) → AllPlayed scripts peers played → HasPlayed script peer last → news ≡ played ++ last ∷ []

@@ -4,10 +4,10 @@ use Rattle.std.specs.List.{AllZip, range_with_len}
 use Rattle.pf_shapes.specs.Scene.{Scene}
 use Rattle.pf_rollback.specs.Core.{new_core}
 use Rattle.pf_scripts.specs.Peer.{peer_of, setting_of}
-use Rattle.pf_scripts.specs.Play.{HasPlayed, IsPeerFault, IsPlayError}
+use Rattle.pf_scripts.specs.Play.{HasPlayed, IsPeerError, IsCrewErrorOfPlay}
 use Rattle.pf_scripts.specs.Script.{script_fault}
-use Rattle.pf_scripts.specs.declared.fault.SessionFault.{SessionFault}
-use Rattle.pf_scripts.specs.declared.fault.SessionFault.TheVariants as faults
+use Rattle.pf_scripts.specs.declared.error.SessionError.{SessionError}
+use Rattle.pf_scripts.specs.declared.error.SessionError.TheVariants as errors
 use Rattle.pf_scripts.specs.declared.peer.Peer.{Peer}
 use Rattle.pf_scripts.specs.declared.turn.Turn.{Turn}
 use Rattle.pf_sessions.specs.Links.{AreLinked, IsNewLink, inputs_of, outputs_of}
@@ -31,24 +31,24 @@ AllPlayed (script ∷ scripts) (old ∷ olds) (new ∷ news) =
 AllPlayed scripts olds news = ⊥
 
 -- the fault of a peer's script, if it has one
-abbrev pub own_fault : List Turn → Peer → Option SessionFault
+abbrev pub own_fault : List Turn → Peer → Option SessionError
 own_fault script p =
     script_fault (setting_of p) (peer_of p).player 0 (peer_of p).reached script
 
 -- with which fault a peer's play may end
-abbrev pub IsPlayFault : Bool → Option ℕ → List Turn → Peer → SessionFault → Type 0
-IsPlayFault always crew script p fault =
-    IsPeerFault (IsPlayError always crew) (peer_of p).player fault
+abbrev pub IsPlayError : Bool → Option ℕ → List Turn → Peer → SessionError → Type 0
+IsPlayError always crew script p fault =
+    IsPeerError (IsCrewErrorOfPlay always crew) (peer_of p).player fault
     ⊎ (own_fault script p ≡ Some fault)
 
 -- what a peer's play may return
-abbrev pub IsPlayOutcome : Bool → Option ℕ → List Turn → Peer → Result Peer SessionFault → Type 0
+abbrev pub IsPlayOutcome : Bool → Option ℕ → List Turn → Peer → Result Peer SessionError → Type 0
 IsPlayOutcome always crew script p (Ok played) = HasPlayed script p played
-IsPlayOutcome always crew script p (Err fault) = IsPlayFault always crew script p fault
+IsPlayOutcome always crew script p (Err fault) = IsPlayError always crew script p fault
 
 -- a peer fails, and the scripts of lesser peers have no fault
 pub record LeastFails (always : Bool) (crew : Option ℕ) (scripts : List (List Turn))
-    (peers : List Peer) (fault : SessionFault) : Type 0 where
+    (peers : List Peer) (fault : SessionError) : Type 0 where
   pub lesser_scripts : List (List Turn)
   pub script : List Turn
   pub other_scripts : List (List Turn)
@@ -58,10 +58,10 @@ pub record LeastFails (always : Bool) (crew : Option ℕ) (scripts : List (List 
   pub other_peers : List Peer
   pub peers_are : peers ≡ lesser_peers ++ peer ∷ other_peers
   pub lesser : AllZip (λ script p. own_fault script p ≡ None) lesser_scripts lesser_peers
-  pub fails : IsPlayFault always crew script peer fault
+  pub fails : IsPlayError always crew script peer fault
 
 -- with which fault the play of all peers may end
-abbrev pub IsPlayersFault : Bool → Option ℕ → List (List Turn) → List Peer → SessionFault → Type 0
-IsPlayersFault always crew scripts peers fault =
+abbrev pub IsPlayersError : Bool → Option ℕ → List (List Turn) → List Peer → SessionError → Type 0
+IsPlayersError always crew scripts peers fault =
     LeastFails always crew scripts peers fault
-    ⊎ ((fault ≡ faults.OutOfMemory) ⊎ (fault ≡ faults.NoThread))
+    ⊎ ((fault ≡ errors.OutOfMemory) ⊎ (fault ≡ errors.NoThread))

@@ -14,10 +14,10 @@ use Rattle.pf_rollback.specs.Kept.{settled_tick}
 use Rattle.pf_rollback.specs.Peer.{Peer as Player}
 use Rattle.pf_scripts.specs.Frames.{Setting, commands_in}
 use Rattle.pf_scripts.specs.Peer.{peer_of, setting_of}
-use Rattle.pf_scripts.specs.Play.{IsPlayError}
+use Rattle.pf_scripts.specs.Play.{IsCrewErrorOfPlay}
 use Rattle.pf_scripts.specs.Script.{first_fault, frames_of, script_fault, ticks_of}
-use Rattle.pf_scripts.specs.declared.fault.SessionFault.{SessionFault}
-use Rattle.pf_scripts.specs.declared.fault.SessionFault.TheVariants as faults
+use Rattle.pf_scripts.specs.declared.error.SessionError.{SessionError}
+use Rattle.pf_scripts.specs.declared.error.SessionError.TheVariants as errors
 use Rattle.pf_scripts.specs.declared.peer.Peer.{Peer}
 use Rattle.pf_scripts.specs.declared.turn.Turn.{Turn}
 use Rattle.pf_sessions.specs.declared.links.TheConstants.{LINK_CAPACITY}
@@ -31,7 +31,7 @@ abbrev pub unsealed : Scene → Setting
 unsealed s = record { scene = s; horizon = 0 }
 
 -- the fault of the least peer whose script has one; `first` is the number of the first peer
-unfoldable pub session_fault : Scene → ℕ → List (List Turn) → Option SessionFault
+unfoldable pub session_fault : Scene → ℕ → List (List Turn) → Option SessionError
 session_fault s first [] = None
 session_fault s first (script ∷ scripts) =
     first_fault (script_fault (unsealed s) first 0 0 script) (session_fault s (first + 1) scripts)
@@ -83,7 +83,8 @@ pub record HasEnded (s : Scene) (p : Peer) : Type 0 where
   pub kept : p.kept ≡ None
   pub settled : settled_tick p.core.kept ≡ (peer_of p).reached
 
--- these frames were handed into a link, and no others; its ring has room for `LINK_CAPACITY` of them
+-- these frames were handed into a link, and no others; its ring has room for `LINK_CAPACITY` of
+-- them
 pub record HasCarried (frames : List Frame) (link : LinkOut) : Type 0 where
   pub handed : handed link ≡ frames
   pub capacity : capacity_of link ≡ LINK_CAPACITY
@@ -96,19 +97,19 @@ HasSent script p = All (HasCarried (frames_of script)) p.outputs.items
 
 -- a peer fails by itself: it is out of memory, its gate is shut or its crew fails; the scripts of
 -- lesser peers have no fault
-pub record FailsAlone (always : Bool) (crew : Option ℕ) (s : Scene) (scripts : List (List Turn))
-    (fault : SessionFault) : Type 0 where
+pub record FailsByItself (always : Bool) (crew : Option ℕ) (s : Scene) (scripts : List (List Turn))
+    (fault : SessionError) : Type 0 where
   pub player : ℕ
   pub error : CrewError
-  pub fault_is : fault ≡ faults.Peer player error
+  pub fault_is : fault ≡ errors.Peer player error
   pub among : player < length scripts
-  pub may_be : IsPlayError always crew error
+  pub may_be : IsCrewErrorOfPlay always crew error
   pub lesser : session_fault s 0 (take player scripts) ≡ None
 
 -- with which fault a session may end: that of the least peer whose script has one, that of a peer
 -- by itself, or the caller's own, which is out of memory or could not start a thread
-abbrev pub IsSessionFault : Bool → Option ℕ → Scene → List (List Turn) → SessionFault → Type 0
-IsSessionFault always crew s scripts fault =
+abbrev pub IsSessionError : Bool → Option ℕ → Scene → List (List Turn) → SessionError → Type 0
+IsSessionError always crew s scripts fault =
     (session_fault s 0 scripts ≡ Some fault)
-    ⊎ (FailsAlone always crew s scripts fault
-    ⊎ ((fault ≡ faults.OutOfMemory) ⊎ (fault ≡ faults.NoThread)))
+    ⊎ (FailsByItself always crew s scripts fault
+    ⊎ ((fault ≡ errors.OutOfMemory) ⊎ (fault ≡ errors.NoThread)))

@@ -12,7 +12,7 @@ ghost use Rattle.pf_sessions.specs.Rest.{KeepsHanded};
 use crate::rest::take_rest;
 use crate::table::transpose;
 use pf_links::{LinkIn, LinkOut};
-use pf_rollback::{Fault, PeerCore};
+use pf_rollback::{PeerCore, PeerError};
 use pf_scripts::Peer;
 use pf_step::{Work, World};
 use std::alloc::{AllocError, Global};
@@ -57,12 +57,12 @@ fn finish(
 {
     let (mut receiver, mut senders) = (receiver, senders);
     take_rest(&mut receiver.core, &mut senders, &mut receiver.inputs)?;
-    receiver.core.settle_alone(alloc)?;
+    receiver.core.settle(alloc)?;
     Ok((receiver, senders))
 }
 
-/// Lets each receiver finish with its row of the senders' ends, each in a thread of its own where one
-/// can be started.
+/// Lets each receiver finish with its row of the senders' ends, each in a thread of its own where
+/// one can be started.
 fn finish_all<R: Threads + Sync>(
     rt: &R,
     alloc: Global,
@@ -90,7 +90,8 @@ fn finish_all<R: Threads + Sync>(
         { finish(alloc, receiver, row) },
         move || -> Result<(Vec<Receiver>, Vec<Vec<LinkOut>>), AllocError>
             requires sync { IsSync R.row }
-            requires ends { AllZip (AllZip AreEnds) (rows_of senders.items) (inputs_in receivers.items) }
+            requires ends { AllZip (AllZip AreEnds) (rows_of senders.items)
+                (inputs_in receivers.items) }
             ensures { IfOk result (λ ends. AreFinished receivers.items
                 (rows_of senders.items) ends.0.items (rows_of ends.1.items)) }
         { finish_all(rt, alloc, receivers, senders) },
@@ -110,8 +111,8 @@ fn last_world(alloc: Global, core: &PeerCore) -> Result<World, AllocError>
 {
     match core.world_at(alloc, core.reached(), &mut Work::new(alloc)) {
         Ok(world) => Ok(world),
-        Err(Fault::OutOfMemory) => Err(AllocError),
-        Err(Fault::Refused(_)) => unreachable!(),
+        Err(PeerError::OutOfMemory) => Err(AllocError),
+        Err(PeerError::Refused(_)) => unreachable!(),
     }
 }
 

@@ -34,8 +34,8 @@ fn links_to_one(alloc: Global, senders: usize) -> Result<(Vec<LinkOut>, Vec<Link
     Ok((outputs, inputs))
 }
 
-/// A link from each of so many peers to each other one: for each peer a row of the ends of its links
-/// to the others, and a row of the ends of theirs to it.
+/// A link from each of so many peers to each other one: for each peer a row of the ends of its
+/// links to the others, and a row of the ends of theirs to it.
 fn links_among(
     alloc: Global,
     peers: usize,
@@ -55,9 +55,9 @@ fn links_among(
     Ok((transpose(alloc, senders)?, inputs))
 }
 
-/// `count` new peers of the scene, each two of which are linked both ways. The player of each is its
-/// number; its ends of links are in the order of the others. For a game that starts the threads of
-/// its peers itself.
+/// `count` new peers of the scene, each two of which are linked both ways. The player of each is
+/// its number; its ends of links are in the order of the others. For a game that starts the threads
+/// of its peers itself.
 pub fn linked_peers(alloc: Global, scene: &Scene, count: usize) -> Result<Vec<Peer>, AllocError>
     requires { count ≤ PLAYERS }
     ensures peers { IfOk result (λ peers. AreNewPeers scene.now count peers.items) }

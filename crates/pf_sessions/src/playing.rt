@@ -2,10 +2,10 @@
 
 ghost use Rattle.std.specs.Prelude.{◌≡◌, ◌<◌, ◌≤◌, IfErr, IfOk, IfSome, length};
 ghost use Rattle.pf_pool.specs.declared.pool.TheConstants.{MAX_WORKERS};
-ghost use Rattle.pf_sessions.specs.Playing.{AllPlayed, IsPlayersFault};
+ghost use Rattle.pf_sessions.specs.Playing.{AllPlayed, IsPlayersError};
 ghost use Rattle.pf_sessions.specs.Session.{turns_of};
 
-use pf_scripts::{Peer, SessionFault, Turn};
+use pf_scripts::{Peer, SessionError, Turn};
 use pf_workers::Gate;
 use std::alloc::Global;
 use std::marker::PhantomData;
@@ -23,7 +23,7 @@ struct PlayPromise<G> {
     gate: PhantomData<G>,
 }
 
-impl<G: Gate> Promise<Result<Peer, SessionFault>> for PlayPromise<G> {
+impl<G: Gate> Promise<Result<Peer, SessionError>> for PlayPromise<G> {
     ghost use Rattle.pf_sessions.specs.Playing.{IsPlayOutcome};
 
     ghost kept_by = { λ p r.
@@ -31,8 +31,8 @@ impl<G: Gate> Promise<Result<Peer, SessionFault>> for PlayPromise<G> {
 }
 
 /// Starts a thread for each peer, the last one first, and joins them. Each peer plays its script in
-/// its own. Returns an error where a thread could not be started or memory is out, or the fault of a
-/// peer where no lesser script has one.
+/// its own. Returns an error where a thread could not be started or memory is out, or the fault of
+/// a peer where no lesser script has one.
 fn play_in_threads<'s, 'e: 's, R, G>(
     rt: &'e R,
     alloc: Global,
@@ -41,7 +41,7 @@ fn play_in_threads<'s, 'e: 's, R, G>(
     crew: Option<usize>,
     gate: &'e G,
     peers: Vec<Peer>,
-) -> Result<Vec<Peer>, SessionFault>
+) -> Result<Vec<Peer>, SessionError>
 where
     R: Threads + Wait + Copy + Send + Sync + 'static,
     G: Gate + Sync,
@@ -50,7 +50,7 @@ where
     ensures played { IfOk result (λ played.
         AllPlayed (turns_of scripts.now) peers.items played.items) }
     ensures fault { IfErr result
-        (IsPlayersFault G.ALWAYS crew (turns_of scripts.now) peers.items) }
+        (IsPlayersError G.ALWAYS crew (turns_of scripts.now) peers.items) }
 {
     let mut peers = peers;
     let Some((script, others)) = scripts.split_last() else {
@@ -67,12 +67,12 @@ where
     };
     let started = scope.spawn_with(
         promise,
-        move || -> Result<Peer, SessionFault>
+        move || -> Result<Peer, SessionError>
             requires { IfSome crew (λ workers. (0 < workers) × (workers ≤ MAX_WORKERS)) }
         { peer.play(*rt, alloc, script, crew, gate) },
     );
     let Ok(thread) = started else {
-        return Err(SessionFault::NoThread);
+        return Err(SessionError::NoThread);
     };
     let lesser = play_in_threads(rt, alloc, scope, others, crew, gate, peers);
     let played = thread.join(rt);
@@ -80,7 +80,7 @@ where
     let last = played?;
     match all.push(last) {
         Ok(()) => Ok(all),
-        Err(_) => Err(SessionFault::OutOfMemory),
+        Err(_) => Err(SessionError::OutOfMemory),
     }
 }
 
@@ -94,7 +94,7 @@ pub fn play_all<R, G>(
     crew: Option<usize>,
     gate: &G,
     peers: Vec<Peer>,
-) -> Result<Vec<Peer>, SessionFault>
+) -> Result<Vec<Peer>, SessionError>
 where
     R: Threads + Wait + Copy + Send + Sync + 'static,
     G: Gate + Sync,
@@ -103,18 +103,18 @@ where
     ensures played { IfOk result (λ played.
         AllPlayed (turns_of scripts.now) peers.items played.items) }
     ensures fault { IfErr result
-        (IsPlayersFault G.ALWAYS crew (turns_of scripts.now) peers.items) }
+        (IsPlayersError G.ALWAYS crew (turns_of scripts.now) peers.items) }
 {
     thread::scope(
         thread::scope_env(),
         rt,
-        |scope| -> Result<Vec<Peer>, SessionFault>
+        |scope| -> Result<Vec<Peer>, SessionError>
             requires crew { IfSome crew (λ workers. (0 < workers) × (workers ≤ MAX_WORKERS)) }
             requires peers { length peers.items ≡ length scripts.now }
             ensures played { IfOk result (λ played.
                 AllPlayed (turns_of scripts.entry.now) peers.items played.items) }
             ensures fault { IfErr result
-                (IsPlayersFault G.ALWAYS crew (turns_of scripts.entry.now) peers.items) }
+                (IsPlayersError G.ALWAYS crew (turns_of scripts.entry.now) peers.items) }
         { play_in_threads(rt, alloc, scope, scripts, crew, gate, peers) },
     )
 }

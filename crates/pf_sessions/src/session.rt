@@ -5,12 +5,12 @@ ghost use Rattle.std.specs.List.{AllZip};
 ghost use Rattle.pf_pool.specs.declared.pool.TheConstants.{MAX_WORKERS};
 ghost use Rattle.pf_shapes.specs.declared.fixture.TheConstants.{PLAYERS};
 ghost use Rattle.pf_sessions.specs.Links.{AreLinked, IsDelivered, inputs_of, outputs_of};
-ghost use Rattle.pf_sessions.specs.Session.{HasEnded, HasSent, IsSessionFault, session_fault, session_results, shown_by, turns_of};
+ghost use Rattle.pf_sessions.specs.Session.{HasEnded, HasSent, IsSessionError, session_fault, session_results, shown_by, turns_of};
 
 use crate::ending::end_session;
 use crate::links::linked_peers;
 use crate::playing::play_all;
-use pf_scripts::{Peer, SessionFault, Turn};
+use pf_scripts::{Peer, SessionError, Turn};
 use pf_shapes::Scene;
 use pf_step::World;
 use pf_workers::Gate;
@@ -38,7 +38,7 @@ pub fn run_session<R, G>(
     scripts: &[Vec<Turn>],
     crew: Option<usize>,
     gate: &G,
-) -> Result<Vec<(Peer, World)>, SessionFault>
+) -> Result<Vec<(Peer, World)>, SessionError>
 where
     R: Threads + Wait + Copy + Send + Sync + 'static,
     G: Gate + Sync,
@@ -53,7 +53,7 @@ where
     ensures links { IfOk result (λ all. let peers = map (λ e. e.0) all.items in
         AreLinked IsDelivered (outputs_of peers) (inputs_of peers)) }
     ensures fault { IfErr result
-        (IsSessionFault G.ALWAYS crew scene.now (turns_of scripts.now)) }
+        (IsSessionError G.ALWAYS crew scene.now (turns_of scripts.now)) }
 {
     let peers = linked_peers(alloc, scene, scripts.len())?;
     let played = play_all(rt, alloc, scripts, crew, gate, peers)?;

@@ -5,8 +5,8 @@ use Rattle.std.specs.Int.RustNames.{unsigned_abs}
 use Rattle.std.specs.Str.{bytes_eq}
 use Rattle.pf_text.specs.declared.numbers.ParsedNumber.{ParsedNumber}
 use Rattle.pf_text.specs.declared.numbers.ParsedNumber.TheVariants.{InRange, OutOfRange, NotANumber}
-use Rattle.pf_text.specs.declared.driver.TakeRefusal.{TakeRefusal}
-use Rattle.pf_text.specs.declared.driver.TakeRefusal.TheVariants as refusals
+use Rattle.pf_text.specs.declared.driver.TakeError.{TakeError}
+use Rattle.pf_text.specs.declared.driver.TakeError.TheVariants as take_errors
 use Rattle.pf_text.specs.Fault.{◌>>=◌}
 use Rattle.pf_text.specs.Numbers.{whole_of, number}
 use Rattle.pf_rot.specs.Vector.{V2}
@@ -28,10 +28,10 @@ use Rattle.pf_shapes.specs.SceneReader.{SceneReader}
 use Rattle.pf_shapes.specs.Scene.{Scene, empty_scene, with_body}
 
 -- a function's result is the expected one; it runs out of memory only where that is no error
-abbrev pub Reads : {X F : Type 0} → Result X (TakeRefusal F) → Result X F → Type 0
+abbrev pub Reads : {X F : Type 0} → Result X (TakeError F) → Result X F → Type 0
 Reads (Ok x) expected = expected ≡ Ok x
-Reads (Err refusals.Memory) expected = IsOk expected
-Reads (Err (refusals.Fault fault)) expected = expected ≡ Err fault
+Reads (Err take_errors.Memory) expected = IsOk expected
+Reads (Err (take_errors.Fault fault)) expected = expected ≡ Err fault
 
 -- ---- fields
 

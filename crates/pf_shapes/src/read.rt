@@ -3,7 +3,7 @@
 use crate::fault::SceneFault;
 use crate::reader::{Progress, SceneReader};
 use crate::scene::{MAX_BODIES, Scene};
-use pf_text::{Bytes, Collected, DriveFault, LineFault, Machine, TakeRefusal, drive};
+use pf_text::{Bytes, Collected, DriveError, LineFault, Machine, TakeError, drive};
 use std::alloc::Global;
 use thiserror::Error;
 
@@ -35,13 +35,13 @@ impl Machine<()> for Progress {
         alloc: Global,
         _lent: &mut (),
         fields: &[&[u8]],
-    ) -> Result<(String, Self), TakeRefusal<SceneFault>> {
+    ) -> Result<(String, Self), TakeError<SceneFault>> {
         match self {
             Progress::More(reader) => {
                 let progress = reader.take(alloc, fields)?;
                 Ok((String::new(alloc), progress))
             }
-            Progress::Ended(_) => Err(TakeRefusal::Fault(SceneFault::BadLine)),
+            Progress::Ended(_) => Err(TakeError::Fault(SceneFault::BadLine)),
         }
     }
 }
@@ -60,12 +60,12 @@ impl Scene {
         match drive(alloc, &mut (), &mut Bytes::new(text), &mut output, opening) {
             Ok((_, Progress::Ended(scene))) => Ok(scene),
             Ok((number, Progress::More(_))) => Err(ReadError::Line(number, SceneFault::BadLine)),
-            Err(DriveFault::Line(number, fault)) => Err(ReadError::Line(number, fault)),
-            Err(DriveFault::Memory) => Err(ReadError::Memory),
+            Err(DriveError::Line(number, fault)) => Err(ReadError::Line(number, fault)),
+            Err(DriveError::Memory) => Err(ReadError::Memory),
             // A reader in memory does not fail.
-            Err(DriveFault::Read) => unreachable!(),
+            Err(DriveError::Read) => unreachable!(),
             // The lines of a scene have no output.
-            Err(DriveFault::Write) => unreachable!(),
+            Err(DriveError::Write) => unreachable!(),
         }
     }
 }

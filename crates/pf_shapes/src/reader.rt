@@ -10,7 +10,7 @@ use crate::scene::{MAX_BODIES, Scene};
 use crate::scene_text::{read_body, read_gravity};
 use crate::words::{BodyWord, SceneWord, word};
 use pf_rot::{Rot, V2};
-use pf_text::TakeRefusal;
+use pf_text::TakeError;
 use std::alloc::Global;
 use std::marker::Model;
 
@@ -43,7 +43,7 @@ pub enum Progress {
 
 impl SceneReader {
     ghost use Rattle.std.specs.Prelude.{◌≡◌, ◌≤◌, None, Err, map, true};
-    ghost use Rattle.pf_text.specs.declared.driver.TakeRefusal.TheVariants.{Memory};
+    ghost use Rattle.pf_text.specs.declared.driver.TakeError.TheVariants.{Memory};
     ghost use Rattle.pf_shapes.specs.SceneText.{Reads, gravity_line, body_line, end_line, is_body_line, line_of};
 
     /// A reader of a scene of at most so many bodies, before its first line.
@@ -59,22 +59,22 @@ impl SceneReader {
 
     /// Takes the fields of the next line that is not skipped. Only the line of a body takes memory.
     #[tactic(auto, unfolding(crate::specs::SceneText::line_of))]
-    pub fn take(self, alloc: Global, fields: &[&[u8]]) -> Result<Progress, TakeRefusal<SceneFault>>
+    pub fn take(self, alloc: Global, fields: &[&[u8]]) -> Result<Progress, TakeError<SceneFault>>
         ensures read { Reads result (line_of self (map (λ field. field.now) fields.now)) }
         ensures memory { result ≡ Err Memory
             → is_body_line (map (λ field. field.now) fields.now) ≡ true }
     {
         let [first, arguments @ ..] = fields else {
-            return Err(TakeRefusal::Fault(SceneFault::BadLine));
+            return Err(TakeError::Fault(SceneFault::BadLine));
         };
         match word(first) {
             Some(SceneWord::Gravity) => {
                 self.take_gravity(alloc, arguments)
-                    .map_err(TakeRefusal::Fault)
+                    .map_err(TakeError::Fault)
             }
             Some(SceneWord::Body(word)) => self.take_body(word, arguments),
-            Some(SceneWord::End) => self.take_end(arguments).map_err(TakeRefusal::Fault),
-            None => Err(TakeRefusal::Fault(SceneFault::BadLine)),
+            Some(SceneWord::End) => self.take_end(arguments).map_err(TakeError::Fault),
+            None => Err(TakeError::Fault(SceneFault::BadLine)),
         }
     }
 
@@ -98,14 +98,14 @@ impl SceneReader {
         self,
         word: BodyWord,
         arguments: &[&[u8]],
-    ) -> Result<Progress, TakeRefusal<SceneFault>>
+    ) -> Result<Progress, TakeError<SceneFault>>
         ensures { Reads result (body_line self.max_bodies self.scene word
             (map (λ field. field.now) arguments.now)) }
     {
         let max_bodies = self.max_bodies;
         match self.scene {
             Some(scene) => with_body_line(max_bodies, scene, word, arguments),
-            None => Err(TakeRefusal::Fault(SceneFault::BadLine)),
+            None => Err(TakeError::Fault(SceneFault::BadLine)),
         }
     }
 
@@ -137,16 +137,16 @@ fn with_body_line(
     scene: Scene,
     word: BodyWord,
     arguments: &[&[u8]],
-) -> Result<Progress, TakeRefusal<SceneFault>>
+) -> Result<Progress, TakeError<SceneFault>>
     requires { max_bodies ≤ MAX_BODIES }
     ensures { Reads result
         (with_body_line max_bodies scene word (map (λ field. field.now) arguments.now)) }
 {
     if arguments.len() != field_count(word) {
-        return Err(TakeRefusal::Fault(SceneFault::BadLine));
+        return Err(TakeError::Fault(SceneFault::BadLine));
     }
     if scene.len() >= max_bodies {
-        return Err(TakeRefusal::Fault(SceneFault::TooMany));
+        return Err(TakeError::Fault(SceneFault::TooMany));
     }
     with_read_body(max_bodies, scene, read_body(word, arguments))
 }
@@ -156,13 +156,13 @@ fn with_read_body(
     max_bodies: usize,
     scene: Scene,
     body: Result<(Fixture, (V2, Rot)), SceneFault>,
-) -> Result<Progress, TakeRefusal<SceneFault>>
+) -> Result<Progress, TakeError<SceneFault>>
     requires limit { max_bodies ≤ MAX_BODIES }
     requires room { length scene.fixtures < max_bodies }
     requires transform { IfOk body (λ body. IsTransform body.1) }
     ensures { Reads result (with_read_body max_bodies scene body) }
 {
-    let (fixture, (position, rotation)) = body.map_err(TakeRefusal::Fault)?;
+    let (fixture, (position, rotation)) = body.map_err(TakeError::Fault)?;
     let mut scene = scene;
     scene.push(fixture, position, rotation)?;
     Ok(scene_in_progress(max_bodies, scene))

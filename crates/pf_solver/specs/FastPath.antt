@@ -3,6 +3,7 @@
 use Rattle.std.specs.Prelude.{◌≡◌, ◌⊎◌, ℕ, ◌+◌, ◌^◌, ◌≤◌}
 use Rattle.std.specs.Int.RustNames.{unsigned_abs}
 use Rattle.pf_rot.specs.Vector.{V2}
+use Rattle.pf_rows.specs.declared.limits.TheConstants.{SPEED_LIMIT, SPIN_LIMIT}
 use Rattle.pf_rows.specs.Row.{Constraint, InverseMass, no_mass}
 use Rattle.pf_rows.specs.Small.{HasShortDirections, HasSmallNumbers, IsHeavy, IsShort, IsSmallArm}
 use Rattle.pf_solver.specs.Impulse.{ContactState, Motion}
@@ -29,17 +30,17 @@ pub record AreWithin (speed turning : ℕ) (m : ContactState) : Type 0 where
 
 -- before a warm start or a round
 abbrev pub IsSlow : Motion → Type 0
-IsSlow m = IsWithin (2 ^ 29) (2 ^ 29) m
+IsSlow m = IsWithin SPEED_LIMIT SPEED_LIMIT m
 
 abbrev pub AreSlow : ContactState → Type 0
-AreSlow m = AreWithin (2 ^ 29) (2 ^ 29) m
+AreSlow m = AreWithin SPEED_LIMIT SPEED_LIMIT m
 
 -- between its two steps
 abbrev pub IsPushed : Motion → Type 0
-IsPushed m = IsWithin (2 ^ 35) (2 ^ 31) m
+IsPushed m = IsWithin (2 ^ 35) SPIN_LIMIT m
 
 abbrev pub ArePushed : ContactState → Type 0
-ArePushed m = AreWithin (2 ^ 35) (2 ^ 31) m
+ArePushed m = AreWithin (2 ^ 35) SPIN_LIMIT m
 
 -- both arms are small, for the masses that the bodies have
 pub record HasSmallArms (c : Constraint) (m : ContactState) : Type 0 where

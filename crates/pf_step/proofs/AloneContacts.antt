@@ -18,9 +18,9 @@ use Rattle.pf_solver.specs.Solve.{solved_batch}
 use Rattle.pf_solver.specs.Velocities.{Batch}
 use Rattle.pf_solver.proofs.Solved.{solved_touches}
 use Rattle.pf_step.specs.Commands.{after_commands}
-use Rattle.pf_step.specs.Activity.{batch_of_tick, names_of_tick}
+use Rattle.pf_step.specs.Activity.{batch_of_tick, labels_of_tick}
 use Rattle.pf_islands.specs.Rows.{row_of}
-use Rattle.pf_step.specs.Step.{step, touching}
+use Rattle.pf_step.specs.Step.{step, touches_of_scene}
 use Rattle.pf_step.specs.World.{World}
 use Rattle.pf_islands.proofs.ActiveRows.{HoldsWhere, all_rows, rows_in_order}
 use Rattle.pf_step.proofs.Apart.{groups_alone}
@@ -61,7 +61,7 @@ updated_has old points k t here =
 
 module _ (s : Scene) (w : World) (payloads : List Payload) (paired : length w.bodies ≡ length s.fixtures) (scene : IsScene s) where
   abbrev points : List Touch
-  points = touching s (after_commands s.fixtures w.bodies payloads)
+  points = touches_of_scene s (after_commands s.fixtures w.bodies payloads)
 
   abbrev contacts : List Contact
   contacts = next_contacts w.contacts points
@@ -109,13 +109,13 @@ module _ (s : Scene) (w : World) (payloads : List Payload) (paired : length w.bo
       (λ q. all_found q 0 after (rows_rise after in_order) k d within)
 
   -- and so are those of a group alone
-  pub group_stored : (name : ℕ)
-      → let own = members (names_of_tick s w payloads) name in
+  pub group_stored : (label : ℕ)
+      → let own = members (labels_of_tick s w payloads) label in
       All (λ r. impulses_at (rank (key_of r.entry.touch)) (step s w payloads).contacts ≡ r.entry.impulses)
       (solved_batch s (states_of own batch.bodies) (rows_among own batch.rows)).rows
-  group_stored name =
-      let own = members (names_of_tick s w payloads) name in
+  group_stored label =
+      let own = members (labels_of_tick s w payloads) label in
       let Stored : Row → Type 0 =
       λ r. impulses_at (rank (key_of r.entry.touch)) (step s w payloads).contacts ≡ r.entry.impulses in
-      subst (λ (b : Batch). All Stored b.rows) (sym (groups_alone s w payloads name paired))
+      subst (λ (b : Batch). All Stored b.rows) (sym (groups_alone s w payloads label paired))
       (All-map Stored (row_among own) _ (All-filter (touches_one own) Stored after stored))

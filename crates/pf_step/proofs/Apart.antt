@@ -20,9 +20,9 @@ use Rattle.pf_islands.specs.Island.{states_of, rows_among, IsOwnOrOther, members
 use Rattle.pf_solver.specs.Solve.{solved_batch}
 use Rattle.pf_solver.proofs.Seen.{solved_seen}
 use Rattle.pf_step.specs.Commands.{after_commands}
-use Rattle.pf_step.specs.Activity.{batch_of_tick, names_of_tick}
+use Rattle.pf_step.specs.Activity.{batch_of_tick, labels_of_tick}
 use Rattle.pf_islands.specs.Rows.{active_rows}
-use Rattle.pf_step.specs.Step.{touching}
+use Rattle.pf_step.specs.Step.{touches_of_scene}
 use Rattle.pf_step.specs.World.{World}
 use Rattle.pf_step.proofs.Commanding.{commands_length}
 use Rattle.pf_step.proofs.Lengths.{woken_length}
@@ -30,44 +30,44 @@ use Rattle.pf_step.proofs.Touching.{points_of_bodies}
 
 -- ---- members
 
-module _ (s : Scene) (touches : List Touch) (name : ℕ) where
-  abbrev names : List ℕ
-  names = groups s touches
+module _ (s : Scene) (touches : List Touch) (label : ℕ) where
+  abbrev labels : List ℕ
+  labels = groups s touches
 
   abbrev numbers : List ℕ
-  numbers = members names name
+  numbers = members labels label
 
   numbers_rise : IsRising 0 numbers
   numbers_rise =
-      filter_rises (λ i. slice_index_or names i 0 == name) 0 (range_with_len 0 (length names))
-      (range_rises 0 (length names))
+      filter_rises (λ i. slice_index_or labels i 0 == label) 0 (range_with_len 0 (length labels))
+      (range_rises 0 (length labels))
 
   numbers_within : All (λ n. n < length s.fixtures) numbers
   numbers_within =
-      All-filter (λ i. slice_index_or names i 0 == name) (λ n. n < length s.fixtures) (range_with_len 0 (length names))
-      (range_within 0 (length names) (length s.fixtures) (omega (arith, groups_long s touches)))
+      All-filter (λ i. slice_index_or labels i 0 == label) (λ n. n < length s.fixtures) (range_with_len 0 (length labels))
+      (range_within 0 (length labels) (length s.fixtures) (omega (arith, groups_long s touches)))
 
 -- ---- a tick
 
 -- so each group is solved alone as it is in the one list
-pub groups_alone : (s : Scene) (w : World) (payloads : List Payload) (name : ℕ)
+pub groups_alone : (s : Scene) (w : World) (payloads : List Payload) (label : ℕ)
     → length w.bodies ≡ length s.fixtures
     → let batch = batch_of_tick s w payloads in
-    let own = members (names_of_tick s w payloads) name in
+    let own = members (labels_of_tick s w payloads) label in
     solved_batch s (states_of own batch.bodies) (rows_among own batch.rows)
     ≡ seen_from own (solved_batch s batch.bodies batch.rows)
-groups_alone s w payloads name paired =
+groups_alone s w payloads label paired =
     let commanded = after_commands s.fixtures w.bodies payloads in
     let count = commands_length s.fixtures w.bodies payloads ∙ paired in
-    let points = touching s commanded in
+    let points = touches_of_scene s commanded in
     let awake = woken_bodies (groups s points) commanded in
     let long =
     woken_length (groups s points) commanded (groups_long s points ∙ sym count) ∙ count in
-    solved_seen (members (groups s points) name) s awake
+    solved_seen (members (groups s points) label) s awake
     (active_rows s awake points (next_contacts w.contacts points))
-    (numbers_rise s points name)
-    (subst (λ n. All (λ i. i < n) (members (groups s points) name)) (sym long) (numbers_within s points name))
-    (All-weaker (IsActiveRow (groups s points) awake) (IsOwnOrOther (members (groups s points) name))
-    (λ r is. own_or_other (groups s points) awake name r is) (active_rows s awake points (next_contacts w.contacts points))
+    (numbers_rise s points label)
+    (subst (λ n. All (λ i. i < n) (members (groups s points) label)) (sym long) (numbers_within s points label))
+    (All-weaker (IsActiveRow (groups s points) awake) (IsOwnOrOther (members (groups s points) label))
+    (λ r is. own_or_other (groups s points) awake label r is) (active_rows s awake points (next_contacts w.contacts points))
     (rows_are_active s points awake (next_contacts w.contacts points) long
     (subst (λ n. All (IsTouchOf n) points) (count ∙ sym long) (points_of_bodies s commanded count))))

@@ -31,7 +31,7 @@ use Rattle.pf_step.specs.Commands.{after_commands}
 use Rattle.pf_step.specs.Laws.{IsWithinFriction}
 use Rattle.pf_islands.specs.Rows.{active_rows}
 use Rattle.pf_step.specs.Simulation.{sim}
-use Rattle.pf_step.specs.Step.{step, touching}
+use Rattle.pf_step.specs.Step.{step, touches_of_scene}
 use Rattle.pf_step.specs.World.{World, start_of}
 use Rattle.pf_islands.proofs.ActiveRows.{rows_in_order}
 use Rattle.pf_step.proofs.Commanding.{commands_length}
@@ -168,9 +168,9 @@ rows_keep_keys [] rows = refl
 rows_keep_keys (c ∷ contacts) rows = ap (λ rest. c.key ∷ rest) (rows_keep_keys contacts rows)
 
 pub step_keys : (s : Scene) (w : World) (payloads : List Payload)
-    → map (λ c. c.key) (step s w payloads).contacts ≡ map key_of (touching s (after_commands s.fixtures w.bodies payloads))
+    → map (λ c. c.key) (step s w payloads).contacts ≡ map key_of (touches_of_scene s (after_commands s.fixtures w.bodies payloads))
 unfolding step
-step_keys s w payloads = rows_keep_keys _ _ ∙ same_keys w.contacts (touching s (after_commands s.fixtures w.bodies payloads))
+step_keys s w payloads = rows_keep_keys _ _ ∙ same_keys w.contacts (touches_of_scene s (after_commands s.fixtures w.bodies payloads))
 
 -- contacts with the keys of contact points are in their order
 same_order : (points : List Touch) (contacts : List Contact) → map (λ c. c.key) contacts ≡ map key_of points → AreTouches points
@@ -205,7 +205,7 @@ module _ (s : Scene) (scene : IsScene s) where
   unfolding step
   step_limited w payloads paired order h =
       let commanded = after_commands s.fixtures w.bodies payloads in
-      let points = touching s commanded in
+      let points = touches_of_scene s commanded in
       let count = commands_length s.fixtures w.bodies payloads ∙ paired in
       let in_order = points_in_order s commanded count scene in
       let awake = woken_bodies (groups s points) commanded in
@@ -217,7 +217,7 @@ module _ (s : Scene) (scene : IsScene s) where
       → AreContacts (step s w payloads).contacts
   step_order w payloads paired =
       let commanded = after_commands s.fixtures w.bodies payloads in
-      let points = touching s commanded in
+      let points = touches_of_scene s commanded in
       let count = commands_length s.fixtures w.bodies payloads ∙ paired in
       let in_order = points_in_order s commanded count scene in
       same_order points (step s w payloads).contacts (step_keys s w payloads) in_order
@@ -237,10 +237,10 @@ module _ (s : Scene) (scene : IsScene s) where
       let count : length bodies ≡ length s.fixtures =
       commands_length s.fixtures w.bodies (payloads_at m tick) ∙ sim_length s m tick scene in
       let P : Key → Type 0 = λ k. IsPairOf (length s.fixtures) (record { a = k.a; b = k.b }) in
-      let points : All (λ t. P (key_of t)) (touching s bodies) =
-      subst (λ n. All (IsTouchOf n) (touching s bodies)) count (points_of_bodies s bodies count) in
+      let points : All (λ t. P (key_of t)) (touches_of_scene s bodies) =
+      subst (λ n. All (IsTouchOf n) (touches_of_scene s bodies)) count (points_of_bodies s bodies count) in
       all_unmapped P (λ (c : Contact). c.key) (step s w (payloads_at m tick)).contacts
-      (subst (All P) (sym (step_keys s w (payloads_at m tick))) (All-map P key_of (touching s bodies) points))
+      (subst (All P) (sym (step_keys s w (payloads_at m tick))) (All-map P key_of (touches_of_scene s bodies) points))
 
   pub sim_limited : (m : CommandMap) (tick : ℕ) → All (Limited s) (sim s m tick).contacts
   unfolding sim start_of

@@ -16,7 +16,7 @@ use Rattle.pf_solver.specs.Solve.{solved_batch}
 use Rattle.pf_solver.proofs.Solved.{solved_length}
 use Rattle.pf_step.specs.Commands.{bodies_with, after_command, after_commands}
 use Rattle.pf_step.specs.Simulation.{sim}
-use Rattle.pf_step.specs.Step.{step, touching}
+use Rattle.pf_step.specs.Step.{step, touches_of_scene}
 use Rattle.pf_step.specs.World.{World, start_of}
 
 abbrev no_bodies : List BodyState
@@ -46,15 +46,15 @@ pub none_long : {X : Type 0} (xs : List X) → length xs ≡ 0 → xs ≡ []
 none_long [] none = refl
 none_long (x ∷ xs) none = absurd (omega (arith, none))
 
-woken_bodies-empty : (names : List ℕ) → woken_bodies names [] ≡ []
+woken_bodies-empty : (labels : List ℕ) → woken_bodies labels [] ≡ []
 unfolding woken_bodies
 woken_bodies-empty [] = refl
-woken_bodies-empty (name ∷ names) = refl
+woken_bodies-empty (name ∷ labels) = refl
 
-bodies_after_sleep-empty : (full : ℕ) (names : List ℕ) → bodies_after_sleep full names [] ≡ []
+bodies_after_sleep-empty : (full : ℕ) (labels : List ℕ) → bodies_after_sleep full labels [] ≡ []
 unfolding bodies_after_sleep
 bodies_after_sleep-empty full [] = refl
-bodies_after_sleep-empty full (name ∷ names) = refl
+bodies_after_sleep-empty full (name ∷ labels) = refl
 
 solved_batch-empty : (s : Scene) (bodies : List BodyState) (rows : List Row) → bodies ≡ [] → (solved_batch s bodies rows).bodies ≡ []
 solved_batch-empty s bodies rows none = none_long (solved_batch s bodies rows).bodies (solved_length s bodies rows ∙ ap length none)
@@ -74,8 +74,8 @@ sim_empty s m (suc tick) none = step_empty s (sim s m tick) (payloads_at m tick)
 
 -- ---- contacts
 
-touching-empty : (s : Scene) → touching s [] ≡ []
-touching-empty s = by s.fixtures
+touches_of_scene-empty : (s : Scene) → touches_of_scene s [] ≡ []
+touches_of_scene-empty s = by s.fixtures
   where
     by : (fixtures : List Fixture) → touches fixtures [] (pairs (all_bounds fixtures [])) ≡ []
     by [] = refl
@@ -90,7 +90,7 @@ unfolding step
 step_no_contacts s w payloads none =
     let commanded : after_commands s.fixtures w.bodies payloads ≡ [] =
     ap (λ bodies. after_commands s.fixtures bodies payloads) none ∙ after_commands-empty s.fixtures payloads in
-    rows-empty w.contacts _ _ (ap (touching s) commanded ∙ touching-empty s)
+    rows-empty w.contacts _ _ (ap (touches_of_scene s) commanded ∙ touches_of_scene-empty s)
 
 -- and without contacts
 pub sim_no_contacts : (s : Scene) (m : CommandMap) (tick : ℕ) → s.starts ≡ [] → (sim s m tick).contacts ≡ []

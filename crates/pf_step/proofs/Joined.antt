@@ -17,7 +17,7 @@ use Rattle.pf_islands.specs.Island.{has_number, is_among, members, rows_among, s
 use Rattle.pf_islands.specs.Join.{IsAtHome, joined_bodies, joined_contacts}
 use Rattle.pf_islands.specs.Rows.{is_awake_at}
 use Rattle.pf_islands.specs.Sleep.{at_sleep, is_active, is_resting, bodies_after_sleep}
-use Rattle.pf_islands.specs.Split.{AreWoken, IsActiveRow, Island, active_names, is_active_name, island_of}
+use Rattle.pf_islands.specs.Split.{AreWoken, IsActiveRow, Island, active_labels, is_active_label, island_of}
 use Rattle.pf_islands.proofs.ActiveRows.{rows_beside, rows_in_order}
 use Rattle.pf_islands.proofs.Elements.{zip_at}
 use Rattle.pf_islands.proofs.HomeAgain.{joined_contacts_are, joined_is}
@@ -31,9 +31,9 @@ use Rattle.pf_solver.specs.Solve.{solved_batch}
 use Rattle.pf_solver.specs.Velocities.{Batch}
 use Rattle.pf_solver.proofs.AfterTick.{after_tick_at_contacts, after_tick_at_home}
 use Rattle.pf_solver.proofs.Solved.{IsAway, solved_sides, solved_touches, untouched_body}
-use Rattle.pf_step.specs.Activity.{batch_of_bodies, contacts_of_bodies, islands_of_bodies, names_of_bodies}
+use Rattle.pf_step.specs.Activity.{batch_of_bodies, contacts_of_bodies, islands_of_bodies, labels_of_bodies}
 use Rattle.pf_step.specs.Commands.{after_commands}
-use Rattle.pf_step.specs.Step.{step, touching, world_after}
+use Rattle.pf_step.specs.Step.{step, touches_of_scene, world_after}
 use Rattle.pf_step.specs.World.{World}
 use Rattle.pf_step.proofs.Alone.{group_after}
 use Rattle.pf_step.proofs.Apart.{groups_alone}
@@ -51,10 +51,10 @@ module _ (s : Scene) (before : List Contact) (commanded : List BodyState) (count
   w = record { bodies = commanded; contacts = before }
 
   abbrev points : List Touch
-  points = touching s commanded
+  points = touches_of_scene s commanded
 
-  abbrev names : List ℕ
-  names = names_of_bodies s commanded
+  abbrev labels : List ℕ
+  labels = labels_of_bodies s commanded
 
   abbrev batch : Batch
   batch = batch_of_bodies s before commanded
@@ -73,12 +73,12 @@ module _ (s : Scene) (before : List Contact) (commanded : List BodyState) (count
   ended = map (island_after_tick s) found
 
   pub awake_long : length batch.bodies ≡ length s.fixtures
-  awake_long = woken_length names commanded (groups_long s points ∙ sym count) ∙ count
+  awake_long = woken_length labels commanded (groups_long s points ∙ sym count) ∙ count
 
-  are_woken : AreWoken names batch.bodies
+  are_woken : AreWoken labels batch.bodies
   are_woken = groups_woken s points commanded count
 
-  are_active : All (IsActiveRow names batch.bodies) batch.rows
+  are_active : All (IsActiveRow labels batch.bodies) batch.rows
   are_active =
       rows_are_active s points batch.bodies contacts awake_long
       (subst (λ n. All (IsTouchOf n) points) (count ∙ sym awake_long) (points_of_bodies s commanded count))
@@ -89,36 +89,36 @@ module _ (s : Scene) (before : List Contact) (commanded : List BodyState) (count
   ended_at_home =
       after_tick_at_home s (length batch.bodies) found
       (subst (λ n. All (IsAtHome n) found) (groups_long s points ∙ sym awake_long)
-      (islands_at_home names batch.bodies batch.rows))
+      (islands_at_home labels batch.bodies batch.rows))
 
   pub ended_at_contacts : AreTouches points → All (λ (i : Island). AreRowsAt contacts i.rows) ended
   ended_at_contacts order =
       after_tick_at_contacts s contacts found
-      (islands_at_contacts names batch.bodies batch.rows contacts
+      (islands_at_contacts labels batch.bodies batch.rows contacts
       (rows_beside s batch.bodies points contacts (same_keys before points) (updated_length before points) order))
 
   -- ---- what the islands have
 
   -- what holds of the island of each group that is simulated, after the tick, holds of all
   all_ended : (P : Island → Type 0)
-      → ((name : ℕ) → name < length s.fixtures → is_active_name names batch.bodies name ≡ true
-      → P (island_after_tick s (island_of batch.bodies batch.rows (members names name)))) → All P ended
+      → ((name : ℕ) → name < length s.fixtures → is_active_label labels batch.bodies name ≡ true
+      → P (island_after_tick s (island_of batch.bodies batch.rows (members labels name)))) → All P ended
   all_ended P each =
       All-map P (island_after_tick s) found
-      (All-map (λ i. P (island_after_tick s i)) (λ name. island_of batch.bodies batch.rows (members names name))
-      (active_names names batch.bodies)
+      (All-map (λ i. P (island_after_tick s i)) (λ name. island_of batch.bodies batch.rows (members labels name))
+      (active_labels labels batch.bodies)
       (λ k d within.
-      each (get_or (active_names names batch.bodies) k d)
-      (All-filter (is_active_name names batch.bodies) (λ n. n < length s.fixtures) (range_with_len 0 (length names))
-      (range_within 0 (length names) (length s.fixtures) (omega (arith, groups_long s points))) k d within)
-      (chosen_pass (is_active_name names batch.bodies) (range_with_len 0 (length names)) k d within)))
+      each (get_or (active_labels labels batch.bodies) k d)
+      (All-filter (is_active_label labels batch.bodies) (λ n. n < length s.fixtures) (range_with_len 0 (length labels))
+      (range_within 0 (length labels) (length s.fixtures) (omega (arith, groups_long s points))) k d within)
+      (chosen_pass (is_active_label labels batch.bodies) (range_with_len 0 (length labels)) k d within)))
 
   -- a group that is simulated has an awake body after the commands
-  active_group : (name : ℕ) → name < length s.fixtures → is_active_name names batch.bodies name ≡ true
-      → is_active names commanded name ≡ true
+  active_group : (name : ℕ) → name < length s.fixtures → is_active_label labels batch.bodies name ≡ true
+      → is_active labels commanded name ≡ true
   active_group name within active =
-      let parts = and_parts (get_or names name 0 == name) (is_awake_at batch.bodies name) active in
-      ap (is_active names commanded) (sym (eqb-true (get_or names name 0) name parts.0) ∙ name_of s points name within)
+      let parts = and_parts (get_or labels name 0 == name) (is_awake_at batch.bodies name) active in
+      ap (is_active labels commanded) (sym (eqb-true (get_or labels name 0) name parts.0) ∙ name_of s points name within)
       ∙ sym (woken_at s points commanded count name within) ∙ parts.1
 
   -- the states of the world after the tick
@@ -140,11 +140,11 @@ module _ (s : Scene) (before : List Contact) (commanded : List BodyState) (count
   rows_are_ended =
       solved_sides s batch.bodies batch.rows
       (λ first second. list_any (λ (i : Island). is_among i.numbers first || is_among i.numbers second) ended ≡ true)
-      (All-weaker (IsActiveRow names batch.bodies)
+      (All-weaker (IsActiveRow labels batch.bodies)
       (λ r. list_any (λ (i : Island). touches_one i.numbers r) ended ≡ true)
       (λ r active.
       any_mapped (λ (i : Island). touches_one i.numbers r) (island_after_tick s) found
-      ∙ row_has_island names batch.bodies batch.rows r (groups_named s points) are_woken active)
+      ∙ row_has_island labels batch.bodies batch.rows r (groups_named s points) are_woken active)
       batch.rows are_active)
 
   -- ---- bodies of no island
@@ -157,16 +157,16 @@ module _ (s : Scene) (before : List Contact) (commanded : List BodyState) (count
       (λ awake.
       true≢false
       (sym (any_mapped (λ (i : Island). has_number i.numbers j) (island_after_tick s) found
-      ∙ body_has_island names batch.bodies batch.rows j (omega (arith, within, groups_long s points)) (groups_named s points)
+      ∙ body_has_island labels batch.bodies batch.rows j (omega (arith, within, groups_long s points)) (groups_named s points)
       are_woken awake)
       ∙ none))
 
   -- no row touches them
   away : (j : ℕ) → is_awake_at batch.bodies j ≡ false → All (IsAway j) batch.rows
   away j sleeps =
-      All-weaker (IsActiveRow names batch.bodies) (IsAway j)
+      All-weaker (IsActiveRow labels batch.bodies) (IsAway j)
       (λ r active.
-      let wakes = sides_awake names batch.bodies r (groups_named s points) are_woken active j in (
+      let wakes = sides_awake labels batch.bodies r (groups_named s points) are_woken active j in (
         λ first. true≢false (sym (wakes (inl first)) ∙ sleeps),
         λ second. true≢false (sym (wakes (inr second)) ∙ sleeps),
       ))
@@ -182,14 +182,14 @@ module _ (s : Scene) (before : List Contact) (commanded : List BodyState) (count
       slice_get-get_or batch.bodies j no_state (omega (arith, within, awake_long)) in
       let solved_same : slice_get after.bodies j ≡ Some b =
       untouched_body s batch.bodies batch.rows j b here (away j sleeps) ∙ rw sleeps refl in
-      sym (get_or_from_slice_get (map rest (zip names after.bodies)) j b no_state
-      (slice_get-map rest (zip names after.bodies) j
-      ∙ ap (option_map rest) (zip_at names after.bodies j (get_or names j 0) b
-      (slice_get-get_or names j 0 (omega (arith, within, groups_long s points))) solved_same)
+      sym (get_or_from_slice_get (map rest (zip labels after.bodies)) j b no_state
+      (slice_get-map rest (zip labels after.bodies) j
+      ∙ ap (option_map rest) (zip_at labels after.bodies j (get_or labels j 0) b
+      (slice_get-get_or labels j 0 (omega (arith, within, groups_long s points))) solved_same)
       ∙ rw sleeps refl))
     where
       rest : ℕ × BodyState → BodyState
-      rest m = if m.1.awake && is_resting STILL_TICKS names after.bodies m.0 then at_sleep m.1 else m.1
+      rest m = if m.1.awake && is_resting STILL_TICKS labels after.bodies m.0 then at_sleep m.1 else m.1
 
   -- ---- the world
 

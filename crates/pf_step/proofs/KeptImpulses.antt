@@ -19,7 +19,7 @@ use Rattle.pf_solver.proofs.Solved.{solved_touches}
 use Rattle.pf_step.specs.Laws.{IsUndisturbed, commanded_bodies}
 use Rattle.pf_islands.specs.Rows.{active_rows, is_active_contact, is_simulated_at, row_of}
 use Rattle.pf_step.specs.Simulation.{sim}
-use Rattle.pf_step.specs.Step.{step, touching}
+use Rattle.pf_step.specs.Step.{step, touches_of_scene}
 use Rattle.pf_islands.proofs.ActiveRows.{HoldsWhere, all_rows}
 use Rattle.pf_step.proofs.Commanding.{commands_length}
 use Rattle.pf_step.proofs.Contacts.{same_bodies}
@@ -75,7 +75,7 @@ module _ (s : Scene) (scene : IsScene s) (m : CommandMap) (tick : ℕ) where
   bodies = commanded_bodies s m tick
 
   abbrev points : List Touch
-  points = touching s bodies
+  points = touches_of_scene s bodies
 
   abbrev awake : List BodyState
   awake = woken_bodies (groups s points) bodies
@@ -117,10 +117,10 @@ module _ (s : Scene) (scene : IsScene s) (m : CommandMap) (tick : ℕ) where
       → is_static_at s i ≡ false → IsUndisturbed s bodies i → slice_get points k ≡ Some t → (t.a ≡ i) ⊎ (t.b ≡ i)
       → impulses_at (rank (key_of t)) (sim s m (suc tick)).contacts ≡ impulses_at (rank (key_of t)) (sim s m tick).contacts
   unfolding sim step
-  kept_impulses i b k t there dynamic quiet here names =
+  kept_impulses i b k t there dynamic quiet here labels =
       let of = all_at (IsTouchOf (length bodies)) points k t (points_of_bodies s bodies count) here in
       let inactive : is_active_contact s awake t ≡ false =
       contact_inactive s (sim s m tick).contacts bodies count (statics_sleep s m tick scene) i b there quiet dynamic k t here
-      (omega (arith, of.0, of.1)) of.1 names in
+      (omega (arith, of.0, of.1)) of.1 labels in
       stays_at (rank (key_of t)) contacts (solved_batch s awake rows).rows (others k t here inactive)
       ∙ kept_at (sim s m tick).contacts points k t here

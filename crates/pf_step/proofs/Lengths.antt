@@ -17,22 +17,22 @@ use Rattle.pf_solver.proofs.Solved.{solved_length}
 use Rattle.pf_step.specs.Commands.{after_commands}
 use Rattle.pf_islands.specs.Rows.{active_rows}
 use Rattle.pf_step.specs.Simulation.{sim}
-use Rattle.pf_step.specs.Step.{step, touching, world_after}
+use Rattle.pf_step.specs.Step.{step, touches_of_scene, world_after}
 use Rattle.pf_step.specs.World.{World, start_of}
 use Rattle.pf_step.proofs.Commanding.{commands_length}
 use Rattle.pf_islands.proofs.Elements.{zip_length}
 
-pub woken_length : (names : List ℕ) (bodies : List BodyState) → length names ≡ length bodies
-    → length (woken_bodies names bodies) ≡ length bodies
+pub woken_length : (labels : List ℕ) (bodies : List BodyState) → length labels ≡ length bodies
+    → length (woken_bodies labels bodies) ≡ length bodies
 unfolding woken_bodies
-woken_length names bodies same = length-map (zip names bodies) _ ∙ zip_length names bodies same
+woken_length labels bodies same = length-map (zip labels bodies) _ ∙ zip_length labels bodies same
 
-pub rested_length : (full : ℕ) (names : List ℕ) (bodies : List BodyState) → length names ≡ length bodies
-    → length (bodies_after_sleep full names bodies) ≡ length bodies
+pub rested_length : (full : ℕ) (labels : List ℕ) (bodies : List BodyState) → length labels ≡ length bodies
+    → length (bodies_after_sleep full labels bodies) ≡ length bodies
 unfolding bodies_after_sleep
-rested_length full names bodies same = length-map (zip names bodies) _ ∙ zip_length names bodies same
+rested_length full labels bodies same = length-map (zip labels bodies) _ ∙ zip_length labels bodies same
 
--- each body has a name
+-- each body has a label
 pub named : (s : Scene) (points : List Touch) (bodies : List BodyState) → length bodies ≡ length s.fixtures
     → length (groups s points) ≡ length bodies
 named s points bodies paired = groups_long s points ∙ sym paired
@@ -46,13 +46,13 @@ updated_length old points = length-map points _
 pub world_after_length : (s : Scene) (before : List Contact) (bodies : List BodyState) → length bodies ≡ length s.fixtures
     → length (world_after s before bodies).bodies ≡ length s.fixtures
 world_after_length s before bodies paired =
-    let points = touching s bodies in
-    let names = groups s points in
-    let awake = woken_bodies names bodies in
+    let points = touches_of_scene s bodies in
+    let labels = groups s points in
+    let awake = woken_bodies labels bodies in
     let rows = active_rows s awake points (next_contacts before points) in
-    let woke : length awake ≡ length bodies = woken_length names bodies (named s points bodies paired) in
+    let woke : length awake ≡ length bodies = woken_length labels bodies (named s points bodies paired) in
     let moved : length (solved_batch s awake rows).bodies ≡ length s.fixtures = solved_length s awake rows ∙ woke ∙ paired in
-    rested_length STILL_TICKS names (solved_batch s awake rows).bodies (named s points (solved_batch s awake rows).bodies moved) ∙ moved
+    rested_length STILL_TICKS labels (solved_batch s awake rows).bodies (named s points (solved_batch s awake rows).bodies moved) ∙ moved
 
 pub step_length : (s : Scene) (w : World) (payloads : List Payload) → length w.bodies ≡ length s.fixtures
     → length (step s w payloads).bodies ≡ length s.fixtures

@@ -19,7 +19,7 @@ use Rattle.pf_solver.proofs.Solved.{moved_on, solved_body}
 use Rattle.pf_step.specs.Commands.{after_commands}
 use Rattle.pf_step.specs.Laws.{bodies_before_sleep}
 use Rattle.pf_islands.specs.Rows.{active_rows}
-use Rattle.pf_step.specs.Step.{step, touching}
+use Rattle.pf_step.specs.Step.{step, touches_of_scene}
 use Rattle.pf_step.specs.World.{World}
 use Rattle.pf_islands.proofs.Elements.{same_element}
 
@@ -47,18 +47,18 @@ record IsWoken (bodies : List BodyState) (i : ℕ) (c : BodyState) : Type 0 wher
   value : record from { awake = flag } ≡ c
   stays : from.awake ≡ true → flag ≡ true
 
-woken_at : (names : List ℕ) (bodies : List BodyState) (i : ℕ) (c : BodyState)
-    → slice_get (woken_bodies names bodies) i ≡ Some c → IsWoken bodies i c
+woken_at : (labels : List ℕ) (bodies : List BodyState) (i : ℕ) (c : BodyState)
+    → slice_get (woken_bodies labels bodies) i ≡ Some c → IsWoken bodies i c
 unfolding woken_bodies
-woken_at names bodies i c here =
-    let found = zip_at (λ (m : ℕ × BodyState). record m.1 { awake = is_active names bodies m.0 }) names bodies i c here in
+woken_at labels bodies i c here =
+    let found = zip_at (λ (m : ℕ × BodyState). record m.1 { awake = is_active labels bodies m.0 }) labels bodies i c here in
     record {
       from = found.1;
-      flag = is_active names bodies found.0;
+      flag = is_active labels bodies found.0;
       is_there = found.3;
       value = found.4;
       stays = λ awake.
-          any_from (λ (m : ℕ × BodyState). (m.0 == found.0) && m.1.awake) names bodies i found.0 found.1 found.2 found.3
+          any_from (λ (m : ℕ × BodyState). (m.0 == found.0) && m.1.awake) labels bodies i found.0 found.1 found.2 found.3
           (rw (eq-eqb found.0 found.0 refl) awake);
     }
 
@@ -69,26 +69,26 @@ record IsRested (full : ℕ) (bodies : List BodyState) (i : ℕ) (c : BodyState)
   is_there : slice_get bodies i ≡ Some from
   value : (c ≡ from) ⊎ ((from.awake ≡ true) × (from.timer ≡ full) × (c ≡ at_sleep from))
 
-rested_at : (full : ℕ) (names : List ℕ) (bodies : List BodyState) (i : ℕ) (c : BodyState)
-    → slice_get (bodies_after_sleep full names bodies) i ≡ Some c → IsRested full bodies i c
+rested_at : (full : ℕ) (labels : List ℕ) (bodies : List BodyState) (i : ℕ) (c : BodyState)
+    → slice_get (bodies_after_sleep full labels bodies) i ≡ Some c → IsRested full bodies i c
 unfolding bodies_after_sleep
-rested_at full names bodies i c here =
+rested_at full labels bodies i c here =
     let found =
-    zip_at (λ (m : ℕ × BodyState). if m.1.awake && is_resting full names bodies m.0 then at_sleep m.1 else m.1) names bodies i c here in
+    zip_at (λ (m : ℕ × BodyState). if m.1.awake && is_resting full labels bodies m.0 then at_sleep m.1 else m.1) labels bodies i c here in
     record {
       from = found.1;
       is_there = found.3;
-      value = by found.0 found.1 found.2 found.3 (found.1.awake && is_resting full names bodies found.0) refl found.4;
+      value = by found.0 found.1 found.2 found.3 (found.1.awake && is_resting full labels bodies found.0) refl found.4;
     }
   where
-    by : (name : ℕ) (b : BodyState) → slice_get names i ≡ Some name → slice_get bodies i ≡ Some b
-        → (t : Bool) → (b.awake && is_resting full names bodies name) ≡ t → (if t then at_sleep b else b) ≡ c
+    by : (label : ℕ) (b : BodyState) → slice_get labels i ≡ Some label → slice_get bodies i ≡ Some b
+        → (t : Bool) → (b.awake && is_resting full labels bodies label) ≡ t → (if t then at_sleep b else b) ≡ c
         → (c ≡ b) ⊎ ((b.awake ≡ true) × (b.timer ≡ full) × (c ≡ at_sleep b))
-    by name b named there true test is =
-        let both = and_parts b.awake (is_resting full names bodies name) test in
-        let full_timer = all_at (λ (m : ℕ × BodyState). not (m.0 == name) || (m.1.timer == full)) names bodies i name b both.1 named there in
-        inr (both.0, eqb-true b.timer full (subst (λ e. (not e || (b.timer == full)) ≡ true) (eq-eqb name name refl) full_timer), sym is)
-    by name b named there false test is = inl (sym is)
+    by label b named there true test is =
+        let both = and_parts b.awake (is_resting full labels bodies label) test in
+        let full_timer = all_at (λ (m : ℕ × BodyState). not (m.0 == label) || (m.1.timer == full)) labels bodies i label b both.1 named there in
+        inr (both.0, eqb-true b.timer full (subst (λ e. (not e || (b.timer == full)) ≡ true) (eq-eqb label label refl) full_timer), sym is)
+    by label b named there false test is = inl (sym is)
 
 -- ---- the whole tick
 
@@ -139,13 +139,13 @@ pub ticked_body : (s : Scene) (w : World) (payloads : List Payload) (i : ℕ) (c
 unfolding step
 ticked_body s w payloads i c here =
     let commanded = after_commands s.fixtures w.bodies payloads in
-    let points = touching s commanded in
-    let names = groups s points in
-    let awake = woken_bodies names commanded in
+    let points = touches_of_scene s commanded in
+    let labels = groups s points in
+    let awake = woken_bodies labels commanded in
     let rows = active_rows s awake points (next_contacts w.contacts points) in
-    let rest = rested_at STILL_TICKS names (solved_batch s awake rows).bodies i c here in
+    let rest = rested_at STILL_TICKS labels (solved_batch s awake rows).bodies i c here in
     let solve = solved_body s awake rows i rest.from rest.is_there in
-    let wake = woken_at names commanded i solve.before solve.stood in
+    let wake = woken_at labels commanded i solve.before solve.stood in
     let moved : rest.from ≡ moved_on solve.velocity solve.spin (record wake.from { awake = wake.flag }) =
     solve.moved ∙ ap (moved_on solve.velocity solve.spin) (sym wake.value) in
     let value =
@@ -178,13 +178,13 @@ pub slept : (s : Scene) (w : World) (payloads : List Payload) (i : ℕ) (c d : B
 unfolding step
 slept s w payloads i c d here asleep before =
     let commanded = after_commands s.fixtures w.bodies payloads in
-    let points = touching s commanded in
-    let names = groups s points in
-    let awake = woken_bodies names commanded in
+    let points = touches_of_scene s commanded in
+    let labels = groups s points in
+    let awake = woken_bodies labels commanded in
     let rows = active_rows s awake points (next_contacts w.contacts points) in
-    let rest = rested_at STILL_TICKS names (solved_batch s awake rows).bodies i c here in
+    let rest = rested_at STILL_TICKS labels (solved_batch s awake rows).bodies i c here in
     let solve = solved_body s awake rows i rest.from rest.is_there in
-    let wake = woken_at names commanded i solve.before solve.stood in
+    let wake = woken_at labels commanded i solve.before solve.stood in
     let moved : rest.from ≡ moved_on solve.velocity solve.spin (record wake.from { awake = wake.flag }) =
     solve.moved ∙ ap (moved_on solve.velocity solve.spin) (sym wake.value) in
     let is : d ≡ rest.from = same_element d rest.from (sym before ∙ rest.is_there) in
@@ -205,12 +205,12 @@ pub stays_awake : (s : Scene) (w : World) (payloads : List Payload) (i : ℕ) (b
 unfolding after_timer after_motion
 stays_awake s w payloads i b d here waking before =
     let commanded = after_commands s.fixtures w.bodies payloads in
-    let points = touching s commanded in
-    let names = groups s points in
-    let awake = woken_bodies names commanded in
+    let points = touches_of_scene s commanded in
+    let labels = groups s points in
+    let awake = woken_bodies labels commanded in
     let rows = active_rows s awake points (next_contacts w.contacts points) in
     let solve = solved_body s awake rows i d before in
-    let wake = woken_at names commanded i solve.before solve.stood in
+    let wake = woken_at labels commanded i solve.before solve.stood in
     let is : wake.from ≡ b = same_element wake.from b (sym wake.is_there ∙ here) in
     let flag : wake.flag ≡ true = wake.stays (ap (λ (x : BodyState). x.awake) is ∙ waking) in
     ap (λ (x : BodyState). x.awake) (solve.moved ∙ ap (moved_on solve.velocity solve.spin) (sym wake.value))

@@ -25,7 +25,7 @@ use Rattle.pf_step.specs.Commands.{after_commands}
 use Rattle.pf_step.specs.Laws.{IsUndisturbed, commanded_bodies}
 use Rattle.pf_islands.specs.Rows.{active_rows, is_active_contact, is_awake_at, is_simulated_at, row_of, side_of}
 use Rattle.pf_step.specs.Simulation.{sim}
-use Rattle.pf_step.specs.Step.{step, touching}
+use Rattle.pf_step.specs.Step.{step, touches_of_scene}
 use Rattle.pf_step.specs.World.{World, start_of}
 use Rattle.pf_islands.proofs.ActiveRows.{HoldsWhere, all_rows}
 use Rattle.pf_step.proofs.Commanding.{commands_length, not_commanded, static_stays}
@@ -57,7 +57,7 @@ static_reach s touches a b static (next ∷ chain, along) =
 abbrev pub StaticsSleep : Scene → List BodyState → Type 0
 StaticsSleep s bodies = (j : ℕ) (b : BodyState) → is_static_at s j ≡ true → slice_get bodies j ≡ Some b → b.awake ≡ false
 
--- a dynamic side names its body
+-- a dynamic side labels its body
 side_place : (s : Scene) (number i : ℕ) → side_of s number ≡ Dynamic i → number ≡ i
 side_place s number i = by (is_static_at s number)
   where
@@ -72,13 +72,13 @@ same_place m n e = cc
 
 module _ (s : Scene) (old : List Contact) (commanded : List BodyState) (count : length commanded ≡ length s.fixtures) where
   abbrev points : List Touch
-  points = touching s commanded
+  points = touches_of_scene s commanded
 
-  abbrev names : List ℕ
-  names = groups s points
+  abbrev labels : List ℕ
+  labels = groups s points
 
   abbrev awake : List BodyState
-  awake = woken_bodies names commanded
+  awake = woken_bodies labels commanded
 
   abbrev rows : List Row
   rows = active_rows s awake points (next_contacts old points)
@@ -88,22 +88,22 @@ module _ (s : Scene) (old : List Contact) (commanded : List BodyState) (count : 
 
   -- the body of a number after the phase Activity
   woken_is : (i : ℕ) (b : BodyState) → slice_get commanded i ≡ Some b
-      → slice_get awake i ≡ Some (record b { awake = is_active names commanded (group s points i) })
+      → slice_get awake i ≡ Some (record b { awake = is_active labels commanded (group s points i) })
   unfolding woken_bodies
   woken_is i b here =
       let within = slice_get_within commanded i b here in
       let named = name_at s points i (omega (arith, within, count)) in
-      slice_get-map (λ (m : ℕ × BodyState). record m.1 { awake = is_active names commanded m.0 }) (zip names commanded) i
-      ∙ ap (option_map (λ (m : ℕ × BodyState). record m.1 { awake = is_active names commanded m.0 }))
-      (zip_at names commanded i (group s points i) b named here)
+      slice_get-map (λ (m : ℕ × BodyState). record m.1 { awake = is_active labels commanded m.0 }) (zip labels commanded) i
+      ∙ ap (option_map (λ (m : ℕ × BodyState). record m.1 { awake = is_active labels commanded m.0 }))
+      (zip_at labels commanded i (group s points i) b named here)
 
   -- an undisturbed body is not simulated
   inactive : (i : ℕ) (b : BodyState) → slice_get commanded i ≡ Some b → IsUndisturbed s commanded i
-      → is_active names commanded (group s points i) ≡ false
+      → is_active labels commanded (group s points i) ≡ false
   inactive i b here quiet =
-      false_from_ne_true (is_active names commanded (group s points i))
+      false_from_ne_true (is_active labels commanded (group s points i))
       (λ active.
-      let found = (woken_reach s points commanded count i (record b { awake = is_active names commanded (group s points i) }) (woken_is i b here)).0 active in
+      let found = (woken_reach s points commanded count i (record b { awake = is_active labels commanded (group s points i) }) (woken_is i b here)).0 active in
       true≢false (sym found.3 ∙ quiet found.0 found.1 found.2 found.4))
 
   -- so it stays as it is
@@ -211,15 +211,15 @@ module _ (s : Scene) (old : List Contact) (commanded : List BodyState) (count : 
 
   -- and after it
   rested_same : (i : ℕ) (b : BodyState) → slice_get commanded i ≡ Some b → IsUndisturbed s commanded i → All (IsAway i) rows
-      → slice_get (bodies_after_sleep STILL_TICKS names (solved_batch s awake rows).bodies) i ≡ Some b
+      → slice_get (bodies_after_sleep STILL_TICKS labels (solved_batch s awake rows).bodies) i ≡ Some b
   unfolding bodies_after_sleep
   rested_same i b here quiet away =
       let within = slice_get_within commanded i b here in
       let named = name_at s points i (omega (arith, within, count)) in
       let bodies = (solved_batch s awake rows).bodies in
-      slice_get-map (λ (m : ℕ × BodyState). if m.1.awake && is_resting STILL_TICKS names bodies m.0 then at_sleep m.1 else m.1) (zip names bodies) i
-      ∙ ap (option_map (λ (m : ℕ × BodyState). if m.1.awake && is_resting STILL_TICKS names bodies m.0 then at_sleep m.1 else m.1))
-      (zip_at names bodies i (group s points i) b named (solved_same i b here quiet away))
+      slice_get-map (λ (m : ℕ × BodyState). if m.1.awake && is_resting STILL_TICKS labels bodies m.0 then at_sleep m.1 else m.1) (zip labels bodies) i
+      ∙ ap (option_map (λ (m : ℕ × BodyState). if m.1.awake && is_resting STILL_TICKS labels bodies m.0 then at_sleep m.1 else m.1))
+      (zip_at labels bodies i (group s points i) b named (solved_same i b here quiet away))
       ∙ rw (quiet i b here (here_reached i)) refl
 
 -- ---- the tick
@@ -282,7 +282,7 @@ static_start s m (suc tick) i b scene static here =
     let stays : slice_get commanded i ≡ Some (was i) =
     static_stays s.fixtures w.bodies payloads i (fixture_at s i) (static_fixture s i within) static ∙ old in
     let quiet : IsUndisturbed s commanded i = λ j c there reach.
-    statics i c static (subst (λ (y : ℕ). slice_get commanded y ≡ Some c) (sym (static_reach s (touching s commanded) i j static reach)) there) in
+    statics i c static (subst (λ (y : ℕ). slice_get commanded y ≡ Some c) (sym (static_reach s (touches_of_scene s commanded) i j static reach)) there) in
     let same : was i ≡ b =
     same_element (was i) b (sym (step_same s w payloads i (was i) paired statics stays quiet) ∙ here) in
     static_start s m tick i b scene static (old ∙ ap Some same)

@@ -20,10 +20,10 @@ use Rattle.pf_solver.specs.Bodies.{after_gravity, after_motion, after_timer, eac
 use Rattle.pf_solver.specs.Solve.{solved_batch}
 use Rattle.pf_solver.specs.Velocities.{Batch}
 use Rattle.pf_solver.proofs.Free.{free_is_solved}
-use Rattle.pf_step.specs.Step.{touching, world_after}
+use Rattle.pf_step.specs.Step.{touches_of_scene, world_after}
 use Rattle.pf_step.specs.World.{World}
 
--- the names k, k + 1, .. of so many groups of one body
+-- the labels k, k + 1, .. of so many groups of one body
 abbrev own_names : ℕ → List BodyState → List ℕ
 own_names k bodies = range_with_len k (length bodies)
 
@@ -43,7 +43,7 @@ module _ (p : BodyState → Bool) where
   abbrev if_named : ℕ → ℕ × BodyState → Bool
   if_named name m = not (m.0 == name) || p m.1
 
-  -- later bodies have other names
+  -- later bodies have other labels
   none_named : (k name : ℕ) (bodies : List BodyState) → name < k
       → list_any (is_named name) (zip (own_names k bodies) bodies) ≡ false
   none_named k name [] below = refl
@@ -70,16 +70,16 @@ module _ (p : BodyState → Bool) where
       ap₂ (λ t rest. (t && p c) || rest) (ne_eqb k name (omega (arith, is)))
       (one_named (k + 1) i name bodies b (omega (arith, is)) at)
 
-  each_named : (k i name : ℕ) (bodies : List BodyState) (b : BodyState) → name ≡ k + i → slice_get bodies i ≡ Some b
+  each_labelled : (k i name : ℕ) (bodies : List BodyState) (b : BodyState) → name ≡ k + i → slice_get bodies i ≡ Some b
       → list_all (if_named name) (zip (own_names k bodies) bodies) ≡ p b
-  each_named k i name [] b is at = absurd (none-some b at)
-  each_named k zero name (c ∷ bodies) b is at =
+  each_labelled k i name [] b is at = absurd (none-some b at)
+  each_labelled k zero name (c ∷ bodies) b is at =
       ap₂ (λ t rest. (not t || p c) && rest) (eq-eqb k name (omega (arith, is)))
       (all_unnamed (k + 1) name bodies (omega (arith, is)))
       ∙ and_true (p c) ∙ ap p (same_Some c b at)
-  each_named k (suc i) name (c ∷ bodies) b is at =
+  each_labelled k (suc i) name (c ∷ bodies) b is at =
       ap₂ (λ t rest. (not t || p c) && rest) (ne_eqb k name (omega (arith, is)))
-      (each_named (k + 1) i name bodies b (omega (arith, is)) at)
+      (each_labelled (k + 1) i name bodies b (omega (arith, is)) at)
 
 -- a map over named bodies that changes each as `g` does is the map of `g`
 map_named : (f : ℕ × BodyState → BodyState) (g : BodyState → BodyState) (k : ℕ) (bodies : List BodyState)
@@ -111,7 +111,7 @@ rested_each bodies =
     asleep_if_still 0 bodies
     (λ name i b is at.
     ap (λ t. if b.awake && t then at_sleep b else b)
-    (each_named (λ b. b.timer == STILL_TICKS) 0 i name bodies b is at))
+    (each_labelled (λ b. b.timer == STILL_TICKS) 0 i name bodies b is at))
 
 -- to move all bodies and then to let them rest is one map
 moved_and_rested : (pull : V2) (bodies : List BodyState)
@@ -122,10 +122,10 @@ moved_and_rested pull [] = refl
 moved_and_rested pull (b ∷ bodies) = ap (λ bs. body_after_tick pull b ∷ bs) (moved_and_rested pull bodies)
 
 -- without contact points each group is one body
-own_groups : (s : Scene) (names : List ℕ) → map (group s []) names ≡ names
+own_groups : (s : Scene) (labels : List ℕ) → map (group s []) labels ≡ labels
 unfolding group
 own_groups s [] = refl
-own_groups s (name ∷ names) = ap (λ ns. name ∷ ns) (own_groups s names)
+own_groups s (name ∷ labels) = ap (λ ns. name ∷ ns) (own_groups s labels)
 
 module _ (s : Scene) (bodies : List BodyState) (count : length bodies ≡ length s.fixtures) where
   are_own : groups s [] ≡ own_names 0 bodies
@@ -150,11 +150,11 @@ module _ (s : Scene) (bodies : List BodyState) (count : length bodies ≡ length
 abbrev world_with : Scene → List Contact → List BodyState → List Touch → World
 world_with s before bodies points =
     let contacts = next_contacts before points in
-    let names = groups s points in
-    let awake = woken_bodies names bodies in
+    let labels = groups s points in
+    let awake = woken_bodies labels bodies in
     let after = solved_batch s awake (active_rows s awake points contacts) in
     record {
-      bodies = bodies_after_sleep STILL_TICKS names after.bodies;
+      bodies = bodies_after_sleep STILL_TICKS labels after.bodies;
       contacts = with_rows contacts after.rows;
     }
 
@@ -163,7 +163,7 @@ unfolding next_contacts with_rows
 no_contacts contacts rows = refl
 
 pub untouched_world : (s : Scene) (before : List Contact) (bodies : List BodyState) → length bodies ≡ length s.fixtures
-    → touching s bodies ≡ []
+    → touches_of_scene s bodies ≡ []
     → world_after s before bodies
     ≡ record { bodies = map (body_after_tick (gravity_per_tick s.gravity)) bodies; contacts = [] }
 untouched_world s before bodies paired none =

@@ -11,21 +11,21 @@ use Rattle.pf_islands.specs.Sleep.{woken_bodies}
 use Rattle.pf_islands.specs.Split.{Island, islands}
 use Rattle.pf_solver.specs.Velocities.{Batch}
 use Rattle.pf_step.specs.Commands.{after_commands}
-use Rattle.pf_step.specs.Step.{touching}
+use Rattle.pf_step.specs.Step.{touches_of_scene}
 use Rattle.pf_step.specs.World.{World}
 
--- the names of the groups of bodies as they stand
-abbrev pub names_of_bodies : Scene → List BodyState → List ℕ
-names_of_bodies s bodies = groups s (touching s bodies)
+-- the labels of the groups of bodies as they stand
+abbrev pub labels_of_bodies : Scene → List BodyState → List ℕ
+labels_of_bodies s bodies = groups s (touches_of_scene s bodies)
 
 -- their contacts, with what those of the last tick accumulated
 abbrev pub contacts_of_bodies : Scene → List Contact → List BodyState → List Contact
-contacts_of_bodies s contacts bodies = next_contacts contacts (touching s bodies)
+contacts_of_bodies s contacts bodies = next_contacts contacts (touches_of_scene s bodies)
 
 -- the bodies and contacts that are solved, in one list each
 abbrev pub batch_of_bodies : Scene → List Contact → List BodyState → Batch
 batch_of_bodies s contacts bodies =
-    let points = touching s bodies in
+    let points = touches_of_scene s bodies in
     let awake = woken_bodies (groups s points) bodies in
     record { bodies = awake; rows = active_rows s awake points (next_contacts contacts points) }
 
@@ -33,11 +33,11 @@ batch_of_bodies s contacts bodies =
 abbrev pub islands_of_bodies : Scene → List Contact → List BodyState → List Island
 islands_of_bodies s contacts bodies =
     let batch = batch_of_bodies s contacts bodies in
-    islands (names_of_bodies s bodies) batch.bodies batch.rows
+    islands (labels_of_bodies s bodies) batch.bodies batch.rows
 
--- the same of the bodies of a tick, after its commands: the names of the groups
-abbrev pub names_of_tick : Scene → World → List Payload → List ℕ
-names_of_tick s w payloads = names_of_bodies s (after_commands s.fixtures w.bodies payloads)
+-- the same of the bodies of a tick, after its commands: the labels of the groups
+abbrev pub labels_of_tick : Scene → World → List Payload → List ℕ
+labels_of_tick s w payloads = labels_of_bodies s (after_commands s.fixtures w.bodies payloads)
 
 -- the contacts
 abbrev pub contacts_of_tick : Scene → World → List Payload → List Contact

@@ -13,7 +13,7 @@ use Rattle.pf_solver.specs.Solve.{solved_batch}
 use Rattle.pf_step.specs.Activity.{batch_of_tick}
 use Rattle.pf_step.specs.Commands.{after_commands}
 use Rattle.pf_step.specs.Simulation.{sim}
-use Rattle.pf_step.specs.Step.{touching}
+use Rattle.pf_step.specs.Step.{touches_of_scene}
 use Rattle.pf_step.specs.World.{World}
 
 -- the bodies of the simulation after the commands of a tick
@@ -24,7 +24,8 @@ commanded_bodies s commands tick =
 -- no chain of contacts leads from the body of this number to an awake body
 abbrev pub IsUndisturbed : Scene → List BodyState → ℕ → Type 0
 IsUndisturbed s bodies i =
-    (j : ℕ) (b : BodyState) → slice_get bodies j ≡ Some b → Reaches s (touching s bodies) i j
+    (j : ℕ) (b : BodyState) → slice_get bodies j ≡ Some b
+    → Reaches s (touches_of_scene s bodies) i j
     → b.awake ≡ false
 
 -- the bodies just before the phase Sleep

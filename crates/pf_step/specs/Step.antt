@@ -8,7 +8,7 @@ use Rattle.pf_broad.specs.Pairs.{all_bounds, pairs}
 use Rattle.pf_manifold.specs.Touches.{Touch, touches}
 use Rattle.pf_commands.specs.declared.payload.Payload.{Payload}
 use Rattle.pf_cache.specs.Contact.{Contact, next_contacts}
-use Rattle.pf_cache.specs.Manifolds.{Manifolds, NarrowPhase, computed_count, manifolds_of, placed_shapes}
+use Rattle.pf_cache.specs.Manifolds.{Manifolds, Collisions, computed_count, manifolds_of, placed_shapes}
 use Rattle.pf_cache.specs.ContactRows.{with_rows}
 use Rattle.pf_islands.specs.Group.{groups}
 use Rattle.pf_islands.specs.Sleep.{bodies_after_sleep, woken_bodies}
@@ -19,12 +19,12 @@ use Rattle.pf_islands.specs.Rows.{active_rows}
 use Rattle.pf_step.specs.World.{World}
 
 -- the contact points of all pairs of bodies whose bounds overlap
-abbrev pub touching : Scene → List BodyState → List Touch
-touching s bodies = touches s.fixtures bodies (pairs (all_bounds s.fixtures bodies))
+abbrev pub touches_of_scene : Scene → List BodyState → List Touch
+touches_of_scene s bodies = touches s.fixtures bodies (pairs (all_bounds s.fixtures bodies))
 
 -- the result of the narrow phase for these bodies, with these points kept
-abbrev pub narrow_phase : List Fixture → List BodyState → Manifolds → NarrowPhase
-narrow_phase fixtures bodies kept =
+abbrev pub collisions_of_bodies : List Fixture → List BodyState → Manifolds → Collisions
+collisions_of_bodies fixtures bodies kept =
     let found = pairs (all_bounds fixtures bodies) in
     record {
       manifolds = manifolds_of fixtures bodies found;
@@ -32,21 +32,21 @@ narrow_phase fixtures bodies kept =
     }
 
 -- and what it finds in a tick
-abbrev pub narrow_phase_of_tick : Scene → World → List Payload → Manifolds → NarrowPhase
-narrow_phase_of_tick s w payloads kept =
-    narrow_phase s.fixtures (after_commands s.fixtures w.bodies payloads) kept
+abbrev pub collisions_of_tick : Scene → World → List Payload → Manifolds → Collisions
+collisions_of_tick s w payloads kept =
+    collisions_of_bodies s.fixtures (after_commands s.fixtures w.bodies payloads) kept
 
 -- Points, Activity, then Gravity, Pre-step, Rounds, Positions and Timers, and Sleep: the world
 -- after these phases, of bodies after the commands of a tick and of the contacts of the last tick
 abbrev pub world_after : Scene → List Contact → List BodyState → World
 world_after s before bodies =
-    let points = touching s bodies in
+    let points = touches_of_scene s bodies in
     let contacts = next_contacts before points in
-    let names = groups s points in
-    let awake = woken_bodies names bodies in
+    let labels = groups s points in
+    let awake = woken_bodies labels bodies in
     let after = solved_batch s awake (active_rows s awake points contacts) in
     record {
-      bodies = bodies_after_sleep STILL_TICKS names after.bodies;
+      bodies = bodies_after_sleep STILL_TICKS labels after.bodies;
       contacts = with_rows contacts after.rows;
     }
 

@@ -8,7 +8,7 @@ use Rattle.pf_islands.specs.Split.{Island}
 use Rattle.pf_step.specs.declared.crew.CrewError.{CrewError}
 use Rattle.pf_step.specs.declared.crew.StepError.{StepError}
 use Rattle.pf_step.specs.declared.crew.StepError.TheVariants.{Crew, OutOfMemory}
-use Rattle.pf_step.specs.Step.{narrow_phase_of_tick, step}
+use Rattle.pf_step.specs.Step.{collisions_of_tick, step}
 use Rattle.pf_step.specs.World.{World}
 
 -- what a step from a world with the payloads of a tick returns: the next world, with the tick
@@ -18,7 +18,7 @@ pub record IsStep {E : Type 0} (s : Scene) (w : World) (payloads : List Payload)
   pub value : IfOk result (λ next. next ≡ step s w payloads)
   pub bodies : IfOk result (λ next. length next.bodies ≡ length s.fixtures)
   pub counted : OnOk result
-      (new ≡ work_after_tick (narrow_phase_of_tick s w payloads old.manifolds) old)
+      (new ≡ work_after_tick (collisions_of_tick s w payloads old.manifolds) old)
   pub not_counted : OnErr result (new ≡ record old { manifolds = no_manifolds })
 
 -- why a step that calls a crew failed: it was out of memory before the call, or the call with these

@@ -1,5 +1,5 @@
 -- What steps of one simulation leave to the next one beside the world.
-use Rattle.pf_cache.specs.Manifolds.{Manifolds, NarrowPhase, no_manifolds}
+use Rattle.pf_cache.specs.Manifolds.{Manifolds, Collisions, no_manifolds}
 use Rattle.pf_cache.specs.Meter.{Meter, saturating_sum}
 
 -- how much work was done, and the contact points of the last tick
@@ -12,7 +12,7 @@ no_work =
     record { meter = record { ticks = 0; collides = 0 }; manifolds = no_manifolds }
 
 -- the work after a tick with this narrow phase
-abbrev pub work_after_tick : NarrowPhase → Work → Work
+abbrev pub work_after_tick : Collisions → Work → Work
 work_after_tick found w = record {
   meter = record {
     ticks = saturating_sum w.meter.ticks 1;

@@ -12,12 +12,12 @@ ghost use Rattle.pf_solver.specs.Bodies.{gravity_per_tick};
 ghost use Rattle.pf_step.specs.declared.crew.StepError.TheVariants.{OutOfMemory};
 ghost use Rattle.pf_step.specs.Activity.{batch_of_bodies, contacts_of_bodies, islands_of_bodies};
 ghost use Rattle.pf_step.specs.Stepping.{FailsBy};
-ghost use Rattle.pf_step.specs.Step.{touching, world_after};
+ghost use Rattle.pf_step.specs.Step.{touches_of_scene, world_after};
 
 use crate::crew::{Crew, StepError};
 use crate::work::Work;
 use crate::world::World;
-use pf_cache::{Contacts, NarrowPhase};
+use pf_cache::{Collisions, Contacts};
 use pf_islands::{Groups, Island, join_back, split};
 use pf_shapes::{BodyState, Scene};
 use pf_solver::solve_untouched;
@@ -50,10 +50,10 @@ fn prepare(
     contacts: &Contacts,
     bodies: Vec<BodyState>,
     spare: Spare,
-    found: &NarrowPhase,
+    found: &Collisions,
 ) -> Result<Tick, AllocError>
     requires bodies { length bodies.items ≡ length scene.now.fixtures }
-    requires points { kept_touches found.now.manifolds ≡ touching scene.now bodies.items }
+    requires points { kept_touches found.now.manifolds ≡ touches_of_scene scene.now bodies.items }
     requires touches { All (IsTouchOf (length bodies.items)) (kept_touches found.now.manifolds) }
     ensures bodies { IfOk result (λ tick.
         tick.bodies.items ≡ (batch_of_bodies scene.now contacts.now bodies.items).bodies) }
@@ -62,7 +62,7 @@ fn prepare(
     ensures islands { IfOk result
         (λ tick. tick.islands.items ≡ islands_of_bodies scene.now contacts.now bodies.items) }
     ensures fit { IfOk result (λ tick. All (IsIslandOf scene.now) tick.islands.items) }
-    ensures order { IfOk result (λ tick. AreTouches (touching scene.now bodies.items)) }
+    ensures order { IfOk result (λ tick. AreTouches (touches_of_scene scene.now bodies.items)) }
     ensures no_memory { bodies.items ≡ [] → IsOk result }
 {
     let mut bodies = bodies;
@@ -123,12 +123,12 @@ pub(crate) fn finish<C: Crew>(
     scene: &Scene,
     contacts: &Contacts,
     bodies: Vec<BodyState>,
-    found: &NarrowPhase,
+    found: &Collisions,
     work: &mut Work,
     crew: &mut C,
 ) -> Result<World, StepError>
     requires bodies { length bodies.items ≡ length scene.now.fixtures }
-    requires points { kept_touches found.now.manifolds ≡ touching scene.now bodies.items }
+    requires points { kept_touches found.now.manifolds ≡ touches_of_scene scene.now bodies.items }
     requires touches { All (IsTouchOf (length bodies.items)) (kept_touches found.now.manifolds) }
     ensures value { IfOk result (λ next. next ≡ world_after scene.now contacts.now bodies.items) }
     ensures called { let islands = islands_of_bodies scene.now contacts.now bodies.items in

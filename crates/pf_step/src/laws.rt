@@ -21,10 +21,10 @@ ghost use Rattle.pf_solver.specs.Alone.{seen_from};
 ghost use Rattle.pf_islands.specs.Island.{states_of, rows_among, members};
 ghost use Rattle.pf_solver.specs.Solve.{solved_batch};
 ghost use Rattle.pf_step.specs.Commands.{after_commands, apply};
-ghost use Rattle.pf_step.specs.Activity.{batch_of_tick, names_of_tick};
+ghost use Rattle.pf_step.specs.Activity.{batch_of_tick, labels_of_tick};
 ghost use Rattle.pf_step.specs.Laws.{IsUndisturbed, IsWithinFriction, bodies_before_sleep, commanded_bodies};
 ghost use Rattle.pf_step.specs.Simulation.{sim};
-ghost use Rattle.pf_step.specs.Step.{step, touching};
+ghost use Rattle.pf_step.specs.Step.{step, touches_of_scene};
 ghost use Rattle.pf_step.specs.World.{World};
 
 use pf_solver::STILL_TICKS;
@@ -60,7 +60,7 @@ pub fn contacts_of_sleepers_keep_their_impulses()
         (t : Touch) → IsScene scene → is_static_at scene i ≡ false
         → let bodies = commanded_bodies scene commands tick in
         slice_get bodies i ≡ Some body → IsUndisturbed scene bodies i
-        → slice_get (touching scene bodies) place ≡ Some t → (t.a ≡ i) ⊎ (t.b ≡ i)
+        → slice_get (touches_of_scene scene bodies) place ≡ Some t → (t.a ≡ i) ⊎ (t.b ≡ i)
         → impulses_at (rank (key_of t)) (sim scene commands (tick + 1)).contacts
         ≡ impulses_at (rank (key_of t)) (sim scene commands tick).contacts }
 {}
@@ -68,31 +68,34 @@ pub fn contacts_of_sleepers_keep_their_impulses()
 /// In each tick the bodies of a group, with the contacts that touch them, are solved alone as they
 /// are in the one list of all bodies and contacts, bit for bit.
 pub fn groups_are_solved_alone()
-    ensures { (scene : Scene) (w : World) (payloads : List Payload) (name : ℕ)
+    ensures { (scene : Scene) (w : World) (payloads : List Payload) (label : ℕ)
         → length w.bodies ≡ length scene.fixtures
         → let batch = batch_of_tick scene w payloads in
-        let numbers = members (names_of_tick scene w payloads) name in
+        let numbers = members (labels_of_tick scene w payloads) label in
         solved_batch scene (states_of numbers batch.bodies) (rows_among numbers batch.rows)
         ≡ seen_from numbers (solved_batch scene batch.bodies batch.rows) }
 {}
 
 /// After a tick the bodies of a group that is simulated are as the group alone has them: solved
-/// with its contacts alone, and asleep where each of its own bodies has a full timer. The contacts
+/// with only its contacts, and asleep where each of its own bodies has a full timer. The contacts
 /// that touch them have accumulated what they accumulate there.
 pub fn groups_go_through_ticks_alone()
-    ensures bodies { (scene : Scene) (w : World) (payloads : List Payload) (name : ℕ)
+    ensures bodies { (scene : Scene) (w : World) (payloads : List Payload) (label : ℕ)
         → length w.bodies ≡ length scene.fixtures
-        → is_active (names_of_tick scene w payloads)
-        (after_commands scene.fixtures w.bodies payloads) name ≡ true
+        → is_active (labels_of_tick scene w payloads)
+        (after_commands scene.fixtures w.bodies payloads) label ≡ true
         → let batch = batch_of_tick scene w payloads in
-        let numbers = members (names_of_tick scene w payloads) name in
-        let alone = solved_batch scene (states_of numbers batch.bodies) (rows_among numbers batch.rows) in
-        states_of numbers (step scene w payloads).bodies ≡ island_after_sleep STILL_TICKS alone.bodies }
-    ensures impulses { (scene : Scene) (w : World) (payloads : List Payload) (name : ℕ)
+        let numbers = members (labels_of_tick scene w payloads) label in
+        let alone = solved_batch scene (states_of numbers batch.bodies)
+        (rows_among numbers batch.rows) in
+        states_of numbers (step scene w payloads).bodies
+        ≡ island_after_sleep STILL_TICKS alone.bodies }
+    ensures impulses { (scene : Scene) (w : World) (payloads : List Payload) (label : ℕ)
         → IsScene scene → length w.bodies ≡ length scene.fixtures
         → let batch = batch_of_tick scene w payloads in
-        let numbers = members (names_of_tick scene w payloads) name in
-        let alone = solved_batch scene (states_of numbers batch.bodies) (rows_among numbers batch.rows) in
+        let numbers = members (labels_of_tick scene w payloads) label in
+        let alone = solved_batch scene (states_of numbers batch.bodies)
+        (rows_among numbers batch.rows) in
         All (λ r. impulses_at (rank (key_of r.entry.touch)) (step scene w payloads).contacts
         ≡ r.entry.impulses) alone.rows }
 {}
@@ -108,12 +111,12 @@ pub fn static_bodies_never_move()
 /// The contacts of a world are in the order of their keys, each key once. At each tick but the
 /// first their keys are those of the contact points of the bodies after the commands of the tick
 /// before it, and so of two bodies of the scene, the lesser first.
-pub fn contacts_are_those_of_touching_keys()
+pub fn contacts_have_the_keys_of_touches()
     ensures order { (scene : Scene) (commands : CommandMap) (tick : ℕ) → IsScene scene
         → AreContacts (sim scene commands tick).contacts }
     ensures keys { (scene : Scene) (commands : CommandMap) (tick : ℕ)
         → map (λ c. c.key) (sim scene commands (tick + 1)).contacts
-        ≡ map key_of (touching scene (commanded_bodies scene commands tick)) }
+        ≡ map key_of (touches_of_scene scene (commanded_bodies scene commands tick)) }
     ensures bodies { (scene : Scene) (commands : CommandMap) (tick : ℕ) → IsScene scene
         → All (λ c. IsPairOf (length scene.fixtures) (record { a = c.key.a; b = c.key.b }))
         (sim scene commands (tick + 1)).contacts }
@@ -126,7 +129,7 @@ pub fn impulses_are_within_friction()
         → All (λ c. IsWithinFriction scene c.key c.impulses) (sim scene commands tick).contacts }
 {}
 
-/// A command changes its body alone, and no static body.
+/// A command changes only its body, and no static body.
 pub fn commands_change_one_body()
     ensures unmoved { (scene : Scene) (w : World) (p : Payload) (i : ℕ) (f : Fixture)
         → slice_get scene.fixtures i ≡ Some f → is_static f ≡ true

@@ -8,24 +8,24 @@ ghost use Rattle.pf_step.specs.declared.crew.StepError.TheVariants.{OutOfMemory}
 ghost use Rattle.pf_step.specs.Activity.{islands_of_tick};
 ghost use Rattle.pf_step.specs.Stepping.{FailsBy, IsStep};
 ghost use Rattle.pf_step.specs.Commands.{after_commands};
-ghost use Rattle.pf_step.specs.Step.{narrow_phase, touching};
+ghost use Rattle.pf_step.specs.Step.{collisions_of_bodies, touches_of_scene};
 
 use crate::command::apply_all;
 use crate::crew::{Crew, StepError};
 use crate::ending::finish;
 use crate::work::Work;
 use crate::world::{World, copy_into};
-use pf_cache::{Manifolds, NarrowPhase};
+use pf_cache::{Collisions, Manifolds};
 use pf_commands::Payload;
 use pf_manifold::{Collider, OneThread, SeveralThreads};
 use pf_shapes::{BodyState, Scene};
 use std::alloc::{AllocError, Global};
 use std::thread::Threads;
 
-/// The phase Commands: the bodies after the commands of a tick, in the memory of `room`.
+/// The phase Commands: the bodies after the commands of a tick, in the memory of `spare`.
 #[tactic(auto, using(crate::proofs::Commanding::commands_length))]
 fn bodies_after_commands(
-    room: Vec<BodyState>,
+    spare: Vec<BodyState>,
     scene: &Scene,
     world: &World,
     payloads: &[Payload],
@@ -35,26 +35,26 @@ fn bodies_after_commands(
     ensures count { IfOk result (λ bodies. length bodies.items ≡ length world.now.bodies) }
     ensures no_memory { world.now.bodies ≡ [] → IsOk result }
 {
-    let mut bodies = copy_into(room, world.bodies())?;
+    let mut bodies = copy_into(spare, world.bodies())?;
     apply_all(scene.fixtures(), &mut bodies, payloads);
     Ok(bodies)
 }
 
 /// The contact points of the bodies of a scene as they stand; kept ones are reused.
 #[tactic(auto, using(pf_cache::proofs::Unmoved::kept_points, pf_manifold::proofs::KeyOrder::touches_of_bodies))]
-fn narrow_phase<P: Collider>(
+fn find_collisions<P: Collider>(
     collider: &P,
     alloc: Global,
     scene: &Scene,
     bodies: &[BodyState],
     kept: Manifolds,
-) -> Result<NarrowPhase, AllocError>
+) -> Result<Collisions, AllocError>
     requires can { P.can_collide collider.now }
     requires bodies { length bodies.now ≡ length scene.now.fixtures }
     ensures value { IfOk result
-        (λ found. found ≡ narrow_phase scene.now.fixtures bodies.now kept) }
+        (λ found. found ≡ collisions_of_bodies scene.now.fixtures bodies.now kept) }
     ensures touches { IfOk result
-        (λ found. kept_touches found.manifolds ≡ touching scene.now bodies.now) }
+        (λ found. kept_touches found.manifolds ≡ touches_of_scene scene.now bodies.now) }
     ensures bodies { IfOk result
         (λ found. All (IsTouchOf (length bodies.now)) (kept_touches found.manifolds)) }
     ensures no_memory { bodies.now ≡ [] → IsOk result }
@@ -65,9 +65,9 @@ fn narrow_phase<P: Collider>(
 /// The world one tick of 1/64 s later, with the payloads of the tick's commands in order of player,
 /// then number. The world has one state for each body of the scene. The collider computes contact
 /// points. The crew is called once, with the islands of the tick, or not at all where nothing
-/// touches and the crew allows that. Counts the tick and the pairs that cannot reuse kept points,
-/// and keeps the points; after an error none are kept, and nothing is counted. Takes no memory of
-/// its own where there are no bodies.
+/// touches and the crew allows that. Counts in `work` the tick and the pairs that cannot reuse kept
+/// points, and leaves the points there; after an error none are kept, and nothing is counted. Takes
+/// no memory of its own where there are no bodies.
 pub fn step_by<P: Collider, C: Crew>(
     collider: &P,
     alloc: Global,
@@ -87,9 +87,9 @@ pub fn step_by<P: Collider, C: Crew>(
     ensures no_memory { world.now.bodies ≡ [] → result ≢ Err OutOfMemory }
 {
     let kept = work.take_manifolds(alloc);
-    let room = work.take_bodies(alloc);
-    let bodies = bodies_after_commands(room, scene, world, payloads)?;
-    let found = narrow_phase(collider, alloc, scene, &bodies, kept)?;
+    let spare = work.take_bodies(alloc);
+    let bodies = bodies_after_commands(spare, scene, world, payloads)?;
+    let found = find_collisions(collider, alloc, scene, &bodies, kept)?;
     match finish(alloc, scene, world.contacts(), bodies, &found, work, crew) {
         Ok(next) => {
             work.end_tick(found);
@@ -100,7 +100,7 @@ pub fn step_by<P: Collider, C: Crew>(
 }
 
 /// [`step_by`] on one thread, without a runtime. Where nothing touches, no islands are made.
-pub fn step_alone(
+pub fn step_on_one_thread(
     alloc: Global,
     scene: &Scene,
     world: &World,

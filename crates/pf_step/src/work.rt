@@ -1,6 +1,6 @@
 //! What steps of one simulation share.
 
-use pf_cache::{Contacts, Manifolds, Meter, NarrowPhase};
+use pf_cache::{Collisions, Contacts, Manifolds, Meter};
 use pf_islands::Island;
 use pf_shapes::BodyState;
 use std::alloc::Global;
@@ -111,7 +111,7 @@ impl Work {
 
     /// Counts a tick and its pairs that could not reuse kept points, and keeps the contact points
     /// of its pairs.
-    pub(crate) fn end_tick(&mut self, found: NarrowPhase)
+    pub(crate) fn end_tick(&mut self, found: Collisions)
         ensures { self.new ≡ work_after_tick found self.old }
     {
         self.meter.count_tick();

@@ -35,16 +35,16 @@ pub(crate) fn copy_of(alloc: Global, bodies: &[BodyState]) -> Result<Vec<BodySta
     Vec::from_slice(alloc, bodies)
 }
 
-/// A copy of bodies in the memory of `room`, whose bodies are gone. Takes more memory only where
+/// A copy of bodies in the memory of `spare`, whose bodies are gone. Takes more memory only where
 /// that is too little.
 pub(crate) fn copy_into(
-    room: Vec<BodyState>,
+    spare: Vec<BodyState>,
     bodies: &[BodyState],
 ) -> Result<Vec<BodyState>, AllocError>
     ensures items { IfOk result (λ copy. copy.items ≡ bodies.now) }
     ensures no_memory { bodies.now ≡ [] → IsOk result }
 {
-    let mut copy = room;
+    let mut copy = spare;
     copy.clear();
     copy.extend_from_slice(bodies)?;
     Ok(copy)

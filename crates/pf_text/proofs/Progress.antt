@@ -10,9 +10,9 @@ use Rattle.pf_text.specs.declared.fault.LineFault.TheVariants.{BadLine}
 use Rattle.pf_text.specs.declared.lines.Taken.{Taken}
 use Rattle.pf_text.specs.declared.lines.Taken.TheVariants.{Line, Last, End, TooLong}
 use Rattle.pf_text.specs.declared.lines.ReadFailed.{ReadFailed}
-use Rattle.pf_text.specs.declared.driver.TakeRefusal.{TakeRefusal}
-use Rattle.pf_text.specs.declared.driver.TakeRefusal.TheVariants as refusals
-use Rattle.pf_text.specs.declared.driver.DriveFault.TheVariants as faults
+use Rattle.pf_text.specs.declared.driver.TakeError.{TakeError}
+use Rattle.pf_text.specs.declared.driver.TakeError.TheVariants as take_errors
+use Rattle.pf_text.specs.declared.driver.DriveError.TheVariants as errors
 use Rattle.pf_text.specs.Lines.{AppendsPrefix, AreLines, Takes, terminated_line, is_line, lines_of}
 use Rattle.pf_text.specs.Streams.{Transfer}
 use Rattle.pf_text.proofs.Taking.{appends_known}
@@ -123,7 +123,7 @@ module _ {S F : Type 0} {rules : Rules S F} {start : S} {input before : List ℕ
 
   -- where the reader failed
   pub Drives-read : (failed : ReadFailed) (line : List ℕ) (left' : Option (List ℕ)) → Takes p.rest line left' (Err failed)
-      → Drives rules start (transfer input before left' after) (Err faults.Read)
+      → Drives rules start (transfer input before left' after) (Err errors.Read)
   Drives-read failed line left' t = record {
     lines = p.taken;
     text = p.written;
@@ -183,7 +183,7 @@ module _ {S F : Type 0} {rules : Rules S F} {start : S} {input before : List ℕ
   -- where a line is invalid
   Drives-fault : (taken : Taken) (line : List ℕ) (left' : Option (List ℕ)) (fault : F) → Takes p.rest line left' (Ok taken)
       → (taken ≡ End → ⊥) → step rules state line ≡ Err fault
-      → Drives rules start (transfer input before left' after) (Err (faults.Line number fault))
+      → Drives rules start (transfer input before left' after) (Err (errors.Line number fault))
   Drives-fault taken line left' fault t ne said =
       let found = output_at taken line left' t ne in
       let output = rw said at found.1 in
@@ -198,12 +198,12 @@ module _ {S F : Type 0} {rules : Rules S F} {start : S} {input before : List ℕ
       }
 
   -- where the machine did not take a line
-  pub Drives-refused : (taken : Taken) (line : List ℕ) (left' : Option (List ℕ)) (refusal : TakeRefusal F)
+  pub Drives-refused : (taken : Taken) (line : List ℕ) (left' : Option (List ℕ)) (refusal : TakeError F)
       → Takes p.rest line left' (Ok taken) → (taken ≡ End → ⊥) → Produces (Err refusal) (step rules state line)
-      → (refusal ≡ refusals.Memory → line_allocates rules state line ≡ true)
+      → (refusal ≡ take_errors.Memory → line_allocates rules state line ≡ true)
       → Drives rules start (transfer input before left' after) (Err (fault_at number refusal))
-  Drives-refused taken line left' refusals.Memory t ne said some = Drives-memory taken line left' t ne (some refl) said
-  Drives-refused taken line left' (refusals.Fault fault) t ne said some = Drives-fault taken line left' fault t ne said
+  Drives-refused taken line left' take_errors.Memory t ne said some = Drives-memory taken line left' t ne (some refl) said
+  Drives-refused taken line left' (take_errors.Fault fault) t ne said some = Drives-fault taken line left' fault t ne said
 
   -- what is there after a text was written behind what was
   after_text : (after' : Option (List ℕ)) (text : List ℕ) → Appends after after' text
@@ -216,7 +216,7 @@ module _ {S F : Type 0} {rules : Rules S F} {start : S} {input before : List ℕ
   pub Drives-write : (taken : Taken) (line : List ℕ) (left' after' : Option (List ℕ)) (text : List ℕ) (next : S)
       → Takes p.rest line left' (Ok taken) → (taken ≡ End → ⊥) → step rules state line ≡ Ok (text, next)
       → AppendsPrefix after after' text → 0 < length text
-      → Drives rules start (transfer input before left' after') (Err faults.Write)
+      → Drives rules start (transfer input before left' after') (Err errors.Write)
   Drives-write taken line left' after' text next t ne said parts some =
       let found = output_at taken line left' t ne in
       let output = rw said at found.1 in
@@ -288,8 +288,8 @@ module _ {S F : Type 0} {rules : Rules S F} {start : S} {input before : List ℕ
   }
 
 -- where the machine did not take a line, no failure was counted
-pub Counts-refused : {F : Type 0} (number before after : ℕ) (refusal : TakeRefusal F) → after ≡ before
+pub Counts-refused : {F : Type 0} (number before after : ℕ) (refusal : TakeError F) → after ≡ before
     → CountsReads {T = ℕ} {F = F} before (Err (fault_at number refusal)) after
     × CountsWrites {T = ℕ} {F = F} before (Err (fault_at number refusal)) after
-Counts-refused number before after refusals.Memory counted = (counted, counted)
-Counts-refused number before after (refusals.Fault fault) counted = (counted, counted)
+Counts-refused number before after take_errors.Memory counted = (counted, counted)
+Counts-refused number before after (take_errors.Fault fault) counted = (counted, counted)

@@ -4,10 +4,10 @@ use Rattle.std.specs.List.{list_all}
 use Rattle.std.specs.Global.{Global}
 use Rattle.pf_text.specs.declared.fault.LineFault.{LineFault}
 use Rattle.pf_text.specs.declared.fault.LineFault.TheVariants.{BadLine}
-use Rattle.pf_text.specs.declared.driver.TakeRefusal.{TakeRefusal}
-use Rattle.pf_text.specs.declared.driver.TakeRefusal.TheVariants as refusals
-use Rattle.pf_text.specs.declared.driver.DriveFault.{DriveFault}
-use Rattle.pf_text.specs.declared.driver.DriveFault.TheVariants as faults
+use Rattle.pf_text.specs.declared.driver.TakeError.{TakeError}
+use Rattle.pf_text.specs.declared.driver.TakeError.TheVariants as take_errors
+use Rattle.pf_text.specs.declared.driver.DriveError.{DriveError}
+use Rattle.pf_text.specs.declared.driver.DriveError.TheVariants as errors
 use Rattle.pf_text.specs.declared.lines.Taken.{Taken}
 use Rattle.pf_text.specs.declared.lines.Taken.TheVariants.{End}
 use Rattle.pf_text.specs.declared.lines.TheConstants.{MAX_LINE}
@@ -172,31 +172,31 @@ module _ {S F : Type 0} (rules : Rules S F) (start : S) (t : Transfer) where
     pub output_is : text ++ part ++ rest ≡ (text_output rules start t.input).text
 
   -- how a run ended, and what it read and wrote
-  abbrev pub Drives : Result (ℕ × S) (DriveFault F) → Type 0
+  abbrev pub Drives : Result (ℕ × S) (DriveError F) → Type 0
   Drives (Ok ended) = Completes ended
-  Drives (Err (faults.Line number fault)) = StopsAtLine number fault
-  Drives (Err faults.Memory) = StopsForMemory
-  Drives (Err faults.Read) = StopsForRead
-  Drives (Err faults.Write) = StopsForWrite
+  Drives (Err (errors.Line number fault)) = StopsAtLine number fault
+  Drives (Err errors.Memory) = StopsForMemory
+  Drives (Err errors.Read) = StopsForRead
+  Drives (Err errors.Write) = StopsForWrite
 
 -- a run that ends because its reader failed counts one failure of it, and any other run none
-abbrev pub CountsReads : {T F : Type 0} → ℕ → Result T (DriveFault F) → ℕ → Type 0
-CountsReads before (Err faults.Read) after = after ≡ before + 1
+abbrev pub CountsReads : {T F : Type 0} → ℕ → Result T (DriveError F) → ℕ → Type 0
+CountsReads before (Err errors.Read) after = after ≡ before + 1
 CountsReads before result after = after ≡ before
 
 -- the same of its writer
-abbrev pub CountsWrites : {T F : Type 0} → ℕ → Result T (DriveFault F) → ℕ → Type 0
-CountsWrites before (Err faults.Write) after = after ≡ before + 1
+abbrev pub CountsWrites : {T F : Type 0} → ℕ → Result T (DriveError F) → ℕ → Type 0
+CountsWrites before (Err errors.Write) after = after ≡ before + 1
 CountsWrites before result after = after ≡ before
 
 -- the error of a run whose machine took no line
-abbrev pub fault_at : {F : Type 0} → ℕ → TakeRefusal F → DriveFault F
-fault_at number refusals.Memory = faults.Memory
-fault_at number (refusals.Fault fault) = faults.Line number fault
+abbrev pub fault_at : {F : Type 0} → ℕ → TakeError F → DriveError F
+fault_at number take_errors.Memory = errors.Memory
+fault_at number (take_errors.Fault fault) = errors.Line number fault
 
 -- a machine returns the transition of its rules; it runs out of memory only where that is no error
-abbrev pub Produces : {S F : Type 0} → Result (String Global × S) (TakeRefusal F)
+abbrev pub Produces : {S F : Type 0} → Result (String Global × S) (TakeError F)
     → Result (List ℕ × S) F → Type 0
 Produces (Ok reply) transition = transition ≡ Ok (string_bytes reply.0, reply.1)
-Produces (Err refusals.Memory) transition = IsOk transition
-Produces (Err (refusals.Fault fault)) transition = transition ≡ Err fault
+Produces (Err take_errors.Memory) transition = IsOk transition
+Produces (Err (take_errors.Fault fault)) transition = transition ≡ Err fault

@@ -5,7 +5,7 @@ use Rattle.std.specs.Io.KnownBytes.{Appends, Consumes}
 use Rattle.pf_text.specs.declared.lines.Taken.{Taken}
 use Rattle.pf_text.specs.declared.lines.Taken.TheVariants.{Line, Last, End, TooLong}
 use Rattle.pf_text.specs.declared.lines.ReadFailed.{ReadFailed}
-use Rattle.pf_text.specs.declared.lines.TheConstants.{MAX_LINE, LINE_ROOM}
+use Rattle.pf_text.specs.declared.lines.TheConstants.{MAX_LINE, LINE_CAPACITY}
 
 -- the lines of a text, without their LFs
 unfoldable pub lines_of : List ℕ → List (List ℕ)
@@ -45,7 +45,7 @@ Takes bytes line left (Ok Last) =
     × (length line ≤ MAX_LINE)
 Takes bytes line left (Ok End) = (bytes ≡ []) × (left ≡ Some [])
 Takes bytes line left (Ok TooLong) =
-    TakesPrefix bytes line left × (is_line line ≡ true) × (length line ≡ LINE_ROOM)
+    TakesPrefix bytes line left × (is_line line ≡ true) × (length line ≡ LINE_CAPACITY)
 Takes bytes line left (Err failed) =
     (part : List ℕ) × TakesPrefix bytes part left × (is_line part ≡ true)
 

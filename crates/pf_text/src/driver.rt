@@ -1,8 +1,8 @@
 //! A text processed line by line.
 
 ghost use Rattle.std.specs.Prelude.{◌≡◌, ◌+◌, ◌^◌, ◌<◌, ◌≤◌, length, map, true, Err, OnOk, OnErr};
-ghost use Rattle.pf_text.specs.declared.driver.DriveFault.TheVariants.{Read, Write};
-ghost use Rattle.pf_text.specs.declared.driver.TakeRefusal.TheVariants as refusals;
+ghost use Rattle.pf_text.specs.declared.driver.DriveError.TheVariants.{Read, Write};
+ghost use Rattle.pf_text.specs.declared.driver.TakeError.TheVariants as take_errors;
 ghost use Rattle.std.specs.Io.KnownBytes.{Appends};
 ghost use Rattle.pf_text.specs.Fields.{parts_of};
 ghost use Rattle.pf_text.specs.Lines.{AppendsPrefix, Counts};
@@ -23,26 +23,26 @@ const MAX_FIELDS: usize = 2048;
 
 /// Why a machine took no line.
 #[derive(Clone, Copy, Debug, PartialEq, Eq)]
-pub enum TakeRefusal<F> {
+pub enum TakeError<F> {
     /// No memory is left.
     Memory,
     /// The line is invalid.
     Fault(F),
 }
 
-impl<F> From<AllocError> for TakeRefusal<F> {
-    ghost from_gives = { λ _ error. error ≡ refusals.Memory };
+impl<F> From<AllocError> for TakeError<F> {
+    ghost from_gives = { λ _ error. error ≡ take_errors.Memory };
 
-    fn from(_error: AllocError) -> TakeRefusal<F> {
-        TakeRefusal::Memory
+    fn from(_error: AllocError) -> TakeError<F> {
+        TakeError::Memory
     }
 }
 
-impl<F, T: Drop> From<AllocFailed<T>> for TakeRefusal<F> {
-    ghost from_gives = { λ _ error. error ≡ refusals.Memory };
+impl<F, T: Drop> From<AllocFailed<T>> for TakeError<F> {
+    ghost from_gives = { λ _ error. error ≡ take_errors.Memory };
 
-    fn from(_error: AllocFailed<T>) -> TakeRefusal<F> {
-        TakeRefusal::Memory
+    fn from(_error: AllocFailed<T>) -> TakeError<F> {
+        TakeError::Memory
     }
 }
 
@@ -65,18 +65,18 @@ pub trait Machine<L>: Drop {
         alloc: Global,
         lent: &mut L,
         fields: &[&[u8]],
-    ) -> Result<(String, Self), TakeRefusal<Self::Fault>>
+    ) -> Result<(String, Self), TakeError<Self::Fault>>
     where
         Self: Sized,
         ensures reply { Produces result
             (rules.transition self (map (λ field. field.now) fields.now)) }
-        ensures memory { result ≡ Err refusals.Memory
+        ensures memory { result ≡ Err take_errors.Memory
             → rules.allocates self (map (λ field. field.now) fields.now) ≡ true };
 }
 
 /// Why a text was not processed to its end.
 #[derive(Clone, Copy, Debug, PartialEq, Eq)]
-pub enum DriveFault<F> {
+pub enum DriveError<F> {
     /// The line of this number, from 1, is invalid.
     Line(u64, F),
     /// No memory is left, or no number for a line.
@@ -123,28 +123,28 @@ fn take_fields<'a, L, M: Machine<L>>(
     machine: M,
     line: &'a [u8],
     fields: &mut [&'a [u8]],
-) -> Result<(String, M), TakeRefusal<M::Fault>>
+) -> Result<(String, M), TakeError<M::Fault>>
     requires { length (parts_of line.now) ≤ length fields.old }
     ensures reply { Produces result (M.rules.transition machine (parts_of line.now)) }
-    ensures memory { result ≡ Err refusals.Memory
+    ensures memory { result ≡ Err take_errors.Memory
         → M.rules.allocates machine (parts_of line.now) ≡ true }
 {
     let count = split_into(line, fields);
     machine.take(alloc, lent, &fields[..count])
 }
 
-/// The same for any line. It stands alone, so that lines of few fields do not pay for its 32 KiB of
-/// stack.
+/// The same for any line. It is a function of its own, so that lines of few fields do not pay for
+/// its 32 KiB of stack.
 #[inline(never)]
 fn take_many_fields<L, M: Machine<L>>(
     alloc: Global,
     lent: &mut L,
     machine: M,
     line: &[u8],
-) -> Result<(String, M), TakeRefusal<M::Fault>>
+) -> Result<(String, M), TakeError<M::Fault>>
     requires { length (parts_of line.now) ≤ MAX_FIELDS }
     ensures reply { Produces result (M.rules.transition machine (parts_of line.now)) }
-    ensures memory { result ≡ Err refusals.Memory
+    ensures memory { result ≡ Err take_errors.Memory
         → M.rules.allocates machine (parts_of line.now) ≡ true }
 {
     take_fields(alloc, lent, machine, line, &mut [line; MAX_FIELDS])
@@ -158,13 +158,13 @@ fn output<L, M: Machine<L>>(
     lent: &mut L,
     machine: M,
     line: &[u8],
-) -> Result<(String, M), TakeRefusal<M::Fault>>
+) -> Result<(String, M), TakeError<M::Fault>>
     ensures reply { Produces result (step M.rules machine line.now) }
-    ensures memory { result ≡ Err refusals.Memory
+    ensures memory { result ≡ Err take_errors.Memory
         → line_allocates M.rules machine line.now ≡ true }
 {
     if !is_plain(line) {
-        return Err(TakeRefusal::Fault(M::line_error(LineFault::BadLine)));
+        return Err(TakeError::Fault(M::line_error(LineFault::BadLine)));
     }
     if is_skipped(line) {
         return Ok((String::new(alloc), machine));
@@ -174,33 +174,33 @@ fn output<L, M: Machine<L>>(
             take_fields(alloc, lent, machine, line, &mut [line; FEW_FIELDS])
         }
         Ok(_) => take_many_fields(alloc, lent, machine, line),
-        Err(fault) => Err(TakeRefusal::Fault(M::line_error(fault))),
+        Err(fault) => Err(TakeError::Fault(M::line_error(fault))),
     }
 }
 
-impl<F> From<ReadFailed> for DriveFault<F> {
+impl<F> From<ReadFailed> for DriveError<F> {
     ghost from_gives = { λ _ fault. fault ≡ Read };
 
-    fn from(_failed: ReadFailed) -> DriveFault<F> {
-        DriveFault::Read
+    fn from(_failed: ReadFailed) -> DriveError<F> {
+        DriveError::Read
     }
 }
 
-impl<F> From<WriteFailed> for DriveFault<F> {
+impl<F> From<WriteFailed> for DriveError<F> {
     ghost from_gives = { λ _ fault. fault ≡ Write };
 
-    fn from(_failed: WriteFailed) -> DriveFault<F> {
-        DriveFault::Write
+    fn from(_failed: WriteFailed) -> DriveError<F> {
+        DriveError::Write
     }
 }
 
 /// The error of a run whose machine did not take the line of this number.
-fn fault_at<F>(number: u64, refusal: TakeRefusal<F>) -> DriveFault<F>
+fn fault_at<F>(number: u64, refusal: TakeError<F>) -> DriveError<F>
     ensures { result ≡ fault_at number refusal }
 {
     match refusal {
-        TakeRefusal::Memory => DriveFault::Memory,
-        TakeRefusal::Fault(fault) => DriveFault::Line(number, fault),
+        TakeError::Memory => DriveError::Memory,
+        TakeError::Fault(fault) => DriveError::Line(number, fault),
     }
 }
 
@@ -232,7 +232,7 @@ pub fn drive<L, M: Machine<L>, R: Source, W: Sink>(
     reader: &mut R,
     writer: &mut W,
     start: M,
-) -> Result<(u64, M), DriveFault<M::Fault>>
+) -> Result<(u64, M), DriveError<M::Fault>>
     requires reads { R.failures reader.old + 1 < 2 ^ 64 }
     requires writes { W.failures writer.old + 1 < 2 ^ 64 }
     ensures driven { IfExposed (record {
@@ -263,5 +263,5 @@ pub fn drive<L, M: Machine<L>, R: Source, W: Sink>(
             return Ok((number + 1, machine));
         }
     }
-    Err(DriveFault::Memory)
+    Err(DriveError::Memory)
 }

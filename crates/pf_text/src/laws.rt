@@ -12,7 +12,7 @@ ghost use Rattle.pf_text.specs.Lines.{lines_of, is_line, AreLines};
 ghost use Rattle.pf_text.specs.Numbers.{whole_of};
 
 use crate::driver::Machine;
-use crate::lines::{LINE_ROOM, MAX_LINE};
+use crate::lines::{LINE_CAPACITY, MAX_LINE};
 
 /// The output for lines stands, whatever follows them; that for what follows begins where they
 /// ended.
@@ -24,7 +24,7 @@ pub fn outputs_follow_one_another<L, M: Machine<L>>()
 {}
 
 /// A line that is skipped changes the numbers of the lines behind it, and nothing else.
-pub fn skipped_lines_change_numbers_alone<L, M: Machine<L>>()
+pub fn skipped_lines_change_only_numbers<L, M: Machine<L>>()
     ensures { (number : ℕ) (state : M) (line : List ℕ) (lines : List (List ℕ))
         → is_plain line ≡ true → is_skipped line ≡ true
         → lines_output M.rules number state (line ∷ lines)
@@ -57,5 +57,5 @@ pub fn numbers_have_one_encoding()
 /// The longest line that is valid, and the bytes that are taken of one that is too long.
 pub fn named_limits()
     ensures line { MAX_LINE ≡ 4096 }
-    ensures room { LINE_ROOM ≡ 4097 }
+    ensures room { LINE_CAPACITY ≡ 4097 }
 {}

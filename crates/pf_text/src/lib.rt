@@ -12,11 +12,11 @@ mod numbers;
 mod streams;
 mod words;
 
-pub use driver::{DriveFault, Machine, TakeRefusal, drive};
+pub use driver::{DriveError, Machine, TakeError, drive};
 pub use fault::{LineError, LineFault};
 pub use fields::fields_of;
 pub use lines::{
-    LINE_ROOM, LineBuffer, MAX_LINE, ReadFailed, Sink, Source, Taken, WriteFailed, take_line,
+    LINE_CAPACITY, LineBuffer, MAX_LINE, ReadFailed, Sink, Source, Taken, WriteFailed, take_line,
 };
 pub use memory::{Bytes, Collected};
 pub use numbers::{ParsedNumber, integer, number, whole};

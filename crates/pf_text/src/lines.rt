@@ -12,10 +12,10 @@ use thiserror::Error;
 pub const MAX_LINE: usize = 4096;
 
 /// Room for a line, and one byte more, by which a line is found too long.
-pub const LINE_ROOM: usize = MAX_LINE + 1;
+pub const LINE_CAPACITY: usize = MAX_LINE + 1;
 
 /// The bytes of one line.
-pub type LineBuffer = ArrayVec<u8, LINE_ROOM>;
+pub type LineBuffer = ArrayVec<u8, LINE_CAPACITY>;
 
 /// A source gave no byte: what it reads from failed.
 #[derive(Clone, Copy, Debug, PartialEq, Eq, Error)]
@@ -106,12 +106,12 @@ fn take_part<R: Source>(source: &mut R, line: &mut LineBuffer) -> bool
         line.old.items line.new.items result }
     ensures further { R.ready source.old ≢ [] → result ≡ false
         → length line.old.items < length line.new.items }
-    ensures bounded { length line.new.items ≤ LINE_ROOM }
+    ensures bounded { length line.new.items ≤ LINE_CAPACITY }
     ensures line { result ≡ true → length line.new.items ≤ MAX_LINE }
     ensures counted { R.failures source.new ≡ R.failures source.old }
 {
     let ready = source.ready();
-    let ready = &ready[..ready.len().min(LINE_ROOM - line.len())];
+    let ready = &ready[..ready.len().min(LINE_CAPACITY - line.len())];
     let part = line_length(ready);
     let is_ended = part < ready.len();
     line.try_extend_from_slice(&ready[..part]).unwrap();
@@ -129,7 +129,7 @@ pub fn take_line<R: Source>(source: &mut R, line: &mut LineBuffer) -> Result<Tak
         → Takes before line.new.items (R.remaining source.new) result }
     ensures counted { Counts (R.failures source.old) result (R.failures source.new) }
     // However long a line is, the buffer stays small.
-    ensures bounded { length line.new.items ≤ LINE_ROOM }
+    ensures bounded { length line.new.items ≤ LINE_CAPACITY }
 {
     line.clear();
     while line.len() <= MAX_LINE {

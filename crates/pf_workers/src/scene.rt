@@ -9,7 +9,7 @@ use std::cell::Cell;
 use std::sync::Arc;
 
 /// The scene of the last call, if there was one: a match has one scene, which is then copied in the
-/// first call alone.
+/// first call only.
 #[derive(Drop)]
 pub(crate) struct SharedScene {
     kept: Cell<Option<Arc<Scene, Global>>>,

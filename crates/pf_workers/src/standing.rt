@@ -114,7 +114,7 @@ impl<R: Wait, G: Gate> StandingCrew<R, G> {
         Ok(StandingCollider::new(self.pool.another()?))
     }
 
-    /// Tells all workers to end, and joins them. A collider of theirs then computes alone. It may
+    /// Tells all workers to end, and joins them. A collider of theirs then computes itself. It may
     /// wait.
     pub fn close(self)
     where

@@ -1,6 +1,6 @@
 //! What the words behind the program's name are parsed as, and words as the system has them.
 
-use pf_console::{PlayFault, Request};
+use pf_console::{ProgramError, Request};
 use pf_program::{options, words_of};
 use std::alloc::{AllocError, Global};
 use std::env::FillError;
@@ -20,13 +20,13 @@ const RUN_USAGE: &str =
 fn mistake(alloc: Global, words: &[&str]) -> Result<String, AllocError> {
     match options(alloc, words) {
         Ok(_) => Ok(String::new(alloc)),
-        Err(PlayFault::Words(text)) => Ok(text),
+        Err(ProgramError::Words(text)) => Ok(text),
         Err(_) => Err(AllocError),
     }
 }
 
 /// Whether words ask for a run with a crew of so many workers, or with none.
-fn is_run(alloc: Global, words: &[&str], size: Option<usize>) -> Result<bool, PlayFault> {
+fn is_run(alloc: Global, words: &[&str], size: Option<usize>) -> Result<bool, ProgramError> {
     Ok(matches!(options(alloc, words)?, Request::Run { crew_size } if crew_size == size))
 }
 
@@ -46,7 +46,7 @@ fn runs(rt: HostRuntime) -> Result<(), Fail> {
 }
 
 /// Whether words ask for a session with crews of so many workers, or with none.
-fn is_session(alloc: Global, words: &[&str], size: Option<usize>) -> Result<bool, PlayFault> {
+fn is_session(alloc: Global, words: &[&str], size: Option<usize>) -> Result<bool, ProgramError> {
     Ok(matches!(options(alloc, words)?, Request::Session { crew_size } if crew_size == size))
 }
 
@@ -63,7 +63,7 @@ fn sessions(rt: HostRuntime) -> Result<(), Fail> {
 }
 
 /// Whether words ask for the frame of these digits.
-fn is_frame(alloc: Global, words: &[&str], digits: &str) -> Result<bool, PlayFault> {
+fn is_frame(alloc: Global, words: &[&str], digits: &str) -> Result<bool, ProgramError> {
     Ok(matches!(options(alloc, words)?, Request::Frame(found) if found == digits))
 }
 
@@ -77,12 +77,12 @@ fn takes_the_digits_of_a_frame(rt: HostRuntime) -> Result<(), Fail> {
 }
 
 /// Whether words ask for the version.
-fn is_version(alloc: Global, words: &[&str]) -> Result<bool, PlayFault> {
+fn is_version(alloc: Global, words: &[&str]) -> Result<bool, ProgramError> {
     Ok(matches!(options(alloc, words)?, Request::Version))
 }
 
 /// Whether words ask for a help.
-fn is_help(alloc: Global, words: &[&str]) -> Result<bool, PlayFault> {
+fn is_help(alloc: Global, words: &[&str]) -> Result<bool, ProgramError> {
     Ok(match options(alloc, words)? {
         Request::Help(text) => text.contains("Usage: pf_play"),
         _ => false,
@@ -253,13 +253,13 @@ fn long_words_are_read_whole(rt: HostRuntime) -> Result<(), Fail> {
 fn words_that_are_no_text_are_a_mistake(rt: HostRuntime) -> Result<(), Fail> {
     let words = [b"pf_play".as_slice(), b"run", b"\xff"];
     match words_of(&(Call { words: &words }, rt.alloc())) {
-        Err(PlayFault::Words(text)) => assert_eq!(rt;
+        Err(ProgramError::Words(text)) => assert_eq!(rt;
             text.as_str(),
             "error: invalid UTF-8 was detected in one or more arguments\n\n\
 Usage: pf_play <COMMAND>\n\nFor more information, try '--help'.\n"
         ),
         other => {
-            assert!(rt; matches!(other, Err(PlayFault::Memory)));
+            assert!(rt; matches!(other, Err(ProgramError::Memory)));
             return Err(AllocError)?;
         }
     }

@@ -14,10 +14,10 @@ returns c =
     let i = c.args.i in
     let left = c.args.left.now in
     let old = c.args.partners.now.items in
-    let found = c.add_touching.new.partners.items in
+    let found = c.add_overlapping.new.partners.items in
     let stayed : has_body left i ≡ false = sym c.contains.ensures.value ∙ c.if-contains.false in
     let all : (j : ℕ) → has_body found j ≡ (is_pair bs i j && nat_lt j (length bs)) = λ j.
-    ap (λ l. has_body l j) c.in_ok-add_touching.ensures
+    ap (λ l. has_body l j) c.in_ok-add_overlapping.ensures
     ∙ list_any-append _ old (filter (is_pair bs i) left)
     ∙ ap (λ b. has_body old j || b) (has_body-filter (is_pair bs i) left j)
     ∙ c.requires.kept stayed j in

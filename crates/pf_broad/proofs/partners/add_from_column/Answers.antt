@@ -7,8 +7,8 @@ use Rattle.pf_broad.specs.Partners.{has_body}
 use Rattle.pf_broad.proofs.Partnering.{bodies_in-members, filter-AreBodies, has_body-more, rows-more, rows-end}
 use Rattle.pf_broad.proofs.partners.add_from_column.Goals as goal
 
-pub add_touching-requires-clause-others : goal.add_touching-requires-clause-others
-add_touching-requires-clause-others c =
+pub add_overlapping-requires-clause-others : goal.add_overlapping-requires-clause-others
+add_overlapping-requires-clause-others c =
     let bs = c.args.bounds.now in
     filter-AreBodies bs _ c.bodies_in.result.now (c.bodies_in.ensures ∙ bodies_in-members bs c.args.grid.now _ c.requires.grid)
 
@@ -28,7 +28,7 @@ loop-y-preserved c =
       from = omega (arith, ints);
       upto = omega (arith, ints);
       found = λ j.
-          has_body-more bs i j (is_listed bs cell) c.loop-y.partners.items c.add_touching.new.partners.items c.bodies_in.result.now c.in_ok-add_touching.ensures others
+          has_body-more bs i j (is_listed bs cell) c.loop-y.partners.items c.add_overlapping.new.partners.items c.bodies_in.result.now c.in_ok-add_overlapping.ensures others
           ∙ ap (λ b. b || (is_pair bs i j && (is_listed bs cell j && nat_lt j (length bs)))) (found j)
           ∙ rows-more bs c.requires.ordered i j c.args.x c.args.range.bottom y (has_body c.args.partners.now.items j) c.loop-y.invariant.from;
     }

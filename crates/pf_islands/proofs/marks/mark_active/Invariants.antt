@@ -5,4 +5,4 @@ use Rattle.pf_islands.proofs.marks.mark_active.Given as goal
 
 abbrev pub invariant-loop-number : goal.invariant-loop-number
 invariant-loop-number l =
-    AreNoted (length l.names) l.marks (any_of (λ (b : BodyState). b.awake) l.names l.bodies l.number)
+    AreNoted (length l.labels) l.marks (any_of (λ (b : BodyState). b.awake) l.labels l.bodies l.number)

@@ -5,4 +5,4 @@ use Rattle.pf_islands.proofs.marks.wake_marked.Given as goal
 
 abbrev pub invariant-loop-number : goal.invariant-loop-number
 invariant-loop-number l =
-    l.bodies ≡ map (woken_body l.marks) (take l.number (zip l.names l.initial.bodies)) ++ drop l.number l.initial.bodies
+    l.bodies ≡ map (woken_body l.marks) (take l.number (zip l.labels l.initial.bodies)) ++ drop l.number l.initial.bodies

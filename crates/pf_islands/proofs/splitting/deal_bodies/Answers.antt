@@ -9,61 +9,61 @@ use Rattle.pf_islands.proofs.Dealing.{dealt_more, dealt_same, first_part, island
 use Rattle.pf_islands.proofs.splitting.deal_bodies.Goals.{then-body+in_ok-places, else-body}
 use Rattle.pf_islands.proofs.splitting.deal_bodies.Goals as goal
 
-pub bounds-slots-names : goal.bounds-slots-names
-bounds-slots-names c =
+pub bounds-slots-labels : goal.bounds-slots-labels
+bounds-slots-labels c =
     let k = c.loop-number.number in
-    let named = c.requires.named k 0 (omega (arith, c.loop-number-test.true, c.requires.bodies)) in
-    omega (arith, named, ap length c.requires.slots, length-map-range_with_len (slot_of c.args.names.now c.args.bodies.now) 0 (length c.args.names.now))
+    let labelled = c.requires.labelled k 0 (omega (arith, c.loop-number-test.true, c.requires.bodies)) in
+    omega (arith, labelled, ap length c.requires.slots, length-map-range_with_len (slot_of c.args.labels.now c.args.bodies.now) 0 (length c.args.labels.now))
 
 pub add_body-requires : goal.add_body-requires
 add_body-requires c =
-    let names = c.args.names.now in
+    let labels = c.args.labels.now in
     let bodies = c.args.bodies.now in
     let k = c.loop-number.number in
-    let inside : k < length names = omega (arith, c.loop-number-test.true, c.requires.bodies) in
-    let name = get_or names k 0 in
-    let named = c.requires.named k 0 inside in
+    let inside : k < length labels = omega (arith, c.loop-number-test.true, c.requires.bodies) in
+    let label = get_or labels k 0 in
+    let labelled = c.requires.labelled k 0 inside in
     let read = get_or_read bodies k c.index-bodies-number.result c.loop-number-test.true c.index-bodies-number.is no_state in
     let awake : is_awake_at bodies k ≡ true = sym (ap (λ (b : BodyState). b.awake) (c.body.view_is ∙ read)) ∙ c.if-body.true in
-    let slot = ap (λ xs. get_or xs name 0) c.requires.slots
-    ∙ get_or-map-range_with_len (slot_of names bodies) 0 (length names) name name 0 named (omega arith) in
-    let within = slot_within names bodies (first_part names bodies k) name named (c.requires.woken_bodies.active k inside awake) in
+    let slot = ap (λ xs. get_or xs label 0) c.requires.slots
+    ∙ get_or-map-range_with_len (slot_of labels bodies) 0 (length labels) label label 0 labelled (omega arith) in
+    let within = slot_within labels bodies (first_part labels bodies k) label labelled (c.requires.woken_bodies.active k inside awake) in
     omega (arith, slot, within, ap length c.loop-number.invariant.islands)
 
 pub loop-number-preserved : goal.loop-number-preserved
 loop-number-preserved c =
-    let names = c.args.names.now in
+    let labels = c.args.labels.now in
     let bodies = c.args.bodies.now in
     let k = c.loop-number.number in
-    let inside : k < length names = omega (arith, c.loop-number-test.true, c.requires.bodies) in
-    let name = get_or names k 0 in
-    let named = c.requires.named k 0 inside in
+    let inside : k < length labels = omega (arith, c.loop-number-test.true, c.requires.bodies) in
+    let label = get_or labels k 0 in
+    let labelled = c.requires.labelled k 0 inside in
     let read = get_or_read bodies k c.index-bodies-number.result c.loop-number-test.true c.index-bodies-number.is no_state in
     let same_awake : is_awake_at bodies k ≡ c.body.inside.awake = sym (ap (λ (b : BodyState). b.awake) (c.body.view_is ∙ read)) in
-    let slot = ap (λ xs. get_or xs name 0) c.requires.slots
-    ∙ get_or-map-range_with_len (slot_of names bodies) 0 (length names) name name 0 named (omega arith) in
+    let slot = ap (λ xs. get_or xs label 0) c.requires.slots
+    ∙ get_or-map-range_with_len (slot_of labels bodies) 0 (length labels) label label 0 labelled (omega arith) in
     let now_is = c.loop-number.invariant.islands in
     let body = c.index-bodies-number.result in
     record {
       islands = elim c.if-body.branch [
         | then-body+in_ok-places w ↦ w.islands-is
-            ∙ dealt_more names bodies k body c.loop-number.islands w.add_body.new.islands inside named c.requires.woken_bodies
+            ∙ dealt_more labels bodies k body c.loop-number.islands w.add_body.new.islands inside labelled c.requires.woken_bodies
             (same_awake ∙ w.if-body.true) read now_is
             (w.in_ok-places.ensures.added
             ∙ ap (λ n. set c.loop-number.islands n (with_body k body (get_or c.loop-number.islands n no_island))) slot)
         | else-body w ↦ w.islands-is
-            ∙ dealt_same names bodies k c.loop-number.islands inside c.requires.woken_bodies (same_awake ∙ w.if-body.false) now_is
+            ∙ dealt_same labels bodies k c.loop-number.islands inside c.requires.woken_bodies (same_awake ∙ w.if-body.false) now_is
       ];
       places = elim c.if-body.branch [
         | then-body+in_ok-places w ↦ rw w.places-is
-            (placed_more names bodies k c.loop-number.places w.in_ok-places.field-0 inside c.loop-number.invariant.long
+            (placed_more labels bodies k c.loop-number.places w.in_ok-places.field-0 inside c.loop-number.invariant.long
             (w.in_ok-places.ensures.place
             ∙ ap₂ (λ xs n. length (get_or xs n no_island).numbers) now_is slot
             ∙ ap (λ (i : Island). length i.numbers)
-            (island_at names bodies (first_part names bodies k) name named (c.requires.woken_bodies.active k inside (same_awake ∙ w.if-body.true))))
+            (island_at labels bodies (first_part labels bodies k) label labelled (c.requires.woken_bodies.active k inside (same_awake ∙ w.if-body.true))))
             c.loop-number.invariant.places)
         | else-body w ↦ rw w.places-is
-            (placed_same names bodies k c.loop-number.places (same_awake ∙ w.if-body.false) c.loop-number.invariant.places)
+            (placed_same labels bodies k c.loop-number.places (same_awake ∙ w.if-body.false) c.loop-number.invariant.places)
       ];
       long = elim c.if-body.branch [
         | then-body+in_ok-places w ↦ ap length w.places-is ∙ length-set c.loop-number.places k _ ∙ c.loop-number.invariant.long

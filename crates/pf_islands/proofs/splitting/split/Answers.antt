@@ -5,7 +5,7 @@ use Rattle.std.proofs.lemmas.List.FromFn.{get_or-map-range_with_len, length-map-
 use Rattle.pf_rows.specs.Row.{Row}
 use Rattle.pf_islands.specs.Dealing.{ArePlaces, group_of_row, placed_row, slot_of, with_row}
 use Rattle.pf_islands.specs.Rows.{active_rows}
-use Rattle.pf_islands.specs.Split.{AreWoken, IsActiveRow, IsIslandOf, active_names, islands, no_island}
+use Rattle.pf_islands.specs.Split.{AreWoken, IsActiveRow, IsIslandOf, active_labels, islands, no_island}
 use Rattle.pf_islands.proofs.ActiveRows.{all_made, row_at, rows_fit}
 use Rattle.pf_islands.proofs.Dealing.{full_part, group_active, row_dealt, slot_within}
 use Rattle.pf_islands.proofs.Starting.{groups_long}
@@ -13,20 +13,20 @@ use Rattle.pf_islands.proofs.Together.{read_row_is_active, rows_are_active}
 use Rattle.pf_islands.proofs.Whole.{islands_fit}
 use Rattle.pf_islands.proofs.splitting.split.Goals as goal
 
-pub rooms-requires-clause-bodies : goal.rooms-requires-clause-bodies
-rooms-requires-clause-bodies c =
+pub sizes-requires-clause-bodies : goal.sizes-requires-clause-bodies
+sizes-requires-clause-bodies c =
     c.requires.bodies ∙ sym (groups_long c.args.scene.now c.args.touches.now) ∙ sym (ap length c.requires.groups)
-    ∙ sym (ap length c.names-names.ensures.value)
+    ∙ sym (ap length c.labels-labels.ensures.value)
 
 pub empty_islands-requires-clause-bodies : goal.empty_islands-requires-clause-bodies
 empty_islands-requires-clause-bodies c =
     c.requires.bodies ∙ sym (groups_long c.args.scene.now c.args.touches.now) ∙ sym (ap length c.requires.groups)
-    ∙ sym (ap length c.names-names.ensures.value)
+    ∙ sym (ap length c.labels-labels.ensures.value)
 
 pub deal_bodies-requires-clause-bodies : goal.deal_bodies-requires-clause-bodies
 deal_bodies-requires-clause-bodies c =
     c.requires.bodies ∙ sym (groups_long c.args.scene.now c.args.touches.now) ∙ sym (ap length c.requires.groups)
-    ∙ sym (ap length c.names-names.ensures.value)
+    ∙ sym (ap length c.labels-labels.ensures.value)
 
 pub loop-place-init : goal.loop-place-init
 loop-place-init c =
@@ -35,28 +35,28 @@ loop-place-init c =
 
 pub deal_row-requires-clause-first : goal.deal_row-requires-clause-first
 deal_row-requires-clause-first c =
-    let names = c.names-names.result.now in
+    let labels = c.labels-labels.result.now in
     let bodies = c.args.bodies.now in
     let items = c.deref-place-items.result.now in
     let items_are = c.deref-place-items.ensures.value in
     let inside = subst (All (λ place. place < length c.args.touches.now)) (sym items_are) c.in_ok-active.ensures.within in
-    let read = read_row_is_active c.args.scene.now c.args.touches.now bodies c.args.contacts.now names items
+    let read = read_row_is_active c.args.scene.now c.args.touches.now bodies c.args.contacts.now labels items
     c.loop-place.place-index c.index-touches-place.result c.index-contacts-place.result c.row_of-row.result
-    (c.names-names.ensures.value ∙ c.requires.groups) c.requires.bodies c.requires.touches c.requires.contacts inside
+    (c.labels-labels.ensures.value ∙ c.requires.groups) c.requires.bodies c.requires.touches c.requires.contacts inside
     (items_are ∙ c.in_ok-active.ensures.value) c.loop-place-test.true c.index-touches-place.is c.index-contacts-place.is
     c.row_of-row.ensures in
     read.0.first
 
 pub deal_row-requires-clause-second : goal.deal_row-requires-clause-second
 deal_row-requires-clause-second c =
-    let names = c.names-names.result.now in
+    let labels = c.labels-labels.result.now in
     let bodies = c.args.bodies.now in
     let items = c.deref-place-items.result.now in
     let items_are = c.deref-place-items.ensures.value in
     let inside = subst (All (λ place. place < length c.args.touches.now)) (sym items_are) c.in_ok-active.ensures.within in
-    let read = read_row_is_active c.args.scene.now c.args.touches.now bodies c.args.contacts.now names items
+    let read = read_row_is_active c.args.scene.now c.args.touches.now bodies c.args.contacts.now labels items
     c.loop-place.place-index c.index-touches-place.result c.index-contacts-place.result c.row_of-row.result
-    (c.names-names.ensures.value ∙ c.requires.groups) c.requires.bodies c.requires.touches c.requires.contacts inside
+    (c.labels-labels.ensures.value ∙ c.requires.groups) c.requires.bodies c.requires.touches c.requires.contacts inside
     (items_are ∙ c.in_ok-active.ensures.value) c.loop-place-test.true c.index-touches-place.is c.index-contacts-place.is
     c.row_of-row.ensures in
     read.0.second
@@ -64,81 +64,81 @@ deal_row-requires-clause-second c =
 pub deal_row-requires-clause-slots : goal.deal_row-requires-clause-slots
 deal_row-requires-clause-slots c =
     ap length (c.deref-in-loop-place.ensures.value ∙ c.in_ok-made.ensures.slots)
-    ∙ length-map-range_with_len (slot_of c.names-names.result.now c.args.bodies.now) 0 (length c.names-names.result.now)
+    ∙ length-map-range_with_len (slot_of c.labels-labels.result.now c.args.bodies.now) 0 (length c.labels-labels.result.now)
 
 pub deal_row-requires-clause-group : goal.deal_row-requires-clause-group
 deal_row-requires-clause-group c =
-    let names = c.names-names.result.now in
+    let labels = c.labels-labels.result.now in
     let bodies = c.args.bodies.now in
     let items = c.deref-place-items.result.now in
     let items_are = c.deref-place-items.ensures.value in
     let inside = subst (All (λ place. place < length c.args.touches.now)) (sym items_are) c.in_ok-active.ensures.within in
-    let read = read_row_is_active c.args.scene.now c.args.touches.now bodies c.args.contacts.now names items
+    let read = read_row_is_active c.args.scene.now c.args.touches.now bodies c.args.contacts.now labels items
     c.loop-place.place-index c.index-touches-place.result c.index-contacts-place.result c.row_of-row.result
-    (c.names-names.ensures.value ∙ c.requires.groups) c.requires.bodies c.requires.touches c.requires.contacts inside
+    (c.labels-labels.ensures.value ∙ c.requires.groups) c.requires.bodies c.requires.touches c.requires.contacts inside
     (items_are ∙ c.in_ok-active.ensures.value) c.loop-place-test.true c.index-touches-place.is c.index-contacts-place.is
     c.row_of-row.ensures in
-    let named = subst (λ (ns : List ℕ). All (λ name. name < length ns) ns) (sym c.names-names.ensures.value) c.names-names.ensures.named in
-    let woken_bodies = subst (λ ns. AreWoken ns bodies) (sym c.names-names.ensures.value) c.requires.woken_bodies in
-    let own = group_active names bodies c.row_of-row.result named woken_bodies read.0 in
+    let labelled = subst (λ (ns : List ℕ). All (λ label. label < length ns) ns) (sym c.labels-labels.ensures.value) c.labels-labels.ensures.labelled in
+    let woken_bodies = subst (λ ns. AreWoken ns bodies) (sym c.labels-labels.ensures.value) c.requires.woken_bodies in
+    let own = group_active labels bodies c.row_of-row.result labelled woken_bodies read.0 in
     own.0
 
 pub deal_row-requires-clause-slot : goal.deal_row-requires-clause-slot
 deal_row-requires-clause-slot c =
-    let names = c.names-names.result.now in
+    let labels = c.labels-labels.result.now in
     let bodies = c.args.bodies.now in
     let items = c.deref-place-items.result.now in
     let items_are = c.deref-place-items.ensures.value in
     let inside = subst (All (λ place. place < length c.args.touches.now)) (sym items_are) c.in_ok-active.ensures.within in
-    let read = read_row_is_active c.args.scene.now c.args.touches.now bodies c.args.contacts.now names items
+    let read = read_row_is_active c.args.scene.now c.args.touches.now bodies c.args.contacts.now labels items
     c.loop-place.place-index c.index-touches-place.result c.index-contacts-place.result c.row_of-row.result
-    (c.names-names.ensures.value ∙ c.requires.groups) c.requires.bodies c.requires.touches c.requires.contacts inside
+    (c.labels-labels.ensures.value ∙ c.requires.groups) c.requires.bodies c.requires.touches c.requires.contacts inside
     (items_are ∙ c.in_ok-active.ensures.value) c.loop-place-test.true c.index-touches-place.is c.index-contacts-place.is
     c.row_of-row.ensures in
-    let named = subst (λ (ns : List ℕ). All (λ name. name < length ns) ns) (sym c.names-names.ensures.value) c.names-names.ensures.named in
-    let woken_bodies = subst (λ ns. AreWoken ns bodies) (sym c.names-names.ensures.value) c.requires.woken_bodies in
-    let own = group_active names bodies c.row_of-row.result named woken_bodies read.0 in
-    let name = group_of_row names c.row_of-row.result in
-    let slot = ap (λ xs. get_or xs name 0) (c.deref-in-loop-place.ensures.value ∙ c.in_ok-made.ensures.slots)
-    ∙ get_or-map-range_with_len (slot_of names bodies) 0 (length names) name name 0 own.0 (omega arith) in
+    let labelled = subst (λ (ns : List ℕ). All (λ label. label < length ns) ns) (sym c.labels-labels.ensures.value) c.labels-labels.ensures.labelled in
+    let woken_bodies = subst (λ ns. AreWoken ns bodies) (sym c.labels-labels.ensures.value) c.requires.woken_bodies in
+    let own = group_active labels bodies c.row_of-row.result labelled woken_bodies read.0 in
+    let label = group_of_row labels c.row_of-row.result in
+    let slot = ap (λ xs. get_or xs label 0) (c.deref-in-loop-place.ensures.value ∙ c.in_ok-made.ensures.slots)
+    ∙ get_or-map-range_with_len (slot_of labels bodies) 0 (length labels) label label 0 own.0 (omega arith) in
     let rows : List Row = map (row_at c.args.scene.now c.args.touches.now c.args.contacts.now) (take c.loop-place.place-index items) in
-    let within = slot_within names bodies (full_part names bodies rows) name own.0 own.1 in
+    let within = slot_within labels bodies (full_part labels bodies rows) label own.0 own.1 in
     let lent = ap length (c.deref_mut-in-loop-place.ensures.value ∙ c.loop-place.invariant) in
     omega (arith, slot, within, lent)
 
 pub loop-place-preserved : goal.loop-place-preserved
 loop-place-preserved c =
-    let names = c.names-names.result.now in
+    let labels = c.labels-labels.result.now in
     let bodies = c.args.bodies.now in
     let items = c.deref-place-items.result.now in
     let items_are = c.deref-place-items.ensures.value in
     let inside = subst (All (λ place. place < length c.args.touches.now)) (sym items_are) c.in_ok-active.ensures.within in
-    let read = read_row_is_active c.args.scene.now c.args.touches.now bodies c.args.contacts.now names items
+    let read = read_row_is_active c.args.scene.now c.args.touches.now bodies c.args.contacts.now labels items
     c.loop-place.place-index c.index-touches-place.result c.index-contacts-place.result c.row_of-row.result
-    (c.names-names.ensures.value ∙ c.requires.groups) c.requires.bodies c.requires.touches c.requires.contacts inside
+    (c.labels-labels.ensures.value ∙ c.requires.groups) c.requires.bodies c.requires.touches c.requires.contacts inside
     (items_are ∙ c.in_ok-active.ensures.value) c.loop-place-test.true c.index-touches-place.is c.index-contacts-place.is
     c.row_of-row.ensures in
-    let named = subst (λ (ns : List ℕ). All (λ name. name < length ns) ns) (sym c.names-names.ensures.value) c.names-names.ensures.named in
-    let woken_bodies = subst (λ ns. AreWoken ns bodies) (sym c.names-names.ensures.value) c.requires.woken_bodies in
-    let own = group_active names bodies c.row_of-row.result named woken_bodies read.0 in
-    let name = group_of_row names c.row_of-row.result in
-    let slot = ap (λ xs. get_or xs name 0) (c.deref-in-loop-place.ensures.value ∙ c.in_ok-made.ensures.slots)
-    ∙ get_or-map-range_with_len (slot_of names bodies) 0 (length names) name name 0 own.0 (omega arith) in
+    let labelled = subst (λ (ns : List ℕ). All (λ label. label < length ns) ns) (sym c.labels-labels.ensures.value) c.labels-labels.ensures.labelled in
+    let woken_bodies = subst (λ ns. AreWoken ns bodies) (sym c.labels-labels.ensures.value) c.requires.woken_bodies in
+    let own = group_active labels bodies c.row_of-row.result labelled woken_bodies read.0 in
+    let label = group_of_row labels c.row_of-row.result in
+    let slot = ap (λ xs. get_or xs label 0) (c.deref-in-loop-place.ensures.value ∙ c.in_ok-made.ensures.slots)
+    ∙ get_or-map-range_with_len (slot_of labels bodies) 0 (length labels) label label 0 own.0 (omega arith) in
     let row = c.row_of-row.result in
     let at = row_at c.args.scene.now c.args.touches.now c.args.contacts.now in
     let k = c.loop-place.place-index in
     let now = c.deref_mut-in-loop-place.result.now in
     let places = c.deref-in-loop-place-2.result.now in
-    let noted = subst (ArePlaces names bodies)
+    let noted = subst (ArePlaces labels bodies)
     (sym (c.deref-in-loop-place-2.ensures.value
     ∙ with_items_is c.resize.new.self c.deal_bodies.new.places (c.deal_bodies.auto.places ∙ c.deref_mut-2.ensures.len)))
     c.in_ok-deal_bodies.ensures.places in
     with_items_is c.loop-place.made c.deal_row.new.islands (c.deal_row.auto.islands ∙ c.deref_mut-in-loop-place.ensures.len)
-    ∙ row_dealt names bodies (map at (take k items)) row places now c.deal_row.new.islands named woken_bodies noted read.0
+    ∙ row_dealt labels bodies (map at (take k items)) row places now c.deal_row.new.islands labelled woken_bodies noted read.0
     (c.deref_mut-in-loop-place.ensures.value ∙ c.loop-place.invariant)
     (c.in_ok-deal_row.ensures
     ∙ ap (λ n. set now n (with_row (placed_row places row) (get_or now n no_island))) slot)
-    ∙ ap (λ (rows : List Row). map (full_part names bodies rows) (active_names names bodies))
+    ∙ ap (λ (rows : List Row). map (full_part labels bodies rows) (active_labels labels bodies))
     (ap (λ (r : Row). map at (take k items) ++ r ∷ []) read.1 ∙ sym (map_more at items k 0 c.loop-place-test.true))
 
 pub returns-clause-value : goal.returns-clause-value
@@ -154,8 +154,8 @@ returns-clause-value c =
     all_made s bodies touches contacts items k rows c.loop-place-test.false
     (c.deref-place-items.ensures.value ∙ c.in_ok-active.ensures.value) refl in
     c.loop-place.invariant
-    ∙ ap (λ (rs : List Row). map (full_part c.names-names.result.now bodies rs) (active_names c.names-names.result.now bodies)) all
-    ∙ ap (λ ns. islands ns bodies (active_rows s bodies touches contacts)) c.names-names.ensures.value
+    ∙ ap (λ (rs : List Row). map (full_part c.labels-labels.result.now bodies rs) (active_labels c.labels-labels.result.now bodies)) all
+    ∙ ap (λ ns. islands ns bodies (active_rows s bodies touches contacts)) c.labels-labels.ensures.value
 
 pub returns-clause-fit : goal.returns-clause-fit
 returns-clause-fit c =

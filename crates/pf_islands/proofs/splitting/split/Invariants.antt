@@ -1,5 +1,5 @@
 use Rattle.std.proofs.Common.{◌≡◌, map, take}
-use Rattle.pf_islands.specs.Split.{active_names}
+use Rattle.pf_islands.specs.Split.{active_labels}
 use Rattle.pf_islands.proofs.ActiveRows.{row_at}
 use Rattle.pf_islands.proofs.Dealing.{full_part}
 use Rattle.pf_islands.proofs.splitting.split.Given as goal
@@ -7,5 +7,5 @@ use Rattle.pf_islands.proofs.splitting.split.Given as goal
 abbrev pub invariant-loop-place : goal.invariant-loop-place
 invariant-loop-place l =
     l.made.items
-    ≡ map (full_part l.names l.bodies (map (row_at l.scene l.touches l.contacts) (take l.place-index l.place-items)))
-    (active_names l.names l.bodies)
+    ≡ map (full_part l.labels l.bodies (map (row_at l.scene l.touches l.contacts) (take l.place-index l.place-items)))
+    (active_labels l.labels l.bodies)

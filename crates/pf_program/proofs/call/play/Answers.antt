@@ -1,12 +1,12 @@
 use Rattle.std.proofs.Common.{◌≡◌, ◌∙◌, ap, sym, refl, Ok, Err, inl, inr, map, subst}
 use Rattle.std.specs.Prelude.{option_map}
 use Rattle.std.proofs.lemmas.Result.{err_from_is_err_and}
-use Rattle.pf_console.specs.declared.fault.PlayFault.TheVariants.{Crew}
+use Rattle.pf_console.specs.declared.error.ProgramError.TheVariants.{Crew}
 use Rattle.clap.specs.Words.{fault_of, subcommand_of}
 use Rattle.pf_program.specs.Options.{ParsesAs, command_line}
 use Rattle.pf_program.proofs.Crews.{err_same, fails_as, names_alone, never_shut, started_not_shut, wants, words_name_none}
 use Rattle.pf_manifold.specs.declared.parallel.OneThread.{OneThread}
-use Rattle.pf_program.specs.Program.{IsStartFault}
+use Rattle.pf_program.specs.Program.{IsCrewStartError}
 use Rattle.pf_program.proofs.call.play.Goals as goal
 
 pub returns-in_err-words-clause-plays : goal.returns-in_err-words-clause-plays
@@ -44,7 +44,7 @@ returns-in_err-workers-clause-plays g c =
     let error = err_from_is_err_and c.from_residual-in_err-workers.result c.from_residual-in_err-workers.ensures.1 in
     let fault = c.in_err-workers.field-0.0 in
     let outcome : c.from_residual-in_err-workers.result ≡ Err fault = rw (error.1, error.2) refl in
-    let start : IsStartFault c.in_ok-request.request fault = c.in_err-workers.ensures.fault in
+    let start : IsCrewStartError c.in_ok-request.request fault = c.in_err-workers.ensures.fault in
     record {
       asked = Ok c.in_ok-request.request;
       asks = rw c.in_ok-words.was (subst (λ l. ParsesAs (fault_of command_line (map text l))

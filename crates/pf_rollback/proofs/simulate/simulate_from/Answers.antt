@@ -34,8 +34,8 @@ loop-at-init c = record {
       sym (ap (count_after c.args.work.now.meter.ticks) none ∙ count_none _);
 }
 
-pub step_alone-requires : goal.step_alone-requires
-step_alone-requires c =
+pub step_on_one_thread-requires : goal.step_on_one_thread-requires
+step_on_one_thread-requires c =
     ap (λ (w : World). length w.bodies) c.loop-at.invariant.world ∙ sim_at_bodies _ _ _ _ _ c.requires.bodies
 
 pub returns-in_err-next-clause-no_memory : goal.returns-in_err-next-clause-no_memory

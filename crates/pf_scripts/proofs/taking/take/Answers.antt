@@ -1,7 +1,7 @@
 use Rattle.std.proofs.Common.{rules, ◌≡◌, ◌∙◌, ◌++◌, [], Err, ap, refl, subst, sym}
 use Rattle.std.specs.Prelude.{All}
 use Rattle.pf_commands.specs.Merge.{IsCommand, put_all}
-use Rattle.pf_rollback.specs.declared.fault.Fault.TheVariants.{OutOfMemory, Refused}
+use Rattle.pf_rollback.specs.declared.error.PeerError.TheVariants.{OutOfMemory, Refused}
 use Rattle.pf_rollback.specs.Peer.{Peer}
 use Rattle.pf_scripts.specs.Frames.{Setting, commands_of_decoded, core_setting, refusal_of_decoded}
 use Rattle.pf_scripts.proofs.Puts.{decoded_ranges, not_refused, refused, taken}

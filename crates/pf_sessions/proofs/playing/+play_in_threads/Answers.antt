@@ -3,7 +3,7 @@ use Rattle.std.proofs.lemmas.List.{map-append}
 use Rattle.std.proofs.lemmas.Result.{err_from_is_err_and}
 use Rattle.std.specs.Prelude.{IfErr}
 use Rattle.pf_scripts.specs.declared.turn.Turn.{Turn}
-use Rattle.pf_sessions.specs.Playing.{IsPlayersFault}
+use Rattle.pf_sessions.specs.Playing.{IsPlayersError}
 use Rattle.pf_sessions.specs.Session.{turns_of}
 use Rattle.pf_sessions.proofs.Faults.{all_played, last_fault, lesser_fault}
 use Rattle.pf_sessions.proofs.playing.+play_in_threads.Goals as goal
@@ -21,7 +21,7 @@ returns-in_err-all-clause-fault g t c =
     let error = err_from_is_err_and c.from_residual.result c.from_residual.ensures.1 in
     let fault = c.in_err-all.field-0.0 in
     let outcome : c.from_residual.result ≡ Err fault = rw (error.1, error.2) refl in
-    subst (λ r. IfErr r (IsPlayersFault always crew scripts peers)) (sym outcome)
+    subst (λ r. IfErr r (IsPlayersError always crew scripts peers)) (sym outcome)
     (lesser_fault always crew (turns_of others) c.pop.new.self.items script.items c.in-Some-pop.peer scripts peers split c.in-Some-pop.ensures.items fault c.in_err-all.ensures.fault)
 
 pub returns-in_err-last-clause-fault : goal.returns-in_err-last-clause-fault
@@ -39,7 +39,7 @@ returns-in_err-last-clause-fault g t c =
     let outcome : c.from_residual-in_err-last.result ≡ Err fault = rw (error.1, error.2) refl in
     let promised = rw c.in-Ok.ensures.ok at c.in_err-last.ensures in
     let fails = rw (c.of.ensures, c.of-2.ensures) at promised in
-    subst (λ r. IfErr r (IsPlayersFault always crew scripts peers)) (sym outcome)
+    subst (λ r. IfErr r (IsPlayersError always crew scripts peers)) (sym outcome)
     (last_fault always crew (turns_of others) c.pop.new.self.items script.items c.in-Some-pop.peer scripts peers split c.in-Some-pop.ensures.items fault c.in_ok-all.all.items
     c.in_ok-all.ensures.played fails)
 

@@ -6,7 +6,7 @@ use Rattle.std.specs.List.{range_with_len}
 use Rattle.std.specs.Prelude.{IfErr}
 use Rattle.pf_scripts.specs.declared.turn.Turn.{Turn}
 use Rattle.pf_sessions.specs.Playing.{IsNewPeer}
-use Rattle.pf_sessions.specs.Session.{IsSessionFault, turns_of}
+use Rattle.pf_sessions.specs.Session.{IsSessionError, turns_of}
 use Rattle.pf_sessions.proofs.Faults.{no_session_fault, session_fault_of}
 use Rattle.pf_sessions.proofs.Linked.{linked_on}
 use Rattle.pf_sessions.proofs.Results.{all_sent, of_all}
@@ -28,7 +28,7 @@ returns-in_err-played-clause-fault g c =
     let error = err_from_is_err_and c.from_residual-in_err-played.result c.from_residual-in_err-played.ensures.1 in
     let fault = c.in_err-played.field-0.0 in
     let outcome : c.from_residual-in_err-played.result ≡ Err fault = rw (error.1, error.2) refl in
-    subst (λ r. IfErr r (IsSessionFault always c.args.crew scene scripts)) (sym outcome)
+    subst (λ r. IfErr r (IsSessionError always c.args.crew scene scripts)) (sym outcome)
     (session_fault_of always c.args.crew scene count scripts c.in_ok-peers.peers.items c.in_ok-peers.ensures.peers.each many fault c.in_err-played.ensures.fault)
 
 pub end_session-requires : goal.end_session-requires

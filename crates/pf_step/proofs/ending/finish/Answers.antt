@@ -1,13 +1,13 @@
 use Rattle.std.proofs.Common.{rules, ◌≡◌, ◌∙◌, List, ap, ap₂, length, map, subst, sym}
 use Rattle.std.specs.Prelude.{All}
 use Rattle.pf_shapes.specs.Body.{BodyState}
-use Rattle.pf_cache.specs.Manifolds.{NarrowPhase, kept_touches}
+use Rattle.pf_cache.specs.Manifolds.{Collisions, kept_touches}
 use Rattle.pf_cache.specs.ContactRows.{AreRowsAt}
 use Rattle.pf_islands.specs.Join.{IsAtHome, joined_bodies, joined_contacts}
 use Rattle.pf_islands.specs.Split.{Island}
 use Rattle.pf_solver.specs.Alone.{island_after_tick}
 use Rattle.pf_step.specs.Activity.{islands_of_bodies}
-use Rattle.pf_step.specs.Step.{touching}
+use Rattle.pf_step.specs.Step.{touches_of_scene}
 use Rattle.pf_step.proofs.Empty.{none_long}
 use Rattle.pf_step.proofs.Untouched.{untouched_world}
 use Rattle.pf_step.proofs.Joined.{ended_at_contacts, ended_at_home, ended_join}
@@ -54,7 +54,7 @@ returns-then-skips_untouched-clause-value g c =
     let s = c.args.scene.now in
     let bodies = c.args.bodies.items in
     let count : length c.touches.result.now ≡ 0 = search rules in
-    let points : c.touches.result.now ≡ touching s bodies =
-    c.touches.ensures.value ∙ ap (λ (f : NarrowPhase). kept_touches f.manifolds) c.found.view_is ∙ c.requires.points in
+    let points : c.touches.result.now ≡ touches_of_scene s bodies =
+    c.touches.ensures.value ∙ ap (λ (f : Collisions). kept_touches f.manifolds) c.found.view_is ∙ c.requires.points in
     ap₂ (λ bs cs. record { bodies = bs; contacts = cs }) c.untouched_world.ensures.bodies c.untouched_world.ensures.contacts
     ∙ sym (untouched_world s c.args.contacts.now bodies c.requires.bodies (sym points ∙ none_long c.touches.result.now count))

@@ -3,7 +3,7 @@ use Rattle.pf_step.proofs.AloneContacts.{group_stored}
 use Rattle.pf_step.proofs.laws.groups_go_through_ticks_alone.Goals as goal
 
 pub returns-clause-bodies : goal.returns-clause-bodies
-returns-clause-bodies c = λ scene w payloads name paired active. group_after scene w payloads name paired active
+returns-clause-bodies c = λ scene w payloads label paired active. group_after scene w payloads label paired active
 
 pub returns-clause-impulses : goal.returns-clause-impulses
-returns-clause-impulses c = λ s w payloads name scene paired. group_stored s w payloads paired scene name
+returns-clause-impulses c = λ s w payloads label scene paired. group_stored s w payloads paired scene label

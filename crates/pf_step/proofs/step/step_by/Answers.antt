@@ -6,7 +6,7 @@ use Rattle.pf_step.specs.Work.{work_after_tick}
 use Rattle.pf_islands.specs.Split.{Island}
 use Rattle.pf_step.specs.Activity.{islands_of_bodies}
 use Rattle.pf_step.specs.Stepping.{FailsBy}
-use Rattle.pf_step.specs.Step.{narrow_phase, step, world_after}
+use Rattle.pf_step.specs.Step.{collisions_of_bodies, step, world_after}
 use Rattle.pf_step.specs.World.{World}
 use Rattle.pf_step.proofs.Lengths.{step_length}
 use Rattle.pf_step.proofs.step.step_by.Goals as goal
@@ -27,14 +27,14 @@ returns-in-Ok-clause-step g c =
     let is = c.in_ok-bodies.ensures.bodies in
     let value : c.in-Ok.next ≡ step s w payloads =
     c.in-Ok.ensures.value ∙ ap₂ (λ (cs : List Contact) (bs : List BodyState). world_after s cs bs) c.contacts.ensures is in
-    let found = ap₂ (λ (bs : List BodyState) (kept : Manifolds). narrow_phase s.fixtures bs kept)
+    let found = ap₂ (λ (bs : List BodyState) (kept : Manifolds). collisions_of_bodies s.fixtures bs kept)
     (c.deref.ensures.value ∙ is) c.take_manifolds-kept.ensures.taken in
     record {
       value = value;
       bodies = ap (λ (next : World). length next.bodies) value ∙ step_length s w payloads c.requires.world;
       counted = c.end_tick.ensures
           ∙ ap₂ work_after_tick (c.in_ok-found.ensures.value ∙ found)
-          (c.finish.ensures.work ∙ c.take_bodies-room.ensures ∙ c.take_manifolds-kept.ensures.rest);
+          (c.finish.ensures.work ∙ c.take_bodies-spare.ensures ∙ c.take_manifolds-kept.ensures.rest);
       not_counted = tt;
     }
 

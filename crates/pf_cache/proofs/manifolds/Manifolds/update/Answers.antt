@@ -22,7 +22,7 @@ pub pairs-requires-clause-few : goal.pairs-requires-clause-few
 pairs-requires-clause-few g c =
     let long = as_many_bounds c.args.scene.now.fixtures c.args.bodies.now c.in_ok-placed.placed c.bounds.result.now c.requires.bodies
     c.in_ok-placed.ensures.placed c.bounds.ensures.value in
-    omega (arith, long, c.refreshed.ensures.few)
+    omega (arith, long, c.update.ensures.few)
 
 pub points_at_once-requires-clause-pairs : goal.points_at_once-requires-clause-pairs
 points_at_once-requires-clause-pairs g c =
@@ -51,7 +51,7 @@ invariant_of-manifolds g c =
     let found = c.in_ok-pairs.pairs.items in
     let long = as_many_bounds fixtures bodies c.in_ok-placed.placed c.bounds.result.now c.requires.bodies
     c.in_ok-placed.ensures.placed c.bounds.ensures.value in
-    kept_spans fixtures bodies shapes found shapes_are c.requires.bodies c.refreshed.ensures.few
+    kept_spans fixtures bodies shapes found shapes_are c.requires.bodies c.update.ensures.few
     (subst (λ n. All (IsPairOf n) found) long c.in_ok-pairs.ensures.bodies) c.in_ok-pairs.ensures.ascending
     c.match-computed_if_many.points.spans.items c.match-computed_if_many.points.touches.items
     (elim c.match-computed_if_many.branch [

@@ -6,19 +6,19 @@ use Rattle.pf_islands.proofs.groups.Groups.new.Goals as goal
 
 pub link_all-requires-clause-count : goal.link_all-requires-clause-count
 link_all-requires-clause-count c =
-    ap length (c.deref_mut.ensures.value ∙ c.in_ok-names.ensures.value) ∙ length-range_with_len 0 _ ∙ c.len-len.ensures
+    ap length (c.deref_mut.ensures.value ∙ c.in_ok-labels.ensures.value) ∙ length-range_with_len 0 _ ∙ c.len-len.ensures
 
 pub link_all-requires-clause-down : goal.link_all-requires-clause-down
 link_all-requires-clause-down c =
-    subst IsDownward (sym (c.deref_mut.ensures.value ∙ c.in_ok-names.ensures.value)) (singles_downward _)
+    subst IsDownward (sym (c.deref_mut.ensures.value ∙ c.in_ok-labels.ensures.value)) (singles_downward _)
 
 pub link_all-requires-clause-single : goal.link_all-requires-clause-single
 link_all-requires-clause-single c =
-    subst (IsForest (λ i. i)) (sym (c.deref_mut.ensures.value ∙ c.in_ok-names.ensures.value)) (singles_forest _)
+    subst (IsForest (λ i. i)) (sym (c.deref_mut.ensures.value ∙ c.in_ok-labels.ensures.value)) (singles_forest _)
 
 pub invariant_of-result : goal.invariant_of-result
 invariant_of-result c =
-    let count = c.in_ok-names.names.ok.0 ∙ ap length c.in_ok-names.ensures.value ∙ length-range_with_len 0 _ ∙ c.len-len.ensures in
+    let count = c.in_ok-labels.labels.ok.0 ∙ ap length c.in_ok-labels.ensures.value ∙ length-range_with_len 0 _ ∙ c.len-len.ensures in
     found_are_groups c.args.scene.now c.args.touches.now _ c.in_ok-marks.marks.items
     (c.in_ok-marks.ensures.value ∙ c.len-len.ensures)
     (names_found c.args.scene.now c.args.touches.now _ c.link_all.new.parents c.deref_mut-2.result.now c.flatten.new.parents _ _
@@ -26,6 +26,6 @@ invariant_of-result c =
 
 pub returns-clause-value : goal.returns-clause-value
 returns-clause-value c =
-    let count = c.in_ok-names.names.ok.0 ∙ ap length c.in_ok-names.ensures.value ∙ length-range_with_len 0 _ ∙ c.len-len.ensures in
+    let count = c.in_ok-labels.labels.ok.0 ∙ ap length c.in_ok-labels.ensures.value ∙ length-range_with_len 0 _ ∙ c.len-len.ensures in
     names_found c.args.scene.now c.args.touches.now _ c.link_all.new.parents c.deref_mut-2.result.now c.flatten.new.parents _ _
     count (c.link_all.auto.parents ∙ c.deref_mut.ensures.len) c.deref_mut-2.ensures.value c.link_all.ensures.roots c.flatten.ensures

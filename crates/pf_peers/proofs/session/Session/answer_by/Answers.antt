@@ -5,7 +5,7 @@ use Rattle.std.proofs.lemmas.Result.{IfOk-weaker}
 use Rattle.pf_rollback.specs.Core.{PeerCore}
 use Rattle.pf_rollback.specs.Peer.{Peer}
 use Rattle.pf_peers.specs.Crews.{IsCoreAt}
-use Rattle.pf_peers.specs.Session.{NeedsNoMemory, Session, other_of, other_peer_at, peer_at, peer_of}
+use Rattle.pf_peers.specs.Session.{NeedsNoMemory, Session, other_peer_of, other_peer_at, peer_at, peer_of}
 use Rattle.pf_peers.proofs.Crews.{uses_weaker}
 use Rattle.pf_peers.proofs.Sessions.{AreCoresAfter, core_at, err_anyway, merged_cores, on_err, peer_answer_is, same_peers}
 use Rattle.pf_peers.proofs.session.Session.answer_by.Goals as goal
@@ -19,8 +19,8 @@ merged_err g c =
     sym (length-map items (λ (core : PeerCore). core.peer)) ∙ ap (λ (s : Session). length s.peers) c.self.view_is in
     merged_cores c.self.inside.scene items c.merge_among.new.cores c.args.event c.merge_among.result c.self.invariant
     (rw count c.requires.among)
-    (rw (c.peer-peer.ensures, c.other-other.ensures) at c.if-other-peer.true)
-    (rw (c.peer-peer.ensures, c.other-other.ensures, c.deref_mut.ensures.value) at c.merge_among.ensures)
+    (rw (c.peer-peer.ensures, c.other_peer-other.ensures) at c.if-other-peer.true)
+    (rw (c.peer-peer.ensures, c.other_peer-other.ensures, c.deref_mut.ensures.value) at c.merge_among.ensures)
 
 merged_ok : (g : _) (c : goal.In_ok-merge_among g)
     → AreCoresAfter c.self.inside.scene c.self.inside.cores.items c.merge_among.new.cores c.args.event c.merge_among.result
@@ -30,8 +30,8 @@ merged_ok g c =
     sym (length-map items (λ (core : PeerCore). core.peer)) ∙ ap (λ (s : Session). length s.peers) c.self.view_is in
     merged_cores c.self.inside.scene items c.merge_among.new.cores c.args.event c.merge_among.result c.self.invariant
     (rw count c.requires.among)
-    (rw (c.peer-peer.ensures, c.other-other.ensures) at c.if-other-peer.true)
-    (rw (c.peer-peer.ensures, c.other-other.ensures, c.deref_mut.ensures.value) at c.merge_among.ensures)
+    (rw (c.peer-peer.ensures, c.other_peer-other.ensures) at c.if-other-peer.true)
+    (rw (c.peer-peer.ensures, c.other_peer-other.ensures, c.deref_mut.ensures.value) at c.merge_among.ensures)
 
 pub invariant_of-self : goal.invariant_of-self
 invariant_of-self g c =
@@ -79,21 +79,21 @@ core_is g c =
 pub returns-clause-reply : goal.returns-clause-reply
 returns-clause-reply g c =
     let core = core_is g c in
-    let same : other_of c.args.event ≡ peer_of c.args.event = sym c.other-other.ensures ∙ c.if-other-peer.false ∙ c.peer-peer.ensures in
+    let same : other_peer_of c.args.event ≡ peer_of c.args.event = sym c.other_peer-other.ensures ∙ c.if-other-peer.false ∙ c.peer-peer.ensures in
     let old = c.index_mut-core.result.now in
-    rw (← c.self.view_is, core.0) (IfOk-weaker c.answer_alone.result _ _
-    (λ reply called. peer_answer_is c.self.inside.scene c.self.inside.cores.items c.args.event old old c.answer_alone.new.core reply core.1 core.2
+    rw (← c.self.view_is, core.0) (IfOk-weaker c.answer_of_peer.result _ _
+    (λ reply called. peer_answer_is c.self.inside.scene c.self.inside.cores.items c.args.event old old c.answer_of_peer.new.core reply core.1 core.2
     (rw same core.1) (rw same core.2) c.self.invariant.scenes called)
-    c.answer_alone.ensures.reply)
+    c.answer_of_peer.ensures.reply)
 
 pub returns-clause-err : goal.returns-clause-err
 returns-clause-err g c =
     let core = core_is g c in
     let old = c.index_mut-core.result.now in
     let with_peers : List Peer → Session = λ ps. record { scene = c.self.inside.scene; peers = ps } in
-    rw (← c.self.view_is, core.0) (on_err c.answer_alone.result _ _
-    (λ same. ap with_peers (same_peers c.self.inside.cores.items (peer_of c.args.event) old c.answer_alone.new.core core.2 same))
-    c.answer_alone.ensures.err)
+    rw (← c.self.view_is, core.0) (on_err c.answer_of_peer.result _ _
+    (λ same. ap with_peers (same_peers c.self.inside.cores.items (peer_of c.args.event) old c.answer_of_peer.new.core core.2 same))
+    c.answer_of_peer.ensures.err)
 
 pub returns-clause-crew : goal.returns-clause-crew
 returns-clause-crew g c =
@@ -102,4 +102,4 @@ returns-clause-crew g c =
     let at : IsCoreAt c.args.self.now (peer_of c.args.event) old =
     rw (← c.self.view_is) (core_at c.self.inside.scene c.self.inside.cores.items (peer_of c.args.event) old core.1 core.2 c.self.invariant.scenes) in
     uses_weaker g.C.Crew.is_called g.C.Crew.may_fail (λ used. used ≡ old) (IsCoreAt c.args.self.now (peer_of c.args.event))
-    (λ used is. rw is at) c.args.event c.args.crew.now c.answer_alone.result c.answer_alone.new.crew c.answer_alone.ensures.crew
+    (λ used is. rw is at) c.args.event c.args.crew.now c.answer_of_peer.result c.answer_of_peer.new.crew c.answer_of_peer.ensures.crew

@@ -4,7 +4,7 @@ use Rattle.pf_commands.specs.Merge.{IsCommand}
 use Rattle.pf_rollback.specs.Peer.{Peer as Player}
 use Rattle.pf_scripts.specs.Frames.{Setting, commands_in, core_setting}
 use Rattle.pf_scripts.specs.Peer.{kept_of, peer_of}
-use Rattle.pf_scripts.specs.declared.fault.SessionFault.TheVariants as faults
+use Rattle.pf_scripts.specs.declared.error.SessionError.TheVariants as errors
 use Rattle.pf_scripts.proofs.Steps.{advanced, moved_alone, not_advanced, setting_advanced}
 use Rattle.pf_scripts.proofs.peer.Peer.go_on.Goals as goal
 
@@ -29,4 +29,4 @@ pub returns-in-Err-clause-fault : goal.returns-in-Err-clause-fault
 returns-in-Err-clause-fault c =
     not_advanced (peer_of c.args.self.now) c.args.ticks c.advance.new.self.peer c.advance.result c.advance.ensures.peer c.advance.ensures.no_memory
     (rw c.in-Err.is refl)
-    ∙ ap (λ player. Some (faults.TickLimit player)) (sym c.player-player.ensures.value)
+    ∙ ap (λ player. Some (errors.TickLimit player)) (sym c.player-player.ensures.value)

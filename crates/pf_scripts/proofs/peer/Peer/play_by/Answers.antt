@@ -6,9 +6,9 @@ use Rattle.pf_peers.specs.Crews.{CanFail}
 use Rattle.pf_step.specs.declared.crew.CrewError.{CrewError}
 use Rattle.pf_step.specs.declared.crew.CrewError.TheVariants.{GateShut, OutOfMemory}
 use Rattle.pf_scripts.specs.Peer.{peer_of, setting_of}
-use Rattle.pf_scripts.specs.Play.{HasMoved, IsPeerFault}
+use Rattle.pf_scripts.specs.Play.{HasMoved, IsPeerError}
 use Rattle.pf_scripts.specs.Script.{frames_in, frames_of, script_fault, ticks_of, turn_fault}
-use Rattle.pf_scripts.specs.declared.fault.SessionFault.TheVariants as faults
+use Rattle.pf_scripts.specs.declared.error.SessionError.TheVariants as errors
 use Rattle.pf_scripts.proofs.Faults.{frames_more, script_fault_end, ticks_more, turn_fault_here, turn_fault_later}
 use Rattle.pf_scripts.proofs.Moves.{moved_none, moved_then}
 use Rattle.pf_scripts.proofs.peer.Peer.play_by.Goals as goal
@@ -29,7 +29,7 @@ loop-number-init g c = record {
 pub returns-then-not-pass-clause-fault : goal.returns-then-not-pass-clause-fault
 returns-then-not-pass-clause-fault g c =
     let shut : c.pass.result ≡ false = search rules in
-    inl (GateShut, inr (refl, not_always g.G.Gate.ALWAYS c.pass.result c.pass.ensures shut), ap (λ p. faults.Peer p GateShut) c.player-player.ensures.value)
+    inl (GateShut, inr (refl, not_always g.G.Gate.ALWAYS c.pass.result c.pass.ensures shut), ap (λ p. errors.Peer p GateShut) c.player-player.ensures.value)
 
 pub returns-in_err-place-clause-fault : goal.returns-in_err-place-clause-fault
 returns-in_err-place-clause-fault g c =
@@ -46,8 +46,8 @@ returns-in_err-place-clause-fault g c =
     let fault = c.in_err-place.field-0.0 in
     let outcome : c.from_residual.result ≡ Err fault = rw (error.1, error.2) refl in
     let MayBe : CrewError → Type 0 = λ e. (e ≡ OutOfMemory ⊎ CanFail g.C.Crew.may_fail e) ⊎ (e ≡ GateShut) × (g.G.Gate.ALWAYS ≡ false) in
-    subst (λ r. IfErr r (λ f. IsPeerFault MayBe p.player f ⊎ (script_fault s p.player 0 p.reached script ≡ Some f))) (sym outcome)
-    (⊎_elim (λ own. inl (own.0, inl own.1, own.2 ∙ ap (λ player. faults.Peer player own.0) is.moved.player))
+    subst (λ r. IfErr r (λ f. IsPeerError MayBe p.player f ⊎ (script_fault s p.player 0 p.reached script ≡ Some f))) (sym outcome)
+    (⊎_elim (λ own. inl (own.0, inl own.1, own.2 ∙ ap (λ player. errors.Peer player own.0) is.moved.player))
     (λ own. inr (turn_fault_here s p.player 0 c.loop-number.place p.reached (peer_of c.loop-number.peer).reached script n turn low at is.fault fault
     (ap₂ (λ z player. turn_fault z player c.loop-number.place (peer_of c.loop-number.peer).reached turn) (sym is.moved.setting) (sym is.moved.player) ∙ own)))
     c.in_err-place.ensures.fault)

@@ -5,7 +5,7 @@ use Rattle.std.specs.Prelude.{◌⊎◌, IfErr}
 use Rattle.pf_step.specs.declared.crew.CrewError.TheVariants.{OutOfMemory}
 use Rattle.pf_scripts.specs.Frames.{refusal_of}
 use Rattle.pf_scripts.specs.Peer.{peer_of, setting_of}
-use Rattle.pf_scripts.specs.Play.{HasMoved, IsPeerFault}
+use Rattle.pf_scripts.specs.Play.{HasMoved, IsPeerError}
 use Rattle.pf_scripts.specs.Script.{bytes_of, frame_fault, place_after}
 use Rattle.pf_scripts.proofs.Faults.{bytes_at, fault_here, fault_later, frame_fault_end, place_after_end, place_later}
 use Rattle.pf_scripts.proofs.Moves.{moved_none, moved_then}
@@ -30,8 +30,8 @@ returns-in_err-take_own-clause-fault c =
     let error = err_from_is_err_and c.from_residual.result c.from_residual.ensures.1 in
     let fault = c.in_err-take_own.field-0.0 in
     let outcome : c.from_residual.result ≡ Err fault = rw (error.1, error.2) refl in
-    subst (λ r. IfErr r (λ f. IsPeerFault (λ e. e ≡ OutOfMemory) player f ⊎ (frame_fault s player c.args.place all ≡ Some f))) (sym outcome)
-    (⊎_elim (λ memory. inl (subst (λ p. IsPeerFault (λ e. e ≡ OutOfMemory) p fault) is.moved.player memory))
+    subst (λ r. IfErr r (λ f. IsPeerError (λ e. e ≡ OutOfMemory) player f ⊎ (frame_fault s player c.args.place all ≡ Some f))) (sym outcome)
+    (⊎_elim (λ memory. inl (subst (λ p. IsPeerError (λ e. e ≡ OutOfMemory) p fault) is.moved.player memory))
     (λ refused. inr (fault_here s player c.args.place c.loop-number.place all n frame low at fault is.fault
     (ap₂ (λ z p. frame_fault z p c.loop-number.place (frame ∷ [])) (sym is.moved.setting) (sym is.moved.player) ∙ refused)))
     c.in_err-take_own.ensures.fault)
