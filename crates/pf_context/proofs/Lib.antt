@@ -1,0 +1,4 @@
+-- The lemmas of this crate.
+pub mod Buffers
+pub mod Called
+pub mod Later

@@ -1,0 +1,21 @@
+use Rattle.std.proofs.Common.{◌≡◌, rules}
+use Rattle.std.specs.Prelude.{IsSome, Ok}
+use Rattle.pf_context.specs.Calls.{MergesAlone}
+use Rattle.pf_context.specs.Context.{peer_at, with_peer}
+use Rattle.pf_context.specs.Errors.{peer_error, returned}
+use Rattle.pf_context.proofs.Called.{called}
+use Rattle.pf_context.proofs.context.Context.merge_alone.Goals as goal
+
+pub returns-in_err-merge_two_alone-clause-call : goal.returns-in_err-merge_two_alone-clause-call
+returns-in_err-merge_two_alone-clause-call c = λ others apart named.
+    let some : IsSome (peer_at c.args.self.now c.args.peer) = search rules in
+    let same : c.from_residual.result ≡ returned peer_error c.merge_two_alone.result = search rules in
+    called peer_at with_peer peer_error _ _ c.args.peer _ (MergesAlone others.peer) c.merge_two_alone.result some
+    (λ before is. c.merge_two_alone.ensures before others is named) same
+
+pub returns-clause-call : goal.returns-clause-call
+returns-clause-call c = λ others apart named.
+    let some : IsSome (peer_at c.args.self.now c.args.peer) = search rules in
+    let same : Ok c.in_ok-merge_two_alone.field-0 ≡ returned peer_error c.merge_two_alone.result = search rules in
+    called peer_at with_peer peer_error _ _ c.args.peer _ (MergesAlone others.peer) c.merge_two_alone.result some
+    (λ before is. c.merge_two_alone.ensures before others is named) same

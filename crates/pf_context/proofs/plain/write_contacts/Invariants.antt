@@ -1,0 +1,7 @@
+use Rattle.std.proofs.Common.{◌≡◌}
+use Rattle.pf_context.specs.Plain.{plain_contact}
+use Rattle.pf_context.proofs.Buffers.{written}
+use Rattle.pf_context.proofs.plain.write_contacts.Given as goal
+
+abbrev pub invariant-loop-i : goal.invariant-loop-i
+invariant-loop-i l = l.buffer ≡ written plain_contact l.contacts l.initial.buffer l.i

@@ -1,0 +1,8 @@
+-- What the contracts of this crate cite.
+pub mod Context
+pub mod Errors
+pub mod Numbers
+pub mod Calls
+pub mod Plain
+pub mod Worlds
+pub mod Frames

@@ -1,0 +1,44 @@
+//! The context.
+
+ghost use Rattle.std.specs.Prelude.{◌≡◌};
+
+use pf_rollback::PeerCore;
+use pf_shapes::Scene;
+use pf_table::Table;
+use std::alloc::Global;
+use std::marker::Model;
+
+/// Scenes and peers, each under a key of its own.
+///
+/// Contracts see the slots of the scenes and those of the peers.
+#[derive(Drop)]
+pub struct Context {
+    pub(crate) scenes: Table<Scene>,
+    pub(crate) peers: Table<PeerCore>,
+}
+
+impl Model for Context {
+    ghost use Rattle.std.specs.Coded.{codes};
+    ghost use Rattle.pf_commands.specs.contracts.map.CommandMap.{the_row};
+    ghost use Rattle.pf_context.specs.Context.{Context};
+
+    ghost Value = { Context };
+
+    ghost coded = { Prim.hlevel (codes, the_row.coded) };
+
+    ghost view = { λ c. record { scenes = c.scenes; peers = c.peers } };
+}
+
+impl Context {
+    ghost use Rattle.pf_context.specs.Context.{empty_context};
+
+    /// A context of no scenes and no peers. Takes no memory.
+    pub fn new(alloc: Global) -> Context
+        ensures { result ≡ empty_context }
+    {
+        Context {
+            scenes: Table::new(alloc),
+            peers: Table::new(alloc),
+        }
+    }
+}
