@@ -1,0 +1,267 @@
+"""The physics core for Python, over libbuyosen.so: for replay checkers and for tools.
+
+    from buyosen import Context, ONE
+
+    with Context() as context:
+        scene = context.read_scene(open("scene.txt", "rb").read())
+        peer = scene.peer(player=0, ring=16)
+        frame = peer.push(0, (6 * ONE, 0))
+        peer.advance(20)
+        peer.settle()
+        for body in peer.world(20).bodies:
+            print(body.x / ONE, body.y / ONE)
+
+Numbers are whole numbers in units of 2^-24, so 1 is ONE; a tick is 1/64 s. A call that fails raises
+Error, with its code; the codes and what they mean stand in pf.h. The library is the one in out/
+beside this file, or in lib/ beside its folder, or else the one that the loader finds.
+"""
+
+import ctypes
+from ctypes import POINTER, byref, c_bool, c_int64, c_size_t, c_uint8, c_uint16, c_uint32, c_uint64
+from pathlib import Path
+from typing import NamedTuple
+
+ONE = 1 << 24
+FRAME_LEN = 27
+NOBODY = 255
+SMALL_BUFFER = 5
+PUTS = ("new", "same", "greater", "lesser")
+
+
+class Error(Exception):
+    """A call that failed, and why: `code` is one of pf.h, `line` that of an invalid line."""
+
+    def __init__(self, code, line=None):
+        super().__init__(f"code {code}" + (f" in line {line}" if line else ""))
+        self.code = code
+        self.line = line
+
+
+class _Context(ctypes.Structure):
+    _fields_ = [("is_open", c_bool), ("at", ctypes.c_void_p)]
+
+
+class _Key(ctypes.Structure):
+    _fields_ = [("index", c_uint32), ("generation", c_uint32)]
+
+
+class _V2(ctypes.Structure):
+    _fields_ = [("x", c_int64), ("y", c_int64)]
+
+
+class _Material(ctypes.Structure):
+    _fields_ = [("mass", c_int64), ("friction", c_int64), ("owner", c_uint8)]
+
+
+class _Sizes(ctypes.Structure):
+    _fields_ = [("bodies", c_uint64), ("contacts", c_uint64)]
+
+
+class Body(ctypes.Structure):
+    """A body of a world: position, rotation (cosine c, sine s), velocity, sleep timer."""
+
+    _fields_ = [(name, c_int64) for name in ("x", "y", "c", "s", "vx", "vy", "spin")] + [
+        ("timer", c_uint32),
+        ("awake", c_uint32),
+    ]
+
+
+class Contact(ctypes.Structure):
+    """A contact of a world: two bodies, the feature of the point, accumulated impulses."""
+
+    _fields_ = [
+        ("a", c_uint16),
+        ("b", c_uint16),
+        ("feature", c_uint32),
+        ("normal", c_int64),
+        ("tangent", c_int64),
+    ]
+
+
+class World(NamedTuple):
+    bodies: list
+    contacts: list
+
+
+_Frame = c_uint8 * FRAME_LEN
+_PARAMETERS = {
+    "open": [],
+    "close": [],
+    "scene_read": [ctypes.c_char_p, c_size_t, POINTER(_Key), POINTER(c_uint64)],
+    "scene_new": [_V2, POINTER(_Key)],
+    "scene_free": [_Key],
+    "circle": [_Key, _Material, c_int64, _V2, POINTER(c_uint64)],
+    "box": [_Key, _Material, _V2, _V2, _V2, POINTER(c_uint64)],
+    "peer_new": [_Key, c_uint8, c_uint32, POINTER(_Key)],
+    "peer_free": [_Key],
+    "push": [_Key, c_uint16, _V2, POINTER(_Frame)],
+    "turn": [_Key, c_uint16, c_int64, POINTER(_Frame)],
+    "stop": [_Key, c_uint16, POINTER(_Frame)],
+    "place": [_Key, c_uint16, _V2, POINTER(_Frame)],
+    "take": [_Key, ctypes.c_char_p, c_size_t, POINTER(c_uint32)],
+    "merge": [_Key, _Key, POINTER(c_uint64)],
+    "advance": [_Key, c_uint32, POINTER(c_uint32)],
+    "settle": [_Key, POINTER(c_uint32)],
+    "seal": [_Key, c_uint32],
+    "reached": [_Key, POINTER(c_uint32)],
+    "settled": [_Key, POINTER(c_uint32)],
+    "horizon": [_Key, POINTER(c_uint32)],
+    "world": [_Key, c_uint32, POINTER(Body), c_size_t, POINTER(Contact), c_size_t, POINTER(_Sizes)],
+}
+
+
+def _load():
+    here = Path(__file__).resolve().parent
+    places = [here / "out", here.parent / "lib"]
+    paths = [str(place / "libbuyosen.so") for place in places if (place / "libbuyosen.so").exists()]
+    library = ctypes.CDLL(paths[0] if paths else "libbuyosen.so")
+    for name, parameters in _PARAMETERS.items():
+        function = getattr(library, "pf_" + name)
+        function.argtypes = [POINTER(_Context), *parameters]
+        function.restype = c_uint32
+    return library
+
+
+_LIBRARY = _load()
+
+
+class Context:
+    """Scenes and peers. Closing it frees them all. One thread calls it at a time."""
+
+    def __init__(self):
+        self._context = _Context()
+        self.call("open")
+
+    def __enter__(self):
+        return self
+
+    def __exit__(self, *_):
+        self.close()
+
+    def close(self):
+        self.call("close")
+
+    def call(self, name, *arguments):
+        """Calls pf_NAME."""
+        code = getattr(_LIBRARY, "pf_" + name)(byref(self._context), *arguments)
+        if code:
+            raise Error(code)
+
+    def output(self, kind, name, *arguments):
+        """What pf_NAME writes to its last parameter."""
+        value = kind()
+        self.call(name, *arguments, byref(value))
+        return value
+
+    def read_scene(self, text):
+        """The scene that a text describes: the lines from `gravity` to `end`."""
+        key, line = _Key(), c_uint64()
+        try:
+            self.call("scene_read", text, len(text), byref(key), byref(line))
+        except Error as error:
+            raise Error(error.code, line.value) from None
+        return Scene(self, key)
+
+    def scene(self, gravity):
+        """A scene without bodies."""
+        return Scene(self, self.output(_Key, "scene_new", _V2(*gravity)))
+
+
+class Scene:
+    def __init__(self, context, key):
+        self._context, self._key = context, key
+
+    def circle(self, mass, friction, radius, position, owner=NOBODY):
+        """Adds a circle, and returns its number."""
+        material = _Material(mass, friction, owner)
+        arguments = (self._key, material, radius, _V2(*position))
+        return self._context.output(c_uint64, "circle", *arguments).value
+
+    def box(self, mass, friction, half, position, direction=(ONE, 0), owner=NOBODY):
+        """Adds a box, and returns its number."""
+        material = _Material(mass, friction, owner)
+        arguments = (self._key, material, _V2(*half), _V2(*position), _V2(*direction))
+        return self._context.output(c_uint64, "box", *arguments).value
+
+    def peer(self, player=0, ring=16):
+        """A peer of this scene."""
+        key = self._context.output(_Key, "peer_new", self._key, player, ring)
+        return Peer(self._context, key)
+
+    def free(self):
+        self._context.call("scene_free", self._key)
+
+
+class Peer:
+    def __init__(self, context, key):
+        self._context, self._key = context, key
+
+    def _output(self, kind, name, *arguments):
+        return self._context.output(kind, name, self._key, *arguments)
+
+    def push(self, body, impulse):
+        """Issues a push, and returns its frame."""
+        return bytes(self._output(_Frame, "push", body, _V2(*impulse)))
+
+    def turn(self, body, impulse):
+        """Issues a turn, and returns its frame."""
+        return bytes(self._output(_Frame, "turn", body, impulse))
+
+    def stop(self, body):
+        """Issues a stop, and returns its frame."""
+        return bytes(self._output(_Frame, "stop", body))
+
+    def place(self, body, position):
+        """Issues a place, and returns its frame."""
+        return bytes(self._output(_Frame, "place", body, _V2(*position)))
+
+    def take(self, frame):
+        """Takes a frame, and returns what it did: new, same, greater or lesser."""
+        return PUTS[self._output(c_uint32, "take", frame, len(frame)).value]
+
+    def merge(self, other):
+        """Takes all commands of another peer, and returns how many changed this one."""
+        return self._output(c_uint64, "merge", other._key).value
+
+    def advance(self, ticks=1):
+        """Goes on by some ticks, and returns the tick that is reached."""
+        return self._output(c_uint32, "advance", ticks).value
+
+    def settle(self):
+        """Simulates up to the reached tick, and returns it."""
+        return self._output(c_uint32, "settle").value
+
+    def seal(self, tick):
+        """Forgets what came before this tick."""
+        self._context.call("seal", self._key, tick)
+
+    @property
+    def reached(self):
+        return self._output(c_uint32, "reached").value
+
+    @property
+    def settled(self):
+        return self._output(c_uint32, "settled").value
+
+    @property
+    def horizon(self):
+        return self._output(c_uint32, "horizon").value
+
+    def world(self, tick):
+        """The world at a tick, from the horizon to the reached one."""
+        sizes = _Sizes()
+        while True:
+            # One element more than it has: no array is empty, so no pointer is null.
+            bodies = (Body * (sizes.bodies + 1))()
+            contacts = (Contact * (sizes.contacts + 1))()
+            arguments = (bodies, sizes.bodies, contacts, sizes.contacts, byref(sizes))
+            try:
+                self._context.call("world", self._key, tick, *arguments)
+            except Error as error:
+                if error.code != SMALL_BUFFER:
+                    raise
+                continue
+            return World(bodies[: sizes.bodies], contacts[: sizes.contacts])
+
+    def free(self):
+        self._context.call("peer_free", self._key)

@@ -1,0 +1,317 @@
+/* Each call with what C can do wrong: closed contexts, keys that were freed, made up or of another
+ * context, numbers out of range, frames and buffers of every length. Prints the lines that fail. */
+#include <inttypes.h>
+#include <stdio.h>
+#include <stdlib.h>
+#include <string.h>
+
+#include "pf.h"
+
+_Static_assert(sizeof(pf_context) == 16, "pf_context");
+_Static_assert(sizeof(pf_key) == 8, "pf_key");
+_Static_assert(sizeof(pf_material) == 24, "pf_material");
+_Static_assert(sizeof(pf_frame) == PF_FRAME_LEN, "pf_frame");
+_Static_assert(sizeof(pf_body) == 64, "pf_body");
+_Static_assert(sizeof(pf_contact) == 24, "pf_contact");
+
+static int failures;
+
+#define EXPECT(actual, expected) expect(__LINE__, (uint64_t)(actual), (uint64_t)(expected))
+
+static void expect(int line, uint64_t actual, uint64_t expected)
+{
+    if (actual != expected) {
+        printf("calls.c:%d: %" PRIu64 ", not %" PRIu64 "\n", line, actual, expected);
+        failures++;
+    }
+}
+
+static const pf_v2 ORIGIN = {0, 0};
+static const pf_v2 UPRIGHT = {PF_ONE, 0};
+static const pf_v2 DOWN = {0, -10 * PF_ONE};
+static const pf_material STATIC = {0, PF_ONE / 2, PF_NOBODY};
+static const pf_material OF_PLAYER_0 = {PF_ONE, PF_ONE / 2, 0};
+static const pf_material OF_NOBODY = {PF_ONE, PF_ONE / 2, PF_NOBODY};
+
+/* A floor, a box and a circle that stand on it. */
+static pf_scene floor_scene(pf_context *context)
+{
+    pf_scene scene;
+    uint64_t body;
+    pf_v2 floor = {20 * PF_ONE, PF_ONE}, under = {0, -PF_ONE};
+    pf_v2 half = {PF_ONE, PF_ONE}, left = {-4 * PF_ONE, PF_ONE}, right = {4 * PF_ONE, PF_ONE};
+    EXPECT(pf_scene_new(context, DOWN, &scene), PF_OK);
+    EXPECT(pf_box(context, scene, STATIC, floor, under, UPRIGHT, &body), PF_OK);
+    EXPECT(body, 0);
+    EXPECT(pf_box(context, scene, OF_PLAYER_0, half, left, UPRIGHT, &body), PF_OK);
+    EXPECT(body, 1);
+    EXPECT(pf_circle(context, scene, OF_NOBODY, PF_ONE, right, &body), PF_OK);
+    EXPECT(body, 2);
+    return scene;
+}
+
+/* Each call on a scene or a peer returns this code. */
+static void expect_all(pf_context *context, pf_scene scene, pf_peer peer, uint32_t code)
+{
+    pf_peer new_peer;
+    pf_frame frame = {{0}};
+    pf_body body;
+    pf_contact contact;
+    pf_sizes sizes;
+    uint64_t count;
+    uint32_t number;
+    pf_v2 half = {PF_ONE, PF_ONE};
+    EXPECT(pf_circle(context, scene, OF_NOBODY, PF_ONE, ORIGIN, &count), code);
+    EXPECT(pf_box(context, scene, OF_NOBODY, half, ORIGIN, UPRIGHT, &count), code);
+    EXPECT(pf_peer_new(context, scene, 0, 1, &new_peer), code);
+    EXPECT(pf_scene_free(context, scene), code);
+    EXPECT(pf_push(context, peer, 0, ORIGIN, &frame), code);
+    EXPECT(pf_turn(context, peer, 0, 0, &frame), code);
+    EXPECT(pf_stop(context, peer, 0, &frame), code);
+    EXPECT(pf_place(context, peer, 0, ORIGIN, &frame), code);
+    EXPECT(pf_take(context, peer, frame.bytes, PF_FRAME_LEN, &number), code);
+    EXPECT(pf_merge(context, peer, peer, &count), code);
+    EXPECT(pf_advance(context, peer, 1, &number), code);
+    EXPECT(pf_settle(context, peer, &number), code);
+    EXPECT(pf_seal(context, peer, 0), code);
+    EXPECT(pf_reached(context, peer, &number), code);
+    EXPECT(pf_settled(context, peer, &number), code);
+    EXPECT(pf_horizon(context, peer, &number), code);
+    EXPECT(pf_world(context, peer, 0, &body, 0, &contact, 0, &sizes), code);
+    EXPECT(pf_peer_free(context, peer), code);
+}
+
+static void closed_contexts(void)
+{
+    pf_context context = {0};
+    pf_scene scene = {{0, 0}};
+    pf_peer peer = {{0, 0}};
+    uint64_t line = 7;
+    EXPECT(pf_close(&context), PF_CLOSED);
+    expect_all(&context, scene, peer, PF_CLOSED);
+    EXPECT(pf_scene_new(&context, DOWN, &scene), PF_CLOSED);
+    EXPECT(pf_scene_read(&context, (const uint8_t *)"x", 1, &scene, &line), PF_CLOSED);
+    EXPECT(line, 7);
+    EXPECT(pf_open(&context), PF_OK);
+    EXPECT(pf_open(&context), PF_STILL_OPEN);
+    EXPECT(pf_close(&context), PF_OK);
+    expect_all(&context, scene, peer, PF_CLOSED);
+}
+
+static void keys(void)
+{
+    static const uint32_t NUMBERS[] = {0, 1, 2, 3, 1000, UINT32_MAX - 1, UINT32_MAX};
+    const size_t count = sizeof NUMBERS / sizeof *NUMBERS;
+    pf_context context = {0}, other = {0};
+    pf_scene scene, later;
+    pf_peer peer, fresh;
+    uint32_t tick;
+    EXPECT(pf_open(&context), PF_OK);
+    EXPECT(pf_open(&other), PF_OK);
+    for (size_t i = 0; i < count; i++)
+        for (size_t j = 0; j < count; j++) {
+            pf_key key = {NUMBERS[i], NUMBERS[j]};
+            expect_all(&context, (pf_scene){key}, (pf_peer){key}, PF_BAD_KEY);
+        }
+    scene = floor_scene(&context);
+    EXPECT(pf_peer_new(&context, scene, 0, 1, &peer), PF_OK);
+    EXPECT(pf_advance(&context, peer, 5, &tick), PF_OK);
+    /* The other context has neither. */
+    expect_all(&other, scene, peer, PF_BAD_KEY);
+    /* A peer stays when its scene is freed, and a freed key stays one. */
+    EXPECT(pf_scene_free(&context, scene), PF_OK);
+    EXPECT(pf_reached(&context, peer, &tick), PF_OK);
+    EXPECT(tick, 5);
+    EXPECT(pf_peer_free(&context, peer), PF_OK);
+    for (int i = 0; i < 100; i++) {
+        later = floor_scene(&context);
+        EXPECT(pf_peer_new(&context, later, 0, 1, &fresh), PF_OK);
+        expect_all(&context, scene, peer, PF_BAD_KEY);
+        EXPECT(pf_reached(&context, fresh, &tick), PF_OK);
+        EXPECT(tick, 0);
+        EXPECT(pf_scene_free(&context, later), PF_OK);
+        EXPECT(pf_peer_free(&context, fresh), PF_OK);
+    }
+    EXPECT(pf_close(&other), PF_OK);
+    EXPECT(pf_close(&context), PF_OK);
+}
+
+static void scene_errors(void)
+{
+    static const struct {
+        const char *text;
+        uint32_t code;
+        uint64_t line;
+    } TEXTS[] = {
+        {"", PF_SCENE_BAD_LINE, 1},
+        {"gravity 0 0\ncircle\nend\n", PF_SCENE_BAD_LINE, 2},
+        {"gravity 0 17179869185\nend\n", PF_SCENE_BAD_NUMBER, 1},
+        {"gravity 0 0\n\ncircle 8 0 0 16777216 0 0\nend\n", PF_SCENE_BAD_NUMBER, 3},
+        {"gravity 0 0\ncircle 0 1 0 16777216 0 0\nend\n", PF_SCENE_BAD_MASS, 2},
+        {"gravity 0 0\ncircle 0 0 0 1 0 0\nend\n", PF_SCENE_BAD_SIZE, 2},
+    };
+    const pf_v2 far = {INT64_C(1) << 45, 0}, thin = {PF_ONE, 1}, half = {PF_ONE, PF_ONE};
+    const pf_material light = {1, 0, 0}, foreign = {0, 0, 8}, rough = {0, 67108865, 0};
+    pf_context context = {0};
+    pf_scene scene = {{77, 78}};
+    uint64_t line, body = 9;
+    EXPECT(pf_open(&context), PF_OK);
+    for (size_t i = 0; i < sizeof TEXTS / sizeof *TEXTS; i++) {
+        const uint8_t *text = (const uint8_t *)TEXTS[i].text;
+        line = 0;
+        EXPECT(pf_scene_read(&context, text, strlen(TEXTS[i].text), &scene, &line), TEXTS[i].code);
+        EXPECT(line, TEXTS[i].line);
+        EXPECT(scene.key.index, 77);
+    }
+    EXPECT(pf_scene_new(&context, (pf_v2){INT64_MIN, 0}, &scene), PF_SCENE_BAD_NUMBER);
+    EXPECT(pf_scene_new(&context, (pf_v2){0, INT64_MAX}, &scene), PF_SCENE_BAD_NUMBER);
+    EXPECT(scene.key.generation, 78);
+    EXPECT(pf_scene_new(&context, ORIGIN, &scene), PF_OK);
+    EXPECT(pf_circle(&context, scene, light, PF_ONE, ORIGIN, &body), PF_SCENE_BAD_MASS);
+    EXPECT(pf_circle(&context, scene, foreign, PF_ONE, ORIGIN, &body), PF_SCENE_BAD_NUMBER);
+    EXPECT(pf_circle(&context, scene, rough, PF_ONE, ORIGIN, &body), PF_SCENE_BAD_NUMBER);
+    EXPECT(pf_circle(&context, scene, STATIC, INT64_MIN, ORIGIN, &body), PF_SCENE_BAD_SIZE);
+    EXPECT(pf_circle(&context, scene, STATIC, PF_ONE, far, &body), PF_SCENE_BAD_NUMBER);
+    EXPECT(pf_box(&context, scene, STATIC, thin, ORIGIN, UPRIGHT, &body), PF_SCENE_BAD_SIZE);
+    EXPECT(pf_box(&context, scene, STATIC, half, ORIGIN, far, &body), PF_SCENE_BAD_NUMBER);
+    EXPECT(body, 9);
+    for (uint64_t i = 0; i < 1024; i++) {
+        EXPECT(pf_circle(&context, scene, OF_NOBODY, PF_ONE, ORIGIN, &body), PF_OK);
+        EXPECT(body, i);
+    }
+    EXPECT(pf_circle(&context, scene, STATIC, PF_ONE, ORIGIN, &body), PF_SCENE_TOO_MANY);
+    EXPECT(pf_close(&context), PF_OK);
+}
+
+static void peer_errors(void)
+{
+    const int64_t great = (INT64_C(1) << 55);
+    pf_context context = {0};
+    pf_scene scene;
+    pf_peer peer;
+    pf_frame frame, command;
+    uint32_t number = 3;
+    EXPECT(pf_open(&context), PF_OK);
+    scene = floor_scene(&context);
+    EXPECT(pf_peer_new(&context, scene, 8, 1, &peer), PF_BAD_PLAYER);
+    EXPECT(pf_peer_new(&context, scene, 0, 0, &peer), PF_BAD_RING);
+    EXPECT(pf_peer_new(&context, scene, 0, 65, &peer), PF_BAD_RING);
+    EXPECT(pf_peer_new(&context, scene, 0, 64, &peer), PF_OK);
+    EXPECT(pf_push(&context, peer, 1, (pf_v2){great, 0}, &frame), PF_BAD_NUMBER);
+    EXPECT(pf_turn(&context, peer, 1, -great, &frame), PF_BAD_NUMBER);
+    EXPECT(pf_place(&context, peer, 1, (pf_v2){0, great}, &frame), PF_BAD_NUMBER);
+    EXPECT(pf_stop(&context, peer, 3, &frame), PF_UNKNOWN_BODY);
+    EXPECT(pf_stop(&context, peer, 0, &frame), PF_STATIC_BODY);
+    EXPECT(pf_stop(&context, peer, 2, &frame), PF_NOT_OWNER);
+    EXPECT(pf_seal(&context, peer, 1), PF_NOT_REACHED);
+    EXPECT(pf_advance(&context, peer, 1048577, &number), PF_TICK_LIMIT);
+    EXPECT(number, 3);
+    EXPECT(pf_stop(&context, peer, 1, &command), PF_OK);
+    EXPECT(pf_take(&context, peer, command.bytes, PF_FRAME_LEN, &number), PF_OK);
+    EXPECT(number, PF_SAME);
+    for (size_t length = 0; length < PF_FRAME_LEN; length++)
+        EXPECT(pf_take(&context, peer, command.bytes, length, &number), PF_FRAME_SHORT);
+    frame = command;
+    frame.bytes[0] = 9;
+    EXPECT(pf_take(&context, peer, frame.bytes, PF_FRAME_LEN, &number), PF_FRAME_BAD_VERSION);
+    frame = command;
+    frame.bytes[PF_FRAME_LEN - 1] = 1;
+    EXPECT(pf_take(&context, peer, frame.bytes, PF_FRAME_LEN, &number), PF_FRAME_NOT_CANONICAL);
+    EXPECT(pf_advance(&context, peer, 2, &number), PF_OK);
+    EXPECT(pf_settle(&context, peer, &number), PF_OK);
+    EXPECT(pf_seal(&context, peer, 2), PF_OK);
+    EXPECT(pf_take(&context, peer, command.bytes, PF_FRAME_LEN, &number), PF_TOO_OLD);
+    EXPECT(pf_seal(&context, peer, 1), PF_TOO_OLD);
+    EXPECT(pf_close(&context), PF_OK);
+}
+
+static void numbers_of_a_tick(void)
+{
+    pf_context context = {0};
+    pf_peer peer;
+    pf_frame frame;
+    EXPECT(pf_open(&context), PF_OK);
+    EXPECT(pf_peer_new(&context, floor_scene(&context), 0, 1, &peer), PF_OK);
+    for (uint32_t i = 0; i < 65536; i++)
+        EXPECT(pf_stop(&context, peer, 1, &frame), PF_OK);
+    EXPECT(pf_stop(&context, peer, 1, &frame), PF_NUMBERS_SPENT);
+    EXPECT(pf_close(&context), PF_OK);
+}
+
+static void merging(void)
+{
+    pf_context context = {0};
+    pf_scene scene, empty;
+    pf_peer ours, theirs, foreign;
+    pf_frame frame;
+    uint64_t count = 5;
+    uint32_t tick;
+    EXPECT(pf_open(&context), PF_OK);
+    scene = floor_scene(&context);
+    EXPECT(pf_scene_new(&context, ORIGIN, &empty), PF_OK);
+    EXPECT(pf_peer_new(&context, scene, 0, 1, &ours), PF_OK);
+    EXPECT(pf_peer_new(&context, scene, 1, 1, &theirs), PF_OK);
+    EXPECT(pf_peer_new(&context, empty, 1, 1, &foreign), PF_OK);
+    EXPECT(pf_stop(&context, ours, 1, &frame), PF_OK);
+    EXPECT(pf_merge(&context, theirs, ours, &count), PF_OK);
+    EXPECT(count, 1);
+    EXPECT(pf_merge(&context, theirs, ours, &count), PF_OK);
+    EXPECT(count, 0);
+    EXPECT(pf_merge(&context, ours, ours, &count), PF_OK);
+    EXPECT(count, 0);
+    EXPECT(pf_merge(&context, foreign, ours, &count), PF_BASES_DIFFER);
+    EXPECT(pf_advance(&context, ours, 1, &tick), PF_OK);
+    EXPECT(pf_seal(&context, ours, 1), PF_OK);
+    EXPECT(pf_horizon(&context, ours, &tick), PF_OK);
+    EXPECT(tick, 1);
+    count = 5;
+    EXPECT(pf_merge(&context, theirs, ours, &count), PF_HORIZONS_DIFFER);
+    EXPECT(count, 5);
+    EXPECT(pf_close(&context), PF_OK);
+}
+
+/* Buffers of each pair of lengths: one that is too small stays as it was. */
+static void buffers(void)
+{
+    enum { MOST = 6 };
+    pf_context context = {0};
+    pf_peer peer;
+    uint32_t settled;
+    EXPECT(pf_open(&context), PF_OK);
+    EXPECT(pf_peer_new(&context, floor_scene(&context), 0, 4, &peer), PF_OK);
+    EXPECT(pf_advance(&context, peer, 8, &settled), PF_OK);
+    EXPECT(pf_settle(&context, peer, &settled), PF_OK);
+    EXPECT(settled, 8);
+    for (size_t b = 0; b <= MOST; b++)
+        for (size_t c = 0; c <= MOST; c++) {
+            pf_body bodies[MOST + 1], untouched[MOST + 1];
+            pf_contact contacts[MOST + 1], none[MOST + 1];
+            pf_sizes sizes = {0, 0};
+            memset(bodies, 0x5a, sizeof bodies);
+            memset(untouched, 0x5a, sizeof untouched);
+            memset(contacts, 0x5a, sizeof contacts);
+            memset(none, 0x5a, sizeof none);
+            uint32_t code = pf_world(&context, peer, 8, bodies, b, contacts, c, &sizes);
+            EXPECT(sizes.bodies, 3);
+            EXPECT(sizes.contacts, 3);
+            EXPECT(code, b < 3 || c < 3 ? PF_SMALL_BUFFER : PF_OK);
+            size_t written = code == PF_OK ? 3 : 0;
+            EXPECT(memcmp(bodies + written, untouched, sizeof *bodies * (MOST + 1 - written)), 0);
+            EXPECT(memcmp(contacts + written, none, sizeof *contacts * (MOST + 1 - written)), 0);
+            if (code == PF_OK)
+                EXPECT(bodies[0].y, -PF_ONE);
+        }
+    EXPECT(pf_close(&context), PF_OK);
+}
+
+int main(void)
+{
+    closed_contexts();
+    keys();
+    scene_errors();
+    peer_errors();
+    numbers_of_a_tick();
+    merging();
+    buffers();
+    return failures != 0;
+}

@@ -1,0 +1,249 @@
+/* Buyosen: a deterministic 2D physics core for rollback netcode, behind C.
+ *
+ * Peers of one scene that hold the same commands show the same worlds, bit for bit: however late,
+ * in which order and how often the frames of the commands came.
+ *
+ * Units. Numbers are whole numbers in units of 2^-24, so 1 is PF_ONE: positions and sizes, masses,
+ * friction, the cosine and sine of a rotation, velocities (a second), impulses (mass times
+ * velocity). A tick is 1/64 s.
+ *
+ * A context holds scenes and peers. It begins as zeros, `pf_context context = {0};`. A key names a
+ * scene or a peer of a context. A key that was freed or made up names nothing: the call returns
+ * PF_BAD_KEY and changes nothing. A key of another context is such a key too, unless this context
+ * gave out an equal one; then it names what that one names. No key can crash a call.
+ *
+ * What the caller promises:
+ *  1. a pf_context is all zeros, or as the last call left it, and is not copied;
+ *  2. each other pointer is aligned, not null, also where its length is 0, live for its length, and
+ *     overlaps no other argument;
+ *  3. all calls on a context come from one thread; different contexts may be in different threads;
+ *  4. no call comes from a signal handler, or from the child of a fork of a program with threads;
+ *  5. malloc, realloc and free are those of one allocator.
+ *
+ * Each call returns PF_OK, or why it failed. A call that fails changes nothing but what is said
+ * below of pf_settle, and leaves its outputs, the last parameters, as they were, but for the line
+ * of pf_scene_read and the sizes of pf_world. No call starts a thread or waits.
+ */
+#ifndef PF_H
+#define PF_H
+
+#include <stdbool.h>
+#include <stddef.h>
+#include <stdint.h>
+
+#ifdef __cplusplus
+extern "C" {
+#endif
+
+#define PF_ONE 16777216 /* 1, in units of 2^-24 */
+#define PF_FRAME_LEN 27 /* the bytes of a command */
+#define PF_NOBODY 255   /* the owner of a body that no player may move */
+
+/* The codes. */
+enum {
+    PF_OK = 0,
+    PF_OUT_OF_MEMORY = 1,
+    PF_CLOSED = 3,       /* the context is closed */
+    PF_BAD_KEY = 4,      /* the key names nothing here */
+    PF_SMALL_BUFFER = 5, /* a buffer is too small, and nothing was written to it */
+    PF_BAD_PLAYER = 6,   /* a player is a number below 8 */
+    PF_BAD_RING = 7,     /* a peer keeps from 1 to 64 settled worlds */
+    PF_BAD_NUMBER = 8,   /* a number of a command is out of its range */
+    PF_STILL_OPEN = 9,   /* the context is open already */
+    PF_FULL = 10,        /* the context has no key left */
+
+    /* What is wrong with a scene. */
+    PF_SCENE_BAD_LINE = 16,   /* the text has no such line here */
+    PF_SCENE_BAD_NUMBER = 17, /* a number is out of its range */
+    PF_SCENE_TOO_MANY = 18,   /* the scene has 1,024 bodies already */
+    PF_SCENE_BAD_MASS = 19,   /* a mass is neither 0 nor from 2^20 to 2^34 */
+    PF_SCENE_BAD_SIZE = 20,   /* a radius or half extent is out of its range */
+
+    /* Why a peer refuses a call. */
+    PF_TICK_LIMIT = 32,      /* no tick is above 1,048,576 */
+    PF_NUMBERS_SPENT = 33,   /* the player has no number left for a command at this tick */
+    PF_NOT_REACHED = 34,     /* the peer has not reached the tick */
+    PF_TOO_OLD = 35,         /* the tick is before the peer's horizon */
+    PF_HORIZONS_DIFFER = 36, /* the two peers have sealed different ticks */
+    PF_BASES_DIFFER = 37,    /* the two peers have different worlds at their horizon */
+
+    /* Why bytes are no frame. */
+    PF_FRAME_SHORT = 48,
+    PF_FRAME_LONG = 49,
+    PF_FRAME_BAD_VERSION = 50,
+    PF_FRAME_BAD_KIND = 51,
+    PF_FRAME_NOT_CANONICAL = 52, /* bytes that its kind does not use are not 0 */
+    PF_FRAME_OUT_OF_RANGE = 53,
+
+    /* Why the peer's scene does not allow a command. */
+    PF_UNKNOWN_BODY = 64, /* the scene has no body of this number */
+    PF_STATIC_BODY = 65,  /* the body is static */
+    PF_NOT_OWNER = 66     /* the body is of another player, or of nobody */
+};
+
+/* What pf_take did. */
+enum {
+    PF_NEW = 0,     /* the peer did not hold a command of this name */
+    PF_SAME = 1,    /* it held this one already */
+    PF_GREATER = 2, /* it held another one of this name, which gave way to this one */
+    PF_LESSER = 3   /* it held another one of this name, which stays */
+};
+
+/* A context. Its members are not for the caller. */
+typedef struct pf_context {
+    bool is_open;
+    void *at;
+} pf_context;
+
+typedef struct pf_key {
+    uint32_t index;
+    uint32_t generation;
+} pf_key;
+
+typedef struct pf_scene {
+    pf_key key;
+} pf_scene;
+
+typedef struct pf_peer {
+    pf_key key;
+} pf_peer;
+
+/* A position, an impulse, an acceleration; or a direction: x is its cosine, y its sine. */
+typedef struct pf_v2 {
+    int64_t x;
+    int64_t y;
+} pf_v2;
+
+/* What a body is beside its shape. */
+typedef struct pf_material {
+    int64_t mass;     /* 0 of a static body, or from 2^20 to 2^34 */
+    int64_t friction; /* the coefficient of friction, from 0 to 2^26 */
+    uint8_t owner;    /* the player who may move it, or PF_NOBODY */
+} pf_material;
+
+/* A command, as peers send it. */
+typedef struct pf_frame {
+    uint8_t bytes[PF_FRAME_LEN];
+} pf_frame;
+
+/* A body of a world. */
+typedef struct pf_body {
+    int64_t x, y;    /* the position of its centre */
+    int64_t c, s;    /* the cosine and sine of its rotation */
+    int64_t vx, vy;  /* its velocity, a second */
+    int64_t spin;    /* its angular velocity, in radians a second */
+    uint32_t timer;  /* for how many ticks it has been still */
+    uint32_t awake;  /* 1 where it is simulated, 0 where it is static or asleep */
+} pf_body;
+
+/* A contact of a world: two bodies by their numbers, the feature that makes the point, and the
+ * impulses that it has accumulated. */
+typedef struct pf_contact {
+    uint16_t a, b;
+    uint32_t feature;
+    int64_t normal, tangent;
+} pf_contact;
+
+/* How many bodies and contacts a world has. */
+typedef struct pf_sizes {
+    uint64_t bodies;
+    uint64_t contacts;
+} pf_sizes;
+
+/* --- Contexts ------------------------------------------------------------------------------- */
+
+/* Opens a context that is closed. It has no scenes and no peers. */
+uint32_t pf_open(pf_context *context);
+
+/* Closes a context, and frees all that it holds. It may be opened again; then the keys of before
+ * are made-up keys. */
+uint32_t pf_close(pf_context *context);
+
+/* --- Scenes --------------------------------------------------------------------------------- */
+
+/* Reads a scene from a text (docs/FORMATS.md). Where a line is invalid, the call returns a
+ * PF_SCENE_ code and writes the line's number, counted from 1, to `line`. */
+uint32_t pf_scene_read(pf_context *context, const uint8_t *text, size_t length, pf_scene *scene,
+                       uint64_t *line);
+
+/* Makes a scene without bodies. Gravity is from -2^34 to 2^34 on each axis: lengths a
+ * second, a second. */
+uint32_t pf_scene_new(pf_context *context, pf_v2 gravity, pf_scene *scene);
+
+/* Adds a circle to a scene. Bodies are numbered from 0. A peer that is made later has it, a peer
+ * that was made before has not. */
+uint32_t pf_circle(pf_context *context, pf_scene scene, pf_material material, int64_t radius,
+                   pf_v2 position, uint64_t *body);
+
+/* Adds a box of these half extents, turned into this direction: {PF_ONE, 0} is upright. */
+uint32_t pf_box(pf_context *context, pf_scene scene, pf_material material, pf_v2 half,
+                pf_v2 position, pf_v2 direction, uint64_t *body);
+
+/* Frees a scene. Peers have copies, and stay. */
+uint32_t pf_scene_free(pf_context *context, pf_scene scene);
+
+/* --- Peers ---------------------------------------------------------------------------------- */
+
+/* Makes a peer of a scene, at tick 0. All players of a match begin with the same scene. `ring` is
+ * how many of the last settled worlds it keeps, from 1 to 64: a frame that is late by fewer ticks
+ * costs only the ticks since its own. */
+uint32_t pf_peer_new(pf_context *context, pf_scene scene, uint8_t player, uint32_t ring,
+                     pf_peer *peer);
+
+/* Frees a peer. */
+uint32_t pf_peer_free(pf_context *context, pf_peer peer);
+
+/* --- Commands ------------------------------------------------------------------------------- */
+
+/* Issue a command of the peer's player at the tick that the peer has reached, and write the frame
+ * to send to all others. It acts in the tick that the next pf_advance adds. */
+uint32_t pf_push(pf_context *context, pf_peer peer, uint16_t body, pf_v2 impulse, pf_frame *frame);
+uint32_t pf_turn(pf_context *context, pf_peer peer, uint16_t body, int64_t impulse,
+                 pf_frame *frame);
+uint32_t pf_stop(pf_context *context, pf_peer peer, uint16_t body, pf_frame *frame);
+uint32_t pf_place(pf_context *context, pf_peer peer, uint16_t body, pf_v2 position,
+                  pf_frame *frame);
+
+/* Takes a frame that has come, late or not, and writes what it did: PF_NEW to PF_LESSER. The player
+ * that the frame names is believed. */
+uint32_t pf_take(pf_context *context, pf_peer peer, const uint8_t *frame, size_t length,
+                 uint32_t *put);
+
+/* Takes all commands that another peer of the context holds, and writes how many changed the
+ * peer. It is refused unless both have sealed the same tick, with the same world there. */
+uint32_t pf_merge(pf_context *context, pf_peer peer, pf_peer other, uint64_t *count);
+
+/* --- Ticks ---------------------------------------------------------------------------------- */
+
+/* Goes on by some ticks, simulates nothing, and writes the tick that the peer has reached. */
+uint32_t pf_advance(pf_context *context, pf_peer peer, uint32_t ticks, uint32_t *reached);
+
+/* Simulates up to the reached tick, and writes it. After PF_OUT_OF_MEMORY the ticks before stay
+ * settled, and a later call goes on from there. */
+uint32_t pf_settle(pf_context *context, pf_peer peer, uint32_t *settled);
+
+/* Seals a tick that the peer has reached: what came before it is forgotten, and frames of before
+ * are refused from then on. */
+uint32_t pf_seal(pf_context *context, pf_peer peer, uint32_t tick);
+
+/* Write the tick that the peer has reached, the greatest tick whose world it keeps, and its
+ * horizon: the tick that it has sealed, at first 0. */
+uint32_t pf_reached(pf_context *context, pf_peer peer, uint32_t *tick);
+uint32_t pf_settled(pf_context *context, pf_peer peer, uint32_t *tick);
+uint32_t pf_horizon(pf_context *context, pf_peer peer, uint32_t *tick);
+
+/* --- Worlds --------------------------------------------------------------------------------- */
+
+/* Writes the world at a tick, from the horizon to the tick that the peer has reached, to the fronts
+ * of two arrays, and writes how many bodies and contacts it has: also where the call returns
+ * PF_SMALL_BUFFER. The latest settled world costs a copy, another one its simulation from the kept
+ * world before it. */
+uint32_t pf_world(pf_context *context, pf_peer peer, uint32_t tick, pf_body *bodies,
+                  size_t bodies_length, pf_contact *contacts, size_t contacts_length,
+                  pf_sizes *sizes);
+
+#ifdef __cplusplus
+}
+#endif
+
+#endif

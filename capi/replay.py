@@ -1,0 +1,49 @@
+#!/usr/bin/env python3
+"""Checks a replay: simulates a match from its scene and its frames alone, and prints a world.
+
+    capi/replay.py MATCH.txt TICK
+
+The match is a text for the program. Its scene is read, and the frames of its `take` lines. What is
+printed is what `show 0 TICK` prints behind all of them, byte for byte.
+"""
+
+import sys
+
+sys.dont_write_bytecode = True
+
+from buyosen import Context  # noqa: E402
+
+BODY = ("x", "y", "c", "s", "vx", "vy", "spin", "timer", "awake")
+CONTACT = ("a", "b", "feature", "normal", "tangent")
+
+
+def fields(value, names):
+    return " ".join(str(getattr(value, name)) for name in names)
+
+
+def replay(match, tick):
+    lines = match.splitlines(keepends=True)
+    ends = (number for number, line in enumerate(lines) if line.split() == [b"end"])
+    end = next(ends, len(lines))
+    frames = [line.split()[2] for line in lines[end:] if line.startswith(b"take ")]
+    with Context() as context:
+        peer = context.read_scene(b"".join(lines[: end + 1])).peer()
+        for frame in frames:
+            peer.take(bytes.fromhex(frame.decode()))
+        peer.advance(tick)
+        peer.settle()
+        world = peer.world(tick)
+    yield f"show 0 {tick}"
+    for number, body in enumerate(world.bodies):
+        yield f"body {number} {fields(body, BODY)}"
+    for contact in world.contacts:
+        yield f"contact {fields(contact, CONTACT)}"
+    yield "end"
+
+
+if __name__ == "__main__":
+    if len(sys.argv) != 3 or not sys.argv[2].isdecimal():
+        sys.exit(__doc__)
+    with open(sys.argv[1], "rb") as file:
+        for line in replay(file.read(), int(sys.argv[2])):
+            print(line)

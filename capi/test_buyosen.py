@@ -1,0 +1,84 @@
+#!/usr/bin/env python3
+"""Each call of the module for Python.
+
+    capi/test_buyosen.py
+"""
+
+import sys
+import unittest
+
+sys.dont_write_bytecode = True
+
+from buyosen import FRAME_LEN, NOBODY, ONE, Context, Error  # noqa: E402
+
+BAD_KEY, BAD_NUMBER, CLOSED, BAD_LINE, TOO_OLD = 4, 8, 3, 16, 35
+
+
+class Calls(unittest.TestCase):
+    def setUp(self):
+        self.context = Context()
+        self.scene = self.context.scene((0, -10 * ONE))
+        self.floor = self.scene.box(0, ONE // 2, (20 * ONE, ONE), (0, -ONE))
+        self.box = self.scene.box(ONE, ONE // 2, (ONE, ONE), (-4 * ONE, ONE), owner=0)
+        self.ball = self.scene.circle(ONE, ONE // 2, ONE, (4 * ONE, ONE), owner=1)
+
+    def tearDown(self):
+        self.context.close()
+
+    def assert_code(self, code, call, *arguments):
+        with self.assertRaises(Error) as raised:
+            call(*arguments)
+        self.assertEqual(raised.exception.code, code)
+        return raised.exception
+
+    def test_bodies_are_numbered(self):
+        self.assertEqual((self.floor, self.box, self.ball), (0, 1, 2))
+        self.assertEqual(NOBODY, 255)
+
+    def test_a_line_that_is_invalid_is_named(self):
+        text = b"gravity 0 0\nsquare\nend\n"
+        self.assertEqual(self.assert_code(BAD_LINE, self.context.read_scene, text).line, 2)
+
+    def test_late_frames_make_worlds_equal(self):
+        ours, theirs = self.scene.peer(0, 8), self.scene.peer(1, 8)
+        frames = [ours.push(self.box, (6 * ONE, 0)), ours.turn(self.box, ONE), ours.stop(self.box)]
+        frames.append(theirs.place(self.ball, (2 * ONE, 3 * ONE)))
+        self.assertEqual({len(frame) for frame in frames}, {FRAME_LEN})
+        for peer in ours, theirs:
+            self.assertEqual((peer.advance(20), peer.settle()), (20, 20))
+        self.assertNotEqual(bytes_of(ours), bytes_of(theirs))
+        self.assertEqual([theirs.take(frame) for frame in frames], ["new"] * 3 + ["same"])
+        self.assertEqual((ours.merge(theirs), ours.merge(theirs)), (1, 0))
+        self.assertEqual((ours.settle(), theirs.settle()), (20, 20))
+        self.assertEqual(bytes_of(ours), bytes_of(theirs))
+
+    def test_a_seal_moves_the_horizon(self):
+        peer = self.scene.peer()
+        frame = peer.stop(self.box)
+        peer.advance(9)
+        peer.seal(5)
+        self.assertEqual((peer.reached, peer.settled, peer.horizon), (9, 5, 5))
+        self.assert_code(TOO_OLD, peer.take, frame)
+        self.assert_code(BAD_NUMBER, peer.push, self.box, (1 << 60, 0))
+
+    def test_what_is_freed_has_no_key(self):
+        peer = self.scene.peer()
+        self.scene.free()
+        self.assert_code(BAD_KEY, self.scene.peer)
+        self.assertEqual(len(peer.world(0).bodies), 3)
+        peer.free()
+        self.assert_code(BAD_KEY, peer.advance)
+
+    def test_a_context_closes_once(self):
+        with Context() as context:
+            scene = context.scene((0, 0))
+        self.assert_code(CLOSED, scene.peer)
+
+
+def bytes_of(peer):
+    world = peer.world(peer.reached)
+    return [bytes(value) for value in world.bodies + world.contacts]
+
+
+if __name__ == "__main__":
+    unittest.main()

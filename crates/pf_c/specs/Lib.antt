@@ -1,0 +1,8 @@
+-- What the contracts of this crate cite.
+pub mod Calls
+pub mod Codes
+pub mod Commands
+pub mod Held
+pub mod Opening
+pub mod Scenes
+pub mod Worlds

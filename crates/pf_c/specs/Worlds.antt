@@ -1,0 +1,13 @@
+-- How much a world needs, as C is told.
+use Rattle.std.specs.Prelude.{Result, Ok, Err}
+use Rattle.pf_context.specs.declared.error.ContextError.{ContextError}
+use Rattle.pf_context.specs.declared.error.ContextError.TheVariants as errors
+use Rattle.pf_context.specs.declared.plain.Sizes.{Sizes}
+use Rattle.pf_c.specs.declared.worlds.PfSizes.{PfSizes}
+
+-- what a world needs, where that is known, and else what was there
+abbrev pub needed_sizes : PfSizes → Result Sizes ContextError → PfSizes
+needed_sizes old (Ok sizes) = record { bodies = sizes.bodies; contacts = sizes.contacts }
+needed_sizes old (Err (errors.SmallBuffers sizes)) =
+    record { bodies = sizes.bodies; contacts = sizes.contacts }
+needed_sizes old (Err error) = old

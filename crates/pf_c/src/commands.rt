@@ -1,0 +1,176 @@
+//! The commands of peers: issued, taken and merged.
+
+ghost use Rattle.std.specs.Prelude.{◌≡◌, Ok};
+ghost use Rattle.pf_commands.specs.Frame.{decode};
+ghost use Rattle.pf_commands.specs.declared.payload.Payload.TheVariants.{Stop};
+ghost use Rattle.pf_rollback.specs.Peer.{take};
+ghost use Rattle.pf_context.specs.Errors.{peer_error};
+ghost use Rattle.pf_context.specs.Calls.{CallsPeer, IsHeld, TakesCommands, news_of_frame};
+ghost use Rattle.pf_context.specs.Numbers.{place_of, push_of, turn_of};
+ghost use Rattle.pf_c.specs.Calls.{Answers, Tells};
+ghost use Rattle.pf_c.specs.Codes.{put_code};
+ghost use Rattle.pf_c.specs.Commands.{IsMerge, Issues, frame_of};
+
+use crate::codes::{PF_CLOSED, code_of, put_code};
+use crate::held::PfContext;
+use pf_commands::{FRAME_LEN, Payload};
+use pf_context::{ContextError, Key, RawV2, numbers};
+use std::alloc::Global;
+
+/// The bytes of a command, as peers send them.
+#[derive(Clone, Copy, Debug, PartialEq, Eq)]
+#[repr(C)]
+pub struct PfFrame {
+    pub bytes: [u8; FRAME_LEN],
+}
+
+/// Issues a command, and tells its frame. A number out of its range is the first error.
+fn issue(
+    alloc: Global,
+    context: &mut PfContext,
+    peer: Key,
+    payload: Result<Payload, ContextError>,
+    frame: &mut PfFrame,
+) -> u32
+    ensures { Answers (λ before after answer. Issues peer payload before after answer)
+        (Tells frame_of frame.old frame.new)
+        context.old.handle.value context.new.handle.value result (frame.new ≡ frame.old) }
+{
+    let Some(mut inside) = context.take_out(alloc) else {
+        return PF_CLOSED;
+    };
+    let answer = match payload {
+        Ok(payload) => inside.issue(peer, payload),
+        Err(error) => Err(error),
+    };
+    context.put_back(inside);
+    if let Ok(bytes) = answer {
+        *frame = PfFrame { bytes };
+    }
+    code_of(&answer)
+}
+
+/// Issues a push of a body by a peer's player at the tick that it has reached: mass times lengths a
+/// second.
+#[unsafe(no_mangle)]
+pub extern "C" fn pf_push(
+    alloc: Global,
+    context: &mut PfContext,
+    peer: Key,
+    body: u16,
+    impulse: RawV2,
+    frame: &mut PfFrame,
+) -> u32
+    ensures { Answers
+        (λ before after answer. Issues peer (push_of body impulse) before after answer)
+        (Tells frame_of frame.old frame.new)
+        context.old.handle.value context.new.handle.value result (frame.new ≡ frame.old) }
+{
+    issue(alloc, context, peer, numbers::push(body, impulse), frame)
+}
+
+/// Issues a turn of a body: inertia times radians a second.
+#[unsafe(no_mangle)]
+pub extern "C" fn pf_turn(
+    alloc: Global,
+    context: &mut PfContext,
+    peer: Key,
+    body: u16,
+    impulse: i64,
+    frame: &mut PfFrame,
+) -> u32
+    ensures { Answers
+        (λ before after answer. Issues peer (turn_of body impulse) before after answer)
+        (Tells frame_of frame.old frame.new)
+        context.old.handle.value context.new.handle.value result (frame.new ≡ frame.old) }
+{
+    issue(alloc, context, peer, numbers::turn(body, impulse), frame)
+}
+
+/// Issues a stop of a body: its velocity and its spin become 0.
+#[unsafe(no_mangle)]
+pub extern "C" fn pf_stop(
+    alloc: Global,
+    context: &mut PfContext,
+    peer: Key,
+    body: u16,
+    frame: &mut PfFrame,
+) -> u32
+    ensures { Answers
+        (λ before after answer. Issues peer (Ok (Stop body)) before after answer)
+        (Tells frame_of frame.old frame.new)
+        context.old.handle.value context.new.handle.value result (frame.new ≡ frame.old) }
+{
+    issue(alloc, context, peer, Ok(Payload::Stop { body }), frame)
+}
+
+/// Issues a place of a body: it stands at this position, at rest.
+#[unsafe(no_mangle)]
+pub extern "C" fn pf_place(
+    alloc: Global,
+    context: &mut PfContext,
+    peer: Key,
+    body: u16,
+    position: RawV2,
+    frame: &mut PfFrame,
+) -> u32
+    ensures { Answers
+        (λ before after answer. Issues peer (place_of body position) before after answer)
+        (Tells frame_of frame.old frame.new)
+        context.old.handle.value context.new.handle.value result (frame.new ≡ frame.old) }
+{
+    issue(alloc, context, peer, numbers::place(body, position), frame)
+}
+
+/// Takes the command that a frame encodes to a peer, of any player, late or not, and tells what it
+/// did: 0 where it was new, 1 the same, 2 greater, 3 lesser.
+#[unsafe(no_mangle)]
+pub extern "C" fn pf_take(
+    alloc: Global,
+    context: &mut PfContext,
+    peer: Key,
+    frame: &[u8],
+    put: &mut u32,
+) -> u32
+    ensures { Answers (λ before after answer.
+        CallsPeer peer_error before after peer answer (λ core. TakesCommands
+        (take core.scene core.peer (decode frame.now))
+        (news_of_frame core.peer.commands (decode frame.now))
+        (IsHeld core.peer.commands (decode frame.now)) core))
+        (Tells put_code put.old put.new)
+        context.old.handle.value context.new.handle.value result (put.new ≡ put.old) }
+{
+    let Some(mut inside) = context.take_out(alloc) else {
+        return PF_CLOSED;
+    };
+    let answer = inside.take(peer, frame);
+    context.put_back(inside);
+    if let Ok(done) = answer {
+        *put = put_code(done);
+    }
+    code_of(&answer)
+}
+
+/// Merges into a peer the commands that another peer of the context holds, and tells how many were
+/// new or greater. It is refused unless both have sealed the same tick, with one world there.
+#[unsafe(no_mangle)]
+pub extern "C" fn pf_merge(
+    alloc: Global,
+    context: &mut PfContext,
+    peer: Key,
+    other: Key,
+    count: &mut u64,
+) -> u32
+    ensures { Answers (IsMerge peer other) (Tells (λ news. news) count.old count.new)
+        context.old.handle.value context.new.handle.value result (count.new ≡ count.old) }
+{
+    let Some(mut inside) = context.take_out(alloc) else {
+        return PF_CLOSED;
+    };
+    let answer = inside.merge(peer, other);
+    context.put_back(inside);
+    if let Ok(news) = answer {
+        *count = news as u64;
+    }
+    code_of(&answer)
+}

@@ -1,0 +1,51 @@
+//! A context behind an erased pointer.
+
+ghost use Rattle.std.specs.Prelude.{◌≡◌, IsSome, Option, Some, None};
+ghost use Rattle.std.specs.Coded.{coded_option};
+ghost use Rattle.pf_context.specs.Context.{Context};
+ghost use Rattle.pf_context.specs.contracts.context.Context.{the_row};
+
+use crate::loose::Loose;
+use pf_context::Context;
+use std::alloc::Global;
+use std::marker::Model;
+use std::ptr::null_mut;
+
+#[repr(C)]
+#[derive(Drop)]
+pub struct Handle {
+    at: *mut u8,
+    pub ghost value: { Option Context } by { coded_option the_row.coded },
+}
+
+impl Model for Handle {
+    ghost use Rattle.pf_c.specs.Held.{held};
+
+    ghost also_owns = { λ l. held l.at l.value };
+}
+
+impl Handle {
+    pub fn none() -> Handle
+        ensures { result.value ≡ None }
+    {
+        Handle { at: null_mut() }
+    }
+
+    pub(crate) fn of(loose: Loose<Context, Global>) -> Handle
+        ensures { result.value ≡ Some loose.value }
+    {
+        let Loose { at, alloc: _ } = loose;
+        Handle { at: at as *mut u8 }
+    }
+
+    pub(crate) fn into_loose(self, alloc: Global) -> Loose<Context, Global>
+        requires { IsSome self.value }
+        ensures { self.value ≡ Some result.value }
+    {
+        let Handle { at } = self;
+        Loose {
+            at: at as *mut Context,
+            alloc,
+        }
+    }
+}

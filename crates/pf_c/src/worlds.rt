@@ -1,0 +1,63 @@
+//! The worlds that peers show, in buffers of C.
+
+ghost use Rattle.std.specs.Prelude.{◌≡◌};
+ghost use Rattle.pf_context.specs.Context.{peer_at};
+ghost use Rattle.pf_context.specs.Worlds.{ShowsWorld};
+ghost use Rattle.pf_c.specs.Calls.{Answers};
+ghost use Rattle.pf_c.specs.Worlds.{needed_sizes};
+
+use crate::codes::{PF_CLOSED, code_of};
+use crate::held::PfContext;
+use pf_context::{ContextError, Key, PlainBody, PlainContact, Sizes};
+use std::alloc::Global;
+
+/// How many bodies and how many contacts a world has.
+#[derive(Clone, Copy, Debug, PartialEq, Eq)]
+#[repr(C)]
+pub struct PfSizes {
+    pub bodies: u64,
+    pub contacts: u64,
+}
+
+/// What a world needs, where that is known, and else what was there.
+fn needed_sizes(old: PfSizes, answer: &Result<Sizes, ContextError>) -> PfSizes
+    ensures { result ≡ needed_sizes old answer.now }
+{
+    match answer {
+        Ok(sizes) | Err(ContextError::SmallBuffers(sizes)) => PfSizes {
+            bodies: sizes.bodies as u64,
+            contacts: sizes.contacts as u64,
+        },
+        Err(_) => old,
+    }
+}
+
+/// Writes the world of a peer at a tick, from its horizon to the tick that it has reached, to the
+/// fronts of two buffers, and tells how many bodies and contacts it has. Where a buffer is too
+/// small for them, that is told all the same, and nothing is written.
+#[unsafe(no_mangle)]
+pub extern "C" fn pf_world(
+    alloc: Global,
+    context: &mut PfContext,
+    peer: Key,
+    tick: u32,
+    bodies: &mut [PlainBody],
+    contacts: &mut [PlainContact],
+    sizes: &mut PfSizes,
+) -> u32
+    ensures { Answers (λ before after answer. (after ≡ before)
+        × ShowsWorld (peer_at before peer) tick
+        (record { bodies = bodies.old; contacts = contacts.old })
+        (record { bodies = bodies.new; contacts = contacts.new }) answer)
+        (λ answer. sizes.new ≡ needed_sizes sizes.old answer)
+        context.old.handle.value context.new.handle.value result
+        ((bodies.new ≡ bodies.old) × (contacts.new ≡ contacts.old) × (sizes.new ≡ sizes.old)) }
+{
+    let Some(inside) = context.take_out(alloc) else {
+        return PF_CLOSED;
+    };
+    let answer = inside.world(alloc, peer, tick, bodies, contacts);
+    context.put_back(inside);
+    *sizes = needed_sizes(*sizes, &answer);
+    code_of(&answer)
+}
