@@ -1,11 +1,16 @@
 """A match: a text of scene, peers and events, and what the program says of it."""
 
 import hashlib
+import io
+import math
 import struct
 import subprocess
+import tempfile
 from array import array
 from dataclasses import dataclass, field
+from fractions import Fraction
 
+UNIT = 16777216
 KINDS = ("push", "turn", "stop", "place")
 FIELDS = 9  # of a body line: x y c s vx vy w timer awake
 
@@ -46,6 +51,12 @@ class Command:
     def weight(self):
         return bytes.fromhex(self.frame)[8:]
 
+    @property
+    def text(self):
+        """What it does, as `pf_play frame` writes it."""
+        parts = {"stop": (), "turn": (self.x,)}.get(self.kind, (self.x, self.y))
+        return " ".join(map(str, (self.kind, self.body, *parts)))
+
 
 @dataclass
 class Peer:
@@ -82,10 +93,12 @@ def body_of(number, words):
         size, rest = (int(words[4]),), words[5:7] + ["16777216", "0"]
     else:
         size, rest = (int(words[4]), int(words[5])), words[6:10]
-    start = tuple(int(w) for w in rest)
-    length = int((start[2] ** 2 + start[3] ** 2) ** 0.5) or 1
-    turned = tuple(round(part * 16777216 / length) for part in start[2:])
-    return Body(number, owner, mass == 0, size, start[:2] + turned)
+    x, y, c, s = (int(w) for w in rest)
+    length = math.isqrt(c * c + s * s)
+    turned = (UNIT, 0)  # `0 0` is upright
+    if length:
+        turned = tuple(round(Fraction(part * UNIT, length)) for part in (c, s))
+    return Body(number, owner, mass == 0, size, (x, y, *turned))
 
 
 def lines_of(text):
@@ -93,22 +106,37 @@ def lines_of(text):
     return [line.split(" ") for line in text.split("\n") if line and not line.startswith("#")]
 
 
-def run(program, text):
-    """What the program writes for a text."""
-    done = subprocess.run([*program, "run"], input=text.encode(), capture_output=True)
-    if done.returncode != 0:
-        raise Refused(done.stderr.decode(errors="replace").strip(), done.returncode)
-    return done.stdout.decode().split("\n")
+def run(program, text, told=None):
+    """The lines that the program writes for a text, in bytes. `told` gets each line of a block."""
+    with tempfile.TemporaryFile() as into, tempfile.TemporaryFile() as errors:
+        into.write(text)
+        into.seek(0)
+        done = subprocess.Popen(
+            [*program, "run"], stdin=into, stdout=subprocess.PIPE, stderr=errors
+        )
+        lines = []
+        for line in io.TextIOWrapper(done.stdout, encoding="ascii", newline="\n"):
+            lines.append(line.rstrip("\n"))
+            if told and line.startswith("show"):
+                told(lines[-1])
+        if done.wait() != 0:
+            errors.seek(0)
+            said = errors.read().decode(errors="replace").splitlines()
+            # what ./play says of itself stands before what the program says
+            own = [line for line in said if not line.startswith("play: ")]
+            raise Refused("\n".join(own or said), done.returncode)
+    return lines
 
 
 class Match:
     """A text that the program accepts: its scene, and its peers after all events."""
 
-    def __init__(self, program, text):
+    def __init__(self, program, text, told=None):
         self.program = program
+        self.told = told
         self.tracks = {}  # by the text that they were made from
-        lines = lines_of(text)
         replies = run(program, text)
+        lines = lines_of(text.decode("ascii"))
         end = next(k for k, words in enumerate(lines) if words == ["end"])
         self.scene = "\n".join(" ".join(words) for words in lines[: end + 1])
         self.bodies = [body_of(k, words) for k, words in enumerate(lines[1:end])]
@@ -154,11 +182,16 @@ class Match:
         peer = self.peers[number]
         if not self.has_late(peer):
             return self.at_the_end(number)
-        lines, reached = [], 0
-        for what, value in peer.moments:
+        lines, reached, late = [], 0, False
+        for what, value in [*peer.moments, ("end", None)]:
             if what == "hold":
                 lines.append(f"take 0 {value.frame}")
-            else:
+                late = late or value.tick < reached
+            elif late and (what == "end" or value > reached):
+                # the corrected world of the reached tick, from which the peer goes on
+                lines += ["settle 0", f"show 0 {reached}"]
+                late = False
+            if what == "reach":
                 lines += self.steps(reached, value)
                 reached = max(reached, value)
         return self.worlds(lines, 0)
@@ -187,7 +220,7 @@ class Match:
         text = [self.scene, "peers 1", "show 0 0", *lines, *self.steps(0, last)]
         text = "\n".join(text) + "\n"
         if text not in self.tracks:
-            self.tracks[text] = Track(run(self.program, text))
+            self.tracks[text] = Track(run(self.program, text.encode(), self.told))
         return self.tracks[text]
 
 
@@ -199,12 +232,17 @@ class Track:
         self.contacts = array("q")  # i j feature normal tangent
         self.ends = []  # the number of contacts up to each tick
         self.digests = []
-        rows, block = [], None
+        self.again = array("q")  # bodies of the worlds that late commands made of shown ticks
+        self.again_ticks = []
+        tick, block = 0, None
         for line in replies:
             if line.startswith("show"):
-                block = []
+                tick, block = int(line.split(" ")[2]), []
             elif line == "end" and block is not None:
-                self.add(block)
+                if tick < self.ticks:
+                    self.correct(tick, block)
+                else:
+                    self.add(block)
                 block = None
             elif block is not None:
                 block.append(line)
@@ -219,6 +257,22 @@ class Track:
                 self.contacts.extend(map(int, words[1:]))
         self.ends.append(len(self.contacts) // 5)
         self.digests.append(hashlib.sha256("\n".join(block).encode()).hexdigest())
+
+    def correct(self, tick, block):
+        """Adds the world that a late command made of a tick that had been shown."""
+        self.again_ticks.append(tick)
+        for line in block:
+            words = line.split(" ")
+            if words[0] == "body":
+                self.again.extend(map(int, words[2:]))
+
+    def is_as(self, other):
+        """Whether the other track has the same worlds."""
+        return (self.digests, self.again_ticks, self.again) == (
+            other.digests,
+            other.again_ticks,
+            other.again,
+        )
 
     @property
     def ticks(self):
@@ -236,8 +290,9 @@ def first_difference(tracks):
 
 
 def agreement(tracks):
-    """For each tick: 1 where all peers that have reached it agree, else 0."""
+    """For each tick: 1 where all peers that have reached it agree, 0 where not, 2 for one peer."""
     agree = []
     for tick in range(max(track.ticks for track in tracks)):
-        agree.append(int(len({t.digests[tick] for t in tracks if tick < t.ticks}) == 1))
+        there = [track.digests[tick] for track in tracks if tick < track.ticks]
+        agree.append(2 if len(there) == 1 else int(len(set(there)) == 1))
     return agree

@@ -26,7 +26,8 @@ def colour_of(body):
 def frame_of(match, rows):
     """The part of the plane that has all bodies that move, and static ones cut at its sides."""
     reach = [
-        (rows[b.number][0] / UNIT, rows[b.number][1] / UNIT, max(b.size) / UNIT) for b in match.moving
+        (rows[b.number][0] / UNIT, rows[b.number][1] / UNIT, max(b.size) / UNIT)
+        for b in match.moving
     ] or [(0, 0, 1)]
     low_x, high_x = min(x - r for x, _, r in reach), max(x + r for x, _, r in reach)
     low_y, high_y = min(y - r for _, y, r in reach), max(y + r for _, y, r in reach)
@@ -43,7 +44,8 @@ def shape_of(body, row):
         r = body.size[0] / UNIT
         return [
             f'<circle cx="{x:.3f}" cy="{-y:.3f}" r="{r:.3f}" {style}/>',
-            f'<path d="M{x:.3f} {-y:.3f}l{r * c:.3f} {-r * s:.3f}" stroke="#222" stroke-width="0.06"/>',
+            f'<path d="M{x:.3f} {-y:.3f}l{r * c:.3f} {-r * s:.3f}" stroke="#222" '
+            'stroke-width="0.06"/>',
         ]
     w, h = (part / UNIT for part in body.size)
     corners = [(w, h), (-w, h), (-w, -h), (w, -h)]
