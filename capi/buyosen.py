@@ -57,6 +57,10 @@ class _Sizes(ctypes.Structure):
     _fields_ = [("bodies", c_uint64), ("contacts", c_uint64)]
 
 
+class _Counts(ctypes.Structure):
+    _fields_ = [("ticks", c_uint64), ("collides", c_uint64)]
+
+
 class Body(ctypes.Structure):
     """A body of a world: position, rotation (cosine c, sine s), velocity, sleep timer."""
 
@@ -78,12 +82,20 @@ class Contact(ctypes.Structure):
     ]
 
 
+class Counts(NamedTuple):
+    """The ticks that were simulated, and the pairs whose contact points could not be reused."""
+
+    ticks: int
+    collides: int
+
+
 class World(NamedTuple):
     bodies: list
     contacts: list
 
 
 _Frame = c_uint8 * FRAME_LEN
+_WORLD = [POINTER(Body), c_size_t, POINTER(Contact), c_size_t, POINTER(_Sizes)]
 _PARAMETERS = {
     "open": [],
     "close": [],
@@ -100,13 +112,17 @@ _PARAMETERS = {
     "place": [_Key, c_uint16, _V2, POINTER(_Frame)],
     "take": [_Key, ctypes.c_char_p, c_size_t, POINTER(c_uint32)],
     "merge": [_Key, _Key, POINTER(c_uint64)],
+    "merge_alone": [_Key, _Key, POINTER(c_uint64)],
+    "frames": [_Key, c_uint32, POINTER(_Frame), c_size_t, POINTER(c_uint64)],
     "advance": [_Key, c_uint32, POINTER(c_uint32)],
     "settle": [_Key, POINTER(c_uint32)],
     "seal": [_Key, c_uint32],
     "reached": [_Key, POINTER(c_uint32)],
     "settled": [_Key, POINTER(c_uint32)],
     "horizon": [_Key, POINTER(c_uint32)],
-    "world": [_Key, c_uint32, POINTER(Body), c_size_t, POINTER(Contact), c_size_t, POINTER(_Sizes)],
+    "meter": [_Key, POINTER(_Counts)],
+    "world": [_Key, c_uint32, *_WORLD],
+    "base": [_Key, *_WORLD],
 }
 
 
@@ -126,7 +142,7 @@ _LIBRARY = _load()
 
 
 class Context:
-    """Scenes and peers. Closing it frees them all. One thread calls it at a time."""
+    """Scenes and peers. Closing it frees them all. Any thread may call it, one at a time."""
 
     def __init__(self):
         self._context = _Context()
@@ -223,6 +239,23 @@ class Peer:
         """Takes all commands of another peer, and returns how many changed this one."""
         return self._output(c_uint64, "merge", other._key).value
 
+    def merge_alone(self, other):
+        """The same, whatever the other peer has sealed."""
+        return self._output(c_uint64, "merge_alone", other._key).value
+
+    def frames(self, tick=0):
+        """The frames of the commands that the peer holds for this tick and later ones."""
+        count = c_uint64()
+        while True:
+            frames = (_Frame * (count.value + 1))()
+            try:
+                self._context.call("frames", self._key, tick, frames, count.value, byref(count))
+            except Error as error:
+                if error.code != SMALL_BUFFER:
+                    raise
+                continue
+            return [bytes(frame) for frame in frames[: count.value]]
+
     def advance(self, ticks=1):
         """Goes on by some ticks, and returns the tick that is reached."""
         return self._output(c_uint32, "advance", ticks).value
@@ -247,16 +280,29 @@ class Peer:
     def horizon(self):
         return self._output(c_uint32, "horizon").value
 
+    @property
+    def counts(self):
+        """How much work was done to settle and to seal ticks."""
+        counts = self._output(_Counts, "meter")
+        return Counts(counts.ticks, counts.collides)
+
     def world(self, tick):
         """The world at a tick, from the horizon to the reached one."""
+        return self._world("world", tick)
+
+    def base(self):
+        """The world at the horizon."""
+        return self._world("base")
+
+    def _world(self, name, *arguments):
         sizes = _Sizes()
         while True:
             # One element more than it has: no array is empty, so no pointer is null.
             bodies = (Body * (sizes.bodies + 1))()
             contacts = (Contact * (sizes.contacts + 1))()
-            arguments = (bodies, sizes.bodies, contacts, sizes.contacts, byref(sizes))
+            buffers = (bodies, sizes.bodies, contacts, sizes.contacts, byref(sizes))
             try:
-                self._context.call("world", self._key, tick, *arguments)
+                self._context.call(name, self._key, *arguments, *buffers)
             except Error as error:
                 if error.code != SMALL_BUFFER:
                     raise

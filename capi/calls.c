@@ -13,6 +13,8 @@ _Static_assert(sizeof(pf_material) == 24, "pf_material");
 _Static_assert(sizeof(pf_frame) == PF_FRAME_LEN, "pf_frame");
 _Static_assert(sizeof(pf_body) == 64, "pf_body");
 _Static_assert(sizeof(pf_contact) == 24, "pf_contact");
+_Static_assert(sizeof(pf_sizes) == 16, "pf_sizes");
+_Static_assert(sizeof(pf_counts) == 16, "pf_counts");
 
 static int failures;
 
@@ -58,6 +60,7 @@ static void expect_all(pf_context *context, pf_scene scene, pf_peer peer, uint32
     pf_body body;
     pf_contact contact;
     pf_sizes sizes;
+    pf_counts counts;
     uint64_t count;
     uint32_t number;
     pf_v2 half = {PF_ONE, PF_ONE};
@@ -71,13 +74,17 @@ static void expect_all(pf_context *context, pf_scene scene, pf_peer peer, uint32
     EXPECT(pf_place(context, peer, 0, ORIGIN, &frame), code);
     EXPECT(pf_take(context, peer, frame.bytes, PF_FRAME_LEN, &number), code);
     EXPECT(pf_merge(context, peer, peer, &count), code);
+    EXPECT(pf_merge_alone(context, peer, peer, &count), code);
+    EXPECT(pf_frames(context, peer, 0, &frame, 1, &count), code);
     EXPECT(pf_advance(context, peer, 1, &number), code);
     EXPECT(pf_settle(context, peer, &number), code);
     EXPECT(pf_seal(context, peer, 0), code);
     EXPECT(pf_reached(context, peer, &number), code);
     EXPECT(pf_settled(context, peer, &number), code);
     EXPECT(pf_horizon(context, peer, &number), code);
+    EXPECT(pf_meter(context, peer, &counts), code);
     EXPECT(pf_world(context, peer, 0, &body, 0, &contact, 0, &sizes), code);
+    EXPECT(pf_base(context, peer, &body, 0, &contact, 0, &sizes), code);
     EXPECT(pf_peer_free(context, peer), code);
 }
 
@@ -209,19 +216,70 @@ static void peer_errors(void)
     EXPECT(pf_stop(&context, peer, 1, &command), PF_OK);
     EXPECT(pf_take(&context, peer, command.bytes, PF_FRAME_LEN, &number), PF_OK);
     EXPECT(number, PF_SAME);
-    for (size_t length = 0; length < PF_FRAME_LEN; length++)
-        EXPECT(pf_take(&context, peer, command.bytes, length, &number), PF_FRAME_SHORT);
-    frame = command;
-    frame.bytes[0] = 9;
-    EXPECT(pf_take(&context, peer, frame.bytes, PF_FRAME_LEN, &number), PF_FRAME_BAD_VERSION);
-    frame = command;
-    frame.bytes[PF_FRAME_LEN - 1] = 1;
-    EXPECT(pf_take(&context, peer, frame.bytes, PF_FRAME_LEN, &number), PF_FRAME_NOT_CANONICAL);
     EXPECT(pf_advance(&context, peer, 2, &number), PF_OK);
     EXPECT(pf_settle(&context, peer, &number), PF_OK);
     EXPECT(pf_seal(&context, peer, 2), PF_OK);
     EXPECT(pf_take(&context, peer, command.bytes, PF_FRAME_LEN, &number), PF_TOO_OLD);
     EXPECT(pf_seal(&context, peer, 1), PF_TOO_OLD);
+    EXPECT(pf_close(&context), PF_OK);
+}
+
+/* A stop of body 1 that player 0 issued, with one byte changed. */
+static void frame_errors(void)
+{
+    enum { VERSION = 0, PLAYER = 5, KIND = 8, LAST = PF_FRAME_LEN - 1 };
+    static const struct {
+        size_t at;
+        uint8_t byte;
+        uint32_t code;
+    } CHANGES[] = {
+        {VERSION, 9, PF_FRAME_BAD_VERSION},
+        {KIND, 4, PF_FRAME_BAD_KIND},
+        {LAST, 1, PF_FRAME_NOT_CANONICAL},
+        {PLAYER, 8, PF_FRAME_OUT_OF_RANGE},
+        {PLAYER, 1, PF_NOT_OWNER},
+    };
+    pf_context context = {0};
+    pf_peer peer;
+    pf_frame command, frame;
+    uint8_t longer[PF_FRAME_LEN + 1] = {0};
+    uint32_t put = 7;
+    EXPECT(pf_open(&context), PF_OK);
+    EXPECT(pf_peer_new(&context, floor_scene(&context), 0, 1, &peer), PF_OK);
+    EXPECT(pf_stop(&context, peer, 1, &command), PF_OK);
+    for (size_t length = 0; length < PF_FRAME_LEN; length++)
+        EXPECT(pf_take(&context, peer, command.bytes, length, &put), PF_FRAME_SHORT);
+    memcpy(longer, command.bytes, PF_FRAME_LEN);
+    EXPECT(pf_take(&context, peer, longer, sizeof longer, &put), PF_FRAME_LONG);
+    for (size_t i = 0; i < sizeof CHANGES / sizeof *CHANGES; i++) {
+        frame = command;
+        frame.bytes[CHANGES[i].at] = CHANGES[i].byte;
+        EXPECT(pf_take(&context, peer, frame.bytes, PF_FRAME_LEN, &put), CHANGES[i].code);
+    }
+    EXPECT(put, 7);
+    EXPECT(pf_close(&context), PF_OK);
+}
+
+/* Two commands of one name: the greater payload stays, whoever comes last. */
+static void names_that_meet(void)
+{
+    pf_context context = {0};
+    pf_scene scene;
+    pf_peer first, second;
+    pf_frame stop, push;
+    uint32_t put;
+    EXPECT(pf_open(&context), PF_OK);
+    scene = floor_scene(&context);
+    EXPECT(pf_peer_new(&context, scene, 0, 1, &first), PF_OK);
+    EXPECT(pf_peer_new(&context, scene, 0, 1, &second), PF_OK);
+    EXPECT(pf_stop(&context, first, 1, &stop), PF_OK);
+    EXPECT(pf_push(&context, second, 1, UPRIGHT, &push), PF_OK);
+    EXPECT(pf_take(&context, second, stop.bytes, PF_FRAME_LEN, &put), PF_OK);
+    EXPECT(put, PF_GREATER);
+    EXPECT(pf_take(&context, first, push.bytes, PF_FRAME_LEN, &put), PF_OK);
+    EXPECT(put, PF_LESSER);
+    EXPECT(pf_take(&context, second, stop.bytes, PF_FRAME_LEN, &put), PF_OK);
+    EXPECT(put, PF_SAME);
     EXPECT(pf_close(&context), PF_OK);
 }
 
@@ -267,6 +325,81 @@ static void merging(void)
     count = 5;
     EXPECT(pf_merge(&context, theirs, ours, &count), PF_HORIZONS_DIFFER);
     EXPECT(count, 5);
+    EXPECT(pf_stop(&context, ours, 1, &frame), PF_OK);
+    EXPECT(pf_merge_alone(&context, theirs, ours, &count), PF_OK);
+    EXPECT(count, 1);
+    EXPECT(pf_merge_alone(&context, ours, theirs, &count), PF_TOO_OLD);
+    EXPECT(pf_close(&context), PF_OK);
+}
+
+/* The frames of a peer, into arrays of each length, and from each tick on. */
+static void frames_read_back(void)
+{
+    enum { COMMANDS = 5 };
+    pf_context context = {0};
+    pf_peer peer, late;
+    pf_scene scene;
+    pf_frame issued[COMMANDS], untouched[COMMANDS];
+    uint32_t tick, put;
+    uint64_t count;
+    EXPECT(pf_open(&context), PF_OK);
+    scene = floor_scene(&context);
+    EXPECT(pf_peer_new(&context, scene, 0, 1, &peer), PF_OK);
+    EXPECT(pf_peer_new(&context, scene, 1, 1, &late), PF_OK);
+    for (int64_t i = 0; i < COMMANDS; i++) {
+        EXPECT(pf_turn(&context, peer, 1, i, &issued[i]), PF_OK);
+        EXPECT(pf_advance(&context, peer, 1, &tick), PF_OK);
+    }
+    memset(untouched, 0x5a, sizeof untouched);
+    for (uint32_t from = 0; from <= COMMANDS; from++)
+        for (size_t length = 0; length <= COMMANDS; length++) {
+            pf_frame frames[COMMANDS];
+            size_t later = COMMANDS - from, written = length < later ? 0 : later;
+            memset(frames, 0x5a, sizeof frames);
+            EXPECT(pf_frames(&context, peer, from, frames, length, &count),
+                   length < later ? PF_SMALL_BUFFER : PF_OK);
+            EXPECT(count, later);
+            EXPECT(memcmp(frames, issued + from, written * sizeof *frames), 0);
+            EXPECT(memcmp(frames + written, untouched, (COMMANDS - written) * sizeof *frames), 0);
+        }
+    for (int i = COMMANDS; i-- > 0;) {
+        EXPECT(pf_take(&context, late, issued[i].bytes, PF_FRAME_LEN, &put), PF_OK);
+        EXPECT(put, PF_NEW);
+    }
+    EXPECT(pf_frames(&context, late, 0, untouched, COMMANDS, &count), PF_OK);
+    EXPECT(memcmp(untouched, issued, sizeof issued), 0);
+    EXPECT(pf_close(&context), PF_OK);
+}
+
+/* A late frame costs the ticks since its own, and the base is the world at the horizon. */
+static void counts_and_base(void)
+{
+    pf_context context = {0};
+    pf_peer peer;
+    pf_frame frame;
+    pf_counts counts;
+    pf_body bodies[3], sealed[3];
+    pf_contact contacts[8];
+    pf_sizes sizes;
+    uint32_t tick;
+    EXPECT(pf_open(&context), PF_OK);
+    EXPECT(pf_peer_new(&context, floor_scene(&context), 0, 16, &peer), PF_OK);
+    EXPECT(pf_meter(&context, peer, &counts), PF_OK);
+    EXPECT(counts.ticks, 0);
+    EXPECT(counts.collides, 0);
+    EXPECT(pf_advance(&context, peer, 10, &tick), PF_OK);
+    EXPECT(pf_push(&context, peer, 1, UPRIGHT, &frame), PF_OK);
+    EXPECT(pf_advance(&context, peer, 10, &tick), PF_OK);
+    EXPECT(pf_settle(&context, peer, &tick), PF_OK);
+    EXPECT(pf_meter(&context, peer, &counts), PF_OK);
+    EXPECT(counts.ticks, 20);
+    EXPECT(counts.collides > 0, 1);
+    EXPECT(pf_world(&context, peer, 12, sealed, 3, contacts, 8, &sizes), PF_OK);
+    EXPECT(pf_seal(&context, peer, 12), PF_OK);
+    EXPECT(pf_base(&context, peer, bodies, 3, contacts, 8, &sizes), PF_OK);
+    EXPECT(sizes.bodies, 3);
+    EXPECT(memcmp(bodies, sealed, sizeof bodies), 0);
+    EXPECT(pf_base(&context, peer, bodies, 2, contacts, 8, &sizes), PF_SMALL_BUFFER);
     EXPECT(pf_close(&context), PF_OK);
 }
 
@@ -310,8 +443,12 @@ int main(void)
     keys();
     scene_errors();
     peer_errors();
+    frame_errors();
+    names_that_meet();
     numbers_of_a_tick();
     merging();
+    frames_read_back();
+    counts_and_base();
     buffers();
     return failures != 0;
 }

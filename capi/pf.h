@@ -16,13 +16,16 @@
  *  1. a pf_context is all zeros, or as the last call left it, and is not copied;
  *  2. each other pointer is aligned, not null, also where its length is 0, live for its length, and
  *     overlaps no other argument;
- *  3. all calls on a context come from one thread; different contexts may be in different threads;
+ *  3. one call on a context ends before the next begins, and the caller orders them: calls on one
+ *     context may come from several threads, by a lock or a join; those on different contexts need
+ *     no order;
  *  4. no call comes from a signal handler, or from the child of a fork of a program with threads;
  *  5. malloc, realloc and free are those of one allocator.
  *
  * Each call returns PF_OK, or why it failed. A call that fails changes nothing but what is said
- * below of pf_settle, and leaves its outputs, the last parameters, as they were, but for the line
- * of pf_scene_read and the sizes of pf_world. No call starts a thread or waits.
+ * below of pf_settle and pf_seal. It leaves its outputs, the last parameters, as they were, but for
+ * the line of pf_scene_read and what pf_world, pf_base and pf_frames need of a buffer. No call
+ * starts a thread or waits.
  */
 #ifndef PF_H
 #define PF_H
@@ -150,6 +153,12 @@ typedef struct pf_sizes {
     uint64_t contacts;
 } pf_sizes;
 
+/* How much work was done to settle and to seal ticks of a peer. */
+typedef struct pf_counts {
+    uint64_t ticks;    /* the ticks that were simulated */
+    uint64_t collides; /* the pairs of bodies whose contact points could not be reused */
+} pf_counts;
+
 /* --- Contexts ------------------------------------------------------------------------------- */
 
 /* Opens a context that is closed. It has no scenes and no peers. */
@@ -213,6 +222,16 @@ uint32_t pf_take(pf_context *context, pf_peer peer, const uint8_t *frame, size_t
  * peer. It is refused unless both have sealed the same tick, with the same world there. */
 uint32_t pf_merge(pf_context *context, pf_peer peer, pf_peer other, uint64_t *count);
 
+/* The same, whatever the other peer has sealed: refused where it holds a command for a tick before
+ * the horizon of this one. What the other peer has dropped does not come. */
+uint32_t pf_merge_alone(pf_context *context, pf_peer peer, pf_peer other, uint64_t *count);
+
+/* Writes the frames of the commands that the peer holds for this tick and later ones, of all
+ * players, by tick, player and number, to the front of an array, and writes how many they are: also
+ * where the call returns PF_SMALL_BUFFER. What a peer that comes later, or a replay, needs. */
+uint32_t pf_frames(pf_context *context, pf_peer peer, uint32_t tick, pf_frame *frames,
+                   size_t frames_length, uint64_t *count);
+
 /* --- Ticks ---------------------------------------------------------------------------------- */
 
 /* Goes on by some ticks, simulates nothing, and writes the tick that the peer has reached. */
@@ -223,7 +242,7 @@ uint32_t pf_advance(pf_context *context, pf_peer peer, uint32_t ticks, uint32_t 
 uint32_t pf_settle(pf_context *context, pf_peer peer, uint32_t *settled);
 
 /* Seals a tick that the peer has reached: what came before it is forgotten, and frames of before
- * are refused from then on. */
+ * are refused from then on. It may simulate up to the tick; out of memory counts what it did. */
 uint32_t pf_seal(pf_context *context, pf_peer peer, uint32_t tick);
 
 /* Write the tick that the peer has reached, the greatest tick whose world it keeps, and its
@@ -231,6 +250,10 @@ uint32_t pf_seal(pf_context *context, pf_peer peer, uint32_t tick);
 uint32_t pf_reached(pf_context *context, pf_peer peer, uint32_t *tick);
 uint32_t pf_settled(pf_context *context, pf_peer peer, uint32_t *tick);
 uint32_t pf_horizon(pf_context *context, pf_peer peer, uint32_t *tick);
+
+/* Writes how much work was done to settle and to seal ticks: a late frame that cost more than it
+ * should shows here. */
+uint32_t pf_meter(pf_context *context, pf_peer peer, pf_counts *counts);
 
 /* --- Worlds --------------------------------------------------------------------------------- */
 
@@ -241,6 +264,11 @@ uint32_t pf_horizon(pf_context *context, pf_peer peer, uint32_t *tick);
 uint32_t pf_world(pf_context *context, pf_peer peer, uint32_t tick, pf_body *bodies,
                   size_t bodies_length, pf_contact *contacts, size_t contacts_length,
                   pf_sizes *sizes);
+
+/* Writes the world at the peer's horizon, as pf_world does, but simulates nothing and takes no
+ * memory. */
+uint32_t pf_base(pf_context *context, pf_peer peer, pf_body *bodies, size_t bodies_length,
+                 pf_contact *contacts, size_t contacts_length, pf_sizes *sizes);
 
 #ifdef __cplusplus
 }

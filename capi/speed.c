@@ -1,5 +1,9 @@
-/* What calls through C cost: nanoseconds of pf_reached, and microseconds of the world of 1,000
- * bodies, each the least of several series. */
+/* What calls through C cost, each the least of several series: nanoseconds of pf_reached, and
+ * microseconds of the world of 1,000 bodies; and with a number of ticks as its word, microseconds a
+ * tick of pf_settle, of the scene on standard input.
+ *
+ *     speed [TICKS < SCENE]
+ */
 #include <inttypes.h>
 #include <stdio.h>
 #include <stdlib.h>
@@ -7,7 +11,7 @@
 
 #include "pf.h"
 
-enum { BODIES = 1000, CONTACTS = 10000, SERIES = 20, CALLS = 100000, WORLDS = 200 };
+enum { BODIES = 1000, CONTACTS = 10000, SERIES = 20, CALLS = 100000, WORLDS = 200, SETTLES = 5 };
 
 static void check(uint32_t code)
 {
@@ -43,7 +47,34 @@ static pf_peer settled_peer(pf_context *context)
     return peer;
 }
 
-int main(void)
+/* Settles so many ticks of the scene on standard input. */
+static void time_settle(uint32_t ticks)
+{
+    static uint8_t text[1 << 20];
+    size_t length = fread(text, 1, sizeof text, stdin);
+    double least = 1e9;
+    pf_context context = {0};
+    pf_scene scene;
+    pf_peer peer;
+    uint64_t line;
+    uint32_t tick;
+    check(pf_open(&context));
+    check(pf_scene_read(&context, text, length, &scene, &line));
+    for (int series = 0; series < SETTLES; series++) {
+        check(pf_peer_new(&context, scene, 0, 16, &peer));
+        check(pf_advance(&context, peer, ticks, &tick));
+        double begin = now();
+        check(pf_settle(&context, peer, &tick));
+        double settle = now() - begin;
+        least = settle < least ? settle : least;
+        check(pf_peer_free(&context, peer));
+    }
+    printf("pf_settle, %" PRIu32 " ticks: %.2f us a tick\n", ticks, 1e6 * least / ticks);
+    check(pf_close(&context));
+}
+
+/* Times pf_reached and pf_world. */
+static void time_calls(void)
 {
     static pf_body bodies[BODIES];
     static pf_contact contacts[CONTACTS];
@@ -70,5 +101,13 @@ int main(void)
     printf("pf_world, %" PRIu64 " bodies and %" PRIu64 " contacts: %.1f us\n", sizes.bodies,
            sizes.contacts, 1e6 * least_world);
     check(pf_close(&context));
+}
+
+int main(int count, char **words)
+{
+    if (count == 2)
+        time_settle((uint32_t)strtoul(words[1], NULL, 10));
+    else
+        time_calls();
     return 0;
 }

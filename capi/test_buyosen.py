@@ -61,6 +61,24 @@ class Calls(unittest.TestCase):
         self.assert_code(TOO_OLD, peer.take, frame)
         self.assert_code(BAD_NUMBER, peer.push, self.box, (1 << 60, 0))
 
+    def test_frames_are_read_back(self):
+        peer, late = self.scene.peer(0), self.scene.peer(1)
+        frames = [peer.turn(self.box, ONE), peer.stop(self.box)]
+        peer.advance(3)
+        frames.append(peer.push(self.box, (ONE, 0)))
+        self.assertEqual((peer.frames(), peer.frames(1), peer.frames(4)), (frames, frames[2:], []))
+        self.assertEqual((late.merge_alone(peer), late.frames()), (3, frames))
+
+    def test_a_late_frame_is_counted(self):
+        peer = self.scene.peer(0)
+        self.assertEqual(peer.counts, (0, 0))
+        peer.advance(10)
+        peer.settle()
+        self.assertEqual(peer.counts.ticks, 10)
+        world = peer.world(6)
+        peer.seal(6)
+        self.assertEqual(list(map(bytes, peer.base().bodies)), list(map(bytes, world.bodies)))
+
     def test_what_is_freed_has_no_key(self):
         peer = self.scene.peer()
         self.scene.free()

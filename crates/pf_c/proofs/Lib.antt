@@ -1,4 +1,4 @@
 -- The lemmas of this crate.
-pub mod Carried
+pub mod SameKind
 pub mod Steps
 pub mod Words

@@ -10,6 +10,27 @@ abbrev pub Tells : {A B : Type 0} → (A → B) → B → B → Result A Context
 Tells value old new (Ok answer) = new ≡ value answer
 Tells value old new (Err error) = new ≡ old
 
+-- an output is written from what a call returned, and stays as it was where there is nothing
+abbrev pub Writes : {A B : Type 0} → (A → B → Type 0) → B → B → Option (Result A ContextError)
+    → Type 0
+Writes Value old new (Some (Ok answer)) = Value answer new
+Writes Value old new (Some (Err error)) = new ≡ old
+Writes Value old new None = new ≡ old
+
+module _ {A : Type 0} (Call : Context → Context → Result A ContextError → Type 0)
+    (old new : Option Context) (result : Option (Result A ContextError)) where
+  -- a call of the context inside, from before to after, and what it returned
+  pub record CallsInside (before : Context) : Type 0 where
+    pub after : Context
+    pub answer : Result A ContextError
+    pub call : Call before after answer
+    pub context : new ≡ Some after
+    pub returns : result ≡ Some answer
+
+  -- an open context is called; a closed one is not, and stays closed
+  abbrev pub CallsOpen : Type 0
+  CallsOpen = MatchOption old ((result ≡ None) × (new ≡ None)) CallsInside
+
 module _ {A : Type 0} (Call : Context → Context → Result A ContextError → Type 0)
     (Outputs : Result A ContextError → Type 0) (old new : Option Context) (code : ℕ) where
   -- an export carries a call of the context inside, from before to after: the code is that of what

@@ -1,5 +1,5 @@
 -- The number of each error.
-use Rattle.std.specs.Prelude.{◌+◌, ℕ, Result, Ok, Err}
+use Rattle.std.specs.Prelude.{◌+◌, ℕ, Option, None, Result, Ok, Err, Some}
 use Rattle.pf_shapes.specs.declared.fault.SceneFault.{SceneFault}
 use Rattle.pf_shapes.specs.declared.fault.SceneFault.TheVariants as scene
 use Rattle.pf_commands.specs.declared.fault.FrameFault.{FrameFault}
@@ -12,7 +12,7 @@ use Rattle.pf_rollback.specs.declared.error.Refusal.{Refusal}
 use Rattle.pf_rollback.specs.declared.error.Refusal.TheVariants as refusals
 use Rattle.pf_context.specs.declared.error.ContextError.{ContextError}
 use Rattle.pf_context.specs.declared.error.ContextError.TheVariants as errors
-use Rattle.pf_c.specs.declared.codes.TheConstants.{PF_BAD_KEY, PF_BAD_NUMBER, PF_BAD_PLAYER, PF_BAD_RING, PF_CHECK, PF_FRAME, PF_FULL, PF_OK, PF_OUT_OF_MEMORY, PF_REFUSED, PF_SCENE, PF_SMALL_BUFFER}
+use Rattle.pf_c.specs.declared.codes.TheConstants.{PF_BAD_KEY, PF_BAD_NUMBER, PF_BAD_PLAYER, PF_BAD_RING, PF_CHECK, PF_CLOSED, PF_FRAME, PF_FULL, PF_OK, PF_OUT_OF_MEMORY, PF_REFUSED, PF_SCENE, PF_SMALL_BUFFER}
 
 -- what is wrong with a scene
 abbrev pub scene_code : SceneFault → ℕ
@@ -66,6 +66,11 @@ error_code (errors.Refused refusal) = refusal_code refusal
 abbrev pub code_of : {A : Type 0} → Result A ContextError → ℕ
 code_of (Ok answer) = PF_OK
 code_of (Err error) = error_code error
+
+-- how a call ended, or that the context is closed, so that none was made
+abbrev pub end_code : {A : Type 0} → Option (Result A ContextError) → ℕ
+end_code (Some answer) = code_of answer
+end_code None = PF_CLOSED
 
 -- what putting a command did: 0 where it was new, 1 the same, 2 greater, 3 lesser
 abbrev pub put_code : Put → ℕ

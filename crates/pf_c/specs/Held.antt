@@ -10,7 +10,7 @@ use Rattle.pf_context.specs.Context.{Context}
 use Rattle.pf_context.specs.contracts.context.Context.{the_row}
 
 -- the heap of the C library
-abbrev heap : Global
+abbrev pub heap : Global
 heap = record { memory = record { seal = tt } }
 
 -- the right to give a block of the heap back

@@ -1,8 +1,10 @@
 -- What the contracts of this crate cite.
+pub mod Buffers
 pub mod Calls
 pub mod Codes
 pub mod Commands
 pub mod Held
+pub mod Kinds
 pub mod Opening
 pub mod Scenes
-pub mod Worlds
+pub mod Ticks

@@ -1,7 +1,7 @@
 //! The number of each error. A group of errors begins at a number of its own.
 
 ghost use Rattle.std.specs.Prelude.{◌≡◌};
-ghost use Rattle.pf_c.specs.Codes.{check_code, code_of, error_code, frame_code, put_code, refusal_code, scene_code};
+ghost use Rattle.pf_c.specs.Codes.{check_code, error_code, frame_code, put_code, refusal_code, scene_code};
 
 use pf_commands::{CheckFault, FrameFault, Put};
 use pf_context::ContextError;
@@ -99,7 +99,7 @@ fn refusal_code(refusal: Refusal) -> u32
 }
 
 /// The code of why a call of a context failed.
-fn error_code(error: ContextError) -> u32
+pub(crate) fn error_code(error: ContextError) -> u32
     ensures { result ≡ error_code error }
 {
     match error {
@@ -112,16 +112,6 @@ fn error_code(error: ContextError) -> u32
         ContextError::BadNumber => PF_BAD_NUMBER,
         ContextError::SmallBuffer(_) | ContextError::SmallBuffers(_) => PF_SMALL_BUFFER,
         ContextError::Refused(refusal) => refusal_code(refusal),
-    }
-}
-
-/// The code of how a call of a context ended.
-pub(crate) fn code_of<T>(answer: &Result<T, ContextError>) -> u32
-    ensures { result ≡ code_of answer.now }
-{
-    match answer {
-        Ok(_) => PF_OK,
-        Err(error) => error_code(*error),
     }
 }
 

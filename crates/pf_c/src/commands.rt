@@ -5,16 +5,18 @@ ghost use Rattle.pf_commands.specs.Frame.{decode};
 ghost use Rattle.pf_commands.specs.declared.payload.Payload.TheVariants.{Stop};
 ghost use Rattle.pf_rollback.specs.Peer.{take};
 ghost use Rattle.pf_context.specs.Errors.{peer_error};
-ghost use Rattle.pf_context.specs.Calls.{CallsPeer, IsHeld, TakesCommands, news_of_frame};
+ghost use Rattle.pf_context.specs.Calls.{CallsPeer, IsHeld, Merges, MergesAlone, TakesCommands, news_of_frame};
+ghost use Rattle.pf_context.specs.Merging.{IsMerge};
 ghost use Rattle.pf_context.specs.Numbers.{place_of, push_of, turn_of};
 ghost use Rattle.pf_c.specs.Calls.{Answers, Tells};
 ghost use Rattle.pf_c.specs.Codes.{put_code};
-ghost use Rattle.pf_c.specs.Commands.{IsMerge, Issues, frame_of};
+ghost use Rattle.pf_c.specs.Commands.{Issues, frame_of};
 
-use crate::codes::{PF_CLOSED, code_of, put_code};
+use crate::answers::tell_as;
+use crate::codes::put_code;
 use crate::held::PfContext;
 use pf_commands::{FRAME_LEN, Payload};
-use pf_context::{ContextError, Key, RawV2, numbers};
+use pf_context::{Context, ContextError, Key, RawV2, numbers};
 use std::alloc::Global;
 
 /// The bytes of a command, as peers send them.
@@ -22,6 +24,27 @@ use std::alloc::Global;
 #[repr(C)]
 pub struct PfFrame {
     pub bytes: [u8; FRAME_LEN],
+}
+
+/// The frame of these bytes.
+fn frame_of(bytes: [u8; FRAME_LEN]) -> PfFrame
+    ensures { result ≡ frame_of bytes }
+{
+    PfFrame { bytes }
+}
+
+/// Issues a command in a context, where there is one to issue.
+fn issue_payload(
+    context: &mut Context,
+    peer: Key,
+    payload: Result<Payload, ContextError>,
+) -> Result<[u8; FRAME_LEN], ContextError>
+    ensures { Issues peer payload context.old context.new result }
+{
+    match payload {
+        Ok(payload) => context.issue(peer, payload),
+        Err(error) => Err(error),
+    }
 }
 
 /// Issues a command, and tells its frame. A number out of its range is the first error.
@@ -36,18 +59,8 @@ fn issue(
         (Tells frame_of frame.old frame.new)
         context.old.handle.value context.new.handle.value result (frame.new ≡ frame.old) }
 {
-    let Some(mut inside) = context.take_out(alloc) else {
-        return PF_CLOSED;
-    };
-    let answer = match payload {
-        Ok(payload) => inside.issue(peer, payload),
-        Err(error) => Err(error),
-    };
-    context.put_back(inside);
-    if let Ok(bytes) = answer {
-        *frame = PfFrame { bytes };
-    }
-    code_of(&answer)
+    let answer = context.call(alloc, |inside| issue_payload(inside, peer, payload));
+    tell_as(answer, frame, frame_of)
 }
 
 /// Issues a push of a body by a peer's player at the tick that it has reached: mass times lengths a
@@ -140,19 +153,12 @@ pub extern "C" fn pf_take(
         (Tells put_code put.old put.new)
         context.old.handle.value context.new.handle.value result (put.new ≡ put.old) }
 {
-    let Some(mut inside) = context.take_out(alloc) else {
-        return PF_CLOSED;
-    };
-    let answer = inside.take(peer, frame);
-    context.put_back(inside);
-    if let Ok(done) = answer {
-        *put = put_code(done);
-    }
-    code_of(&answer)
+    let answer = context.call(alloc, |inside| inside.take(peer, frame));
+    tell_as(answer, put, put_code)
 }
 
 /// Merges into a peer the commands that another peer of the context holds, and tells how many were
-/// new or greater. It is refused unless both have sealed the same tick, with one world there.
+/// new or greater. It is refused unless both have sealed the same tick, with the same world there.
 #[unsafe(no_mangle)]
 pub extern "C" fn pf_merge(
     alloc: Global,
@@ -161,16 +167,27 @@ pub extern "C" fn pf_merge(
     other: Key,
     count: &mut u64,
 ) -> u32
-    ensures { Answers (IsMerge peer other) (Tells (λ news. news) count.old count.new)
+    ensures { Answers (IsMerge Merges peer other) (Tells (λ news. news) count.old count.new)
         context.old.handle.value context.new.handle.value result (count.new ≡ count.old) }
 {
-    let Some(mut inside) = context.take_out(alloc) else {
-        return PF_CLOSED;
-    };
-    let answer = inside.merge(peer, other);
-    context.put_back(inside);
-    if let Ok(news) = answer {
-        *count = news as u64;
-    }
-    code_of(&answer)
+    let answer = context.call(alloc, |inside| inside.merge(peer, other));
+    tell_as(answer, count, |news| news as u64)
+}
+
+/// Merges into a peer the commands that another peer of the context holds, whatever the other one
+/// has sealed, and tells how many were new or greater. It is refused where one of them is for a
+/// tick before the horizon of the peer.
+#[unsafe(no_mangle)]
+pub extern "C" fn pf_merge_alone(
+    alloc: Global,
+    context: &mut PfContext,
+    peer: Key,
+    other: Key,
+    count: &mut u64,
+) -> u32
+    ensures { Answers (IsMerge MergesAlone peer other) (Tells (λ news. news) count.old count.new)
+        context.old.handle.value context.new.handle.value result (count.new ≡ count.old) }
+{
+    let answer = context.call(alloc, |inside| inside.merge_alone(peer, other));
+    tell_as(answer, count, |news| news as u64)
 }

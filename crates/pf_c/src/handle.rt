@@ -24,6 +24,9 @@ impl Model for Handle {
     ghost also_owns = { λ l. held l.at l.value };
 }
 
+// The context may go to another thread, and any thread may give its block back.
+unsafe impl Send for Handle {}
+
 impl Handle {
     pub fn none() -> Handle
         ensures { result.value ≡ None }

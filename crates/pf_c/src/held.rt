@@ -1,11 +1,13 @@
 //! A context as C holds it: open or closed.
 
 ghost use Rattle.std.specs.Prelude.{◌≡◌, ◌↔◌, IfNone, IfSome, IsSome, IsTrue, None, Some};
+ghost use Rattle.std.specs.Fn.{FnOnceReturnsAtMut};
 ghost use Rattle.pf_context.specs.Context.{Context};
+ghost use Rattle.pf_c.specs.Calls.{CallsOpen};
 
 use crate::handle::Handle;
 use crate::loose::Loose;
-use pf_context::Context;
+use pf_context::{Context, ContextError};
 use std::alloc::Global;
 use std::mem;
 
@@ -60,5 +62,22 @@ impl PfContext {
         ensures { self.new.handle.value ≡ Some context.value }
     {
         *self = PfContext::open(context);
+    }
+
+    /// Calls the context, if it is open, and returns what the call returned.
+    pub(crate) fn call<T, F: FnOnce(&mut Context) -> Result<T, ContextError>>(
+        &mut self,
+        alloc: Global,
+        call: F,
+    ) -> Option<Result<T, ContextError>>
+        requires { F.IsAlwaysCallable call }
+        ensures { CallsOpen
+            (λ before after answer. FnOnceReturnsAtMut F.FnOnce call before answer after)
+            self.old.handle.value self.new.handle.value result }
+    {
+        let mut inside = self.take_out(alloc)?;
+        let answer = call(&mut inside);
+        self.put_back(inside);
+        Some(answer)
     }
 }

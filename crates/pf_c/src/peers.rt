@@ -5,7 +5,7 @@ ghost use Rattle.pf_context.specs.Context.{peer_at, scene_at, without_peer};
 ghost use Rattle.pf_context.specs.Calls.{AddsPeer, Frees, core_of};
 ghost use Rattle.pf_c.specs.Calls.{Answers, Tells};
 
-use crate::codes::{PF_CLOSED, code_of};
+use crate::answers::{end_code, tell};
 use crate::held::PfContext;
 use pf_context::Key;
 use std::alloc::Global;
@@ -26,15 +26,13 @@ pub extern "C" fn pf_peer_new(
         (Tells (λ key. key) peer.old peer.new)
         context.old.handle.value context.new.handle.value result (peer.new ≡ peer.old) }
 {
-    let Some(mut inside) = context.take_out(alloc) else {
-        return PF_CLOSED;
-    };
-    let answer = inside.new_peer(alloc, scene, player, ring as usize);
-    context.put_back(inside);
-    if let Ok(key) = answer {
-        *peer = key;
-    }
-    code_of(&answer)
+    tell(
+        context.call(
+            alloc,
+            |inside| inside.new_peer(alloc, scene, player, ring as usize),
+        ),
+        peer,
+    )
 }
 
 /// Frees a peer. From then on its key names nothing.
@@ -45,10 +43,5 @@ pub extern "C" fn pf_peer_free(alloc: Global, context: &mut PfContext, peer: Key
         (λ answer. ⊤)
         context.old.handle.value context.new.handle.value result ⊤ }
 {
-    let Some(mut inside) = context.take_out(alloc) else {
-        return PF_CLOSED;
-    };
-    let answer = inside.free_peer(peer);
-    context.put_back(inside);
-    code_of(&answer)
+    end_code(&context.call(alloc, |inside| inside.free_peer(peer)))
 }

@@ -7,7 +7,7 @@ ghost use Rattle.pf_context.specs.Numbers.{body_of, box_of, circle_of, fixture_o
 ghost use Rattle.pf_c.specs.Calls.{Answers, Tells};
 ghost use Rattle.pf_c.specs.Scenes.{line_of, material_of};
 
-use crate::codes::{PF_CLOSED, code_of};
+use crate::answers::{end_code, tell, tell_as};
 use crate::held::PfContext;
 use pf_context::{ContextError, Key, Material, RawV2};
 use std::alloc::Global;
@@ -58,17 +58,11 @@ pub extern "C" fn pf_scene_read(
         context.old.handle.value context.new.handle.value result
         ((scene.new ≡ scene.old) × (line.new ≡ line.old)) }
 {
-    let Some(mut inside) = context.take_out(alloc) else {
-        return PF_CLOSED;
-    };
-    let answer = inside.read_scene(alloc, text);
-    context.put_back(inside);
-    match answer {
-        Ok(key) => *scene = key,
-        Err(ContextError::Line(number, _)) => *line = number,
-        Err(_) => {}
+    let answer = context.call(alloc, |inside| inside.read_scene(alloc, text));
+    if let Some(Err(ContextError::Line(number, _))) = answer {
+        *line = number;
     }
-    code_of(&answer)
+    tell(answer, scene)
 }
 
 /// Makes a scene without bodies, of this gravity, and tells its key.
@@ -84,15 +78,10 @@ pub extern "C" fn pf_scene_new(
         (Tells (λ key. key) scene.old scene.new)
         context.old.handle.value context.new.handle.value result (scene.new ≡ scene.old) }
 {
-    let Some(mut inside) = context.take_out(alloc) else {
-        return PF_CLOSED;
-    };
-    let answer = inside.new_scene(alloc, gravity);
-    context.put_back(inside);
-    if let Ok(key) = answer {
-        *scene = key;
-    }
-    code_of(&answer)
+    tell(
+        context.call(alloc, |inside| inside.new_scene(alloc, gravity)),
+        scene,
+    )
 }
 
 /// Pushes a circle of this radius onto a scene, upright at this position, and tells its number.
@@ -112,15 +101,12 @@ pub extern "C" fn pf_circle(
         (Tells (λ number. number) body.old body.new)
         context.old.handle.value context.new.handle.value result (body.new ≡ body.old) }
 {
-    let Some(mut inside) = context.take_out(alloc) else {
-        return PF_CLOSED;
-    };
-    let answer = inside.push_circle(scene, material(of), radius, position);
-    context.put_back(inside);
-    if let Ok(number) = answer {
-        *body = number as u64;
-    }
-    code_of(&answer)
+    let material = material(of);
+    let answer = context.call(
+        alloc,
+        |inside| inside.push_circle(scene, material, radius, position),
+    );
+    tell_as(answer, body, |number| number as u64)
 }
 
 /// Pushes a box of these half extents onto a scene, at this position, turned into this direction,
@@ -142,15 +128,11 @@ pub extern "C" fn pf_box(
         (Tells (λ number. number) body.old body.new)
         context.old.handle.value context.new.handle.value result (body.new ≡ body.old) }
 {
-    let Some(mut inside) = context.take_out(alloc) else {
-        return PF_CLOSED;
-    };
-    let answer = inside.push_box(scene, material(of), half, position, direction);
-    context.put_back(inside);
-    if let Ok(number) = answer {
-        *body = number as u64;
-    }
-    code_of(&answer)
+    let material = material(of);
+    let answer = context.call(alloc, |inside| {
+        inside.push_box(scene, material, half, position, direction)
+    });
+    tell_as(answer, body, |number| number as u64)
 }
 
 /// Frees a scene. The peers that were made of it stay.
@@ -161,10 +143,5 @@ pub extern "C" fn pf_scene_free(alloc: Global, context: &mut PfContext, scene: K
         (λ answer. ⊤)
         context.old.handle.value context.new.handle.value result ⊤ }
 {
-    let Some(mut inside) = context.take_out(alloc) else {
-        return PF_CLOSED;
-    };
-    let answer = inside.free_scene(scene);
-    context.put_back(inside);
-    code_of(&answer)
+    end_code(&context.call(alloc, |inside| inside.free_scene(scene)))
 }

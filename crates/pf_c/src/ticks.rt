@@ -1,4 +1,4 @@
-//! The ticks of peers: gone on, settled and sealed, and how far each has come.
+//! The ticks of peers: gone on, settled and sealed, how far each has come, and at what cost.
 
 ghost use Rattle.std.specs.Prelude.{◌≡◌, ⊤};
 ghost use Rattle.pf_rollback.specs.Kept.{settled_tick};
@@ -7,11 +7,33 @@ ghost use Rattle.pf_context.specs.Context.{peer_at};
 ghost use Rattle.pf_context.specs.Errors.{memory_error, peer_error, shown};
 ghost use Rattle.pf_context.specs.Calls.{Advances, CallsPeer, Seals};
 ghost use Rattle.pf_c.specs.Calls.{Answers, Tells};
+ghost use Rattle.pf_c.specs.Ticks.{counts_of};
 
-use crate::codes::{PF_CLOSED, code_of};
+use crate::answers::{end_code, tell, tell_as};
 use crate::held::PfContext;
+use pf_cache::Meter;
 use pf_context::Key;
 use std::alloc::Global;
+
+/// How much work was done to settle and to seal ticks of a peer.
+#[derive(Clone, Copy, Debug, PartialEq, Eq)]
+#[repr(C)]
+pub struct PfCounts {
+    /// How many ticks were simulated.
+    pub ticks: u64,
+    /// How many pairs of bodies could not reuse kept contact points.
+    pub collides: u64,
+}
+
+/// The counts of a meter.
+fn counts_of(meter: Meter) -> PfCounts
+    ensures { result ≡ counts_of meter }
+{
+    PfCounts {
+        ticks: meter.ticks,
+        collides: meter.collides,
+    }
+}
 
 /// A peer goes on by so many ticks of 1/64 s, simulates nothing, and tells the tick that it has
 /// reached.
@@ -28,15 +50,10 @@ pub extern "C" fn pf_advance(
         (Tells (λ tick. tick) reached.old reached.new)
         context.old.handle.value context.new.handle.value result (reached.new ≡ reached.old) }
 {
-    let Some(mut inside) = context.take_out(alloc) else {
-        return PF_CLOSED;
-    };
-    let answer = inside.advance(peer, ticks);
-    context.put_back(inside);
-    if let Ok(tick) = answer {
-        *reached = tick;
-    }
-    code_of(&answer)
+    tell(
+        context.call(alloc, |inside| inside.advance(peer, ticks)),
+        reached,
+    )
 }
 
 /// Settles the ticks of a peer up to the reached one, and tells that. After an error the ticks
@@ -53,15 +70,10 @@ pub extern "C" fn pf_settle(
         (Tells (λ tick. tick) settled.old settled.new)
         context.old.handle.value context.new.handle.value result (settled.new ≡ settled.old) }
 {
-    let Some(mut inside) = context.take_out(alloc) else {
-        return PF_CLOSED;
-    };
-    let answer = inside.settle(alloc, peer);
-    context.put_back(inside);
-    if let Ok(tick) = answer {
-        *settled = tick;
-    }
-    code_of(&answer)
+    tell(
+        context.call(alloc, |inside| inside.settle(alloc, peer)),
+        settled,
+    )
 }
 
 /// Seals a tick that a peer has reached: it is the peer's new horizon.
@@ -72,12 +84,7 @@ pub extern "C" fn pf_seal(alloc: Global, context: &mut PfContext, peer: Key, tic
         (λ answer. ⊤)
         context.old.handle.value context.new.handle.value result ⊤ }
 {
-    let Some(mut inside) = context.take_out(alloc) else {
-        return PF_CLOSED;
-    };
-    let answer = inside.seal(alloc, peer, tick);
-    context.put_back(inside);
-    code_of(&answer)
+    end_code(&context.call(alloc, |inside| inside.seal(alloc, peer, tick)))
 }
 
 /// Tells the tick that a peer has reached.
@@ -93,15 +100,7 @@ pub extern "C" fn pf_reached(
         (Tells (λ number. number) tick.old tick.new)
         context.old.handle.value context.new.handle.value result (tick.new ≡ tick.old) }
 {
-    let Some(inside) = context.take_out(alloc) else {
-        return PF_CLOSED;
-    };
-    let answer = inside.reached(peer);
-    context.put_back(inside);
-    if let Ok(number) = answer {
-        *tick = number;
-    }
-    code_of(&answer)
+    tell(context.call(alloc, |inside| inside.reached(peer)), tick)
 }
 
 /// Tells a peer's settled tick: the greatest tick of a world that it keeps.
@@ -117,15 +116,7 @@ pub extern "C" fn pf_settled(
         (Tells (λ number. number) tick.old tick.new)
         context.old.handle.value context.new.handle.value result (tick.new ≡ tick.old) }
 {
-    let Some(inside) = context.take_out(alloc) else {
-        return PF_CLOSED;
-    };
-    let answer = inside.settled(peer);
-    context.put_back(inside);
-    if let Ok(number) = answer {
-        *tick = number;
-    }
-    code_of(&answer)
+    tell(context.call(alloc, |inside| inside.settled(peer)), tick)
 }
 
 /// Tells a peer's horizon: the tick before which it keeps neither commands nor worlds.
@@ -141,13 +132,22 @@ pub extern "C" fn pf_horizon(
         (Tells (λ number. number) tick.old tick.new)
         context.old.handle.value context.new.handle.value result (tick.new ≡ tick.old) }
 {
-    let Some(inside) = context.take_out(alloc) else {
-        return PF_CLOSED;
-    };
-    let answer = inside.horizon(peer);
-    context.put_back(inside);
-    if let Ok(number) = answer {
-        *tick = number;
-    }
-    code_of(&answer)
+    tell(context.call(alloc, |inside| inside.horizon(peer)), tick)
+}
+
+/// Tells how much work was done to settle and to seal ticks of a peer.
+#[unsafe(no_mangle)]
+pub extern "C" fn pf_meter(
+    alloc: Global,
+    context: &mut PfContext,
+    peer: Key,
+    counts: &mut PfCounts,
+) -> u32
+    ensures { Answers (λ before after answer. (after ≡ before)
+        × (answer ≡ shown (λ core. core.meter) (peer_at before peer)))
+        (Tells counts_of counts.old counts.new)
+        context.old.handle.value context.new.handle.value result (counts.new ≡ counts.old) }
+{
+    let answer = context.call(alloc, |inside| inside.meter(peer));
+    tell_as(answer, counts, counts_of)
 }

@@ -2,11 +2,12 @@
 
 ghost use Rattle.std.specs.Prelude.{◌≡◌};
 ghost use Rattle.pf_context.specs.Context.{peer_at};
-ghost use Rattle.pf_context.specs.Worlds.{ShowsWorld};
+ghost use Rattle.pf_context.specs.Worlds.{ShowsBase, ShowsWorld};
 ghost use Rattle.pf_c.specs.Calls.{Answers};
-ghost use Rattle.pf_c.specs.Worlds.{needed_sizes};
+ghost use Rattle.pf_c.specs.Buffers.{needed_sizes};
 
-use crate::codes::{PF_CLOSED, code_of};
+use crate::answers::code_of;
+use crate::codes::PF_CLOSED;
 use crate::held::PfContext;
 use pf_context::{ContextError, Key, PlainBody, PlainContact, Sizes};
 use std::alloc::Global;
@@ -57,6 +58,34 @@ pub extern "C" fn pf_world(
         return PF_CLOSED;
     };
     let answer = inside.world(alloc, peer, tick, bodies, contacts);
+    context.put_back(inside);
+    *sizes = needed_sizes(*sizes, &answer);
+    code_of(&answer)
+}
+
+/// Writes the world at the horizon of a peer, as [`pf_world`] does, but simulates nothing and takes
+/// no memory.
+#[unsafe(no_mangle)]
+pub extern "C" fn pf_base(
+    alloc: Global,
+    context: &mut PfContext,
+    peer: Key,
+    bodies: &mut [PlainBody],
+    contacts: &mut [PlainContact],
+    sizes: &mut PfSizes,
+) -> u32
+    ensures { Answers (λ before after answer. (after ≡ before)
+        × ShowsBase (peer_at before peer)
+        (record { bodies = bodies.old; contacts = contacts.old })
+        (record { bodies = bodies.new; contacts = contacts.new }) answer)
+        (λ answer. sizes.new ≡ needed_sizes sizes.old answer)
+        context.old.handle.value context.new.handle.value result
+        ((bodies.new ≡ bodies.old) × (contacts.new ≡ contacts.old) × (sizes.new ≡ sizes.old)) }
+{
+    let Some(inside) = context.take_out(alloc) else {
+        return PF_CLOSED;
+    };
+    let answer = inside.base(peer, bodies, contacts);
     context.put_back(inside);
     *sizes = needed_sizes(*sizes, &answer);
     code_of(&answer)

@@ -6,3 +6,4 @@ pub mod Calls
 pub mod Plain
 pub mod Worlds
 pub mod Frames
+pub mod Merging

@@ -2,9 +2,10 @@
 
 ghost use Rattle.std.specs.Prelude.{◌≡◌};
 
+use crate::error::ContextError;
 use pf_rollback::PeerCore;
 use pf_shapes::Scene;
-use pf_table::Table;
+use pf_table::{Key, Table};
 use std::alloc::Global;
 use std::marker::Model;
 
@@ -30,7 +31,8 @@ impl Model for Context {
 }
 
 impl Context {
-    ghost use Rattle.pf_context.specs.Context.{empty_context};
+    ghost use Rattle.std.specs.Prelude.{IfErr, IfOk, None, Some};
+    ghost use Rattle.pf_context.specs.Context.{empty_context, peer_at};
 
     /// A context of no scenes and no peers. Takes no memory.
     pub fn new(alloc: Global) -> Context
@@ -40,5 +42,14 @@ impl Context {
             scenes: Table::new(alloc),
             peers: Table::new(alloc),
         }
+    }
+
+    /// The peer that a key names.
+    pub(crate) fn core(&self, peer: Key) -> Result<&PeerCore, ContextError>
+        ensures some { IfOk result (λ core. peer_at self.now peer ≡ Some core.now) }
+        ensures none { IfErr result (λ error.
+            (error ≡ ContextError.BadKey) × (peer_at self.now peer ≡ None)) }
+    {
+        self.peers.get(peer).ok_or(ContextError::BadKey)
     }
 }

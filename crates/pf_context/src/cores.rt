@@ -2,7 +2,9 @@
 
 ghost use Rattle.pf_commands.specs.Frame.{decode};
 ghost use Rattle.pf_context.specs.Calls.{Advances, Issues, Merges, MergesAlone, Seals, Takes};
+ghost use Rattle.pf_context.specs.Merging.{MergesBy};
 
+use crate::merging::MergeRule;
 use pf_commands::{FRAME_LEN, Payload, Put};
 use pf_rollback::{PeerCore, PeerError};
 use std::alloc::Global;
@@ -35,16 +37,30 @@ pub(crate) fn seal(core: &mut PeerCore, alloc: Global, tick: u32) -> Result<(), 
     core.seal(alloc, tick)
 }
 
-/// Merges into a peer the commands that another one holds.
-pub(crate) fn merge(core: &mut PeerCore, other: &PeerCore) -> Result<usize, PeerError>
+/// Merges into a peer the commands of one that has sealed the same.
+fn merge_sealed(core: &mut PeerCore, other: &PeerCore) -> Result<usize, PeerError>
     ensures { Merges other.now.peer core.old core.new result }
 {
     core.merge_sealed(&other.sealed())
 }
 
-/// Merges into a peer the commands that another one holds, whatever that has sealed.
-pub(crate) fn merge_alone(core: &mut PeerCore, other: &PeerCore) -> Result<usize, PeerError>
+/// Merges into a peer the commands of another one, whatever that has sealed.
+fn merge_alone(core: &mut PeerCore, other: &PeerCore) -> Result<usize, PeerError>
     ensures { MergesAlone other.now.peer core.old core.new result }
 {
     core.merge(other.commands())
+}
+
+/// Merges into a peer the commands that another one holds, by a rule.
+pub(crate) fn merge(
+    rule: MergeRule,
+    core: &mut PeerCore,
+    other: &PeerCore,
+) -> Result<usize, PeerError>
+    ensures { MergesBy rule other.now.peer core.old core.new result }
+{
+    match rule {
+        MergeRule::SameHorizon => merge_sealed(core, other),
+        MergeRule::AnyHorizon => merge_alone(core, other),
+    }
 }

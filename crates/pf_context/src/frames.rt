@@ -75,9 +75,7 @@ impl Context {
         ensures bad_key { IsErrOf result ContextError.BadKey ↔ (peer_at self.now peer ≡ None) }
         ensures frames { ShowsFrames (peer_at self.now peer) tick frames.old frames.new result }
     {
-        let Some(core) = self.peers.get(peer) else {
-            return Err(ContextError::BadKey);
-        };
+        let core = self.core(peer)?;
         let commands = core.commands();
         let count = count_from(commands, tick);
         if count > frames.len() {

@@ -39,6 +39,10 @@ pub struct PlainContact {
     pub tangent: i64,
 }
 
+const _: () = prove!(std::mem::size_of::<PlainBody>() == 64);
+
+const _: () = prove!(std::mem::size_of::<PlainContact>() == 24);
+
 /// How many bodies and how many contacts a world has.
 #[derive(Clone, Copy, Debug, PartialEq, Eq)]
 pub struct Sizes {

@@ -19,40 +19,28 @@ impl Context {
     pub fn reached(&self, peer: Key) -> Result<u32, ContextError>
         ensures { result ≡ shown (λ core. core.peer.reached) (peer_at self.now peer) }
     {
-        match self.peers.get(peer) {
-            Some(core) => Ok(core.reached()),
-            None => Err(ContextError::BadKey),
-        }
+        Ok(self.core(peer)?.reached())
     }
 
     /// A peer's settled tick: the greatest tick of a world that it keeps.
     pub fn settled(&self, peer: Key) -> Result<u32, ContextError>
         ensures { result ≡ shown (λ core. settled_tick core.kept) (peer_at self.now peer) }
     {
-        match self.peers.get(peer) {
-            Some(core) => Ok(core.settled()),
-            None => Err(ContextError::BadKey),
-        }
+        Ok(self.core(peer)?.settled())
     }
 
     /// A peer's horizon: the tick before which it keeps neither commands nor worlds.
     pub fn horizon(&self, peer: Key) -> Result<u32, ContextError>
         ensures { result ≡ shown (λ core. core.peer.horizon) (peer_at self.now peer) }
     {
-        match self.peers.get(peer) {
-            Some(core) => Ok(core.horizon()),
-            None => Err(ContextError::BadKey),
-        }
+        Ok(self.core(peer)?.horizon())
     }
 
     /// How much work was done to settle and to seal ticks of a peer.
     pub fn meter(&self, peer: Key) -> Result<Meter, ContextError>
         ensures { result ≡ shown (λ core. core.meter) (peer_at self.now peer) }
     {
-        match self.peers.get(peer) {
-            Some(core) => Ok(core.meter()),
-            None => Err(ContextError::BadKey),
-        }
+        Ok(self.core(peer)?.meter())
     }
 
     /// A peer goes on by so many ticks of 1/64 s, simulates nothing, and its reached tick is

@@ -59,9 +59,7 @@ impl Context {
         ensures no_memory { (core : PeerCore) → peer_at self.now peer ≡ Some core
             → IsEmptyBefore core.peer tick → result ≢ Err ContextError.OutOfMemory }
     {
-        let Some(core) = self.peers.get(peer) else {
-            return Err(ContextError::BadKey);
-        };
+        let core = self.core(peer)?;
         let world = core.world_at(alloc, tick, &mut Work::new(alloc))?;
         write_world(&world, bodies, contacts)
     }
@@ -80,9 +78,7 @@ impl Context {
             (record { bodies = bodies.new; contacts = contacts.new }) result }
         ensures no_memory { result ≢ Err ContextError.OutOfMemory }
     {
-        let Some(core) = self.peers.get(peer) else {
-            return Err(ContextError::BadKey);
-        };
+        let core = self.core(peer)?;
         write_world(core.sealed().base, bodies, contacts)
     }
 }

@@ -7,7 +7,7 @@ ghost use Rattle.pf_program.specs.Options.{ParsesAs, AsksFor, FailsByWordsOrMemo
 
 use clap::error::ErrorKind;
 use clap::{Arg, ArgMatches, Command, Error, value_parser};
-use pf_console::{ProgramError, Request};
+use pf_console::{ProgramError, Request, VERSION};
 use pf_workers::MAX_WORKERS;
 use std::alloc::{AllocError, Global};
 use std::convert::AsStr;
@@ -173,7 +173,7 @@ fn own_command<'a>(alloc: Global) -> Result<Command<'a>, AllocError>
     let command = Command::new(alloc, "pf_play").bin_name("pf_play")?;
     Ok(
         command
-            .version("0.1.0")
+            .version(VERSION)
             .about(ABOUT)
             .after_help(RUN_HELP)
             .disable_help_subcommand(true)

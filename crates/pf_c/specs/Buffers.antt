@@ -1,5 +1,5 @@
--- How much a world needs, as C is told.
-use Rattle.std.specs.Prelude.{Result, Ok, Err}
+-- How much a buffer needs, as C is told.
+use Rattle.std.specs.Prelude.{ℕ, Result, Ok, Err}
 use Rattle.pf_context.specs.declared.error.ContextError.{ContextError}
 use Rattle.pf_context.specs.declared.error.ContextError.TheVariants as errors
 use Rattle.pf_context.specs.declared.plain.Sizes.{Sizes}
@@ -11,3 +11,9 @@ needed_sizes old (Ok sizes) = record { bodies = sizes.bodies; contacts = sizes.c
 needed_sizes old (Err (errors.SmallBuffers sizes)) =
     record { bodies = sizes.bodies; contacts = sizes.contacts }
 needed_sizes old (Err error) = old
+
+-- how many frames there are, where that is known, and else what was there
+abbrev pub needed_count : ℕ → Result ℕ ContextError → ℕ
+needed_count old (Ok count) = count
+needed_count old (Err (errors.SmallBuffer count)) = count
+needed_count old (Err error) = old
