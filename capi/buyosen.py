@@ -12,7 +12,7 @@
             print(body.x / ONE, body.y / ONE)
 
 Numbers are whole numbers in units of 2^-24, so 1 is ONE; a tick is 1/64 s. A call that fails raises
-Error, with its code; the codes and what they mean stand in pf.h. The library is the one in out/
+Error, with its code and the code's name; pf.h says what each means. The library is the one in out/
 beside this file, or in lib/ beside its folder, or else the one that the loader finds.
 """
 
@@ -29,10 +29,11 @@ PUTS = ("new", "same", "greater", "lesser")
 
 
 class Error(Exception):
-    """A call that failed, and why: `code` is one of pf.h, `line` that of an invalid line."""
+    """A call that failed, and why: `code` and `name` of pf.h, `line` that of an invalid line."""
 
     def __init__(self, code, line=None):
-        super().__init__(f"code {code}" + (f" in line {line}" if line else ""))
+        self.name = _name(code)
+        super().__init__(self.name + (f" in line {line}" if line else ""))
         self.code = code
         self.line = line
 
@@ -135,7 +136,16 @@ def _load():
         function = getattr(library, "pf_" + name)
         function.argtypes = [POINTER(_Context), *parameters]
         function.restype = c_uint32
+    library.pf_error_name.argtypes = [c_uint32, ctypes.c_char_p, c_size_t, POINTER(c_uint64)]
+    library.pf_error_name.restype = c_uint32
     return library
+
+
+def _name(code):
+    """The name of a code, as PF_BAD_KEY."""
+    name, needed = ctypes.create_string_buffer(32), c_uint64()
+    _LIBRARY.pf_error_name(code, name, len(name), byref(needed))
+    return name.value.decode()
 
 
 _LIBRARY = _load()

@@ -437,8 +437,46 @@ static void buffers(void)
     EXPECT(pf_close(&context), PF_OK);
 }
 
+/* The name of each code, into arrays of each length. */
+static void names(void)
+{
+    static const struct {
+        uint32_t code;
+        const char *name;
+    } NAMES[] = {
+        {PF_OK, "PF_OK"},
+        {PF_OUT_OF_MEMORY, "PF_OUT_OF_MEMORY"},
+        {PF_BAD_KEY, "PF_BAD_KEY"},
+        {PF_FULL, "PF_FULL"},
+        {PF_SCENE_BAD_SIZE, "PF_SCENE_BAD_SIZE"},
+        {PF_BASES_DIFFER, "PF_BASES_DIFFER"},
+        {PF_FRAME_NOT_CANONICAL, "PF_FRAME_NOT_CANONICAL"},
+        {PF_NOT_OWNER, "PF_NOT_OWNER"},
+        {2, ""},
+        {PF_NOT_OWNER + 1, ""},
+        {UINT32_MAX, ""},
+    };
+    for (size_t i = 0; i < sizeof NAMES / sizeof *NAMES; i++) {
+        size_t needs = strlen(NAMES[i].name) + 1;
+        EXPECT(needs <= PF_NAME_LEN, 1);
+        for (size_t length = 0; length <= PF_NAME_LEN; length++) {
+            char name[PF_NAME_LEN + 1], untouched[PF_NAME_LEN + 1];
+            uint64_t needed = 0;
+            memset(name, '#', sizeof name);
+            memset(untouched, '#', sizeof untouched);
+            EXPECT(pf_error_name(NAMES[i].code, name, length, &needed),
+                   length < needs ? PF_SMALL_BUFFER : PF_OK);
+            EXPECT(needed, needs);
+            size_t written = length < needs ? 0 : needs;
+            EXPECT(memcmp(name, NAMES[i].name, written), 0);
+            EXPECT(memcmp(name + written, untouched, sizeof name - written), 0);
+        }
+    }
+}
+
 int main(void)
 {
+    names();
     closed_contexts();
     keys();
     scene_errors();

@@ -24,8 +24,8 @@
  *
  * Each call returns PF_OK, or why it failed. A call that fails changes nothing but what is said
  * below of pf_settle and pf_seal. It leaves its outputs, the last parameters, as they were, but for
- * the line of pf_scene_read and what pf_world, pf_base and pf_frames need of a buffer. No call
- * starts a thread or waits.
+ * the line of pf_scene_read, and for what an array that is too small would need. No call starts a
+ * thread or waits.
  */
 #ifndef PF_H
 #define PF_H
@@ -41,6 +41,7 @@ extern "C" {
 #define PF_ONE 16777216 /* 1, in units of 2^-24 */
 #define PF_FRAME_LEN 27 /* the bytes of a command */
 #define PF_NOBODY 255   /* the owner of a body that no player may move */
+#define PF_NAME_LEN 32  /* bytes that the name of each code fits into */
 
 /* The codes. */
 enum {
@@ -158,6 +159,11 @@ typedef struct pf_counts {
     uint64_t ticks;    /* the ticks that were simulated */
     uint64_t collides; /* the pairs of bodies whose contact points could not be reused */
 } pf_counts;
+
+/* Writes the name of a code, as "PF_BAD_KEY", with a zero behind it, to the front of an array, and
+ * how many bytes that takes: also where the call returns PF_SMALL_BUFFER. The name of a number that
+ * is no code is empty. */
+uint32_t pf_error_name(uint32_t code, char *name, size_t name_length, uint64_t *needed);
 
 /* --- Contexts ------------------------------------------------------------------------------- */
 

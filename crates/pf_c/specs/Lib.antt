@@ -5,6 +5,7 @@ pub mod Codes
 pub mod Commands
 pub mod Held
 pub mod Kinds
+pub mod Names
 pub mod Opening
 pub mod Scenes
 pub mod Ticks

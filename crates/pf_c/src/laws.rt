@@ -1,9 +1,10 @@
 //! Laws of the codes. These functions compute nothing: their clauses are the statements.
 
-ghost use Rattle.std.specs.Prelude.{◌≡◌, ◌≢◌, ◌↔◌, IsOk, Result};
+ghost use Rattle.std.specs.Prelude.{◌≡◌, ◌≢◌, ◌↔◌, ◌<◌, IsOk, Result, length};
 ghost use Rattle.pf_context.specs.declared.error.ContextError.{ContextError};
 ghost use Rattle.pf_c.specs.Codes.{code_of, error_code};
 ghost use Rattle.pf_c.specs.Kinds.{error_kind};
+ghost use Rattle.pf_c.specs.Names.{code_name};
 ghost use Rattle.pf_c.specs.declared.codes.TheConstants.{PF_BAD_KEY, PF_BAD_NUMBER, PF_BAD_PLAYER, PF_BAD_RING, PF_CHECK, PF_CLOSED, PF_FRAME, PF_FULL, PF_OK, PF_OUT_OF_MEMORY, PF_REFUSED, PF_SCENE, PF_SMALL_BUFFER, PF_STILL_OPEN};
 
 /// The codes have these numbers, which the header has too.
@@ -34,4 +35,9 @@ pub fn success_has_one_code<T>()
 /// Errors of one code are alike, but for the numbers that they name.
 pub fn errors_of_one_code_are_alike()
     ensures { (a b : ContextError) → error_code a ≡ error_code b → error_kind a ≡ error_kind b }
+{}
+
+/// Each error has a code with a name.
+pub fn errors_have_names()
+    ensures { (error : ContextError) → 0 < length (code_name (error_code error)) }
 {}

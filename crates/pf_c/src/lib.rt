@@ -14,6 +14,7 @@ mod handle;
 mod held;
 pub mod laws;
 mod loose;
+mod names;
 mod opening;
 mod peers;
 mod scenes;

@@ -1,0 +1,71 @@
+//! The name of each code.
+
+ghost use Rattle.std.specs.Prelude.{◌≡◌, ◌+◌, length};
+ghost use Rattle.pf_c.specs.Names.{WritesText, code_name};
+
+use crate::codes::{PF_OK, PF_SMALL_BUFFER};
+
+/// The name of a code, as the header has it; a number that is no code has an empty one.
+#[tactic(auto, unfolding(crate::specs::Names::code_name))]
+fn code_name(code: u32) -> &'static str
+    ensures { result.now ≡ code_name code }
+{
+    match code {
+        0 => "PF_OK",
+        1 => "PF_OUT_OF_MEMORY",
+        3 => "PF_CLOSED",
+        4 => "PF_BAD_KEY",
+        5 => "PF_SMALL_BUFFER",
+        6 => "PF_BAD_PLAYER",
+        7 => "PF_BAD_RING",
+        8 => "PF_BAD_NUMBER",
+        9 => "PF_STILL_OPEN",
+        10 => "PF_FULL",
+        16 => "PF_SCENE_BAD_LINE",
+        17 => "PF_SCENE_BAD_NUMBER",
+        18 => "PF_SCENE_TOO_MANY",
+        19 => "PF_SCENE_BAD_MASS",
+        20 => "PF_SCENE_BAD_SIZE",
+        32 => "PF_TICK_LIMIT",
+        33 => "PF_NUMBERS_SPENT",
+        34 => "PF_NOT_REACHED",
+        35 => "PF_TOO_OLD",
+        36 => "PF_HORIZONS_DIFFER",
+        37 => "PF_BASES_DIFFER",
+        48 => "PF_FRAME_SHORT",
+        49 => "PF_FRAME_LONG",
+        50 => "PF_FRAME_BAD_VERSION",
+        51 => "PF_FRAME_BAD_KIND",
+        52 => "PF_FRAME_NOT_CANONICAL",
+        53 => "PF_FRAME_OUT_OF_RANGE",
+        64 => "PF_UNKNOWN_BODY",
+        65 => "PF_STATIC_BODY",
+        66 => "PF_NOT_OWNER",
+        _ => "",
+    }
+}
+
+/// Writes a text, with a zero behind it, to the front of a buffer, if it fits.
+fn write_text(text: &[u8], buffer: &mut [u8]) -> u32
+    ensures { WritesText text.now buffer.old buffer.new result }
+{
+    if text.len() >= buffer.len() {
+        return PF_SMALL_BUFFER;
+    }
+    buffer[..text.len()].copy_from_slice(text);
+    buffer[text.len()] = 0;
+    PF_OK
+}
+
+/// Writes the name of a code, with a zero behind it, to the front of a buffer, and tells how many
+/// bytes that takes. Where the buffer is too small, that is told all the same, and nothing is
+/// written.
+#[unsafe(no_mangle)]
+pub extern "C" fn pf_error_name(code: u32, name: &mut [u8], needed: &mut u64) -> u32
+    ensures name { WritesText (code_name code) name.old name.new result }
+    ensures needed { needed.new ≡ length (code_name code) + 1 }
+{
+    let text = code_name(code).as_bytes();
+    *needed = text.len() as u64 + 1;
+    write_text(text, name)
+}
