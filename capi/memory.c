@@ -1,6 +1,6 @@
 /* From each allocation of a match on, memory is refused until the call returns: it returns
  * PF_OUT_OF_MEMORY. A second try succeeds, and the match ends with the same world. All memory is
- * given back.
+ * given back. Calls that take no memory succeed where there is none.
  *
  * Linked with -Wl,--wrap=malloc,--wrap=realloc,--wrap=free. */
 #include <inttypes.h>
@@ -89,7 +89,7 @@ static void play(result *end)
 {
     pf_context context = {0};
     pf_scene scene, made;
-    pf_peer ours, theirs;
+    pf_peer ours, theirs, watcher;
     pf_frame frame;
     pf_v2 impulse = {6 * PF_ONE, PF_ONE};
     pf_material material = {PF_ONE, 0, 0};
@@ -112,14 +112,62 @@ static void play(result *end)
     TRY(pf_merge(&context, ours, theirs, &number));
     TRY(pf_settle(&context, theirs, &tick));
     TRY(pf_seal(&context, theirs, 10));
+    TRY(pf_peer_new(&context, scene, 2, 4, &watcher));
+    TRY(pf_merge_alone(&context, watcher, theirs, &number));
     TRY(pf_world(&context, theirs, 12, end->bodies, BODIES, end->contacts, CONTACTS, &end->sizes));
     TRY(pf_close(&context));
+}
+
+/* Calls with no memory at all. */
+#define SPARE(call)                                                                                \
+    do {                                                                                           \
+        granted = 0;                                                                               \
+        uint32_t code = (call);                                                                    \
+        granted = -1;                                                                              \
+        if (code != PF_OK)                                                                         \
+            fail(#call, code);                                                                     \
+    } while (0)
+
+/* What needs no memory succeeds where there is none. */
+static void spare(void)
+{
+    pf_context context = {0};
+    pf_scene scene;
+    pf_peer ours, theirs;
+    pf_frame frame, frames[2];
+    pf_counts counts;
+    result end;
+    uint64_t number;
+    uint32_t tick;
+    TRY(pf_open(&context));
+    TRY(pf_scene_read(&context, (const uint8_t *)SCENE, strlen(SCENE), &scene, &number));
+    TRY(pf_peer_new(&context, scene, 0, 4, &ours));
+    TRY(pf_peer_new(&context, scene, 1, 4, &theirs));
+    TRY(pf_stop(&context, ours, 1, &frame));
+    TRY(pf_merge(&context, theirs, ours, &number));
+    SPARE(pf_advance(&context, ours, 10, &tick));
+    TRY(pf_settle(&context, ours, &tick));
+    SPARE(pf_settle(&context, ours, &tick));
+    SPARE(pf_take(&context, ours, frame.bytes, PF_FRAME_LEN, &tick));
+    SPARE(pf_merge(&context, theirs, ours, &number));
+    SPARE(pf_merge_alone(&context, theirs, ours, &number));
+    SPARE(pf_frames(&context, ours, 0, frames, 2, &number));
+    SPARE(pf_base(&context, ours, end.bodies, BODIES, end.contacts, CONTACTS, &end.sizes));
+    SPARE(pf_meter(&context, ours, &counts));
+    SPARE(pf_reached(&context, ours, &tick));
+    SPARE(pf_settled(&context, ours, &tick));
+    SPARE(pf_horizon(&context, ours, &tick));
+    SPARE(pf_seal(&context, ours, 0));
+    SPARE(pf_scene_free(&context, scene));
+    SPARE(pf_peer_free(&context, theirs));
+    SPARE(pf_close(&context));
 }
 
 int main(void)
 {
     result expected, actual;
     granted = -1;
+    spare();
     play(&expected);
     for (long first = 0;; first++) {
         granted = first;
