@@ -70,6 +70,10 @@ fn laws_of_contacts(rt: HostRuntime) {
     rows::named_limits();
     laws::rounds_keep_the_limits();
     laws::rounds_are_one_list();
+    laws::other_orders_are_one_pass();
+    laws::levels_are_solved_at_once();
+    laws::levels_are_solved_as_the_list();
+    laws::islands_are_solved_alone();
     laws::named_limits();
     groups::groups_are_connected();
     groups::active_bodies_reach_awake_ones();

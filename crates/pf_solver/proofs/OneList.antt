@@ -28,7 +28,7 @@ module _ (step : Step) where
       ∙ sym (append_assoc front (row_after step bodies r ∷ []) rest))
 
   -- a pass along the rows behind a front
-  pass_behind : (bodies : List BodyState) (front rows : List Row)
+  pub pass_behind : (bodies : List BodyState) (front rows : List Row)
       → fold (solved_at step) (record { bodies = bodies; rows = front ++ rows })
       (range_with_len (length front) (length rows))
       ≡ record { bodies = (pass step bodies rows).bodies; rows = front ++ (pass step bodies rows).rows }

@@ -6,4 +6,5 @@ pub mod Velocities
 pub mod Bodies
 pub mod Solve
 pub mod Laws
+pub mod Order
 pub mod Alone

@@ -1,6 +1,6 @@
 //! Laws of the solver. These functions compute nothing: their clauses are the statements.
 
-ghost use Rattle.std.specs.Prelude.{◌≡◌, ℕ, ◌+◌, ◌*◌, ◌^◌, ◌<◌, ◌≤ℤ◌, pos, neg_ℤ, fold, All, List, length};
+ghost use Rattle.std.specs.Prelude.{◌≡◌, ℕ, ◌+◌, ◌*◌, ◌^◌, ◌<◌, ◌≤ℤ◌, pos, neg_ℤ, fold, map, All, List, length};
 ghost use Rattle.pf_shapes.specs.Body.{BodyState};
 ghost use Rattle.pf_shapes.specs.Scene.{Scene};
 ghost use Rattle.pf_manifold.specs.Key.{IsRising};
@@ -9,8 +9,9 @@ ghost use Rattle.pf_solver.specs.Impulse.{ContactState, after_round, friction_li
 ghost use Rattle.pf_solver.specs.Alone.{seen_from};
 ghost use Rattle.pf_islands.specs.Island.{states_of, rows_among, IsOwnOrOther};
 ghost use Rattle.pf_solver.specs.Laws.{places_written, solved_at};
+ghost use Rattle.pf_solver.specs.Order.{AreLevelsOf, IsLevel, IsOrderOf, pair_of, passes_in_levels, solved_at_once, solved_in};
 ghost use Rattle.pf_solver.specs.Solve.{solved_batch};
-ghost use Rattle.pf_solver.specs.Velocities.{Batch, Step, passes};
+ghost use Rattle.pf_solver.specs.Velocities.{Batch, Step, pass, passes};
 
 use crate::bodies::{STILL_SPEED, STILL_SPIN, STILL_TICKS};
 use crate::constraint::{BIAS_FACTOR, SLOP};
@@ -32,6 +33,29 @@ pub fn rounds_keep_the_limits()
 pub fn rounds_are_one_list()
     ensures { (n : ℕ) (step : Step) (b : Batch)
         → passes n step b ≡ fold (solved_at step) b (places_written n (length b.rows)) }
+{}
+
+/// A pass may solve the rows in any order that keeps, for each dynamic body, the order of its rows:
+/// the bodies, and all accumulated impulses, are the same, bit for bit.
+pub fn other_orders_are_one_pass()
+    ensures { (step : Step) (b : Batch) (order : List ℕ) → IsOrderOf b order
+        → solved_in order step b ≡ pass step b.bodies b.rows }
+{}
+
+/// The rows of a level, of which no two have a dynamic body in common, may be solved at once: each
+/// reads its bodies before any of them writes its own.
+pub fn levels_are_solved_at_once()
+    ensures { (step : Step) (b : Batch) (level : List ℕ) → IsLevel (map pair_of b.rows) level
+        → solved_at_once level step b ≡ solved_in level step b }
+{}
+
+/// Passes level by level, each level at once, are passes along the list, bit for bit: where all rows
+/// are in a level, no two of a level have a dynamic body in common, and of two rows of one body the
+/// one that comes first in the list is in the level that comes first (level scheduling of
+/// Gauss-Seidel; Box2D 3.x colours its contacts, and does not keep their order).
+pub fn levels_are_solved_as_the_list()
+    ensures { (n : ℕ) (step : Step) (b : Batch) (levels : List (List ℕ)) → AreLevelsOf b levels
+        → passes_in_levels n levels step b ≡ passes n step b }
 {}
 
 /// An island is solved alone as it is in the whole list, bit for bit: where no contact leads from

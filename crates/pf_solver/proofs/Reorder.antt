@@ -1,0 +1,99 @@
+-- Rows may be solved in any order that keeps, for each dynamic body, the order of its rows.
+use Rattle.std.proofs.Common.{◌≡◌, ◌≢◌, ◌∙◌, ℕ, zero, suc, ◌+◌, ◌<◌, List, [], ◌∷◌, ◌++◌, length, map, refl, sym, ap, subst, arith}
+use Rattle.std.proofs.lemmas.List.Elements.{All-cons, All-head, All-nil, All-tail}
+use Rattle.std.proofs.lemmas.List.Sums.{fold-append}
+use Rattle.std.specs.List.{fold, range_with_len}
+use Rattle.std.specs.Prelude.{All}
+use Rattle.pf_solver.specs.Laws.{solved_at}
+use Rattle.pf_solver.specs.Order.{AreApartAt, IsOrderOf, IsReordering, KeepsOrder, Pair, pair_of, solved_in}
+use Rattle.pf_solver.specs.Velocities.{Batch, Step, pass}
+use Rattle.pf_solver.proofs.Commute.{commute, pairs_kept}
+use Rattle.pf_solver.proofs.OneList.{pass_behind}
+
+-- ---- places
+
+-- what holds of a front and of a back holds of both
+All-join : (P : ℕ → Type 0) (front back : List ℕ) → All P front → All P back → All P (front ++ back)
+All-join P [] back f b = b
+All-join P (x ∷ front) back f b = All-cons P x (front ++ back) (All-head P x front f) (All-join P front back (All-tail P x front f) b)
+
+All-left : (P : ℕ → Type 0) (front back : List ℕ) → All P (front ++ back) → All P front
+All-left P [] back all = All-nil P
+All-left P (x ∷ front) back all = All-cons P x front (All-head P x (front ++ back) all) (All-left P front back (All-tail P x (front ++ back) all))
+
+All-right : (P : ℕ → Type 0) (front back : List ℕ) → All P (front ++ back) → All P back
+All-right P [] back all = all
+All-right P (x ∷ front) back all = All-right P front back (All-tail P x (front ++ back) all)
+
+-- what holds of all places holds of them in any order
+All-reordering : (P : ℕ → Type 0) (places order : List ℕ) → IsReordering places order → All P places → All P order
+All-reordering P [] order is all = subst (All P) (sym is) (All-nil P)
+All-reordering P (p ∷ places) order (front, back, is, rest) all =
+    let both = All-reordering P places (front ++ back) rest (All-tail P p places all) in
+    subst (All P) (sym is)
+    (All-join P front (p ∷ back) (All-left P front back both)
+    (All-cons P p back (All-head P p places all) (All-right P front back both)))
+
+-- places of a range are above what is below its first one
+above : (n k p : ℕ) → p < k → All (λ q. p < q) (range_with_len k n)
+above zero k p below = All-nil (λ q. p < q)
+above (suc n) k p below = All-cons (λ q. p < q) k (range_with_len (k + 1) n) below (above n (k + 1) p (omega (arith, below)))
+
+module _ (pairs : List Pair) where
+  -- the rows before a row are apart from it, if they come behind it in the list
+  front_apart : (front back : List ℕ) (p : ℕ) → KeepsOrder pairs (front ++ p ∷ back) → All (λ q. p < q) front
+      → All (λ q. AreApartAt pairs p q) front
+  front_apart [] back p keeps behind = All-nil (λ q. AreApartAt pairs p q)
+  front_apart (q ∷ front) back p keeps behind =
+      let later = All-right (λ x. x < q → AreApartAt pairs x q) front (p ∷ back) keeps.0 in
+      All-cons (λ x. AreApartAt pairs p x) q front
+      (All-head (λ x. x < q → AreApartAt pairs x q) p back later (All-head (λ x. p < x) q front behind))
+      (front_apart front back p keeps.1 (All-tail (λ x. p < x) q front behind))
+
+  -- without one row the order is still kept
+  keeps_rest : (front back : List ℕ) (p : ℕ) → KeepsOrder pairs (front ++ p ∷ back) → KeepsOrder pairs (front ++ back)
+  keeps_rest [] back p keeps = keeps.1
+  keeps_rest (q ∷ front) back p keeps =
+      let P : ℕ → Type 0 = λ x. x < q → AreApartAt pairs x q in (
+        All-join P front back (All-left P front (p ∷ back) keeps.0)
+            (All-tail P p back (All-right P front (p ∷ back) keeps.0)),
+        keeps_rest front back p keeps.1,
+      )
+
+module _ (step : Step) where
+  -- a row is solved before rows that are apart from it
+  solved_first : (front : List ℕ) (p : ℕ) (b : Batch) → All (λ q. p < q) front
+      → All (λ q. AreApartAt (map pair_of b.rows) p q) front
+      → solved_at step (fold (solved_at step) b front) p ≡ fold (solved_at step) (solved_at step b p) front
+  solved_first [] p b behind apart = refl
+  solved_first (q ∷ front) p b behind apart =
+      let pairs = map pair_of b.rows in
+      let below = All-head (λ x. p < x) q front behind in
+      let other : p ≢ q = omega (arith, below) in
+      solved_first front p (solved_at step b q) (All-tail (λ x. p < x) q front behind)
+      (subst (λ ps. All (λ x. AreApartAt ps p x) front) (sym (pairs_kept step b q)) (All-tail (λ x. AreApartAt pairs p x) q front apart))
+      ∙ ap (λ x. fold (solved_at step) x front) (sym (commute step b q p other (All-head (λ x. AreApartAt pairs p x) q front apart)))
+
+  -- the rows from a place on, in another order
+  reordered : (n k : ℕ) (order : List ℕ) (b : Batch) → IsReordering (range_with_len k n) order
+      → KeepsOrder (map pair_of b.rows) order
+      → fold (solved_at step) b order ≡ fold (solved_at step) b (range_with_len k n)
+  reordered zero k order b is keeps = ap (fold (solved_at step) b) is
+  reordered (suc n) k order b (front, back, is, rest) keeps =
+      let pairs = map pair_of b.rows in
+      let places = range_with_len (k + 1) n in
+      let kept : KeepsOrder pairs (front ++ k ∷ back) = subst (KeepsOrder pairs) is keeps in
+      let all_behind = All-reordering (λ q. k < q) places (front ++ back) rest (above n (k + 1) k (omega arith)) in
+      let behind = All-left (λ q. k < q) front back all_behind in
+      let next = solved_at step b k in
+      ap (fold (solved_at step) b) is
+      ∙ fold-append (solved_at step) b front (k ∷ back)
+      ∙ ap (λ x. fold (solved_at step) x back) (solved_first front k b behind (front_apart pairs front back k kept behind))
+      ∙ sym (fold-append (solved_at step) next front back)
+      ∙ reordered n (k + 1) (front ++ back) next rest
+      (subst (λ ps. KeepsOrder ps (front ++ back)) (sym (pairs_kept step b k)) (keeps_rest pairs front back k kept))
+
+  -- a pass in another order
+  pub pass_in_order : (b : Batch) (order : List ℕ) → IsOrderOf b order → solved_in order step b ≡ pass step b.bodies b.rows
+  pass_in_order b order is =
+      reordered (length b.rows) 0 order b is.all is.keeps ∙ pass_behind step b.bodies [] b.rows
