@@ -7,7 +7,8 @@ use Rattle.pf_shapes.specs.Body.{BodyState}
 use Rattle.pf_rows.specs.Row.{Row}
 use Rattle.pf_solver.specs.Impulse.{ContactState}
 use Rattle.pf_solver.specs.Laws.{solved_at, solved_where}
-use Rattle.pf_solver.specs.Order.{AreApart, AreApartAt, IsLevel, pair_of, solved_at_once, solved_in, stored_where}
+use Rattle.pf_levels.specs.Levels.{ShareNoBody, ShareNoBodyAt, IsLevel, pair_of}
+use Rattle.pf_solver.specs.Order.{solved_at_once, solved_in, stored_where}
 use Rattle.pf_solver.specs.Velocities.{Batch, Step, bodies_after, bodies_with, contact_state, row_after, row_with}
 use Rattle.pf_solver.proofs.Commute.{pair_at, read_after, state_kept}
 
@@ -27,7 +28,7 @@ module _ (step : Step) where
       (sym (reads r refl))
 
   -- what a row reads is not what another row of the level writes
-  reads_on : (now : Batch) (p : ℕ) (o : Option Row) (r : Row) → ((t : Row) → o ≡ Some t → AreApart (pair_of t) (pair_of r))
+  reads_on : (now : Batch) (p : ℕ) (o : Option Row) (r : Row) → ((t : Row) → o ≡ Some t → ShareNoBody (pair_of t) (pair_of r))
       → contact_state (solved_where step now p o).bodies r ≡ contact_state now.bodies r
   unfolding bodies_after
   reads_on now p None r apart = refl
@@ -39,7 +40,7 @@ module _ (step : Step) where
       row : slice_get now.rows q ≡ slice_get first.rows q
       reads : (r : Row) → slice_get first.rows q ≡ Some r → contact_state now.bodies r ≡ contact_state first.bodies r
 
-    next : (now : Batch) (p q : ℕ) → p ≢ q → AreApartAt (map pair_of first.rows) p q → IsAsBefore now p → IsAsBefore now q
+    next : (now : Batch) (p q : ℕ) → p ≢ q → ShareNoBodyAt (map pair_of first.rows) p q → IsAsBefore now p → IsAsBefore now q
         → IsAsBefore (solved_at step now p) q
     next now p q other apart here there = record {
       row = read_after step now q p (slice_get now.rows p) other ∙ there.row;
@@ -49,11 +50,11 @@ module _ (step : Step) where
           ∙ there.reads r at;
     }
 
-    all_next : (now : Batch) (p : ℕ) (level : List ℕ) → All (λ q. (p ≢ q) × AreApartAt (map pair_of first.rows) p q) level
+    all_next : (now : Batch) (p : ℕ) (level : List ℕ) → All (λ q. (p ≢ q) × ShareNoBodyAt (map pair_of first.rows) p q) level
         → IsAsBefore now p → All (IsAsBefore now) level → All (IsAsBefore (solved_at step now p)) level
     all_next now p [] apart here there = All-nil (IsAsBefore (solved_at step now p))
     all_next now p (q ∷ level) apart here there =
-        let P : ℕ → Type 0 = λ x. (p ≢ x) × AreApartAt (map pair_of first.rows) p x in
+        let P : ℕ → Type 0 = λ x. (p ≢ x) × ShareNoBodyAt (map pair_of first.rows) p x in
         let far = All-head P q level apart in
         All-cons (IsAsBefore (solved_at step now p)) q level
         (next now p q far.0 far.1 here (All-head (IsAsBefore now) q level there))

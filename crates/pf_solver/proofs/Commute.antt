@@ -5,11 +5,11 @@ use Rattle.std.specs.Prelude.{slice_get, slice_set}
 use Rattle.pf_shapes.specs.Body.{BodyState, no_state}
 use Rattle.pf_rows.specs.declared.row.Side.{Side}
 use Rattle.pf_rows.specs.declared.row.Side.TheVariants.{Static, Dynamic}
-use Rattle.pf_rows.specs.Row.{InverseMass, Row}
+use Rattle.pf_rows.specs.Row.{AreApart, InverseMass, Row}
 use Rattle.pf_islands.proofs.Elements.{set_other}
 use Rattle.pf_solver.specs.Impulse.{ContactState, Motion}
 use Rattle.pf_solver.specs.Laws.{solved_at, solved_where}
-use Rattle.pf_solver.specs.Order.{AreApart, AreApartAt, IsOtherBody, Pair, pair_of}
+use Rattle.pf_levels.specs.Levels.{Pair, ShareNoBody, ShareNoBodyAt, pair_of}
 use Rattle.pf_solver.specs.Velocities.{Batch, Step, bodies_after, bodies_with, body_with, contact_state, motion_at, motion_of, row_after, with_motion}
 
 -- two writes at two places
@@ -21,7 +21,7 @@ set_comm (z ∷ xs) (suc i) zero x y apart = refl
 set_comm (z ∷ xs) (suc i) (suc j) x y apart = ap (λ rest. z ∷ rest) (set_comm xs i j x y (λ same. apart (ap suc same)))
 
 -- the motion of another body stays
-motion_kept : (bodies : List BodyState) (mass : InverseMass) (side other : Side) (m : Motion) → IsOtherBody other side
+motion_kept : (bodies : List BodyState) (mass : InverseMass) (side other : Side) (m : Motion) → AreApart other side
     → motion_at (with_motion bodies other m) mass side ≡ motion_at bodies mass side
 unfolding motion_at with_motion
 motion_kept bodies mass Static other m apart = refl
@@ -30,7 +30,7 @@ motion_kept bodies mass (Dynamic n) (Dynamic k) m apart =
     ap (motion_of mass) (get_or-set_other bodies k n (body_with m (get_or bodies k no_state)) no_state (λ same. apart (sym same)))
 
 -- the motions of two bodies are written in either order
-with_comm : (bodies : List BodyState) (s t : Side) (m k : Motion) → IsOtherBody s t
+with_comm : (bodies : List BodyState) (s t : Side) (m k : Motion) → AreApart s t
     → with_motion (with_motion bodies s m) t k ≡ with_motion (with_motion bodies t k) s m
 unfolding with_motion
 with_comm bodies Static Static m k apart = refl
@@ -43,7 +43,7 @@ with_comm bodies (Dynamic i) (Dynamic j) m k apart =
     ∙ set_comm bodies i j X Y apart
     ∙ ap (λ b. set (set bodies j Y) i (body_with m b)) (sym (get_or-set_other bodies j i Y no_state apart))
 
-module _ (t r : Row) (apart : AreApart (pair_of t) (pair_of r)) where
+module _ (t r : Row) (apart : ShareNoBody (pair_of t) (pair_of r)) where
   -- what one row reads is not what the other writes
   pub state_kept : (bodies : List BodyState) (k : ContactState) → contact_state (bodies_with k bodies t) r ≡ contact_state bodies r
   unfolding contact_state
@@ -68,7 +68,7 @@ module _ (t r : Row) (apart : AreApart (pair_of t) (pair_of r)) where
       ∙ with_comm (t1 (r1 bodies)) t.entry.second r.entry.second k.second m.second apart.seconds
       ∙ ap t2 (with_comm (r1 bodies) t.entry.first r.entry.second k.first m.second apart.first_second)
 
-swapped : (t r : Row) → AreApart (pair_of t) (pair_of r) → AreApart (pair_of r) (pair_of t)
+swapped : (t r : Row) → ShareNoBody (pair_of t) (pair_of r) → ShareNoBody (pair_of r) (pair_of t)
 swapped t r apart = record {
   firsts = other t.entry.first r.entry.first apart.firsts;
   first_second = other t.entry.second r.entry.first apart.second_first;
@@ -76,7 +76,7 @@ swapped t r apart = record {
   seconds = other t.entry.second r.entry.second apart.seconds;
 }
   where
-    other : (a b : Side) → IsOtherBody a b → IsOtherBody b a
+    other : (a b : Side) → AreApart a b → AreApart b a
     other Static Static h = h
     other Static (Dynamic n) h = h
     other (Dynamic m) Static h = h
@@ -84,7 +84,7 @@ swapped t r apart = record {
 
 module _ (step : Step) where
   -- a row is solved as it would be before the other one
-  row_kept : (bodies : List BodyState) (t r : Row) → AreApart (pair_of t) (pair_of r)
+  row_kept : (bodies : List BodyState) (t r : Row) → ShareNoBody (pair_of t) (pair_of r)
       → row_after step (bodies_after step bodies t) r ≡ row_after step bodies r
   unfolding row_after bodies_after
   row_kept bodies t r apart =
@@ -92,7 +92,7 @@ module _ (step : Step) where
       (state_kept t r apart bodies (step t.constraint (contact_state bodies t)))
 
   -- the bodies after both, in either order
-  bodies_both : (bodies : List BodyState) (t r : Row) → AreApart (pair_of t) (pair_of r)
+  bodies_both : (bodies : List BodyState) (t r : Row) → ShareNoBody (pair_of t) (pair_of r)
       → bodies_after step (bodies_after step bodies t) r ≡ bodies_after step (bodies_after step bodies r) t
   unfolding bodies_after
   bodies_both bodies t r apart =
@@ -108,7 +108,7 @@ module _ (step : Step) where
   read_after b p q (Some t) apart = set_other b.rows q p (row_after step b.bodies t) apart
 
   both : (b : Batch) (p q : ℕ) (o u : Option Row) → q ≢ p
-      → ((t r : Row) → u ≡ Some t → o ≡ Some r → AreApart (pair_of t) (pair_of r))
+      → ((t r : Row) → u ≡ Some t → o ≡ Some r → ShareNoBody (pair_of t) (pair_of r))
       → solved_where step (solved_where step b q u) p o ≡ solved_where step (solved_where step b p o) q u
   both b p q None None other apart = refl
   both b p q None (Some t) other apart = refl
@@ -132,7 +132,7 @@ module _ (step : Step) where
   pair_at (x ∷ rows) (suc p) r at = pair_at rows p r at
 
   -- the rows at two places that are apart
-  pub commute : (b : Batch) (p q : ℕ) → q ≢ p → AreApartAt (map pair_of b.rows) q p
+  pub commute : (b : Batch) (p q : ℕ) → q ≢ p → ShareNoBodyAt (map pair_of b.rows) q p
       → solved_at step (solved_at step b q) p ≡ solved_at step (solved_at step b p) q
   commute b p q other apart =
       ap (solved_where step (solved_at step b q) p) (read_after b p q (slice_get b.rows q) other)

@@ -1,12 +1,12 @@
 -- Passes level by level are passes along the list.
 use Rattle.std.proofs.Common.{◌≡◌, ◌∙◌, ℕ, zero, suc, List, [], ◌∷◌, length, map, refl, sym, ap, subst}
-use Rattle.std.proofs.lemmas.List.{length-map}
 use Rattle.std.proofs.lemmas.List.Elements.{All-head, All-tail}
 use Rattle.std.proofs.lemmas.List.Sums.{fold-append}
 use Rattle.std.specs.List.{concat, fold, range_with_len}
 use Rattle.std.specs.Prelude.{All}
 use Rattle.pf_solver.specs.Laws.{solved_at}
-use Rattle.pf_solver.specs.Order.{AreLevelsOf, IsLevel, IsReordering, KeepsOrder, pair_of, passes_in_levels, solved_at_once}
+use Rattle.pf_levels.specs.Levels.{AreLevels, IsLevel, pair_of}
+use Rattle.pf_solver.specs.Order.{AreLevelsOf, passes_in_levels, solved_at_once}
 use Rattle.pf_solver.specs.Velocities.{Batch, Step, passes}
 use Rattle.pf_solver.proofs.AtOnce.{level_at_once}
 use Rattle.pf_solver.proofs.Commute.{pairs_kept}
@@ -39,24 +39,12 @@ module _ (step : Step) where
       (subst (λ ps. All (IsLevel ps) levels) (sym (pairs_after g b)) (All-tail (IsLevel pairs) g levels apart))
       ∙ sym (fold-append (solved_at step) b g (concat levels))
 
-  -- levels of a batch are levels of another one of the same pairs
-  same_levels : (a b : Batch) (levels : List (List ℕ)) → map pair_of a.rows ≡ map pair_of b.rows → AreLevelsOf b levels → AreLevelsOf a levels
-  same_levels a b levels same of =
-      let long : length b.rows ≡ length a.rows = sym (length-map b.rows pair_of) ∙ ap length (sym same) ∙ length-map a.rows pair_of in
-      record {
-        order = record {
-          all = subst (λ n. IsReordering (range_with_len 0 n) (concat levels)) long of.order.all;
-          keeps = subst (λ ps. KeepsOrder ps (concat levels)) (sym same) of.order.keeps;
-        };
-        apart = subst (λ ps. All (IsLevel ps) levels) (sym same) of.apart;
-      }
-
   pub passes_by_levels : (n : ℕ) (b : Batch) (levels : List (List ℕ)) → AreLevelsOf b levels
       → passes_in_levels n levels step b ≡ passes n step b
   unfolding passes
   passes_by_levels zero b levels of = refl
   passes_by_levels (suc n) b levels of =
       let before = passes n step b in
-      let still = same_levels before b levels (pairs_passed n b) of in
+      let still : AreLevelsOf before levels = subst (λ ps. AreLevels ps levels) (sym (pairs_passed n b)) of in
       ap (λ x. fold (λ now level. solved_at_once level step now) x levels) (passes_by_levels n b levels of)
       ∙ by_levels levels before still.apart ∙ pass_in_order step before (concat levels) still.order

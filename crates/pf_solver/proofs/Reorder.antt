@@ -1,11 +1,13 @@
 -- Rows may be solved in any order that keeps, for each dynamic body, the order of its rows.
 use Rattle.std.proofs.Common.{◌≡◌, ◌≢◌, ◌∙◌, ℕ, zero, suc, ◌+◌, ◌<◌, List, [], ◌∷◌, ◌++◌, length, map, refl, sym, ap, subst, arith}
+use Rattle.std.proofs.lemmas.List.{length-map}
 use Rattle.std.proofs.lemmas.List.Elements.{All-cons, All-head, All-nil, All-tail}
 use Rattle.std.proofs.lemmas.List.Sums.{fold-append}
 use Rattle.std.specs.List.{fold, range_with_len}
 use Rattle.std.specs.Prelude.{All}
 use Rattle.pf_solver.specs.Laws.{solved_at}
-use Rattle.pf_solver.specs.Order.{AreApartAt, IsOrderOf, IsReordering, KeepsOrder, Pair, pair_of, solved_in}
+use Rattle.pf_levels.specs.Levels.{ShareNoBodyAt, IsReordering, KeepsOrder, Pair, pair_of}
+use Rattle.pf_solver.specs.Order.{IsOrderOf, solved_in}
 use Rattle.pf_solver.specs.Velocities.{Batch, Step, pass}
 use Rattle.pf_solver.proofs.Commute.{commute, pairs_kept}
 use Rattle.pf_solver.proofs.OneList.{pass_behind}
@@ -42,19 +44,19 @@ above (suc n) k p below = All-cons (λ q. p < q) k (range_with_len (k + 1) n) be
 module _ (pairs : List Pair) where
   -- the rows before a row are apart from it, if they come behind it in the list
   front_apart : (front back : List ℕ) (p : ℕ) → KeepsOrder pairs (front ++ p ∷ back) → All (λ q. p < q) front
-      → All (λ q. AreApartAt pairs p q) front
-  front_apart [] back p keeps behind = All-nil (λ q. AreApartAt pairs p q)
+      → All (λ q. ShareNoBodyAt pairs p q) front
+  front_apart [] back p keeps behind = All-nil (λ q. ShareNoBodyAt pairs p q)
   front_apart (q ∷ front) back p keeps behind =
-      let later = All-right (λ x. x < q → AreApartAt pairs x q) front (p ∷ back) keeps.0 in
-      All-cons (λ x. AreApartAt pairs p x) q front
-      (All-head (λ x. x < q → AreApartAt pairs x q) p back later (All-head (λ x. p < x) q front behind))
+      let later = All-right (λ x. x < q → ShareNoBodyAt pairs x q) front (p ∷ back) keeps.0 in
+      All-cons (λ x. ShareNoBodyAt pairs p x) q front
+      (All-head (λ x. x < q → ShareNoBodyAt pairs x q) p back later (All-head (λ x. p < x) q front behind))
       (front_apart front back p keeps.1 (All-tail (λ x. p < x) q front behind))
 
   -- without one row the order is still kept
   keeps_rest : (front back : List ℕ) (p : ℕ) → KeepsOrder pairs (front ++ p ∷ back) → KeepsOrder pairs (front ++ back)
   keeps_rest [] back p keeps = keeps.1
   keeps_rest (q ∷ front) back p keeps =
-      let P : ℕ → Type 0 = λ x. x < q → AreApartAt pairs x q in (
+      let P : ℕ → Type 0 = λ x. x < q → ShareNoBodyAt pairs x q in (
         All-join P front back (All-left P front (p ∷ back) keeps.0)
             (All-tail P p back (All-right P front (p ∷ back) keeps.0)),
         keeps_rest front back p keeps.1,
@@ -63,7 +65,7 @@ module _ (pairs : List Pair) where
 module _ (step : Step) where
   -- a row is solved before rows that are apart from it
   solved_first : (front : List ℕ) (p : ℕ) (b : Batch) → All (λ q. p < q) front
-      → All (λ q. AreApartAt (map pair_of b.rows) p q) front
+      → All (λ q. ShareNoBodyAt (map pair_of b.rows) p q) front
       → solved_at step (fold (solved_at step) b front) p ≡ fold (solved_at step) (solved_at step b p) front
   solved_first [] p b behind apart = refl
   solved_first (q ∷ front) p b behind apart =
@@ -71,8 +73,8 @@ module _ (step : Step) where
       let below = All-head (λ x. p < x) q front behind in
       let other : p ≢ q = omega (arith, below) in
       solved_first front p (solved_at step b q) (All-tail (λ x. p < x) q front behind)
-      (subst (λ ps. All (λ x. AreApartAt ps p x) front) (sym (pairs_kept step b q)) (All-tail (λ x. AreApartAt pairs p x) q front apart))
-      ∙ ap (λ x. fold (solved_at step) x front) (sym (commute step b q p other (All-head (λ x. AreApartAt pairs p x) q front apart)))
+      (subst (λ ps. All (λ x. ShareNoBodyAt ps p x) front) (sym (pairs_kept step b q)) (All-tail (λ x. ShareNoBodyAt pairs p x) q front apart))
+      ∙ ap (λ x. fold (solved_at step) x front) (sym (commute step b q p other (All-head (λ x. ShareNoBodyAt pairs p x) q front apart)))
 
   -- the rows from a place on, in another order
   reordered : (n k : ℕ) (order : List ℕ) (b : Batch) → IsReordering (range_with_len k n) order
@@ -96,4 +98,4 @@ module _ (step : Step) where
   -- a pass in another order
   pub pass_in_order : (b : Batch) (order : List ℕ) → IsOrderOf b order → solved_in order step b ≡ pass step b.bodies b.rows
   pass_in_order b order is =
-      reordered (length b.rows) 0 order b is.all is.keeps ∙ pass_behind step b.bodies [] b.rows
+      reordered (length b.rows) 0 order b (subst (λ n. IsReordering (range_with_len 0 n) order) (length-map b.rows pair_of) is.all) is.keeps ∙ pass_behind step b.bodies [] b.rows

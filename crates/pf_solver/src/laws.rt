@@ -9,7 +9,8 @@ ghost use Rattle.pf_solver.specs.Impulse.{ContactState, after_round, friction_li
 ghost use Rattle.pf_solver.specs.Alone.{seen_from};
 ghost use Rattle.pf_islands.specs.Island.{states_of, rows_among, IsOwnOrOther};
 ghost use Rattle.pf_solver.specs.Laws.{places_written, solved_at};
-ghost use Rattle.pf_solver.specs.Order.{AreLevelsOf, IsLevel, IsOrderOf, pair_of, passes_in_levels, solved_at_once, solved_in};
+ghost use Rattle.pf_levels.specs.Levels.{IsLevel, pair_of};
+ghost use Rattle.pf_solver.specs.Order.{AreLevelsOf, IsOrderOf, passes_in_levels, solved_at_once, solved_in};
 ghost use Rattle.pf_solver.specs.Solve.{solved_batch};
 ghost use Rattle.pf_solver.specs.Velocities.{Batch, Step, pass, passes};
 
