@@ -162,7 +162,8 @@ class Context:
         return self
 
     def __exit__(self, *_):
-        self.close()
+        if self._context.is_open:
+            self.close()
 
     def close(self):
         self.call("close")
@@ -247,11 +248,16 @@ class Peer:
 
     def merge(self, other):
         """Takes all commands of another peer, and returns how many changed this one."""
-        return self._output(c_uint64, "merge", other._key).value
+        return self._output(c_uint64, "merge", self._key_of(other)).value
 
     def merge_alone(self, other):
         """The same, whatever the other peer has sealed."""
-        return self._output(c_uint64, "merge_alone", other._key).value
+        return self._output(c_uint64, "merge_alone", self._key_of(other)).value
+
+    def _key_of(self, other):
+        if other._context is not self._context:
+            raise ValueError("a peer of another context")
+        return other._key
 
     def frames(self, tick=0):
         """The frames of the commands that the peer holds for this tick and later ones."""

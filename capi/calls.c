@@ -1,6 +1,7 @@
 /* Each call with what C can do wrong: closed contexts, keys that were freed, made up or of another
  * context, numbers out of range, frames and buffers of every length. Prints the lines that fail. */
 #include <inttypes.h>
+#include <stddef.h>
 #include <stdio.h>
 #include <stdlib.h>
 #include <string.h>
@@ -13,6 +14,8 @@ _Static_assert(sizeof(pf_material) == 24, "pf_material");
 _Static_assert(sizeof(pf_frame) == PF_FRAME_LEN, "pf_frame");
 _Static_assert(sizeof(pf_body) == 64, "pf_body");
 _Static_assert(sizeof(pf_contact) == 24, "pf_contact");
+_Static_assert(offsetof(pf_contact, feature) == 4, "pf_contact.feature");
+_Static_assert(offsetof(pf_contact, tangent) == 16, "pf_contact.tangent");
 _Static_assert(sizeof(pf_sizes) == 16, "pf_sizes");
 _Static_assert(sizeof(pf_counts) == 16, "pf_counts");
 

@@ -168,6 +168,10 @@ int main(void)
     result expected, actual;
     granted = -1;
     spare();
+    if (live != 0) {
+        printf("memory.c: %ld blocks left of what was freed and closed\n", live);
+        return 1;
+    }
     play(&expected);
     for (long first = 0;; first++) {
         granted = first;

@@ -1,26 +1,30 @@
 /* Buyosen: a deterministic 2D physics core for rollback netcode, behind C.
  *
- * Peers of one scene that hold the same commands show the same worlds, bit for bit: however late,
- * in which order and how often the frames of the commands came.
+ * Peers made of the same scene that have taken the same commands show the same worlds, bit for bit:
+ * however late, in which order and how often the frames of the commands came. A peer refuses a
+ * frame for a tick before its horizon (pf_seal).
  *
- * Units. Numbers are whole numbers in units of 2^-24, so 1 is PF_ONE: positions and sizes, masses,
- * friction, the cosine and sine of a rotation, velocities (a second), impulses (mass times
- * velocity). A tick is 1/64 s.
+ * Units. Numbers are whole numbers in units of 2^-24, so 1 is PF_ONE: positions, sizes, masses,
+ * coefficients of friction, the cosine and sine of a rotation; velocities, in lengths per second;
+ * angular velocities, in radians per second; gravity, in lengths per second squared; impulses, mass
+ * times velocity; angular impulses, inertia times angular velocity. A tick is 1/64 s.
  *
  * A context holds scenes and peers. It begins as zeros, `pf_context context = {0};`. A key names a
- * scene or a peer of a context. A key that was freed or made up names nothing: the call returns
- * PF_BAD_KEY and changes nothing. A key of another context is such a key too, unless this context
- * gave out an equal one; then it names what that one names. No key can crash a call.
+ * scene or a peer of a context. A key that the context has not given out since it was opened, or
+ * whose scene or peer was freed, names nothing: the call returns PF_BAD_KEY and changes nothing. A
+ * key of another context, or of before pf_close, or of zeros, may be equal to one that the context
+ * has given out; then it names what that one names. No key can crash a call.
  *
  * What the caller promises:
- *  1. a pf_context is all zeros, or as the last call left it, and is not copied;
- *  2. each other pointer is aligned, not null, also where its length is 0, live for its length, and
- *     overlaps no other argument;
- *  3. one call on a context ends before the next begins, and the caller orders them: calls on one
- *     context may come from several threads, by a lock or a join; those on different contexts need
- *     no order;
- *  4. no call comes from a signal handler, or from the child of a fork of a program with threads;
- *  5. malloc, realloc and free are those of one allocator.
+ *  1. a pf_context is all zeros before pf_open, is changed by these calls alone, and is not copied
+ *     while it is open;
+ *  2. each pointer is aligned, not null, also where its length is 0, and live for its length, and
+ *     what it points to overlaps no other argument;
+ *  3. calls on one context do not overlap: several threads use a lock, or a join, and calls on
+ *     different contexts need none;
+ *  4. no call comes from a signal handler, or from the child of a fork of a program with threads,
+ *     and none is left before it returns, by longjmp or by cancelling its thread;
+ *  5. malloc, realloc and free are those of one allocator, and may be called from any thread.
  *
  * Each call returns PF_OK, or why it failed. A call that fails changes nothing but what is said
  * below of pf_settle and pf_seal. It leaves its outputs, the last parameters, as they were, but for
@@ -38,10 +42,10 @@
 extern "C" {
 #endif
 
-#define PF_ONE 16777216 /* 1, in units of 2^-24 */
-#define PF_FRAME_LEN 27 /* the bytes of a command */
-#define PF_NOBODY 255   /* the owner of a body that no player may move */
-#define PF_NAME_LEN 32  /* bytes that the name of each code fits into */
+#define PF_ONE INT64_C(16777216) /* 1, in units of 2^-24 */
+#define PF_FRAME_LEN 27          /* the bytes of a command */
+#define PF_NOBODY 255            /* the owner of a body that no player may move */
+#define PF_NAME_LEN 32           /* bytes that the name of each code fits into */
 
 /* The codes. */
 enum {
@@ -50,14 +54,14 @@ enum {
     PF_CLOSED = 3,       /* the context is closed */
     PF_BAD_KEY = 4,      /* the key names nothing here */
     PF_SMALL_BUFFER = 5, /* a buffer is too small, and nothing was written to it */
-    PF_BAD_PLAYER = 6,   /* a player is a number below 8 */
-    PF_BAD_RING = 7,     /* a peer keeps from 1 to 64 settled worlds */
+    PF_BAD_PLAYER = 6,   /* the player is not below 8 */
+    PF_BAD_RING = 7,     /* the ring is not from 1 to 64 */
     PF_BAD_NUMBER = 8,   /* a number of a command is out of its range */
     PF_STILL_OPEN = 9,   /* the context is open already */
     PF_FULL = 10,        /* the context has no key left */
 
     /* What is wrong with a scene. */
-    PF_SCENE_BAD_LINE = 16,   /* the text has no such line here */
+    PF_SCENE_BAD_LINE = 16,   /* not a line that may stand here */
     PF_SCENE_BAD_NUMBER = 17, /* a number is out of its range */
     PF_SCENE_TOO_MANY = 18,   /* the scene has 1,024 bodies already */
     PF_SCENE_BAD_MASS = 19,   /* a mass is neither 0 nor from 2^20 to 2^34 */
@@ -134,9 +138,9 @@ typedef struct pf_frame {
 typedef struct pf_body {
     int64_t x, y;    /* the position of its centre */
     int64_t c, s;    /* the cosine and sine of its rotation */
-    int64_t vx, vy;  /* its velocity, a second */
-    int64_t spin;    /* its angular velocity, in radians a second */
-    uint32_t timer;  /* for how many ticks it has been still */
+    int64_t vx, vy;  /* its velocity */
+    int64_t spin;    /* its angular velocity */
+    uint32_t timer;  /* for how many ticks it has been still; 0 where it is asleep */
     uint32_t awake;  /* 1 where it is simulated, 0 where it is static or asleep */
 } pf_body;
 
@@ -181,16 +185,17 @@ uint32_t pf_close(pf_context *context);
 uint32_t pf_scene_read(pf_context *context, const uint8_t *text, size_t length, pf_scene *scene,
                        uint64_t *line);
 
-/* Makes a scene without bodies. Gravity is from -2^34 to 2^34 on each axis: lengths a
- * second, a second. */
+/* Makes a scene without bodies. Gravity is from -2^34 to 2^34 on each axis. */
 uint32_t pf_scene_new(pf_context *context, pf_v2 gravity, pf_scene *scene);
 
-/* Adds a circle to a scene. Bodies are numbered from 0. A peer that is made later has it, a peer
- * that was made before has not. */
+/* Adds a circle to a scene: its radius is from 2^20 to 2^34, its position from -2^44 to 2^44 on
+ * each axis. Bodies are numbered from 0. A peer that is made later has it, one that was made
+ * before has not. */
 uint32_t pf_circle(pf_context *context, pf_scene scene, pf_material material, int64_t radius,
                    pf_v2 position, uint64_t *body);
 
-/* Adds a box of these half extents, turned into this direction: {PF_ONE, 0} is upright. */
+/* Adds a box of these half extents, each from 2^20 to 2^34, turned into this direction, each part
+ * of which is from -PF_ONE to PF_ONE: {PF_ONE, 0} is upright, and so is {0, 0}. */
 uint32_t pf_box(pf_context *context, pf_scene scene, pf_material material, pf_v2 half,
                 pf_v2 position, pf_v2 direction, uint64_t *body);
 
@@ -211,7 +216,8 @@ uint32_t pf_peer_free(pf_context *context, pf_peer peer);
 /* --- Commands ------------------------------------------------------------------------------- */
 
 /* Issue a command of the peer's player at the tick that the peer has reached, and write the frame
- * to send to all others. It acts in the tick that the next pf_advance adds. */
+ * to send to all others. It acts in the tick that the next pf_advance adds. Impulses are above
+ * -2^55 and below 2^55, positions from -2^44 to 2^44. */
 uint32_t pf_push(pf_context *context, pf_peer peer, uint16_t body, pf_v2 impulse, pf_frame *frame);
 uint32_t pf_turn(pf_context *context, pf_peer peer, uint16_t body, int64_t impulse,
                  pf_frame *frame);
@@ -220,7 +226,8 @@ uint32_t pf_place(pf_context *context, pf_peer peer, uint16_t body, pf_v2 positi
                   pf_frame *frame);
 
 /* Takes a frame that has come, late or not, and writes what it did: PF_NEW to PF_LESSER. The player
- * that the frame names is believed. */
+ * that the frame names is believed, and a frame for any later tick is kept: a game that does not
+ * trust its peers tests both, and limits how many frames it takes. */
 uint32_t pf_take(pf_context *context, pf_peer peer, const uint8_t *frame, size_t length,
                  uint32_t *put);
 
@@ -229,12 +236,14 @@ uint32_t pf_take(pf_context *context, pf_peer peer, const uint8_t *frame, size_t
 uint32_t pf_merge(pf_context *context, pf_peer peer, pf_peer other, uint64_t *count);
 
 /* The same, whatever the other peer has sealed: refused where it holds a command for a tick before
- * the horizon of this one. What the other peer has dropped does not come. */
+ * the horizon of this one, or one that this one's scene does not allow. What the other peer has
+ * dropped does not come. */
 uint32_t pf_merge_alone(pf_context *context, pf_peer peer, pf_peer other, uint64_t *count);
 
 /* Writes the frames of the commands that the peer holds for this tick and later ones, of all
- * players, by tick, player and number, to the front of an array, and writes how many they are: also
- * where the call returns PF_SMALL_BUFFER. What a peer that comes later, or a replay, needs. */
+ * players, by tick, player and number, to the front of an array, and writes how many they are:
+ * also where the call returns PF_SMALL_BUFFER. They are all that a replay needs, if nothing was
+ * sealed. */
 uint32_t pf_frames(pf_context *context, pf_peer peer, uint32_t tick, pf_frame *frames,
                    size_t frames_length, uint64_t *count);
 
@@ -248,13 +257,17 @@ uint32_t pf_advance(pf_context *context, pf_peer peer, uint32_t ticks, uint32_t 
 uint32_t pf_settle(pf_context *context, pf_peer peer, uint32_t *settled);
 
 /* Seals a tick that the peer has reached: what came before it is forgotten, and frames of before
- * are refused from then on. It may simulate up to the tick; out of memory counts what it did. */
+ * are refused from then on. It may simulate up to the tick: after PF_OUT_OF_MEMORY only the counts
+ * of pf_meter have changed. */
 uint32_t pf_seal(pf_context *context, pf_peer peer, uint32_t tick);
 
-/* Write the tick that the peer has reached, the greatest tick whose world it keeps, and its
- * horizon: the tick that it has sealed, at first 0. */
+/* Writes the tick that the peer has reached. */
 uint32_t pf_reached(pf_context *context, pf_peer peer, uint32_t *tick);
+
+/* Writes the greatest tick whose world the peer keeps. */
 uint32_t pf_settled(pf_context *context, pf_peer peer, uint32_t *tick);
+
+/* Writes the peer's horizon: the tick that it has sealed, at first 0. */
 uint32_t pf_horizon(pf_context *context, pf_peer peer, uint32_t *tick);
 
 /* Writes how much work was done to settle and to seal ticks: a late frame that cost more than it
@@ -265,8 +278,8 @@ uint32_t pf_meter(pf_context *context, pf_peer peer, pf_counts *counts);
 
 /* Writes the world at a tick, from the horizon to the tick that the peer has reached, to the fronts
  * of two arrays, and writes how many bodies and contacts it has: also where the call returns
- * PF_SMALL_BUFFER. The latest settled world costs a copy, another one its simulation from the kept
- * world before it. */
+ * PF_SMALL_BUFFER. A kept world costs a copy, another one its simulation from the kept world before
+ * it. */
 uint32_t pf_world(pf_context *context, pf_peer peer, uint32_t tick, pf_body *bodies,
                   size_t bodies_length, pf_contact *contacts, size_t contacts_length,
                   pf_sizes *sizes);

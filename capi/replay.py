@@ -21,6 +21,12 @@ def fields(value, names):
     return " ".join(str(getattr(value, name)) for name in names)
 
 
+def statics(scene):
+    """The numbers of the bodies of mass 0, which `show` leaves out."""
+    bodies = [line.split() for line in scene if line.startswith((b"box ", b"circle "))]
+    return {number for number, fields in enumerate(bodies) if fields[2] == b"0"}
+
+
 def replay(match, tick):
     lines = match.splitlines(keepends=True)
     ends = (number for number, line in enumerate(lines) if line.split() == [b"end"])
@@ -34,7 +40,10 @@ def replay(match, tick):
         peer.settle()
         world = peer.world(tick)
     yield f"show 0 {tick}"
+    left_out = statics(lines[:end])
     for number, body in enumerate(world.bodies):
+        if number in left_out:
+            continue
         yield f"body {number} {fields(body, BODY)}"
     for contact in world.contacts:
         yield f"contact {fields(contact, CONTACT)}"

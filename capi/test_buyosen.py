@@ -91,7 +91,14 @@ class Calls(unittest.TestCase):
     def test_a_context_closes_once(self):
         with Context() as context:
             scene = context.scene((0, 0))
+            context.close()
         self.assert_code(CLOSED, scene.peer)
+        self.assert_code(CLOSED, context.close)
+
+    def test_a_peer_of_another_context_is_no_other(self):
+        with Context() as context:
+            foreign = context.scene((0, 0)).peer()
+            self.assertRaises(ValueError, self.scene.peer().merge, foreign)
 
 
 def bytes_of(peer):

@@ -13,13 +13,12 @@ use pf_commands::FRAME_LEN;
 use pf_context::{ContextError, Key};
 use std::alloc::Global;
 
-/// How many frames there are, where that is known, and else what was there.
-fn needed_count(old: u64, answer: &Result<usize, ContextError>) -> u64
-    ensures { result ≡ needed_count old answer.now }
+/// Tells how many frames there are, where that is known.
+fn tell_count(count: &mut u64, answer: &Result<usize, ContextError>)
+    ensures { count.new ≡ needed_count count.old answer.now }
 {
-    match answer {
-        Ok(count) | Err(ContextError::SmallBuffer(count)) => *count as u64,
-        Err(_) => old,
+    if let Ok(needed) | Err(ContextError::SmallBuffer(needed)) = answer {
+        *count = *needed as u64;
     }
 }
 
@@ -46,6 +45,6 @@ pub extern "C" fn pf_frames(
     };
     let answer = inside.frames(peer, tick, frames);
     context.put_back(inside);
-    *count = needed_count(*count, &answer);
+    tell_count(count, &answer);
     code_of(&answer)
 }

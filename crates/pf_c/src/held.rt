@@ -56,7 +56,7 @@ impl PfContext {
         }
     }
 
-    /// Puts a context in. The one that was there is given up, so it was taken out before.
+    /// Puts a context into a closed one.
     pub(crate) fn put_back(&mut self, context: Box<Context>)
         requires { self.old.handle.value ≡ None }
         ensures { self.new.handle.value ≡ Some context.value }

@@ -6,8 +6,9 @@ ghost use Rattle.pf_c.specs.Codes.{code_of, error_code};
 ghost use Rattle.pf_c.specs.Kinds.{error_kind};
 ghost use Rattle.pf_c.specs.Names.{code_name};
 ghost use Rattle.pf_c.specs.declared.codes.TheConstants.{PF_BAD_KEY, PF_BAD_NUMBER, PF_BAD_PLAYER, PF_BAD_RING, PF_CHECK, PF_CLOSED, PF_FRAME, PF_FULL, PF_OK, PF_OUT_OF_MEMORY, PF_REFUSED, PF_SCENE, PF_SMALL_BUFFER, PF_STILL_OPEN};
+ghost use Rattle.pf_c.specs.declared.scenes.TheConstants.{PF_NOBODY};
 
-/// The codes have these numbers, which the header has too.
+/// The codes, and the owner that is nobody, have these numbers, which the header has too.
 pub fn codes_have_numbers()
     ensures ok { PF_OK ≡ 0 }
     ensures out_of_memory { PF_OUT_OF_MEMORY ≡ 1 }
@@ -23,6 +24,7 @@ pub fn codes_have_numbers()
     ensures refused { PF_REFUSED ≡ 32 }
     ensures frame { PF_FRAME ≡ 48 }
     ensures check { PF_CHECK ≡ 64 }
+    ensures nobody { PF_NOBODY ≡ 255 }
 {}
 
 /// A call of a context that is open is `PF_OK` exactly where it succeeds, and never says that the

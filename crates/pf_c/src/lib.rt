@@ -1,4 +1,4 @@
-//! A context behind a C interface: one export for each call of `pf_context`. C holds the context as
+//! A context behind a C interface: each export makes one call of `pf_context`. C holds the context as
 //! a flag and a pointer. Each export calls it (`held.rt`), writes its outputs and returns
 //! a code (`answers.rt`).
 //!

@@ -1,6 +1,9 @@
 //! The worlds that peers show, in buffers of C.
 
-ghost use Rattle.std.specs.Prelude.{◌≡◌};
+ghost use Rattle.std.specs.Prelude.{◌≡◌, ◌≢◌, Err, Some};
+ghost use Rattle.pf_rollback.specs.Core.{PeerCore};
+ghost use Rattle.pf_rollback.specs.Peer.{IsEmptyBefore};
+ghost use Rattle.pf_context.specs.declared.error.ContextError.TheVariants.{OutOfMemory};
 ghost use Rattle.pf_context.specs.Context.{peer_at};
 ghost use Rattle.pf_context.specs.Worlds.{ShowsBase, ShowsWorld};
 ghost use Rattle.pf_c.specs.Calls.{Answers};
@@ -20,16 +23,15 @@ pub struct PfSizes {
     pub contacts: u64,
 }
 
-/// What a world needs, where that is known, and else what was there.
-fn needed_sizes(old: PfSizes, answer: &Result<Sizes, ContextError>) -> PfSizes
-    ensures { result ≡ needed_sizes old answer.now }
+/// Tells what a world needs, where that is known.
+fn tell_sizes(sizes: &mut PfSizes, answer: &Result<Sizes, ContextError>)
+    ensures { sizes.new ≡ needed_sizes sizes.old answer.now }
 {
-    match answer {
-        Ok(sizes) | Err(ContextError::SmallBuffers(sizes)) => PfSizes {
-            bodies: sizes.bodies as u64,
-            contacts: sizes.contacts as u64,
-        },
-        Err(_) => old,
+    if let Ok(needed) | Err(ContextError::SmallBuffers(needed)) = answer {
+        *sizes = PfSizes {
+            bodies: needed.bodies as u64,
+            contacts: needed.contacts as u64,
+        };
     }
 }
 
@@ -49,7 +51,9 @@ pub extern "C" fn pf_world(
     ensures { Answers (λ before after answer. (after ≡ before)
         × ShowsWorld (peer_at before peer) tick
         (record { bodies = bodies.old; contacts = contacts.old })
-        (record { bodies = bodies.new; contacts = contacts.new }) answer)
+        (record { bodies = bodies.new; contacts = contacts.new }) answer
+        × ((core : PeerCore) → peer_at before peer ≡ Some core → IsEmptyBefore core.peer tick
+        → answer ≢ Err OutOfMemory))
         (λ answer. sizes.new ≡ needed_sizes sizes.old answer)
         context.old.handle.value context.new.handle.value result
         ((bodies.new ≡ bodies.old) × (contacts.new ≡ contacts.old) × (sizes.new ≡ sizes.old)) }
@@ -59,7 +63,7 @@ pub extern "C" fn pf_world(
     };
     let answer = inside.world(alloc, peer, tick, bodies, contacts);
     context.put_back(inside);
-    *sizes = needed_sizes(*sizes, &answer);
+    tell_sizes(sizes, &answer);
     code_of(&answer)
 }
 
@@ -77,7 +81,8 @@ pub extern "C" fn pf_base(
     ensures { Answers (λ before after answer. (after ≡ before)
         × ShowsBase (peer_at before peer)
         (record { bodies = bodies.old; contacts = contacts.old })
-        (record { bodies = bodies.new; contacts = contacts.new }) answer)
+        (record { bodies = bodies.new; contacts = contacts.new }) answer
+        × (answer ≢ Err OutOfMemory))
         (λ answer. sizes.new ≡ needed_sizes sizes.old answer)
         context.old.handle.value context.new.handle.value result
         ((bodies.new ≡ bodies.old) × (contacts.new ≡ contacts.old) × (sizes.new ≡ sizes.old)) }
@@ -87,6 +92,6 @@ pub extern "C" fn pf_base(
     };
     let answer = inside.base(peer, bodies, contacts);
     context.put_back(inside);
-    *sizes = needed_sizes(*sizes, &answer);
+    tell_sizes(sizes, &answer);
     code_of(&answer)
 }
