@@ -1,0 +1,10 @@
+//! Fixed-point numbers four at a time: whole numbers, each held exactly in a double of a vector of
+//! four, calculated lane by lane with the bits of `pf_num`.
+#![tactic(auto)]
+
+mod lanes;
+pub mod laws;
+mod scaled;
+
+pub use lanes::{EXACT_LIMIT, Lanes};
+pub use scaled::Scaled;

@@ -1,0 +1,102 @@
+//! Products in lanes against those of fixed-point numbers; each call and each law once.
+
+ghost use Rattle.std.specs.Prelude.{◌≤◌, ◌^◌};
+ghost use Rattle.std.specs.Int.RustNames.{unsigned_abs};
+ghost use Rattle.pf_lanes.specs.Lanes.{EachLane, lanes_of};
+
+use pf_lanes::{EXACT_LIMIT, Lanes, Scaled, laws};
+use pf_num::Fx;
+use std::process::Abort;
+
+/// The greatest whole number that a double counts without a gap, less 1.
+const MOST: i64 = (1 << 53) - 1;
+
+/// The raw product of two fixed-point numbers.
+fn raw_product(a: i64, b: i64) -> Option<i64> {
+    Some(Fx::from_raw(a)?.mul(Fx::from_raw(b)?).raw())
+}
+
+/// Products in lanes are those of `pf_num`, and these numbers.
+fn compare(rt: &impl Abort, numbers: [i64; 4], factors: [i64; 4], expected: [i64; 4])
+    requires numbers { EachLane (λ n. unsigned_abs n ≤ 2 ^ 53) (lanes_of numbers) }
+    requires factors { EachLane (λ n. unsigned_abs n ≤ 2 ^ 53) (lanes_of factors) }
+{
+    let lanes = Lanes::of(numbers);
+    let scaled = Scaled::of(factors);
+    assert!(rt; lanes.product_is_below(scaled, EXACT_LIMIT));
+    let products = lanes.product(scaled).to_raw();
+    assert_eq!(rt; products, expected);
+    for i in 0..4usize {
+        assert_eq!(rt; raw_product(numbers[i], factors[i]), Some(products[i]));
+    }
+}
+
+#[test]
+fn ties_go_to_the_even_number(rt: HostRuntime) {
+    let half = [1 << 23; 4];
+    compare(&rt, [1, 3, 5, 7], half, [0, 2, 2, 4]);
+    compare(&rt, [-1, -3, -5, -7], half, [0, -2, -2, -4]);
+    compare(&rt, [1, 3, -5, 7], [-(1 << 23); 4], [0, -2, 2, -4]);
+    compare(&rt, half, [1, 3, -5, -7], [0, 2, -2, -4]);
+}
+
+#[test]
+fn numbers_round_to_the_nearest(rt: HostRuntime) {
+    let near_half = [(1 << 23) - 1, (1 << 23) + 1, -(1 << 23) + 1, -(1 << 23) - 1];
+    compare(&rt, [1; 4], near_half, [0, 1, 0, -1]);
+    compare(&rt, [-3; 4], near_half, [-1, -2, 1, 2]);
+    compare(
+        &rt,
+        [0, 0, -1, 1],
+        [-1, 1 << 53, 1 << 24, -(1 << 24)],
+        [0, 0, -1, -1],
+    );
+}
+
+#[test]
+fn the_greatest_products_are_exact(rt: HostRuntime) {
+    let great = 1 << 29;
+    compare(
+        &rt,
+        [MOST, -MOST, 1, -1],
+        [1, 1, MOST, MOST],
+        [great, -great, great, -great],
+    );
+    let factors = [1 << 24, -(1 << 24), 1, (1 << 24) - 1];
+    compare(
+        &rt,
+        [great - 1; 4],
+        factors,
+        [great - 1, 1 - great, 32, great - 33],
+    );
+}
+
+#[test]
+fn products_at_the_limit_are_told(rt: HostRuntime) {
+    let one = Scaled::of([1; 4]);
+    assert!(rt; !Lanes::of([0, 0, 1 << 53, 0]).product_is_below(one, EXACT_LIMIT));
+    assert!(rt; !Lanes::of([0, 0, 0, -(1 << 53)]).product_is_below(one, EXACT_LIMIT));
+    let great = Scaled::of([1 << 53; 4]);
+    assert!(rt; !Lanes::of([-(1 << 53), 0, 0, 0]).product_is_below(great, EXACT_LIMIT));
+    assert!(rt; Lanes::of([9, -9, 0, 1]).product_is_below(one, 10));
+    assert!(rt; !Lanes::of([9, -9, 0, 1]).product_is_below(one, 9));
+}
+
+#[test]
+fn each_call_once(rt: HostRuntime) {
+    let (a, b) = (Lanes::of([7, -7, 0, 5]), Lanes::of([-2, 3, 0, 5]));
+    assert_eq!(rt; a.plus(b).to_raw(), [5, -4, 0, 10]);
+    assert_eq!(rt; a.minus(b).to_raw(), [9, -10, 0, 0]);
+    assert_eq!(rt; a.negated().to_raw(), [-7, 7, 0, -5]);
+    assert_eq!(rt; a.least(b).to_raw(), [-2, -7, 0, 5]);
+    assert_eq!(rt; a.greatest(b).to_raw(), [7, 3, 0, 5]);
+    assert!(rt; a.are_within(7) && !a.are_within(6) && !a.negated().are_within(6));
+}
+
+#[test]
+fn each_law_once(rt: HostRuntime) {
+    laws::sums_are_those_of_numbers();
+    laws::products_are_those_of_numbers();
+    laws::doubles_are_exact();
+    assert_eq!(rt; laws::named_limits(), EXACT_LIMIT);
+}
