@@ -9,6 +9,7 @@ ghost use Rattle.pf_levels.specs.declared.level.TheConstants.{WIDTH};
 use crate::level::Level;
 use pf_rows::{Row, Side};
 use std::alloc::{AllocError, Global};
+use std::marker::Model;
 
 /// The first level that the next row of the body on a side may go to.
 fn next_level(next: &[usize], side: Side) -> usize
@@ -38,6 +39,14 @@ fn set_next(next: &mut [usize], side: Side, level: usize)
 pub struct Levels {
     levels: Vec<Level>,
     next: Vec<usize>,
+}
+
+impl Model for Levels {
+    ghost use Rattle.std.specs.Prelude.{List, ℕ};
+
+    ghost Value = { List (List ℕ) };
+
+    ghost view = { λ l. l.levels.items };
 }
 
 /// The first level from this one on that has room; behind the last one where none has.
@@ -116,7 +125,7 @@ fn add_rows(levels: &mut Vec<Level>, next: &mut [usize], rows: &[Row]) -> Result
 impl Levels {
     /// No levels. Takes no memory.
     pub fn new(alloc: Global) -> Levels
-        ensures { result.levels.items ≡ [] }
+        ensures { result ≡ [] }
     {
         Levels {
             levels: Vec::new(alloc),
@@ -127,7 +136,7 @@ impl Levels {
     /// Puts rows of so many bodies into levels. Out of memory there are levels of some of them.
     pub fn assign(&mut self, rows: &[Row], bodies: usize) -> Result<(), AllocError>
         requires { All (λ r. IsEntryOf bodies r.entry) rows.now }
-        ensures { IfOk result (λ done. AreLevels (map pair_of rows.now) self.new.levels.items) }
+        ensures { IfOk result (λ done. AreLevels (map pair_of rows.now) self.new) }
     {
         self.levels.clear();
         self.next.clear();
@@ -137,7 +146,7 @@ impl Levels {
 
     /// The levels, one after the other.
     pub fn levels(&self) -> &[Level]
-        ensures { result.now ≡ self.now.levels.items }
+        ensures { result.now ≡ self.now }
     {
         self.levels.as_slice()
     }
