@@ -34,7 +34,7 @@ code_name code =
     if code == 53 then codes "PF_FRAME_OUT_OF_RANGE" else (
     if code == 64 then codes "PF_UNKNOWN_BODY" else (
     if code == 65 then codes "PF_STATIC_BODY" else (
-    if code == 66 then codes "PF_NOT_OWNER" else ( []))))))))))))))))))))))))))))))
+    if code == 66 then codes "PF_NOT_OWNER" else ([]))))))))))))))))))))))))))))))
 
 -- a text with a zero behind it is written where it fits, and else nothing
 pub record WritesText (text old new : List ℕ) (code : ℕ) : Type 0 where
