@@ -1,24 +1,17 @@
 -- A place more in one of the levels.
 use Rattle.std.proofs.Common.{◌≡◌, ◌≢◌, ◌∙◌, ℕ, zero, suc, ◌+◌, ◌<◌, ◌≤◌, Some, List, [], ◌∷◌, ◌++◌, length, set, get_or, append_assoc, length-set, inl, inr, refl, sym, ap, ap₂, subst, arith}
 use Rattle.std.proofs.lemmas.List.{get_or-set_same}
-use Rattle.std.proofs.lemmas.List.Elements.{All-append, All-cons, All-head, All-nil, All-tail}
+use Rattle.std.proofs.lemmas.List.Elements.{All-append, All-cons, All-head, All-nil, All-set, All-tail}
 use Rattle.std.specs.List.{concat, range_with_len}
 use Rattle.std.specs.Prelude.{All, ◌⊎◌, slice_get}
 use Rattle.pf_rows.specs.declared.row.Side.{Side}
 use Rattle.pf_rows.specs.declared.row.Side.TheVariants.{Dynamic, Static}
 use Rattle.pf_rows.specs.Row.{AreApart, IsSide}
 use Rattle.pf_levels.specs.Levels.{IsLevel, IsReordering, KeepsOrder, Pair, ShareNoBody, ShareNoBodyAt}
+use Rattle.pf_levels.proofs.Places.{All-left, All-reordering, All-right}
 use Rattle.pf_levels.specs.SoFar.{AreBelow, AreLevelsUpTo, EachBelow, IsBelow, next_level, with_both, with_next, with_place}
 
 -- ---- lists
-
-All-left : (P : ℕ → Type 0) (front back : List ℕ) → All P (front ++ back) → All P front
-All-left P [] back all = All-nil P
-All-left P (x ∷ front) back all = All-cons P x front (All-head P x (front ++ back) all) (All-left P front back (All-tail P x (front ++ back) all))
-
-All-right : (P : ℕ → Type 0) (front back : List ℕ) → All P (front ++ back) → All P back
-All-right P [] back all = all
-All-right P (x ∷ front) back all = All-right P front back (All-tail P x (front ++ back) all)
 
 -- the places before a new one, and those behind it
 front_of : List (List ℕ) → ℕ → List ℕ
@@ -97,15 +90,6 @@ reordering_with (p ∷ places) front back k (f, b, is, rest) =
           ap (λ fs. fs ++ k ∷ back) before ∙ append_assoc f (p ∷ m) (k ∷ back),
           subst (IsReordering (places ++ k ∷ [])) (append_assoc f m (k ∷ back)) (again (f ++ m) back here),
         )
-
--- what holds of all places holds of them in any order
-All-reordering : (P : ℕ → Type 0) (places order : List ℕ) → IsReordering places order → All P places → All P order
-All-reordering P [] order is all = subst (All P) (sym is) (All-nil P)
-All-reordering P (p ∷ places) order (front, back, is, rest) all =
-    let both = All-reordering P places (front ++ back) rest (All-tail P p places all) in
-    subst (All P) (sym is)
-    (All-append P front (p ∷ back) (All-left P front back both)
-    (All-cons P p back (All-head P p places all) (All-right P front back both)))
 
 -- the places of a range are below its end
 range_below : (n a : ℕ) → All (λ q. q < a + n) (range_with_len a n)
@@ -254,11 +238,6 @@ own_below next (Dynamic n) g within = let same = get_or-set_same next n (suc g) 
 still_below : (next then : List ℕ) → ((m : ℕ) → get_or next m 0 ≤ get_or then m 0) → (g : ℕ) (side : Side) → IsBelow next g side → IsBelow then g side
 still_below next then more g Static below = tt
 still_below next then more g (Dynamic n) below = let up = more n in omega (arith, up, below)
-
-All-set : (P : ℕ → Type 0) (xs : List ℕ) (n v : ℕ) → P v → All P xs → All P (set xs n v)
-All-set P [] n v h all = all
-All-set P (x ∷ xs) zero v h all = All-cons P v xs h (All-tail P x xs all)
-All-set P (x ∷ xs) (suc n) v h all = All-cons P x (set xs n v) (All-head P x xs all) (All-set P xs n v h (All-tail P x xs all))
 
 All-next : (most : ℕ) (next : List ℕ) (side : Side) (v : ℕ) → v ≤ most → All (λ x. x ≤ most) next
     → All (λ x. x ≤ most) (with_next next side v)

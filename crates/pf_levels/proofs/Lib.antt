@@ -1,3 +1,4 @@
 -- The lemmas of this crate.
 pub mod Insert
+pub mod Places
 pub mod Steps

@@ -1,10 +1,11 @@
 -- Rows may be solved in any order that keeps, for each dynamic body, the order of its rows.
 use Rattle.std.proofs.Common.{◌≡◌, ◌≢◌, ◌∙◌, ℕ, zero, suc, ◌+◌, ◌<◌, List, [], ◌∷◌, ◌++◌, length, map, refl, sym, ap, subst, arith}
 use Rattle.std.proofs.lemmas.List.{length-map}
-use Rattle.std.proofs.lemmas.List.Elements.{All-cons, All-head, All-nil, All-tail}
+use Rattle.std.proofs.lemmas.List.Elements.{All-append, All-cons, All-head, All-nil, All-tail}
 use Rattle.std.proofs.lemmas.List.Sums.{fold-append}
 use Rattle.std.specs.List.{fold, range_with_len}
 use Rattle.std.specs.Prelude.{All}
+use Rattle.pf_levels.proofs.Places.{All-left, All-reordering, All-right}
 use Rattle.pf_solver.specs.Laws.{solved_at}
 use Rattle.pf_levels.specs.Levels.{ShareNoBodyAt, IsReordering, KeepsOrder, Pair, pair_of}
 use Rattle.pf_solver.specs.Order.{IsOrderOf, solved_in}
@@ -13,28 +14,6 @@ use Rattle.pf_solver.proofs.Commute.{commute, pairs_kept}
 use Rattle.pf_solver.proofs.OneList.{pass_behind}
 
 -- ---- places
-
--- what holds of a front and of a back holds of both
-All-join : (P : ℕ → Type 0) (front back : List ℕ) → All P front → All P back → All P (front ++ back)
-All-join P [] back f b = b
-All-join P (x ∷ front) back f b = All-cons P x (front ++ back) (All-head P x front f) (All-join P front back (All-tail P x front f) b)
-
-All-left : (P : ℕ → Type 0) (front back : List ℕ) → All P (front ++ back) → All P front
-All-left P [] back all = All-nil P
-All-left P (x ∷ front) back all = All-cons P x front (All-head P x (front ++ back) all) (All-left P front back (All-tail P x (front ++ back) all))
-
-All-right : (P : ℕ → Type 0) (front back : List ℕ) → All P (front ++ back) → All P back
-All-right P [] back all = all
-All-right P (x ∷ front) back all = All-right P front back (All-tail P x (front ++ back) all)
-
--- what holds of all places holds of them in any order
-All-reordering : (P : ℕ → Type 0) (places order : List ℕ) → IsReordering places order → All P places → All P order
-All-reordering P [] order is all = subst (All P) (sym is) (All-nil P)
-All-reordering P (p ∷ places) order (front, back, is, rest) all =
-    let both = All-reordering P places (front ++ back) rest (All-tail P p places all) in
-    subst (All P) (sym is)
-    (All-join P front (p ∷ back) (All-left P front back both)
-    (All-cons P p back (All-head P p places all) (All-right P front back both)))
 
 -- places of a range are above what is below its first one
 above : (n k p : ℕ) → p < k → All (λ q. p < q) (range_with_len k n)
@@ -57,7 +36,7 @@ module _ (pairs : List Pair) where
   keeps_rest [] back p keeps = keeps.1
   keeps_rest (q ∷ front) back p keeps =
       let P : ℕ → Type 0 = λ x. x < q → ShareNoBodyAt pairs x q in (
-        All-join P front back (All-left P front (p ∷ back) keeps.0)
+        All-append P front back (All-left P front (p ∷ back) keeps.0)
             (All-tail P p back (All-right P front (p ∷ back) keeps.0)),
         keeps_rest front back p keeps.1,
       )
