@@ -1,4 +1,5 @@
 -- The lemmas of this crate.
+pub mod ByLane
 pub mod Values
 pub mod Sums
 pub mod Rounding

@@ -1,10 +1,9 @@
 -- An exact product is below a limit up to 2^53 exactly where the double of the product is, however
 -- great the product is: rounding is monotone.
-use Rattle.std.proofs.Common.{◌≡◌, ℕ, zero, suc, ◌+◌, ◌*◌, ◌<◌, ◌≤◌, ℤ, pos, ◌*ℤ◌, Bool, true, false, ◌&&◌, cond, ltb, T, ⊎_elim, refl, sym, ap, ◌∙◌, arith, lit<, add_comm}
+use Rattle.std.proofs.Common.{◌≡◌, ℕ, zero, suc, ◌+◌, ◌*◌, ◌<◌, ◌≤◌, ℤ, pos, Bool, true, false, ◌&&◌, cond, ltb, T, ⊎_elim, refl, sym, ap, ◌∙◌, arith, lit<, add_comm}
 use Rattle.std.proofs.lemmas.Bool.{cases_lt}
 use Rattle.std.proofs.lemmas.Float.{lt_irrefl, lt_of_lt_of_le}
 use Rattle.std.proofs.Math.Nat.{mul-le-mul_right}
-use Rattle.std.proofs.lemmas.Int.{unsigned_abs-mul}
 use Rattle.std.specs.Int.RustNames.{unsigned_abs}
 use Rattle.pf_lanes.specs.Doubles.{double_of, FitsDouble}
 use Rattle.pf_lanes.proofs.Values.{lt_values, neg_value}
@@ -107,7 +106,7 @@ round_is_between s n l hl =
 
 -- the double of the product of a whole number and a factor
 pub product_is_between : (z w : ℤ) (l : ℕ) → FitsDouble z → FitsDouble w → l ≤ 9007199254740992
-    → is_between (double_of 16777216 (pos l)) (mul binary64 (double_of 1 z) (double_of 16777216 w)) ≡ ltb (unsigned_abs (z *ℤ w)) l
+    → is_between (double_of 16777216 (pos l)) (mul binary64 (double_of 1 z) (double_of 16777216 w)) ≡ ltb (unsigned_abs z * unsigned_abs w) l
 product_is_between z w l hz hw hl =
     let p = product_values z w hz hw in
-    ap (is_between (double_of 16777216 (pos l))) p.1 ∙ round_is_between p.0 (unsigned_abs z * unsigned_abs w) l hl ∙ ap (λ (n : ℕ). ltb n l) (sym (unsigned_abs-mul z w))
+    ap (is_between (double_of 16777216 (pos l))) p.1 ∙ round_is_between p.0 (unsigned_abs z * unsigned_abs w) l hl

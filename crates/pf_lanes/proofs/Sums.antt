@@ -6,8 +6,8 @@ use Rattle.std.proofs.lemmas.Bool.Decides.{nat_tests}
 use Rattle.std.proofs.lemmas.Int.{ints}
 use Rattle.pf_num.specs.Round.{with_sign}
 use Rattle.pf_lanes.specs.Doubles.{double_of, numerator, FitsDouble}
-use Rattle.pf_lanes.proofs.Values.{add_values, sub_values, lt_values}
-use lib.Ieee.{Float, nan, inf, fin, binary64, up, down, round, sum, add, sub, below, lt}
+use Rattle.pf_lanes.proofs.Values.{add_values, sub_values, lt_values, neg_value}
+use lib.Ieee.{Float, nan, inf, fin, binary64, up, down, round, sum, add, sub, neg, below, lt}
 use lib.Ieee.Exact.{HasValue, round_exact}
 use lib.Ieee.Back.{round_whole}
 use lib.Ieee.Fits.{down_pos}
@@ -146,3 +146,11 @@ module _ (c : ℕ) (scale : IsScale c) where
       let a = value z hz in
       let b = value w hw in
       lt_values _ _ a.0 b.0 a.1 b.1 c scale.some a.2 b.2 ∙ below_is a.0 b.0 a.1 b.1 ∙ (λ i. int_lt (sym a.3 i) (sym b.3 i))
+
+  -- against minus a double
+  pub lt_minus_double : (z w : ℤ) → FitsDouble z → FitsDouble w → lt (double_of c z) (neg (double_of c w)) ≡ int_lt z (neg_ℤ w)
+  lt_minus_double z w hz hw =
+      let a = value z hz in
+      let b = value w hw in
+      let turned : with_sign (not b.0) b.1 ≡ neg_ℤ w = turned_sign b.0 b.1 ∙ ap neg_ℤ (sym b.3) in
+      lt_values _ _ a.0 (not b.0) a.1 b.1 c scale.some a.2 (neg_value _ b.0 b.1 c b.2) ∙ below_is a.0 (not b.0) a.1 b.1 ∙ (λ i. int_lt (sym a.3 i) (turned i))

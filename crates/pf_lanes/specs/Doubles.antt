@@ -3,7 +3,7 @@
 use Rattle.std.specs.Prelude.{◌≡◌, ◌≤◌, ◌^◌, ℕ, suc, ◌*◌, ◌/◌, ℤ, pos, negsuc, neg_ℤ, true, false, List, [], ◌∷◌, slice_index_or}
 use Rattle.std.specs.Float.Ieee.{Float, nan, inf, fin, binary64, up, down, round}
 use Rattle.std.specs.Int.RustNames.{unsigned_abs}
-use Rattle.pf_lanes.specs.Lanes.{Lanes, EachLane}
+use Rattle.pf_lanes.specs.Lanes.{Lane, Lanes, number_in}
 
 -- the double nearest to z / c
 unfoldable pub double_of : ℕ → ℤ → Float
@@ -34,7 +34,12 @@ numerators c xs = record {
 abbrev pub FitsDouble : ℤ → Type 0
 FitsDouble z = unsigned_abs z ≤ 2 ^ 53
 
+-- a double is such a whole number; so it is not -0
+pub record IsWhole (x : Float) : Type 0 where
+  pub double : double_of 1 (numerator 1 x) ≡ x
+  pub whole : FitsDouble (numerator 1 x)
+
 -- each of four doubles is the fraction z / c of such a number z; so none is -0
 pub record IsExact (c : ℕ) (xs : List Float) : Type 0 where
   pub doubles : doubles_of c (numerators c xs) ≡ xs
-  pub whole : EachLane FitsDouble (numerators c xs)
+  pub whole : (k : Lane) → FitsDouble (number_in k (numerators c xs))

@@ -1,6 +1,7 @@
 //! Whole numbers four at a time.
 
 use crate::scaled::{Scaled, UNIT};
+use crate::whole::Whole;
 use std::marker::Model;
 use std::simd::prelude::*;
 
@@ -36,16 +37,26 @@ impl Model for Lanes {
 }
 
 impl Lanes {
-    ghost use Rattle.std.specs.Prelude.{◌≡◌, ◌≤◌, ◌<◌, ◌^◌, ◌↔◌, ◌+ℤ◌, ◌-ℤ◌, ◌*ℤ◌, neg_ℤ, IsTrue};
+    ghost use Rattle.std.specs.Prelude.{◌≡◌, ◌≤◌, ◌<◌, ◌+◌, ◌*◌, ◌^◌, ◌↔◌, ◌≤ℤ◌, pos, neg_ℤ, IsTrue};
     ghost use Rattle.std.specs.Int.{int_min, int_max};
     ghost use Rattle.std.specs.Int.RustNames.{unsigned_abs};
     ghost use Rattle.pf_num.specs.Fx.{sum, difference, product};
-    ghost use Rattle.pf_lanes.specs.Lanes.{EachLane, EachPair, map_lanes, zip_lanes, lanes_of, list_of, rounded_product};
+    ghost use Rattle.pf_lanes.specs.Lanes.{Lane, number_in, lanes_of, list_of};
+
+    /// Four times 0.
+    #[inline]
+    pub fn zero() -> Lanes
+        ensures { (k : Lane) → number_in k result ≡ pos 0 }
+    {
+        Lanes {
+            doubles: f64x4::splat(0.0),
+        }
+    }
 
     /// These four whole numbers.
     #[inline]
     pub fn of(numbers: [i64; 4]) -> Lanes
-        requires { EachLane (λ n. unsigned_abs n ≤ EXACT_LIMIT) (lanes_of numbers) }
+        requires { (k : Lane) → unsigned_abs (number_in k (lanes_of numbers)) ≤ EXACT_LIMIT }
         ensures { result ≡ lanes_of numbers }
     {
         let [first, second, third, fourth] = numbers;
@@ -55,22 +66,41 @@ impl Lanes {
         }
     }
 
+    /// These four whole numbers, which are doubles already.
+    #[inline]
+    pub fn gather(numbers: [Whole; 4]) -> Lanes
+        ensures { result ≡ lanes_of numbers }
+    {
+        let [first, second, third, fourth] = numbers;
+        let doubles = [first.double, second.double, third.double, fourth.double];
+        Lanes {
+            doubles: f64x4::from_array(doubles),
+        }
+    }
+
     /// The four whole numbers.
     #[inline]
-    pub fn to_raw(self) -> [i64; 4]
-        ensures value { result ≡ list_of self }
-        ensures range { EachLane (λ n. unsigned_abs n ≤ EXACT_LIMIT) self }
+    pub fn parts(self) -> [Whole; 4]
+        ensures { result ≡ list_of self }
     {
         let [first, second, third, fourth] = self.doubles.to_array();
-        [first as i64, second as i64, third as i64, fourth as i64]
+        [
+            Whole { double: first },
+            Whole { double: second },
+            Whole { double: third },
+            Whole { double: fourth },
+        ]
     }
 
     /// The sums.
     #[inline]
     pub fn plus(self, other: Lanes) -> Lanes
-        requires { EachPair (λ a b. unsigned_abs (a +ℤ b) ≤ EXACT_LIMIT) self other }
-        ensures value { result ≡ zip_lanes (λ a b. a +ℤ b) self other }
-        ensures fixed_point { result ≡ zip_lanes sum self other }
+        requires { (k : Lane)
+            → unsigned_abs (number_in k self) + unsigned_abs (number_in k other) ≤ EXACT_LIMIT }
+        ensures value { (k : Lane)
+            → number_in k result ≡ sum (number_in k self) (number_in k other) }
+        ensures size { (k : Lane) → unsigned_abs (number_in k result)
+            ≤ unsigned_abs (number_in k self) + unsigned_abs (number_in k other) }
     {
         Lanes {
             doubles: self.doubles + other.doubles,
@@ -80,9 +110,12 @@ impl Lanes {
     /// The differences.
     #[inline]
     pub fn minus(self, other: Lanes) -> Lanes
-        requires { EachPair (λ a b. unsigned_abs (a -ℤ b) ≤ EXACT_LIMIT) self other }
-        ensures value { result ≡ zip_lanes (λ a b. a -ℤ b) self other }
-        ensures fixed_point { result ≡ zip_lanes difference self other }
+        requires { (k : Lane)
+            → unsigned_abs (number_in k self) + unsigned_abs (number_in k other) ≤ EXACT_LIMIT }
+        ensures value { (k : Lane)
+            → number_in k result ≡ difference (number_in k self) (number_in k other) }
+        ensures size { (k : Lane) → unsigned_abs (number_in k result)
+            ≤ unsigned_abs (number_in k self) + unsigned_abs (number_in k other) }
     {
         Lanes {
             doubles: self.doubles - other.doubles,
@@ -92,7 +125,7 @@ impl Lanes {
     /// The numbers with the other sign: differences from 0, since minus 0 would be -0.
     #[inline]
     pub fn negated(self) -> Lanes
-        ensures { result ≡ map_lanes neg_ℤ self }
+        ensures { (k : Lane) → number_in k result ≡ neg_ℤ (number_in k self) }
     {
         Lanes {
             doubles: f64x4::splat(0.0) - self.doubles,
@@ -102,7 +135,7 @@ impl Lanes {
     /// The lesser of the two numbers of each lane.
     #[inline]
     pub fn least(self, other: Lanes) -> Lanes
-        ensures { result ≡ zip_lanes int_min self other }
+        ensures { (k : Lane) → number_in k result ≡ int_min (number_in k self) (number_in k other) }
     {
         let is_less = other.doubles.simd_lt(self.doubles);
         Lanes {
@@ -113,7 +146,7 @@ impl Lanes {
     /// The greater of the two numbers of each lane.
     #[inline]
     pub fn greatest(self, other: Lanes) -> Lanes
-        ensures { result ≡ zip_lanes int_max self other }
+        ensures { (k : Lane) → number_in k result ≡ int_max (number_in k self) (number_in k other) }
     {
         let is_less = other.doubles.simd_lt(self.doubles);
         Lanes {
@@ -125,10 +158,13 @@ impl Lanes {
     /// product of whole numbers is below 2^53 in magnitude: `product_is_below` tells.
     #[inline]
     pub fn product(self, factors: Scaled) -> Lanes
-        requires { EachPair (λ x c. unsigned_abs (x *ℤ c) < EXACT_LIMIT) self factors }
-        ensures value { result ≡ zip_lanes rounded_product self factors }
-        ensures fixed_point { result ≡ zip_lanes product self factors }
-        ensures size { EachLane (λ n. unsigned_abs n ≤ 2 ^ 29) result }
+        requires { (k : Lane)
+            → unsigned_abs (number_in k self) * unsigned_abs (number_in k factors) < EXACT_LIMIT }
+        ensures value { (k : Lane)
+            → number_in k result ≡ product (number_in k self) (number_in k factors) }
+        ensures size { (k : Lane) → unsigned_abs (number_in k result) ≤ 2 ^ 29 }
+        ensures bound { (k : Lane) → unsigned_abs (number_in k result) * 2 ^ 25
+            ≤ unsigned_abs (number_in k self) * unsigned_abs (number_in k factors) * 2 + 2 ^ 24 }
     {
         let whole = f64x4::splat(WHOLE);
         Lanes {
@@ -140,11 +176,22 @@ impl Lanes {
     #[inline]
     pub fn are_within(self, limit: u64) -> bool
         requires { limit ≤ EXACT_LIMIT }
-        ensures { IsTrue result ↔ EachLane (λ n. unsigned_abs n ≤ limit) self }
+        ensures { IsTrue result ↔ ((k : Lane) → unsigned_abs (number_in k self) ≤ limit) }
     {
-        let limit = limit as i64;
-        let is_above = f64x4::splat(limit as f64).simd_lt(self.doubles);
-        let is_below = self.doubles.simd_lt(f64x4::splat(-limit as f64));
+        let limits = Lanes {
+            doubles: f64x4::splat(limit as i64 as f64),
+        };
+        self.are_within_each(limits)
+    }
+
+    /// Whether each number is at most the limit of its lane in magnitude.
+    #[inline]
+    pub fn are_within_each(self, limits: Lanes) -> bool
+        ensures { IsTrue result
+            ↔ ((k : Lane) → pos (unsigned_abs (number_in k self)) ≤ℤ number_in k limits) }
+    {
+        let is_above = limits.doubles.simd_lt(self.doubles);
+        let is_below = self.doubles.simd_lt(-limits.doubles);
         !(is_above | is_below).any()
     }
 
@@ -154,7 +201,8 @@ impl Lanes {
     #[inline]
     pub fn product_is_below(self, factors: Scaled, limit: u64) -> bool
         requires { limit ≤ EXACT_LIMIT }
-        ensures { IsTrue result ↔ EachPair (λ x c. unsigned_abs (x *ℤ c) < limit) self factors }
+        ensures { IsTrue result ↔ ((k : Lane)
+            → unsigned_abs (number_in k self) * unsigned_abs (number_in k factors) < limit) }
     {
         let end = f64x4::splat(limit as i64 as f64 * UNIT);
         let product = self.doubles * factors.doubles;

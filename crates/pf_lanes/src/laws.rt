@@ -1,27 +1,27 @@
 //! Laws of the definitions, and the value of the limit. These functions compute nothing: their
 //! clauses are the statements.
 
-ghost use Rattle.std.specs.Prelude.{◌≡◌, ◌≤◌, ◌<◌, ◌^◌, ℕ, ℤ, ◌+ℤ◌, ◌-ℤ◌, ◌*ℤ◌, pos, negsuc, suc, true, false};
+ghost use Rattle.std.specs.Prelude.{◌≡◌, ◌≤◌, ◌<◌, ◌^◌, ◌+◌, ◌*◌, ℕ, ℤ, ◌+ℤ◌, ◌-ℤ◌, ◌*ℤ◌, pos, negsuc, suc, true, false};
 ghost use Rattle.std.specs.Float.Ieee.Exact.{HasValue};
 ghost use Rattle.std.specs.Int.RustNames.{unsigned_abs};
-ghost use Rattle.pf_num.specs.Fx.{sum, difference, product};
+ghost use Rattle.pf_num.specs.Fx.{one, sum, difference, product};
+ghost use Rattle.pf_num.specs.Round.{near};
 ghost use Rattle.pf_lanes.specs.Doubles.{double_of};
-ghost use Rattle.pf_lanes.specs.Lanes.{Lanes, EachPair, zip_lanes, rounded_product};
 
 use crate::lanes::EXACT_LIMIT;
 
-/// Sums and differences in lanes are those of fixed-point numbers, which do not saturate there.
+/// Exact sums and differences are those of fixed-point numbers, which do not saturate there.
 pub fn sums_are_those_of_numbers()
-    ensures sums { (a b : Lanes) → EachPair (λ x y. unsigned_abs (x +ℤ y) ≤ EXACT_LIMIT) a b
-        → zip_lanes (λ x y. x +ℤ y) a b ≡ zip_lanes sum a b }
-    ensures differences { (a b : Lanes) → EachPair (λ x y. unsigned_abs (x -ℤ y) ≤ EXACT_LIMIT) a b
-        → zip_lanes (λ x y. x -ℤ y) a b ≡ zip_lanes difference a b }
+    ensures sums { (x y : ℤ) → unsigned_abs x + unsigned_abs y ≤ EXACT_LIMIT → sum x y ≡ x +ℤ y }
+    ensures differences { (x y : ℤ) → unsigned_abs x + unsigned_abs y ≤ EXACT_LIMIT
+        → difference x y ≡ x -ℤ y }
 {}
 
-/// Products in lanes are those of fixed-point numbers, which do not saturate there.
+/// Exact products, rounded to the nearest even, are those of fixed-point numbers, which do not
+/// saturate there.
 pub fn products_are_those_of_numbers()
-    ensures { (a b : Lanes) → EachPair (λ x c. unsigned_abs (x *ℤ c) < EXACT_LIMIT) a b
-        → zip_lanes rounded_product a b ≡ zip_lanes product a b }
+    ensures { (x c : ℤ) → unsigned_abs x * unsigned_abs c < EXACT_LIMIT
+        → product x c ≡ near (x *ℤ c) one }
 {}
 
 /// The double of a fraction n / c is exactly that, for a whole number n up to 2^53 in magnitude and

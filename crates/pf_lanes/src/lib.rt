@@ -5,6 +5,8 @@
 mod lanes;
 pub mod laws;
 mod scaled;
+mod whole;
 
 pub use lanes::{EXACT_LIMIT, Lanes};
 pub use scaled::Scaled;
+pub use whole::Whole;

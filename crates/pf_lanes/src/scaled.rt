@@ -33,12 +33,12 @@ impl Model for Scaled {
 impl Scaled {
     ghost use Rattle.std.specs.Prelude.{◌≡◌, ◌≤◌};
     ghost use Rattle.std.specs.Int.RustNames.{unsigned_abs};
-    ghost use Rattle.pf_lanes.specs.Lanes.{EachLane, lanes_of};
+    ghost use Rattle.pf_lanes.specs.Lanes.{Lane, number_in, lanes_of};
 
     /// These four whole numbers of units of 2^-24.
     #[inline]
     pub fn of(numbers: [i64; 4]) -> Scaled
-        requires { EachLane (λ n. unsigned_abs n ≤ EXACT_LIMIT) (lanes_of numbers) }
+        requires { (k : Lane) → unsigned_abs (number_in k (lanes_of numbers)) ≤ EXACT_LIMIT }
         ensures { result ≡ lanes_of numbers }
     {
         let [first, second, third, fourth] = numbers;

@@ -2,9 +2,9 @@
 
 ghost use Rattle.std.specs.Prelude.{◌≤◌, ◌^◌};
 ghost use Rattle.std.specs.Int.RustNames.{unsigned_abs};
-ghost use Rattle.pf_lanes.specs.Lanes.{EachLane, lanes_of};
+ghost use Rattle.pf_lanes.specs.Lanes.{Lane, number_in, lanes_of};
 
-use pf_lanes::{EXACT_LIMIT, Lanes, Scaled, laws};
+use pf_lanes::{EXACT_LIMIT, Lanes, Scaled, Whole, laws};
 use pf_num::Fx;
 use std::process::Abort;
 
@@ -16,15 +16,21 @@ fn raw_product(a: i64, b: i64) -> Option<i64> {
     Some(Fx::from_raw(a)?.mul(Fx::from_raw(b)?).raw())
 }
 
+/// The raw numbers in lanes.
+fn raw(lanes: Lanes) -> [i64; 4] {
+    let [first, second, third, fourth] = lanes.parts();
+    [first.raw(), second.raw(), third.raw(), fourth.raw()]
+}
+
 /// Products in lanes are those of `pf_num`, and these numbers.
 fn compare(rt: &impl Abort, numbers: [i64; 4], factors: [i64; 4], expected: [i64; 4])
-    requires numbers { EachLane (λ n. unsigned_abs n ≤ 2 ^ 53) (lanes_of numbers) }
-    requires factors { EachLane (λ n. unsigned_abs n ≤ 2 ^ 53) (lanes_of factors) }
+    requires numbers { (k : Lane) → unsigned_abs (number_in k (lanes_of numbers)) ≤ 2 ^ 53 }
+    requires factors { (k : Lane) → unsigned_abs (number_in k (lanes_of factors)) ≤ 2 ^ 53 }
 {
     let lanes = Lanes::of(numbers);
     let scaled = Scaled::of(factors);
     assert!(rt; lanes.product_is_below(scaled, EXACT_LIMIT));
-    let products = lanes.product(scaled).to_raw();
+    let products = raw(lanes.product(scaled));
     assert_eq!(rt; products, expected);
     for i in 0..4usize {
         assert_eq!(rt; raw_product(numbers[i], factors[i]), Some(products[i]));
@@ -85,12 +91,28 @@ fn products_at_the_limit_are_told(rt: HostRuntime) {
 #[test]
 fn each_call_once(rt: HostRuntime) {
     let (a, b) = (Lanes::of([7, -7, 0, 5]), Lanes::of([-2, 3, 0, 5]));
-    assert_eq!(rt; a.plus(b).to_raw(), [5, -4, 0, 10]);
-    assert_eq!(rt; a.minus(b).to_raw(), [9, -10, 0, 0]);
-    assert_eq!(rt; a.negated().to_raw(), [-7, 7, 0, -5]);
-    assert_eq!(rt; a.least(b).to_raw(), [-2, -7, 0, 5]);
-    assert_eq!(rt; a.greatest(b).to_raw(), [7, 3, 0, 5]);
+    assert_eq!(rt; raw(a.plus(b)), [5, -4, 0, 10]);
+    assert_eq!(rt; raw(a.minus(b)), [9, -10, 0, 0]);
+    assert_eq!(rt; raw(a.negated()), [-7, 7, 0, -5]);
+    assert_eq!(rt; raw(a.least(b)), [-2, -7, 0, 5]);
+    assert_eq!(rt; raw(a.greatest(b)), [7, 3, 0, 5]);
     assert!(rt; a.are_within(7) && !a.are_within(6) && !a.negated().are_within(6));
+    assert!(rt; a.are_within_each(Lanes::of([7, 7, 0, 6])));
+    assert!(rt; !a.are_within_each(Lanes::of([7, 6, 0, 6])));
+    assert!(rt; !Lanes::zero().are_within_each(Lanes::of([0, 0, -1, 0])));
+}
+
+#[test]
+fn numbers_go_in_and_out_as_doubles(rt: HostRuntime) {
+    let great = 1 << 53;
+    let numbers = [
+        Whole::of(-great),
+        Whole::zero(),
+        Whole::of(great),
+        Whole::of(-1),
+    ];
+    assert_eq!(rt; raw(Lanes::gather(numbers)), [-great, 0, great, -1]);
+    assert_eq!(rt; raw(Lanes::zero()), [0; 4]);
 }
 
 #[test]

@@ -1,5 +1,5 @@
-use Rattle.pf_lanes.proofs.Numbers.{products_are}
+use Rattle.pf_lanes.proofs.Numbers.{product_is}
 use Rattle.pf_lanes.proofs.laws.products_are_those_of_numbers.Goals as goal
 
 pub returns : goal.returns
-returns c = products_are
+returns c = product_is
