@@ -3,7 +3,7 @@
 use Rattle.std.specs.Prelude.{◌≡◌, ◌≢◌, ◌<◌, ◌++◌, ◌∷◌, ⊤, ℕ, All, List, [], Some, length, slice_get}
 use Rattle.std.specs.List.{concat, range_with_len}
 use Rattle.pf_rows.specs.declared.row.Side.{Side}
-use Rattle.pf_rows.specs.Row.{AreApart, Row}
+use Rattle.pf_rows.specs.Row.{AreApart, IsSide, Row}
 
 -- the two bodies of a row
 pub record Pair : Type 0 where
@@ -12,6 +12,14 @@ pub record Pair : Type 0 where
 
 abbrev pub pair_of : Row → Pair
 pair_of r = record { first = r.entry.first; second = r.entry.second }
+
+-- each body is static or one of so many bodies
+pub record IsPairOf (bodies : ℕ) (pair : Pair) : Type 0 where
+  pub first : IsSide bodies pair.first
+  pub second : IsSide bodies pair.second
+
+abbrev pub ArePairsOf : ℕ → List Pair → Type 0
+ArePairsOf bodies pairs = All (IsPairOf bodies) pairs
 
 -- two rows have no dynamic body in common
 pub record ShareNoBody (a b : Pair) : Type 0 where
@@ -35,7 +43,8 @@ IsReordering (p ∷ places) order =
 -- of two rows with a common dynamic body the one that comes first in the list is solved first
 abbrev pub KeepsOrder : List Pair → List ℕ → Type 0
 KeepsOrder pairs [] = ⊤
-KeepsOrder pairs (p ∷ order) = All (λ q. q < p → ShareNoBodyAt pairs q p) order × KeepsOrder pairs order
+KeepsOrder pairs (p ∷ order) =
+    All (λ q. q < p → ShareNoBodyAt pairs q p) order × KeepsOrder pairs order
 
 -- all rows, in an order that keeps that of the rows of each body
 pub record IsOrder (pairs : List Pair) (order : List ℕ) : Type 0 where
@@ -51,3 +60,11 @@ IsLevel pairs (p ∷ level) = All (λ q. (p ≢ q) × ShareNoBodyAt pairs p q) l
 pub record AreLevels (pairs : List Pair) (levels : List (List ℕ)) : Type 0 where
   pub order : IsOrder pairs (concat levels)
   pub apart : All (IsLevel pairs) levels
+
+-- levels, and the pairs of the rows that they were made of
+pub record Leveling : Type 0 where
+  pub pairs : List Pair
+  pub levels : List (List ℕ)
+
+abbrev pub no_levels : Leveling
+no_levels = record { pairs = []; levels = [] }

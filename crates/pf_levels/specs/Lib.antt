@@ -1,3 +1,4 @@
 -- What the contracts of this crate cite.
 pub mod Levels
+pub mod Links
 pub mod SoFar

@@ -6,6 +6,9 @@
 pub mod laws;
 mod level;
 mod levels;
+mod links;
+mod pair;
 
 pub use level::{Level, WIDTH};
 pub use levels::Levels;
+pub use pair::Pair;

@@ -1,49 +1,31 @@
 //! Levels of a few rows, by hand.
 
-ghost use Rattle.std.specs.Prelude.{◌≡◌};
+ghost use Rattle.std.specs.Prelude.{◌≡◌, ◌≤◌, IfOk};
+ghost use Rattle.pf_levels.specs.Levels.{ArePairsOf};
 
-use pf_levels::{Level, Levels, WIDTH, laws};
-use pf_manifold::{ContactPoint, Touch};
-use pf_num::Fx;
-use pf_rot::V2;
-use pf_rows::{Entry, Impulses, Row, Side};
+use pf_levels::{Level, Levels, Pair, WIDTH, laws};
+use pf_rows::Side;
+use std::alloc::AllocError;
 use std::test::Fail;
 
-/// A row of these bodies.
-fn row(first: Side, second: Side) -> Row
-    ensures first { result.entry.first ≡ first }
-    ensures second { result.entry.second ≡ second }
-{
-    let point = ContactPoint {
-        feature: 0,
-        position: V2::ZERO,
-        normal: V2::ZERO,
-        separation: Fx::ZERO,
-    };
-    let touch = Touch { a: 0, b: 1, point };
-    Row::new(Entry {
-        touch,
-        impulses: Impulses::NONE,
-        place: 0,
-        first,
-        second,
-    })
-}
-
 /// A row of two dynamic bodies.
-fn pair(first: usize, second: usize) -> Row
-    ensures first { result.entry.first ≡ Side.Dynamic first }
-    ensures second { result.entry.second ≡ Side.Dynamic second }
+fn pair(first: usize, second: usize) -> Pair
+    ensures { result ≡ record { first = Side.Dynamic first; second = Side.Dynamic second } }
 {
-    row(Side::Dynamic(first), Side::Dynamic(second))
+    Pair {
+        first: Side::Dynamic(first),
+        second: Side::Dynamic(second),
+    }
 }
 
 /// A row of a static body and a dynamic one.
-fn ground(second: usize) -> Row
-    ensures first { result.entry.first ≡ Side.Static }
-    ensures second { result.entry.second ≡ Side.Dynamic second }
+fn ground(second: usize) -> Pair
+    ensures { result ≡ record { first = Side.Static; second = Side.Dynamic second } }
 {
-    row(Side::Static, Side::Dynamic(second))
+    Pair {
+        first: Side::Static,
+        second: Side::Dynamic(second),
+    }
 }
 
 fn are(levels: &[Level], expected: &[&[usize]]) -> bool {
@@ -56,16 +38,16 @@ fn are(levels: &[Level], expected: &[&[usize]]) -> bool {
 
 #[test]
 fn a_chain_has_a_level_for_each_row(rt: HostRuntime) -> Result<(), Fail> {
-    let rows = [pair(0, 1), pair(1, 2), pair(2, 3)];
+    let pairs = [pair(0, 1), pair(1, 2), pair(2, 3)];
     let mut levels = Levels::new(rt.alloc());
-    levels.assign(&rows, 4)?;
+    levels.update(&pairs, 4)?;
     assert!(rt; are(levels.levels(), &[&[0], &[1], &[2]]));
     Ok(())
 }
 
 #[test]
 fn a_level_has_room_for_four_rows(rt: HostRuntime) -> Result<(), Fail> {
-    let rows = [
+    let pairs = [
         ground(0),
         ground(1),
         ground(2),
@@ -74,11 +56,56 @@ fn a_level_has_room_for_four_rows(rt: HostRuntime) -> Result<(), Fail> {
         pair(0, 5),
     ];
     let mut levels = Levels::new(rt.alloc());
-    levels.assign(&rows, 6)?;
+    levels.update(&pairs, 6)?;
     assert!(rt; are(levels.levels(), &[&[0, 1, 2, 3], &[4], &[5]]));
     laws::named_limits();
     assert!(rt; WIDTH == 4);
-    levels.assign(&rows[..2], 6)?;
+    Ok(())
+}
+
+/// Adds rows of a static body and these bodies.
+fn add_grounds(pairs: &mut Vec<Pair>, first: usize, end: usize) -> Result<(), AllocError>
+    requires end { end ≤ 19 }
+    requires pairs { ArePairsOf 19 pairs.old.items }
+    ensures { IfOk result (λ done. ArePairsOf 19 pairs.new.items) }
+{
+    for body in first..end {
+        pairs.push(ground(body))?;
+    }
+    Ok(())
+}
+
+#[test]
+fn full_levels_are_passed_over(rt: HostRuntime) -> Result<(), Fail> {
+    let mut pairs = Vec::new(rt.alloc());
+    add_grounds(&mut pairs, 0, 13)?;
+    pairs.push(pair(0, 13))?;
+    add_grounds(&mut pairs, 14, 19)?;
+    let mut levels = Levels::new(rt.alloc());
+    levels.update(&pairs, 19)?;
+    let expected: [&[usize]; 5] = [
+        &[0, 1, 2, 3],
+        &[4, 5, 6, 7],
+        &[8, 9, 10, 11],
+        &[12, 13, 14, 15],
+        &[16, 17, 18],
+    ];
+    assert!(rt; are(levels.levels(), &expected));
+    Ok(())
+}
+
+#[test]
+fn levels_follow_the_pairs(rt: HostRuntime) -> Result<(), Fail> {
+    let mut levels = Levels::new(rt.alloc());
+    levels.update(&[ground(0), ground(1)], 3)?;
     assert!(rt; are(levels.levels(), &[&[0, 1]]));
+    levels.update(&[ground(0), ground(1)], 3)?;
+    assert!(rt; are(levels.levels(), &[&[0, 1]]));
+    levels.update(&[ground(0), pair(1, 0)], 3)?;
+    assert!(rt; are(levels.levels(), &[&[0], &[1]]));
+    levels.update(&[ground(0), pair(1, 0), ground(2)], 3)?;
+    assert!(rt; are(levels.levels(), &[&[0, 2], &[1]]));
+    levels.update(&[], 0)?;
+    assert!(rt; levels.levels().is_empty());
     Ok(())
 }
