@@ -13,3 +13,4 @@ pub mod AtOnce
 pub mod Reorder
 pub mod Levels
 pub mod AfterTick
+pub mod Beside

@@ -8,3 +8,4 @@ pub mod Solve
 pub mod Laws
 pub mod Order
 pub mod Alone
+pub mod Beside

@@ -7,6 +7,7 @@ ghost use Rattle.pf_manifold.specs.Key.{IsRising};
 ghost use Rattle.pf_rows.specs.Row.{Constraint, Row};
 ghost use Rattle.pf_solver.specs.Impulse.{ContactState, after_round, friction_limit};
 ghost use Rattle.pf_solver.specs.Alone.{seen_from};
+ghost use Rattle.pf_solver.specs.Beside.{IsBatch, side_by_side, velocities_of};
 ghost use Rattle.pf_islands.specs.Island.{states_of, rows_among, IsOwnOrOther};
 ghost use Rattle.pf_solver.specs.Laws.{places_written, solved_at};
 ghost use Rattle.pf_levels.specs.Levels.{IsLevel, pair_of};
@@ -68,6 +69,17 @@ pub fn islands_are_solved_alone()
         → All (IsOwnOrOther numbers) rows
         → solved_batch s (states_of numbers bodies) (rows_among numbers rows)
         ≡ seen_from numbers (solved_batch s bodies rows) }
+{}
+
+/// Islands that are solved as one list are, bit for bit, what they are alone. In the list the
+/// bodies of one stand behind those of another, and so do the contacts; each contact names bodies
+/// of its own island, by their places in the whole list. This holds of so many passes, and of the
+/// whole velocity phase.
+pub fn batches_are_solved_side_by_side()
+    ensures passes { (n : ℕ) (step : Step) (batches : List Batch) → All IsBatch batches
+        → passes n step (side_by_side batches) ≡ side_by_side (map (passes n step) batches) }
+    ensures velocities { (batches : List Batch) → All IsBatch batches
+        → velocities_of (side_by_side batches) ≡ side_by_side (map velocities_of batches) }
 {}
 
 /// A still body moves at most 1/64 of a length and turns by at most 1/32 of a radian a second; a
