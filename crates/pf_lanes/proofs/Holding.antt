@@ -107,6 +107,24 @@ pub scaled_hold : (v : Lanes) → EachFits v
     → Holds 16777216 (mul binary64 (machine_double v.first) unit ∷ mul binary64 (machine_double v.second) unit ∷ mul binary64 (machine_double v.third) unit ∷ mul binary64 (machine_double v.fourth) unit ∷ []) v
 scaled_hold v h = four_hold 16777216 v _ _ _ _ (scaled v.first (h First)) (scaled v.second (h Second)) (scaled v.third (h Third)) (scaled v.fourth (h Fourth)) h
 
+-- doubles that hold whole numbers, as factors
+scaled_whole : (z : ℤ) (x : Float) → IsWhole x → numerator 1 x ≡ z → mul binary64 x unit ≡ double_of 16777216 z
+scaled_whole z x h e =
+    let is = whole_double x z h e in ap (λ (y : Float). mul binary64 y unit) is.0 ∙ scaled_double z is.1
+
+pub scaled_wholes : (v : Lanes) (x y z w : Float) → IsWhole x → IsWhole y → IsWhole z → IsWhole w
+    → numerator 1 x ≡ v.first → numerator 1 y ≡ v.second → numerator 1 z ≡ v.third → numerator 1 w ≡ v.fourth
+    → Holds 16777216 (mul binary64 x unit ∷ mul binary64 y unit ∷ mul binary64 z unit ∷ mul binary64 w unit ∷ []) v
+scaled_wholes v x y z w hx hy hz hw ex ey ez ew =
+    four_hold 16777216 v _ _ _ _ (scaled_whole v.first x hx ex) (scaled_whole v.second y hy ey) (scaled_whole v.third z hz ez) (scaled_whole v.fourth w hw ew)
+    fits
+  where
+    fits : EachFits v
+    fits First = (whole_double x v.first hx ex).1
+    fits Second = (whole_double y v.second hy ey).1
+    fits Third = (whole_double z v.third hz ez).1
+    fits Fourth = (whole_double w v.fourth hw ew).1
+
 -- ---- calculations
 
 -- g of two whole numbers is one that a double holds exactly, and f of their doubles is its double

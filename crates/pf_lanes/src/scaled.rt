@@ -1,6 +1,7 @@
 //! Factors of products.
 
 use crate::lanes::EXACT_LIMIT;
+use crate::whole::Whole;
 use std::marker::Model;
 use std::simd::prelude::*;
 
@@ -43,6 +44,17 @@ impl Scaled {
     {
         let [first, second, third, fourth] = numbers;
         let doubles = [first as f64, second as f64, third as f64, fourth as f64];
+        Scaled {
+            doubles: f64x4::from_array(doubles) * f64x4::splat(UNIT),
+        }
+    }
+    /// These four whole numbers of units of 2^-24, which are doubles already.
+    #[inline]
+    pub fn gather(numbers: [Whole; 4]) -> Scaled
+        ensures { result ≡ lanes_of numbers }
+    {
+        let [first, second, third, fourth] = numbers;
+        let doubles = [first.double, second.double, third.double, fourth.double];
         Scaled {
             doubles: f64x4::from_array(doubles) * f64x4::splat(UNIT),
         }
