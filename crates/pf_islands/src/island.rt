@@ -3,6 +3,7 @@
 ghost use Rattle.std.specs.Prelude.{◌≡◌};
 
 use crate::sizes::IslandSize;
+use pf_bundles::Workspace;
 use pf_rows::Row;
 use pf_shapes::BodyState;
 use smallvec::SmallVec;
@@ -24,6 +25,8 @@ pub struct Island {
     pub bodies: SmallVec<BodyState, 1>,
     /// The contacts that touch them, in the order of their keys.
     pub rows: Vec<Row>,
+    /// Memory for solving them in lanes. It changes no result, and contracts do not see it.
+    pub workspace: Workspace,
 }
 
 impl Model for Island {
@@ -50,6 +53,7 @@ impl Island {
             numbers: SmallVec::new(alloc),
             bodies: SmallVec::new(alloc),
             rows: Vec::new(alloc),
+            workspace: Workspace::new(alloc),
         }
     }
 

@@ -1,0 +1,2 @@
+pub mod Arms
+pub mod Bundles

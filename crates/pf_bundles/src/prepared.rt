@@ -1,0 +1,256 @@
+//! What stays fixed of rows side by side during the rounds.
+
+ghost use Rattle.std.specs.Prelude.{◌≡◌};
+ghost use Rattle.pf_lanes.specs.Lanes.{First, Fourth, Second, Third};
+ghost use Rattle.pf_bundles.specs.Prepared.{constraint_in, mass_in, vector_in};
+
+use crate::lane_row::{LaneRow, WholeConstraint};
+use crate::vectors::ScaledVectors;
+use crate::whole::{WholeMass, WholeVector};
+use pf_lanes::{Lanes, Scaled};
+use std::marker::Model;
+
+/// Inverse masses side by side.
+#[derive(Clone, Copy)]
+pub struct MassLanes {
+    /// 1 / mass.
+    pub inverse_mass: Scaled,
+    /// 1 / inertia.
+    pub inverse_inertia: Scaled,
+}
+
+impl Model for MassLanes {
+    ghost use Rattle.pf_bundles.specs.Prepared.{MassLanes};
+
+    ghost Value = { MassLanes };
+
+    ghost view = { λ m. record {
+      inverse_mass = m.inverse_mass;
+      inverse_inertia = m.inverse_inertia;
+    } };
+
+    ghost inverse = { λ m. record {
+      inverse_mass = m.inverse_mass;
+      inverse_inertia = m.inverse_inertia;
+    } };
+}
+
+/// Constraints side by side.
+#[derive(Clone, Copy)]
+pub struct ConstraintLanes {
+    /// The normals.
+    pub normal: ScaledVectors,
+    /// The tangents.
+    pub tangent: ScaledVectors,
+    /// The arms of the first bodies.
+    pub first_arm: ScaledVectors,
+    /// The arms of the second bodies.
+    pub second_arm: ScaledVectors,
+    /// The effective masses along the normals.
+    pub normal_mass: Scaled,
+    /// The effective masses along the tangents.
+    pub tangent_mass: Scaled,
+    /// The separating speeds aimed at.
+    pub bias: Lanes,
+    /// The coefficients of friction.
+    pub friction: Scaled,
+}
+
+impl Model for ConstraintLanes {
+    ghost use Rattle.pf_bundles.specs.Prepared.{ConstraintLanes};
+
+    ghost Value = { ConstraintLanes };
+
+    ghost view = { λ c. record {
+      normal = c.normal;
+      tangent = c.tangent;
+      first_arm = c.first_arm;
+      second_arm = c.second_arm;
+      normal_mass = c.normal_mass;
+      tangent_mass = c.tangent_mass;
+      bias = c.bias;
+      friction = c.friction;
+    } };
+
+    ghost inverse = { λ c. record {
+      normal = c.normal;
+      tangent = c.tangent;
+      first_arm = c.first_arm;
+      second_arm = c.second_arm;
+      normal_mass = c.normal_mass;
+      tangent_mass = c.tangent_mass;
+      bias = c.bias;
+      friction = c.friction;
+    } };
+}
+
+/// What stays fixed of contacts during the rounds. In a lane whose limit is not negative, spins and
+/// impulses up to this limit have exact products.
+#[derive(Clone, Copy)]
+pub struct PreparedLanes {
+    first_mass: MassLanes,
+    second_mass: MassLanes,
+    constraint: ConstraintLanes,
+    limit: Lanes,
+}
+
+impl Model for PreparedLanes {
+    ghost use Rattle.pf_lanes.specs.Lanes.{Lane, number_in};
+    ghost use Rattle.pf_bundles.specs.Prepared.{PreparedLanes};
+    ghost use Rattle.pf_bundles.specs.LaneRow.{HasLimit};
+    ghost use Rattle.pf_bundles.specs.Prepared.{constraint_in};
+
+    ghost Value = { PreparedLanes };
+
+    ghost view = { λ p. record {
+      first_mass = p.first_mass;
+      second_mass = p.second_mass;
+      constraint = p.constraint;
+      limit = p.limit;
+    } };
+
+    ghost invariant = { λ p. (k : Lane)
+        → HasLimit (constraint_in k p.constraint) (number_in k p.limit) };
+
+    ghost inverse = { λ p. record {
+      first_mass = p.first_mass;
+      second_mass = p.second_mass;
+      constraint = p.constraint;
+      limit = p.limit;
+    } };
+}
+
+impl PreparedLanes {
+    ghost use Rattle.std.specs.Prelude.{◌≡◌};
+    ghost use Rattle.pf_lanes.specs.Lanes.{Lane, number_in};
+    ghost use Rattle.pf_bundles.specs.LaneRow.{HasLimit};
+    ghost use Rattle.pf_bundles.specs.Prepared.{constraint_in};
+
+    /// The inverse masses of the first bodies.
+    #[inline]
+    pub fn first_mass(&self) -> MassLanes
+        ensures { result ≡ self.now.first_mass }
+    {
+        self.first_mass
+    }
+
+    /// The inverse masses of the second bodies.
+    #[inline]
+    pub fn second_mass(&self) -> MassLanes
+        ensures { result ≡ self.now.second_mass }
+    {
+        self.second_mass
+    }
+
+    /// The constraints.
+    #[inline]
+    pub fn constraint(&self) -> &ConstraintLanes
+        ensures { result.now ≡ self.now.constraint }
+    {
+        &self.constraint
+    }
+
+    /// The limit of each lane.
+    #[inline]
+    pub fn limit(&self) -> Lanes
+        ensures value { result ≡ self.now.limit }
+        ensures limits { (k : Lane)
+            → HasLimit (constraint_in k self.now.constraint) (number_in k result) }
+    {
+        self.limit
+    }
+}
+
+/// Vectors, one in each lane.
+#[inline]
+fn vectors(
+    first: WholeVector,
+    second: WholeVector,
+    third: WholeVector,
+    fourth: WholeVector,
+) -> ScaledVectors
+    ensures first { vector_in First result ≡ first }
+    ensures second { vector_in Second result ≡ second }
+    ensures third { vector_in Third result ≡ third }
+    ensures fourth { vector_in Fourth result ≡ fourth }
+{
+    ScaledVectors {
+        x: Scaled::gather([first.x, second.x, third.x, fourth.x]),
+        y: Scaled::gather([first.y, second.y, third.y, fourth.y]),
+    }
+}
+
+/// Inverse masses, one in each lane.
+#[inline]
+fn masses(first: WholeMass, second: WholeMass, third: WholeMass, fourth: WholeMass) -> MassLanes
+    ensures first { mass_in First result ≡ first }
+    ensures second { mass_in Second result ≡ second }
+    ensures third { mass_in Third result ≡ third }
+    ensures fourth { mass_in Fourth result ≡ fourth }
+{
+    MassLanes {
+        inverse_mass: Scaled::gather([
+            first.inverse_mass,
+            second.inverse_mass,
+            third.inverse_mass,
+            fourth.inverse_mass,
+        ]),
+        inverse_inertia: Scaled::gather([
+            first.inverse_inertia,
+            second.inverse_inertia,
+            third.inverse_inertia,
+            fourth.inverse_inertia,
+        ]),
+    }
+}
+
+/// Constraints, one in each lane.
+#[inline]
+fn constraints(
+    first: &WholeConstraint,
+    second: &WholeConstraint,
+    third: &WholeConstraint,
+    fourth: &WholeConstraint,
+) -> ConstraintLanes
+    ensures first { constraint_in First result ≡ first.now }
+    ensures second { constraint_in Second result ≡ second.now }
+    ensures third { constraint_in Third result ≡ third.now }
+    ensures fourth { constraint_in Fourth result ≡ fourth.now }
+{
+    let (a, b, c, d) = (*first, *second, *third, *fourth);
+    ConstraintLanes {
+        normal: vectors(a.normal, b.normal, c.normal, d.normal),
+        tangent: vectors(a.tangent, b.tangent, c.tangent, d.tangent),
+        first_arm: vectors(a.first_arm, b.first_arm, c.first_arm, d.first_arm),
+        second_arm: vectors(a.second_arm, b.second_arm, c.second_arm, d.second_arm),
+        normal_mass: Scaled::gather([a.normal_mass, b.normal_mass, c.normal_mass, d.normal_mass]),
+        tangent_mass: Scaled::gather([
+            a.tangent_mass,
+            b.tangent_mass,
+            c.tangent_mass,
+            d.tangent_mass,
+        ]),
+        bias: Lanes::gather([a.bias, b.bias, c.bias, d.bias]),
+        friction: Scaled::gather([a.friction, b.friction, c.friction, d.friction]),
+    }
+}
+
+impl PreparedLanes {
+    ghost use Rattle.std.specs.Prelude.{◌≡◌};
+    ghost use Rattle.pf_lanes.specs.Lanes.{Lane};
+    ghost use Rattle.pf_bundles.specs.LaneRow.{lane_row_in, row_in};
+
+    /// Four rows, one in each lane.
+    pub fn of(first: &LaneRow, second: &LaneRow, third: &LaneRow, fourth: &LaneRow) -> PreparedLanes
+        ensures { (k : Lane) → lane_row_in k result
+            ≡ row_in k first.now second.now third.now fourth.now }
+    {
+        let (a, b, c, d) = (first, second, third, fourth);
+        PreparedLanes {
+            first_mass: masses(a.first_mass, b.first_mass, c.first_mass, d.first_mass),
+            second_mass: masses(a.second_mass, b.second_mass, c.second_mass, d.second_mass),
+            constraint: constraints(&a.constraint, &b.constraint, &c.constraint, &d.constraint),
+            limit: Lanes::gather([a.limit, b.limit, c.limit, d.limit]),
+        }
+    }
+}

@@ -1,0 +1,56 @@
+//! Memory for solving rows in lanes.
+
+ghost use Rattle.std.specs.Prelude.{◌≡◌, []};
+ghost use Rattle.pf_levels.specs.Levels.{no_levels};
+ghost use Rattle.pf_bundles.specs.Numbers.{no_numbers};
+
+use crate::bundle::Bundle;
+use crate::lane_row::LaneRow;
+use crate::numbers::Numbers;
+use pf_levels::{Levels, Pair};
+use std::alloc::Global;
+use std::fmt::{Debug, Error, Formatter, Write};
+
+/// Memory that solving rows in lanes uses from tick to tick. What it holds is of no use to others,
+/// but for the levels of the last tick, which are kept while the pairs stay the same.
+#[derive(Drop)]
+pub struct Workspace {
+    /// The sides of the bodies of all rows.
+    pub pairs: Vec<Pair>,
+    /// The levels of the rows.
+    pub levels: Levels,
+    /// The rows, each as a lane holds it.
+    pub rows: Vec<LaneRow>,
+    /// The rows of each level side by side.
+    pub bundles: Vec<Bundle>,
+    /// The velocities of all bodies, and the accumulated impulses of all rows.
+    pub numbers: Numbers,
+}
+
+impl Debug for Workspace {
+    fn fmt<W: Write>(&self, formatter: &mut Formatter<W>) -> Result<(), Error> {
+        formatter.write_str("Workspace")
+    }
+}
+
+impl Workspace {
+    /// Without memory. Takes none.
+    pub fn new(alloc: Global) -> Workspace
+        ensures pairs { result.pairs.items ≡ [] }
+        ensures levels { result.levels ≡ no_levels }
+        ensures rows { result.rows.items ≡ [] }
+        ensures bundles { result.bundles.items ≡ [] }
+        ensures numbers { result.numbers ≡ no_numbers }
+    {
+        Workspace {
+            pairs: Vec::new(alloc),
+            levels: Levels::new(alloc),
+            rows: Vec::new(alloc),
+            bundles: Vec::new(alloc),
+            numbers: Numbers {
+                velocities: Vec::new(alloc),
+                impulses: Vec::new(alloc),
+            },
+        }
+    }
+}

@@ -1,0 +1,201 @@
+//! Rows in lanes, by hand.
+
+ghost use Rattle.std.specs.Prelude.{◌≡◌, ◌<◌, ◌≤ℤ◌, All, IsTrue, pos};
+
+use pf_bundles::limits::NUMBER_LIMIT;
+use pf_bundles::{Bundle, LaneRow, Seat, WholeImpulses, WholeVelocity, laws, load_bundles};
+use pf_lanes::Lanes;
+use pf_levels::{Level, Levels, Pair};
+use pf_manifold::{ContactPoint, Touch};
+use pf_num::Fx;
+use pf_rot::V2;
+use pf_rows::{Constraint, Entry, Impulses, InverseMass, Prepared, Row, Side};
+use std::test::Fail;
+
+/// A row of a static body and a dynamic one, with arms of this length and this bias.
+fn row(arm: Fx, bias: Fx) -> Row {
+    let mass = InverseMass {
+        inverse_mass: Fx::ONE,
+        inverse_inertia: Fx::TICK,
+    };
+    let normal = V2 {
+        x: Fx::ONE,
+        y: Fx::ZERO,
+    };
+    let arm = V2 {
+        x: Fx::ZERO,
+        y: arm,
+    };
+    let constraint = Constraint {
+        normal,
+        tangent: normal,
+        first_arm: arm,
+        second_arm: arm,
+        bias,
+        ..Constraint::NONE
+    };
+    Row {
+        entry: entry(normal),
+        prepared: Prepared::new(mass, mass, constraint),
+    }
+}
+
+/// An entry of a static body and a dynamic one.
+fn entry(normal: V2) -> Entry {
+    let point = ContactPoint {
+        feature: 0,
+        position: V2::ZERO,
+        normal,
+        separation: Fx::ZERO,
+    };
+    Entry {
+        touch: Touch { a: 0, b: 1, point },
+        impulses: Impulses {
+            normal: Fx::ZERO,
+            tangent: Fx::ZERO,
+        },
+        place: 0,
+        first: Side::Static,
+        second: Side::Dynamic(0),
+    }
+}
+
+/// Whether it is such a row without the mass and the arm of the static body.
+fn is_held(held: &Prepared, arm: Fx, bias: Fx) -> bool {
+    let constraint = held.constraint();
+    held.first_mass().inverse_mass == Fx::ZERO
+        && held.first_mass().inverse_inertia == Fx::ZERO
+        && held.second_mass().inverse_mass == Fx::ONE
+        && held.second_mass().inverse_inertia == Fx::TICK
+        && constraint.first_arm == V2::ZERO
+        && constraint.second_arm.y == arm
+        && constraint.normal.x == Fx::ONE
+        && constraint.bias == bias
+}
+
+#[test]
+fn a_lane_holds_a_row(rt: HostRuntime) {
+    let held = LaneRow::of(&row(Fx::ONE, Fx::TICK));
+    assert!(rt; held.is_some_and(|lane| is_held(&lane.prepared(), Fx::ONE, Fx::TICK)));
+    assert!(rt; LaneRow::of(&row(Fx::ONE, Fx::MAX)).is_none());
+    assert!(rt; LaneRow::of(&row(Fx::MAX, Fx::ONE)).is_none());
+    let none = LaneRow::none().prepared();
+    assert!(rt; none.second_mass().inverse_mass == Fx::ZERO);
+    laws::named_limits();
+}
+
+/// A row of a static body and this one.
+fn ground(second: usize) -> Pair
+    ensures { result ≡ record { first = Side.Static; second = Side.Dynamic second } }
+{
+    Pair {
+        first: Side::Static,
+        second: Side::Dynamic(second),
+    }
+}
+
+/// The raw numbers in lanes.
+fn raw(lanes: Lanes) -> [i64; 4] {
+    let [first, second, third, fourth] = lanes.parts();
+    [first.raw(), second.raw(), third.raw(), fourth.raw()]
+}
+
+/// Such a row in a lane.
+fn lane(arm: Fx, bias: Fx) -> LaneRow {
+    LaneRow::of(&row(arm, bias)).unwrap_or(LaneRow::none())
+}
+
+/// The limit of a lane of a row with arms of this whole length.
+fn limit(length: i64) -> Option<i64>
+    requires below { length ≤ℤ pos 99 }
+    requires above { pos 1 ≤ℤ length }
+{
+    let lane = lane(Fx::from_raw(length << 24)?, Fx::ONE);
+    let bundle = Bundle::of(&[0], &[ground(0)], &[lane]);
+    Some(raw(bundle.prepared().limit())[0])
+}
+
+#[test]
+fn limits_fall_with_long_arms(rt: HostRuntime) {
+    for (length, expected) in [
+        (1, 1 << 28),
+        (2, 1 << 26),
+        (7, 1 << 26),
+        (8, 1 << 24),
+        (31, 1 << 24),
+        (32, -1),
+    ] {
+        assert_eq!(rt; limit(length), Some(expected), "at {length}");
+    }
+}
+
+/// Whether it is the seat of a row at this place, of a static body and this one.
+fn is_seat(seat: &Seat, place: usize, body: usize) -> bool {
+    let is_static = matches!(seat.first, Side::Static);
+    let is_body = matches!(seat.second, Side::Dynamic(second) if second == body);
+    seat.place == place && is_static && is_body
+}
+
+#[test]
+fn a_bundle_holds_the_rows_of_a_level(rt: HostRuntime) {
+    let rows = [lane(Fx::ONE, Fx::ONE), lane(Fx::ONE, Fx::TICK)];
+    let bundle = Bundle::of(&[1, 0], &[ground(8), ground(9)], &rows);
+    assert_eq!(rt;
+        raw(bundle.prepared().constraint().bias),
+        [1 << 18, 1 << 24, 0, 0]
+    );
+    assert!(rt; matches!(bundle.seats(), [a, b] if is_seat(a, 1, 9) && is_seat(b, 0, 8)));
+}
+
+#[test]
+fn numbers_come_back(rt: HostRuntime) {
+    let velocity = V2 {
+        x: Fx::TICK,
+        y: Fx::ONE,
+    };
+    let whole = WholeVelocity::of(velocity, Fx::TICK, NUMBER_LIMIT);
+    assert!(rt; whole.is_some_and(|v| v.velocity() == velocity && v.spin() == Fx::TICK));
+    assert!(rt; WholeVelocity::of(velocity, Fx::TICK, 1 << 23).is_none());
+    assert!(rt; WholeVelocity::of(velocity, Fx::MAX, NUMBER_LIMIT).is_none());
+    let impulses = Impulses {
+        normal: Fx::ONE,
+        tangent: Fx::TICK,
+    };
+    let whole = WholeImpulses::of(&impulses, NUMBER_LIMIT);
+    assert!(rt; whole.is_some_and(|p| p.impulses() == impulses));
+    assert!(rt; WholeImpulses::of(&impulses, 1 << 23).is_none());
+}
+
+/// Whether the places of all levels are below this.
+fn are_below(levels: &[Level], count: usize) -> bool
+    ensures { IsTrue result → All (All (λ p. p < count)) levels.now }
+{
+    levels
+        .iter()
+        .all(|level| level.places().iter().all(|place| *place < count))
+}
+
+/// Whether the bundles have so many rows.
+fn have(bundles: &[Bundle], counts: &[usize]) -> bool {
+    bundles.len() == counts.len()
+        && bundles
+            .iter()
+            .zip(counts.iter())
+            .all(|(bundle, count)| bundle.seats().len() == *count)
+}
+
+#[test]
+fn each_level_has_a_bundle(rt: HostRuntime) -> Result<(), Fail> {
+    let pairs = [ground(0), ground(1), ground(2), ground(3), ground(4)];
+    let rows = [lane(Fx::ONE, Fx::ONE); 5];
+    let mut levels = Levels::new(rt.alloc());
+    levels.update(&pairs, 5)?;
+    let levels = levels.levels();
+    assert!(rt; are_below(levels, 5));
+    let mut bundles = Vec::new(rt.alloc());
+    load_bundles(&mut bundles, levels, &pairs, &rows)?;
+    assert!(rt; have(&bundles, &[4, 1]));
+    load_bundles(&mut bundles, &[], &pairs, &rows)?;
+    assert!(rt; have(&bundles, &[]));
+    Ok(())
+}
