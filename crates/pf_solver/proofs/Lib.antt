@@ -14,3 +14,4 @@ pub mod Reorder
 pub mod Levels
 pub mod AfterTick
 pub mod Beside
+pub mod Tick

@@ -67,7 +67,7 @@ module _ (a b : V2) (body : Motion) (fits : IsArmFor body b a) where
 
 -- the same for the constraint of a contact with other arms
 module _ (c : Constraint) (a b : V2) where
-  abbrev other : Constraint
+  abbrev pub other : Constraint
   other = record c { first_arm = a; second_arm = b }
 
   module _ (m : ContactState) (first : IsArmFor m.first c.first_arm a) (second : IsArmFor m.second c.second_arm b) where
@@ -109,13 +109,13 @@ module _ (c : Constraint) (a b : V2) where
         (impulse_same _)
 
   -- one warm start
-  warm_start_same : (m : ContactState) → IsArmFor m.first c.first_arm a → IsArmFor m.second c.second_arm b
+  pub warm_start_same : (m : ContactState) → IsArmFor m.first c.first_arm a → IsArmFor m.second c.second_arm b
       → after_warm_start other m ≡ after_warm_start c m
   unfolding after_warm_start
   warm_start_same m first second = impulse_same m first second _
 
   -- one round
-  round_same : (m : ContactState) → IsArmFor m.first c.first_arm a → IsArmFor m.second c.second_arm b
+  pub round_same : (m : ContactState) → IsArmFor m.first c.first_arm a → IsArmFor m.second c.second_arm b
       → after_round other m ≡ after_round c m
   unfolding after_round after_normal_step after_impulse
   round_same m first second =

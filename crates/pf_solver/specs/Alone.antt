@@ -8,8 +8,9 @@ use Rattle.pf_islands.specs.Island.{rows_among, states_of}
 use Rattle.pf_islands.specs.Sleep.{at_sleep, island_after_sleep}
 use Rattle.pf_islands.specs.Split.{Island}
 use Rattle.pf_solver.specs.declared.bodies.TheConstants.{STILL_TICKS}
-use Rattle.pf_solver.specs.Bodies.{after_gravity, after_motion, after_timer}
-use Rattle.pf_solver.specs.Solve.{solved_batch}
+use Rattle.pf_solver.specs.Beside.{velocities_of}
+use Rattle.pf_solver.specs.Bodies.{after_gravity, after_motion, after_timer, each_awake}
+use Rattle.pf_solver.specs.Solve.{prepared_batch, solved_batch}
 use Rattle.pf_solver.specs.Velocities.{Batch}
 
 -- an island after a tick of its own: its bodies are solved with no other contacts than its own, and
@@ -18,6 +19,28 @@ abbrev pub island_after_tick : Scene → Island → Island
 island_after_tick s i =
     let after = solved_batch s i.bodies i.rows in
     record i { bodies = island_after_sleep STILL_TICKS after.bodies; rows = after.rows }
+
+-- the bodies and the rows of an island
+abbrev pub batch_in : Island → Batch
+batch_in i = record { bodies = i.bodies; rows = i.rows }
+
+-- the island with the bodies and the rows of a batch
+abbrev pub island_with : Batch → Island → Island
+island_with b i = record i { bodies = b.bodies; rows = b.rows }
+
+-- an island before the rounds of its tick: after gravity and the pre-step
+abbrev pub prepared_island : Scene → Island → Island
+prepared_island s i = island_with (prepared_batch s i.bodies i.rows) i
+
+-- an island after its rounds
+abbrev pub island_after_rounds : Island → Island
+island_after_rounds i = island_with (velocities_of (batch_in i)) i
+
+-- an island at the end of its tick: the phases Positions, Timers and Sleep
+unfoldable pub island_at_end : Island → Island
+island_at_end i = record i {
+  bodies = island_after_sleep STILL_TICKS (each_awake (λ b. after_timer (after_motion b)) i.bodies);
+}
 
 -- the part of a batch that belongs to the island of these bodies
 abbrev pub seen_from : List ℕ → Batch → Batch

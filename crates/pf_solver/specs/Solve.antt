@@ -45,6 +45,12 @@ prepared_row s bodies r =
       constraint = constraint_of a b r.entry.touch.point;
     }
 
+-- Gravity and the pre-step: the batch that the rounds begin with
+unfoldable pub prepared_batch : Scene → List BodyState → List Row → Batch
+prepared_batch s bodies rows =
+    let fallen = each_awake (after_gravity (gravity_per_tick s.gravity)) bodies in
+    record { bodies = fallen; rows = map (prepared_row s fallen) rows }
+
 -- Velocities: gravity, the pre-step, warm starting along the list, and the rounds
 abbrev pub solved_velocities : Scene → List BodyState → List Row → Batch
 solved_velocities s bodies rows =

@@ -1,21 +1,54 @@
 //! Islands, each solved alone.
 
-ghost use Rattle.std.specs.Prelude.{◌≡◌};
+ghost use Rattle.std.specs.Prelude.{◌≡◌, All, length};
 ghost use Rattle.pf_islands.specs.Split.{IsIslandOf};
-ghost use Rattle.pf_solver.specs.Alone.{island_after_tick};
+ghost use Rattle.pf_rows.specs.Row.{IsEntryOf};
+ghost use Rattle.pf_solver.specs.Alone.{island_after_rounds, island_after_tick, island_at_end, prepared_island};
 
 use crate::bodies::STILL_TICKS;
-use crate::solve::solve_list;
+use crate::solve::{move_on, prepare_list, solve_list};
 use pf_islands::{Island, rest_alone};
 use pf_shapes::Scene;
+
+/// The phases of an island before its rounds: Gravity, and the pre-step of its rows. Takes no
+/// memory.
+#[inline]
+pub fn prepare_island(scene: &Scene, island: &mut Island)
+    requires { IsIslandOf scene.now island.old }
+    ensures value { island.new ≡ prepared_island scene.now island.old }
+    ensures rows { All (λ r. IsEntryOf (length island.new.bodies) r.entry) island.new.rows }
+{
+    prepare_list(scene, island.bodies.as_mut_slice(), &mut island.rows);
+}
+
+/// The rounds of an island, row by row. Takes no memory.
+#[inline]
+pub fn solve_rounds(island: &mut Island)
+    requires { All (λ r. IsEntryOf (length island.old.bodies) r.entry) island.old.rows }
+    ensures { island.new ≡ island_after_rounds island.old }
+{
+    solve_list(island.bodies.as_mut_slice(), &mut island.rows);
+}
+
+/// The phases of an island after its rounds: Positions, Timers and Sleep. Takes no memory.
+#[inline]
+#[tactic(auto, unfolding(crate::specs::Alone::island_at_end))]
+pub fn finish_island(island: &mut Island)
+    ensures { island.new ≡ island_at_end island.old }
+{
+    move_on(island.bodies.as_mut_slice());
+    rest_alone(island.bodies.as_mut_slice(), STILL_TICKS);
+}
 
 /// Takes an island through a tick of 1/64 s, with nothing but the scene beside it: the phases
 /// Gravity to Sleep, as Box2D 2.x's `b2Island::Solve`. Takes no memory.
 #[inline]
+#[tactic(auto, using(crate::proofs::Tick::tick_in_parts))]
 pub fn solve_island(scene: &Scene, island: &mut Island)
     requires { IsIslandOf scene.now island.old }
     ensures { island.new ≡ island_after_tick scene.now island.old }
 {
-    solve_list(scene, island.bodies.as_mut_slice(), &mut island.rows);
-    rest_alone(island.bodies.as_mut_slice(), STILL_TICKS);
+    prepare_island(scene, island);
+    solve_rounds(island);
+    finish_island(island);
 }

@@ -13,6 +13,7 @@ mod velocities;
 
 pub use bodies::{STILL_SPEED, STILL_SPIN, STILL_TICKS, after_gravity, after_motion, after_timer};
 pub use constraint::{BIAS_FACTOR, SLOP};
-pub use island::solve_island;
+pub use impulse::{ContactState, Motion};
+pub use island::{finish_island, prepare_island, solve_island, solve_rounds};
 pub use solve::solve_untouched;
-pub use velocities::ROUNDS;
+pub use velocities::{ContactStep, ROUNDS, Round, WarmStart};

@@ -1,11 +1,12 @@
-//! The phases Gravity to Timers of a list of bodies with the contacts between them, and all phases
-//! of bodies that no contact touches.
+//! The parts of a tick of a list of bodies with the contacts between them: before the rounds, the
+//! rounds, and after them; and all phases of bodies that no contact touches.
 
 ghost use Rattle.std.specs.Prelude.{◌≡◌, ◌<◌, All, if◌then◌else◌, length, map};
-ghost use Rattle.pf_rows.specs.Row.{IsSide};
+ghost use Rattle.pf_rows.specs.Row.{IsEntryOf, IsSide};
 ghost use Rattle.pf_solver.specs.Alone.{body_after_tick};
+ghost use Rattle.pf_solver.specs.Beside.{velocities_of};
 ghost use Rattle.pf_solver.specs.Bodies.{after_gravity, after_motion, after_timer, each_awake, gravity_per_tick};
-ghost use Rattle.pf_solver.specs.Solve.{pre_step_body, mass_of, prepared_row, solved_batch};
+ghost use Rattle.pf_solver.specs.Solve.{pre_step_body, mass_of, prepared_batch, prepared_row};
 ghost use Rattle.pf_islands.specs.Rows.{IsRowOf};
 
 use crate::bodies::{STILL_TICKS, after_gravity, after_motion, after_timer};
@@ -113,7 +114,8 @@ fn move_if_awake(body: &mut BodyState)
 }
 
 /// Positions and timers of the awake bodies.
-fn move_on(bodies: &mut [BodyState])
+#[inline(never)]
+pub(crate) fn move_on(bodies: &mut [BodyState])
     ensures { bodies.new ≡ each_awake (λ b. after_timer (after_motion b)) bodies.old }
 {
     for body in bodies.iter_mut() {
@@ -158,19 +160,28 @@ pub fn solve_untouched(scene: &Scene, bodies: &mut [BodyState])
     }
 }
 
-/// The phases Gravity to Timers: Gravity, Positions and Timers of the awake bodies, and Velocities
-/// of all bodies that rows name, in the order of the rows. All of a row but its entry is computed
+/// Gravity on the awake bodies, and the pre-step of all rows. All of a row but its entry is computed
 /// anew. Takes no memory.
 #[inline(never)]
-#[tactic(auto, unfolding(crate::specs::Solve::solved_batch))]
-pub(crate) fn solve_list(scene: &Scene, bodies: &mut [BodyState], rows: &mut [Row])
+#[tactic(auto, unfolding(crate::specs::Solve::prepared_batch))]
+pub(crate) fn prepare_list(scene: &Scene, bodies: &mut [BodyState], rows: &mut [Row])
     requires { All (IsRowOf scene.now (length bodies.old)) rows.old }
-    ensures { record { bodies = bodies.new; rows = rows.new }
-        ≡ solved_batch scene.now bodies.old rows.old }
+    ensures value { record { bodies = bodies.new; rows = rows.new }
+        ≡ prepared_batch scene.now bodies.old rows.old }
+    ensures rows { All (λ r. IsEntryOf (length bodies.new) r.entry) rows.new }
 {
     fall(scene.gravity().scale(Fx::TICK), bodies);
     prepare_all(scene, bodies, rows);
+}
+
+/// Velocities of all bodies that rows name, in the order of the rows: warm starting, and the rounds.
+/// Takes no memory.
+#[inline(never)]
+pub(crate) fn solve_list(bodies: &mut [BodyState], rows: &mut [Row])
+    requires { All (λ r. IsEntryOf (length bodies.old) r.entry) rows.old }
+    ensures { record { bodies = bodies.new; rows = rows.new }
+        ≡ velocities_of (record { bodies = bodies.old; rows = rows.old }) }
+{
     warm_start(bodies, rows);
     rounds(bodies, rows);
-    move_on(bodies);
 }

@@ -17,7 +17,7 @@ use pf_shapes::BodyState;
 pub const ROUNDS: usize = 10;
 
 /// What a contact does in one pass: a warm start, or one round.
-trait ContactStep {
+pub trait ContactStep {
     ghost step: { Constraint → ContactState → ContactState };
 
     /// What the contact does to its bodies and to its accumulated impulses.
@@ -32,7 +32,7 @@ trait ContactStep {
 }
 
 /// Warm starting.
-struct WarmStart;
+pub struct WarmStart;
 
 impl ContactStep for WarmStart {
     ghost use Rattle.pf_solver.specs.Impulse.{after_warm_start};
@@ -51,7 +51,7 @@ impl ContactStep for WarmStart {
 }
 
 /// One round.
-struct Round;
+pub struct Round;
 
 impl ContactStep for Round {
     ghost use Rattle.pf_solver.specs.Impulse.{after_round};
