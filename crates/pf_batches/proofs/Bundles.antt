@@ -1,0 +1,198 @@
+-- Rows that lanes hold: their numbers, and what a step makes of them.
+use Rattle.std.proofs.Common.{◌≡◌, ◌∙◌, ℕ, zero, suc, ◌+◌, ◌<◌, ◌≤◌, length, length-set, take, ap₂, ◌∷◌, None, Option, Some, List, [], refl, sym, ap, subst, arith}
+use Rattle.std.proofs.lemmas.List.Elements.{All-cons, All-nil, All-head, All-set, All-tail, All-weaker}
+use Rattle.std.proofs.lemmas.Option.{none-some, same_Some}
+use Rattle.std.specs.Prelude.{All, IfSome, slice_get, slice_index_or}
+use Rattle.std.specs.Int.RustNames.{unsigned_abs}
+use Rattle.pf_lanes.specs.Lanes.{First, Fourth, Lane, Second, Third}
+use Rattle.pf_rows.specs.declared.row.Side.{Side}
+use Rattle.pf_rows.specs.declared.row.Side.TheVariants.{Dynamic, Static}
+use Rattle.pf_rows.specs.Impulses.{Impulses, no_impulses}
+use Rattle.pf_rows.specs.Row.{IsSide}
+use Rattle.pf_rows.specs.Small.{IsShort}
+use Rattle.pf_bundles.specs.Bundle.{Seat, lane_number}
+use Rattle.pf_bundles.specs.LaneRow.{lane_row_in}
+use Rattle.pf_bundles.specs.Numbers.{Numbers, Velocity, no_velocity}
+use Rattle.pf_bundles.specs.Prepared.{PreparedLanes, constraint_in}
+use Rattle.pf_solver.specs.Impulse.{ContactState}
+use Rattle.pf_solver.specs.Velocities.{Step}
+use Rattle.pf_batches.specs.Contact.{ContactLanes, IsWithin, SeatState, seat_state_in, state_in, state_of}
+use Rattle.pf_batches.specs.Limits.{AreGrown, AreWithin}
+use Rattle.pf_batches.specs.Numbers.{AreAllWithin, AreAsMany, IsSeatIn, lane_result, numbers_with, numbers_with_all, seat_state_from, seat_state_or, velocity_at, with_velocity}
+
+-- what a step makes of a contact in a lane is what it makes of the numbers of its row
+pub result_in : (step : Step) (p : PreparedLanes) (k : Lane) (before after : ContactLanes) (s : SeatState)
+    → state_in k p after ≡ step (constraint_in k p.constraint) (state_in k p before) → seat_state_in k before ≡ s
+    → seat_state_in k after ≡ lane_result step (lane_row_in k p) s
+result_in step p k before after s stepped read =
+    ap seat_state_from stepped
+    ∙ ap (λ (x : SeatState).
+    seat_state_from (step (constraint_in k p.constraint) (state_of (lane_row_in k p).first_mass (lane_row_in k p).second_mass x)))
+    read
+
+-- ---- how great the numbers of a row are
+
+-- what holds of each element, and of the default, holds of what is read at any place
+read_holds : {A : Type 0} (P : A → Type 0) (xs : List A) (i : ℕ) (d : A) → All P xs → P d → P (slice_index_or xs i d)
+read_holds P [] i d all here = here
+read_holds P (x ∷ xs) zero d all here = All-head P x xs all
+read_holds P (x ∷ xs) (suc i) d all here = read_holds P xs i d (All-tail P x xs all) here
+
+velocity_within : (most : ℕ) (velocities : List Velocity) (side : Side) → All (λ v. IsShort most v.velocity) velocities
+    → IsShort most (velocity_at velocities side).velocity
+velocity_within most velocities Static all = record { x = omega arith; y = omega arith }
+velocity_within most velocities (Dynamic place) all =
+    read_holds (λ (v : Velocity). IsShort most v.velocity) velocities place no_velocity all
+    (record { x = omega arith; y = omega arith })
+
+pub seat_within : (most : ℕ) (n : Numbers) (o : Option Seat) → AreAllWithin most n → IsWithin most (seat_state_or n o)
+seat_within most n None all = record {
+  first = record { x = omega arith; y = omega arith };
+  second = record { x = omega arith; y = omega arith };
+  normal = omega arith;
+  tangent = omega arith;
+}
+seat_within most n (Some seat) all =
+    let pulls = read_holds (λ (p : Impulses). (unsigned_abs p.normal ≤ most) × (unsigned_abs p.tangent ≤ most))
+    n.impulses seat.place no_impulses all.impulses (omega arith, omega arith) in
+    record {
+      first = velocity_within most n.velocities seat.first all.velocities;
+      second = velocity_within most n.velocities seat.second all.velocities;
+      normal = pulls.0;
+      tangent = pulls.1;
+    }
+
+-- so they are after a step that makes them greater by some number
+grown_within : (most by : ℕ) (p : PreparedLanes) (k : Lane) (before after : ContactLanes) (s : SeatState)
+    → seat_state_in k before ≡ s → IsWithin most s → AreGrown by (state_in k p before) (state_in k p after)
+    → IsWithin (most + by) (seat_state_in k after)
+grown_within most by p k before after s read within grown =
+    let h : IsWithin most (seat_state_in k before) = subst (IsWithin most) (sym read) within in
+    record {
+      first = record { x = omega (arith, h.first.x, grown.first.x); y = omega (arith, h.first.y, grown.first.y) };
+      second = record { x = omega (arith, h.second.x, grown.second.x); y = omega (arith, h.second.y, grown.second.y) };
+      normal = omega (arith, h.normal, grown.normal);
+      tangent = omega (arith, h.tangent, grown.tangent);
+    }
+
+pub all_grown_within : (most by : ℕ) (p : PreparedLanes) (n : Numbers) (seats : List Seat) (before : ContactLanes) (result : Option ContactLanes)
+    → AreAllWithin most n → ((k : Lane) → seat_state_in k before ≡ seat_state_or n (slice_get seats (lane_number k)))
+    → IfSome result (λ after. (k : Lane) → AreGrown by (state_in k p before) (state_in k p after))
+    → IfSome result (λ after. (k : Lane) → IsWithin (most + by) (seat_state_in k after))
+all_grown_within most by p n seats before None all read grown = grown
+all_grown_within most by p n seats before (Some after) all read grown = λ k.
+    let o = slice_get seats (lane_number k) in
+    grown_within most by p k before after (seat_state_or n o) (read k) (seat_within most n o all) (grown k)
+
+-- ---- rows that are stored one after the other
+
+-- the velocities stay as many
+velocities_stay : (velocities : List Velocity) (side : Side) (v : Velocity) → length (with_velocity velocities side v) ≡ length velocities
+velocities_stay velocities Static v = refl
+velocities_stay velocities (Dynamic place) v = length-set velocities place v
+
+-- so do all numbers where a row is stored
+pub many_stay : (seat : Seat) (s : SeatState) (n : Numbers) → AreAsMany n (numbers_with seat s n)
+many_stay seat s n = record {
+  velocities =
+      velocities_stay (with_velocity n.velocities seat.first s.first) seat.second s.second
+      ∙ velocities_stay n.velocities seat.first s.first;
+  impulses = length-set n.impulses seat.place s.impulses;
+}
+
+row_next : (seats : List Seat) (states : List SeatState) (n : Numbers) (k : ℕ) (d : Seat) (e : SeatState)
+    → k < length seats → k < length states
+    → numbers_with_all (take (suc k) seats) (take (suc k) states) n
+    ≡ numbers_with (slice_index_or seats k d) (slice_index_or states k e) (numbers_with_all (take k seats) (take k states) n)
+row_next [] states n k d e here there = absurd (omega (arith, here))
+row_next (x ∷ seats) [] n k d e here there = absurd (omega (arith, there))
+row_next (x ∷ seats) (y ∷ states) n zero d e here there = refl
+row_next (x ∷ seats) (y ∷ states) n (suc k) d e here there =
+    row_next seats states (numbers_with x y n) k d e (omega (arith, here)) (omega (arith, there))
+
+-- a row more
+pub row_more : (seats : List Seat) (states : List SeatState) (n now : Numbers) (k : ℕ) (seat : Seat) (s : SeatState)
+    → k < length seats → k < length states → seat ≡ slice_index_or seats k seat → s ≡ slice_index_or states k s
+    → now ≡ numbers_with_all (take k seats) (take k states) n
+    → numbers_with seat s now ≡ numbers_with_all (take (k + 1) seats) (take (k + 1) states) n
+row_more seats states n now k seat s here there seat_is s_is now_is =
+    let more : k + 1 ≡ suc k = omega arith in
+    ap (numbers_with seat s) now_is
+    ∙ ap₂ (λ x y. numbers_with x y (numbers_with_all (take k seats) (take k states) n)) seat_is s_is
+    ∙ sym (row_next seats states n k seat s here there)
+    ∙ ap (λ j. numbers_with_all (take j seats) (take j states) n) (sym more)
+
+-- all rows
+pub rows_whole : (seats : List Seat) (states : List SeatState) (n : Numbers) (k : ℕ) → length seats ≤ k → k ≤ length states
+    → numbers_with_all (take k seats) (take k states) n ≡ numbers_with_all seats states n
+rows_whole [] states n zero over within = refl
+rows_whole [] states n (suc k) over within = refl
+rows_whole (x ∷ seats) [] n zero over within = refl
+rows_whole (x ∷ seats) [] n (suc k) over within = absurd (omega (arith, within))
+rows_whole (x ∷ seats) (y ∷ states) n zero over within = absurd (omega (arith, over))
+rows_whole (x ∷ seats) (y ∷ states) n (suc k) over within =
+    rows_whole seats states (numbers_with x y n) k (omega (arith, over)) (omega (arith, within))
+
+-- numbers of a row are there as long as there are as many
+seat_stays : (before after : Numbers) (seat : Seat) → AreAsMany before after → IsSeatIn before seat → IsSeatIn after seat
+seat_stays before after seat many h = record {
+  place = omega (arith, many.impulses, h.place);
+  first = subst (λ count. IsSide count seat.first) (sym many.velocities) h.first;
+  second = subst (λ count. IsSide count seat.second) (sym many.velocities) h.second;
+}
+
+pub seats_stay : (before after : Numbers) (seats : List Seat) → AreAsMany before after → All (IsSeatIn before) seats
+    → All (IsSeatIn after) seats
+seats_stay before after seats many all = All-weaker (IsSeatIn before) (IsSeatIn after) (λ seat. seat_stays before after seat many) seats all
+
+-- ---- how great the numbers are where rows are stored
+
+velocities_within : (most : ℕ) (velocities : List Velocity) (side : Side) (v : Velocity) → All (λ v. IsShort most v.velocity) velocities
+    → IsShort most v.velocity → All (λ v. IsShort most v.velocity) (with_velocity velocities side v)
+velocities_within most velocities Static v all here = all
+velocities_within most velocities (Dynamic place) v all here =
+    All-set (λ (v : Velocity). IsShort most v.velocity) velocities place v here all
+
+row_within : (most : ℕ) (seat : Seat) (s : SeatState) (n : Numbers) → AreAllWithin most n → IsWithin most s
+    → AreAllWithin most (numbers_with seat s n)
+row_within most seat s n all here = record {
+  velocities =
+      velocities_within most (with_velocity n.velocities seat.first s.first) seat.second s.second
+      (velocities_within most n.velocities seat.first s.first all.velocities here.first) here.second;
+  impulses =
+      All-set (λ (p : Impulses). (unsigned_abs p.normal ≤ most) × (unsigned_abs p.tangent ≤ most)) n.impulses seat.place s.impulses
+      (here.normal, here.tangent) all.impulses;
+}
+
+pub rows_within : (most : ℕ) (seats : List Seat) (states : List SeatState) (n : Numbers) → AreAllWithin most n
+    → All (IsWithin most) states → AreAllWithin most (numbers_with_all seats states n)
+rows_within most [] states n all here = all
+rows_within most (seat ∷ seats) [] n all here = all
+rows_within most (seat ∷ seats) (s ∷ states) n all here =
+    rows_within most seats states (numbers_with seat s n)
+    (row_within most seat s n all (All-head (IsWithin most) s states here)) (All-tail (IsWithin most) s states here)
+
+-- a greater limit
+pub all_within_more : (most more : ℕ) (n : Numbers) → most ≤ more → AreAllWithin most n → AreAllWithin more n
+all_within_more most more n h all = record {
+  velocities =
+      All-weaker (λ (v : Velocity). IsShort most v.velocity) (λ (v : Velocity). IsShort more v.velocity)
+      (λ v short. record { x = omega (arith, h, short.x); y = omega (arith, h, short.y) }) n.velocities all.velocities;
+  impulses =
+      All-weaker (λ (p : Impulses). (unsigned_abs p.normal ≤ most) × (unsigned_abs p.tangent ≤ most))
+      (λ (p : Impulses). (unsigned_abs p.normal ≤ more) × (unsigned_abs p.tangent ≤ more))
+      (λ p short. (omega (arith, h, short.0), omega (arith, h, short.1))) n.impulses all.impulses;
+}
+
+-- the states of four lanes
+pub states_within : (most : ℕ) (after : ContactLanes) → ((k : Lane) → IsWithin most (seat_state_in k after))
+    → All (IsWithin most) (seat_state_in First after ∷ seat_state_in Second after ∷ seat_state_in Third after ∷ seat_state_in Fourth after ∷ [])
+states_within most after each =
+    let first = seat_state_in First after in
+    let second = seat_state_in Second after in
+    let third = seat_state_in Third after in
+    let fourth = seat_state_in Fourth after in
+    All-cons (IsWithin most) first (second ∷ third ∷ fourth ∷ []) (each First)
+    (All-cons (IsWithin most) second (third ∷ fourth ∷ []) (each Second)
+    (All-cons (IsWithin most) third (fourth ∷ []) (each Third)
+    (All-cons (IsWithin most) fourth [] (each Fourth) (All-nil (IsWithin most)))))

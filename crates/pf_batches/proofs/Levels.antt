@@ -1,0 +1,307 @@
+-- Levels that are solved on the numbers of a batch are solved as those of the batch.
+use Rattle.std.proofs.Common.{◌≡◌, ◌∙◌, ℕ, zero, suc, ◌+◌, ◌<◌, ◌≤◌, None, Option, Some, List, [], ◌∷◌, get_or, length, map, take, refl, sym, ap, subst, arith}
+use Rattle.std.proofs.lemmas.List.{length-map, take_all, take_more}
+use Rattle.std.proofs.lemmas.List.Elements.{All-cons, All-head, All-nil, All-tail}
+use Rattle.std.proofs.lemmas.List.Sums.{fold-append}
+use Rattle.std.proofs.lemmas.Option.{slice_get-get_or}
+use Rattle.std.specs.List.{concat, fold, range_with_len}
+use Rattle.std.specs.Prelude.{All, slice_get, slice_index_or, slice_set}
+use Rattle.pf_rows.specs.Row.{Row}
+use Rattle.pf_levels.proofs.Places.{All-left, All-reordering, All-right}
+use Rattle.pf_levels.specs.Levels.{AreLevels, pair_of}
+use Rattle.pf_solver.specs.declared.velocities.TheConstants.{ROUNDS}
+use Rattle.pf_solver.specs.Beside.{velocities_of}
+use Rattle.pf_solver.specs.Impulse.{ContactState, after_round, after_warm_start}
+use Rattle.pf_solver.specs.Order.{AreLevelsOf, passes_in_levels, solved_at_once, stored_where}
+use Rattle.pf_solver.specs.Velocities.{Batch, Step, bodies_with, pass, passes, row_with}
+use Rattle.pf_solver.proofs.Levels.{passes_by_levels}
+use Rattle.pf_solver.proofs.Passes.{passes_more, passes_none}
+use Rattle.pf_batches.specs.Numbers.{AreAfter, AreNumbersOf, AreResults, AreRowsAt, batch_with, numbers_after, numbers_after_all, numbers_at_once, numbers_in_levels, numbers_of, numbers_where, result_at, seat_of, seats_of, solved_by_levels}
+use Rattle.pf_bundles.specs.Numbers.{Numbers}
+use Rattle.pf_bundles.specs.Bundle.{Seat}
+use Rattle.pf_batches.proofs.Numbers.{fit_after, impulses_none, numbers_back, own_numbers, pairs_loaded, row_read, row_stored, state_read}
+
+-- ---- rows and results by their places in the level
+
+-- rows stand at places if each one does
+pub rows_from_each : (rows : List Row) (places : List ℕ) (found : List Row) → length found ≡ length places
+    → ((k p : ℕ) (r : Row) → slice_get places k ≡ Some p → slice_get found k ≡ Some r → slice_get rows p ≡ Some r)
+    → AreRowsAt rows places found
+rows_from_each rows [] [] long each = refl
+rows_from_each rows [] (r ∷ found) long each = absurd (omega (arith, long))
+rows_from_each rows (p ∷ places) [] long each = absurd (omega (arith, long))
+rows_from_each rows (p ∷ places) (r ∷ found) long each = (
+  each 0 p r refl refl,
+  rows_from_each rows places found (omega (arith, long)) (λ k q x place row. each (suc k) q x place row),
+)
+
+-- what a step makes of rows is what it makes of each
+pub results_from_each : (step : Step) (n : Numbers) (places : List ℕ) (found : List Row) (states : List ContactState)
+    → length found ≡ length places → length states ≡ length places
+    → ((k p : ℕ) (r : Row) (m : ContactState) → slice_get places k ≡ Some p → slice_get found k ≡ Some r
+    → slice_get states k ≡ Some m → m ≡ result_at step n p r)
+    → AreResults step n places found states
+results_from_each step n [] found [] long many each = refl
+results_from_each step n [] found (m ∷ states) long many each = absurd (omega (arith, many))
+results_from_each step n (p ∷ places) [] states long many each = absurd (omega (arith, long))
+results_from_each step n (p ∷ places) (r ∷ found) [] long many each = absurd (omega (arith, many))
+results_from_each step n (p ∷ places) (r ∷ found) (m ∷ states) long many each = (
+  each 0 p r m refl refl refl,
+  results_from_each step n places found states (omega (arith, long)) (omega (arith, many))
+      (λ k q x s place row state. each (suc k) q x s place row state),
+)
+
+-- places below the number of rows have the rows that are read there
+pub rows_at_places : (rows : List Row) (places : List ℕ) (d : Row) → All (λ p. p < length rows) places
+    → AreRowsAt rows places (map (λ p. slice_index_or rows p d) places)
+rows_at_places rows [] d within = refl
+rows_at_places rows (p ∷ places) d within = (
+  slice_get-get_or rows p d (All-head (λ x. x < length rows) p places within),
+  rows_at_places rows places d (All-tail (λ x. x < length rows) p places within),
+)
+
+-- places of a range are below its end
+below_end : (n k : ℕ) → All (λ p. p < k + n) (range_with_len k n)
+below_end zero k = All-nil (λ p. p < k + zero)
+below_end (suc n) k =
+    let same : k + 1 + n ≡ k + suc n = omega arith in
+    All-cons (λ p. p < k + suc n) k (range_with_len (k + 1) n) (omega arith)
+    (subst (λ end. All (λ p. p < end) (range_with_len (k + 1) n)) same (below_end n (k + 1)))
+
+-- what holds of all places of some levels holds of those of each level
+all_of_levels : (P : ℕ → Type 0) (levels : List (List ℕ)) → All P (concat levels) → All (All P) levels
+all_of_levels P [] all = All-nil (All P)
+all_of_levels P (g ∷ levels) all =
+    All-cons (All P) g levels (All-left P g (concat levels) all)
+    (all_of_levels P levels (All-right P g (concat levels) all))
+
+-- the places of a level of a batch are below the number of its rows
+pub places_within : (b : Batch) (levels : List (List ℕ)) (i : ℕ) (level : List ℕ) → AreLevelsOf b levels
+    → i < length levels → level ≡ slice_index_or levels i level → All (λ p. p < length b.rows) level
+places_within b levels i level of within at =
+    let P : ℕ → Type 0 = λ p. p < length b.rows in
+    let n = length (map pair_of b.rows) in
+    let long : n ≡ length b.rows = length-map b.rows pair_of in
+    let below : All P (range_with_len 0 n) =
+    subst (λ end. All (λ p. p < end) (range_with_len 0 n)) (omega (arith, long)) (below_end n 0) in
+    subst (All P) (sym at)
+    (all_of_levels P levels (All-reordering P (range_with_len 0 n) (concat levels) of.order.all below) i level within)
+
+-- after one more row is stored
+stored_next : (seats : List Seat) (states : List ContactState) (n : Numbers) (k : ℕ) (seat : Seat) (m : ContactState)
+    → slice_get seats k ≡ Some seat → slice_get states k ≡ Some m
+    → numbers_after_all (take (suc k) seats) (take (suc k) states) n
+    ≡ numbers_after seat m (numbers_after_all (take k seats) (take k states) n)
+stored_next [] states n k seat m here there = absurd cc
+stored_next (s ∷ seats) [] n k seat m here there = absurd cc
+stored_next (s ∷ seats) (x ∷ states) n zero seat m here there =
+    let same_seat : s ≡ seat = cc in
+    let same_state : x ≡ m = cc in
+    ap (λ y. numbers_after y x n) same_seat ∙ ap (λ y. numbers_after seat y n) same_state
+stored_next (s ∷ seats) (x ∷ states) n (suc k) seat m here there =
+    stored_next seats states (numbers_after s x n) k seat m here there
+
+-- a step of a loop that stores rows one after the other
+pub stored_more : (seats : List Seat) (states : List ContactState) (n : Numbers) (k : ℕ) (seat : Seat) (m : ContactState)
+    → slice_get seats k ≡ Some seat → slice_get states k ≡ Some m
+    → numbers_after_all (take (k + 1) seats) (take (k + 1) states) n
+    ≡ numbers_after seat m (numbers_after_all (take k seats) (take k states) n)
+stored_more seats states n k seat m here there =
+    let more : k + 1 ≡ suc k = omega arith in
+    ap (λ j. numbers_after_all (take j seats) (take j states) n) more ∙ stored_next seats states n k seat m here there
+
+-- ---- one level
+
+module _ (step : Step) (b : Batch) where
+  module _ (n : Numbers) (fit : AreNumbersOf b n) where
+    -- one row of a level is stored in the numbers as in the batch
+    stored_as_row : (now : Numbers) (p : ℕ) (o : Option Row) → AreNumbersOf b now → slice_get b.rows p ≡ o
+        → batch_with (numbers_where step n now p o) b
+        ≡ stored_where step (batch_with n b).bodies (batch_with now b) p (slice_get (batch_with n b).rows p)
+    stored_as_row now p None still at =
+        ap (stored_where step (batch_with n b).bodies (batch_with now b) p) (sym (impulses_none n.impulses b.rows p at))
+    stored_as_row now p (Some r) still at =
+        let then = batch_with now b in
+        row_stored b now still p r (result_at step n p r) at
+        ∙ ap
+        (λ (s : ContactState).
+        record {
+          bodies = bodies_with (step r.constraint s) then.bodies r;
+          rows = slice_set then.rows p (row_with (step r.constraint s) r);
+        })
+        (sym (state_read b n fit p r))
+        ∙ ap (stored_where step (batch_with n b).bodies then p) (sym (row_read b n fit p r at))
+
+    -- there are still as many numbers
+    fit_where : (now : Numbers) (p : ℕ) (o : Option Row) → AreNumbersOf b now → AreNumbersOf b (numbers_where step n now p o)
+    fit_where now p None still = still
+    fit_where now p (Some r) still = fit_after b now still (seat_of p r) (result_at step n p r)
+
+    -- and so after the rest of the level
+    stored_as_level : (level : List ℕ) (now : Numbers) → AreNumbersOf b now
+        → batch_with (fold (λ now p. numbers_where step n now p (slice_get b.rows p)) now level) b
+        ≡ fold (λ now p. stored_where step (batch_with n b).bodies now p (slice_get (batch_with n b).rows p))
+        (batch_with now b) level
+    stored_as_level [] now still = refl
+    stored_as_level (p ∷ level) now still =
+        let o = slice_get b.rows p in
+        stored_as_level level (numbers_where step n now p o) (fit_where now p o still)
+        ∙ ap
+        (λ x. fold (λ (x : Batch) q. stored_where step (batch_with n b).bodies x q (slice_get (batch_with n b).rows q)) x level)
+        (stored_as_row now p o still refl)
+
+    -- and so along a level
+    fit_along : (level : List ℕ) (now : Numbers) → AreNumbersOf b now
+        → AreNumbersOf b (fold (λ now p. numbers_where step n now p (slice_get b.rows p)) now level)
+    fit_along [] now still = still
+    fit_along (p ∷ level) now still =
+        let o = slice_get b.rows p in fit_along level (numbers_where step n now p o) (fit_where now p o still)
+
+    -- what became of the rows of a level is stored one after the other
+    stored_along : (level : List ℕ) (found : List Row) (states : List ContactState) (now : Numbers)
+        → AreRowsAt b.rows level found → AreResults step n level found states
+        → numbers_after_all (seats_of level found) states now
+        ≡ fold (λ now p. numbers_where step n now p (slice_get b.rows p)) now level
+    stored_along [] found states now rows results = refl
+    stored_along (p ∷ level) [] states now rows results = absurd rows
+    stored_along (p ∷ level) (r ∷ found) [] now rows results = absurd results
+    stored_along (p ∷ level) (r ∷ found) (m ∷ states) now rows results =
+        let next = λ (o : Option Row). numbers_where step n now p o in
+        stored_along level found states (numbers_after (seat_of p r) m now) rows.1 results.1
+        ∙ ap (λ x. fold (λ now q. numbers_where step n now q (slice_get b.rows q)) (numbers_after (seat_of p r) x now) level) results.0
+        ∙ ap (λ o. fold (λ now q. numbers_where step n now q (slice_get b.rows q)) (next o) level) (sym rows.0)
+
+    -- a level that is solved at once on the numbers is solved at once in the batch
+    pub level_on_numbers : (level : List ℕ)
+        → batch_with (numbers_at_once level step b.rows n) b ≡ solved_at_once level step (batch_with n b)
+    level_on_numbers level = stored_as_level level n fit
+
+    -- there are still as many numbers after a level
+    pub fit_at_once : (level : List ℕ) → AreNumbersOf b (numbers_at_once level step b.rows n)
+    fit_at_once level = fit_along level n fit
+
+    module _ (level : List ℕ) (found : List Row) (states : List ContactState) (rows : AreRowsAt b.rows level found)
+        (results : AreResults step n level found states) where
+      -- what became of the rows of a level, stored one after the other, is the level at once
+      pub results_at_once : numbers_after_all (seats_of level found) states n ≡ numbers_at_once level step b.rows n
+      results_at_once = stored_along level found states n rows results
+
+      -- a batch with the results of a level is the batch with the level solved at once
+      pub level_stored : batch_with (numbers_after_all (seats_of level found) states n) b
+          ≡ solved_at_once level step (batch_with n b)
+      level_stored = ap (λ x. batch_with x b) results_at_once ∙ level_on_numbers level
+
+      -- there are still as many numbers after the results of a level
+      pub fit_after_all : AreNumbersOf b (numbers_after_all (seats_of level found) states n)
+      fit_after_all = subst (AreNumbersOf b) (sym results_at_once) (fit_at_once level)
+
+-- ---- levels one after the other
+
+module _ (step : Step) (b : Batch) (levels : List (List ℕ)) where
+  -- levels one after the other on the numbers are those of the batch
+  levels_on_numbers : (some : List (List ℕ)) (n : Numbers) → AreNumbersOf b n
+      → batch_with (fold (λ now level. numbers_at_once level step b.rows now) n some) b
+      ≡ solved_by_levels some step (batch_with n b)
+  levels_on_numbers [] n fit = refl
+  levels_on_numbers (g ∷ some) n fit =
+      levels_on_numbers some (numbers_at_once g step b.rows n) (fit_at_once step b n fit g)
+      ∙ ap (solved_by_levels some step) (level_on_numbers step b n fit g)
+
+  -- there are still as many numbers
+  fit_by_levels : (some : List (List ℕ)) (n : Numbers) → AreNumbersOf b n
+      → AreNumbersOf b (fold (λ now level. numbers_at_once level step b.rows now) n some)
+  fit_by_levels [] n fit = fit
+  fit_by_levels (g ∷ some) n fit = fit_by_levels some (numbers_at_once g step b.rows n) (fit_at_once step b n fit g)
+
+  -- one level more
+  solved_more : (x : Batch) (i : ℕ) (d : List ℕ) → i < length levels
+      → solved_by_levels (take (i + 1) levels) step x
+      ≡ solved_at_once (slice_index_or levels i d) step (solved_by_levels (take i levels) step x)
+  solved_more x i d within =
+      let f = λ (now : Batch) (level : List ℕ). solved_at_once level step now in
+      ap (fold f x) (take_more levels i d within) ∙ fold-append f x (take i levels) (get_or levels i d ∷ [])
+
+  -- with other numbers the levels of a batch are its levels
+  levels_still : (n : Numbers) → AreLevelsOf b levels → AreLevelsOf (batch_with n b) levels
+  levels_still n of = subst (λ pairs. AreLevels pairs levels) (sym (pairs_loaded n.impulses b.rows)) of
+
+  module _ (n : Numbers) where
+    -- before the first level
+    pub before_passes : AreNumbersOf b n → AreAfter step b levels n 0 0 n
+    before_passes fit = record { numbers = fit; batch = refl }
+
+    module _ (k i : ℕ) (now : Numbers) (done : AreAfter step b levels n k i now) where
+      -- one level more, by its rows
+      pub level_at_once_more : (level : List ℕ) → i < length levels → level ≡ slice_index_or levels i level
+          → AreAfter step b levels n k (i + 1) (numbers_at_once level step b.rows now)
+      level_at_once_more level within at =
+          let before = passes_in_levels k levels step (batch_with n b) in
+          let then = solved_by_levels (take i levels) step before in
+          record {
+            numbers = fit_at_once step b now done.numbers level;
+            batch =
+                level_on_numbers step b now done.numbers level
+                ∙ ap (solved_at_once level step) done.batch
+                ∙ ap (λ g. solved_at_once g step then) at
+                ∙ sym (solved_more before i level within);
+          }
+
+      -- one level more, by what became of its rows
+      pub level_more : (level : List ℕ) (found : List Row) (states : List ContactState) → i < length levels
+          → level ≡ slice_index_or levels i level → AreRowsAt b.rows level found → AreResults step now level found states
+          → AreAfter step b levels n k (i + 1) (numbers_after_all (seats_of level found) states now)
+      level_more level found states within at rows results =
+          subst (AreAfter step b levels n k (i + 1)) (sym (results_at_once step b now done.numbers level found states rows results))
+          (level_at_once_more level within at)
+
+      -- after the last level of a pass, one pass more
+      pub pass_more : length levels ≤ i → AreAfter step b levels n (k + 1) 0 now
+      pass_more over =
+          let before = passes_in_levels k levels step (batch_with n b) in
+          let more : k + 1 ≡ suc k = omega arith in
+          record {
+            numbers = done.numbers;
+            batch =
+                done.batch ∙ ap (λ some. solved_by_levels some step before) (take_all i levels over)
+                ∙ ap (λ m. passes_in_levels m levels step (batch_with n b)) (sym more);
+          }
+
+    -- so many passes level by level are as many along the list of rows
+    pub after_passes : (k : ℕ) (now : Numbers) → AreLevelsOf b levels → AreAfter step b levels n k 0 now
+        → batch_with now b ≡ passes k step (batch_with n b)
+    after_passes k now of done = done.batch ∙ passes_by_levels step k (batch_with n b) levels (levels_still n of)
+
+    -- and the numbers are those of the batch after them
+    pub numbers_after_passes : (k : ℕ) (now : Numbers) → AreLevelsOf b levels → AreAfter step b levels n k 0 now
+        → now ≡ numbers_of (passes k step (batch_with n b))
+    numbers_after_passes k now of done =
+        sym (numbers_back b now done.numbers) ∙ ap numbers_of (after_passes k now of done)
+
+    -- so many passes on the numbers
+    pub passes_on_numbers : (k : ℕ) → AreNumbersOf b n → AreAfter step b levels n k 0 (numbers_in_levels k levels step b.rows n)
+    passes_on_numbers zero fit = before_passes fit
+    passes_on_numbers (suc k) fit =
+        let before = numbers_in_levels k levels step b.rows n in
+        let done = passes_on_numbers k fit in
+        record {
+          numbers = fit_by_levels levels before done.numbers;
+          batch = levels_on_numbers levels before done.numbers ∙ ap (solved_by_levels levels step) done.batch;
+        }
+
+-- ---- the velocity phase
+
+-- warm starting and the rounds, level by level on the numbers of a batch, are its velocity phase
+pub velocities_by_levels : (b : Batch) (levels : List (List ℕ)) (warm now : Numbers) → AreLevelsOf b levels
+    → AreAfter after_warm_start b levels (numbers_of b) 1 0 warm → AreAfter after_round b levels warm ROUNDS 0 now
+    → batch_with now b ≡ velocities_of b
+velocities_by_levels b levels warm now of started done =
+    after_passes after_round b levels warm ROUNDS now of done
+    ∙ ap (passes ROUNDS after_round)
+    (after_passes after_warm_start b levels (numbers_of b) 1 warm of started
+    ∙ ap (passes 1 after_warm_start) (own_numbers b)
+    ∙ one_pass b)
+  where
+    -- one pass is the pass along the rows
+    one_pass : (x : Batch) → passes 1 after_warm_start x ≡ pass after_warm_start x.bodies x.rows
+    one_pass x =
+        passes_more 0 after_warm_start x ∙ ap (λ (y : Batch). pass after_warm_start y.bodies y.rows) (sym (passes_none after_warm_start x))

@@ -1,0 +1,11 @@
+pub mod Sizes
+pub mod Reactions
+pub mod Steps
+pub mod Numbers
+pub mod Levels
+pub mod Bundles
+pub mod AtOnce
+pub mod InBundles
+pub mod OfLevels
+pub mod SideBySide
+pub mod Parts

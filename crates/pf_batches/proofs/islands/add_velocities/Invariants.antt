@@ -1,0 +1,11 @@
+use Rattle.std.proofs.Common.{◌≡◌, ◌++◌, All, map, take}
+use Rattle.pf_rows.specs.Small.{IsShort}
+use Rattle.pf_batches.specs.Numbers.{velocity_of}
+use Rattle.pf_batches.proofs.islands.add_velocities.Given as goal
+
+abbrev pub invariant-loop-body : goal.invariant-loop-body
+invariant-loop-body l = record {
+  value : l.velocities.items ≡ l.initial.velocities.items ++ map velocity_of (take l.body-index l.bodies);
+  size : All (λ v. IsShort l.most v.velocity) l.initial.velocities.items
+      → All (λ v. IsShort l.most v.velocity) l.velocities.items;
+}

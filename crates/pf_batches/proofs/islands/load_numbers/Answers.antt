@@ -1,0 +1,43 @@
+use Rattle.std.proofs.Common.{rules, ◌∙◌, ◌++◌, ◌≤◌, ap, ap₂, map, subst, sym}
+use Rattle.std.proofs.lemmas.List.Elements.{All-nil}
+use Rattle.std.specs.Prelude.{All}
+use Rattle.std.specs.Int.RustNames.{unsigned_abs}
+use Rattle.pf_rows.specs.Impulses.{Impulses}
+use Rattle.pf_rows.specs.Row.{Row}
+use Rattle.pf_rows.specs.Small.{IsShort}
+use Rattle.pf_bundles.specs.Numbers.{Numbers, Velocity}
+use Rattle.pf_islands.specs.Split.{Island}
+use Rattle.pf_batches.specs.Numbers.{velocity_of}
+use Rattle.pf_batches.proofs.SideBySide.{numbers_more}
+use Rattle.pf_batches.proofs.islands.load_numbers.Goals as goal
+
+pub loop-island-init : goal.loop-island-init
+loop-island-init c =
+    let IsSmall = λ (p : Impulses). (unsigned_abs p.normal ≤ c.args.most) × (unsigned_abs p.tangent ≤ c.args.most) in
+    let IsSlow = λ (v : Velocity). IsShort c.args.most v.velocity in
+    record {
+      velocities = c.clear.ensures.items;
+      impulses = c.clear-2.ensures.items;
+      short = subst (All IsSlow) (sym c.clear.ensures.items) (All-nil IsSlow);
+      small = subst (All IsSmall) (sym c.clear-2.ensures.items) (All-nil IsSmall);
+    }
+
+pub loop-island-preserved : goal.loop-island-preserved
+loop-island-preserved c =
+    let k = c.loop-island.island-index in
+    let own = c.island.view_is ∙ c.island-item.is in
+    let more = numbers_more c.args.islands.now k c.island-item.result c.loop-island-test.true in
+    let slow = c.in_ok-add_velocities.ensures in
+    let small = c.in_ok-add_impulses.ensures in
+    record {
+      velocities = slow.value (search rules)
+          ∙ ap₂ (λ front rest. front ++ rest) c.loop-island.invariant.velocities
+          (ap (map velocity_of) (c.as_slice.ensures ∙ ap (λ (i : Island). i.bodies) own))
+          ∙ sym (ap (λ (n : Numbers). n.velocities) more);
+      impulses = small.value (search rules)
+          ∙ ap₂ (λ front rest. front ++ rest) c.loop-island.invariant.impulses
+          (ap (map (λ (r : Row). r.entry.impulses)) (c.as_slice-in-loop-island.ensures.value ∙ ap (λ (i : Island). i.rows) own))
+          ∙ sym (ap (λ (n : Numbers). n.impulses) more);
+      short = slow.size (search rules) c.loop-island.invariant.short;
+      small = small.size (search rules) c.loop-island.invariant.small;
+    }

@@ -1,0 +1,15 @@
+use Rattle.std.proofs.Common.{◌≡◌, ◌≤◌, All, map, take}
+use Rattle.std.specs.Int.RustNames.{unsigned_abs}
+use Rattle.pf_rows.specs.Small.{IsShort}
+use Rattle.pf_batches.specs.Islands.{batch_of}
+use Rattle.pf_batches.specs.Numbers.{velocity_of}
+use Rattle.pf_batches.proofs.islands.load_numbers.Given as goal
+
+abbrev pub invariant-loop-island : goal.invariant-loop-island
+invariant-loop-island l = record {
+  velocities : l.numbers-inside.velocities.items ≡ map velocity_of (batch_of (take l.island-index l.islands)).bodies;
+  impulses : l.numbers-inside.impulses.items
+      ≡ map (λ r. r.entry.impulses) (batch_of (take l.island-index l.islands)).rows;
+  short : All (λ v. IsShort l.most v.velocity) l.numbers-inside.velocities.items;
+  small : All (λ p. (unsigned_abs p.normal ≤ l.most) × (unsigned_abs p.tangent ≤ l.most)) l.numbers-inside.impulses.items;
+}

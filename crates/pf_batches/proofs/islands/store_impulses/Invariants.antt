@@ -1,0 +1,6 @@
+use Rattle.std.proofs.Common.{◌≡◌, take}
+use Rattle.pf_batches.specs.Numbers.{with_impulses}
+use Rattle.pf_batches.proofs.islands.store_impulses.Given as goal
+
+abbrev pub invariant-loop-place : goal.invariant-loop-place
+invariant-loop-place l = l.rows ≡ with_impulses (take l.place l.impulses) l.initial.rows

@@ -1,0 +1,6 @@
+use Rattle.std.proofs.Common.{◌≡◌, take}
+use Rattle.pf_batches.specs.Numbers.{with_velocities}
+use Rattle.pf_batches.proofs.islands.store_velocities.Given as goal
+
+abbrev pub invariant-loop-place : goal.invariant-loop-place
+invariant-loop-place l = l.bodies ≡ with_velocities (take l.place l.velocities) l.initial.bodies

@@ -1,0 +1,73 @@
+-- Several islands side by side as one batch: what the solver holds of them in its lists, and the
+-- islands with the numbers that it leaves.
+use Rattle.std.specs.Prelude.{◌≡◌, ℕ, ◌≤◌, ⊤, All, List, [], ◌∷◌, drop, length, map, take}
+use Rattle.pf_rows.specs.Row.{Row}
+use Rattle.pf_bundles.specs.LaneRow.{IsHeldBy, LaneRow}
+use Rattle.pf_bundles.specs.Numbers.{Numbers}
+use Rattle.pf_islands.specs.Split.{Island}
+use Rattle.pf_levels.specs.Levels.{Pair, pair_of}
+use Rattle.pf_solver.specs.Alone.{batch_in, island_with}
+use Rattle.pf_solver.specs.Beside.{IsBatch, shifted_row, side_by_side}
+use Rattle.pf_solver.specs.Velocities.{Batch}
+use Rattle.pf_bundles.specs.Bundle.{AreBundlesOf, Bundle}
+use Rattle.pf_solver.specs.Order.{AreLevelsOf}
+use Rattle.pf_batches.specs.declared.together.TheConstants.{START_LIMIT}
+use Rattle.pf_batches.specs.Numbers.{AreAllWithin, batch_with, numbers_of}
+
+-- islands side by side
+abbrev pub batch_of : List Island → Batch
+batch_of islands = side_by_side (map batch_in islands)
+
+-- each row of each island names bodies of that island
+abbrev pub AreBatches : List Island → Type 0
+AreBatches islands = All (λ i. IsBatch (batch_in i)) islands
+
+-- the bodies of rows that stand behind so many other bodies
+abbrev pub pairs_behind : ℕ → List Row → List Pair
+pairs_behind n rows = map (λ r. pair_of (shifted_row n r)) rows
+
+-- lanes hold rows, one for one
+abbrev pub AreHeldBy : List LaneRow → List Row → Type 0
+AreHeldBy [] [] = ⊤
+AreHeldBy [] (r ∷ rows) = ⊥
+AreHeldBy (l ∷ lanes) [] = ⊥
+AreHeldBy (l ∷ lanes) (r ∷ rows) = IsHeldBy l r × AreHeldBy lanes rows
+
+-- the numbers of an island, the first ones of these
+abbrev pub first_numbers : Island → Numbers → Numbers
+first_numbers i n = record {
+  velocities = take (length i.bodies) n.velocities;
+  impulses = take (length i.rows) n.impulses;
+}
+
+-- the numbers behind so many velocities and so many impulses
+abbrev pub numbers_behind : ℕ → ℕ → Numbers → Numbers
+numbers_behind bodies rows n = record {
+  velocities = drop bodies n.velocities;
+  impulses = drop rows n.impulses;
+}
+
+-- the numbers behind those of an island
+abbrev pub other_numbers : Island → Numbers → Numbers
+other_numbers i n = numbers_behind (length i.bodies) (length i.rows) n
+
+-- an island with the first ones of these numbers
+abbrev pub island_with_first : Numbers → Island → Island
+island_with_first n i = island_with (batch_with (first_numbers i n) (batch_in i)) i
+
+-- islands with these numbers: the first island with the first ones, the rest with the others
+abbrev pub islands_with : Numbers → List Island → List Island
+islands_with n [] = []
+islands_with n (i ∷ islands) =
+    island_with_first n i ∷ islands_with (other_numbers i n) islands
+
+-- what the solver holds of a batch before its rounds: its levels, its rows in lanes, its numbers,
+-- and the bundles of the levels
+pub record IsLoaded
+    (b : Batch) (levels : List (List ℕ)) (lanes : List LaneRow) (n : Numbers) (bundles : List Bundle)
+    : Type 0 where
+  pub order : AreLevelsOf b levels
+  pub rows : AreHeldBy lanes b.rows
+  pub numbers : n ≡ numbers_of b
+  pub within : AreAllWithin START_LIMIT n
+  pub each : AreBundlesOf (map pair_of b.rows) lanes levels bundles

@@ -1,0 +1,256 @@
+-- The numbers that the velocity phase changes, held apart from the bodies and rows of a batch: the
+-- velocity and the spin of each body, and the accumulated impulses of each row.
+use Rattle.std.specs.Prelude.{All, ◌≡◌, ◌<◌, ◌≤◌, ℕ, zero, suc, None, Option, Some, List, [], ◌∷◌}
+use Rattle.std.specs.Prelude.{fold, length, map, slice_get, slice_index_or, slice_set, take}
+use Rattle.pf_shapes.specs.Body.{BodyState}
+use Rattle.pf_rows.specs.declared.row.Side.{Side}
+use Rattle.pf_rows.specs.declared.row.Side.TheVariants.{Static, Dynamic}
+use Rattle.std.specs.Int.RustNames.{unsigned_abs}
+use Rattle.pf_rows.specs.Small.{IsShort}
+use Rattle.pf_rows.specs.Impulses.{Impulses, no_impulses}
+use Rattle.pf_rows.specs.Row.{InverseMass, IsSide, Row}
+use Rattle.pf_lanes.specs.Lanes.{Lane}
+use Rattle.pf_bundles.specs.Bundle.{Bundle, Seat, lane_number}
+use Rattle.pf_bundles.specs.LaneRow.{IsHeldBy, LaneRow, lane_row_in, no_lane_row}
+use Rattle.pf_bundles.specs.Prepared.{PreparedLanes}
+use Rattle.pf_bundles.specs.Numbers.{Numbers, Velocity, no_velocity}
+use Rattle.pf_batches.specs.Contact.{SeatState, no_seat_state, state_of}
+use Rattle.pf_solver.specs.Impulse.{ContactState, Motion}
+use Rattle.pf_solver.specs.Order.{passes_in_levels, solved_at_once}
+use Rattle.pf_solver.specs.Velocities.{Batch, Step, static_motion}
+
+-- as many numbers as a batch has bodies and rows
+pub record AreNumbersOf (b : Batch) (n : Numbers) : Type 0 where
+  pub velocities : length n.velocities ≡ length b.bodies
+  pub impulses : length n.impulses ≡ length b.rows
+
+-- the velocity of a body
+abbrev pub velocity_of : BodyState → Velocity
+velocity_of b = record { velocity = b.velocity; spin = b.spin }
+
+-- the velocity of a motion
+abbrev pub velocity_in : Motion → Velocity
+velocity_in m = record { velocity = m.velocity; spin = m.spin }
+
+-- a body with this velocity
+abbrev pub moving_body : Velocity → BodyState → BodyState
+moving_body v b = record b { velocity = v.velocity; spin = v.spin }
+
+-- a row with these accumulated impulses
+abbrev pub loaded_row : Impulses → Row → Row
+loaded_row p r = record r { entry = record r.entry { impulses = p } }
+
+-- bodies with these velocities; where one list ends, the rest of the bodies stay
+abbrev pub with_velocities : List Velocity → List BodyState → List BodyState
+with_velocities [] bodies = bodies
+with_velocities (v ∷ velocities) [] = []
+with_velocities (v ∷ velocities) (b ∷ bodies) = moving_body v b ∷ with_velocities velocities bodies
+
+-- rows with these accumulated impulses; where one list ends, the rest of the rows stay
+abbrev pub with_impulses : List Impulses → List Row → List Row
+with_impulses [] rows = rows
+with_impulses (p ∷ impulses) [] = []
+with_impulses (p ∷ impulses) (r ∷ rows) = loaded_row p r ∷ with_impulses impulses rows
+
+-- a batch with these numbers
+abbrev pub batch_with : Numbers → Batch → Batch
+batch_with n b = record {
+  bodies = with_velocities n.velocities b.bodies;
+  rows = with_impulses n.impulses b.rows;
+}
+
+-- the numbers of a batch
+abbrev pub numbers_of : Batch → Numbers
+numbers_of b = record {
+  velocities = map velocity_of b.bodies;
+  impulses = map (λ r. r.entry.impulses) b.rows;
+}
+
+-- the velocity of the body on a side; a static body has none
+abbrev pub velocity_at : List Velocity → Side → Velocity
+velocity_at velocities Static = no_velocity
+velocity_at velocities (Dynamic place) = slice_index_or velocities place no_velocity
+
+-- the velocities where the body on a side has this one; that of a static body is not held
+abbrev pub with_velocity : List Velocity → Side → Velocity → List Velocity
+with_velocity velocities Static v = velocities
+with_velocity velocities (Dynamic place) v = slice_set velocities place v
+
+-- the seat of the row at this place
+abbrev pub seat_of : ℕ → Row → Seat
+seat_of place r = record { place = place; first = r.entry.first; second = r.entry.second }
+
+-- the seats of rows at these places, one after the other
+abbrev pub seats_of : List ℕ → List Row → List Seat
+seats_of [] rows = []
+seats_of (p ∷ places) [] = []
+seats_of (p ∷ places) (r ∷ rows) = seat_of p r ∷ seats_of places rows
+
+-- the numbers have the bodies and the impulses of a seat
+pub record IsSeatIn (n : Numbers) (seat : Seat) : Type 0 where
+  pub place : seat.place < length n.impulses
+  pub first : IsSide (length n.velocities) seat.first
+  pub second : IsSide (length n.velocities) seat.second
+
+-- the numbers of a row
+abbrev pub seat_state_at : Numbers → Seat → SeatState
+seat_state_at n seat = record {
+  first = velocity_at n.velocities seat.first;
+  second = velocity_at n.velocities seat.second;
+  impulses = slice_index_or n.impulses seat.place no_impulses;
+}
+
+-- the numbers of a lane that has this seat, if it has one
+abbrev pub seat_state_or : Numbers → Option Seat → SeatState
+seat_state_or n None = no_seat_state
+seat_state_or n (Some seat) = seat_state_at n seat
+
+-- velocities and accumulated impulses are at most this
+pub record AreAllWithin (most : ℕ) (n : Numbers) : Type 0 where
+  pub velocities : All (λ v. IsShort most v.velocity) n.velocities
+  pub impulses : All (λ p. (unsigned_abs p.normal ≤ most) × (unsigned_abs p.tangent ≤ most)) n.impulses
+
+-- the numbers after those of a row are stored: the first body, and then the second
+abbrev pub numbers_with : Seat → SeatState → Numbers → Numbers
+numbers_with seat s n = record {
+  velocities =
+      with_velocity (with_velocity n.velocities seat.first s.first) seat.second s.second;
+  impulses = slice_set n.impulses seat.place s.impulses;
+}
+
+-- the same of several rows, one after the other
+abbrev pub numbers_with_all : List Seat → List SeatState → Numbers → Numbers
+numbers_with_all [] states n = n
+numbers_with_all (seat ∷ seats) [] n = n
+numbers_with_all (seat ∷ seats) (s ∷ states) n =
+    numbers_with_all seats states (numbers_with seat s n)
+
+-- as many numbers are there before and after a row is stored
+pub record AreAsMany (before after : Numbers) : Type 0 where
+  pub velocities : length after.velocities ≡ length before.velocities
+  pub impulses : length after.impulses ≡ length before.impulses
+
+-- the numbers of a contact
+abbrev pub seat_state_from : ContactState → SeatState
+seat_state_from m = record {
+  first = velocity_in m.first;
+  second = velocity_in m.second;
+  impulses = m.impulses;
+}
+
+-- what a step makes of the numbers of a row that a lane holds
+abbrev pub lane_result : Step → LaneRow → SeatState → SeatState
+lane_result step l s =
+    seat_state_from (step l.constraint (state_of l.first_mass l.second_mass s))
+
+-- a lane that holds these rows: that of its seat stands at the place of the seat
+abbrev pub HoldsRow : List LaneRow → List Seat → PreparedLanes → Lane → Type 0
+HoldsRow rows seats p k =
+    (seat : Seat) → slice_get seats (lane_number k) ≡ Some seat
+    → lane_row_in k p ≡ slice_index_or rows seat.place no_lane_row
+
+-- the lanes hold these rows: the one of each place
+abbrev pub HoldEach : List LaneRow → List Row → Type 0
+HoldEach lane_rows rows =
+    (p : ℕ) (r : Row) → slice_get rows p ≡ Some r
+    → IsHeldBy (slice_index_or lane_rows p no_lane_row) r
+
+-- the motion of the body on a side: its velocity, with this mass unless it is static
+abbrev pub motion_on : List Velocity → InverseMass → Side → Motion
+motion_on velocities mass Static = static_motion
+motion_on velocities mass (Dynamic place) =
+    let v = slice_index_or velocities place no_velocity in
+    record { velocity = v.velocity; spin = v.spin; mass = mass }
+
+-- a row as it is read from the numbers: its bodies, of these masses, and its accumulated impulses
+abbrev pub state_at : Numbers → InverseMass → InverseMass → Seat → ContactState
+state_at n first_mass second_mass seat = record {
+  first = motion_on n.velocities first_mass seat.first;
+  second = motion_on n.velocities second_mass seat.second;
+  impulses = slice_index_or n.impulses seat.place no_impulses;
+}
+
+-- what a step makes of a row at this place, read from the numbers
+abbrev pub result_at : Step → Numbers → ℕ → Row → ContactState
+result_at step n place r =
+    step r.constraint (state_at n r.first_mass r.second_mass (seat_of place r))
+
+-- the numbers after what became of a row is stored: the first body, and then the second
+abbrev pub numbers_after : Seat → ContactState → Numbers → Numbers
+numbers_after seat m n = record {
+  velocities =
+      with_velocity (with_velocity n.velocities seat.first (velocity_in m.first)) seat.second
+      (velocity_in m.second);
+  impulses = slice_set n.impulses seat.place m.impulses;
+}
+
+-- the numbers after what became of several rows is stored, one after the other
+abbrev pub numbers_after_all : List Seat → List ContactState → Numbers → Numbers
+numbers_after_all [] states n = n
+numbers_after_all (seat ∷ seats) [] n = n
+numbers_after_all (seat ∷ seats) (m ∷ states) n =
+    numbers_after_all seats states (numbers_after seat m n)
+
+-- the rows that stand at these places of a list of rows, one for each
+abbrev pub AreRowsAt : List Row → List ℕ → List Row → Type 0
+AreRowsAt rows [] found = found ≡ []
+AreRowsAt rows (p ∷ places) [] = ⊥
+AreRowsAt rows (p ∷ places) (r ∷ found) = (slice_get rows p ≡ Some r) × AreRowsAt rows places found
+
+-- what a step makes of each row at its place, all of them read from the same numbers
+abbrev pub AreResults : Step → Numbers → List ℕ → List Row → List ContactState → Type 0
+AreResults step n [] found states = states ≡ []
+AreResults step n (p ∷ places) [] states = states ≡ []
+AreResults step n (p ∷ places) (r ∷ found) [] = ⊥
+AreResults step n (p ∷ places) (r ∷ found) (m ∷ states) =
+    (m ≡ result_at step n p r) × AreResults step n places found states
+
+-- the numbers `now` where what a step makes of the row at a place, read from `n`, is stored
+abbrev pub numbers_where : Step → Numbers → Numbers → ℕ → Option Row → Numbers
+numbers_where step n now place None = now
+numbers_where step n now place (Some r) =
+    numbers_after (seat_of place r) (result_at step n place r) now
+
+-- the numbers after the rows of a level at once, each read from the numbers as they were before
+abbrev pub numbers_at_once : List ℕ → Step → List Row → Numbers → Numbers
+numbers_at_once level step rows n =
+    fold (λ now p. numbers_where step n now p (slice_get rows p)) n level
+
+-- the numbers after so many passes, each level by level
+abbrev pub numbers_in_levels : ℕ → List (List ℕ) → Step → List Row → Numbers → Numbers
+numbers_in_levels zero levels step rows n = n
+numbers_in_levels (suc k) levels step rows n =
+    fold (λ now level. numbers_at_once level step rows now)
+    (numbers_in_levels k levels step rows n) levels
+
+-- a batch after these levels, one after the other
+abbrev pub solved_by_levels : List (List ℕ) → Step → Batch → Batch
+solved_by_levels levels step b = fold (λ now level. solved_at_once level step now) b levels
+
+-- the numbers of a batch after so many passes level by level, and so many levels of the next one;
+-- before the first pass they were `n`
+pub record AreAfter (step : Step) (b : Batch) (levels : List (List ℕ)) (n : Numbers)
+    (passes_done levels_done : ℕ) (now : Numbers) : Type 0 where
+  pub numbers : AreNumbersOf b now
+  pub batch : batch_with now b
+      ≡ solved_by_levels (take levels_done levels) step
+      (passes_in_levels passes_done levels step (batch_with n b))
+
+-- these are the seats of the rows of a level
+abbrev pub AreSeatsOf : List Row → List ℕ → List Seat → Type 0
+AreSeatsOf rows level seats =
+    (found : List Row) × AreRowsAt rows level found × (seats ≡ seats_of level found)
+
+-- the seats of a bundle are places of numbers and of rows, and its lanes hold these rows
+pub record IsBundleOn (rows : List LaneRow) (n : Numbers) (bundle : Bundle) : Type 0 where
+  pub seats : All (IsSeatIn n) bundle.seats
+  pub places : All (λ seat. seat.place < length rows) bundle.seats
+  pub held : (k : Lane) → HoldsRow rows bundle.seats bundle.prepared k
+
+-- bundles of the levels of a batch, one for each, whose rows the lanes hold
+pub record AreBundlesFor
+    (b : Batch) (levels : List (List ℕ)) (rows : List LaneRow) (bundles : List Bundle) : Type 0 where
+  pub count : length bundles ≡ length levels
+  pub seats : (i : ℕ) (level : List ℕ) (bundle : Bundle) → slice_get levels i ≡ Some level
+      → slice_get bundles i ≡ Some bundle → AreSeatsOf b.rows level bundle.seats
+  pub hold : HoldEach rows b.rows

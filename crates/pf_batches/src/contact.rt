@@ -1,0 +1,213 @@
+//! Contacts side by side: what the solver reads and writes of the rows of a level.
+
+ghost use Rattle.std.specs.Prelude.{◌≡◌, ◌∷◌, []};
+ghost use Rattle.pf_lanes.specs.Lanes.{First, Fourth, Second, Third};
+ghost use Rattle.pf_batches.specs.Contact.{velocity_in_lane};
+
+use crate::seat_state::SeatState;
+use pf_bundles::{VectorLanes, WholeImpulses, WholeVector, WholeVelocity};
+use pf_lanes::Lanes;
+use std::marker::Model;
+
+/// What impulses change of bodies side by side.
+#[derive(Clone, Copy)]
+pub struct MotionLanes {
+    /// The velocities.
+    pub velocity: VectorLanes,
+    /// The angular velocities.
+    pub spin: Lanes,
+}
+
+impl Model for MotionLanes {
+    ghost use Rattle.pf_batches.specs.Contact.{MotionLanes};
+
+    ghost Value = { MotionLanes };
+
+    ghost view = { λ m. record { velocity = m.velocity; spin = m.spin } };
+
+    ghost inverse = { λ m. record { velocity = m.velocity; spin = m.spin } };
+}
+
+/// The bodies of contacts side by side, and their accumulated impulses.
+#[derive(Clone, Copy)]
+pub struct ContactLanes {
+    /// The first bodies.
+    pub first: MotionLanes,
+    /// The second bodies.
+    pub second: MotionLanes,
+    /// The accumulated impulses along the normals.
+    pub normal: Lanes,
+    /// The accumulated impulses along the tangents.
+    pub tangent: Lanes,
+}
+
+impl Model for ContactLanes {
+    ghost use Rattle.pf_batches.specs.Contact.{ContactLanes};
+
+    ghost Value = { ContactLanes };
+
+    ghost view = { λ s. record {
+      first = s.first;
+      second = s.second;
+      normal = s.normal;
+      tangent = s.tangent;
+    } };
+
+    ghost inverse = { λ s. record {
+      first = s.first;
+      second = s.second;
+      normal = s.normal;
+      tangent = s.tangent;
+    } };
+}
+
+impl ContactLanes {
+    ghost use Rattle.std.specs.Prelude.{◌≡◌};
+
+    /// With other accumulated impulses along the normals.
+    #[inline(always)]
+    pub fn with_normal(self, normal: Lanes) -> ContactLanes
+        ensures { result ≡ record self { normal = normal } }
+    {
+        ContactLanes { normal, ..self }
+    }
+
+    /// With other accumulated impulses along the tangents.
+    #[inline(always)]
+    pub fn with_tangent(self, tangent: Lanes) -> ContactLanes
+        ensures { result ≡ record self { tangent = tangent } }
+    {
+        ContactLanes { tangent, ..self }
+    }
+}
+
+/// The motions of four bodies, one in each lane.
+#[inline(always)]
+fn motions(
+    first: WholeVelocity,
+    second: WholeVelocity,
+    third: WholeVelocity,
+    fourth: WholeVelocity,
+) -> MotionLanes
+    ensures first { velocity_in_lane First result ≡ first }
+    ensures second { velocity_in_lane Second result ≡ second }
+    ensures third { velocity_in_lane Third result ≡ third }
+    ensures fourth { velocity_in_lane Fourth result ≡ fourth }
+{
+    let (a, b, c, d) = (
+        first.velocity,
+        second.velocity,
+        third.velocity,
+        fourth.velocity,
+    );
+    MotionLanes {
+        velocity: VectorLanes {
+            x: Lanes::gather([a.x, b.x, c.x, d.x]),
+            y: Lanes::gather([a.y, b.y, c.y, d.y]),
+        },
+        spin: Lanes::gather([first.spin, second.spin, third.spin, fourth.spin]),
+    }
+}
+
+/// The velocities of four bodies.
+#[inline(always)]
+fn velocities(motions: &MotionLanes) -> [WholeVelocity; 4]
+    ensures { result ≡ velocity_in_lane First motions.now ∷ velocity_in_lane Second motions.now
+        ∷ velocity_in_lane Third motions.now ∷ velocity_in_lane Fourth motions.now ∷ [] }
+{
+    let velocity = motions.velocity;
+    let [ax, bx, cx, dx] = velocity.x.parts();
+    let [ay, by, cy, dy] = velocity.y.parts();
+    let [a, b, c, d] = motions.spin.parts();
+    [
+        WholeVelocity {
+            velocity: WholeVector { x: ax, y: ay },
+            spin: a,
+        },
+        WholeVelocity {
+            velocity: WholeVector { x: bx, y: by },
+            spin: b,
+        },
+        WholeVelocity {
+            velocity: WholeVector { x: cx, y: cy },
+            spin: c,
+        },
+        WholeVelocity {
+            velocity: WholeVector { x: dx, y: dy },
+            spin: d,
+        },
+    ]
+}
+
+impl ContactLanes {
+    ghost use Rattle.std.specs.Prelude.{◌≡◌, ◌∷◌, []};
+    ghost use Rattle.pf_lanes.specs.Lanes.{First, Fourth, Lane, Second, Third};
+    ghost use Rattle.pf_batches.specs.Contact.{seat_state_in, seat_state_of};
+
+    /// Four contacts, one in each lane.
+    #[inline(always)]
+    pub(crate) fn of(
+        first: &SeatState,
+        second: &SeatState,
+        third: &SeatState,
+        fourth: &SeatState,
+    ) -> ContactLanes
+        ensures { (k : Lane) → seat_state_in k result
+            ≡ seat_state_of k first.now second.now third.now fourth.now }
+    {
+        let (a, b, c, d) = (*first, *second, *third, *fourth);
+        let (e, f, g, h) = (a.impulses, b.impulses, c.impulses, d.impulses);
+        ContactLanes {
+            first: motions(a.first, b.first, c.first, d.first),
+            second: motions(a.second, b.second, c.second, d.second),
+            normal: Lanes::gather([e.normal, f.normal, g.normal, h.normal]),
+            tangent: Lanes::gather([e.tangent, f.tangent, g.tangent, h.tangent]),
+        }
+    }
+
+    /// The contact of each lane.
+    #[inline(always)]
+    pub(crate) fn states(&self) -> [SeatState; 4]
+        ensures { result ≡ seat_state_in First self.now ∷ seat_state_in Second self.now
+            ∷ seat_state_in Third self.now ∷ seat_state_in Fourth self.now ∷ [] }
+    {
+        let [a, b, c, d] = velocities(&self.first);
+        let [e, f, g, h] = velocities(&self.second);
+        let [an, bn, cn, dn] = self.normal.parts();
+        let [at, bt, ct, dt] = self.tangent.parts();
+        [
+            SeatState {
+                first: a,
+                second: e,
+                impulses: WholeImpulses {
+                    normal: an,
+                    tangent: at,
+                },
+            },
+            SeatState {
+                first: b,
+                second: f,
+                impulses: WholeImpulses {
+                    normal: bn,
+                    tangent: bt,
+                },
+            },
+            SeatState {
+                first: c,
+                second: g,
+                impulses: WholeImpulses {
+                    normal: cn,
+                    tangent: ct,
+                },
+            },
+            SeatState {
+                first: d,
+                second: h,
+                impulses: WholeImpulses {
+                    normal: dn,
+                    tangent: dt,
+                },
+            },
+        ]
+    }
+}

@@ -1,0 +1,36 @@
+//! Laws of the numbers of a batch, and the values of limits. These functions compute nothing: their
+//! clauses are the statements.
+
+ghost use Rattle.std.specs.Prelude.{◌≡◌, ◌^◌, ℕ, List};
+ghost use Rattle.pf_rows.specs.Row.{Row};
+ghost use Rattle.pf_solver.specs.Impulse.{ContactState};
+ghost use Rattle.pf_solver.specs.Order.{AreLevelsOf, solved_at_once};
+ghost use Rattle.pf_solver.specs.Velocities.{Batch, Step, passes};
+ghost use Rattle.pf_bundles.specs.Numbers.{Numbers};
+ghost use Rattle.pf_batches.specs.Numbers.{AreNumbersOf, AreResults, AreRowsAt, batch_with, numbers_after_all, numbers_in_levels, seats_of};
+
+use crate::bundle_step::GROWTH;
+use crate::together::START_LIMIT;
+
+/// Velocities and accumulated impulses may be held in two lists of their own while rows are solved
+/// level by level: where each row of a level is read from the lists as they were before, and then
+/// all are stored, a batch with these numbers is the batch with the level solved at once; and after
+/// so many passes it is that after as many passes along the list of rows.
+pub fn numbers_are_solved_as_the_batch()
+    ensures level { (step : Step) (b : Batch) (n : Numbers) (level : List ℕ) (found : List Row)
+        (states : List ContactState) → AreNumbersOf b n → AreRowsAt b.rows level found
+        → AreResults step n level found states
+        → batch_with (numbers_after_all (seats_of level found) states n) b
+        ≡ solved_at_once level step (batch_with n b) }
+    ensures passes { (k : ℕ) (step : Step) (b : Batch) (n : Numbers) (levels : List (List ℕ))
+        → AreNumbersOf b n → AreLevelsOf b levels
+        → batch_with (numbers_in_levels k levels step b.rows n) b
+        ≡ passes k step (batch_with n b) }
+{}
+
+/// How great numbers are before the rounds, and how much greater a step in lanes can make them, in
+/// raw units of 2^-24.
+pub fn named_limits()
+    ensures start { START_LIMIT ≡ 2 ^ 49 }
+    ensures growth { GROWTH ≡ 2 ^ 30 }
+{}

@@ -1,0 +1,17 @@
+//! Islands solved together, as one batch: level by level, the rows of a level four at a time in
+//! lanes (Box2D 3's wide constraints, Bepu's bundles), with the bits of one row after the other.
+#![tactic(auto)]
+
+mod bundle_step;
+mod contact;
+mod impulse;
+mod islands;
+pub mod laws;
+mod passes;
+mod round;
+mod seat_state;
+mod together;
+mod warm_start;
+
+pub use bundle_step::GROWTH;
+pub use together::{START_LIMIT, solve_islands};

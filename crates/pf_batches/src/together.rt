@@ -1,0 +1,192 @@
+//! Islands solved together: as one batch, level by level, four rows at a time.
+
+ghost use Rattle.std.specs.Prelude.{◌≡◌, ℕ, All, IfOk, IsTrue, List, OnErr, OnOk, false, map};
+ghost use Rattle.pf_islands.specs.Split.{IsIslandOf};
+ghost use Rattle.pf_solver.specs.Alone.{island_after_rounds, island_after_tick, island_at_end, prepared_island};
+ghost use Rattle.pf_levels.specs.Levels.{pair_of};
+ghost use Rattle.pf_solver.specs.Order.{AreLevelsOf};
+ghost use Rattle.pf_batches.specs.Islands.{AreBatches, IsLoaded, batch_of};
+
+use crate::islands::{load_numbers, load_pairs, load_rows, store_numbers};
+use crate::passes::solve_numbers;
+use pf_bundles::{Bundle, LaneRow, Numbers, Workspace, load_bundles};
+use pf_islands::Island;
+use pf_levels::{Levels, Pair};
+use pf_shapes::Scene;
+use pf_solver::{finish_island, prepare_island, solve_rounds};
+use std::alloc::AllocError;
+use std::mem;
+
+/// The greatest velocity along an axis, and the greatest accumulated impulse, before the rounds:
+/// 2^25, in raw units of 2^-24.
+pub const START_LIMIT: u64 = 1 << 49;
+
+/// How many rows a level has to have on average, so that lanes pay.
+const ROWS_A_LEVEL: usize = 2;
+
+/// Finds the levels of the rows of islands; `false` where they have too few rows for lanes to pay.
+fn load_levels(
+    islands: &[Island],
+    pairs: &mut Vec<Pair>,
+    levels: &mut Levels,
+) -> Result<bool, AllocError>
+    requires { AreBatches islands.now }
+    ensures pairs { OnOk result (pairs.new.items ≡ map pair_of (batch_of islands.now).rows) }
+    ensures levels { IfOk result (λ pays. AreLevelsOf (batch_of islands.now) levels.new.levels) }
+{
+    let bodies = load_pairs(islands, pairs)?;
+    levels.update(pairs, bodies)?;
+    Ok(pairs.len() / ROWS_A_LEVEL >= levels.levels().len())
+}
+
+/// Loads the rows and the numbers of islands, and makes the bundles of their levels; `false` where
+/// doubles do not hold a number, or one is too great.
+fn load_bundles_of(
+    islands: &[Island],
+    pairs: &[Pair],
+    levels: &Levels,
+    rows: &mut Vec<LaneRow>,
+    numbers: &mut Numbers,
+    bundles: &mut Vec<Bundle>,
+) -> Result<bool, AllocError>
+    requires pairs { pairs.now ≡ map pair_of (batch_of islands.now).rows }
+    requires levels { AreLevelsOf (batch_of islands.now) levels.now.levels }
+    ensures { IfOk result (λ loaded. IsTrue loaded → IsLoaded (batch_of islands.now)
+        levels.now.levels rows.new.items numbers.new bundles.new.items) }
+{
+    if !load_rows(islands, rows)? || !load_numbers(islands, numbers, START_LIMIT)? {
+        return Ok(false);
+    }
+    load_bundles(bundles, levels.levels(), pairs, rows)?;
+    Ok(true)
+}
+
+/// The rounds of islands whose rows and numbers are loaded; `false`, and the islands as they were,
+/// where a number becomes too great.
+fn solve_loaded(
+    rows: &[LaneRow],
+    bundles: &[Bundle],
+    numbers: &mut Numbers,
+    islands: &mut [Island],
+) -> bool
+    requires batches { AreBatches islands.old }
+    requires loaded { (levels : List (List ℕ)) × IsLoaded (batch_of islands.old) levels rows.now
+        numbers.old bundles.now }
+    ensures solved { IsTrue result → islands.new ≡ map island_after_rounds islands.old }
+    ensures left { result ≡ false → islands.new ≡ islands.old }
+{
+    let done = solve_numbers(bundles, rows, numbers, START_LIMIT);
+    if done {
+        store_numbers(islands, numbers);
+    }
+    done
+}
+
+/// The rounds of islands in lanes, by the memory of a workspace; `false`, and the islands as they
+/// were, where lanes do not pay, or a number is too great for doubles.
+fn solve_in_lanes(workspace: &mut Workspace, islands: &mut [Island]) -> Result<bool, AllocError>
+    requires { AreBatches islands.old }
+    ensures solved { IfOk result (λ done.
+        IsTrue done → islands.new ≡ map island_after_rounds islands.old) }
+    ensures left { IfOk result (λ done. done ≡ false → islands.new ≡ islands.old) }
+    ensures err { OnErr result (islands.new ≡ islands.old) }
+{
+    let Workspace {
+        pairs,
+        levels,
+        rows,
+        bundles,
+        numbers,
+    } = workspace;
+    if !load_levels(islands, pairs, levels)?
+        || !load_bundles_of(islands, pairs, levels, rows, numbers, bundles)?
+    {
+        return Ok(false);
+    }
+    Ok(solve_loaded(rows, bundles, numbers, islands))
+}
+
+/// Takes the workspace of an island, which has an empty one from then on.
+fn take_workspace(island: &mut Island) -> Workspace
+    ensures { island.new ≡ island.old }
+{
+    let none = Workspace::new(*island.rows.allocator());
+    mem::replace(&mut island.workspace, none)
+}
+
+/// Gives an island a workspace.
+fn put_workspace(island: &mut Island, workspace: Workspace)
+    ensures { island.new ≡ island.old }
+{
+    island.workspace = workspace;
+}
+
+/// The rounds of islands together, in lanes, by the workspace of the first one; `false`, and the
+/// islands as they were, where lanes do not pay, a number is too great for doubles, or there is no
+/// memory.
+fn solve_rounds_together(islands: &mut [Island]) -> bool
+    requires { AreBatches islands.old }
+    ensures solved { IsTrue result → islands.new ≡ map island_after_rounds islands.old }
+    ensures left { result ≡ false → islands.new ≡ islands.old }
+{
+    if islands.is_empty() {
+        return false;
+    }
+    let mut workspace = take_workspace(&mut islands[0]);
+    let done = solve_in_lanes(&mut workspace, islands).unwrap_or(false);
+    if !islands.is_empty() {
+        put_workspace(&mut islands[0], workspace);
+    }
+    done
+}
+
+/// The rounds of islands, each alone.
+fn solve_rounds_alone(islands: &mut [Island])
+    requires { AreBatches islands.old }
+    ensures { islands.new ≡ map island_after_rounds islands.old }
+{
+    for island in islands.iter_mut() {
+        solve_rounds(island);
+    }
+}
+
+/// The rounds of islands: together where that works, and else each alone.
+fn solve_all_rounds(islands: &mut [Island])
+    requires { AreBatches islands.old }
+    ensures { islands.new ≡ map island_after_rounds islands.old }
+{
+    if !solve_rounds_together(islands) {
+        solve_rounds_alone(islands);
+    }
+}
+
+/// The phases of islands before their rounds.
+fn prepare_all(scene: &Scene, islands: &mut [Island])
+    requires { All (IsIslandOf scene.now) islands.old }
+    ensures value { islands.new ≡ map (prepared_island scene.now) islands.old }
+    ensures rows { AreBatches islands.new }
+{
+    for island in islands.iter_mut() {
+        prepare_island(scene, island);
+    }
+}
+
+/// The phases of islands after their rounds.
+fn finish_all(islands: &mut [Island])
+    ensures { islands.new ≡ map island_at_end islands.old }
+{
+    for island in islands.iter_mut() {
+        finish_island(island);
+    }
+}
+
+/// Takes islands through a tick of 1/64 s, each as if it were alone: their rounds together in lanes,
+/// where that pays and there is memory for it, and else one island after the other.
+pub fn solve_islands(scene: &Scene, islands: &mut [Island])
+    requires { All (IsIslandOf scene.now) islands.old }
+    ensures { islands.new ≡ map (island_after_tick scene.now) islands.old }
+{
+    prepare_all(scene, islands);
+    solve_all_rounds(islands);
+    finish_all(islands);
+}
