@@ -1,6 +1,6 @@
 //! Islands solved together: as one batch, level by level, four rows at a time.
 
-ghost use Rattle.std.specs.Prelude.{◌≡◌, ℕ, All, IfOk, IsTrue, List, OnErr, OnOk, false, map};
+ghost use Rattle.std.specs.Prelude.{◌≡◌, ◌<◌, ℕ, All, IfOk, IsTrue, List, OnErr, OnOk, false, length, map};
 ghost use Rattle.pf_islands.specs.Split.{IsIslandOf};
 ghost use Rattle.pf_solver.specs.Alone.{island_after_rounds, island_after_tick, island_at_end, prepared_island};
 ghost use Rattle.pf_levels.specs.Levels.{pair_of};
@@ -121,7 +121,30 @@ fn put_workspace(island: &mut Island, workspace: Workspace)
     island.workspace = workspace;
 }
 
-/// The rounds of islands together, in lanes, by the workspace of the first one; `false`, and the
+/// The least number of a body of an island.
+fn least_number(island: &Island) -> usize {
+    match island.numbers.first() {
+        Some(number) => *number,
+        None => 0,
+    }
+}
+
+/// The place of the island whose workspace is used, of islands in the order of their bodies or in
+/// the opposite one: that of the least bodies. There is such an island in each tick, so that there
+/// is one workspace for each list of islands.
+fn workspace_place(islands: &[Island]) -> usize
+    requires { 0 < length islands.now }
+    ensures { result < length islands.now }
+{
+    let last = islands.len() - 1;
+    if least_number(&islands[last]) < least_number(&islands[0]) {
+        last
+    } else {
+        0
+    }
+}
+
+/// The rounds of islands together, in lanes, by the workspace of one of them; `false`, and the
 /// islands as they were, where lanes do not pay, a number is too great for doubles, or there is no
 /// memory.
 fn solve_rounds_together(islands: &mut [Island]) -> bool
@@ -132,10 +155,11 @@ fn solve_rounds_together(islands: &mut [Island]) -> bool
     if islands.is_empty() {
         return false;
     }
-    let mut workspace = take_workspace(&mut islands[0]);
+    let place = workspace_place(islands);
+    let mut workspace = take_workspace(&mut islands[place]);
     let done = solve_in_lanes(&mut workspace, islands).unwrap_or(false);
-    if !islands.is_empty() {
-        put_workspace(&mut islands[0], workspace);
+    if place < islands.len() {
+        put_workspace(&mut islands[place], workspace);
     }
     done
 }

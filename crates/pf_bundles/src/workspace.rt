@@ -11,8 +11,9 @@ use pf_levels::{Levels, Pair};
 use std::alloc::Global;
 use std::fmt::{Debug, Error, Formatter, Write};
 
-/// Memory that solving rows in lanes uses from tick to tick. What it holds is of no use to others,
-/// but for the levels of the last tick, which are kept while the pairs stay the same.
+/// Memory that solving rows in lanes uses from tick to tick, as much as the greatest tick needed.
+/// Nothing of what it holds is used again but the levels of the last tick, which are kept while the
+/// pairs stay the same.
 #[derive(Drop)]
 pub struct Workspace {
     /// The sides of the bodies of all rows.
