@@ -133,6 +133,14 @@ rows_whole (x ∷ seats) (y ∷ states) n zero over within = absurd (omega (arit
 rows_whole (x ∷ seats) (y ∷ states) n (suc k) over within =
     rows_whole seats states (numbers_with x y n) k (omega (arith, over)) (omega (arith, within))
 
+-- a lane without a row
+pub row_none : (seats : List Seat) (states : List SeatState) (n : Numbers) (k : ℕ) → length seats ≤ k → k < length states
+    → numbers_with_all (take k seats) (take k states) n
+    ≡ numbers_with_all (take (k + 1) seats) (take (k + 1) states) n
+row_none seats states n k over within =
+    rows_whole seats states n k over (omega (arith, within))
+    ∙ sym (rows_whole seats states n (k + 1) (omega (arith, over)) (omega (arith, within)))
+
 -- numbers of a row are there as long as there are as many
 seat_stays : (before after : Numbers) (seat : Seat) → AreAsMany before after → IsSeatIn before seat → IsSeatIn after seat
 seat_stays before after seat many h = record {

@@ -49,12 +49,19 @@ no_seat_state = record { first = no_velocity; second = no_velocity; impulses = n
 abbrev pub velocity_in_lane : Lane → MotionLanes → Velocity
 velocity_in_lane k m = record { velocity = vector_in k m.velocity; spin = number_in k m.spin }
 
+-- the accumulated impulses of a row in a lane
+abbrev pub impulses_in_lane : Lane → Lanes → Lanes → Impulses
+impulses_in_lane k normal tangent = record {
+  normal = number_in k normal;
+  tangent = number_in k tangent;
+}
+
 -- the numbers of a lane
 abbrev pub seat_state_in : Lane → ContactLanes → SeatState
 seat_state_in k s = record {
   first = velocity_in_lane k s.first;
   second = velocity_in_lane k s.second;
-  impulses = record { normal = number_in k s.normal; tangent = number_in k s.tangent };
+  impulses = impulses_in_lane k s.normal s.tangent;
 }
 
 -- one of four, by its lane

@@ -3,6 +3,8 @@
 ghost use Rattle.std.specs.Prelude.{◌≡◌, ℕ, ◌≤◌, ◌<◌, ◌^◌, ◌+◌, All, IfSome, IsTrue, List, Some, length, slice_get, slice_index_or};
 ghost use Rattle.pf_solver.specs.Velocities.{Batch};
 ghost use Rattle.pf_rows.specs.Row.{Constraint};
+ghost use Rattle.pf_rows.specs.Impulses.{no_impulses};
+ghost use Rattle.pf_bundles.specs.Numbers.{no_velocity};
 ghost use Rattle.pf_lanes.specs.Lanes.{Lane};
 ghost use Rattle.pf_bundles.specs.Bundle.{Seat, lane_number};
 ghost use Rattle.pf_bundles.specs.LaneRow.{lane_row_in, no_lane_row};
@@ -13,12 +15,15 @@ ghost use Rattle.pf_batches.specs.Contact.{IsWithin, seat_state_in, state_in};
 ghost use Rattle.pf_batches.specs.Limits.{AreGrown, AreWithin};
 ghost use Rattle.pf_batches.specs.Numbers.{AreAllWithin, AreAsMany, AreNumbersOf, AreSeatsOf, HoldEach, HoldsRow, IsSeatIn, lane_result, numbers_at_once, numbers_with_all, seat_state_at, seat_state_or};
 
-use crate::contact::ContactLanes;
+use crate::contact::{ContactLanes, accumulated, motions};
 use crate::round::after_round;
-use crate::seat_state::SeatState;
+use crate::seat_state::{SeatState, velocity_at};
 use crate::warm_start::after_warm_start;
 use pf_bundles::limits::NUMBER_LIMIT;
-use pf_bundles::{Bundle, LaneRow, Numbers, PreparedLanes, Seat};
+use pf_bundles::{
+    Bundle, LaneRow, Numbers, PreparedLanes, Seat, WholeImpulses, WholeVelocity,
+};
+use pf_levels::WIDTH;
 use pf_lanes::EXACT_LIMIT;
 use pf_rows::Prepared;
 use pf_solver::{ContactState, ContactStep, Round, WarmStart};
@@ -76,31 +81,94 @@ impl LaneStep for Round {
     }
 }
 
-/// The numbers of a lane that has a seat; without one, those of no row.
+/// The velocity of the first body of a lane that has a seat; without one, `rest`.
 #[inline(always)]
-fn lane_state(numbers: &Numbers, seats: &[Seat], lane: usize) -> SeatState
-    requires { All (IsSeatIn numbers.now) seats.now }
-    ensures { result ≡ seat_state_or numbers.now (slice_get seats.now lane) }
+fn first_velocity<'a>(
+    numbers: &'a Numbers,
+    seats: &[Seat],
+    lane: usize,
+    rest: &'a WholeVelocity,
+) -> &'a WholeVelocity
+    requires seats { All (IsSeatIn numbers.now) seats.now }
+    requires rest { rest.now ≡ no_velocity }
+    ensures { result.now ≡ (seat_state_or numbers.now (slice_get seats.now lane)).first }
 {
     match seats.get(lane) {
-        Some(seat) => SeatState::read(numbers, seat),
-        None => SeatState::none(),
+        Some(seat) => velocity_at(&numbers.velocities, seat.first, rest),
+        None => rest,
     }
 }
 
-/// The contacts of the rows of these seats, side by side.
+/// The velocity of the second body of a lane that has a seat; without one, `rest`.
+#[inline(always)]
+fn second_velocity<'a>(
+    numbers: &'a Numbers,
+    seats: &[Seat],
+    lane: usize,
+    rest: &'a WholeVelocity,
+) -> &'a WholeVelocity
+    requires seats { All (IsSeatIn numbers.now) seats.now }
+    requires rest { rest.now ≡ no_velocity }
+    ensures { result.now ≡ (seat_state_or numbers.now (slice_get seats.now lane)).second }
+{
+    match seats.get(lane) {
+        Some(seat) => velocity_at(&numbers.velocities, seat.second, rest),
+        None => rest,
+    }
+}
+
+/// The accumulated impulses of a lane that has a seat; without one, `none`.
+#[inline(always)]
+fn impulses_of<'a>(
+    numbers: &'a Numbers,
+    seats: &[Seat],
+    lane: usize,
+    none: &'a WholeImpulses,
+) -> &'a WholeImpulses
+    requires seats { All (IsSeatIn numbers.now) seats.now }
+    requires none { none.now ≡ no_impulses }
+    ensures { result.now ≡ (seat_state_or numbers.now (slice_get seats.now lane)).impulses }
+{
+    match seats.get(lane) {
+        Some(seat) => &numbers.impulses[seat.place],
+        None => none,
+    }
+}
+
+/// The contacts of the rows of these seats, side by side. Their numbers are lent, not copied: each
+/// is loaded by itself, as it was stored.
 #[inline(always)]
 fn read(numbers: &Numbers, seats: &[Seat]) -> ContactLanes
     requires { All (IsSeatIn numbers.now) seats.now }
     ensures { (k : Lane) → seat_state_in k result
         ≡ seat_state_or numbers.now (slice_get seats.now (lane_number k)) }
 {
-    ContactLanes::of(
-        &lane_state(numbers, seats, 0),
-        &lane_state(numbers, seats, 1),
-        &lane_state(numbers, seats, 2),
-        &lane_state(numbers, seats, 3),
-    )
+    let rest = WholeVelocity::none();
+    let none = WholeImpulses::none();
+    let first = motions(
+        first_velocity(numbers, seats, 0, &rest),
+        first_velocity(numbers, seats, 1, &rest),
+        first_velocity(numbers, seats, 2, &rest),
+        first_velocity(numbers, seats, 3, &rest),
+    );
+    let second = motions(
+        second_velocity(numbers, seats, 0, &rest),
+        second_velocity(numbers, seats, 1, &rest),
+        second_velocity(numbers, seats, 2, &rest),
+        second_velocity(numbers, seats, 3, &rest),
+    );
+    let (normal, tangent) = accumulated(
+        impulses_of(numbers, seats, 0, &none),
+        impulses_of(numbers, seats, 1, &none),
+        impulses_of(numbers, seats, 2, &none),
+        impulses_of(numbers, seats, 3, &none),
+    );
+    ContactLanes {
+        first,
+        second,
+        normal,
+        tangent,
+    }
 }
 
 /// The numbers of a row after the step of one contact, or `None` where one is above `most`.
@@ -218,12 +286,15 @@ fn after_step<L: LaneStep>(
 #[inline(always)]
 fn store(numbers: &mut Numbers, seats: &[Seat], states: &[SeatState])
     requires seats { All (IsSeatIn numbers.old) seats.now }
-    requires states { length seats.now ≤ length states.now }
+    requires fits { length seats.now ≤ WIDTH }
+    requires states { length states.now ≡ WIDTH }
     ensures value { numbers.new ≡ numbers_with_all seats.now states.now numbers.old }
     ensures many { AreAsMany numbers.old numbers.new }
 {
-    for lane in 0..seats.len() {
-        states[lane].store(numbers, &seats[lane]);
+    for lane in 0..WIDTH {
+        if let Some(seat) = seats.get(lane) {
+            states[lane].store(numbers, seat);
+        }
     }
 }
 

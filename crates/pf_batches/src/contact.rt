@@ -2,7 +2,7 @@
 
 ghost use Rattle.std.specs.Prelude.{◌≡◌, ◌∷◌, []};
 ghost use Rattle.pf_lanes.specs.Lanes.{First, Fourth, Second, Third};
-ghost use Rattle.pf_batches.specs.Contact.{velocity_in_lane};
+ghost use Rattle.pf_batches.specs.Contact.{impulses_in_lane, velocity_in_lane};
 
 use crate::seat_state::SeatState;
 use pf_bundles::{VectorLanes, WholeImpulses, WholeVector, WholeVelocity};
@@ -83,22 +83,22 @@ impl ContactLanes {
 
 /// The motions of four bodies, one in each lane.
 #[inline(always)]
-fn motions(
-    first: WholeVelocity,
-    second: WholeVelocity,
-    third: WholeVelocity,
-    fourth: WholeVelocity,
+pub(crate) fn motions(
+    first: &WholeVelocity,
+    second: &WholeVelocity,
+    third: &WholeVelocity,
+    fourth: &WholeVelocity,
 ) -> MotionLanes
-    ensures first { velocity_in_lane First result ≡ first }
-    ensures second { velocity_in_lane Second result ≡ second }
-    ensures third { velocity_in_lane Third result ≡ third }
-    ensures fourth { velocity_in_lane Fourth result ≡ fourth }
+    ensures first { velocity_in_lane First result ≡ first.now }
+    ensures second { velocity_in_lane Second result ≡ second.now }
+    ensures third { velocity_in_lane Third result ≡ third.now }
+    ensures fourth { velocity_in_lane Fourth result ≡ fourth.now }
 {
     let (a, b, c, d) = (
-        first.velocity,
-        second.velocity,
-        third.velocity,
-        fourth.velocity,
+        &first.velocity,
+        &second.velocity,
+        &third.velocity,
+        &fourth.velocity,
     );
     MotionLanes {
         velocity: VectorLanes {
@@ -107,6 +107,25 @@ fn motions(
         },
         spin: Lanes::gather([first.spin, second.spin, third.spin, fourth.spin]),
     }
+}
+
+/// The accumulated impulses of four rows, one in each lane: along the normals, and the tangents.
+#[inline(always)]
+pub(crate) fn accumulated(
+    first: &WholeImpulses,
+    second: &WholeImpulses,
+    third: &WholeImpulses,
+    fourth: &WholeImpulses,
+) -> (Lanes, Lanes)
+    ensures first { impulses_in_lane First result.0 result.1 ≡ first.now }
+    ensures second { impulses_in_lane Second result.0 result.1 ≡ second.now }
+    ensures third { impulses_in_lane Third result.0 result.1 ≡ third.now }
+    ensures fourth { impulses_in_lane Fourth result.0 result.1 ≡ fourth.now }
+{
+    (
+        Lanes::gather([first.normal, second.normal, third.normal, fourth.normal]),
+        Lanes::gather([first.tangent, second.tangent, third.tangent, fourth.tangent]),
+    )
 }
 
 /// The velocities of four bodies.
@@ -155,13 +174,17 @@ impl ContactLanes {
         ensures { (k : Lane) → seat_state_in k result
             ≡ seat_state_of k first.now second.now third.now fourth.now }
     {
-        let (a, b, c, d) = (*first, *second, *third, *fourth);
-        let (e, f, g, h) = (a.impulses, b.impulses, c.impulses, d.impulses);
+        let (normal, tangent) = accumulated(
+            &first.impulses,
+            &second.impulses,
+            &third.impulses,
+            &fourth.impulses,
+        );
         ContactLanes {
-            first: motions(a.first, b.first, c.first, d.first),
-            second: motions(a.second, b.second, c.second, d.second),
-            normal: Lanes::gather([e.normal, f.normal, g.normal, h.normal]),
-            tangent: Lanes::gather([e.tangent, f.tangent, g.tangent, h.tangent]),
+            first: motions(&first.first, &second.first, &third.first, &fourth.first),
+            second: motions(&first.second, &second.second, &third.second, &fourth.second),
+            normal,
+            tangent,
         }
     }
 

@@ -2,6 +2,7 @@
 
 ghost use Rattle.std.specs.Prelude.{◌≡◌, ◌≤◌, ◌<◌, IfSome, length, slice_get, slice_index_or};
 ghost use Rattle.pf_rows.specs.Row.{IsSide};
+ghost use Rattle.pf_bundles.specs.Numbers.{no_velocity};
 ghost use Rattle.pf_rows.specs.Impulses.{no_impulses};
 ghost use Rattle.pf_batches.specs.Numbers.{numbers_with, velocity_at, with_velocity};
 
@@ -32,15 +33,20 @@ impl Model for SeatState {
     ghost inverse = { λ s. record { first = s.first; second = s.second; impulses = s.impulses } };
 }
 
-/// The velocity of the body on a side.
+/// The velocity of the body on a side; that of a static body is `rest`.
 #[inline(always)]
-fn velocity_at(velocities: &[WholeVelocity], side: Side) -> WholeVelocity
-    requires { IsSide (length velocities.now) side }
-    ensures { result ≡ velocity_at velocities.now side }
+pub(crate) fn velocity_at<'a>(
+    velocities: &'a [WholeVelocity],
+    side: Side,
+    rest: &'a WholeVelocity,
+) -> &'a WholeVelocity
+    requires side { IsSide (length velocities.now) side }
+    requires rest { rest.now ≡ no_velocity }
+    ensures { result.now ≡ velocity_at velocities.now side }
 {
     match side {
-        Side::Static => WholeVelocity::none(),
-        Side::Dynamic(place) => velocities[place],
+        Side::Static => rest,
+        Side::Dynamic(place) => &velocities[place],
     }
 }
 
@@ -94,9 +100,10 @@ impl SeatState {
         requires { IsSeatIn numbers.now seat.now }
         ensures { result ≡ seat_state_at numbers.now seat.now }
     {
+        let rest = WholeVelocity::none();
         SeatState {
-            first: velocity_at(&numbers.velocities, seat.first),
-            second: velocity_at(&numbers.velocities, seat.second),
+            first: *velocity_at(&numbers.velocities, seat.first, &rest),
+            second: *velocity_at(&numbers.velocities, seat.second, &rest),
             impulses: numbers.impulses[seat.place],
         }
     }

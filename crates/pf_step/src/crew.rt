@@ -4,10 +4,10 @@ ghost use Rattle.std.specs.Prelude.{◌≡◌, All, map};
 ghost use Rattle.pf_islands.specs.Split.{IsIslandOf};
 ghost use Rattle.pf_solver.specs.Alone.{island_after_tick};
 
-use pf_batches::solve_islands;
 use pf_islands::Island;
 use pf_manifold::OneThread;
 use pf_shapes::Scene;
+use pf_solver::solve_island;
 use std::alloc::{AllocError, AllocFailed};
 use thiserror::Error;
 
@@ -72,13 +72,14 @@ pub trait Crew {
     }
 }
 
-/// Solves each island as if it were alone. Where there is memory for it, their rounds are calculated
-/// together, in lanes; the result does not depend on that.
+/// Solves each island, one after the other. Takes no memory.
 pub fn solve_all(scene: &Scene, islands: &mut [Island])
     requires { All (IsIslandOf scene.now) islands.old }
     ensures { islands.new ≡ map (island_after_tick scene.now) islands.old }
 {
-    solve_islands(scene, islands);
+    for island in islands.iter_mut() {
+        solve_island(scene, island);
+    }
 }
 
 /// The thread of the caller solves the islands one after the other, and cannot fail.
