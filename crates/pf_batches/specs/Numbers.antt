@@ -143,13 +143,13 @@ abbrev pub lane_result : Step → LaneRow → SeatState → SeatState
 lane_result step l s =
     seat_state_from (step l.constraint (state_of l.first_mass l.second_mass s))
 
--- a lane that holds these rows: that of its seat stands at the place of the seat
+-- a lane holds the row of its seat: the one that stands at the place of that seat
 abbrev pub HoldsRow : List LaneRow → List Seat → PreparedLanes → Lane → Type 0
 HoldsRow rows seats p k =
     (seat : Seat) → slice_get seats (lane_number k) ≡ Some seat
     → lane_row_in k p ≡ slice_index_or rows seat.place no_lane_row
 
--- the lanes hold these rows: the one of each place
+-- lanes hold rows: the lane at each place holds the row at that place
 abbrev pub HoldEach : List LaneRow → List Row → Type 0
 HoldEach lane_rows rows =
     (p : ℕ) (r : Row) → slice_get rows p ≡ Some r
@@ -205,7 +205,8 @@ AreResults step n (p ∷ places) (r ∷ found) [] = ⊥
 AreResults step n (p ∷ places) (r ∷ found) (m ∷ states) =
     (m ≡ result_at step n p r) × AreResults step n places found states
 
--- the numbers `now` where what a step makes of the row at a place, read from `n`, is stored
+-- the numbers `now` after what a step makes of the row at a place is stored; the row was read from
+-- `n`
 abbrev pub numbers_where : Step → Numbers → Numbers → ℕ → Option Row → Numbers
 numbers_where step n now place None = now
 numbers_where step n now place (Some r) =

@@ -28,7 +28,8 @@ use pf_lanes::EXACT_LIMIT;
 use pf_rows::Prepared;
 use pf_solver::{ContactState, ContactStep, Round, WarmStart};
 
-/// How much a step can make a velocity along an axis and an accumulated impulse greater.
+/// How much greater a step in lanes can make a velocity along an axis, or an accumulated impulse,
+/// in raw units of 2^-24.
 pub const GROWTH: u64 = 1 << 30;
 
 /// What contacts side by side do in one pass: a warm start, or one round.
@@ -171,7 +172,8 @@ fn read(numbers: &Numbers, seats: &[Seat]) -> ContactLanes
     }
 }
 
-/// The numbers of a row after the step of one contact, or `None` where one is above `most`.
+/// The numbers of a row after the step, by scalars; `None` where one is above `most`, or doubles do
+/// not hold a spin.
 fn exact_state<L: ContactStep>(row: &LaneRow, state: &SeatState, most: u64) -> Option<SeatState>
     requires { most ≤ EXACT_LIMIT }
     ensures value { IfSome result (λ after. after ≡ lane_result L.step row.now state.now) }
@@ -186,7 +188,8 @@ fn exact_state<L: ContactStep>(row: &LaneRow, state: &SeatState, most: u64) -> O
     SeatState::of(&after, most)
 }
 
-/// The same of a lane that has a seat; without one, the numbers of no row.
+/// The numbers of a lane after the step, by scalars; those of no row where the lane has no seat.
+/// `None` as in [`exact_state`].
 fn exact_lane<L: ContactStep>(
     rows: &[LaneRow],
     seats: &[Seat],
@@ -208,7 +211,8 @@ fn exact_lane<L: ContactStep>(
     }
 }
 
-/// The contacts of a bundle after the step, each by scalars; `None` where a number is above `most`.
+/// The contacts of a bundle after the step, each by scalars; `None` where a number of one is above
+/// `most`, or doubles do not hold a spin.
 #[cold]
 #[inline(never)]
 fn after_exact<L: ContactStep>(
@@ -255,7 +259,7 @@ fn after_fast<L: LaneStep>(
 }
 
 /// The contacts of a bundle after the step: in lanes, or else each by scalars; `None` where a
-/// number is above `most` by more than a step in lanes makes it greater.
+/// number is then above `most` by more than [`GROWTH`], or doubles do not hold a spin.
 #[inline(always)]
 fn after_step<L: LaneStep>(
     bundle: &Bundle,
@@ -299,7 +303,7 @@ fn store(numbers: &mut Numbers, seats: &[Seat], states: &[SeatState])
 }
 
 /// The step of the rows of a bundle, all of them by the numbers as they were before; `false` where
-/// a number is above `most` by more than a step in lanes makes it greater.
+/// a number is then above `most` by more than [`GROWTH`], or doubles do not hold a spin.
 #[inline(always)]
 pub(crate) fn solve_bundle<L: LaneStep>(
     bundle: &Bundle,

@@ -9,7 +9,7 @@ use pf_bundles::{VectorLanes, WholeImpulses, WholeVector, WholeVelocity};
 use pf_lanes::Lanes;
 use std::marker::Model;
 
-/// What impulses change of bodies side by side.
+/// The velocities and the angular velocities of bodies side by side.
 #[derive(Clone, Copy)]
 pub struct MotionLanes {
     /// The velocities.
@@ -64,7 +64,7 @@ impl Model for ContactLanes {
 impl ContactLanes {
     ghost use Rattle.std.specs.Prelude.{◌≡◌};
 
-    /// With other accumulated impulses along the normals.
+    /// The same contacts with these accumulated impulses along the normals.
     #[inline(always)]
     pub fn with_normal(self, normal: Lanes) -> ContactLanes
         ensures { result ≡ record self { normal = normal } }
@@ -72,7 +72,7 @@ impl ContactLanes {
         ContactLanes { normal, ..self }
     }
 
-    /// With other accumulated impulses along the tangents.
+    /// The same contacts with these accumulated impulses along the tangents.
     #[inline(always)]
     pub fn with_tangent(self, tangent: Lanes) -> ContactLanes
         ensures { result ≡ record self { tangent = tangent } }

@@ -164,7 +164,7 @@ fn turn_of(arm: &ScaledVectors, impulse: &VectorLanes) -> Lanes
     times(arm.x, y).minus(times(arm.y, x))
 }
 
-/// How impulses at these arms change the spins of bodies, or `None`.
+/// How impulses at these arms change the spins of bodies, or `None` where a product is too great.
 #[inline(always)]
 fn spin_changes(mass: &MassLanes, arm: &ScaledVectors, impulse: &VectorLanes) -> Option<Lanes>
     requires x { (k : Lane)
@@ -204,7 +204,8 @@ fn velocity_after(inverse_mass: Scaled, impulse: &VectorLanes, velocity: VectorL
     }
 }
 
-/// Bodies after impulses at these arms, or `None`. No impulse exceeds `size`.
+/// Bodies after impulses at these arms, or `None` where a product is too great. No impulse exceeds
+/// `size`.
 #[inline(always)]
 #[tactic(auto, unfolding(pf_solver::specs::Impulse::second_after), using(crate::proofs::Sizes::part_below))]
 fn motion_after(
@@ -252,8 +253,8 @@ fn opposite(vectors: &VectorLanes) -> VectorLanes
     }
 }
 
-/// Both bodies of each contact after an impulse at the contact point, or `None`. No impulse exceeds
-/// `size`.
+/// Both bodies of each contact after an impulse at the contact point, or `None` where a product is
+/// too great. No impulse exceeds `size`.
 #[inline(always)]
 #[tactic(auto, unfolding(pf_solver::specs::Impulse::after_impulse), using(crate::proofs::Reactions::reaction))]
 pub(crate) fn after_impulse(

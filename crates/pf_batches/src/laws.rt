@@ -13,9 +13,9 @@ use crate::bundle_step::GROWTH;
 use crate::together::START_LIMIT;
 
 /// Velocities and accumulated impulses may be held in two lists of their own while rows are solved
-/// level by level: where each row of a level is read from the lists as they were before, and then
-/// all are stored, a batch with these numbers is the batch with the level solved at once; and after
-/// so many passes it is that after as many passes along the list of rows.
+/// level by level. Where each row of a level is read from the lists as they were before the level,
+/// and all results are then stored, the batch with these numbers is the batch after the level at
+/// once. After so many passes it is the batch after as many passes along the list of rows.
 pub fn numbers_are_solved_as_the_batch()
     ensures level { (step : Step) (b : Batch) (n : Numbers) (level : List ℕ) (found : List Row)
         (states : List ContactState) → AreNumbersOf b n → AreRowsAt b.rows level found
@@ -28,8 +28,8 @@ pub fn numbers_are_solved_as_the_batch()
         ≡ passes k step (batch_with n b) }
 {}
 
-/// How great numbers are before the rounds, and how much greater a step in lanes can make them, in
-/// raw units of 2^-24.
+/// How great numbers can be before the rounds, and how much greater a step in lanes can make them,
+/// in raw units of 2^-24.
 pub fn named_limits()
     ensures start { START_LIMIT ≡ 2 ^ 49 }
     ensures growth { GROWTH ≡ 2 ^ 30 }

@@ -1,5 +1,6 @@
 //! Islands solved together, as one batch: level by level, the rows of a level four at a time in
-//! lanes (Box2D 3's wide constraints, Bepu's bundles), with the bits of one row after the other.
+//! lanes (Box2D 3's wide constraints, Bepu's bundles). The result is, bit for bit, that of solving
+//! one row after the other.
 #![tactic(auto)]
 
 mod bundle_step;

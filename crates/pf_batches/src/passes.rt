@@ -13,8 +13,8 @@ use pf_bundles::limits::NUMBER_LIMIT;
 use pf_bundles::{Bundle, LaneRow, Numbers};
 use pf_solver::{ROUNDS, Round, WarmStart};
 
-/// One pass: the step of each bundle, one after the other. Returns how great the numbers can be
-/// after it, where they were at most `most` before; `None` where they become too great.
+/// One pass: the step of each bundle, one after the other. Before it no number is above `most`.
+/// Returns what no number is above after it, or `None` where a number becomes too great.
 fn pass<L: LaneStep>(
     bundles: &[Bundle],
     rows: &[LaneRow],

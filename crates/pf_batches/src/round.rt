@@ -16,7 +16,7 @@ use pf_bundles::PreparedLanes;
 use pf_bundles::limits::{NUMBER_LIMIT, PRODUCT_LIMIT};
 use pf_lanes::Lanes;
 
-/// The accumulated normal impulses after the step, or `None`.
+/// The accumulated normal impulses after the step, or `None` where a number is above a limit.
 #[inline(always)]
 #[tactic(auto, unfolding(pf_solver::specs::Impulse::normal_impulse))]
 fn normal_impulses(prepared: &PreparedLanes, state: &ContactLanes) -> Option<Lanes>
@@ -43,7 +43,7 @@ fn normal_impulses(prepared: &PreparedLanes, state: &ContactLanes) -> Option<Lan
     Some(Lanes::zero().greatest(state.normal.plus(change)))
 }
 
-/// The step of the normals, or `None`.
+/// The step of the normals, or `None` where a number is above a limit.
 #[inline(always)]
 #[tactic(auto, unfolding(pf_solver::specs::Impulse::after_normal_step, pf_solver::specs::Impulse::after_impulse))]
 fn after_normal_step(prepared: &PreparedLanes, state: &ContactLanes) -> Option<ContactLanes>
@@ -67,7 +67,7 @@ fn after_normal_step(prepared: &PreparedLanes, state: &ContactLanes) -> Option<C
     Some(after.with_normal(normal))
 }
 
-/// The accumulated tangent impulses after the step, or `None`.
+/// The accumulated tangent impulses after the step, or `None` where a number is above a limit.
 #[inline(always)]
 #[tactic(auto, unfolding(pf_solver::specs::Impulse::tangent_impulse, pf_solver::specs::Impulse::friction_limit), using(pf_solver::proofs::Sizes::clamped_within))]
 fn tangent_impulses(prepared: &PreparedLanes, state: &ContactLanes) -> Option<Lanes>
@@ -99,7 +99,7 @@ fn tangent_impulses(prepared: &PreparedLanes, state: &ContactLanes) -> Option<La
     Some(limit.negated().greatest(limit.least(total)))
 }
 
-/// The step of friction, or `None`.
+/// The step of friction, or `None` where a number is above a limit.
 #[inline(always)]
 #[tactic(auto, unfolding(pf_solver::specs::Impulse::after_friction_step, pf_solver::specs::Impulse::after_impulse))]
 fn after_friction_step(prepared: &PreparedLanes, state: &ContactLanes) -> Option<ContactLanes>

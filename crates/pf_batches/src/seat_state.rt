@@ -1,4 +1,4 @@
-//! The numbers of one row: read from all numbers, side by side with others, and stored.
+//! The numbers of one row: how they are read from the numbers of all rows, and stored there.
 
 ghost use Rattle.std.specs.Prelude.{◌≡◌, ◌≤◌, ◌<◌, IfSome, length, slice_get, slice_index_or};
 ghost use Rattle.pf_rows.specs.Row.{IsSide};
@@ -82,7 +82,7 @@ impl SeatState {
     ghost use Rattle.pf_batches.specs.Contact.{IsWithin, no_seat_state, state_of};
     ghost use Rattle.pf_batches.specs.Numbers.{IsSeatIn, seat_state_at, seat_state_from};
 
-    /// That of a lane without a row.
+    /// The numbers of a lane without a row: zeros.
     #[inline(always)]
     pub fn none() -> SeatState
         ensures { result ≡ no_seat_state }
@@ -94,7 +94,7 @@ impl SeatState {
         }
     }
 
-    /// That of a row.
+    /// The numbers of the row of this seat.
     #[inline(always)]
     pub fn read(numbers: &Numbers, seat: &Seat) -> SeatState
         requires { IsSeatIn numbers.now seat.now }
@@ -108,7 +108,7 @@ impl SeatState {
         }
     }
 
-    /// Stores it as that of a row: the first body, and then the second.
+    /// Stores the numbers of the row of this seat: of the first body, and then of the second.
     #[inline(always)]
     pub fn store(&self, numbers: &mut Numbers, seat: &Seat)
         requires { IsSeatIn numbers.old seat.now }
@@ -130,8 +130,8 @@ impl SeatState {
         }
     }
 
-    /// That of a contact, or `None` where a velocity or an impulse is above `most`, or doubles do
-    /// not hold a spin.
+    /// The numbers of a contact, or `None` where a velocity or an impulse is above `most`, or
+    /// doubles do not hold a spin.
     pub fn of(state: &ContactState, most: u64) -> Option<SeatState>
         requires { most ≤ EXACT_LIMIT }
         ensures value { IfSome result (λ seat. seat ≡ seat_state_from state.now) }

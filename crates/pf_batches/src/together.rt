@@ -17,8 +17,8 @@ use pf_solver::{finish_island, prepare_island, solve_rounds};
 use std::alloc::AllocError;
 use std::mem;
 
-/// The greatest velocity along an axis, and the greatest accumulated impulse, before the rounds:
-/// 2^25, in raw units of 2^-24.
+/// The greatest velocity along an axis, and the greatest accumulated impulse, before the rounds, in
+/// raw units of 2^-24: 2^25 lengths a second.
 pub const START_LIMIT: u64 = 1 << 49;
 
 /// How many rows a level has to have on average, so that lanes pay.
@@ -204,8 +204,8 @@ fn finish_all(islands: &mut [Island])
     }
 }
 
-/// Takes islands through a tick of 1/64 s, each as if it were alone: their rounds together in lanes,
-/// where that pays and there is memory for it, and else one island after the other.
+/// Takes islands through a tick of 1/64 s, each as if it were alone: their rounds together in
+/// lanes, where that pays and there is memory for it, and else one island after the other.
 pub fn solve_islands(scene: &Scene, islands: &mut [Island])
     requires { All (IsIslandOf scene.now) islands.old }
     ensures { islands.new ≡ map (island_after_tick scene.now) islands.old }

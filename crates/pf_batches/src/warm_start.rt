@@ -43,7 +43,8 @@ fn sums(first: &VectorLanes, second: &VectorLanes) -> VectorLanes
     }
 }
 
-/// Numbers that the sums of two impulses along directions do not exceed.
+/// Twice the sums of the magnitudes of both impulses: neither part of the impulse of a warm start
+/// exceeds that.
 #[inline(always)]
 #[tactic(auto, unfolding(pf_num::specs::Fx::sum, pf_num::specs::Fx::saturate))]
 fn sizes(normal: Lanes, tangent: Lanes) -> Lanes
@@ -55,7 +56,7 @@ fn sizes(normal: Lanes, tangent: Lanes) -> Lanes
     twice(magnitudes(normal).plus(magnitudes(tangent)))
 }
 
-/// The impulses of the last tick: those along the normals and those along the tangents.
+/// The impulses of the last tick: the sums of those along the normals and those along the tangents.
 #[inline(always)]
 fn impulses(constraint: &ConstraintLanes, normal: Lanes, tangent: Lanes) -> VectorLanes
     requires normal { (k : Lane) → unsigned_abs (number_in k normal) ≤ LANE_LIMIT }

@@ -1,0 +1,6 @@
+//! Tests of `pf_batches` by its public call. They stand in a crate of their own, so that a check of
+//! `pf_batches` does not prove them.
+#![tactic(auto)]
+
+#[cfg(test)]
+mod tests;

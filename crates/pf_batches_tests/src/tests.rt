@@ -1,0 +1,161 @@
+//! Islands solved together, against each of them alone: ticks of the same world by two crews.
+
+ghost use Rattle.std.specs.Prelude.{◌≡◌, All, IfOk, length, map};
+ghost use Rattle.pf_islands.specs.Split.{IsIslandOf};
+ghost use Rattle.pf_solver.specs.Alone.{island_after_tick};
+
+use pf_batches::solve_islands;
+use pf_commands::Payload;
+use pf_islands::Island;
+use pf_manifold::OneThread;
+use pf_num::Fx;
+use pf_shapes::Scene;
+use pf_solver::solve_island;
+use pf_step::{Crew, CrewError, StepError, Work, World, step_by};
+use std::alloc::Global;
+use std::test::Fail;
+
+/// A floor, and on it three stacks of two boxes.
+const STACKS: &[u8] = b"gravity 0 -167772160\n\
+box - 0 8388608 1677721600 16777216 0 -16777216 1 0\n\
+box - 16777216 8388608 8388608 8388608 0 8304722 1 0\n\
+box - 16777216 8388608 8388608 8388608 1677721 24998052 1 0\n\
+box - 33554432 8388608 8388608 8388608 67108864 8304722 1 0\n\
+box - 16777216 8388608 8388608 8388608 67108864 24998052 1 0\n\
+box - 16777216 1677721 8388608 8388608 134217728 8304722 1 0\n\
+box - 8388608 8388608 8388608 8388608 132540006 24998052 1 0\nend\n";
+
+/// A circle on a floor.
+const CIRCLE: &[u8] = b"gravity 0 -167772160\n\
+box - 0 8388608 1677721600 16777216 0 -16777216 1 0\n\
+circle - 16777216 8388608 8388608 0 8304722\nend\n";
+
+/// Solves islands together, and notes whether it did so in lanes.
+#[derive(Drop)]
+struct Together {
+    in_lanes: bool,
+}
+
+/// Whether the first island has the velocity that was calculated for it in lanes.
+fn are_from_lanes(islands: &[Island]) -> bool {
+    let Some(island) = islands.first() else {
+        return false;
+    };
+    match (
+        island.workspace.numbers.velocities.first(),
+        island.bodies.first(),
+    ) {
+        (Some(whole), Some(body)) => {
+            whole.velocity() == body.velocity && whole.spin() == body.spin
+        }
+        _ => false,
+    }
+}
+
+impl Crew for Together {
+    fn solve(&mut self, scene: &Scene, islands: Vec<Island>) -> Result<Vec<Island>, CrewError> {
+        let mut islands = islands;
+        solve_islands(scene, &mut islands);
+        self.in_lanes = are_from_lanes(&islands);
+        Ok(islands)
+    }
+}
+
+/// Solves one island after the other.
+#[derive(Drop)]
+struct Alone;
+
+/// Each island after its tick.
+fn solve_each(scene: &Scene, islands: &mut [Island])
+    requires { All (IsIslandOf scene.now) islands.old }
+    ensures { islands.new ≡ map (island_after_tick scene.now) islands.old }
+{
+    for island in islands.iter_mut() {
+        solve_island(scene, island);
+    }
+}
+
+impl Crew for Alone {
+    fn solve(&mut self, scene: &Scene, islands: Vec<Island>) -> Result<Vec<Island>, CrewError> {
+        let mut islands = islands;
+        solve_each(scene, &mut islands);
+        Ok(islands)
+    }
+}
+
+/// The world some ticks after the start of a scene. The commands are those of the first tick.
+fn world_after<C: Crew>(
+    alloc: Global,
+    scene: &Scene,
+    payloads: &[Payload],
+    ticks: u32,
+    crew: &mut C,
+) -> Result<World, StepError>
+    ensures { IfOk result (λ world. length world.bodies ≡ length scene.now.fixtures) }
+{
+    let mut work = Work::new(alloc);
+    let mut payloads = payloads;
+    let mut world = World::start(alloc, scene)?;
+    for _ in 0..ticks {
+        world = step_by(&OneThread, alloc, scene, &world, payloads, &mut work, crew)?;
+        payloads = &[];
+    }
+    Ok(world)
+}
+
+/// Whether both crews make the same world of a scene, and whether the rounds of its last tick were
+/// in lanes where islands are solved together.
+fn compare(
+    alloc: Global,
+    text: &[u8],
+    payloads: &[Payload],
+    ticks: u32,
+) -> Result<[bool; 2], Fail> {
+    let scene = Scene::read(alloc, text)?;
+    let mut together = Together { in_lanes: false };
+    let one = world_after(alloc, &scene, payloads, ticks, &mut together)?;
+    let other = world_after(alloc, &scene, payloads, ticks, &mut Alone)?;
+    Ok([one == other, together.in_lanes])
+}
+
+#[test]
+fn stacks_are_solved_in_lanes(rt: HostRuntime) -> Result<(), Fail> {
+    for ticks in 1..5 {
+        let found = compare(rt.alloc(), STACKS, &[], ticks)?;
+        assert_eq!(rt; found, [true, true], "after {ticks} ticks");
+    }
+    Ok(())
+}
+
+/// So many lengths a second times a mass of 1.
+fn impulse(speed: i32) -> Fx {
+    Fx::from_raw(i64::from(speed) * 16_777_216).unwrap_or(Fx::ZERO)
+}
+
+#[test]
+fn fast_bodies_are_solved_by_scalars(rt: HostRuntime) -> Result<(), Fail> {
+    // The first body has a mass of 1, and the third one of 2. A row with a speed of 100 lengths a
+    // second is solved by scalars, beside others in lanes. With 2^26 no island is, and with almost
+    // 2^25 downwards the rounds in lanes end early.
+    for (body, x, y, in_lanes) in [
+        (1, 100, 0, true),
+        (1, 67_108_864, 0, false),
+        (3, 0, -67_108_000, false),
+    ] {
+        let push = Payload::Push {
+            body,
+            x: impulse(x),
+            y: impulse(y),
+        };
+        let found = compare(rt.alloc(), STACKS, &[push], 1)?;
+        assert_eq!(rt; found, [true, in_lanes], "a push by {x} {y}");
+    }
+    Ok(())
+}
+
+#[test]
+fn one_contact_is_solved_alone(rt: HostRuntime) -> Result<(), Fail> {
+    let found = compare(rt.alloc(), CIRCLE, &[], 3)?;
+    assert_eq!(rt; found, [true, false]);
+    Ok(())
+}
