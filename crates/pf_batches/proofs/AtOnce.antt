@@ -1,5 +1,5 @@
 -- A bundle is solved as its level at once.
-use Rattle.std.proofs.Common.{◌≡◌, ◌∙◌, ℕ, zero, suc, ◌<◌, ◌≤◌, ◌∷◌, None, Option, Some, List, [], length, map, refl, sym, ap, ap₂, inl, inr, subst, arith}
+use Rattle.std.proofs.Common.{◌≡◌, ◌∙◌, ℕ, zero, suc, ◌<◌, ◌≤◌, ◌∷◌, Option, Some, List, [], length, map, refl, sym, ap, ap₂, inl, inr, subst, arith}
 use Rattle.std.proofs.lemmas.Option.{none-some, same_Some}
 use Rattle.std.specs.Prelude.{slice_get, slice_index_or}
 use Rattle.pf_rot.specs.Vector.{V2}
@@ -8,10 +8,10 @@ use Rattle.pf_rows.specs.declared.row.Side.{Side}
 use Rattle.pf_rows.specs.declared.row.Side.TheVariants.{Dynamic, Static}
 use Rattle.pf_rows.specs.Row.{Constraint, InverseMass, Row}
 use Rattle.pf_bundles.specs.Bundle.{Seat, lane_number}
-use Rattle.pf_bundles.specs.LaneRow.{IsHeldBy, LaneRow, arm_on, constraint_on, mass_on, no_lane_row}
+use Rattle.pf_bundles.specs.LaneRow.{IsHeldBy, LaneRow, arm_on, mass_on, no_lane_row}
 use Rattle.pf_bundles.specs.Numbers.{Numbers, Velocity}
 use Rattle.pf_solver.specs.FastPath.{IsArmFor}
-use Rattle.pf_solver.specs.Impulse.{ContactState, Motion}
+use Rattle.pf_solver.specs.Impulse.{ContactState}
 use Rattle.pf_solver.specs.Velocities.{Batch, Step}
 use Rattle.pf_batches.specs.Contact.{ContactLanes, SeatState, seat_state_in, state_of}
 use Rattle.pf_batches.specs.Numbers.{AreNumbersOf, AreResults, AreRowsAt, AreSeatsOf, HoldEach, lane_result, motion_on, numbers_after, numbers_after_all, numbers_at_once, numbers_with, numbers_with_all, result_at, seat_of, seat_state_at, seat_state_from, seats_of, state_at, velocity_at}

@@ -1,7 +1,6 @@
 -- Rows that lanes hold: their numbers, and what a step makes of them.
 use Rattle.std.proofs.Common.{◌≡◌, ◌∙◌, ℕ, zero, suc, ◌+◌, ◌<◌, ◌≤◌, length, length-set, take, ap₂, ◌∷◌, None, Option, Some, List, [], refl, sym, ap, subst, arith}
 use Rattle.std.proofs.lemmas.List.Elements.{All-cons, All-nil, All-head, All-set, All-tail, All-weaker}
-use Rattle.std.proofs.lemmas.Option.{none-some, same_Some}
 use Rattle.std.specs.Prelude.{All, IfSome, slice_get, slice_index_or}
 use Rattle.std.specs.Int.RustNames.{unsigned_abs}
 use Rattle.pf_lanes.specs.Lanes.{First, Fourth, Lane, Second, Third}
@@ -14,10 +13,9 @@ use Rattle.pf_bundles.specs.Bundle.{Seat, lane_number}
 use Rattle.pf_bundles.specs.LaneRow.{lane_row_in}
 use Rattle.pf_bundles.specs.Numbers.{Numbers, Velocity, no_velocity}
 use Rattle.pf_bundles.specs.Prepared.{PreparedLanes, constraint_in}
-use Rattle.pf_solver.specs.Impulse.{ContactState}
 use Rattle.pf_solver.specs.Velocities.{Step}
 use Rattle.pf_batches.specs.Contact.{ContactLanes, IsWithin, SeatState, seat_state_in, state_in, state_of}
-use Rattle.pf_batches.specs.Limits.{AreGrown, AreWithin}
+use Rattle.pf_batches.specs.Limits.{AreGrown}
 use Rattle.pf_batches.specs.Numbers.{AreAllWithin, AreAsMany, IsSeatIn, lane_result, numbers_with, numbers_with_all, seat_state_from, seat_state_or, velocity_at, with_velocity}
 
 -- what a step makes of a contact in a lane is what it makes of the numbers of its row

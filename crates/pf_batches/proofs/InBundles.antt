@@ -1,10 +1,10 @@
 -- Passes level by level, each level by its bundle.
-use Rattle.std.proofs.Common.{◌≡◌, ◌∙◌, ℕ, ◌+◌, ◌<◌, Some, List, [], length, refl, sym, ap, subst, arith}
+use Rattle.std.proofs.Common.{◌≡◌, ◌∙◌, ℕ, ◌+◌, ◌<◌, Some, List, [], length, sym, ap, subst, arith}
 use Rattle.std.proofs.lemmas.List.Elements.{All-get_or, All-weaker}
 use Rattle.std.proofs.lemmas.List.{get_or_default}
 use Rattle.std.proofs.lemmas.Option.{slice_get-get_or}
 use Rattle.std.specs.Prelude.{All, slice_get, slice_index_or}
-use Rattle.pf_bundles.specs.Bundle.{Bundle, Seat}
+use Rattle.pf_bundles.specs.Bundle.{Bundle}
 use Rattle.pf_bundles.specs.LaneRow.{LaneRow}
 use Rattle.pf_bundles.specs.Numbers.{Numbers}
 use Rattle.pf_solver.specs.Beside.{velocities_of}
@@ -12,7 +12,7 @@ use Rattle.pf_solver.specs.declared.velocities.TheConstants.{ROUNDS}
 use Rattle.pf_solver.specs.Impulse.{after_round, after_warm_start}
 use Rattle.pf_solver.specs.Order.{AreLevelsOf}
 use Rattle.pf_solver.specs.Velocities.{Batch, Step}
-use Rattle.pf_batches.specs.Numbers.{AreAfter, AreAsMany, AreBundlesFor, AreNumbersOf, AreSeatsOf, HoldEach, IsBundleOn, IsSeatIn, batch_with, numbers_at_once, numbers_of}
+use Rattle.pf_batches.specs.Numbers.{AreAfter, AreAsMany, AreBundlesFor, AreNumbersOf, AreSeatsOf, HoldEach, IsBundleOn, batch_with, numbers_at_once, numbers_of}
 use Rattle.pf_batches.proofs.Bundles.{seats_stay}
 use Rattle.pf_batches.proofs.Levels.{before_passes, level_at_once_more, pass_more, velocities_by_levels}
 use Rattle.pf_batches.proofs.Numbers.{numbers_fit}

@@ -1,26 +1,23 @@
 -- Bundles of the levels of a batch: their seats are those of its rows, and their lanes hold them.
-use Rattle.std.proofs.Common.{◌≡◌, ◌∙◌, ℕ, zero, suc, ◌<◌, ◌∷◌, None, Some, List, [], length, map, refl, sym, ap, ap₂, subst, arith}
+use Rattle.std.proofs.Common.{◌≡◌, ◌∙◌, ℕ, zero, suc, ◌<◌, ◌∷◌, Some, List, [], length, map, refl, sym, ap, ap₂, subst, arith}
 use Rattle.std.proofs.lemmas.List.{get_or_default, length-map}
-use Rattle.std.proofs.lemmas.List.Elements.{All-cons, All-from_get_or, All-get_or, All-head, All-map, All-nil, All-tail}
-use Rattle.std.proofs.lemmas.Option.{none-some, same_Some, slice_get-get_or, slice_get-map}
+use Rattle.std.proofs.lemmas.List.Elements.{All-cons, All-get_or, All-head, All-nil, All-tail}
+use Rattle.std.proofs.lemmas.Option.{none-some, same_Some, slice_get-get_or}
 use Rattle.std.proofs.Math.ListN.{get_or-map}
-use Rattle.std.specs.Option.{option_map}
 use Rattle.std.specs.Prelude.{All, slice_get, slice_index_or}
-use Rattle.pf_lanes.specs.Lanes.{Lane}
 use Rattle.pf_islands.proofs.Elements.{all_from}
-use Rattle.pf_rows.specs.declared.row.Side.{Side}
 use Rattle.pf_rows.specs.declared.row.Side.TheVariants.{Static}
 use Rattle.pf_rows.specs.Row.{IsEntryOf, IsSide, Row}
-use Rattle.pf_levels.specs.Levels.{AreLevels, Pair, pair_of}
+use Rattle.pf_levels.specs.Levels.{Pair, pair_of}
 use Rattle.pf_bundles.proofs.Bundles.{as_many}
-use Rattle.pf_bundles.specs.Bundle.{AreBundlesOf, Bundle, IsBundleOf, Seat, lane_number, lane_row_or, row_of_lane, seat_at}
-use Rattle.pf_bundles.specs.LaneRow.{IsHeldBy, LaneRow, lane_row_in, no_lane_row}
+use Rattle.pf_bundles.specs.Bundle.{AreBundlesOf, Bundle, IsBundleOf, Seat, lane_number, lane_row_or, seat_at}
+use Rattle.pf_bundles.specs.LaneRow.{IsHeldBy, LaneRow}
 use Rattle.pf_bundles.specs.Numbers.{Numbers}
 use Rattle.pf_solver.specs.Beside.{IsBatch}
 use Rattle.pf_solver.specs.Order.{AreLevelsOf}
 use Rattle.pf_solver.specs.Velocities.{Batch}
 use Rattle.pf_batches.specs.Islands.{AreHeldBy, IsLoaded}
-use Rattle.pf_batches.specs.Numbers.{AreBundlesFor, AreNumbersOf, AreRowsAt, AreSeatsOf, HoldEach, HoldsRow, IsBundleOn, IsSeatIn, seat_of, seats_of}
+use Rattle.pf_batches.specs.Numbers.{AreBundlesFor, AreNumbersOf, AreSeatsOf, HoldEach, IsBundleOn, IsSeatIn, seat_of, seats_of}
 use Rattle.pf_batches.proofs.Levels.{places_within, rows_at_places}
 use Rattle.pf_batches.proofs.Numbers.{numbers_fit}
 

@@ -1,5 +1,5 @@
 -- The reaction to an impulse is the opposite impulse.
-use Rattle.std.proofs.Common.{◌≡◌, ◌∙◌, ℤ, neg_ℤ, refl, sym, ap, ap₂}
+use Rattle.std.proofs.Common.{◌≡◌, ◌∙◌, ℤ, neg_ℤ, sym, ap, ap₂}
 use Rattle.pf_num.specs.Fx.{difference, product, sum}
 use Rattle.pf_num.proofs.Operations.{difference-neg, product-neg}
 use Rattle.pf_rot.specs.Vector.{V2, add, cross, neg, scale, sub}

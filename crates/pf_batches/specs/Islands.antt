@@ -1,6 +1,6 @@
 -- Several islands side by side as one batch: what the solver holds of them in its lists, and the
 -- islands with the numbers that it leaves.
-use Rattle.std.specs.Prelude.{◌≡◌, ℕ, ◌≤◌, ⊤, All, List, [], ◌∷◌, drop, length, map, take}
+use Rattle.std.specs.Prelude.{◌≡◌, ℕ, ⊤, All, List, [], ◌∷◌, drop, length, map, take}
 use Rattle.pf_rows.specs.Row.{Row}
 use Rattle.pf_bundles.specs.LaneRow.{IsHeldBy, LaneRow}
 use Rattle.pf_bundles.specs.Numbers.{Numbers}

@@ -20,11 +20,9 @@ use crate::round::after_round;
 use crate::seat_state::{SeatState, velocity_at};
 use crate::warm_start::after_warm_start;
 use pf_bundles::limits::NUMBER_LIMIT;
-use pf_bundles::{
-    Bundle, LaneRow, Numbers, PreparedLanes, Seat, WholeImpulses, WholeVelocity,
-};
-use pf_levels::WIDTH;
+use pf_bundles::{Bundle, LaneRow, Numbers, PreparedLanes, Seat, WholeImpulses, WholeVelocity};
 use pf_lanes::EXACT_LIMIT;
+use pf_levels::WIDTH;
 use pf_rows::Prepared;
 use pf_solver::{ContactState, ContactStep, Round, WarmStart};
 

@@ -4,7 +4,7 @@ ghost use Rattle.std.specs.Prelude.{◌≡◌, All, IfOk, length, map};
 ghost use Rattle.pf_islands.specs.Split.{IsIslandOf};
 ghost use Rattle.pf_solver.specs.Alone.{island_after_tick};
 
-use pf_batches::solve_islands;
+use pf_batches::{laws, solve_islands};
 use pf_commands::Payload;
 use pf_islands::Island;
 use pf_manifold::OneThread;
@@ -125,6 +125,12 @@ fn stacks_are_solved_in_lanes(rt: HostRuntime) -> Result<(), Fail> {
         assert_eq!(rt; found, [true, true], "after {ticks} ticks");
     }
     Ok(())
+}
+
+#[test]
+fn laws_are_called(_rt: HostRuntime) {
+    laws::numbers_are_solved_as_the_batch();
+    laws::named_limits();
 }
 
 /// So many lengths a second times a mass of 1.

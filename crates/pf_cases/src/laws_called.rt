@@ -74,6 +74,7 @@ fn laws_of_contacts(rt: HostRuntime) {
     laws::levels_are_solved_at_once();
     laws::levels_are_solved_as_the_list();
     laws::islands_are_solved_alone();
+    laws::batches_are_solved_side_by_side();
     laws::named_limits();
     groups::groups_are_connected();
     groups::active_bodies_reach_awake_ones();

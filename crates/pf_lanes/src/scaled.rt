@@ -48,15 +48,16 @@ impl Scaled {
             doubles: f64x4::from_array(doubles) * f64x4::splat(UNIT),
         }
     }
+
     /// These four whole numbers of units of 2^-24, which are doubles already.
     #[inline]
     pub fn gather(numbers: [Whole; 4]) -> Scaled
         ensures { result ≡ lanes_of numbers }
     {
         let [first, second, third, fourth] = numbers;
-        let doubles = [first.double, second.double, third.double, fourth.double];
+        let wholes = [first.double, second.double, third.double, fourth.double];
         Scaled {
-            doubles: f64x4::from_array(doubles) * f64x4::splat(UNIT),
+            doubles: f64x4::from_array(wholes) * f64x4::splat(UNIT),
         }
     }
 }

@@ -1,4 +1,4 @@
-use Rattle.std.proofs.Common.{◌≡◌, ◌∙◌, ◌∷◌, ◌+◌, ◌≤◌, [], ap₂, arith, length, subst, sym}
+use Rattle.std.proofs.Common.{◌∙◌, ◌+◌, ◌≤◌, ap₂, arith, length, subst, sym}
 use Rattle.std.specs.Prelude.{All}
 use Rattle.pf_batches.specs.Contact.{IsWithin}
 use Rattle.pf_batches.specs.declared.bundle_step.TheConstants.{GROWTH}

@@ -1,4 +1,3 @@
-use Rattle.pf_bundles.specs.Numbers.{Numbers}
 use Rattle.pf_batches.specs.Numbers.{numbers_of}
 use Rattle.pf_batches.proofs.InBundles.{bundles_stay, velocity_phase}
 use Rattle.pf_batches.proofs.passes.solve_numbers.Goals as goal

@@ -1,7 +1,6 @@
 use Rattle.std.proofs.Common.{◌∙◌, ap, get_or, set, arith, subst, sym}
 use Rattle.std.proofs.lemmas.List.Edits.{map_over_more}
 use Rattle.pf_solver.specs.Alone.{prepared_island}
-use Rattle.std.specs.Prelude.{All}
 use Rattle.pf_batches.specs.Islands.{AreBatches}
 use Rattle.pf_batches.proofs.Parts.{batches_prepared, whole_map}
 use Rattle.pf_batches.proofs.together.prepare_all.Goals as goal
