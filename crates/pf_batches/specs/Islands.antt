@@ -64,7 +64,8 @@ islands_with n (i ∷ islands) =
 -- what the solver holds of a batch before its rounds: its levels, its rows in lanes, its numbers,
 -- and the bundles of the levels
 pub record IsLoaded
-    (b : Batch) (levels : List (List ℕ)) (lanes : List LaneRow) (n : Numbers) (bundles : List Bundle)
+    (b : Batch) (levels : List (List ℕ)) (lanes : List LaneRow) (n : Numbers)
+    (bundles : List Bundle)
     : Type 0 where
   pub order : AreLevelsOf b levels
   pub rows : AreHeldBy lanes b.rows

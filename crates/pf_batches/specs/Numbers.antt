@@ -108,7 +108,8 @@ seat_state_or n (Some seat) = seat_state_at n seat
 -- velocities and accumulated impulses are at most this
 pub record AreAllWithin (most : ℕ) (n : Numbers) : Type 0 where
   pub velocities : All (λ v. IsShort most v.velocity) n.velocities
-  pub impulses : All (λ p. (unsigned_abs p.normal ≤ most) × (unsigned_abs p.tangent ≤ most)) n.impulses
+  pub impulses :
+      All (λ p. (unsigned_abs p.normal ≤ most) × (unsigned_abs p.tangent ≤ most)) n.impulses
 
 -- the numbers after those of a row are stored: the first body, and then the second
 abbrev pub numbers_with : Seat → SeatState → Numbers → Numbers
@@ -250,7 +251,8 @@ pub record IsBundleOn (rows : List LaneRow) (n : Numbers) (bundle : Bundle) : Ty
 
 -- bundles of the levels of a batch, one for each, whose rows the lanes hold
 pub record AreBundlesFor
-    (b : Batch) (levels : List (List ℕ)) (rows : List LaneRow) (bundles : List Bundle) : Type 0 where
+    (b : Batch) (levels : List (List ℕ)) (rows : List LaneRow) (bundles : List Bundle)
+    : Type 0 where
   pub count : length bundles ≡ length levels
   pub seats : (i : ℕ) (level : List ℕ) (bundle : Bundle) → slice_get levels i ≡ Some level
       → slice_get bundles i ≡ Some bundle → AreSeatsOf b.rows level bundle.seats

@@ -155,8 +155,10 @@ pub(crate) fn times(factors: Scaled, numbers: Lanes) -> Lanes
 #[inline(always)]
 #[tactic(auto, unfolding(pf_rot::specs::Vector::cross))]
 fn turn_of(arm: &ScaledVectors, impulse: &VectorLanes) -> Lanes
-    requires x { (k : Lane) → HasShortProducts (unsigned_abs (number_in k impulse.now.x)) (vector_in k arm.now) }
-    requires y { (k : Lane) → HasShortProducts (unsigned_abs (number_in k impulse.now.y)) (vector_in k arm.now) }
+    requires x { (k : Lane)
+        → HasShortProducts (unsigned_abs (number_in k impulse.now.x)) (vector_in k arm.now) }
+    requires y { (k : Lane)
+        → HasShortProducts (unsigned_abs (number_in k impulse.now.y)) (vector_in k arm.now) }
     ensures { (k : Lane) → number_in k result
         ≡ cross (vector_in k arm.now) (vector_in k impulse.now) }
 {

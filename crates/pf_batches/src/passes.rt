@@ -14,7 +14,8 @@ use pf_bundles::{Bundle, LaneRow, Numbers};
 use pf_solver::{ROUNDS, Round, WarmStart};
 
 /// One pass: the step of each bundle, one after the other. Before it no number is above `most`.
-/// Returns what no number is above after it, or `None` where a number becomes too great.
+/// Returns what no number is above after it, or `None` where that is too great, as after 2^19 steps
+/// of bundles in all, or where a number becomes too great.
 fn pass<L: LaneStep>(
     bundles: &[Bundle],
     rows: &[LaneRow],
@@ -23,7 +24,8 @@ fn pass<L: LaneStep>(
 ) -> Option<u64>
     requires bundles { All (IsBundleOn rows.now numbers.old) bundles.now }
     requires within { AreAllWithin most numbers.old }
-    ensures value { IfSome result (λ more. (b : Batch) (levels : List (List ℕ)) (n : Numbers) (k : ℕ)
+    ensures value { IfSome result (λ more.
+        (b : Batch) (levels : List (List ℕ)) (n : Numbers) (k : ℕ)
         → AreBundlesFor b levels rows.now bundles.now → AreAfter L.step b levels n k 0 numbers.old
         → AreAfter L.step b levels n (k + 1) 0 numbers.new) }
     ensures within { IfSome result (λ more. AreAllWithin more numbers.new) }

@@ -36,7 +36,7 @@ fn load_levels(
 {
     let bodies = load_pairs(islands, pairs)?;
     levels.update(pairs, bodies)?;
-    Ok(pairs.len() / ROWS_A_LEVEL >= levels.levels().len())
+    Ok(!pairs.is_empty() && pairs.len() / ROWS_A_LEVEL >= levels.levels().len())
 }
 
 /// Loads the rows and the numbers of islands, and makes the bundles of their levels; `false` where

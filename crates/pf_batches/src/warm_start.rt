@@ -62,7 +62,8 @@ fn impulses(constraint: &ConstraintLanes, normal: Lanes, tangent: Lanes) -> Vect
     requires normal { (k : Lane) → unsigned_abs (number_in k normal) ≤ LANE_LIMIT }
     requires tangent { (k : Lane) → unsigned_abs (number_in k tangent) ≤ LANE_LIMIT }
     requires along { (k : Lane) → IsShort LANE_DIRECTION_LIMIT (vector_in k constraint.now.normal) }
-    requires across { (k : Lane) → IsShort LANE_DIRECTION_LIMIT (vector_in k constraint.now.tangent) }
+    requires across { (k : Lane)
+        → IsShort LANE_DIRECTION_LIMIT (vector_in k constraint.now.tangent) }
     ensures value { (k : Lane) → vector_in k result
         ≡ add (scale (number_in k normal) (vector_in k constraint.now.normal))
         (scale (number_in k tangent) (vector_in k constraint.now.tangent)) }
