@@ -12,6 +12,7 @@ use pf_step::{Crew, CrewError, StepError};
 use pf_trials::{Book, Rule, TrialGate};
 use pf_workers::{Gate, MAX_WORKERS, OpenGate, ScopedCrew, StandingCollider, StandingCrew};
 use std::alloc::{AllocError, Global};
+use std::mem;
 use std::sync::{Arc, Wait};
 use std::thread::Threads;
 
@@ -196,6 +197,13 @@ impl<'r, R: Handle> ThreadCrew<'r, R> {
     }
 }
 
+/// Puts a crew in the place of the one that a peer has.
+fn replace<'r, R: Handle>(crew: &mut Option<ThreadCrew<'r, R>>, made: Option<ThreadCrew<'r, R>>) {
+    if let Some(old) = mem::replace(crew, made) {
+        old.close();
+    }
+}
+
 /// Makes the crew of a peer, in place of the one that it has.
 pub fn make<'r, R: Handle>(
     rt: &'r R,
@@ -206,11 +214,11 @@ pub fn make<'r, R: Handle>(
     let workers = plan.workers;
     match ThreadCrew::new(rt, alloc, plan) {
         Ok(made) => {
-            *crew = Some(made);
+            replace(crew, Some(made));
             Ok(format!(in alloc; "crews {workers}")?)
         }
         Err(error) => {
-            *crew = None;
+            replace(crew, None);
             Ok(format!(in alloc; "crews {error:?}")?)
         }
     }
