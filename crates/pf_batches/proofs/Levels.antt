@@ -246,7 +246,7 @@ module _ (step : Step) (b : Batch) (levels : List (List ℕ)) where
                 ∙ sym (solved_more before i level within);
           }
 
-      -- one level more, by what became of its rows
+      -- one level more, by the results of its rows
       pub level_more : (level : List ℕ) (found : List Row) (states : List ContactState) → i < length levels
           → level ≡ slice_index_or levels i level → AreRowsAt b.rows level found → AreResults step now level found states
           → AreAfter step b levels n k (i + 1) (numbers_after_all (seats_of level found) states now)
