@@ -1,5 +1,5 @@
 pub mod Sizes
-pub mod Reactions
+pub mod Sums
 pub mod Steps
 pub mod Numbers
 pub mod Levels

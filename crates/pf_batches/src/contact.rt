@@ -6,7 +6,7 @@ ghost use Rattle.pf_batches.specs.Contact.{impulses_in_lane, velocity_in_lane};
 
 use crate::seat_state::SeatState;
 use pf_bundles::{VectorLanes, WholeImpulses, WholeVector, WholeVelocity};
-use pf_lanes::Lanes;
+use pf_lanes::{Lanes, Raised};
 use std::marker::Model;
 
 /// The velocities and the angular velocities of bodies side by side.
@@ -26,6 +26,27 @@ impl Model for MotionLanes {
     ghost view = { λ m. record { velocity = m.velocity; spin = m.spin } };
 
     ghost inverse = { λ m. record { velocity = m.velocity; spin = m.spin } };
+}
+
+/// What impulses change of bodies side by side: rounded products, which the sums are made of.
+#[derive(Clone, Copy)]
+pub(crate) struct MotionChange {
+    /// The changes of the velocities along the x axis.
+    pub x: Raised,
+    /// Along the y axis.
+    pub y: Raised,
+    /// The changes of the angular velocities.
+    pub spin: Raised,
+}
+
+impl Model for MotionChange {
+    ghost use Rattle.pf_batches.specs.Contact.{MotionLanes};
+
+    ghost Value = { MotionLanes };
+
+    ghost view = { λ c. record { velocity = record { x = c.x; y = c.y }; spin = c.spin } };
+
+    ghost inverse = { λ v. record { x = v.velocity.x; y = v.velocity.y; spin = v.spin } };
 }
 
 /// The bodies of contacts side by side, and their accumulated impulses.

@@ -1,23 +1,23 @@
 //! Impulses on the bodies of contacts side by side.
 
-ghost use Rattle.std.specs.Prelude.{◌≡◌, ℕ, ◌≤◌, ◌<◌, ◌^◌, ◌+◌, ◌*◌, IfSome, IsTrue};
+ghost use Rattle.std.specs.Prelude.{◌≡◌, ◌≤◌, ◌<◌, ◌^◌, ◌+◌, ◌*◌, IfSome, IsTrue};
 ghost use Rattle.std.specs.Int.RustNames.{unsigned_abs};
-ghost use Rattle.pf_num.specs.Fx.{product};
-ghost use Rattle.pf_rot.specs.Vector.{add, cross, cross_sv, dot, neg, scale};
+ghost use Rattle.pf_num.specs.Fx.{difference, product, sum};
+ghost use Rattle.pf_rot.specs.Vector.{add, cross, dot, scale, sub};
 ghost use Rattle.pf_rows.specs.Small.{IsShort};
-ghost use Rattle.pf_solver.specs.Impulse.{after_impulse, relative_velocity, second_after};
+ghost use Rattle.pf_solver.specs.Impulse.{after_impulse, relative_velocity};
 ghost use Rattle.pf_lanes.specs.Lanes.{Lane, number_in};
 ghost use Rattle.pf_bundles.specs.Prepared.{constraint_in, vector_in};
-ghost use Rattle.pf_batches.specs.Contact.{motion_in, state_in};
+ghost use Rattle.pf_batches.specs.Contact.{state_in};
 ghost use Rattle.pf_batches.specs.Limits.{AreGrown, AreShort, IsGrown, IsImpulse, IsReady};
 ghost use Rattle.pf_bundles.specs.Limits.{HasShortProducts};
 
-use crate::contact::{ContactLanes, MotionLanes};
+use crate::contact::{ContactLanes, MotionChange, MotionLanes};
 use pf_bundles::limits::{
     LANE_DIRECTION_LIMIT, LANE_LIMIT, LANE_SPEED_LIMIT, NUMBER_LIMIT, PRODUCT_LIMIT,
 };
 use pf_bundles::{MassLanes, PreparedLanes, ScaledVectors, VectorLanes};
-use pf_lanes::{Lanes, Scaled};
+use pf_lanes::{Lanes, Raised, Scaled};
 
 /// Whether the products of spins and arms are exact, so that a step may begin.
 #[inline(always)]
@@ -28,33 +28,41 @@ pub(crate) fn is_ready(prepared: &PreparedLanes, state: &ContactLanes) -> bool
 {
     let limit = prepared.limit();
     let (first, second) = (&state.first, &state.second);
-    first.spin.are_within_each(limit) && second.spin.are_within_each(limit)
+    first.spin.are_within_each(limit) & second.spin.are_within_each(limit)
 }
 
-/// The velocity of the point of each body at its arm.
+/// The differences of products.
 #[inline(always)]
-#[tactic(auto, unfolding(pf_rot::specs::Vector::add, pf_rot::specs::Vector::cross_sv), using(crate::proofs::Sizes::differences))]
-fn velocity_at(body: &MotionLanes, arm: &ScaledVectors) -> VectorLanes
-    requires velocity { (k : Lane)
-        → IsShort (NUMBER_LIMIT + 2 ^ 30) (vector_in k body.now.velocity) }
-    requires turn { (k : Lane)
-        → HasShortProducts (unsigned_abs (number_in k body.now.spin)) (vector_in k arm.now) }
-    ensures value { (k : Lane) → vector_in k result
-        ≡ add (vector_in k body.now.velocity)
-        (cross_sv (number_in k body.now.spin) (vector_in k arm.now)) }
-    ensures size { (k : Lane) → IsShort (2 ^ 52) (vector_in k result) }
+fn product_differences(a: Lanes, b: Scaled, c: Lanes, d: Scaled) -> Lanes
+    requires first { (k : Lane)
+        → unsigned_abs (number_in k a) * unsigned_abs (number_in k b) < PRODUCT_LIMIT }
+    requires second { (k : Lane)
+        → unsigned_abs (number_in k c) * unsigned_abs (number_in k d) < PRODUCT_LIMIT }
+    ensures value { (k : Lane) → number_in k result ≡ difference
+        (product (number_in k a) (number_in k b)) (product (number_in k c) (number_in k d)) }
+    ensures size { (k : Lane) → unsigned_abs (number_in k result) ≤ 2 ^ 30 }
 {
-    let velocity = body.velocity;
-    let spin = body.spin;
-    VectorLanes {
-        x: velocity.x.minus(spin.product(arm.y)),
-        y: velocity.y.plus(spin.product(arm.x)),
-    }
+    a.raised_product(b).minus(c.raised_product(d))
+}
+
+/// The velocities of points of second bodies along an axis, as seen from the points of first
+/// bodies: what the bodies' velocities and their spins, times these parts of the arms, make of it.
+#[inline(always)]
+fn between(velocities: (Lanes, Lanes), turns: Lanes) -> Lanes
+    requires first { (k : Lane) → unsigned_abs (number_in k velocities.0) ≤ NUMBER_LIMIT + 2 ^ 30 }
+    requires second { (k : Lane)
+        → unsigned_abs (number_in k velocities.1) ≤ NUMBER_LIMIT + 2 ^ 30 }
+    requires turns { (k : Lane) → unsigned_abs (number_in k turns) ≤ 2 ^ 30 }
+    ensures { (k : Lane) → number_in k result ≡ sum
+        (difference (number_in k velocities.1) (number_in k velocities.0)) (number_in k turns) }
+{
+    let (first, second) = velocities;
+    second.minus(first).plus(turns)
 }
 
 /// The relative velocity at each contact.
 #[inline(always)]
-#[tactic(auto, unfolding(pf_solver::specs::Impulse::relative_velocity, pf_rot::specs::Vector::sub))]
+#[tactic(auto, unfolding(pf_solver::specs::Impulse::relative_velocity, pf_rot::specs::Vector::sub, pf_rot::specs::Vector::add, pf_rot::specs::Vector::cross_sv))]
 pub(crate) fn relative_velocity(prepared: &PreparedLanes, state: &ContactLanes) -> VectorLanes
     requires ready { (k : Lane) → IsReady (constraint_in k prepared.now.constraint)
         (unsigned_abs (number_in k prepared.now.limit)) (state_in k prepared.now state.now) }
@@ -65,11 +73,13 @@ pub(crate) fn relative_velocity(prepared: &PreparedLanes, state: &ContactLanes) 
         (state_in k prepared.now state.now) }
 {
     let constraint = prepared.constraint();
-    let of_first = velocity_at(&state.first, &constraint.first_arm);
-    let of_second = velocity_at(&state.second, &constraint.second_arm);
+    let (first_arm, second_arm) = (constraint.first_arm, constraint.second_arm);
+    let (first, second) = (&state.first, &state.second);
+    let turns_x = product_differences(first.spin, first_arm.y, second.spin, second_arm.y);
+    let turns_y = product_differences(second.spin, second_arm.x, first.spin, first_arm.x);
     VectorLanes {
-        x: of_second.x.minus(of_first.x),
-        y: of_second.y.minus(of_first.y),
+        x: between((first.velocity.x, second.velocity.x), turns_x),
+        y: between((first.velocity.y, second.velocity.y), turns_y),
     }
 }
 
@@ -79,12 +89,12 @@ pub(crate) fn are_slow(velocity: &VectorLanes) -> bool
     ensures { IsTrue result → (k : Lane) → IsShort LANE_SPEED_LIMIT (vector_in k velocity.now) }
 {
     let (x, y) = (velocity.x, velocity.y);
-    x.are_within(LANE_SPEED_LIMIT) && y.are_within(LANE_SPEED_LIMIT)
+    x.are_within(LANE_SPEED_LIMIT) & y.are_within(LANE_SPEED_LIMIT)
 }
 
 /// The part of each velocity along a direction.
 #[inline(always)]
-#[tactic(auto, unfolding(pf_rot::specs::Vector::dot), using(crate::proofs::Sizes::times_below))]
+#[tactic(auto, unfolding(pf_rot::specs::Vector::dot), using(crate::proofs::Sizes::times_below, crate::proofs::Sums::less_opposite))]
 pub(crate) fn speed_along(velocity: &VectorLanes, direction: &ScaledVectors) -> Lanes
     requires velocity { (k : Lane) → IsShort LANE_SPEED_LIMIT (vector_in k velocity.now) }
     requires direction { (k : Lane) → IsShort LANE_DIRECTION_LIMIT (vector_in k direction.now) }
@@ -93,7 +103,7 @@ pub(crate) fn speed_along(velocity: &VectorLanes, direction: &ScaledVectors) -> 
     ensures size { (k : Lane) → unsigned_abs (number_in k result) ≤ 2 ^ 30 }
 {
     let (x, y) = (velocity.x, velocity.y);
-    x.product(direction.x).plus(y.product(direction.y))
+    x.raised_product(direction.x).minus(y.raised_opposite(direction.y))
 }
 
 /// A component of an impulse along each direction.
@@ -151,6 +161,19 @@ pub(crate) fn times(factors: Scaled, numbers: Lanes) -> Lanes
     numbers.product(factors)
 }
 
+/// Factors times numbers, for a sum or a difference.
+#[inline(always)]
+#[tactic(auto, using(pf_num::proofs::Operations::product_comm))]
+pub(crate) fn raised_times(factors: Scaled, numbers: Lanes) -> Raised
+    requires { (k : Lane)
+        → unsigned_abs (number_in k numbers) * unsigned_abs (number_in k factors) < PRODUCT_LIMIT }
+    ensures value { (k : Lane) → number_in k result
+        ≡ product (number_in k factors) (number_in k numbers) }
+    ensures size { (k : Lane) → unsigned_abs (number_in k result) ≤ 2 ^ 29 }
+{
+    numbers.raised_product(factors)
+}
+
 /// How impulses at these arms turn bodies.
 #[inline(always)]
 #[tactic(auto, unfolding(pf_rot::specs::Vector::cross))]
@@ -163,102 +186,98 @@ fn turn_of(arm: &ScaledVectors, impulse: &VectorLanes) -> Lanes
         ≡ cross (vector_in k arm.now) (vector_in k impulse.now) }
 {
     let (x, y) = (impulse.x, impulse.y);
-    times(arm.x, y).minus(times(arm.y, x))
+    raised_times(arm.x, y).minus(raised_times(arm.y, x))
 }
 
-/// How impulses at these arms change the spins of bodies, or `None` where a product is too great.
+/// Whether what impulses change of bodies of these masses is exact. No part of an impulse exceeds
+/// `size`, and `turn` is how it turns its body.
 #[inline(always)]
-fn spin_changes(mass: &MassLanes, arm: &ScaledVectors, impulse: &VectorLanes) -> Option<Lanes>
-    requires x { (k : Lane)
-        → HasShortProducts (unsigned_abs (number_in k impulse.now.x)) (vector_in k arm.now) }
-    requires y { (k : Lane)
-        → HasShortProducts (unsigned_abs (number_in k impulse.now.y)) (vector_in k arm.now) }
-    ensures value { IfSome result (λ changes. (k : Lane) → number_in k changes
-        ≡ product (number_in k mass.now.inverse_inertia)
-        (cross (vector_in k arm.now) (vector_in k impulse.now))) }
-    ensures size { IfSome result (λ changes. (k : Lane)
-        → unsigned_abs (number_in k changes) ≤ 2 ^ 29) }
+fn has_exact_changes(mass: &MassLanes, size: Lanes, turn: Lanes) -> bool
+    ensures mass { IsTrue result → (k : Lane) → unsigned_abs (number_in k size)
+        * unsigned_abs (number_in k mass.now.inverse_mass) < PRODUCT_LIMIT }
+    ensures inertia { IsTrue result → (k : Lane) → unsigned_abs (number_in k turn)
+        * unsigned_abs (number_in k mass.now.inverse_inertia) < PRODUCT_LIMIT }
 {
-    let turn = turn_of(arm, impulse);
-    if turn.product_is_below(mass.inverse_inertia, PRODUCT_LIMIT) {
-        Some(times(mass.inverse_inertia, turn))
-    } else {
-        None
-    }
+    size.product_is_below(mass.inverse_mass, PRODUCT_LIMIT)
+        & turn.product_is_below(mass.inverse_inertia, PRODUCT_LIMIT)
 }
 
-/// Velocities after impulses on bodies of these inverse masses.
+/// What impulses change of bodies of these masses, which they turn so.
 #[inline(always)]
-#[tactic(auto, unfolding(pf_rot::specs::Vector::add, pf_rot::specs::Vector::scale))]
-fn velocity_after(inverse_mass: Scaled, impulse: &VectorLanes, velocity: VectorLanes) -> VectorLanes
+#[tactic(auto, unfolding(pf_rot::specs::Vector::scale))]
+fn changes(mass: &MassLanes, impulse: &VectorLanes, turn: Lanes) -> MotionChange
     requires x { (k : Lane) → unsigned_abs (number_in k impulse.now.x)
-        * unsigned_abs (number_in k inverse_mass) < PRODUCT_LIMIT }
+        * unsigned_abs (number_in k mass.now.inverse_mass) < PRODUCT_LIMIT }
     requires y { (k : Lane) → unsigned_abs (number_in k impulse.now.y)
-        * unsigned_abs (number_in k inverse_mass) < PRODUCT_LIMIT }
-    requires velocity { (k : Lane) → IsShort (NUMBER_LIMIT + 2 ^ 30) (vector_in k velocity) }
-    ensures value { (k : Lane) → vector_in k result ≡ add (vector_in k velocity)
-        (scale (number_in k inverse_mass) (vector_in k impulse.now)) }
-    ensures size { (k : Lane) → IsGrown (2 ^ 29) (vector_in k velocity) (vector_in k result) }
+        * unsigned_abs (number_in k mass.now.inverse_mass) < PRODUCT_LIMIT }
+    requires turn { (k : Lane) → unsigned_abs (number_in k turn)
+        * unsigned_abs (number_in k mass.now.inverse_inertia) < PRODUCT_LIMIT }
+    ensures velocity { (k : Lane) → vector_in k result.velocity
+        ≡ scale (number_in k mass.now.inverse_mass) (vector_in k impulse.now) }
+    ensures spin { (k : Lane) → number_in k result.spin
+        ≡ product (number_in k mass.now.inverse_inertia) (number_in k turn) }
 {
-    VectorLanes {
-        x: velocity.x.plus(times(inverse_mass, impulse.x)),
-        y: velocity.y.plus(times(inverse_mass, impulse.y)),
+    MotionChange {
+        x: raised_times(mass.inverse_mass, impulse.x),
+        y: raised_times(mass.inverse_mass, impulse.y),
+        spin: raised_times(mass.inverse_inertia, turn),
     }
 }
 
-/// Bodies after impulses at these arms, or `None` where a product is too great. No impulse exceeds
-/// `size`.
+/// Second bodies after such changes.
 #[inline(always)]
-#[tactic(auto, unfolding(pf_solver::specs::Impulse::second_after), using(crate::proofs::Sizes::part_below))]
-fn motion_after(
-    mass: &MassLanes,
-    arm: &ScaledVectors,
-    impulse: &VectorLanes,
-    size: Lanes,
-    body: &MotionLanes,
-) -> Option<MotionLanes>
-    requires impulse { (k : Lane)
-        → IsShort (unsigned_abs (number_in k size)) (vector_in k impulse.now) }
-    requires arm { (k : Lane)
-        → HasShortProducts (unsigned_abs (number_in k size)) (vector_in k arm.now) }
+#[tactic(auto, unfolding(pf_rot::specs::Vector::add))]
+fn second_after(body: &MotionLanes, change: MotionChange) -> MotionLanes
     requires velocity { (k : Lane)
         → IsShort (NUMBER_LIMIT + 2 ^ 30) (vector_in k body.now.velocity) }
     requires spin { (k : Lane) → unsigned_abs (number_in k body.now.spin) ≤ LANE_LIMIT }
-    ensures value { IfSome result (λ after. (k : Lane) → motion_in k mass.now after
-        ≡ second_after (vector_in k arm.now) (vector_in k impulse.now)
-        (motion_in k mass.now body.now)) }
-    ensures size { IfSome result (λ after. (k : Lane)
-        → IsGrown (2 ^ 29) (vector_in k body.now.velocity) (vector_in k after.velocity)) }
+    ensures velocity { (k : Lane) → vector_in k result.velocity
+        ≡ add (vector_in k body.now.velocity) (vector_in k change.velocity) }
+    ensures spin { (k : Lane) → number_in k result.spin
+        ≡ sum (number_in k body.now.spin) (number_in k change.spin) }
+    ensures size { (k : Lane)
+        → IsGrown (2 ^ 29) (vector_in k body.now.velocity) (vector_in k result.velocity) }
 {
-    if !size.product_is_below(mass.inverse_mass, PRODUCT_LIMIT) {
-        return None;
-    }
-    let changes = spin_changes(mass, arm, impulse)?;
+    let velocity = body.velocity;
     let spin = body.spin;
-    Some(MotionLanes {
-        velocity: velocity_after(mass.inverse_mass, impulse, body.velocity),
-        spin: spin.plus(changes),
-    })
+    MotionLanes {
+        velocity: VectorLanes {
+            x: velocity.x.plus_raised(change.x),
+            y: velocity.y.plus_raised(change.y),
+        },
+        spin: spin.plus_raised(change.spin),
+    }
 }
 
-/// The opposite vectors.
+/// First bodies after the opposite changes.
 #[inline(always)]
-#[tactic(auto, unfolding(pf_rot::specs::Vector::neg))]
-fn opposite(vectors: &VectorLanes) -> VectorLanes
-    ensures value { (k : Lane) → vector_in k result ≡ neg (vector_in k vectors.now) }
-    ensures size { (k : Lane) (most : ℕ) → IsShort most (vector_in k vectors.now)
-        → IsShort most (vector_in k result) }
+#[tactic(auto, unfolding(pf_rot::specs::Vector::sub))]
+fn first_after(body: &MotionLanes, change: MotionChange) -> MotionLanes
+    requires velocity { (k : Lane)
+        → IsShort (NUMBER_LIMIT + 2 ^ 30) (vector_in k body.now.velocity) }
+    requires spin { (k : Lane) → unsigned_abs (number_in k body.now.spin) ≤ LANE_LIMIT }
+    ensures velocity { (k : Lane) → vector_in k result.velocity
+        ≡ sub (vector_in k body.now.velocity) (vector_in k change.velocity) }
+    ensures spin { (k : Lane) → number_in k result.spin
+        ≡ difference (number_in k body.now.spin) (number_in k change.spin) }
+    ensures size { (k : Lane)
+        → IsGrown (2 ^ 29) (vector_in k body.now.velocity) (vector_in k result.velocity) }
 {
-    VectorLanes {
-        x: vectors.x.negated(),
-        y: vectors.y.negated(),
+    let velocity = body.velocity;
+    let spin = body.spin;
+    MotionLanes {
+        velocity: VectorLanes {
+            x: velocity.x.minus_raised(change.x),
+            y: velocity.y.minus_raised(change.y),
+        },
+        spin: spin.minus_raised(change.spin),
     }
 }
 
 /// Both bodies of each contact after an impulse at the contact point, or `None` where a product is
 /// too great. No impulse exceeds `size`.
 #[inline(always)]
-#[tactic(auto, unfolding(pf_solver::specs::Impulse::after_impulse), using(crate::proofs::Reactions::reaction))]
+#[tactic(auto, unfolding(pf_solver::specs::Impulse::after_impulse, pf_solver::specs::Impulse::first_after, pf_solver::specs::Impulse::second_after), using(crate::proofs::Sizes::part_below))]
 pub(crate) fn after_impulse(
     prepared: &PreparedLanes,
     impulse: &VectorLanes,
@@ -278,25 +297,19 @@ pub(crate) fn after_impulse(
         → AreGrown (2 ^ 29) (state_in k prepared.now state.now) (state_in k prepared.now after)) }
 {
     let constraint = prepared.constraint();
-    let reaction = opposite(impulse);
     let (first_mass, second_mass) = (prepared.first_mass(), prepared.second_mass());
-    let first = motion_after(
-        &first_mass,
-        &constraint.first_arm,
-        &reaction,
-        size,
-        &state.first,
-    )?;
-    let second = motion_after(
-        &second_mass,
-        &constraint.second_arm,
-        impulse,
-        size,
-        &state.second,
-    )?;
+    let first_turn = turn_of(&constraint.first_arm, impulse);
+    let second_turn = turn_of(&constraint.second_arm, impulse);
+    if !(has_exact_changes(&first_mass, size, first_turn)
+        & has_exact_changes(&second_mass, size, second_turn))
+    {
+        return None;
+    }
+    let of_first = changes(&first_mass, impulse, first_turn);
+    let of_second = changes(&second_mass, impulse, second_turn);
     Some(ContactLanes {
-        first,
-        second,
+        first: first_after(&state.first, of_first),
+        second: second_after(&state.second, of_second),
         normal: state.normal,
         tangent: state.tangent,
     })

@@ -4,9 +4,11 @@ pub mod Values
 pub mod Sums
 pub mod Rounding
 pub mod Products
+pub mod Raising
 pub mod Limits
 pub mod Masks
 pub mod Casts
 pub mod Holding
 pub mod Tests
 pub mod Numbers
+pub mod RaisedLanes

@@ -21,14 +21,14 @@ great_is : great ≡ fin false 3 (pos 51)
 unfolding of_bits of_fields odd
 great_is = refl
 
-great_units : HasValue great false 113336795588871485128704 16777216
+pub great_units : HasValue great false 113336795588871485128704 16777216
 great_units = rw great_is (refl, refl)
 
 great_whole : HasValue great false 6755399441055744 1
 great_whole = rw great_is (refl, refl)
 
 -- a sum of a small number of units and the great number, which is above 0
-great_sum : (s : Bool) (a : ℕ) → a < 9007199254740992
+pub great_sum : (s : Bool) (a : ℕ) → a < 9007199254740992
     → (n : ℕ) × (sum binary64 s a false 113336795588871485128704 16777216 ≡ round binary64 false n 16777216)
     × (pos n ≡ pos 113336795588871485128704 +ℤ with_sign s a)
 unfolding sum

@@ -9,12 +9,13 @@ use Rattle.std.specs.Int.RustNames.{unsigned_abs}
 use Rattle.pf_num.specs.Round.{near}
 use Rattle.pf_num.proofs.Nearest.{IsNearest, meets, unique}
 use lib.Dec.{is_le, compare_is_eq, eqb, leb→le, nleb→lt, eqb→eq, eqb_refl}
-use lib.Ieee.{Float, nan, inf, fin, binary64, up, down, round, size, nearest}
+use lib.Ieee.{Float, nan, inf, fin, binary64, up, down, round, size, nearest, units}
 use lib.Ieee.Digits.{size-lt, size-le}
 use lib.Ieee.Exact.{HasValue}
 use lib.Ieee.Nearest.{closest, closest_same}
 use lib.Ieee.Order.{drop, kept}
-use lib.Ieee.Scale.{grid, round_val}
+use lib.Ieee.Fits.{round_is}
+use lib.Ieee.Scale.{grid, round_same, round_val}
 use lib.Pow.{pow_mono}
 use Prim.Native.Nat.{compare, Ordering}
 use native.Mathlib.Nat.{mul-div_cancel, mul-lt-mul_of_pos_right, lt_of_le_of_lt, eq_of_mul-eq-mul_right}
@@ -72,14 +73,14 @@ scaled_up n a b = omega arith
 
 -- a number of units of 2^-24 between 2^52 and 2^53
 module _ (n : ℕ) (low : 2 ^ 76 ≤ n) (high : n < 2 ^ 77) where
-  units : n * 2 ^ 1074 / 16777216 ≡ n * 2 ^ 1050
-  units = ap (λ (x : ℕ). x / 16777216) (scaled_up n (2 ^ 1050) 16777216) ∙ mul-div_cancel (n * 2 ^ 1050) (lit< tt)
+  in_units : n * 2 ^ 1074 / 16777216 ≡ n * 2 ^ 1050
+  in_units = ap (λ (x : ℕ). x / 16777216) (scaled_up n (2 ^ 1050) 16777216) ∙ mul-div_cancel (n * 2 ^ 1050) (lit< tt)
 
   dropped : drop 53 (n * 2 ^ 1074) 16777216 ≡ 1074
   dropped =
       let least : 2 ^ 76 * 2 ^ 1050 ≤ n * 2 ^ 1050 = mul-le-mul_right (2 ^ 1050) low in
       let most : n * 2 ^ 1050 < 2 ^ 77 * 2 ^ 1050 = mul-lt-mul_of_pos_right high (lit< tt) in
-      ap (λ (x : ℕ). size x - 53) units ∙ ap (λ (x : ℕ). x - 53) (size_is (n * 2 ^ 1050) 1126 least most)
+      ap (λ (x : ℕ). size x - 53) in_units ∙ ap (λ (x : ℕ). x - 53) (size_is (n * 2 ^ 1050) 1126 least most)
 
   kept_is : kept 53 (n * 2 ^ 1074) 16777216 ≡ closest n 16777216
   kept_is =
@@ -97,6 +98,24 @@ module _ (n : ℕ) (low : 2 ^ 76 ≤ n) (high : n < 2 ^ 77) where
       whole_value _ (closest n 16777216) (2 ^ 1074) (lit< tt)
       (subst (λ (g : ℕ). HasValue (round binary64 false n 16777216) false g (2 ^ 1074)) grid_is
       (round_val binary64 n 16777216 (subst (λ (g : ℕ). g < 2 ^ 2098) (sym grid_is) (lt_of_le_of_lt most (lit< tt)))))
+
+  pub rounded_units : round binary64 false n 16777216 ≡ units binary64 false (closest n 16777216) 1074
+  rounded_units = round_is binary64 false n 16777216 ∙ (λ i. units binary64 false (kept_is i) (dropped i))
+
+-- a whole number there is the double of itself
+closest_whole : (m : ℕ) → closest (m * 16777216) 16777216 ≡ m
+closest_whole m = let h = closest-meets (m * 16777216) 16777216 (lit< tt) in omega (arith, h.low, h.high)
+
+whole_units : (m : ℕ) → 2 ^ 52 ≤ m → m < 2 ^ 53 → round binary64 false m 1 ≡ units binary64 false m 1074
+whole_units m low high =
+    round_same binary64 false m 1 (m * 16777216) 16777216 (lit< tt) (lit< tt) (omega arith)
+    ∙ rounded_units (m * 16777216) (omega arith) (omega arith)
+    ∙ ap (λ (q : ℕ). units binary64 false q 1074) (closest_whole m)
+
+pub rounded_double : (n : ℕ) → 2 ^ 76 ≤ n → n < 2 ^ 77 - 2 ^ 24 → round binary64 false n 16777216 ≡ round binary64 false (closest n 16777216) 1
+rounded_double n low high =
+    let near = closest-meets n 16777216 (lit< tt) in
+    rounded_units n low (omega arith) ∙ sym (whole_units (closest n 16777216) (omega (arith, near.low, near.high)) (omega (arith, near.low, near.high)))
 
 -- ---- the great number subtracted again
 

@@ -122,7 +122,7 @@ module _ (c : ℕ) (scale : IsScale c) where
       let b = value w hw in
       add_values _ _ a.0 b.0 a.1 b.1 c scale.some a.2 b.2 ∙ sum_is a.0 b.0 a.1 b.1 a.4 ∙ (λ i. double_of c (sym a.3 i +ℤ sym b.3 i))
 
-  turned_sign : (t : Bool) (n : ℕ) → with_sign (not t) n ≡ neg_ℤ (with_sign t n)
+  pub turned_sign : (t : Bool) (n : ℕ) → with_sign (not t) n ≡ neg_ℤ (with_sign t n)
   turned_sign true n = omega (arith, ints)
   turned_sign false n = refl
 

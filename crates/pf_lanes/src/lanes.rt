@@ -11,14 +11,14 @@ pub const EXACT_LIMIT: u64 = 1 << 53;
 /// 3 * 2^51. From 2^52 to 2^53 a double is whole, and each whole number is one. So a number below
 /// 2^51 in magnitude that is added to this is rounded to the nearest whole number, and to the even
 /// one of two. With 2^52 the sum with a negative number would keep halves.
-const WHOLE: f64 = 6_755_399_441_055_744.0;
+pub(crate) const WHOLE: f64 = 6_755_399_441_055_744.0;
 
 /// Four whole numbers, each held exactly in a double, and 0 as +0.
 ///
 /// Contracts see them as those whole numbers.
 #[derive(Clone, Copy)]
 pub struct Lanes {
-    doubles: f64x4,
+    pub(crate) doubles: f64x4,
 }
 
 impl Model for Lanes {

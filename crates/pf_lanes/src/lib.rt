@@ -4,9 +4,11 @@
 
 mod lanes;
 pub mod laws;
+mod raised;
 mod scaled;
 mod whole;
 
 pub use lanes::{EXACT_LIMIT, Lanes};
+pub use raised::Raised;
 pub use scaled::Scaled;
 pub use whole::Whole;
