@@ -13,8 +13,10 @@ use Rattle.pf_bundles.specs.Numbers.{Numbers, Velocity}
 use Rattle.pf_solver.specs.FastPath.{IsArmFor}
 use Rattle.pf_solver.specs.Impulse.{ContactState}
 use Rattle.pf_solver.specs.Velocities.{Batch, Step}
-use Rattle.pf_batches.specs.Contact.{ContactLanes, SeatState, seat_state_in, state_of}
-use Rattle.pf_batches.specs.Numbers.{AreNumbersOf, AreResults, AreRowsAt, AreSeatsOf, HoldEach, lane_result, motion_on, numbers_after, numbers_after_all, numbers_at_once, numbers_with, numbers_with_all, result_at, seat_of, seat_state_at, seat_state_from, seats_of, state_at, velocity_at}
+use Rattle.pf_batches.specs.Contact.{ContactLanes, seat_state_in, state_of}
+use Rattle.pf_bundles.specs.Seats.{SeatState}
+use Rattle.pf_batches.specs.Numbers.{AreNumbersOf, AreResults, AreRowsAt, AreSeatsOf, HoldEach, lane_result, motion_on, numbers_after, numbers_after_all, numbers_at_once, result_at, seat_of, seat_state_from, seats_of, state_at}
+use Rattle.pf_bundles.specs.Seats.{numbers_with, numbers_with_all, seat_state_at, velocity_at}
 use Rattle.pf_batches.proofs.Levels.{results_at_once}
 
 -- ---- one row

@@ -14,9 +14,11 @@ use Rattle.pf_bundles.specs.LaneRow.{lane_row_in}
 use Rattle.pf_bundles.specs.Numbers.{Numbers, Velocity, no_velocity}
 use Rattle.pf_bundles.specs.Prepared.{PreparedLanes, constraint_in}
 use Rattle.pf_solver.specs.Velocities.{Step}
-use Rattle.pf_batches.specs.Contact.{ContactLanes, IsWithin, SeatState, seat_state_in, state_in, state_of}
+use Rattle.pf_batches.specs.Contact.{ContactLanes, IsWithin, seat_state_in, state_in, state_of}
+use Rattle.pf_bundles.specs.Seats.{SeatState}
 use Rattle.pf_batches.specs.Limits.{AreGrown}
-use Rattle.pf_batches.specs.Numbers.{AreAllWithin, AreAsMany, IsSeatIn, lane_result, numbers_with, numbers_with_all, seat_state_from, seat_state_or, velocity_at, with_velocity}
+use Rattle.pf_batches.specs.Numbers.{AreAllWithin, lane_result, seat_state_from}
+use Rattle.pf_bundles.specs.Seats.{AreAsMany, IsSeatIn, numbers_with, numbers_with_all, seat_state_or, velocity_at, with_velocity}
 
 -- what a step makes of a contact in a lane is what it makes of the numbers of its row
 pub result_in : (step : Step) (p : PreparedLanes) (k : Lane) (before after : ContactLanes) (s : SeatState)
@@ -202,3 +204,8 @@ states_within most after each =
     (All-cons (IsWithin most) second (third ∷ fourth ∷ []) (each Second)
     (All-cons (IsWithin most) third (fourth ∷ []) (each Third)
     (All-cons (IsWithin most) fourth [] (each Fourth) (All-nil (IsWithin most)))))
+
+-- what follows from what holds of a value, if there is one
+pub some_weaker : {A : Type 0} {P Q : A → Type 0} (o : Option A) → ((a : A) → P a → Q a) → IfSome o P → IfSome o Q
+some_weaker None more h = tt
+some_weaker (Some a) more h = more a h

@@ -12,7 +12,8 @@ use Rattle.pf_solver.specs.declared.velocities.TheConstants.{ROUNDS}
 use Rattle.pf_solver.specs.Impulse.{after_round, after_warm_start}
 use Rattle.pf_solver.specs.Order.{AreLevelsOf}
 use Rattle.pf_solver.specs.Velocities.{Batch, Step}
-use Rattle.pf_batches.specs.Numbers.{AreAfter, AreAsMany, AreBundlesFor, AreNumbersOf, AreSeatsOf, HoldEach, IsBundleOn, batch_with, numbers_at_once, numbers_of}
+use Rattle.pf_batches.specs.Numbers.{AreAfter, AreBundlesFor, AreNumbersOf, AreSeatsOf, HoldEach, IsBundleOn, batch_with, numbers_at_once, numbers_of}
+use Rattle.pf_bundles.specs.Seats.{AreAsMany}
 use Rattle.pf_batches.proofs.Bundles.{seats_stay}
 use Rattle.pf_batches.proofs.Levels.{before_passes, level_at_once_more, pass_more, velocities_by_levels}
 use Rattle.pf_batches.proofs.Numbers.{numbers_fit}

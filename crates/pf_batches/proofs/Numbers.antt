@@ -10,7 +10,8 @@ use Rattle.pf_rows.specs.Row.{InverseMass, Row}
 use Rattle.pf_levels.specs.Levels.{pair_of}
 use Rattle.pf_solver.specs.Impulse.{ContactState, Motion}
 use Rattle.pf_solver.specs.Velocities.{Batch, bodies_with, body_with, contact_state, motion_at, row_with, with_motion}
-use Rattle.pf_batches.specs.Numbers.{AreNumbersOf, batch_with, loaded_row, motion_on, numbers_after, numbers_of, seat_of, state_at, velocity_in, velocity_of, with_impulses, with_velocities, with_velocity}
+use Rattle.pf_batches.specs.Numbers.{AreNumbersOf, batch_with, loaded_row, motion_on, numbers_after, numbers_of, seat_of, state_at, velocity_in, velocity_of, with_impulses, with_velocities}
+use Rattle.pf_bundles.specs.Seats.{with_velocity}
 use Rattle.pf_bundles.specs.Numbers.{Numbers, Velocity, no_velocity}
 use Rattle.pf_bundles.specs.Bundle.{Seat}
 

@@ -1,14 +1,15 @@
 -- Bundles of the levels of a batch: their seats are those of its rows, and their lanes hold them.
-use Rattle.std.proofs.Common.{◌≡◌, ◌∙◌, ℕ, zero, suc, ◌<◌, ◌∷◌, Some, List, [], length, map, refl, sym, ap, ap₂, subst, arith}
+use Rattle.std.proofs.Common.{◌≡◌, ◌∙◌, ℕ, zero, suc, ◌<◌, ◌≤◌, ◌∷◌, Some, List, [], length, map, refl, sym, ap, ap₂, subst, arith}
 use Rattle.std.proofs.lemmas.List.{get_or_default, length-map}
-use Rattle.std.proofs.lemmas.List.Elements.{All-cons, All-get_or, All-head, All-nil, All-tail}
+use Rattle.std.proofs.lemmas.List.Elements.{All-cons, All-get_or, All-head, All-nil, All-tail, All-weaker}
 use Rattle.std.proofs.lemmas.Option.{none-some, same_Some, slice_get-get_or}
 use Rattle.std.proofs.Math.ListN.{get_or-map}
 use Rattle.std.specs.Prelude.{All, slice_get, slice_index_or}
 use Rattle.pf_islands.proofs.Elements.{all_from}
-use Rattle.pf_rows.specs.declared.row.Side.TheVariants.{Static}
+use Rattle.pf_rows.specs.declared.row.Side.{Side}
+use Rattle.pf_rows.specs.declared.row.Side.TheVariants.{Dynamic, Static}
 use Rattle.pf_rows.specs.Row.{IsEntryOf, IsSide, Row}
-use Rattle.pf_levels.specs.Levels.{Pair, pair_of}
+use Rattle.pf_levels.specs.Levels.{ArePairsOf, IsPairOf, Pair, pair_of}
 use Rattle.pf_bundles.proofs.Bundles.{as_many}
 use Rattle.pf_bundles.specs.Bundle.{AreBundlesOf, Bundle, IsBundleOf, Seat, lane_number, lane_row_or, seat_at}
 use Rattle.pf_bundles.specs.LaneRow.{IsHeldBy, LaneRow}
@@ -17,7 +18,8 @@ use Rattle.pf_solver.specs.Beside.{IsBatch}
 use Rattle.pf_solver.specs.Order.{AreLevelsOf}
 use Rattle.pf_solver.specs.Velocities.{Batch}
 use Rattle.pf_batches.specs.Islands.{AreHeldBy, IsLoaded}
-use Rattle.pf_batches.specs.Numbers.{AreBundlesFor, AreNumbersOf, AreSeatsOf, HoldEach, IsBundleOn, IsSeatIn, seat_of, seats_of}
+use Rattle.pf_batches.specs.Numbers.{AreBundlesFor, AreNumbersOf, AreSeatsOf, HoldEach, IsBundleOn, seat_of, seats_of}
+use Rattle.pf_bundles.specs.Seats.{IsSeatIn}
 use Rattle.pf_batches.proofs.Levels.{places_within, rows_at_places}
 use Rattle.pf_batches.proofs.Numbers.{numbers_fit}
 
@@ -205,3 +207,13 @@ levels_within b levels of = all_from (All (λ p. p < length b.rows)) levels (λ 
     read [] j x here = absurd (none-some x here)
     read (y ∷ xs) zero x here = sym (same_Some y x here)
     read (y ∷ xs) (suc j) x here = read xs j x here
+
+-- ---- sides of more bodies
+
+more_side : (n m : ℕ) (side : Side) → n ≤ m → IsSide n side → IsSide m side
+more_side n m Static h is = tt
+more_side n m (Dynamic place) h is = omega (arith, h, is)
+
+pub more_bodies : (n m : ℕ) (pairs : List Pair) → n ≤ m → ArePairsOf n pairs → ArePairsOf m pairs
+more_bodies n m pairs h all =
+    All-weaker (IsPairOf n) (IsPairOf m) (λ pair of. record { first = more_side n m pair.first h of.first; second = more_side n m pair.second h of.second }) pairs all

@@ -2,10 +2,11 @@
 use Rattle.std.specs.Prelude.{ℕ, ◌≤◌}
 use Rattle.std.specs.Int.RustNames.{unsigned_abs}
 use Rattle.pf_lanes.specs.Lanes.{First, Fourth, Lane, Lanes, Second, Third, number_in}
-use Rattle.pf_rows.specs.Impulses.{Impulses, no_impulses}
+use Rattle.pf_rows.specs.Impulses.{Impulses}
 use Rattle.pf_rows.specs.Row.{InverseMass}
 use Rattle.pf_rows.specs.Small.{IsShort}
-use Rattle.pf_bundles.specs.Numbers.{Velocity, no_velocity}
+use Rattle.pf_bundles.specs.Numbers.{Velocity}
+use Rattle.pf_bundles.specs.Seats.{SeatState}
 use Rattle.pf_bundles.specs.Prepared.{MassLanes, PreparedLanes, VectorLanes, mass_in, vector_in}
 use Rattle.pf_solver.specs.Impulse.{ContactState, Motion}
 
@@ -34,16 +35,6 @@ state_in k p s = record {
   second = motion_in k p.second_mass s.second;
   impulses = record { normal = number_in k s.normal; tangent = number_in k s.tangent };
 }
-
--- the bodies of a row by their velocities, and its accumulated impulses
-pub record SeatState : Type 0 where
-  pub first : Velocity
-  pub second : Velocity
-  pub impulses : Impulses
-
--- that of a lane without a row
-abbrev pub no_seat_state : SeatState
-no_seat_state = record { first = no_velocity; second = no_velocity; impulses = no_impulses }
 
 -- the velocity of a body in a lane
 abbrev pub velocity_in_lane : Lane → MotionLanes → Velocity

@@ -14,7 +14,8 @@ use Rattle.pf_bundles.specs.Bundle.{Bundle, Seat, lane_number}
 use Rattle.pf_bundles.specs.LaneRow.{IsHeldBy, LaneRow, lane_row_in, no_lane_row}
 use Rattle.pf_bundles.specs.Prepared.{PreparedLanes}
 use Rattle.pf_bundles.specs.Numbers.{Numbers, Velocity, no_velocity}
-use Rattle.pf_batches.specs.Contact.{SeatState, no_seat_state, state_of}
+use Rattle.pf_batches.specs.Contact.{state_of}
+use Rattle.pf_bundles.specs.Seats.{IsSeatIn, SeatState, with_velocity}
 use Rattle.pf_solver.specs.Impulse.{ContactState, Motion}
 use Rattle.pf_solver.specs.Order.{passes_in_levels, solved_at_once}
 use Rattle.pf_solver.specs.Velocities.{Batch, Step, static_motion}
@@ -66,16 +67,6 @@ numbers_of b = record {
   impulses = map (λ r. r.entry.impulses) b.rows;
 }
 
--- the velocity of the body on a side; a static body has none
-abbrev pub velocity_at : List Velocity → Side → Velocity
-velocity_at velocities Static = no_velocity
-velocity_at velocities (Dynamic place) = slice_index_or velocities place no_velocity
-
--- the velocities where the body on a side has this one; that of a static body is not held
-abbrev pub with_velocity : List Velocity → Side → Velocity → List Velocity
-with_velocity velocities Static v = velocities
-with_velocity velocities (Dynamic place) v = slice_set velocities place v
-
 -- the seat of the row at this place
 abbrev pub seat_of : ℕ → Row → Seat
 seat_of place r = record { place = place; first = r.entry.first; second = r.entry.second }
@@ -86,50 +77,11 @@ seats_of [] rows = []
 seats_of (p ∷ places) [] = []
 seats_of (p ∷ places) (r ∷ rows) = seat_of p r ∷ seats_of places rows
 
--- the numbers have the bodies and the impulses of a seat
-pub record IsSeatIn (n : Numbers) (seat : Seat) : Type 0 where
-  pub place : seat.place < length n.impulses
-  pub first : IsSide (length n.velocities) seat.first
-  pub second : IsSide (length n.velocities) seat.second
-
--- the numbers of a row
-abbrev pub seat_state_at : Numbers → Seat → SeatState
-seat_state_at n seat = record {
-  first = velocity_at n.velocities seat.first;
-  second = velocity_at n.velocities seat.second;
-  impulses = slice_index_or n.impulses seat.place no_impulses;
-}
-
--- the numbers of a lane that has this seat, if it has one
-abbrev pub seat_state_or : Numbers → Option Seat → SeatState
-seat_state_or n None = no_seat_state
-seat_state_or n (Some seat) = seat_state_at n seat
-
 -- velocities and accumulated impulses are at most this
 pub record AreAllWithin (most : ℕ) (n : Numbers) : Type 0 where
   pub velocities : All (λ v. IsShort most v.velocity) n.velocities
   pub impulses :
       All (λ p. (unsigned_abs p.normal ≤ most) × (unsigned_abs p.tangent ≤ most)) n.impulses
-
--- the numbers after those of a row are stored: the first body, and then the second
-abbrev pub numbers_with : Seat → SeatState → Numbers → Numbers
-numbers_with seat s n = record {
-  velocities =
-      with_velocity (with_velocity n.velocities seat.first s.first) seat.second s.second;
-  impulses = slice_set n.impulses seat.place s.impulses;
-}
-
--- the same of several rows, one after the other
-abbrev pub numbers_with_all : List Seat → List SeatState → Numbers → Numbers
-numbers_with_all [] states n = n
-numbers_with_all (seat ∷ seats) [] n = n
-numbers_with_all (seat ∷ seats) (s ∷ states) n =
-    numbers_with_all seats states (numbers_with seat s n)
-
--- as many numbers are there before and after a row is stored
-pub record AreAsMany (before after : Numbers) : Type 0 where
-  pub velocities : length after.velocities ≡ length before.velocities
-  pub impulses : length after.impulses ≡ length before.impulses
 
 -- the numbers of a contact
 abbrev pub seat_state_from : ContactState → SeatState

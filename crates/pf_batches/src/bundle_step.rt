@@ -3,8 +3,6 @@
 ghost use Rattle.std.specs.Prelude.{◌≡◌, ℕ, ◌≤◌, ◌<◌, ◌^◌, ◌+◌, All, IfSome, IsTrue, List, Some, length, slice_get, slice_index_or};
 ghost use Rattle.pf_solver.specs.Velocities.{Batch};
 ghost use Rattle.pf_rows.specs.Row.{Constraint};
-ghost use Rattle.pf_rows.specs.Impulses.{no_impulses};
-ghost use Rattle.pf_bundles.specs.Numbers.{no_velocity};
 ghost use Rattle.pf_lanes.specs.Lanes.{Lane};
 ghost use Rattle.pf_bundles.specs.Bundle.{Seat, lane_number};
 ghost use Rattle.pf_bundles.specs.LaneRow.{lane_row_in, no_lane_row};
@@ -13,17 +11,16 @@ ghost use Rattle.pf_solver.specs.FastPath.{IsArmFor, IsMassOf};
 ghost use Rattle.pf_solver.specs.Impulse.{ContactState};
 ghost use Rattle.pf_batches.specs.Contact.{IsWithin, seat_state_in, state_in};
 ghost use Rattle.pf_batches.specs.Limits.{AreGrown, AreWithin};
-ghost use Rattle.pf_batches.specs.Numbers.{AreAllWithin, AreAsMany, AreNumbersOf, AreSeatsOf, HoldEach, HoldsRow, IsSeatIn, lane_result, numbers_at_once, numbers_with_all, seat_state_at, seat_state_or};
+ghost use Rattle.pf_batches.specs.Numbers.{AreAllWithin, AreNumbersOf, AreSeatsOf, HoldEach, HoldsRow, lane_result, numbers_at_once};
+ghost use Rattle.pf_bundles.specs.Seats.{AreAsMany, AreFirst, HasSeatIn, IsSeatIn, lane_seat, seat_state_at, seat_state_or, taken_seats};
 
 use crate::contact::{ContactLanes, accumulated, motions};
 use crate::round::after_round;
-use crate::seat_state::{SeatState, velocity_at};
+use crate::seat_state::{contact_of, seat_state_of};
 use crate::warm_start::after_warm_start;
 use pf_bundles::limits::NUMBER_LIMIT;
-use pf_bundles::{Bundle, LaneRow, Numbers, PreparedLanes, Seat, WholeImpulses, WholeVelocity};
+use pf_bundles::{Bundle, LaneRow, LaneSeat, Numbers, PreparedLanes, SeatState};
 use pf_lanes::EXACT_LIMIT;
-use pf_levels::WIDTH;
-use pf_rows::Prepared;
 use pf_solver::{ContactState, ContactStep, Round, WarmStart};
 
 /// How much greater a step in lanes can make a velocity along an axis, or an accumulated impulse,
@@ -80,87 +77,34 @@ impl LaneStep for Round {
     }
 }
 
-/// The velocity of the first body of a lane that has a seat; without one, `rest`.
+/// The contacts of lanes with these seats. Their numbers are lent, not copied: each is loaded by
+/// itself, as it was stored.
 #[inline(always)]
-fn first_velocity<'a>(
-    numbers: &'a Numbers,
-    seats: &[Seat],
-    lane: usize,
-    rest: &'a WholeVelocity,
-) -> &'a WholeVelocity
-    requires seats { All (IsSeatIn numbers.now) seats.now }
-    requires rest { rest.now ≡ no_velocity }
-    ensures { result.now ≡ (seat_state_or numbers.now (slice_get seats.now lane)).first }
-{
-    match seats.get(lane) {
-        Some(seat) => velocity_at(&numbers.velocities, seat.first, rest),
-        None => rest,
-    }
-}
-
-/// The velocity of the second body of a lane that has a seat; without one, `rest`.
-#[inline(always)]
-fn second_velocity<'a>(
-    numbers: &'a Numbers,
-    seats: &[Seat],
-    lane: usize,
-    rest: &'a WholeVelocity,
-) -> &'a WholeVelocity
-    requires seats { All (IsSeatIn numbers.now) seats.now }
-    requires rest { rest.now ≡ no_velocity }
-    ensures { result.now ≡ (seat_state_or numbers.now (slice_get seats.now lane)).second }
-{
-    match seats.get(lane) {
-        Some(seat) => velocity_at(&numbers.velocities, seat.second, rest),
-        None => rest,
-    }
-}
-
-/// The accumulated impulses of a lane that has a seat; without one, `none`.
-#[inline(always)]
-fn impulses_of<'a>(
-    numbers: &'a Numbers,
-    seats: &[Seat],
-    lane: usize,
-    none: &'a WholeImpulses,
-) -> &'a WholeImpulses
-    requires seats { All (IsSeatIn numbers.now) seats.now }
-    requires none { none.now ≡ no_impulses }
-    ensures { result.now ≡ (seat_state_or numbers.now (slice_get seats.now lane)).impulses }
-{
-    match seats.get(lane) {
-        Some(seat) => &numbers.impulses[seat.place],
-        None => none,
-    }
-}
-
-/// The contacts of the rows of these seats, side by side. Their numbers are lent, not copied: each
-/// is loaded by itself, as it was stored.
-#[inline(always)]
-fn read(numbers: &Numbers, seats: &[Seat]) -> ContactLanes
-    requires { All (IsSeatIn numbers.now) seats.now }
+#[tactic(auto, using(pf_bundles::proofs::Seats::has_seat))]
+fn read(numbers: &Numbers, seats: &[LaneSeat; 4]) -> ContactLanes
+    requires first { AreFirst seats.now }
+    requires seats { All (IsSeatIn numbers.now) (taken_seats seats.now) }
     ensures { (k : Lane) → seat_state_in k result
-        ≡ seat_state_or numbers.now (slice_get seats.now (lane_number k)) }
+        ≡ seat_state_or numbers.now (lane_seat k seats.now) }
 {
-    let rest = WholeVelocity::none();
-    let none = WholeImpulses::none();
+    let [a, b, c, d] = seats;
     let first = motions(
-        first_velocity(numbers, seats, 0, &rest),
-        first_velocity(numbers, seats, 1, &rest),
-        first_velocity(numbers, seats, 2, &rest),
-        first_velocity(numbers, seats, 3, &rest),
+        numbers.first_of(a),
+        numbers.first_of(b),
+        numbers.first_of(c),
+        numbers.first_of(d),
     );
     let second = motions(
-        second_velocity(numbers, seats, 0, &rest),
-        second_velocity(numbers, seats, 1, &rest),
-        second_velocity(numbers, seats, 2, &rest),
-        second_velocity(numbers, seats, 3, &rest),
+        numbers.second_of(a),
+        numbers.second_of(b),
+        numbers.second_of(c),
+        numbers.second_of(d),
     );
     let (normal, tangent) = accumulated(
-        impulses_of(numbers, seats, 0, &none),
-        impulses_of(numbers, seats, 1, &none),
-        impulses_of(numbers, seats, 2, &none),
-        impulses_of(numbers, seats, 3, &none),
+        numbers.impulses_of(a),
+        numbers.impulses_of(b),
+        numbers.impulses_of(c),
+        numbers.impulses_of(d),
     );
     ContactLanes {
         first,
@@ -178,34 +122,34 @@ fn exact_state<L: ContactStep>(row: &LaneRow, state: &SeatState, most: u64) -> O
     ensures size { IfSome result (λ after. IsWithin most after) }
 {
     let prepared = row.prepared();
-    let before = state.state(prepared.first_mass(), prepared.second_mass());
+    let before = contact_of(state, prepared.first_mass(), prepared.second_mass());
     let after = match L::fast_after(&prepared, &before) {
         Some(after) => after,
         None => L::after(prepared.constraint(), &before),
     };
-    SeatState::of(&after, most)
+    seat_state_of(&after, most)
 }
 
-/// The numbers of a lane after the step, by scalars; those of no row where the lane has no seat.
-/// `None` as in [`exact_state`].
+/// The numbers of a lane after the step, by scalars; zeros where the lane has no row. `None` as in
+/// [`exact_state`].
 fn exact_lane<L: ContactStep>(
     rows: &[LaneRow],
-    seats: &[Seat],
+    seat: &LaneSeat,
     numbers: &Numbers,
-    lane: usize,
     most: u64,
 ) -> Option<SeatState>
     requires most { most ≤ EXACT_LIMIT }
-    requires seats { All (IsSeatIn numbers.now) seats.now }
-    requires rows { All (λ seat. seat.place < length rows.now) seats.now }
-    ensures value { IfSome result (λ after. (seat : Seat) → slice_get seats.now lane ≡ Some seat
-        → after ≡ lane_result L.step (slice_index_or rows.now seat.place no_lane_row)
-        (seat_state_at numbers.now seat)) }
+    requires seat { HasSeatIn numbers.now seat.now }
+    requires row { IfSome seat.now (λ own. own.place < length rows.now) }
+    ensures value { IfSome result (λ after. (own : Seat) → seat.now ≡ Some own
+        → after ≡ lane_result L.step (slice_index_or rows.now own.place no_lane_row)
+        (seat_state_at numbers.now own)) }
     ensures size { IfSome result (λ after. IsWithin most after) }
 {
-    match seats.get(lane) {
-        Some(seat) => { exact_state::<L>(&rows[seat.place], &SeatState::read(numbers, seat), most) }
-        None => Some(SeatState::none()),
+    let state = numbers.read(seat);
+    match seat.place() {
+        Some(place) => exact_state::<L>(&rows[place], &state, most),
+        None => Some(state),
     }
 }
 
@@ -213,25 +157,28 @@ fn exact_lane<L: ContactStep>(
 /// `most`, or doubles do not hold a spin.
 #[cold]
 #[inline(never)]
+#[tactic(auto, using(pf_bundles::proofs::Seats::has_seat))]
 fn after_exact<L: ContactStep>(
     rows: &[LaneRow],
-    seats: &[Seat],
+    seats: &[LaneSeat; 4],
     numbers: &Numbers,
     most: u64,
 ) -> Option<ContactLanes>
     requires most { most ≤ EXACT_LIMIT }
-    requires seats { All (IsSeatIn numbers.now) seats.now }
-    requires rows { All (λ seat. seat.place < length rows.now) seats.now }
+    requires first { AreFirst seats.now }
+    requires seats { All (IsSeatIn numbers.now) (taken_seats seats.now) }
+    requires rows { All (λ seat. seat.place < length rows.now) (taken_seats seats.now) }
     ensures value { IfSome result (λ after. (k : Lane) (seat : Seat)
-        → slice_get seats.now (lane_number k) ≡ Some seat → seat_state_in k after
+        → lane_seat k seats.now ≡ Some seat → seat_state_in k after
         ≡ lane_result L.step (slice_index_or rows.now seat.place no_lane_row)
         (seat_state_at numbers.now seat)) }
     ensures size { IfSome result (λ after. (k : Lane) → IsWithin most (seat_state_in k after)) }
 {
-    let first = exact_lane::<L>(rows, seats, numbers, 0, most)?;
-    let second = exact_lane::<L>(rows, seats, numbers, 1, most)?;
-    let third = exact_lane::<L>(rows, seats, numbers, 2, most)?;
-    let fourth = exact_lane::<L>(rows, seats, numbers, 3, most)?;
+    let [a, b, c, d] = seats;
+    let first = exact_lane::<L>(rows, a, numbers, most)?;
+    let second = exact_lane::<L>(rows, b, numbers, most)?;
+    let third = exact_lane::<L>(rows, c, numbers, most)?;
+    let fourth = exact_lane::<L>(rows, d, numbers, most)?;
     Some(ContactLanes::of(&first, &second, &third, &fourth))
 }
 
@@ -239,15 +186,16 @@ fn after_exact<L: ContactStep>(
 #[inline(always)]
 fn after_fast<L: LaneStep>(
     prepared: &PreparedLanes,
-    seats: &[Seat],
+    seats: &[LaneSeat; 4],
     numbers: &Numbers,
     most: u64,
 ) -> Option<ContactLanes>
     requires most { most ≤ NUMBER_LIMIT }
-    requires seats { All (IsSeatIn numbers.now) seats.now }
+    requires first { AreFirst seats.now }
+    requires seats { All (IsSeatIn numbers.now) (taken_seats seats.now) }
     requires within { AreAllWithin most numbers.now }
     ensures value { IfSome result (λ after. (k : Lane) (seat : Seat)
-        → slice_get seats.now (lane_number k) ≡ Some seat → seat_state_in k after
+        → lane_seat k seats.now ≡ Some seat → seat_state_in k after
         ≡ lane_result L.step (lane_row_in k prepared.now) (seat_state_at numbers.now seat)) }
     ensures size { IfSome result (λ after. (k : Lane)
         → IsWithin (most + GROWTH) (seat_state_in k after)) }
@@ -284,22 +232,6 @@ fn after_step<L: LaneStep>(
     }
 }
 
-/// Stores the numbers of these rows, one after the other.
-#[inline(always)]
-fn store(numbers: &mut Numbers, seats: &[Seat], states: &[SeatState])
-    requires seats { All (IsSeatIn numbers.old) seats.now }
-    requires fits { length seats.now ≤ WIDTH }
-    requires states { length states.now ≡ WIDTH }
-    ensures value { numbers.new ≡ numbers_with_all seats.now states.now numbers.old }
-    ensures many { AreAsMany numbers.old numbers.new }
-{
-    for lane in 0..WIDTH {
-        if let Some(seat) = seats.get(lane) {
-            states[lane].store(numbers, seat);
-        }
-    }
-}
-
 /// The step of the rows of a bundle, all of them by the numbers as they were before; `false` where
 /// a number is then above `most` by more than [`GROWTH`], or doubles do not hold a spin.
 #[inline(always)]
@@ -322,7 +254,7 @@ pub(crate) fn solve_bundle<L: LaneStep>(
 {
     match after_step::<L>(bundle, rows, numbers, most) {
         Some(after) => {
-            store(numbers, bundle.seats(), &after.states());
+            numbers.store(bundle.seats(), &after.states());
             true
         }
         None => false,

@@ -4,8 +4,7 @@ ghost use Rattle.std.specs.Prelude.{◌≡◌, ◌∷◌, []};
 ghost use Rattle.pf_lanes.specs.Lanes.{First, Fourth, Second, Third};
 ghost use Rattle.pf_batches.specs.Contact.{impulses_in_lane, velocity_in_lane};
 
-use crate::seat_state::SeatState;
-use pf_bundles::{VectorLanes, WholeImpulses, WholeVector, WholeVelocity};
+use pf_bundles::{SeatState, VectorLanes, WholeImpulses, WholeVector, WholeVelocity};
 use pf_lanes::{Lanes, Raised};
 use std::marker::Model;
 

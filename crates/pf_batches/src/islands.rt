@@ -103,18 +103,19 @@ pub(crate) fn load_rows(islands: &[Island], lanes: &mut Vec<LaneRow>) -> Result<
 fn add_velocities(
     bodies: &[BodyState],
     most: u64,
-    velocities: &mut Vec<WholeVelocity>,
+    numbers: &mut Numbers,
 ) -> Result<bool, AllocError>
     requires { most ≤ EXACT_LIMIT }
     ensures value { IfOk result (λ all. IsTrue all
-        → velocities.new.items ≡ velocities.old.items ++ map velocity_of bodies.now) }
+        → numbers.new.velocities ≡ numbers.old.velocities ++ map velocity_of bodies.now) }
     ensures size { IfOk result (λ all. IsTrue all
-        → All (λ v. IsShort most v.velocity) velocities.old.items
-        → All (λ v. IsShort most v.velocity) velocities.new.items) }
+        → All (λ v. IsShort most v.velocity) numbers.old.velocities
+        → All (λ v. IsShort most v.velocity) numbers.new.velocities) }
+    ensures impulses { IfOk result (λ all. numbers.new.impulses ≡ numbers.old.impulses) }
 {
     for body in bodies {
         match WholeVelocity::of(body.velocity, body.spin, most) {
-            Some(velocity) => velocities.push(velocity)?,
+            Some(velocity) => numbers.push_velocity(velocity)?,
             None => return Ok(false),
         }
     }
@@ -125,20 +126,21 @@ fn add_velocities(
 fn add_impulses(
     rows: &[Row],
     most: u64,
-    impulses: &mut Vec<WholeImpulses>,
+    numbers: &mut Numbers,
 ) -> Result<bool, AllocError>
     requires { most ≤ EXACT_LIMIT }
     ensures value { IfOk result (λ all. IsTrue all
-        → impulses.new.items ≡ impulses.old.items ++ map (λ r. r.entry.impulses) rows.now) }
+        → numbers.new.impulses ≡ numbers.old.impulses ++ map (λ r. r.entry.impulses) rows.now) }
     ensures size { IfOk result (λ all. IsTrue all
         → All (λ p. (unsigned_abs p.normal ≤ most) × (unsigned_abs p.tangent ≤ most))
-        impulses.old.items
+        numbers.old.impulses
         → All (λ p. (unsigned_abs p.normal ≤ most) × (unsigned_abs p.tangent ≤ most))
-        impulses.new.items) }
+        numbers.new.impulses) }
+    ensures velocities { IfOk result (λ all. numbers.new.velocities ≡ numbers.old.velocities) }
 {
     for row in rows {
         match WholeImpulses::of(&row.entry.impulses, most) {
-            Some(whole) => impulses.push(whole)?,
+            Some(whole) => numbers.push_impulses(whole)?,
             None => return Ok(false),
         }
     }
@@ -157,13 +159,12 @@ pub(crate) fn load_numbers(
         → numbers.new ≡ numbers_of (batch_of islands.now)) }
     ensures size { IfOk result (λ all. IsTrue all → AreAllWithin most numbers.new) }
 {
-    numbers.velocities.clear();
-    numbers.impulses.clear();
+    numbers.clear();
     for island in islands {
-        if !add_velocities(island.bodies.as_slice(), most, &mut numbers.velocities)? {
+        if !add_velocities(island.bodies.as_slice(), most, numbers)? {
             return Ok(false);
         }
-        if !add_impulses(island.rows.as_slice(), most, &mut numbers.impulses)? {
+        if !add_impulses(island.rows.as_slice(), most, numbers)? {
             return Ok(false);
         }
     }
@@ -231,8 +232,8 @@ pub(crate) fn store_numbers(islands: &mut [Island], numbers: &Numbers)
     requires { AreNumbersOf (batch_of islands.old) numbers.now }
     ensures { islands.new ≡ islands_with numbers.now islands.old }
 {
-    let velocities = numbers.velocities.as_slice();
-    let impulses = numbers.impulses.as_slice();
+    let velocities = numbers.velocities();
+    let impulses = numbers.impulses();
     let (mut bodies, mut rows) = (0, 0);
     for island in islands.iter_mut() {
         store_behind(bodies, velocities, rows, impulses, island);

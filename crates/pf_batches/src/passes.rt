@@ -6,7 +6,8 @@ ghost use Rattle.pf_solver.specs.Beside.{velocities_of};
 ghost use Rattle.pf_solver.specs.Impulse.{after_round};
 ghost use Rattle.pf_solver.specs.Order.{AreLevelsOf};
 ghost use Rattle.pf_solver.specs.Velocities.{Batch};
-ghost use Rattle.pf_batches.specs.Numbers.{AreAfter, AreAllWithin, AreAsMany, AreBundlesFor, AreNumbersOf, IsBundleOn, batch_with, numbers_of};
+ghost use Rattle.pf_batches.specs.Numbers.{AreAfter, AreAllWithin, AreBundlesFor, AreNumbersOf, IsBundleOn, batch_with, numbers_of};
+ghost use Rattle.pf_bundles.specs.Seats.{AreAsMany};
 
 use crate::bundle_step::{GROWTH, LaneStep, solve_bundle};
 use pf_bundles::limits::NUMBER_LIMIT;

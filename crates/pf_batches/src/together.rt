@@ -1,9 +1,9 @@
 //! Islands solved together: as one batch, level by level, four rows at a time.
 
-ghost use Rattle.std.specs.Prelude.{◌≡◌, ◌<◌, ℕ, All, IfOk, IsTrue, List, OnErr, OnOk, false, length, map};
+ghost use Rattle.std.specs.Prelude.{◌≡◌, ◌<◌, ◌-◌, ◌^◌, ℕ, All, IfOk, IsTrue, List, OnErr, OnOk, false, length, map};
 ghost use Rattle.pf_islands.specs.Split.{IsIslandOf};
 ghost use Rattle.pf_solver.specs.Alone.{island_after_rounds, island_after_tick, island_at_end, prepared_island};
-ghost use Rattle.pf_levels.specs.Levels.{pair_of};
+ghost use Rattle.pf_levels.specs.Levels.{ArePairsOf, pair_of};
 ghost use Rattle.pf_solver.specs.Order.{AreLevelsOf};
 ghost use Rattle.pf_batches.specs.Islands.{AreBatches, IsLoaded, batch_of};
 
@@ -14,7 +14,7 @@ use pf_islands::Island;
 use pf_levels::{Levels, Pair};
 use pf_shapes::Scene;
 use pf_solver::{finish_island, prepare_island, solve_rounds};
-use std::alloc::AllocError;
+use std::alloc::{AllocError, Global};
 use std::mem;
 
 /// The greatest velocity along an axis, and the greatest accumulated impulse, before the rounds, in
@@ -25,6 +25,7 @@ pub const START_LIMIT: u64 = 1 << 49;
 const ROWS_A_LEVEL: usize = 2;
 
 /// Finds the levels of the rows of islands; `false` where they have too few rows for lanes to pay.
+#[tactic(auto, using(crate::proofs::OfLevels::more_bodies))]
 fn load_levels(
     islands: &[Island],
     pairs: &mut Vec<Pair>,
@@ -33,6 +34,7 @@ fn load_levels(
     requires { AreBatches islands.now }
     ensures pairs { OnOk result (pairs.new.items ≡ map pair_of (batch_of islands.now).rows) }
     ensures levels { IfOk result (λ pays. AreLevelsOf (batch_of islands.now) levels.new.levels) }
+    ensures sides { OnOk result (ArePairsOf (2 ^ 64 - 1) pairs.new.items) }
 {
     let bodies = load_pairs(islands, pairs)?;
     levels.update(pairs, bodies)?;
@@ -50,6 +52,7 @@ fn load_bundles_of(
     bundles: &mut Vec<Bundle>,
 ) -> Result<bool, AllocError>
     requires pairs { pairs.now ≡ map pair_of (batch_of islands.now).rows }
+    requires sides { ArePairsOf (2 ^ 64 - 1) pairs.now }
     requires levels { AreLevelsOf (batch_of islands.now) levels.now.levels }
     ensures { IfOk result (λ loaded. IsTrue loaded → IsLoaded (batch_of islands.now)
         levels.now.levels rows.new.items numbers.new bundles.new.items) }
@@ -82,6 +85,17 @@ fn solve_loaded(
     done
 }
 
+/// The numbers of a workspace, which has none at first.
+fn numbers_in(
+    numbers: &mut Option<Numbers>,
+    alloc: Global,
+) -> Result<&mut Numbers, AllocError> {
+    if numbers.is_none() {
+        *numbers = Some(Numbers::new(alloc)?);
+    }
+    numbers.as_mut().ok_or(AllocError)
+}
+
 /// The rounds of islands in lanes, by the memory of a workspace; `false`, and the islands as they
 /// were, where lanes do not pay, or a number is too great for doubles.
 fn solve_in_lanes(workspace: &mut Workspace, islands: &mut [Island]) -> Result<bool, AllocError>
@@ -98,6 +112,7 @@ fn solve_in_lanes(workspace: &mut Workspace, islands: &mut [Island]) -> Result<b
         bundles,
         numbers,
     } = workspace;
+    let numbers = numbers_in(numbers, *pairs.allocator())?;
     if !load_levels(islands, pairs, levels)?
         || !load_bundles_of(islands, pairs, levels, rows, numbers, bundles)?
     {

@@ -1,2 +1,3 @@
 pub mod Arms
 pub mod Bundles
+pub mod Seats

@@ -25,10 +25,6 @@ lane_number Second = 1
 lane_number Third = 2
 lane_number Fourth = 3
 
--- the seat of no row
-abbrev pub no_seat : Seat
-no_seat = record { place = 0; first = Static; second = Static }
-
 -- the seat of the row at a place
 abbrev pub seat_at : List Pair → ℕ → Seat
 seat_at pairs p =

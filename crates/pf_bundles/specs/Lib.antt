@@ -4,3 +4,4 @@ pub mod Prepared
 pub mod LaneRow
 pub mod Bundle
 pub mod Numbers
+pub mod Seats

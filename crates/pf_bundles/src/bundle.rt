@@ -1,67 +1,36 @@
 //! The rows of a level, each in a lane of its own.
 
-ghost use Rattle.std.specs.Prelude.{◌≡◌, ◌<◌, ◌≤◌, All, IfOk, length, map, slice_get};
+ghost use Rattle.std.specs.Prelude.{◌≡◌, ◌<◌, ◌≤◌, ◌-◌, ◌^◌, All, IfOk, length, slice_get};
 ghost use Rattle.pf_levels.specs.declared.level.TheConstants.{WIDTH};
-ghost use Rattle.pf_bundles.specs.Bundle.{AreBundlesOf, IsBundleOf, lane_row_or, seat_at};
+ghost use Rattle.pf_levels.specs.Levels.{ArePairsOf};
+ghost use Rattle.pf_bundles.specs.Bundle.{AreBundlesOf, IsBundleOf, lane_row_or};
+ghost use Rattle.pf_bundles.specs.Seats.{AreFirst, seat_or, taken_seats};
 
 use crate::lane_row::LaneRow;
 use crate::prepared::PreparedLanes;
-use arrayvec::ArrayVec;
+use crate::seat::LaneSeat;
 use pf_levels::{Level, Pair, WIDTH};
-use pf_rows::Side;
 use std::alloc::AllocError;
 use std::marker::Model;
 
-/// Where the numbers of a row stand.
-#[derive(Clone, Copy, Debug)]
-pub struct Seat {
-    /// Its place among the rows.
-    pub place: usize,
-    /// Where its first body stands.
-    pub first: Side,
-    /// Where its second body stands.
-    pub second: Side,
-}
-
-impl Model for Seat {
-    ghost use Rattle.pf_bundles.specs.Bundle.{Seat};
-
-    ghost Value = { Seat };
-
-    ghost view = { λ s. record { place = s.place; first = s.first; second = s.second } };
-
-    ghost inverse = { λ s. record { place = s.place; first = s.first; second = s.second } };
-}
-
-impl Default for Seat {
-    ghost use Rattle.std.specs.Prelude.{◌≡◌};
-    ghost use Rattle.pf_bundles.specs.Bundle.{no_seat};
-
-    fn default() -> Seat
-        ensures { result ≡ no_seat }
-    {
-        Seat {
-            place: 0,
-            first: Side::Static,
-            second: Side::Static,
-        }
-    }
-}
-
-/// The rows of a level: what stays fixed of them during the rounds, and their seats, one for each
-/// lane that has a row.
+/// The rows of a level: what stays fixed of them during the rounds, and the seat of each lane.
+///
+/// Contracts see the seats of the lanes that have a row, which are the first ones.
 #[derive(Drop)]
 pub struct Bundle {
     prepared: PreparedLanes,
-    seats: ArrayVec<Seat, WIDTH>,
+    seats: [LaneSeat; 4],
 }
 
 impl Model for Bundle {
     ghost use Rattle.pf_bundles.specs.Bundle.{Bundle};
+    ghost use Rattle.pf_bundles.specs.Seats.{AreLaneSeats, taken_seats};
 
     ghost Value = { Bundle };
 
-    ghost view = { λ b. record { prepared = b.prepared; seats = b.seats.items } };
+    ghost view = { λ b. record { prepared = b.prepared; seats = taken_seats b.seats } };
+
+    ghost invariant = { λ b. AreLaneSeats b.seats };
 }
 
 /// The row of a level that a lane holds; a lane without one holds no row.
@@ -76,29 +45,24 @@ fn lane_row(rows: &[LaneRow], places: &[usize], lane: usize) -> LaneRow
     }
 }
 
-/// The seats of the rows at these places.
-fn seats_of(places: &[usize], pairs: &[Pair]) -> ArrayVec<Seat, WIDTH>
-    requires fits { length places.now ≤ WIDTH }
+/// The seat of a lane, by the row of a level that it holds.
+#[inline]
+fn seat_of(places: &[usize], pairs: &[Pair], lane: usize) -> LaneSeat
+    requires pairs { ArePairsOf (2 ^ 64 - 1) pairs.now }
     requires places { All (λ p. p < length pairs.now) places.now }
-    ensures { result.items ≡ map (seat_at pairs.now) places.now }
+    ensures { result ≡ seat_or pairs.now (slice_get places.now lane) }
 {
-    let mut seats = ArrayVec::new();
-    for place in places {
-        let place = *place;
-        let pair = &pairs[place];
-        seats.push(Seat {
-            place,
-            first: pair.first,
-            second: pair.second,
-        });
+    match places.get(lane) {
+        Some(place) => LaneSeat::of(*place, &pairs[*place]),
+        None => LaneSeat::none(),
     }
-    seats
 }
 
 impl Bundle {
     /// The rows at the places of a level.
     pub fn of(places: &[usize], pairs: &[Pair], rows: &[LaneRow]) -> Bundle
         requires fits { length places.now ≤ WIDTH }
+        requires sides { ArePairsOf (2 ^ 64 - 1) pairs.now }
         requires pairs { All (λ p. p < length pairs.now) places.now }
         requires rows { All (λ p. p < length rows.now) places.now }
         ensures { IsBundleOf pairs.now rows.now places.now result }
@@ -110,7 +74,12 @@ impl Bundle {
                 &lane_row(rows, places, 2),
                 &lane_row(rows, places, 3),
             ),
-            seats: seats_of(places, pairs),
+            seats: [
+                seat_of(places, pairs, 0),
+                seat_of(places, pairs, 1),
+                seat_of(places, pairs, 2),
+                seat_of(places, pairs, 3),
+            ],
         }
     }
 
@@ -122,13 +91,14 @@ impl Bundle {
         &self.prepared
     }
 
-    /// The seats of the rows, in the order of the lanes.
+    /// The seats of the lanes.
     #[inline]
-    pub fn seats(&self) -> &[Seat]
-        ensures seats { result.now ≡ self.now.seats }
-        ensures fits { length result.now ≤ WIDTH }
+    pub fn seats(&self) -> &[LaneSeat; 4]
+        ensures seats { taken_seats result.now ≡ self.now.seats }
+        ensures first { AreFirst result.now }
+        ensures fits { length self.now.seats ≤ WIDTH }
     {
-        self.seats.as_slice()
+        &self.seats
     }
 }
 
@@ -140,6 +110,7 @@ pub fn load_bundles(
     pairs: &[Pair],
     rows: &[LaneRow],
 ) -> Result<(), AllocError>
+    requires sides { ArePairsOf (2 ^ 64 - 1) pairs.now }
     requires pairs { All (All (λ p. p < length pairs.now)) levels.now }
     requires rows { All (All (λ p. p < length rows.now)) levels.now }
     ensures { IfOk result (λ done.

@@ -9,14 +9,16 @@ pub mod laws;
 pub mod limits;
 mod numbers;
 mod prepared;
+mod seat;
 mod vectors;
 mod whole;
 mod workspace;
 
-pub use bundle::{Bundle, Seat, load_bundles};
+pub use bundle::{Bundle, load_bundles};
 pub use lane_row::{LaneRow, WholeConstraint};
-pub use numbers::{Numbers, WholeImpulses, WholeVelocity};
+pub use numbers::{Numbers, SeatState, WholeImpulses, WholeVelocity};
 pub use prepared::{ConstraintLanes, MassLanes, PreparedLanes};
+pub use seat::LaneSeat;
 pub use vectors::{ScaledVectors, VectorLanes};
 pub use whole::{WholeMass, WholeVector};
 pub use workspace::Workspace;

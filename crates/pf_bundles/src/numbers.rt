@@ -1,13 +1,16 @@
 //! The numbers that the rounds change, as doubles: velocities of bodies, and accumulated impulses.
 
-ghost use Rattle.std.specs.Prelude.{◌≡◌, ◌≤◌, ◌↔◌, IfSome, IsSome};
+ghost use Rattle.std.specs.Prelude.{◌≡◌, ◌<◌, ◌≤◌, ◌↔◌, All, IfSome, IsSome, length};
 ghost use Rattle.std.specs.Int.RustNames.{unsigned_abs};
+ghost use Rattle.pf_bundles.specs.Seats.{AreFirst, HasSeatIn, HaveFirst, IsSeatIn, numbers_behind_first, numbers_with_lane, numbers_with_lanes, taken_seats};
 
+use crate::seat::LaneSeat;
 use crate::whole::{WholeVector, number_of, whole_of};
 use pf_lanes::{EXACT_LIMIT, Whole};
 use pf_num::Fx;
 use pf_rot::V2;
 use pf_rows::Impulses;
+use std::alloc::{AllocError, Global};
 use std::marker::Model;
 
 /// A number as a double, or `None` where it is above this in magnitude.
@@ -159,19 +162,229 @@ impl WholeImpulses {
     }
 }
 
+/// The numbers of one row: of its bodies, and its accumulated impulses.
+#[derive(Clone, Copy)]
+pub struct SeatState {
+    /// The first body.
+    pub first: WholeVelocity,
+    /// The second body.
+    pub second: WholeVelocity,
+    /// The accumulated impulses.
+    pub impulses: WholeImpulses,
+}
+
+impl Model for SeatState {
+    ghost use Rattle.pf_bundles.specs.Seats.{SeatState};
+
+    ghost Value = { SeatState };
+
+    ghost view = { λ s. record { first = s.first; second = s.second; impulses = s.impulses } };
+
+    ghost inverse = { λ s. record { first = s.first; second = s.second; impulses = s.impulses } };
+}
+
 /// The velocities of all bodies, and the accumulated impulses of all rows.
+///
+/// In front of both stand zeros. Static bodies and lanes without a row have them, so that lanes are
+/// read and stored without a branch.
 #[derive(Drop)]
 pub struct Numbers {
-    /// One for each body.
-    pub velocities: Vec<WholeVelocity>,
-    /// One for each row.
-    pub impulses: Vec<WholeImpulses>,
+    velocities: Vec<WholeVelocity>,
+    impulses: Vec<WholeImpulses>,
 }
 
 impl Model for Numbers {
     ghost use Rattle.pf_bundles.specs.Numbers.{Numbers};
+    ghost use Rattle.pf_bundles.specs.Seats.{HaveFirst, numbers_behind_first};
 
     ghost Value = { Numbers };
 
-    ghost view = { λ n. record { velocities = n.velocities.items; impulses = n.impulses.items } };
+    ghost view = { λ n. numbers_behind_first n.velocities.items n.impulses.items };
+
+    ghost invariant = { λ n. HaveFirst n.velocities.items n.impulses.items };
+}
+
+/// Stores the numbers of a lane's row: of the first body, and then of the second.
+#[inline(always)]
+#[tactic(auto, using(crate::proofs::Seats::velocity_stored, crate::proofs::Seats::impulses_stored))]
+fn store_lane(
+    velocities: &mut [WholeVelocity],
+    impulses: &mut [WholeImpulses],
+    seat: &LaneSeat,
+    state: &SeatState,
+)
+    requires velocities { 0 < length velocities.old }
+    requires impulses { 0 < length impulses.old }
+    requires seat { HasSeatIn (numbers_behind_first velocities.old impulses.old) seat.now }
+    ensures value { numbers_behind_first velocities.new impulses.new ≡ numbers_with_lane seat.now
+        state.now (numbers_behind_first velocities.old impulses.old) }
+    ensures velocities { length velocities.new ≡ length velocities.old }
+    ensures impulses { length impulses.new ≡ length impulses.old }
+{
+    velocities[seat.first] = state.first;
+    velocities[seat.second] = state.second;
+    impulses[seat.row] = state.impulses;
+}
+
+/// Stores the numbers of four lanes, one after the other.
+#[inline(always)]
+#[tactic(auto, using(crate::proofs::Seats::has_seat, crate::proofs::Seats::seat_kept))]
+fn store_lanes(
+    velocities: &mut [WholeVelocity],
+    impulses: &mut [WholeImpulses],
+    seats: &[LaneSeat; 4],
+    states: &[SeatState; 4],
+)
+    requires velocities { 0 < length velocities.old }
+    requires impulses { 0 < length impulses.old }
+    requires first { AreFirst seats.now }
+    requires seats {
+        All (IsSeatIn (numbers_behind_first velocities.old impulses.old)) (taken_seats seats.now) }
+    ensures value { numbers_behind_first velocities.new impulses.new ≡ numbers_with_lanes seats.now
+        states.now (numbers_behind_first velocities.old impulses.old) }
+    ensures velocities { length velocities.new ≡ length velocities.old }
+    ensures impulses { length impulses.new ≡ length impulses.old }
+{
+    let [first, second, third, fourth] = seats;
+    let [a, b, c, d] = states;
+    store_lane(velocities, impulses, first, a);
+    store_lane(velocities, impulses, second, b);
+    store_lane(velocities, impulses, third, c);
+    store_lane(velocities, impulses, fourth, d);
+}
+
+/// Puts zeros at the first place.
+#[inline(always)]
+#[tactic(auto, using(crate::proofs::Seats::first_cleared, crate::proofs::Seats::rest_kept))]
+fn clear_first(velocities: &mut [WholeVelocity], impulses: &mut [WholeImpulses])
+    requires velocities { 0 < length velocities.old }
+    requires impulses { 0 < length impulses.old }
+    ensures first { HaveFirst velocities.new impulses.new }
+    ensures rest { numbers_behind_first velocities.new impulses.new
+        ≡ numbers_behind_first velocities.old impulses.old }
+    ensures velocities { length velocities.new ≡ length velocities.old }
+    ensures impulses { length impulses.new ≡ length impulses.old }
+{
+    velocities[0] = WholeVelocity::none();
+    impulses[0] = WholeImpulses::none();
+}
+
+impl Numbers {
+    ghost use Rattle.std.specs.Prelude.{◌≡◌, ◌++◌, ◌∷◌, [], All, IfOk, OnErr, OnOk};
+    ghost use Rattle.pf_bundles.specs.Numbers.{no_numbers};
+    ghost use Rattle.pf_bundles.specs.Seats.{AreAsMany, AreFirst, HasSeatIn, IsSeatIn, numbers_with_lanes, seat_state_or, taken_seats};
+
+    /// Those of no bodies and no rows.
+    pub fn new(alloc: Global) -> Result<Numbers, AllocError>
+        ensures { IfOk result (λ numbers. numbers ≡ no_numbers) }
+    {
+        let mut velocities = Vec::new(alloc);
+        velocities.push(WholeVelocity::none())?;
+        let mut impulses = Vec::new(alloc);
+        impulses.push(WholeImpulses::none())?;
+        Ok(Numbers {
+            velocities,
+            impulses,
+        })
+    }
+
+    /// Removes all of them.
+    pub fn clear(&mut self)
+        ensures { self.new ≡ no_numbers }
+    {
+        self.velocities.truncate(1);
+        self.impulses.truncate(1);
+    }
+
+    /// Adds the velocity of one more body. Out of memory they stay as they were.
+    #[inline]
+    pub fn push_velocity(&mut self, velocity: WholeVelocity) -> Result<(), AllocError>
+        ensures ok { OnOk result (self.new
+            ≡ record self.old { velocities = self.old.velocities ++ velocity ∷ [] }) }
+        ensures err { OnErr result (self.new ≡ self.old) }
+    {
+        Ok(self.velocities.push(velocity)?)
+    }
+
+    /// Adds the accumulated impulses of one more row. Out of memory they stay as they were.
+    #[inline]
+    pub fn push_impulses(&mut self, impulses: WholeImpulses) -> Result<(), AllocError>
+        ensures ok { OnOk result (self.new
+            ≡ record self.old { impulses = self.old.impulses ++ impulses ∷ [] }) }
+        ensures err { OnErr result (self.new ≡ self.old) }
+    {
+        Ok(self.impulses.push(impulses)?)
+    }
+
+    /// One for each body.
+    #[inline]
+    pub fn velocities(&self) -> &[WholeVelocity]
+        ensures { result.now ≡ self.now.velocities }
+    {
+        &self.velocities[1..]
+    }
+
+    /// One for each row.
+    #[inline]
+    pub fn impulses(&self) -> &[WholeImpulses]
+        ensures { result.now ≡ self.now.impulses }
+    {
+        &self.impulses[1..]
+    }
+
+    /// The velocity of the first body of a lane.
+    #[inline(always)]
+    #[tactic(auto, using(crate::proofs::Seats::velocity_read))]
+    pub fn first_of(&self, seat: &LaneSeat) -> &WholeVelocity
+        requires { HasSeatIn self.now seat.now }
+        ensures { result.now ≡ (seat_state_or self.now seat.now).first }
+    {
+        &self.velocities[seat.first]
+    }
+
+    /// The velocity of the second body of a lane.
+    #[inline(always)]
+    #[tactic(auto, using(crate::proofs::Seats::velocity_read))]
+    pub fn second_of(&self, seat: &LaneSeat) -> &WholeVelocity
+        requires { HasSeatIn self.now seat.now }
+        ensures { result.now ≡ (seat_state_or self.now seat.now).second }
+    {
+        &self.velocities[seat.second]
+    }
+
+    /// The accumulated impulses of a lane.
+    #[inline(always)]
+    pub fn impulses_of(&self, seat: &LaneSeat) -> &WholeImpulses
+        requires { HasSeatIn self.now seat.now }
+        ensures { result.now ≡ (seat_state_or self.now seat.now).impulses }
+    {
+        &self.impulses[seat.row]
+    }
+
+    /// The numbers of a lane.
+    #[inline(always)]
+    pub fn read(&self, seat: &LaneSeat) -> SeatState
+        requires { HasSeatIn self.now seat.now }
+        ensures { result ≡ seat_state_or self.now seat.now }
+    {
+        SeatState {
+            first: *self.first_of(seat),
+            second: *self.second_of(seat),
+            impulses: *self.impulses_of(seat),
+        }
+    }
+
+    /// Stores the numbers of four lanes, one after the other.
+    #[inline(always)]
+    pub fn store(&mut self, seats: &[LaneSeat; 4], states: &[SeatState; 4])
+        requires first { AreFirst seats.now }
+        requires seats { All (IsSeatIn self.old) (taken_seats seats.now) }
+        ensures value { self.new ≡ numbers_with_lanes seats.now states.now self.old }
+        ensures many { AreAsMany self.old self.new }
+    {
+        let velocities = self.velocities.as_mut_slice();
+        let impulses = self.impulses.as_mut_slice();
+        store_lanes(velocities, impulses, seats, states);
+        clear_first(velocities, impulses);
+    }
 }

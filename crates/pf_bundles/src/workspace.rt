@@ -1,8 +1,7 @@
 //! Memory for solving rows in lanes.
 
-ghost use Rattle.std.specs.Prelude.{◌≡◌, []};
+ghost use Rattle.std.specs.Prelude.{◌≡◌, [], None};
 ghost use Rattle.pf_levels.specs.Levels.{no_levels};
-ghost use Rattle.pf_bundles.specs.Numbers.{no_numbers};
 
 use crate::bundle::Bundle;
 use crate::lane_row::LaneRow;
@@ -24,8 +23,9 @@ pub struct Workspace {
     pub rows: Vec<LaneRow>,
     /// The rows of each level side by side.
     pub bundles: Vec<Bundle>,
-    /// The velocities of all bodies, and the accumulated impulses of all rows.
-    pub numbers: Numbers,
+    /// The velocities of all bodies, and the accumulated impulses of all rows, once they were
+    /// needed.
+    pub numbers: Option<Numbers>,
 }
 
 impl Debug for Workspace {
@@ -41,17 +41,14 @@ impl Workspace {
         ensures levels { result.levels ≡ no_levels }
         ensures rows { result.rows.items ≡ [] }
         ensures bundles { result.bundles.items ≡ [] }
-        ensures numbers { result.numbers ≡ no_numbers }
+        ensures numbers { result.numbers ≡ None }
     {
         Workspace {
             pairs: Vec::new(alloc),
             levels: Levels::new(alloc),
             rows: Vec::new(alloc),
             bundles: Vec::new(alloc),
-            numbers: Numbers {
-                velocities: Vec::new(alloc),
-                impulses: Vec::new(alloc),
-            },
+            numbers: None,
         }
     }
 }

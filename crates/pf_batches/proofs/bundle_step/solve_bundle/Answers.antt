@@ -1,8 +1,10 @@
 use Rattle.std.proofs.Common.{◌∙◌, ◌+◌, ◌≤◌, ap₂, arith, length, subst, sym}
 use Rattle.std.specs.Prelude.{All}
+use Rattle.pf_bundles.specs.Seats.{numbers_with_all, taken_seats}
+use Rattle.pf_bundles.proofs.Seats.{stored_taken}
 use Rattle.pf_batches.specs.Contact.{IsWithin}
 use Rattle.pf_batches.specs.declared.bundle_step.TheConstants.{GROWTH}
-use Rattle.pf_batches.specs.Numbers.{AreAllWithin, numbers_with_all}
+use Rattle.pf_batches.specs.Numbers.{AreAllWithin}
 use Rattle.pf_batches.proofs.AtOnce.{bundle_at_once}
 use Rattle.pf_batches.proofs.Bundles.{all_within_more, rows_within, states_within}
 use Rattle.pf_batches.proofs.bundle_step.solve_bundle.Goals as goal
@@ -10,15 +12,17 @@ use Rattle.pf_batches.proofs.bundle_step.solve_bundle.Goals as goal
 pub returns-in-Some-clause-value : goal.returns-in-Some-clause-value
 returns-in-Some-clause-value g c = λ done b level fit seats hold.
     c.store.ensures.value
+    ∙ stored_taken c.seats.result.now c.states.result c.args.numbers.now c.seats.ensures.first
     ∙ ap₂ (λ seats states. numbers_with_all seats states c.args.numbers.now) c.seats.ensures.seats c.states.ensures
     ∙ bundle_at_once g.L.ContactStep.step (g.met.L.LaneStep.static_arms) b c.args.numbers.now fit level c.args.rows.now
-    c.args.bundle.now.seats c.in-Some.after (subst (λ seats. length seats ≤ 4) c.seats.ensures.seats c.seats.ensures.fits)
+    c.args.bundle.now.seats c.in-Some.after c.seats.ensures.fits
     seats hold c.in-Some.ensures.value
 
 pub returns-in-Some-clause-within : goal.returns-in-Some-clause-within
 returns-in-Some-clause-within g c = λ done.
     let most = c.args.most + GROWTH in
-    subst (AreAllWithin most) (sym c.store.ensures.value)
-    (rows_within most c.seats.result.now c.states.result c.args.numbers.now
+    let seats = c.seats.result.now in
+    subst (AreAllWithin most) (sym (c.store.ensures.value ∙ stored_taken seats c.states.result c.args.numbers.now c.seats.ensures.first))
+    (rows_within most (taken_seats seats) c.states.result c.args.numbers.now
     (all_within_more c.args.most most c.args.numbers.now (omega arith) c.requires.within)
     (subst (λ states. All (IsWithin most) states) (sym c.states.ensures) (states_within most c.in-Some.after c.in-Some.ensures.size)))

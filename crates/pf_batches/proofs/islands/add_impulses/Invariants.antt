@@ -4,7 +4,8 @@ use Rattle.pf_batches.proofs.islands.add_impulses.Given as goal
 
 abbrev pub invariant-loop-row : goal.invariant-loop-row
 invariant-loop-row l = record {
-  value : l.impulses.items ≡ l.initial.impulses.items ++ map (λ r. r.entry.impulses) (take l.row-index l.rows);
-  size : All (λ p. (unsigned_abs p.normal ≤ l.most) × (unsigned_abs p.tangent ≤ l.most)) l.initial.impulses.items
-      → All (λ p. (unsigned_abs p.normal ≤ l.most) × (unsigned_abs p.tangent ≤ l.most)) l.impulses.items;
+  value : l.numbers.impulses ≡ l.initial.numbers.impulses ++ map (λ r. r.entry.impulses) (take l.row-index l.rows);
+  size : All (λ p. (unsigned_abs p.normal ≤ l.most) × (unsigned_abs p.tangent ≤ l.most)) l.initial.numbers.impulses
+      → All (λ p. (unsigned_abs p.normal ≤ l.most) × (unsigned_abs p.tangent ≤ l.most)) l.numbers.impulses;
+  velocities : l.numbers.velocities ≡ l.initial.numbers.velocities;
 }

@@ -5,7 +5,8 @@ use Rattle.pf_batches.proofs.islands.add_velocities.Given as goal
 
 abbrev pub invariant-loop-body : goal.invariant-loop-body
 invariant-loop-body l = record {
-  value : l.velocities.items ≡ l.initial.velocities.items ++ map velocity_of (take l.body-index l.bodies);
-  size : All (λ v. IsShort l.most v.velocity) l.initial.velocities.items
-      → All (λ v. IsShort l.most v.velocity) l.velocities.items;
+  value : l.numbers.velocities ≡ l.initial.numbers.velocities ++ map velocity_of (take l.body-index l.bodies);
+  size : All (λ v. IsShort l.most v.velocity) l.initial.numbers.velocities
+      → All (λ v. IsShort l.most v.velocity) l.numbers.velocities;
+  impulses : l.numbers.impulses ≡ l.initial.numbers.impulses;
 }

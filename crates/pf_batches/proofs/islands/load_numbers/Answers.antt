@@ -16,10 +16,10 @@ loop-island-init c =
     let IsSmall = λ (p : Impulses). (unsigned_abs p.normal ≤ c.args.most) × (unsigned_abs p.tangent ≤ c.args.most) in
     let IsSlow = λ (v : Velocity). IsShort c.args.most v.velocity in
     record {
-      velocities = c.clear.ensures.items;
-      impulses = c.clear-2.ensures.items;
-      short = subst (All IsSlow) (sym c.clear.ensures.items) (All-nil IsSlow);
-      small = subst (All IsSmall) (sym c.clear-2.ensures.items) (All-nil IsSmall);
+      velocities = ap (λ (n : Numbers). n.velocities) c.clear.ensures;
+      impulses = ap (λ (n : Numbers). n.impulses) c.clear.ensures;
+      short = subst (λ (n : Numbers). All IsSlow n.velocities) (sym c.clear.ensures) (All-nil IsSlow);
+      small = subst (λ (n : Numbers). All IsSmall n.impulses) (sym c.clear.ensures) (All-nil IsSmall);
     }
 
 pub loop-island-preserved : goal.loop-island-preserved
@@ -30,14 +30,16 @@ loop-island-preserved c =
     let slow = c.in_ok-add_velocities.ensures in
     let small = c.in_ok-add_impulses.ensures in
     record {
-      velocities = slow.value (search rules)
+      velocities = small.velocities
+          ∙ slow.value (search rules)
           ∙ ap₂ (λ front rest. front ++ rest) c.loop-island.invariant.velocities
           (ap (map velocity_of) (c.as_slice.ensures ∙ ap (λ (i : Island). i.bodies) own))
           ∙ sym (ap (λ (n : Numbers). n.velocities) more);
       impulses = small.value (search rules)
-          ∙ ap₂ (λ front rest. front ++ rest) c.loop-island.invariant.impulses
+          ∙ ap₂ (λ front rest. front ++ rest) (slow.impulses ∙ c.loop-island.invariant.impulses)
           (ap (map (λ (r : Row). r.entry.impulses)) (c.as_slice-in-loop-island.ensures.value ∙ ap (λ (i : Island). i.rows) own))
           ∙ sym (ap (λ (n : Numbers). n.impulses) more);
-      short = slow.size (search rules) c.loop-island.invariant.short;
-      small = small.size (search rules) c.loop-island.invariant.small;
+      short = subst (All (λ (v : Velocity). IsShort c.args.most v.velocity)) (sym small.velocities) (slow.size (search rules) c.loop-island.invariant.short);
+      small = small.size (search rules)
+          (subst (All (λ (p : Impulses). (unsigned_abs p.normal ≤ c.args.most) × (unsigned_abs p.tangent ≤ c.args.most))) (sym slow.impulses) c.loop-island.invariant.small);
     }

@@ -7,9 +7,9 @@ use Rattle.pf_batches.proofs.islands.load_numbers.Given as goal
 
 abbrev pub invariant-loop-island : goal.invariant-loop-island
 invariant-loop-island l = record {
-  velocities : l.numbers-inside.velocities.items ≡ map velocity_of (batch_of (take l.island-index l.islands)).bodies;
-  impulses : l.numbers-inside.impulses.items
+  velocities : l.numbers.velocities ≡ map velocity_of (batch_of (take l.island-index l.islands)).bodies;
+  impulses : l.numbers.impulses
       ≡ map (λ r. r.entry.impulses) (batch_of (take l.island-index l.islands)).rows;
-  short : All (λ v. IsShort l.most v.velocity) l.numbers-inside.velocities.items;
-  small : All (λ p. (unsigned_abs p.normal ≤ l.most) × (unsigned_abs p.tangent ≤ l.most)) l.numbers-inside.impulses.items;
+  short : All (λ v. IsShort l.most v.velocity) l.numbers.velocities;
+  small : All (λ p. (unsigned_abs p.normal ≤ l.most) × (unsigned_abs p.tangent ≤ l.most)) l.numbers.impulses;
 }

@@ -13,13 +13,11 @@ loop-island-preserved c =
     let within : k < length c.loop-island.islands = omega (arith, c.loop-island-test.true, c.loop-island.auto.islands) in
     let after = c.store_behind.new.island in
     let left = numbers_behind c.loop-island.bodies c.loop-island.rows n in
-    let velocities = c.as_slice-velocities.ensures.value ∙ ap (λ (x : Numbers). x.velocities) c.numbers.view_is in
-    let impulses = c.as_slice-impulses.ensures.value ∙ ap (λ (x : Numbers). x.impulses) c.numbers.view_is in
     let made : after ≡ island_with_first left i =
     c.store_behind.ensures ∙ ap₂ (λ v p. island_with_first (record {
       velocities = drop c.loop-island.bodies v;
       impulses = drop c.loop-island.rows p;
-    }) i) velocities impulses in
+    }) i) c.velocities-velocities.ensures c.impulses-impulses.ensures in
     let bodies = c.len-bodies.ensures.value ∙ ap (λ (x : Island). length x.bodies) c.island.view_is ∙ bodies_kept left i after made in
     let rows = c.len-rows.ensures ∙ c.island.inside.rows.ok.0 ∙ ap (λ (x : Island). length x.rows) c.island.view_is ∙ rows_kept left i after made in
     subst₂ (λ a b. AreStored n c.args.islands.now (c.loop-island.bodies + a) (c.loop-island.rows + b) (k + 1)
@@ -37,9 +35,8 @@ overflow_add-bodies c =
     c.loop-island.islands i c.island-item.result c.loop-island.invariant within refl in
     let own = c.len-bodies.ensures.value ∙ ap (λ (x : Island). length x.bodies) c.island.view_is
     ∙ bodies_kept _ i c.store_behind.new.island c.store_behind.ensures in
-    let all = ap (λ (x : Numbers). length x.velocities) c.numbers.view_is in
-    let velocities = c.numbers.inside.velocities in
-    omega (arith, enough, own, all, velocities.ok.0, velocities.ok.1, velocities.small)
+    let all = ap (λ vs. length vs) c.velocities-velocities.ensures in
+    omega (arith, enough, own, all)
 
 pub overflow_add-rows : goal.overflow_add-rows
 overflow_add-rows c =
@@ -50,6 +47,5 @@ overflow_add-rows c =
     c.loop-island.islands i c.island-item.result c.loop-island.invariant within refl in
     let own = c.len-rows.ensures ∙ c.island.inside.rows.ok.0 ∙ ap (λ (x : Island). length x.rows) c.island.view_is
     ∙ rows_kept _ i c.store_behind.new.island c.store_behind.ensures in
-    let all = ap (λ (x : Numbers). length x.impulses) c.numbers.view_is in
-    let impulses = c.numbers.inside.impulses in
-    omega (arith, enough, own, all, impulses.ok.0, impulses.ok.1, impulses.small)
+    let all = ap (λ ps. length ps) c.impulses-impulses.ensures in
+    omega (arith, enough, own, all)

@@ -3,7 +3,8 @@ use Rattle.pf_bundles.specs.Bundle.{Bundle}
 use Rattle.pf_bundles.specs.LaneRow.{LaneRow}
 use Rattle.pf_bundles.specs.Numbers.{Numbers}
 use Rattle.pf_solver.specs.Velocities.{Step}
-use Rattle.pf_batches.specs.Numbers.{AreAllWithin, AreAsMany}
+use Rattle.pf_batches.specs.Numbers.{AreAllWithin}
+use Rattle.pf_bundles.specs.Seats.{AreAsMany}
 use Rattle.pf_batches.proofs.InBundles.{AreSolvedTo}
 use Rattle.pf_batches.proofs.passes.pass.Given as goal
 
