@@ -7,9 +7,8 @@ use Rattle.pf_rot.specs.Vector.{V2, zero_vector}
 use Rattle.pf_rows.specs.declared.row.Side.{Side}
 use Rattle.pf_rows.specs.declared.row.Side.TheVariants.{Dynamic, Static}
 use Rattle.pf_rows.specs.Row.{Constraint, InverseMass, Row, no_constraint, no_mass}
-use Rattle.pf_rows.specs.Small.{IsShort}
 use Rattle.pf_bundles.specs.declared.limits.TheConstants.{LANE_LIMIT}
-use Rattle.pf_bundles.specs.Limits.{IsLimitFor}
+use Rattle.pf_bundles.specs.Limits.{IsLimitFor, IsSmall}
 use Rattle.pf_bundles.specs.Prepared.{PreparedLanes, constraint_in, mass_in}
 
 -- what a lane holds of a row: inverse masses, the constraint, and the limit of spins and impulses up
@@ -56,15 +55,11 @@ pub record MassFits (m : InverseMass) : Type 0 where
   pub inverse_mass : unsigned_abs m.inverse_mass ≤ EXACT_LIMIT
   pub inverse_inertia : unsigned_abs m.inverse_inertia ≤ EXACT_LIMIT
 
--- of a constraint
+-- of a constraint, for which there is a limit
 pub record ConstraintFits (c : Constraint) : Type 0 where
-  pub normal : IsShort EXACT_LIMIT c.normal
-  pub tangent : IsShort EXACT_LIMIT c.tangent
-  pub first_arm : IsShort EXACT_LIMIT c.first_arm
-  pub second_arm : IsShort EXACT_LIMIT c.second_arm
+  pub small : IsSmall c
   pub normal_mass : unsigned_abs c.normal_mass ≤ EXACT_LIMIT
   pub tangent_mass : unsigned_abs c.tangent_mass ≤ EXACT_LIMIT
-  pub bias : unsigned_abs c.bias ≤ EXACT_LIMIT
   pub friction : unsigned_abs c.friction ≤ EXACT_LIMIT
 
 -- of a row, but for the masses and the arms of static bodies

@@ -31,6 +31,11 @@ pub record HasShortArms (most : ℕ) (c : Constraint) : Type 0 where
   pub first : IsShort most c.first_arm
   pub second : IsShort most c.second_arm
 
+-- there is a limit for a constraint
+pub record IsSmall (c : Constraint) : Type 0 where
+  pub numbers : IsSmallButArms c
+  pub arms : HasShortArms LONG_ARM c
+
 -- a limit is at least so great where the arms are so short
 pub record IsGreatEnough (c : Constraint) (limit : ℤ) : Type 0 where
   pub short : IsSmallButArms c → HasShortArms SHORT_ARM c → pos LANE_LIMIT ≤ℤ limit

@@ -1,10 +1,10 @@
 //! A row as a lane holds it.
 
-ghost use Rattle.std.specs.Prelude.{◌≡◌, ◌≤◌, ◌↔◌, IsTrue};
+ghost use Rattle.std.specs.Prelude.{◌≡◌, ◌≤◌, ◌↔◌, IfSome, IsSome, IsTrue};
 ghost use Rattle.std.specs.Int.RustNames.{unsigned_abs};
 ghost use Rattle.pf_rows.specs.Small.{IsShort};
 ghost use Rattle.pf_bundles.specs.LaneRow.{HasLimit, arm_on, mass_on};
-ghost use Rattle.pf_bundles.specs.Limits.{HasShortArms, IsSmallButArms, IsGreatEnough};
+ghost use Rattle.pf_bundles.specs.Limits.{HasShortArms, IsGreatEnough, IsSmall, IsSmallButArms};
 
 use crate::limits::{
     LANE_DIRECTION_LIMIT, LANE_LIMIT, LONG_ARM, LONG_LIMIT, MIDDLE_ARM, MIDDLE_LIMIT, NUMBER_LIMIT,
@@ -131,15 +131,17 @@ fn has_short_arms(c: &Constraint, limit: u64) -> bool
     is_short(c.first_arm, limit) && is_short(c.second_arm, limit)
 }
 
-/// The limit of a constraint: spins and impulses up to it have exact products. It is -1 where a
+/// The limit of a constraint: spins and impulses up to it have exact products. `None` where a
 /// direction, the bias or an arm is too great.
+#[inline]
 #[tactic(auto, using(crate::proofs::Arms::short, crate::proofs::Arms::middle, crate::proofs::Arms::long))]
-fn limit_of(c: &Constraint) -> Whole
-    ensures exact { HasLimit c.now result }
-    ensures great { IsGreatEnough c.now result }
+fn limit_of(c: &Constraint) -> Option<Whole>
+    ensures exact { IfSome result (λ limit. HasLimit c.now limit) }
+    ensures great { IfSome result (λ limit. IsGreatEnough c.now limit) }
+    ensures small { IsSome result ↔ IsSmall c.now }
 {
     let limit = if !has_small_numbers(c) {
-        -1
+        return None;
     } else if has_short_arms(c, SHORT_ARM) {
         LANE_LIMIT as i64
     } else if has_short_arms(c, MIDDLE_ARM) {
@@ -147,9 +149,9 @@ fn limit_of(c: &Constraint) -> Whole
     } else if has_short_arms(c, LONG_ARM) {
         LONG_LIMIT as i64
     } else {
-        -1
+        return None;
     };
-    Whole::of(limit)
+    Some(Whole::of(limit))
 }
 
 /// The inverse mass of the body on a side.
@@ -178,6 +180,7 @@ impl WholeConstraint {
     ghost use Rattle.std.specs.Prelude.{◌≡◌, ◌↔◌, IfSome, IsSome};
     ghost use Rattle.pf_rows.specs.Row.{no_constraint};
     ghost use Rattle.pf_bundles.specs.LaneRow.{ConstraintFits};
+    ghost use Rattle.pf_bundles.specs.Limits.{IsSmall};
 
     /// That of no row.
     fn none() -> WholeConstraint
@@ -196,20 +199,21 @@ impl WholeConstraint {
         }
     }
 
-    /// This constraint, or `None` where doubles do not hold it.
+    /// This constraint, or `None` where doubles do not hold an effective mass or the friction.
     #[inline]
     fn of(c: &Constraint) -> Option<WholeConstraint>
+        requires { IsSmall c.now }
         ensures value { IfSome result (λ whole. whole ≡ c.now) }
         ensures fits { IsSome result ↔ ConstraintFits c.now }
     {
         Some(WholeConstraint {
-            normal: WholeVector::of(c.normal)?,
-            tangent: WholeVector::of(c.tangent)?,
-            first_arm: WholeVector::of(c.first_arm)?,
-            second_arm: WholeVector::of(c.second_arm)?,
+            normal: WholeVector::new(c.normal),
+            tangent: WholeVector::new(c.tangent),
+            first_arm: WholeVector::new(c.first_arm),
+            second_arm: WholeVector::new(c.second_arm),
             normal_mass: whole_of(c.normal_mass)?,
             tangent_mass: whole_of(c.tangent_mass)?,
-            bias: whole_of(c.bias)?,
+            bias: Whole::of(c.bias.raw()),
             friction: whole_of(c.friction)?,
         })
     }
@@ -249,8 +253,8 @@ impl LaneRow {
         }
     }
 
-    /// A row in a lane, without the mass and the arm of a static body, or `None` where doubles do
-    /// not hold one of these numbers.
+    /// A row in a lane, without the mass and the arm of a static body, or `None` where there is no
+    /// limit for it, or doubles do not hold one of its numbers.
     #[inline]
     pub fn of(row: &Row) -> Option<LaneRow>
         ensures held { IfSome result (λ lane. IsHeldBy lane row.now) }
@@ -264,7 +268,7 @@ impl LaneRow {
             second_arm: arm_on(second, own.second_arm),
             ..*own
         };
-        let limit = limit_of(&constraint);
+        let limit = limit_of(&constraint)?;
         let constraint = WholeConstraint::of(&constraint)?;
         Some(LaneRow {
             first_mass: WholeMass::of(mass_on(first, row.prepared.first_mass()))?,

@@ -51,7 +51,7 @@ impl Model for WholeVector {
 }
 
 impl WholeVector {
-    ghost use Rattle.std.specs.Prelude.{◌≡◌, ◌↔◌, IfSome, IsSome};
+    ghost use Rattle.std.specs.Prelude.{◌≡◌};
     ghost use Rattle.pf_rot.specs.Vector.{zero_vector};
     ghost use Rattle.pf_rows.specs.Small.{IsShort};
 
@@ -66,16 +66,16 @@ impl WholeVector {
         }
     }
 
-    /// This vector, or `None` where doubles do not hold it.
+    /// This vector.
     #[inline]
-    pub fn of(vector: V2) -> Option<WholeVector>
-        ensures value { IfSome result (λ whole. whole ≡ vector) }
-        ensures fits { IsSome result ↔ IsShort EXACT_LIMIT vector }
+    pub fn new(vector: V2) -> WholeVector
+        requires { IsShort EXACT_LIMIT vector }
+        ensures { result ≡ vector }
     {
-        Some(WholeVector {
-            x: whole_of(vector.x)?,
-            y: whole_of(vector.y)?,
-        })
+        WholeVector {
+            x: Whole::of(vector.x.raw()),
+            y: Whole::of(vector.y.raw()),
+        }
     }
 
     /// The vector.

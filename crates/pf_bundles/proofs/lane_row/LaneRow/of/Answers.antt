@@ -4,4 +4,4 @@ use Rattle.pf_bundles.proofs.lane_row.LaneRow.of.Goals as goal
 
 pub invariant_of-result : goal.invariant_of-result
 invariant_of-result c =
-    subst (λ x. HasLimit x c.limit_of-limit.result) (sym c.in_ok-constraint.ensures.value) c.limit_of-limit.ensures.exact
+    subst (λ x. HasLimit x c.in_ok-limit.limit) (sym c.in_ok-constraint.ensures.value) c.in_ok-limit.ensures.exact
