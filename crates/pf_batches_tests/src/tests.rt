@@ -41,10 +41,10 @@ fn are_from_lanes(islands: &[Island]) -> bool {
     let Some(island) = islands.first() else {
         return false;
     };
-    match (
-        island.workspace.numbers.velocities.first(),
-        island.bodies.first(),
-    ) {
+    let Some(numbers) = &island.workspace.numbers else {
+        return false;
+    };
+    match (numbers.velocities().first(), island.bodies.first()) {
         (Some(whole), Some(body)) => {
             whole.velocity() == body.velocity && whole.spin() == body.spin
         }

@@ -1,15 +1,18 @@
 //! Rows in lanes, by hand.
 
-ghost use Rattle.std.specs.Prelude.{◌≡◌, ◌<◌, ◌≤ℤ◌, All, IsTrue, pos};
+ghost use Rattle.std.specs.Prelude.{◌≡◌, ◌<◌, ◌≤ℤ◌, All, IfOk, IsTrue, length, pos};
 
 use pf_bundles::limits::NUMBER_LIMIT;
-use pf_bundles::{Bundle, LaneRow, Seat, WholeImpulses, WholeVelocity, laws, load_bundles};
+use pf_bundles::{
+    Bundle, LaneRow, LaneSeat, Numbers, SeatState, WholeImpulses, WholeVelocity, laws, load_bundles,
+};
 use pf_lanes::Lanes;
 use pf_levels::{Level, Levels, Pair};
 use pf_manifold::{ContactPoint, Touch};
 use pf_num::Fx;
 use pf_rot::V2;
 use pf_rows::{Constraint, Entry, Impulses, InverseMass, Prepared, Row, Side};
+use std::alloc::{AllocError, Global};
 use std::test::Fail;
 
 /// A row of a static body and a dynamic one, with arms of this length and this bias.
@@ -105,12 +108,12 @@ fn lane(arm: Fx, bias: Fx) -> LaneRow {
     LaneRow::of(&row(arm, bias)).unwrap_or(LaneRow::none())
 }
 
-/// The limit of a lane of a row with arms of this whole length.
+/// The limit of a lane of a row with arms of this whole length, if there is one.
 fn limit(length: i64) -> Option<i64>
     requires below { length ≤ℤ pos 99 }
     requires above { pos 1 ≤ℤ length }
 {
-    let lane = lane(Fx::from_raw(length << 24)?, Fx::ONE);
+    let lane = LaneRow::of(&row(Fx::from_raw(length << 24)?, Fx::ONE))?;
     let bundle = Bundle::of(&[0], &[ground(0)], &[lane]);
     Some(raw(bundle.prepared().limit())[0])
 }
@@ -118,22 +121,15 @@ fn limit(length: i64) -> Option<i64>
 #[test]
 fn limits_fall_with_long_arms(rt: HostRuntime) {
     for (length, expected) in [
-        (1, 1 << 28),
-        (2, 1 << 26),
-        (7, 1 << 26),
-        (8, 1 << 24),
-        (31, 1 << 24),
-        (32, -1),
+        (1, Some(1 << 28)),
+        (2, Some(1 << 26)),
+        (7, Some(1 << 26)),
+        (8, Some(1 << 24)),
+        (31, Some(1 << 24)),
+        (32, None),
     ] {
-        assert_eq!(rt; limit(length), Some(expected), "at {length}");
+        assert_eq!(rt; limit(length), expected, "at {length}");
     }
-}
-
-/// Whether it is the seat of a row at this place, of a static body and this one.
-fn is_seat(seat: &Seat, place: usize, body: usize) -> bool {
-    let is_static = matches!(seat.first, Side::Static);
-    let is_body = matches!(seat.second, Side::Dynamic(second) if second == body);
-    seat.place == place && is_static && is_body
 }
 
 #[test]
@@ -144,7 +140,11 @@ fn a_bundle_holds_the_rows_of_a_level(rt: HostRuntime) {
         raw(bundle.prepared().constraint().bias),
         [1 << 18, 1 << 24, 0, 0]
     );
-    assert!(rt; matches!(bundle.seats(), [a, b] if is_seat(a, 1, 9) && is_seat(b, 0, 8)));
+    let [a, b, c, d] = bundle.seats();
+    assert_eq!(rt;
+        [a.place(), b.place(), c.place(), d.place()],
+        [Some(1), Some(0), None, None]
+    );
 }
 
 #[test]
@@ -166,6 +166,40 @@ fn numbers_come_back(rt: HostRuntime) {
     assert!(rt; WholeImpulses::of(&impulses, 1 << 23).is_none());
 }
 
+/// Numbers of one body and one row.
+fn numbers_of_one(alloc: Global, state: &SeatState) -> Result<Numbers, AllocError>
+    ensures velocities { IfOk result (λ numbers. length numbers.velocities ≡ 1) }
+    ensures impulses { IfOk result (λ numbers. length numbers.impulses ≡ 1) }
+{
+    let mut numbers = Numbers::new(alloc)?;
+    numbers.push_velocity(state.second)?;
+    numbers.push_impulses(state.impulses)?;
+    Ok(numbers)
+}
+
+/// Whether the second body of a row has this raw spin, and the first one none, as a static body.
+fn has_spin(state: &SeatState, spin: i64) -> bool {
+    state.first.spin().raw() == 0 && state.second.spin().raw() == spin
+}
+
+#[test]
+fn numbers_of_lanes_are_read_and_stored(rt: HostRuntime) -> Result<(), Fail> {
+    let turning = WholeVelocity::of(V2::ZERO, Fx::TICK, NUMBER_LIMIT).unwrap_or(WholeVelocity::none());
+    let state = SeatState {
+        first: turning,
+        second: turning,
+        impulses: WholeImpulses::none(),
+    };
+    let mut numbers = numbers_of_one(rt.alloc(), &state)?;
+    let (seat, free) = (LaneSeat::of(0, &ground(0)), LaneSeat::none());
+    assert!(rt; has_spin(&numbers.read(&seat), Fx::TICK.raw()));
+    numbers.store(&[seat, free, free, free], &[state; 4]);
+    assert!(rt; has_spin(&numbers.read(&seat), Fx::TICK.raw()) && has_spin(&numbers.read(&free), 0));
+    numbers.clear();
+    assert!(rt; numbers.velocities().is_empty() && numbers.impulses().is_empty());
+    Ok(())
+}
+
 /// Whether the places of all levels are below this.
 fn are_below(levels: &[Level], count: usize) -> bool
     ensures { IsTrue result → All (All (λ p. p < count)) levels.now }
@@ -175,13 +209,22 @@ fn are_below(levels: &[Level], count: usize) -> bool
         .all(|level| level.places().iter().all(|place| *place < count))
 }
 
+/// How many lanes have a row.
+fn taken(bundle: &Bundle) -> usize {
+    bundle
+        .seats()
+        .iter()
+        .filter(|seat| seat.place().is_some())
+        .count()
+}
+
 /// Whether the bundles have so many rows.
 fn have(bundles: &[Bundle], counts: &[usize]) -> bool {
     bundles.len() == counts.len()
         && bundles
             .iter()
             .zip(counts.iter())
-            .all(|(bundle, count)| bundle.seats().len() == *count)
+            .all(|(bundle, count)| taken(bundle) == *count)
 }
 
 #[test]

@@ -1,6 +1,6 @@
 //! Products in lanes against those of fixed-point numbers; each call and each law once.
 
-ghost use Rattle.std.specs.Prelude.{◌≤◌, ◌^◌};
+ghost use Rattle.std.specs.Prelude.{◌<◌, ◌≤◌, ◌*◌, ◌^◌};
 ghost use Rattle.std.specs.Int.RustNames.{unsigned_abs};
 ghost use Rattle.pf_lanes.specs.Lanes.{Lane, number_in, lanes_of};
 
@@ -22,6 +22,26 @@ fn raw(lanes: Lanes) -> [i64; 4] {
     [first.raw(), second.raw(), third.raw(), fourth.raw()]
 }
 
+/// Whether sums and differences with products that are not yet lowered are those of the products.
+fn are_raised(lanes: Lanes, scaled: Scaled, products: [i64; 4]) -> bool
+    requires { (k : Lane)
+        → unsigned_abs (number_in k lanes) * unsigned_abs (number_in k scaled) < EXACT_LIMIT }
+{
+    let (zero, one) = (Lanes::zero(), Lanes::of([1; 4]));
+    let plus = raw(zero.plus_raised(lanes.raised_product(scaled)));
+    let minus = raw(one.minus_raised(lanes.raised_opposite(scaled)));
+    let twice = raw(
+        lanes
+            .raised_product(scaled)
+            .minus(lanes.raised_opposite(scaled)),
+    );
+    (0..4usize).all(|i| {
+        plus[i] == products[i]
+            && minus[i].checked_sub(1) == Some(products[i])
+            && Some(twice[i]) == products[i].checked_mul(2)
+    })
+}
+
 /// Products in lanes are those of `pf_num`, and these numbers.
 fn compare(rt: &impl Abort, numbers: [i64; 4], factors: [i64; 4], expected: [i64; 4])
     requires numbers { (k : Lane) → unsigned_abs (number_in k (lanes_of numbers)) ≤ 2 ^ 53 }
@@ -32,6 +52,7 @@ fn compare(rt: &impl Abort, numbers: [i64; 4], factors: [i64; 4], expected: [i64
     assert!(rt; lanes.product_is_below(scaled, EXACT_LIMIT));
     let products = raw(lanes.product(scaled));
     assert_eq!(rt; products, expected);
+    assert!(rt; are_raised(lanes, scaled, products));
     for i in 0..4usize {
         assert_eq!(rt; raw_product(numbers[i], factors[i]), Some(products[i]));
     }

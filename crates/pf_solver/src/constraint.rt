@@ -53,7 +53,7 @@ fn tangent_of(normal: V2) -> V2
 }
 
 /// How far from the centre an impulse along this direction acts, squared.
-#[inline]
+#[inline(always)]
 #[tactic(auto, unfolding(crate::specs::Constraint::squared_lever_arm))]
 fn squared_lever_arm(arm: V2, direction: V2) -> Fx
     ensures { result ≡ squared_lever_arm arm direction }
@@ -64,7 +64,7 @@ fn squared_lever_arm(arm: V2, direction: V2) -> Fx
 
 /// The inverse of the effective mass along a unit direction, Box2D-Lite's `kNormal` and `kTangent`:
 /// by how much an impulse of 1 along it changes the relative speed along it.
-#[inline]
+#[inline(always)]
 #[tactic(auto, unfolding(crate::specs::Constraint::mobility))]
 fn mobility(a: &InverseMass, b: &InverseMass, first_arm: V2, second_arm: V2, direction: V2) -> Fx
     ensures { result ≡ mobility a.now b.now first_arm second_arm direction }
@@ -79,7 +79,7 @@ fn mobility(a: &InverseMass, b: &InverseMass, first_arm: V2, second_arm: V2, dir
 }
 
 /// The effective mass along a direction.
-#[inline]
+#[inline(always)]
 fn effective_mass(
     a: &InverseMass,
     b: &InverseMass,

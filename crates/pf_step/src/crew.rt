@@ -4,10 +4,10 @@ ghost use Rattle.std.specs.Prelude.{◌≡◌, All, map};
 ghost use Rattle.pf_islands.specs.Split.{IsIslandOf};
 ghost use Rattle.pf_solver.specs.Alone.{island_after_tick};
 
+use pf_batches::solve_islands;
 use pf_islands::Island;
 use pf_manifold::OneThread;
 use pf_shapes::Scene;
-use pf_solver::solve_island;
 use std::alloc::{AllocError, AllocFailed};
 use thiserror::Error;
 
@@ -72,17 +72,17 @@ pub trait Crew {
     }
 }
 
-/// Solves each island, one after the other. Takes no memory.
+/// Solves each island as if it were alone. Their rounds are calculated together, four contacts at a
+/// time, where that pays and there is memory for it; the result does not depend on that, and the
+/// call cannot fail.
 pub fn solve_all(scene: &Scene, islands: &mut [Island])
     requires { All (IsIslandOf scene.now) islands.old }
     ensures { islands.new ≡ map (island_after_tick scene.now) islands.old }
 {
-    for island in islands.iter_mut() {
-        solve_island(scene, island);
-    }
+    solve_islands(scene, islands);
 }
 
-/// The thread of the caller solves the islands one after the other, and cannot fail.
+/// The thread of the caller solves the islands, and cannot fail.
 impl Crew for OneThread {
     ghost may_fail = { λ _ _ _ _. ⊥ };
 

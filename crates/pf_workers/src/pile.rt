@@ -61,7 +61,8 @@ impl Pile {
         contact_count(&self.islands)
     }
 
-    /// Solves each island. Takes no memory.
+    /// Solves each island. Cannot fail: where there is no memory to solve them together, each is
+    /// solved by itself.
     pub(crate) fn solve(&mut self, scene: &Scene)
         requires { All (IsIslandOf scene.now) self.old }
         ensures { self.new ≡ map (island_after_tick scene.now) self.old }
