@@ -1,15 +1,14 @@
 -- The rows of a tick.
-use Rattle.std.proofs.Common.{◌≡◌, ℕ, suc, ◌+◌, ◌<◌, ◌≤◌, Bool, true, false, List, [], ◌∷◌, ◌++◌, Some, length, map, filter, take, take_all, get_or, cond, refl, ap, ap₂, sym, ◌∙◌, subst, arith, slice_get, if◌then◌else◌}
-use Rattle.std.proofs.lemmas.List.{append-nil, drop_all, get_or_read, length-map, map_more}
+use Rattle.std.proofs.Common.{◌≡◌, append_assoc, ℕ, suc, ◌+◌, ◌<◌, ◌≤◌, Bool, true, false, not, ◌&&◌, ◌||◌, List, [], ◌∷◌, ◌++◌, Some, length, map, filter, take, take_all, get_or, cond, refl, ap, ap₂, sym, ◌∙◌, subst, arith, slice_get, if◌then◌else◌}
+use Rattle.std.proofs.lemmas.List.{append-nil, drop_all, drop_more, get_or_read, length-map, map_more}
 use Rattle.std.proofs.lemmas.List.FromFn.{get_or-enumerate_from, length-enumerate_from}
 use Rattle.std.proofs.Math.ListN.{get_or-map}
 use Rattle.std.proofs.lemmas.Simd.{map-map}
 use Rattle.std.proofs.lemmas.Option.{get_or_from_slice_get, slice_get-get_or, slice_get_within}
 use Rattle.std.proofs.lemmas.List.Elements.{All-nil, All-cons, All-filter, All-head, All-tail, All-map, All-weaker}
 use Rattle.std.specs.List.{enumerate_from}
-use Rattle.std.specs.Prelude.{All, drop, pos}
-use Rattle.pf_rot.specs.Vector.{zero_vector}
-use Rattle.pf_shapes.specs.Body.{BodyState}
+use Rattle.std.specs.Prelude.{All, drop}
+use Rattle.pf_shapes.specs.Body.{BodyState, no_state}
 use Rattle.pf_shapes.specs.Scene.{Scene, is_static_at}
 use Rattle.pf_manifold.specs.Key.{AreTouches, IsKey, IsRising, key_of, rank}
 use Rattle.pf_manifold.specs.Touches.{IsTouchOf, Touch}
@@ -18,7 +17,9 @@ use Rattle.pf_rows.specs.declared.row.Side.TheVariants.{Static, Dynamic}
 use Rattle.pf_cache.specs.Contact.{Contact, no_contact}
 use Rattle.pf_rows.specs.Row.{AreApart, AreRows, IsSide, Row}
 use Rattle.pf_cache.specs.ContactRows.{AreRowsAt, IsRowAt}
-use Rattle.pf_islands.specs.Rows.{IsRowOf, active_points, active_rows, is_active_contact, row_of, side_of}
+use Rattle.pf_islands.specs.Flags.{awake_flags, is_active_by}
+use Rattle.pf_islands.specs.Rows.{IsRowOf, active_points, active_rows, is_active_contact, is_awake_at, row_of, side_of}
+use Rattle.pf_islands.specs.Settled.{no_touch, touches_at}
 
 -- functions that agree where P holds
 pub map_where : {X Y : Type 0} (P : X → Type 0) (f g : X → Y) → ((x : X) → P x → f x ≡ g x) → (xs : List X)
@@ -79,6 +80,30 @@ module _ (s : Scene) (bodies : List BodyState) where
       by true here rest = All-cons P (k, t) (points_from (k + 1) touches) (here refl k) rest
       by false here rest = rest
 
+  -- the place of one point more, where it is simulated
+  pub points_next : (touches : List Touch) (k : ℕ) (t : Touch) (e : Bool) (made now all : List ℕ) → k < length touches
+      → t ≡ get_or touches k t → is_active_contact s bodies t ≡ e
+      → now ≡ made ++ (if e then k ∷ [] else [])
+      → made ++ map (λ (m : ℕ × Touch). m.0) (points_from k (drop k touches)) ≡ all
+      → now ++ map (λ (m : ℕ × Touch). m.0) (points_from (k + 1) (drop (k + 1) touches)) ≡ all
+  points_next touches k t e made now all within is active now_is before =
+      let rest : List (ℕ × Touch) = points_from (k + 1) (drop (k + 1) touches) in
+      ap (λ ns. ns ++ map (λ (m : ℕ × Touch). m.0) rest) now_is
+      ∙ append_assoc made (if e then k ∷ [] else []) (map (λ (m : ℕ × Touch). m.0) rest)
+      ∙ ap (λ ns. made ++ ns)
+      (by e rest
+      ∙ ap (λ d. map (λ (m : ℕ × Touch). m.0) (one_point k t d ++ rest)) (sym active)
+      ∙ sym (ap (map (λ (m : ℕ × Touch). m.0)) (points_cons k t (drop (k + 1) touches)))
+      ∙ ap (λ ts. map (λ (m : ℕ × Touch). m.0) (points_from k ts))
+      (ap (λ x. x ∷ drop (k + 1) touches) is ∙ sym (drop_more touches k t within)))
+      ∙ before
+    where
+      by : (d : Bool) (rest : List (ℕ × Touch))
+          → (if d then k ∷ [] else []) ++ map (λ (m : ℕ × Touch). m.0) rest
+          ≡ map (λ (m : ℕ × Touch). m.0) (one_point k t d ++ rest)
+      by true rest = refl
+      by false rest = refl
+
   -- behind the last point there is none
   pub none_left : (touches : List Touch) (k : ℕ) (made all : List ℕ) → length touches ≤ k
       → made ++ map (λ (m : ℕ × Touch). m.0) (points_from k (drop k touches)) ≡ all → made ≡ all
@@ -103,14 +128,6 @@ module _ (s : Scene) (bodies : List BodyState) where
           (omega (arith, low)) rest
 
 -- ---- rows
-
--- what is read where there is no contact point
-abbrev pub no_touch : Touch
-no_touch = record {
-  a = 0;
-  b = 0;
-  point = record { feature = 0; position = zero_vector; normal = zero_vector; separation = pos 0 };
-}
 
 -- the row of the contact at a place
 abbrev pub row_at : Scene → List Touch → List Contact → ℕ → Row
@@ -152,6 +169,28 @@ module _ (s : Scene) (bodies : List BodyState) where
       (all_points s bodies (λ m. P (at m)) 0 touches
       (All-weaker (HoldsWhere P) (λ t. is_active_contact s bodies t ≡ true → (i : ℕ) → P (at (i, t)))
       (λ t here active i. here active i (get_or contacts i no_contact)) touches h))
+
+-- the contact points that are simulated, by their places
+pub touches_at_places : (s : Scene) (bodies : List BodyState) (touches : List Touch)
+    → touches_at touches (map (λ (m : ℕ × Touch). m.0) (active_points s bodies touches))
+    ≡ filter (is_active_contact s bodies) touches
+touches_at_places s bodies touches =
+    map-map (λ place. get_or touches place no_touch) (λ (m : ℕ × Touch). m.0) (active_points s bodies touches)
+    ∙ map_where (StandsAt touches) (λ (m : ℕ × Touch). get_or touches m.0 no_touch) (λ (m : ℕ × Touch). m.1)
+    (λ m stands. get_or_from_slice_get touches m.0 m.1 no_touch stands)
+    (active_points s bodies touches) (points_stand s bodies touches)
+    ∙ seconds 0 touches
+  where
+    seconds : (k : ℕ) (ts : List Touch) → map (λ (m : ℕ × Touch). m.1) (points_from s bodies k ts)
+        ≡ filter (is_active_contact s bodies) ts
+    seconds k [] = refl
+    seconds k (t ∷ ts) = by (is_active_contact s bodies t) (seconds (k + 1) ts)
+      where
+        by : (e : Bool) → map (λ (m : ℕ × Touch). m.1) (points_from s bodies (k + 1) ts) ≡ filter (is_active_contact s bodies) ts
+            → map (λ (m : ℕ × Touch). m.1) (cond e ((k, t) ∷ points_from s bodies (k + 1) ts) (points_from s bodies (k + 1) ts))
+            ≡ cond e (t ∷ filter (is_active_contact s bodies) ts) (filter (is_active_contact s bodies) ts)
+        by true rest = ap (λ xs. t ∷ xs) rest
+        by false rest = rest
 
 module _ (s : Scene) (bodies : List BodyState) (touches : List Touch) (contacts : List Contact) where
   -- the place of a contact point that is simulated
@@ -269,3 +308,19 @@ module _ (s : Scene) (bodies : List BodyState) (touches : List Touch) (contacts 
       all_rows s bodies (IsRowOf s (length bodies)) touches contacts
       (All-weaker (IsTouchOf (length bodies)) (HoldsWhere s bodies (IsRowOf s (length bodies)))
       (λ t is active place c. row_fits place t c paired is) touches of)
+
+-- ---- flags
+
+-- the flag of a body
+pub flag_at : (bodies : List BodyState) (awake : List Bool) (k : ℕ) → awake ≡ awake_flags bodies
+    → get_or awake k false ≡ is_awake_at bodies k
+flag_at bodies awake k are =
+    ap (λ fs. get_or fs k false) are ∙ get_or-map (λ (b : BodyState). b.awake) bodies k no_state
+
+-- contacts are simulated as the flags say
+pub active_by : (s : Scene) (bodies : List BodyState) (awake : List Bool) (t : Touch) → awake ≡ awake_flags bodies
+    → is_active_by s awake t ≡ is_active_contact s bodies t
+unfolding is_active_contact
+active_by s bodies awake t are =
+    ap₂ (λ x y. (not (is_static_at s t.a) && x) || (not (is_static_at s t.b) && y))
+    (flag_at bodies awake t.a are) (flag_at bodies awake t.b are)

@@ -15,4 +15,5 @@ pub mod Together
 pub mod HomeAgain
 pub mod Whole
 pub mod Exactly
+pub mod SettledGroups
 pub mod PutBack

@@ -1,11 +1,15 @@
 -- The walk along contact points, the last first, that links their bodies.
-use Rattle.std.proofs.Common.{◌≡◌, ◌∙◌, ⊎_elim, ℕ, true, false, not, ◌&&◌, List, [], ◌∷◌, ◌++◌, max, get_or, append_assoc, refl, sym, ap, ap₂, arith}
+use Rattle.std.proofs.Common.{◌≡◌, ◌∙◌, ⊎_elim, ℕ, true, false, not, ◌&&◌, List, [], ◌∷◌, ◌++◌, max, get_or, append_assoc, refl, sym, ap, ap₂, subst, arith}
 use Rattle.std.proofs.lemmas.Bool.{cases_Bool, cases_eq, cond_both, cond-false, cond-true, eq-eqb, ne_eqb}
+use Rattle.std.proofs.lemmas.List.{map-append}
+use Rattle.std.proofs.lemmas.List.Elements.{All-cons, All-head, All-nil, All-tail}
+use Rattle.std.specs.Prelude.{All}
 use Rattle.pf_shapes.specs.Scene.{Scene, is_static_at}
 use Rattle.pf_manifold.specs.Touches.{Touch}
 use Rattle.pf_islands.specs.Forest.{IsForest}
 use Rattle.pf_islands.specs.Group.{group, merged_label}
 use Rattle.pf_islands.specs.Reach.{connects}
+use Rattle.pf_islands.specs.Settled.{no_touch, touches_at}
 use Rattle.pf_islands.proofs.Chains.{linked_one_name}
 
 -- roots that agree
@@ -20,6 +24,30 @@ pub passed_more : (all rest less passed : List Touch) (t : Touch) → rest ≡ l
     → all ≡ less ++ t ∷ passed
 passed_more all rest less passed t step were =
     were ∙ ap (λ xs. xs ++ passed) step ∙ append_assoc less (t ∷ []) passed
+
+-- and so is the point at the last of the places that are left
+pub place_more : (touches : List Touch) (rest less : List ℕ) (place : ℕ) (t : Touch) → rest ≡ less ++ place ∷ []
+    → t ≡ get_or touches place no_touch → touches_at touches rest ≡ touches_at touches less ++ t ∷ []
+place_more touches rest less place t step is =
+    ap (touches_at touches) step
+    ∙ map-append (λ p. get_or touches p no_touch) less (place ∷ [])
+    ∙ ap (λ x. touches_at touches less ++ x ∷ []) (sym is)
+
+-- what holds of all places holds of the last, and of those before it
+pub at_last : (P : ℕ → Type 0) (rest less : List ℕ) (place : ℕ) → rest ≡ less ++ place ∷ [] → All P rest → P place
+at_last P rest less place step all = last less (subst (All P) step all)
+  where
+    last : (ps : List ℕ) → All P (ps ++ place ∷ []) → P place
+    last [] h = All-head P place [] h
+    last (p ∷ ps) h = last ps (All-tail P p (ps ++ place ∷ []) h)
+
+pub all_before : (P : ℕ → Type 0) (rest less : List ℕ) (place : ℕ) → rest ≡ less ++ place ∷ [] → All P rest → All P less
+all_before P rest less place step all = before less (subst (All P) step all)
+  where
+    before : (ps : List ℕ) → All P (ps ++ place ∷ []) → All P ps
+    before [] h = All-nil P
+    before (p ∷ ps) h =
+        All-cons P p ps (All-head P p (ps ++ place ∷ []) h) (before ps (All-tail P p (ps ++ place ∷ []) h))
 
 -- all points are passed
 pub passed_all : (all rest passed : List Touch) → rest ≡ [] → all ≡ rest ++ passed → passed ≡ all

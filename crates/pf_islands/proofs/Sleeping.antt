@@ -24,7 +24,7 @@ module _ (s : Scene) (touches : List Touch) where
       ∙ ap (λ x. Some x) (get_or-map-range_with_len (group s touches) 0 (length s.fixtures) j j 0 small (omega arith))
 
   -- so it is no other
-  name_is : (j label : ℕ) → slice_get (groups s touches) j ≡ Some label → label ≡ group s touches j
+  pub name_is : (j label : ℕ) → slice_get (groups s touches) j ≡ Some label → label ≡ group s touches j
   name_is j label e =
       let within = slice_get_within (groups s touches) j label e in
       same_Some label (group s touches j) (sym e ∙ name_at j (omega (arith, groups_long s touches, within)))

@@ -17,7 +17,7 @@ use Rattle.pf_islands.specs.Reach.{AreNeighbours, IsBetween, connects}
 use Rattle.pf_islands.specs.Rows.{active_points, active_rows, is_active_contact, is_awake_at, is_simulated_at, row_of, side_of}
 use Rattle.pf_islands.specs.Sleep.{is_active, woken_bodies}
 use Rattle.pf_islands.specs.Split.{AreTogether, AreWoken, IsActiveRow, is_active_label, is_awake_side}
-use Rattle.pf_islands.proofs.ActiveRows.{all_rows, row_at, row_holds, row_read}
+use Rattle.pf_islands.proofs.ActiveRows.{all_rows, places_within, row_at, row_holds, row_read}
 use Rattle.pf_islands.proofs.Chains.{one_name, reaches_name}
 use Rattle.pf_islands.proofs.Elements.{same_element, zip_at}
 use Rattle.pf_islands.proofs.Starting.{group_low, groups_long}
@@ -91,7 +91,7 @@ module _ (s : Scene) (touches : List Touch) where
   -- ---- contacts within one group
 
   -- a contact of two dynamic bodies has both in one group
-  one_group : (k : ℕ) (t : Touch) → slice_get touches k ≡ Some t → is_static_at s t.a ≡ false → is_static_at s t.b ≡ false
+  pub one_group : (k : ℕ) (t : Touch) → slice_get touches k ≡ Some t → is_static_at s t.a ≡ false → is_static_at s t.b ≡ false
       → group s touches t.a ≡ group s touches t.b
   one_group k t stands a_moves b_moves =
       let joins : connects s t ≡ true = rw (a_moves, b_moves) refl in
@@ -113,7 +113,7 @@ module _ (s : Scene) (touches : List Touch) where
 
   -- ---- rows
 
-  side_within : (n number : ℕ) → number < n → IsSide n (side_of s number)
+  pub side_within : (n number : ℕ) → number < n → IsSide n (side_of s number)
   side_within n number within = by (is_static_at s number)
     where
       by : (e : Bool) → IsSide n (if e then Static else Dynamic number)
@@ -149,17 +149,16 @@ module _ (s : Scene) (touches : List Touch) where
         together = together k t (slice_get-get_or touches k d within) first second;
       })
 
-  -- and so is the one that is read at a place of a contact that is simulated
+  -- the row that is read at a place of a contact that is simulated, where all rows are of these labels
   pub read_row_is_active : (bodies : List BodyState) (contacts : List Contact) (labels places : List ℕ) (k : ℕ)
-      (t : Touch) (c : Contact) (r : Row) → labels ≡ groups s touches → length bodies ≡ length s.fixtures
-      → All (IsTouchOf (length bodies)) touches → length contacts ≡ length touches
-      → All (λ place. place < length touches) places
+      (t : Touch) (c : Contact) (r : Row) → All (IsActiveRow labels bodies) (active_rows s bodies touches contacts)
+      → length contacts ≡ length touches
       → places ≡ map (λ (m : ℕ × Touch). m.0) (active_points s bodies touches)
       → k < length places → t ≡ get_or touches (get_or places k 0) t → c ≡ get_or contacts (get_or places k 0) c
       → r ≡ row_of s (get_or places k 0) t c
       → IsActiveRow labels bodies r × (r ≡ row_at s touches contacts (get_or places k 0))
-  read_row_is_active bodies contacts given places k t c r labelled count of same inside are within t_is c_is r_is =
+  read_row_is_active bodies contacts labels places k t c r active same are within t_is c_is r_is =
+      let inside = subst (All (λ place. place < length touches)) (sym are) (places_within s bodies touches contacts) in
       let at = row_read s touches contacts (get_or places k 0) t c r same (inside k 0 within) t_is c_is r_is in
-      let active = row_holds s bodies touches contacts (IsActiveRow (groups s touches) bodies) places k
-      (rows_are_active bodies contacts count of) are within in
-      (subst (λ (ns : List ℕ). IsActiveRow ns bodies r) (sym labelled) (subst (IsActiveRow (groups s touches) bodies) (sym at) active), at)
+      let holds = row_holds s bodies touches contacts (IsActiveRow labels bodies) places k active are within in
+      (subst (IsActiveRow labels bodies) (sym at) holds, at)

@@ -6,7 +6,9 @@ pub mod Forest
 pub mod Marks
 pub mod Island
 pub mod Rows
+pub mod Flags
 pub mod Split
+pub mod Settled
 pub mod Dealing
 pub mod Join
 pub mod Laws

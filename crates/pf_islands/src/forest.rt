@@ -7,12 +7,13 @@ ghost use Rattle.pf_manifold.specs.Touches.{IsTouchOf, Touch};
 ghost use Rattle.pf_islands.specs.Forest.{IsDownward, IsForest};
 ghost use Rattle.pf_islands.specs.Group.{group, merged_label};
 ghost use Rattle.pf_islands.specs.Reach.{connects};
+ghost use Rattle.pf_islands.specs.Settled.{touches_at};
 
 use pf_manifold::Touch;
 use pf_shapes::Scene;
 use std::alloc::{AllocError, Global};
 
-/// Each body is its own parent.
+/// The numbers below `len`: each body is its own parent.
 pub fn singles(alloc: Global, len: usize) -> Result<Vec<usize>, AllocError>
     ensures value { IfOk result (λ parents. parents.items ≡ range_with_len 0 len) }
     ensures no_memory { len ≡ 0 → IsOk result }
@@ -83,19 +84,21 @@ fn link_touch(parents: &mut [usize], scene: &Scene, touch: &Touch)
     }
 }
 
-/// Links the bodies of each contact point that connects them. The points of a pair stand side by
-/// side, so a point of the same bodies as the one before has nothing to link.
-pub fn link_all(parents: &mut [usize], scene: &Scene, touches: &[Touch])
+/// Links the bodies of each contact point at these places that connects them. The points of a pair
+/// stand side by side, so a point of the same bodies as the one before has nothing to link.
+pub fn link_all(parents: &mut [usize], scene: &Scene, touches: &[Touch], places: &[usize])
     requires touches { All (IsTouchOf (length scene.now.fixtures)) touches.now }
+    requires places { All (λ place. place < length touches.now) places.now }
     requires count { length parents.old ≡ length scene.now.fixtures }
     requires down { IsDownward parents.old }
     requires single { IsForest (λ i. i) parents.old }
-    ensures roots { IsForest (group scene.now touches.now) parents.new }
+    ensures roots { IsForest (group scene.now (touches_at touches.now places.now)) parents.new }
     ensures down { IsDownward parents.new }
 {
     let mut first = 0;
     let mut second = 0;
-    for touch in touches.iter().rev() {
+    for place in places.iter().rev() {
+        let touch = &touches[*place];
         let is_other = touch.a != first || touch.b != second;
         if is_other {
             link_touch(parents, scene, touch);

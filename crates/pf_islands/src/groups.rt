@@ -10,7 +10,7 @@ use std::marker::Model;
 /// The groups of a scene's bodies that contacts connect, never through a static body. Contracts see
 /// the label of each body's group, which is the least body of the group.
 #[derive(Drop)]
-pub struct Groups {
+pub(crate) struct Groups {
     labels: Vec<usize>,
     /// Scratch space of `wake`: a mark for each group, at its label.
     marks: Vec<bool>,
@@ -32,21 +32,29 @@ impl Groups {
     ghost use Rattle.pf_shapes.specs.Scene.{Scene};
     ghost use Rattle.pf_manifold.specs.Touches.{IsTouchOf, Touch};
     ghost use Rattle.pf_islands.specs.Group.{groups};
+    ghost use Rattle.pf_islands.specs.Settled.{touches_at};
     ghost use Rattle.pf_islands.specs.Sleep.{woken_bodies};
     ghost use Rattle.pf_islands.specs.Split.{AreWoken};
 
-    /// The groups of the scene's bodies that these contact points connect. Takes no memory where
-    /// there are no bodies.
+    /// The groups of the scene's bodies that the contact points at these places connect. Takes no
+    /// memory where there are no bodies.
     #[inline(never)]
-    pub fn new(alloc: Global, scene: &Scene, touches: &[Touch]) -> Result<Groups, AllocError>
-        requires { All (IsTouchOf (length scene.now.fixtures)) touches.now }
-        ensures value { IfOk result (λ found. found ≡ groups scene.now touches.now) }
+    pub(crate) fn new(
+        alloc: Global,
+        scene: &Scene,
+        touches: &[Touch],
+        places: &[usize],
+    ) -> Result<Groups, AllocError>
+        requires touches { All (IsTouchOf (length scene.now.fixtures)) touches.now }
+        requires places { All (λ place. place < length touches.now) places.now }
+        ensures value { IfOk result
+            (λ found. found ≡ groups scene.now (touches_at touches.now places.now)) }
         ensures no_memory { scene.now.fixtures ≡ [] → IsOk result }
     {
         let len = scene.len();
         let mut labels = singles(alloc, len)?;
         let marks = unmarked(alloc, len)?;
-        link_all(&mut labels, scene, touches);
+        link_all(&mut labels, scene, touches, places);
         flatten(&mut labels);
         Ok(Groups { labels, marks })
     }
@@ -61,7 +69,7 @@ impl Groups {
 
     /// The phase Activity: wakes the bodies of each group that has an awake one. Takes no memory.
     #[inline(never)]
-    pub fn wake(&mut self, bodies: &mut [BodyState])
+    pub(crate) fn wake(&mut self, bodies: &mut [BodyState])
         requires { length bodies.old ≡ length self.old }
         ensures bodies { bodies.new ≡ woken_bodies self.old bodies.old }
         ensures woken_bodies { (scene : Scene) (touches : List Touch)

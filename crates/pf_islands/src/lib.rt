@@ -12,8 +12,7 @@ mod sizes;
 mod sleep;
 mod splitting;
 
-pub use groups::Groups;
 pub use island::Island;
 pub use joining::join_back;
 pub use sleep::{fall_asleep, rest_alone};
-pub use splitting::split;
+pub use splitting::wake_and_split;

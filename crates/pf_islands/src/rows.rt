@@ -1,8 +1,11 @@
 //! The rows of a tick: the contacts that are simulated, as the solver takes them.
 
-ghost use Rattle.std.specs.Prelude.{◌≡◌, ◌<◌, [], All, length, map, IfOk, IsOk};
+ghost use Rattle.std.specs.Prelude.{◌≡◌, ◌<◌, [], true, All, length, IfOk, IsOk, IsTrue};
+ghost use Rattle.std.specs.List.{list_all};
 ghost use Rattle.pf_manifold.specs.Touches.{IsTouchOf};
-ghost use Rattle.pf_islands.specs.Rows.{active_points, is_active_contact, is_simulated_at, row_of, side_of};
+ghost use Rattle.pf_islands.specs.Flags.{awake_flags, is_active_by, is_simulated_by};
+ghost use Rattle.pf_islands.specs.Rows.{row_of, side_of};
+ghost use Rattle.pf_islands.specs.Settled.{active_places, touches_at, wakes_none};
 
 use pf_cache::Contact;
 use pf_manifold::Touch;
@@ -38,51 +41,113 @@ pub(crate) fn row_of(scene: &Scene, place: usize, touch: &Touch, contact: &Conta
     })
 }
 
-/// Whether the body of a number is dynamic and awake.
-#[inline]
-fn is_simulated_at(scene: &Scene, bodies: &[BodyState], number: usize) -> bool
-    requires bodies { length bodies.now ≡ length scene.now.fixtures }
-    requires number { number < length bodies.now }
-    ensures { result ≡ is_simulated_at scene.now bodies.now number }
+/// For each body, whether it is awake. A list of flags is short, so that it can be read again and
+/// again. Takes no memory where there are no bodies.
+fn awake_flags(alloc: Global, bodies: &[BodyState]) -> Result<Vec<bool>, AllocError>
+    ensures value { IfOk result (λ awake. awake.items ≡ awake_flags bodies.now) }
+    ensures no_memory { bodies.now ≡ [] → IsOk result }
 {
-    let body = &bodies[number];
-    let fixture = &scene.fixtures()[number];
-    body.awake && !fixture.is_static()
+    let mut awake = Vec::with_capacity(alloc, bodies.len())?;
+    for body in bodies {
+        awake.push_reserved(body.awake);
+    }
+    Ok(awake)
 }
 
-/// Whether one of a contact's bodies is dynamic and awake.
+/// Whether the body of a number is dynamic, and awake by these flags.
 #[inline]
-#[tactic(auto, unfolding(crate::specs::Rows::is_active_contact))]
-fn is_active_contact(scene: &Scene, bodies: &[BodyState], touch: &Touch) -> bool
-    requires bodies { length bodies.now ≡ length scene.now.fixtures }
-    requires touch { IsTouchOf (length bodies.now) touch.now }
-    ensures { result ≡ is_active_contact scene.now bodies.now touch.now }
+fn is_simulated_by(scene: &Scene, awake: &[bool], number: usize) -> bool
+    requires awake { length awake.now ≡ length scene.now.fixtures }
+    requires number { number < length awake.now }
+    ensures { result ≡ is_simulated_by scene.now awake.now number }
 {
-    is_simulated_at(scene, bodies, usize::from(touch.a))
-        || is_simulated_at(scene, bodies, usize::from(touch.b))
+    awake[number] && !scene.fixtures()[number].is_static()
 }
 
-/// The places of the contacts that are simulated. Takes no memory where there are no contact
-/// points.
-pub(crate) fn active_places(
+/// Whether one of a contact's bodies is dynamic, and awake by these flags.
+#[inline]
+fn is_active_by(scene: &Scene, awake: &[bool], touch: &Touch) -> bool
+    requires awake { length awake.now ≡ length scene.now.fixtures }
+    requires touch { IsTouchOf (length awake.now) touch.now }
+    ensures { result ≡ is_active_by scene.now awake.now touch.now }
+{
+    is_simulated_by(scene, awake, usize::from(touch.a))
+        || is_simulated_by(scene, awake, usize::from(touch.b))
+}
+
+/// What is simulated in a tick.
+#[derive(Drop)]
+pub(crate) struct Active {
+    /// For each body, whether it is awake.
+    pub awake: Vec<bool>,
+    /// The places of the contacts that are simulated.
+    pub places: Vec<usize>,
+}
+
+/// Which bodies are awake, and the places of the contacts that are simulated. Takes no memory where
+/// there are no bodies and no contact points.
+pub(crate) fn active_of(
     alloc: Global,
     scene: &Scene,
     bodies: &[BodyState],
     touches: &[Touch],
-) -> Result<Vec<usize>, AllocError>
+) -> Result<Active, AllocError>
     requires bodies { length bodies.now ≡ length scene.now.fixtures }
     requires touches { All (IsTouchOf (length bodies.now)) touches.now }
-    ensures value { IfOk result
-        (λ places. places.items ≡ map (λ m. m.0) (active_points scene.now bodies.now touches.now)) }
+    ensures awake { IfOk result (λ found. found.awake.items ≡ awake_flags bodies.now) }
+    ensures places { IfOk result
+        (λ found. found.places.items ≡ active_places scene.now bodies.now touches.now) }
     ensures within { IfOk result
-        (λ places. All (λ place. place < length touches.now) places.items) }
-    ensures no_memory { touches.now ≡ [] → IsOk result }
+        (λ found. All (λ place. place < length touches.now) found.places.items) }
+    ensures no_memory { bodies.now ≡ [] → touches.now ≡ [] → IsOk result }
 {
+    let awake = awake_flags(alloc, bodies)?;
     let mut places = Vec::with_capacity(alloc, touches.len())?;
     for (place, touch) in touches.iter().enumerate() {
-        if is_active_contact(scene, bodies, touch) {
+        if is_active_by(scene, &awake, touch) {
             places.push_reserved(place);
         }
     }
-    Ok(places)
+    Ok(Active { awake, places })
+}
+
+/// Whether a contact that is simulated wakes none of its bodies: one of them is static, or both are
+/// awake.
+#[inline]
+fn wakes_none(scene: &Scene, bodies: &[BodyState], touch: &Touch) -> bool
+    requires bodies { length bodies.now ≡ length scene.now.fixtures }
+    requires touch { IsTouchOf (length bodies.now) touch.now }
+    ensures { result ≡ wakes_none scene.now bodies.now touch.now }
+{
+    let a = usize::from(touch.a);
+    let b = usize::from(touch.b);
+    let first = &bodies[a];
+    let second = &bodies[b];
+    let fixtures = scene.fixtures();
+    if first.awake && second.awake {
+        return true;
+    }
+    fixtures[a].is_static() || fixtures[b].is_static()
+}
+
+/// Whether the contacts at these places, which are simulated, wake no bodies. No clause says that
+/// it finds each such list.
+pub(crate) fn wake_none(
+    scene: &Scene,
+    bodies: &[BodyState],
+    touches: &[Touch],
+    places: &[usize],
+) -> bool
+    requires bodies { length bodies.now ≡ length scene.now.fixtures }
+    requires touches { All (IsTouchOf (length bodies.now)) touches.now }
+    requires places { All (λ place. place < length touches.now) places.now }
+    ensures { IsTrue result
+        → list_all (wakes_none scene.now bodies.now) (touches_at touches.now places.now) ≡ true }
+{
+    for place in places {
+        if !wakes_none(scene, bodies, &touches[*place]) {
+            return false;
+        }
+    }
+    true
 }

@@ -4,7 +4,6 @@ ghost use Rattle.std.specs.Prelude.{◌≡◌, ◌<◌, All, IfOk, IsOk, length}
 ghost use Rattle.pf_manifold.specs.Touches.{IsTouchOf};
 
 use pf_manifold::Touch;
-use pf_shapes::BodyState;
 use std::alloc::{AllocError, Global};
 
 /// How many bodies and contacts an island has.
@@ -20,13 +19,13 @@ impl IslandSize {
 }
 
 /// Counts the awake bodies of each group.
-fn count_bodies(sizes: &mut [IslandSize], labels: &[usize], bodies: &[BodyState])
+fn count_bodies(sizes: &mut [IslandSize], labels: &[usize], awake: &[bool])
     requires sizes { length sizes.old ≡ length labels.now }
-    requires bodies { length bodies.now ≡ length labels.now }
+    requires awake { length awake.now ≡ length labels.now }
     requires labelled { All (λ label. label < length labels.now) labels.now }
 {
-    for (number, body) in bodies.iter().enumerate() {
-        if body.awake {
+    for (number, is_awake) in awake.iter().enumerate() {
+        if *is_awake {
             let size = &mut sizes[labels[number]];
             size.bodies = size.bodies.saturating_add(1);
         }
@@ -37,21 +36,20 @@ fn count_bodies(sizes: &mut [IslandSize], labels: &[usize], bodies: &[BodyState]
 fn count_rows(
     sizes: &mut [IslandSize],
     labels: &[usize],
-    bodies: &[BodyState],
+    awake: &[bool],
     touches: &[Touch],
     places: &[usize],
 )
     requires sizes { length sizes.old ≡ length labels.now }
-    requires bodies { length bodies.now ≡ length labels.now }
+    requires awake { length awake.now ≡ length labels.now }
     requires labelled { All (λ label. label < length labels.now) labels.now }
-    requires touches { All (IsTouchOf (length bodies.now)) touches.now }
+    requires touches { All (IsTouchOf (length awake.now)) touches.now }
     requires places { All (λ place. place < length touches.now) places.now }
 {
     for place in places {
         let touch = &touches[*place];
         let first = usize::from(touch.a);
-        let body = &bodies[first];
-        let number = if body.awake {
+        let number = if awake[first] {
             first
         } else {
             usize::from(touch.b)
@@ -66,20 +64,20 @@ fn count_rows(
 pub fn sizes(
     alloc: Global,
     labels: &[usize],
-    bodies: &[BodyState],
+    awake: &[bool],
     touches: &[Touch],
     places: &[usize],
 ) -> Result<Vec<IslandSize>, AllocError>
-    requires bodies { length bodies.now ≡ length labels.now }
+    requires awake { length awake.now ≡ length labels.now }
     requires labelled { All (λ label. label < length labels.now) labels.now }
-    requires touches { All (IsTouchOf (length bodies.now)) touches.now }
+    requires touches { All (IsTouchOf (length awake.now)) touches.now }
     requires places { All (λ place. place < length touches.now) places.now }
     ensures value { IfOk result (λ sizes. length sizes.items ≡ length labels.now) }
     ensures no_memory { length labels.now ≡ 0 → IsOk result }
 {
     let mut sizes = Vec::with_capacity(alloc, labels.len())?;
     sizes.resize(labels.len(), IslandSize::NONE)?;
-    count_bodies(&mut sizes, labels, bodies);
-    count_rows(&mut sizes, labels, bodies, touches, places);
+    count_bodies(&mut sizes, labels, awake);
+    count_rows(&mut sizes, labels, awake, touches, places);
     Ok(sizes)
 }

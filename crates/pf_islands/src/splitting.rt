@@ -1,18 +1,22 @@
 //! The islands of a tick.
 
-ghost use Rattle.std.specs.Prelude.{◌≡◌, ◌<◌, ◌≤◌, ◌+◌, ◌++◌, ◌∷◌, [], All, IfOk, IsOk, OnOk, length, map, slice_index_or, slice_set, take};
+ghost use Rattle.std.specs.Prelude.{◌≡◌, ◌<◌, ◌≤◌, ◌==◌, ◌+◌, ◌++◌, ◌∷◌, ◌&&◌, [], false, All, IfOk, IsOk, OnOk, length, map, slice_index_or, slice_set, take};
 ghost use Rattle.std.specs.List.{range_with_len};
 ghost use Rattle.pf_rows.specs.Row.{IsSide};
 ghost use Rattle.pf_manifold.specs.Touches.{IsTouchOf};
 ghost use Rattle.pf_islands.specs.Group.{groups as groups_of};
 ghost use Rattle.pf_islands.specs.Island.{members};
 ghost use Rattle.pf_islands.specs.Rows.{active_rows};
+ghost use Rattle.pf_islands.specs.Flags.{awake_flags};
+ghost use Rattle.pf_islands.specs.Settled.{AreSettled, active_places};
+ghost use Rattle.pf_islands.specs.Sleep.{woken_bodies};
 ghost use Rattle.pf_islands.specs.Split.{AreWoken, IsIslandOf, active_labels, is_active_label, island_of, islands, no_island};
 ghost use Rattle.pf_islands.specs.Dealing.{ArePlaces, group_of_row, group_of_sides, placed_row, placed_side, slot_of, with_body, with_row};
 
+use crate::forest::singles;
 use crate::groups::Groups;
 use crate::island::Island;
-use crate::rows::{active_places, row_of};
+use crate::rows::{Active, active_of, row_of, wake_none};
 use crate::sizes::{IslandSize, sizes};
 use pf_cache::Contact;
 use pf_manifold::Touch;
@@ -22,13 +26,13 @@ use std::alloc::{AllocError, Global};
 
 /// Whether a body is awake and the least of its group, so that its number is the label.
 #[inline]
-fn is_active_label(labels: &[usize], bodies: &[BodyState], number: usize) -> bool
+fn is_active_label(labels: &[usize], awake: &[bool], number: usize) -> bool
     requires number { number < length labels.now }
-    requires bodies { length bodies.now ≡ length labels.now }
-    ensures { result ≡ is_active_label labels.now bodies.now number }
+    requires awake { length awake.now ≡ length labels.now }
+    ensures { result
+        ≡ ((slice_index_or labels.now number 0 == number) && slice_index_or awake.now number false) }
 {
-    let body = &bodies[number];
-    labels[number] == number && body.awake
+    labels[number] == number && awake[number]
 }
 
 /// Clears the island at a place, with memory for so many bodies and contacts; or adds such an
@@ -59,9 +63,11 @@ fn empty_islands(
     spare: Vec<Island>,
     labels: &[usize],
     bodies: &[BodyState],
+    awake: &[bool],
     sizes: &[IslandSize],
 ) -> Result<(Vec<Island>, Vec<usize>), AllocError>
     requires bodies { length bodies.now ≡ length labels.now }
+    requires awake { awake.now ≡ awake_flags bodies.now }
     requires sizes { length sizes.now ≡ length labels.now }
     ensures islands { IfOk result
         (λ made. made.0.items ≡ map (λ label. no_island) (active_labels labels.now bodies.now)) }
@@ -72,9 +78,9 @@ fn empty_islands(
     let mut islands = spare;
     let mut slots = Vec::with_capacity(alloc, labels.len())?;
     let mut count = 0;
-    for number in 0..labels.len() {
+    for number in 0..bodies.len() {
         slots.push_reserved(count);
-        if is_active_label(labels, bodies, number) {
+        if is_active_label(labels, awake, number) {
             clear_at(alloc, &mut islands, count, sizes[number])?;
             count += 1;
         }
@@ -120,9 +126,11 @@ fn deal_bodies(
     places: &mut [usize],
     slots: &[usize],
     labels: &[usize],
+    awake: &[bool],
     bodies: &[BodyState],
 ) -> Result<(), AllocError>
     requires bodies { length bodies.now ≡ length labels.now }
+    requires awake { awake.now ≡ awake_flags bodies.now }
     requires places { length places.old ≡ length labels.now }
     requires slots { slots.now
         ≡ map (slot_of labels.now bodies.now) (range_with_len 0 (length labels.now)) }
@@ -136,10 +144,9 @@ fn deal_bodies(
     ensures no_memory { bodies.now ≡ [] → IsOk result }
 {
     for number in 0..bodies.len() {
-        let body = &bodies[number];
-        if body.awake {
+        if awake[number] {
             let slot = slots[labels[number]];
-            places[number] = add_body(islands, slot, number, body)?;
+            places[number] = add_body(islands, slot, number, &bodies[number])?;
         }
     }
     Ok(())
@@ -198,43 +205,101 @@ fn deal_row(
     add_row(islands, slot, row)
 }
 
-/// The islands of a tick, as Box2D 2.x's `b2World::Solve` makes them: one for each group that is
-/// simulated, in the order of their least bodies, with copies of the bodies of the group and with
-/// the contacts that touch them. The groups are those of the contact points, and awake as wholes;
-/// the contacts are those of the contact points. The islands are made in the memory of the spare
-/// ones, whose bodies and contacts are gone. Takes no memory where there are no bodies and no
-/// contact points.
+/// The islands of groups that are awake as wholes, made in the memory of the spare ones.
 #[inline(never)]
-pub fn split(
+fn split(
     alloc: Global,
     spare: Vec<Island>,
     scene: &Scene,
-    groups: &Groups,
     bodies: &[BodyState],
     touches: &[Touch],
     contacts: &[Contact],
+    active: &Active,
 ) -> Result<Vec<Island>, AllocError>
     requires bodies { length bodies.now ≡ length scene.now.fixtures }
     requires touches { All (IsTouchOf (length bodies.now)) touches.now }
     requires contacts { length contacts.now ≡ length touches.now }
-    requires groups { groups.now ≡ groups_of scene.now touches.now }
-    requires woken_bodies { AreWoken groups.now bodies.now }
-    ensures value { IfOk result (λ found. found.items ≡ islands groups.now bodies.now
+    requires settled { AreSettled scene.now bodies.now touches.now }
+    requires awake { active.now.awake.items ≡ awake_flags bodies.now }
+    requires active { active.now.places.items ≡ active_places scene.now bodies.now touches.now }
+    requires within { All (λ place. place < length touches.now) active.now.places.items }
+    ensures value { IfOk result (λ found. found.items
+        ≡ islands (groups_of scene.now touches.now) bodies.now
         (active_rows scene.now bodies.now touches.now contacts.now)) }
     ensures fit { IfOk result (λ found. All (IsIslandOf scene.now) found.items) }
     ensures no_memory { bodies.now ≡ [] → touches.now ≡ [] → IsOk result }
 {
+    let awake = active.awake.as_slice();
+    let simulated = active.places.as_slice();
+    let groups = Groups::new(alloc, scene, touches, simulated)?;
     let labels = groups.labels();
-    let active = active_places(alloc, scene, bodies, touches)?;
-    let sizes = sizes(alloc, labels, bodies, touches, &active)?;
-    let (mut made, slots) = empty_islands(alloc, spare, labels, bodies, &sizes)?;
+    let sizes = sizes(alloc, labels, awake, touches, simulated)?;
+    let (mut made, slots) = empty_islands(alloc, spare, labels, bodies, awake, &sizes)?;
     let mut places = Vec::with_capacity(alloc, labels.len())?;
     places.resize(labels.len(), 0)?;
-    deal_bodies(&mut made, &mut places, &slots, labels, bodies)?;
-    for place in &active {
+    deal_bodies(&mut made, &mut places, &slots, labels, awake, bodies)?;
+    for place in simulated {
         let place = *place;
         let row = row_of(scene, place, &touches[place], &contacts[place]);
         deal_row(&mut made, &slots, &places, labels, row)?;
     }
     Ok(made)
+}
+
+/// The phase Activity where a contact wakes a body: wakes the bodies of each group that has an
+/// awake one. Takes no memory where there are no bodies and no contact points.
+#[inline(never)]
+fn wake_groups(
+    alloc: Global,
+    scene: &Scene,
+    bodies: &mut [BodyState],
+    touches: &[Touch],
+) -> Result<(), AllocError>
+    requires bodies { length bodies.old ≡ length scene.now.fixtures }
+    requires touches { All (IsTouchOf (length bodies.old)) touches.now }
+    ensures bodies { OnOk result
+        (bodies.new ≡ woken_bodies (groups_of scene.now touches.now) bodies.old) }
+    ensures no_memory { bodies.old ≡ [] → touches.now ≡ [] → IsOk result }
+{
+    let all = singles(alloc, touches.len())?;
+    let mut groups = Groups::new(alloc, scene, touches, &all)?;
+    groups.wake(bodies);
+    Ok(())
+}
+
+/// The phase Activity, and the islands of a tick, as Box2D 2.x's `b2World::Solve` makes them: wakes
+/// the bodies of each group that has an awake one, and returns an island for each such group, in
+/// the order of their least bodies, with copies of the bodies of the group and with the contacts
+/// that touch them. The groups are those of the contact points, and the contacts are theirs. The
+/// islands are made in the memory of the spare ones, whose bodies and contacts are gone. Takes no
+/// memory where there are no bodies and no contact points.
+///
+/// In most ticks no contact wakes a body. Then only the contacts that are simulated are linked:
+/// what sleeps is not looked at.
+pub fn wake_and_split(
+    alloc: Global,
+    spare: Vec<Island>,
+    scene: &Scene,
+    bodies: &mut [BodyState],
+    touches: &[Touch],
+    contacts: &[Contact],
+) -> Result<Vec<Island>, AllocError>
+    requires bodies { length bodies.old ≡ length scene.now.fixtures }
+    requires touches { All (IsTouchOf (length bodies.old)) touches.now }
+    requires contacts { length contacts.now ≡ length touches.now }
+    ensures bodies { OnOk result
+        (bodies.new ≡ woken_bodies (groups_of scene.now touches.now) bodies.old) }
+    ensures value { IfOk result (λ found. found.items
+        ≡ islands (groups_of scene.now touches.now) bodies.new
+        (active_rows scene.now bodies.new touches.now contacts.now)) }
+    ensures fit { IfOk result (λ found. All (IsIslandOf scene.now) found.items) }
+    ensures no_memory { bodies.old ≡ [] → touches.now ≡ [] → IsOk result }
+{
+    let active = active_of(alloc, scene, bodies, touches)?;
+    if wake_none(scene, bodies, touches, &active.places) {
+        return split(alloc, spare, scene, bodies, touches, contacts, &active);
+    }
+    wake_groups(alloc, scene, bodies, touches)?;
+    let active = active_of(alloc, scene, bodies, touches)?;
+    split(alloc, spare, scene, bodies, touches, contacts, &active)
 }

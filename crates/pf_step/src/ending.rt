@@ -18,7 +18,7 @@ use crate::crew::{Crew, StepError};
 use crate::work::Work;
 use crate::world::World;
 use pf_cache::{Collisions, Contacts};
-use pf_islands::{Groups, Island, join_back, split};
+use pf_islands::{Island, join_back, wake_and_split};
 use pf_shapes::{BodyState, Scene};
 use pf_solver::solve_untouched;
 use std::alloc::{AllocError, Global};
@@ -68,14 +68,11 @@ fn prepare(
     let mut bodies = bodies;
     let touches = found.manifolds.touches();
     let contacts = contacts.update(spare.contacts, touches)?;
-    let mut groups = Groups::new(alloc, scene, touches)?;
-    groups.wake(&mut bodies);
-    let islands = split(
+    let islands = wake_and_split(
         alloc,
         spare.islands,
         scene,
-        &groups,
-        &bodies,
+        &mut bodies,
         touches,
         contacts.as_slice(),
     )?;

@@ -1,32 +1,37 @@
-use Rattle.std.proofs.Common.{◌≡◌, ◌<◌, ◌∙◌, refl, [], ◌∷◌, ◌++◌, ℕ, List, ap, arith, get_or, length, map, set, subst, sym, take}
+use Rattle.std.proofs.Common.{◌≡◌, ◌∙◌, refl, [], ◌∷◌, ◌++◌, List, ap, arith, get_or, length, map, set, subst, sym, take}
 use Rattle.std.specs.Prelude.{All}
-use Rattle.std.proofs.lemmas.List.{map_more, with_items_is}
+use Rattle.std.proofs.lemmas.List.{length-map, map_more, with_items_is}
 use Rattle.std.proofs.lemmas.List.FromFn.{get_or-map-range_with_len, length-map-range_with_len}
 use Rattle.pf_rows.specs.Row.{Row}
 use Rattle.pf_islands.specs.Dealing.{ArePlaces, group_of_row, placed_row, slot_of, with_row}
 use Rattle.pf_islands.specs.Rows.{active_rows}
-use Rattle.pf_islands.specs.Split.{AreWoken, IsActiveRow, IsIslandOf, active_labels, islands, no_island}
+use Rattle.pf_islands.specs.Split.{IsIslandOf, active_labels, no_island}
 use Rattle.pf_islands.proofs.ActiveRows.{all_made, row_at, rows_fit}
 use Rattle.pf_islands.proofs.Dealing.{full_part, group_active, row_dealt, slot_within}
-use Rattle.pf_islands.proofs.Starting.{groups_long}
-use Rattle.pf_islands.proofs.Together.{read_row_is_active, rows_are_active}
+use Rattle.pf_islands.proofs.SettledGroups.{labels_islands, labels_long, labels_low, labels_rows, labels_woken}
+use Rattle.pf_islands.proofs.Together.{read_row_is_active}
 use Rattle.pf_islands.proofs.Whole.{islands_fit}
 use Rattle.pf_islands.proofs.splitting.split.Goals as goal
 
-pub sizes-requires-clause-bodies : goal.sizes-requires-clause-bodies
-sizes-requires-clause-bodies c =
-    c.requires.bodies ∙ sym (groups_long c.args.scene.now c.args.touches.now) ∙ sym (ap length c.requires.groups)
-    ∙ sym (ap length c.labels-labels.ensures.value)
+pub sizes-requires-clause-awake : goal.sizes-requires-clause-awake
+sizes-requires-clause-awake c =
+    ap length (c.as_slice-awake.ensures.value ∙ c.requires.awake) ∙ length-map c.args.bodies.now _
+    ∙ sym
+    (labels_long c.args.scene.now c.args.bodies.now c.args.touches.now c.requires.bodies c.requires.settled
+    c.labels-labels.result.now c.as_slice-simulated.result.now (c.as_slice-simulated.ensures.value ∙ c.requires.active)
+    (c.labels-labels.ensures.value ∙ c.in_ok-groups.ensures.value))
 
 pub empty_islands-requires-clause-bodies : goal.empty_islands-requires-clause-bodies
 empty_islands-requires-clause-bodies c =
-    c.requires.bodies ∙ sym (groups_long c.args.scene.now c.args.touches.now) ∙ sym (ap length c.requires.groups)
-    ∙ sym (ap length c.labels-labels.ensures.value)
+    sym
+    (labels_long c.args.scene.now c.args.bodies.now c.args.touches.now c.requires.bodies c.requires.settled
+    c.labels-labels.result.now c.as_slice-simulated.result.now (c.as_slice-simulated.ensures.value ∙ c.requires.active) (c.labels-labels.ensures.value ∙ c.in_ok-groups.ensures.value))
 
 pub deal_bodies-requires-clause-bodies : goal.deal_bodies-requires-clause-bodies
 deal_bodies-requires-clause-bodies c =
-    c.requires.bodies ∙ sym (groups_long c.args.scene.now c.args.touches.now) ∙ sym (ap length c.requires.groups)
-    ∙ sym (ap length c.labels-labels.ensures.value)
+    sym
+    (labels_long c.args.scene.now c.args.bodies.now c.args.touches.now c.requires.bodies c.requires.settled
+    c.labels-labels.result.now c.as_slice-simulated.result.now (c.as_slice-simulated.ensures.value ∙ c.requires.active) (c.labels-labels.ensures.value ∙ c.in_ok-groups.ensures.value))
 
 pub loop-place-init : goal.loop-place-init
 loop-place-init c =
@@ -37,13 +42,13 @@ pub deal_row-requires-clause-first : goal.deal_row-requires-clause-first
 deal_row-requires-clause-first c =
     let labels = c.labels-labels.result.now in
     let bodies = c.args.bodies.now in
-    let items = c.deref-place-items.result.now in
-    let items_are = c.deref-place-items.ensures.value in
-    let inside = subst (All (λ place. place < length c.args.touches.now)) (sym items_are) c.in_ok-active.ensures.within in
+    let items = c.as_slice-simulated.result.now in
+    let labelled_by = c.labels-labels.ensures.value ∙ c.in_ok-groups.ensures.value in
+    let active = labels_rows c.args.scene.now bodies c.args.touches.now c.requires.bodies c.requires.settled labels items
+    (c.as_slice-simulated.ensures.value ∙ c.requires.active) labelled_by c.args.contacts.now c.requires.touches in
     let read = read_row_is_active c.args.scene.now c.args.touches.now bodies c.args.contacts.now labels items
     c.loop-place.place-index c.index-touches-place.result c.index-contacts-place.result c.row_of-row.result
-    (c.labels-labels.ensures.value ∙ c.requires.groups) c.requires.bodies c.requires.touches c.requires.contacts inside
-    (items_are ∙ c.in_ok-active.ensures.value) c.loop-place-test.true c.index-touches-place.is c.index-contacts-place.is
+    active c.requires.contacts (c.as_slice-simulated.ensures.value ∙ c.requires.active) c.loop-place-test.true c.index-touches-place.is c.index-contacts-place.is
     c.row_of-row.ensures in
     read.0.first
 
@@ -51,13 +56,13 @@ pub deal_row-requires-clause-second : goal.deal_row-requires-clause-second
 deal_row-requires-clause-second c =
     let labels = c.labels-labels.result.now in
     let bodies = c.args.bodies.now in
-    let items = c.deref-place-items.result.now in
-    let items_are = c.deref-place-items.ensures.value in
-    let inside = subst (All (λ place. place < length c.args.touches.now)) (sym items_are) c.in_ok-active.ensures.within in
+    let items = c.as_slice-simulated.result.now in
+    let labelled_by = c.labels-labels.ensures.value ∙ c.in_ok-groups.ensures.value in
+    let active = labels_rows c.args.scene.now bodies c.args.touches.now c.requires.bodies c.requires.settled labels items
+    (c.as_slice-simulated.ensures.value ∙ c.requires.active) labelled_by c.args.contacts.now c.requires.touches in
     let read = read_row_is_active c.args.scene.now c.args.touches.now bodies c.args.contacts.now labels items
     c.loop-place.place-index c.index-touches-place.result c.index-contacts-place.result c.row_of-row.result
-    (c.labels-labels.ensures.value ∙ c.requires.groups) c.requires.bodies c.requires.touches c.requires.contacts inside
-    (items_are ∙ c.in_ok-active.ensures.value) c.loop-place-test.true c.index-touches-place.is c.index-contacts-place.is
+    active c.requires.contacts (c.as_slice-simulated.ensures.value ∙ c.requires.active) c.loop-place-test.true c.index-touches-place.is c.index-contacts-place.is
     c.row_of-row.ensures in
     read.0.second
 
@@ -70,16 +75,18 @@ pub deal_row-requires-clause-group : goal.deal_row-requires-clause-group
 deal_row-requires-clause-group c =
     let labels = c.labels-labels.result.now in
     let bodies = c.args.bodies.now in
-    let items = c.deref-place-items.result.now in
-    let items_are = c.deref-place-items.ensures.value in
-    let inside = subst (All (λ place. place < length c.args.touches.now)) (sym items_are) c.in_ok-active.ensures.within in
+    let items = c.as_slice-simulated.result.now in
+    let labelled_by = c.labels-labels.ensures.value ∙ c.in_ok-groups.ensures.value in
+    let active = labels_rows c.args.scene.now bodies c.args.touches.now c.requires.bodies c.requires.settled labels items
+    (c.as_slice-simulated.ensures.value ∙ c.requires.active) labelled_by c.args.contacts.now c.requires.touches in
     let read = read_row_is_active c.args.scene.now c.args.touches.now bodies c.args.contacts.now labels items
     c.loop-place.place-index c.index-touches-place.result c.index-contacts-place.result c.row_of-row.result
-    (c.labels-labels.ensures.value ∙ c.requires.groups) c.requires.bodies c.requires.touches c.requires.contacts inside
-    (items_are ∙ c.in_ok-active.ensures.value) c.loop-place-test.true c.index-touches-place.is c.index-contacts-place.is
+    active c.requires.contacts (c.as_slice-simulated.ensures.value ∙ c.requires.active) c.loop-place-test.true c.index-touches-place.is c.index-contacts-place.is
     c.row_of-row.ensures in
-    let labelled = subst (λ (ns : List ℕ). All (λ label. label < length ns) ns) (sym c.labels-labels.ensures.value) c.labels-labels.ensures.labelled in
-    let woken_bodies = subst (λ ns. AreWoken ns bodies) (sym c.labels-labels.ensures.value) c.requires.woken_bodies in
+    let labelled = labels_low c.args.scene.now bodies c.args.touches.now c.requires.bodies c.requires.settled labels items
+    (c.as_slice-simulated.ensures.value ∙ c.requires.active) labelled_by in
+    let woken_bodies = labels_woken c.args.scene.now bodies c.args.touches.now c.requires.bodies c.requires.settled labels items
+    (c.as_slice-simulated.ensures.value ∙ c.requires.active) labelled_by in
     let own = group_active labels bodies c.row_of-row.result labelled woken_bodies read.0 in
     own.0
 
@@ -87,16 +94,18 @@ pub deal_row-requires-clause-slot : goal.deal_row-requires-clause-slot
 deal_row-requires-clause-slot c =
     let labels = c.labels-labels.result.now in
     let bodies = c.args.bodies.now in
-    let items = c.deref-place-items.result.now in
-    let items_are = c.deref-place-items.ensures.value in
-    let inside = subst (All (λ place. place < length c.args.touches.now)) (sym items_are) c.in_ok-active.ensures.within in
+    let items = c.as_slice-simulated.result.now in
+    let labelled_by = c.labels-labels.ensures.value ∙ c.in_ok-groups.ensures.value in
+    let active = labels_rows c.args.scene.now bodies c.args.touches.now c.requires.bodies c.requires.settled labels items
+    (c.as_slice-simulated.ensures.value ∙ c.requires.active) labelled_by c.args.contacts.now c.requires.touches in
     let read = read_row_is_active c.args.scene.now c.args.touches.now bodies c.args.contacts.now labels items
     c.loop-place.place-index c.index-touches-place.result c.index-contacts-place.result c.row_of-row.result
-    (c.labels-labels.ensures.value ∙ c.requires.groups) c.requires.bodies c.requires.touches c.requires.contacts inside
-    (items_are ∙ c.in_ok-active.ensures.value) c.loop-place-test.true c.index-touches-place.is c.index-contacts-place.is
+    active c.requires.contacts (c.as_slice-simulated.ensures.value ∙ c.requires.active) c.loop-place-test.true c.index-touches-place.is c.index-contacts-place.is
     c.row_of-row.ensures in
-    let labelled = subst (λ (ns : List ℕ). All (λ label. label < length ns) ns) (sym c.labels-labels.ensures.value) c.labels-labels.ensures.labelled in
-    let woken_bodies = subst (λ ns. AreWoken ns bodies) (sym c.labels-labels.ensures.value) c.requires.woken_bodies in
+    let labelled = labels_low c.args.scene.now bodies c.args.touches.now c.requires.bodies c.requires.settled labels items
+    (c.as_slice-simulated.ensures.value ∙ c.requires.active) labelled_by in
+    let woken_bodies = labels_woken c.args.scene.now bodies c.args.touches.now c.requires.bodies c.requires.settled labels items
+    (c.as_slice-simulated.ensures.value ∙ c.requires.active) labelled_by in
     let own = group_active labels bodies c.row_of-row.result labelled woken_bodies read.0 in
     let label = group_of_row labels c.row_of-row.result in
     let slot = ap (λ xs. get_or xs label 0) (c.deref-in-loop-place.ensures.value ∙ c.in_ok-made.ensures.slots)
@@ -110,16 +119,18 @@ pub loop-place-preserved : goal.loop-place-preserved
 loop-place-preserved c =
     let labels = c.labels-labels.result.now in
     let bodies = c.args.bodies.now in
-    let items = c.deref-place-items.result.now in
-    let items_are = c.deref-place-items.ensures.value in
-    let inside = subst (All (λ place. place < length c.args.touches.now)) (sym items_are) c.in_ok-active.ensures.within in
+    let items = c.as_slice-simulated.result.now in
+    let labelled_by = c.labels-labels.ensures.value ∙ c.in_ok-groups.ensures.value in
+    let active = labels_rows c.args.scene.now bodies c.args.touches.now c.requires.bodies c.requires.settled labels items
+    (c.as_slice-simulated.ensures.value ∙ c.requires.active) labelled_by c.args.contacts.now c.requires.touches in
     let read = read_row_is_active c.args.scene.now c.args.touches.now bodies c.args.contacts.now labels items
     c.loop-place.place-index c.index-touches-place.result c.index-contacts-place.result c.row_of-row.result
-    (c.labels-labels.ensures.value ∙ c.requires.groups) c.requires.bodies c.requires.touches c.requires.contacts inside
-    (items_are ∙ c.in_ok-active.ensures.value) c.loop-place-test.true c.index-touches-place.is c.index-contacts-place.is
+    active c.requires.contacts (c.as_slice-simulated.ensures.value ∙ c.requires.active) c.loop-place-test.true c.index-touches-place.is c.index-contacts-place.is
     c.row_of-row.ensures in
-    let labelled = subst (λ (ns : List ℕ). All (λ label. label < length ns) ns) (sym c.labels-labels.ensures.value) c.labels-labels.ensures.labelled in
-    let woken_bodies = subst (λ ns. AreWoken ns bodies) (sym c.labels-labels.ensures.value) c.requires.woken_bodies in
+    let labelled = labels_low c.args.scene.now bodies c.args.touches.now c.requires.bodies c.requires.settled labels items
+    (c.as_slice-simulated.ensures.value ∙ c.requires.active) labelled_by in
+    let woken_bodies = labels_woken c.args.scene.now bodies c.args.touches.now c.requires.bodies c.requires.settled labels items
+    (c.as_slice-simulated.ensures.value ∙ c.requires.active) labelled_by in
     let own = group_active labels bodies c.row_of-row.result labelled woken_bodies read.0 in
     let label = group_of_row labels c.row_of-row.result in
     let slot = ap (λ xs. get_or xs label 0) (c.deref-in-loop-place.ensures.value ∙ c.in_ok-made.ensures.slots)
@@ -141,21 +152,27 @@ loop-place-preserved c =
     ∙ ap (λ (rows : List Row). map (full_part labels bodies rows) (active_labels labels bodies))
     (ap (λ (r : Row). map at (take k items) ++ r ∷ []) read.1 ∙ sym (map_more at items k 0 c.loop-place-test.true))
 
+pub deal_bodies-requires-clause-woken_bodies : goal.deal_bodies-requires-clause-woken_bodies
+deal_bodies-requires-clause-woken_bodies c =
+    labels_woken c.args.scene.now c.args.bodies.now c.args.touches.now c.requires.bodies c.requires.settled
+    c.labels-labels.result.now c.as_slice-simulated.result.now (c.as_slice-simulated.ensures.value ∙ c.requires.active) (c.labels-labels.ensures.value ∙ c.in_ok-groups.ensures.value)
+
 pub returns-clause-value : goal.returns-clause-value
 returns-clause-value c =
     let s = c.args.scene.now in
     let touches = c.args.touches.now in
     let contacts = c.args.contacts.now in
     let bodies = c.args.bodies.now in
-    let items = c.deref-place-items.result.now in
+    let items = c.as_slice-simulated.result.now in
+    let labels = c.labels-labels.result.now in
     let k = c.loop-place.place-index in
     let rows : List Row = map (row_at s touches contacts) (take k items) in
     let all : rows ≡ active_rows s bodies touches contacts =
-    all_made s bodies touches contacts items k rows c.loop-place-test.false
-    (c.deref-place-items.ensures.value ∙ c.in_ok-active.ensures.value) refl in
+    all_made s bodies touches contacts items k rows c.loop-place-test.false (c.as_slice-simulated.ensures.value ∙ c.requires.active) refl in
     c.loop-place.invariant
-    ∙ ap (λ (rs : List Row). map (full_part c.labels-labels.result.now bodies rs) (active_labels c.labels-labels.result.now bodies)) all
-    ∙ ap (λ ns. islands ns bodies (active_rows s bodies touches contacts)) c.labels-labels.ensures.value
+    ∙ ap (λ (rs : List Row). map (full_part labels bodies rs) (active_labels labels bodies)) all
+    ∙ labels_islands s bodies touches c.requires.bodies c.requires.settled labels items (c.as_slice-simulated.ensures.value ∙ c.requires.active)
+    (c.labels-labels.ensures.value ∙ c.in_ok-groups.ensures.value) (active_rows s bodies touches contacts)
 
 pub returns-clause-fit : goal.returns-clause-fit
 returns-clause-fit c =
@@ -163,8 +180,14 @@ returns-clause-fit c =
     let touches = c.args.touches.now in
     let contacts = c.args.contacts.now in
     let bodies = c.args.bodies.now in
-    let active = subst (λ (ns : List ℕ). All (IsActiveRow ns bodies) (active_rows s bodies touches contacts))
-    (sym c.requires.groups) (rows_are_active s touches bodies contacts c.requires.bodies c.requires.touches) in
-    subst (All (IsIslandOf s)) (sym (returns-clause-value c))
-    (islands_fit c.args.groups.now bodies (active_rows s bodies touches contacts) s active
-    (rows_fit s bodies touches contacts c.requires.bodies c.requires.touches))
+    let labels = c.labels-labels.result.now in
+    let items = c.as_slice-simulated.result.now in
+    let labelled_by = c.labels-labels.ensures.value ∙ c.in_ok-groups.ensures.value in
+    let rows = active_rows s bodies touches contacts in
+    let active = labels_rows s bodies touches c.requires.bodies c.requires.settled labels items (c.as_slice-simulated.ensures.value ∙ c.requires.active) labelled_by
+    contacts c.requires.touches in
+    subst (All (IsIslandOf s))
+    (sym
+    (returns-clause-value c
+    ∙ sym (labels_islands s bodies touches c.requires.bodies c.requires.settled labels items (c.as_slice-simulated.ensures.value ∙ c.requires.active) labelled_by rows)))
+    (islands_fit labels bodies rows s active (rows_fit s bodies touches contacts c.requires.bodies c.requires.touches))

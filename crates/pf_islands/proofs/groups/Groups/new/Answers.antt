@@ -1,6 +1,7 @@
 use Rattle.std.proofs.Common.{◌∙◌, length, ap, sym, subst}
 use Rattle.std.proofs.lemmas.List.FromFn.{length-range_with_len}
 use Rattle.pf_islands.specs.Forest.{IsDownward, IsForest}
+use Rattle.pf_islands.specs.Settled.{touches_at}
 use Rattle.pf_islands.proofs.Starting.{found_are_groups, names_found, singles_downward, singles_forest}
 use Rattle.pf_islands.proofs.groups.Groups.new.Goals as goal
 
@@ -19,13 +20,13 @@ link_all-requires-clause-single c =
 pub invariant_of-result : goal.invariant_of-result
 invariant_of-result c =
     let count = c.in_ok-labels.labels.ok.0 ∙ ap length c.in_ok-labels.ensures.value ∙ length-range_with_len 0 _ ∙ c.len-len.ensures in
-    found_are_groups c.args.scene.now c.args.touches.now _ c.in_ok-marks.marks.items
+    found_are_groups c.args.scene.now (touches_at c.args.touches.now c.args.places.now) _ c.in_ok-marks.marks.items
     (c.in_ok-marks.ensures.value ∙ c.len-len.ensures)
-    (names_found c.args.scene.now c.args.touches.now _ c.link_all.new.parents c.deref_mut-2.result.now c.flatten.new.parents _ _
+    (names_found c.args.scene.now (touches_at c.args.touches.now c.args.places.now) _ c.link_all.new.parents c.deref_mut-2.result.now c.flatten.new.parents _ _
     count (c.link_all.auto.parents ∙ c.deref_mut.ensures.len) c.deref_mut-2.ensures.value c.link_all.ensures.roots c.flatten.ensures)
 
 pub returns-clause-value : goal.returns-clause-value
 returns-clause-value c =
     let count = c.in_ok-labels.labels.ok.0 ∙ ap length c.in_ok-labels.ensures.value ∙ length-range_with_len 0 _ ∙ c.len-len.ensures in
-    names_found c.args.scene.now c.args.touches.now _ c.link_all.new.parents c.deref_mut-2.result.now c.flatten.new.parents _ _
+    names_found c.args.scene.now (touches_at c.args.touches.now c.args.places.now) _ c.link_all.new.parents c.deref_mut-2.result.now c.flatten.new.parents _ _
     count (c.link_all.auto.parents ∙ c.deref_mut.ensures.len) c.deref_mut-2.ensures.value c.link_all.ensures.roots c.flatten.ensures

@@ -3,7 +3,7 @@ use Rattle.std.specs.Prelude.{drop}
 use Rattle.pf_manifold.specs.Touches.{Touch}
 use Rattle.pf_islands.specs.Rows.{active_points}
 use Rattle.pf_islands.proofs.ActiveRows.{points_from}
-use Rattle.pf_islands.proofs.rows.active_places.Given as goal
+use Rattle.pf_islands.proofs.rows.active_of.Given as goal
 
 abbrev pub invariant-loop-place : goal.invariant-loop-place
 invariant-loop-place l = record {

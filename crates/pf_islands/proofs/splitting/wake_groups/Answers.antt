@@ -1,0 +1,28 @@
+use Rattle.std.proofs.Common.{◌≡◌, ◌∙◌, ◌<◌, ap, arith, length, subst, sym}
+use Rattle.std.specs.Prelude.{All}
+use Rattle.pf_islands.specs.Group.{groups}
+use Rattle.pf_islands.specs.Settled.{touches_at}
+use Rattle.pf_islands.specs.Sleep.{woken_bodies}
+use Rattle.pf_islands.proofs.Members.{range_within}
+use Rattle.pf_islands.proofs.SettledGroups.{touches_at_all}
+use Rattle.pf_islands.proofs.Starting.{groups_long}
+use Rattle.pf_islands.proofs.splitting.wake_groups.Goals as goal
+
+pub new-requires-clause-places : goal.new-requires-clause-places
+new-requires-clause-places c =
+    let n = length c.args.touches.now in
+    subst (All (λ place. place < n)) (sym (c.deref.ensures.value ∙ c.in_ok-all.ensures.value)) (range_within 0 n n (omega arith))
+
+pub wake-requires : goal.wake-requires
+wake-requires c =
+    c.requires.bodies
+    ∙ sym (ap length c.in_ok-groups.ensures.value ∙ groups_long c.args.scene.now _)
+
+pub returns-clause-bodies : goal.returns-clause-bodies
+returns-clause-bodies c =
+    let s = c.args.scene.now in
+    let touches = c.args.touches.now in
+    let all : c.in_ok-groups.groups ≡ groups s touches =
+    c.in_ok-groups.ensures.value
+    ∙ ap (groups s) (ap (touches_at touches) (c.deref.ensures.value ∙ c.in_ok-all.ensures.value) ∙ touches_at_all touches) in
+    c.wake.ensures.bodies ∙ ap (λ ns. woken_bodies ns c.args.bodies.now) all
