@@ -2,6 +2,7 @@
 pub mod RankedLists
 pub mod Places
 pub mod Walk
+pub mod Runs
 pub mod Kept
 pub mod FoundRows
 pub mod Stored

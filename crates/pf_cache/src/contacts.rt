@@ -1,7 +1,7 @@
 //! The contacts of a world, in the order of their keys.
 
-ghost use Rattle.std.specs.Prelude.{◌≡◌, ◌≤◌, ◌<◌, ℕ, All, drop, length};
-ghost use Rattle.pf_manifold.specs.Key.{IsKey, rank};
+ghost use Rattle.std.specs.Prelude.{◌≡◌, ◌↔◌, ◌≤◌, ◌<◌, ℕ, IsTrue, drop, length, map, take};
+ghost use Rattle.pf_manifold.specs.Key.{IsKey, key_of, rank};
 ghost use Rattle.pf_cache.specs.Contact.{AreContacts, impulses_at};
 ghost use Rattle.pf_cache.specs.ContactRows.{AreRowsAt, with_rows};
 
@@ -31,7 +31,7 @@ impl Model for Contacts {
 }
 
 impl Ranked for Contact {
-    ghost use Rattle.pf_manifold.specs.Key.{IsKey, rank};
+    ghost use Rattle.pf_manifold.specs.Key.{IsKey, key_of, rank};
 
     ghost is_in_range = { λ c. IsKey c.key };
 
@@ -44,10 +44,7 @@ impl Ranked for Contact {
 }
 
 /// The accumulated impulses of the contact of this key from `start` on, or none; and a place from
-/// which look-ups of higher ranks find what they find from `start`. In most ticks the contact
-/// stands at `start`.
-#[inline]
-#[tactic(auto, using(crate::proofs::Places::found_here, crate::proofs::Places::passed))]
+/// which look-ups of higher ranks find what they find from `start`.
 fn impulses_of(contacts: &[Contact], start: usize, key: &Key) -> (Impulses, usize)
     requires start { start ≤ length contacts.now }
     requires contacts { AreContacts contacts.now }
@@ -57,17 +54,39 @@ fn impulses_of(contacts: &[Contact], start: usize, key: &Key) -> (Impulses, usiz
     ensures later { (n : ℕ) → rank key.now < n
         → impulses_at n (drop result.1 contacts.now) ≡ impulses_at n (drop start contacts.now) }
 {
-    if start < contacts.len() {
-        let contact = &contacts[start];
-        if contact.key == *key {
-            return (contact.impulses, start + 1);
-        }
-    }
     let (found, behind) = find_from(contacts, start, key.rank());
     match found {
         Some(contact) => (contact.impulses, behind),
         None => (Impulses::NONE, behind),
     }
+}
+
+/// Whether a contact has the key of a point.
+#[inline]
+fn has_key_of(contact: &Contact, touch: &Touch) -> bool
+    ensures { IsTrue result ↔ (contact.now.key ≡ key_of touch.now) }
+{
+    let key = &contact.key;
+    key.a == touch.a && key.b == touch.b && key.feature == touch.point.feature
+}
+
+/// How many of the first contacts have the keys of the first points, one after the other. No clause
+/// says that it does not stop earlier.
+#[inline]
+fn same_keys(contacts: &[Contact], touches: &[Touch]) -> usize
+    ensures contacts { result ≤ length contacts.now }
+    ensures touches { result ≤ length touches.now }
+    ensures same { map (λ c. c.key) (take result contacts.now)
+        ≡ map key_of (take result touches.now) }
+{
+    let mut count = 0;
+    while count < contacts.len() && count < touches.len() {
+        if !has_key_of(&contacts[count], &touches[count]) {
+            break;
+        }
+        count += 1;
+    }
+    count
 }
 
 /// Gives the contact at the place of each row the accumulated impulses of the row.
@@ -111,23 +130,33 @@ impl Contacts {
 
     /// The contacts of these points, as Box2D-Lite's `Arbiter::Update`: a key of the old contacts
     /// keeps its impulses, a new key has none, and a contact without a point is gone. The
-    /// points are in the order of their keys. The list is made in the memory of `spare`, whose
-    /// contacts are gone, and takes more only where that is too little.
+    /// points are in the order of their keys. Contacts that follow each other as their points do
+    /// are copied together. The list is made in the memory of `spare`, whose contacts are gone, and
+    /// takes more only where that is too little.
     #[inline(never)]
     pub fn update(&self, spare: Contacts, touches: &[Touch]) -> Result<Contacts, AllocError>
         requires { AreTouches touches.now }
         ensures value { IfOk result (λ contacts. contacts ≡ next_contacts self.now touches.now) }
         ensures no_memory { touches.now ≡ [] → IsOk result }
     {
+        let old = self.list.as_slice();
         let mut list = spare.list;
         list.clear();
         list.reserve(touches.len())?;
         let mut place = 0;
-        for touch in touches {
-            let key = Key::of(touch);
-            let (impulses, behind) = impulses_of(&self.list, place, &key);
-            place = behind;
-            list.push_reserved(Contact { key, impulses });
+        let mut done = 0;
+        while done < touches.len() {
+            let run = same_keys(&old[place..], &touches[done..]);
+            list.extend_from_slice(&old[place..place + run])?;
+            place += run;
+            done += run;
+            if done < touches.len() {
+                let key = Key::of(&touches[done]);
+                let (impulses, behind) = impulses_of(old, place, &key);
+                place = behind;
+                list.push(Contact { key, impulses })?;
+                done += 1;
+            }
         }
         Ok(Contacts { list })
     }

@@ -13,7 +13,7 @@ returns-in-Some-clause-impulses c =
     let element : Some c.in-Some.contact.now ≡ element_at (λ (x : Contact). rank x.key) (rank c.args.key.now) left =
     ap option_copied (sym c.in-Some.is) ∙ c.find_from-behind.ensures.element
     ∙ ap (λ n. element_at (λ (x : Contact). rank x.key) n left) c.rank.ensures in
-    ap (λ (x : Contact). x.impulses) c.contact-in-Some.view_is ∙ sym (impulses_found _ left _ element)
+    ap (λ (x : Contact). x.impulses) c.contact.view_is ∙ sym (impulses_found _ left _ element)
 
 pub returns-in-Some-clause-later : goal.returns-in-Some-clause-later
 returns-in-Some-clause-later c = λ n high.
