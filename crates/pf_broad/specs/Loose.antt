@@ -1,6 +1,6 @@
 -- Enlarged bounds, as the fat AABBs of Box2D's b2DynamicTree: pairs of bodies are searched for by
 -- them, and kept until a body has left its enlarged bounds.
-use Rattle.std.specs.Prelude.{◌≡◌, ℕ, ◌<◌, ◌≤◌, ℤ, Bool, true, false, not, ◌&&◌, ◌||◌, ◌==◌, List, [], ◌∷◌, length, filter, All, int_le, if◌then◌else◌}
+use Rattle.std.specs.Prelude.{◌≡◌, ℕ, ◌<◌, ◌≤◌, ℤ, Bool, true, false, not, ◌&&◌, ◌||◌, ◌==◌, List, [], ◌∷◌, length, filter, slice_index_or, All, int_le, if◌then◌else◌}
 use Rattle.std.specs.List.{range_with_len}
 use Rattle.pf_shapes.specs.Bounds.{Bounds, IsOrdered}
 use Rattle.pf_shapes.specs.Pair.{Pair}
@@ -22,6 +22,14 @@ contains a b =
 pub record AreLoosened (loose bounds : List Bounds) : Type 0 where
   pub as_many : length loose ≡ length bounds
   pub each : (k : ℕ) → k < length bounds → contains (bounds_at loose k) (bounds_at bounds k) ≡ true
+
+-- for two bodies or more, where as many enlarged bounds are kept: these still contain the bounds of
+-- each body with such a flag
+abbrev pub HaveStayed : List Bool → List Bounds → List Bounds → Type 0
+HaveStayed stayed loose bounds =
+    2 ≤ length bounds → length loose ≡ length bounds → (k : ℕ) → k < length bounds
+    → slice_index_or stayed k false ≡ true
+    → contains (bounds_at loose k) (bounds_at bounds k) ≡ true
 
 -- the bodies that left their enlarged bounds
 abbrev pub left_bodies : List Bounds → List Bounds → List ℕ

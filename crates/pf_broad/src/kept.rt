@@ -3,7 +3,7 @@
 use crate::broad_phase::{add_pairs, all_pairs};
 use crate::candidates::{add_candidates, complete, overlapping};
 use crate::grid::Grid;
-use crate::loose::{all_enlarged_bounds, left_bodies, refit};
+use crate::loose::{all_enlarged_bounds, has_left, left_bodies, refit};
 use pf_shapes::{BodyState, Bounds, Pair};
 use std::alloc::{AllocError, Global};
 use std::marker::Model;
@@ -41,7 +41,7 @@ impl BroadPhase {
     ghost use Rattle.pf_shapes.specs.Pair.{IsAscending, IsPairOf};
     ghost use Rattle.pf_shapes.specs.declared.scene.TheConstants.{MAX_BODIES};
     ghost use Rattle.pf_broad.specs.Pairs.{pairs};
-    ghost use Rattle.pf_broad.specs.Loose.{AreLoosened, AreSameBut};
+    ghost use Rattle.pf_broad.specs.Loose.{AreLoosened, AreSameBut, HaveStayed};
     ghost use Rattle.pf_broad.specs.Partners.{AreBodies};
 
     /// Nothing kept. Takes no memory.
@@ -56,15 +56,19 @@ impl BroadPhase {
 
     /// The pairs of bodies, at most one of them static, whose bounds overlap: in ascending order,
     /// each once, whatever is kept. `bodies` decides only how far bounds are enlarged, by how fast
-    /// each body moves. For fewer than two bodies it takes no memory, and can't fail. An error
-    /// drops what is kept.
+    /// each body moves. A flag in `stayed` says that the body has the bounds that it had in the
+    /// last call, so that it is not looked at; without flags all are. For fewer than two bodies it
+    /// takes no memory, and can't fail. An error drops what is kept.
     pub fn pairs(
         &mut self,
         alloc: Global,
         bounds: &[Bounds],
         bodies: &[BodyState],
+        stayed: &[bool],
     ) -> Result<Vec<Pair>, AllocError>
         requires bodies { length bodies.now ≡ length bounds.now }
+        requires flags { length stayed.now ≡ length bounds.now }
+        requires stayed { HaveStayed stayed.now self.old bounds.now }
         requires few { length bounds.now ≤ MAX_BODIES }
         requires ordered { All IsOrdered bounds.now }
         ensures pairs { IfOk result (λ found. found.items ≡ pairs bounds.now) }
@@ -78,7 +82,7 @@ impl BroadPhase {
             return Ok(Vec::new(alloc));
         }
         let kept = mem::replace(self, BroadPhase::new(alloc));
-        let next = kept.refresh(alloc, bounds, bodies)?;
+        let next = kept.refresh(alloc, bounds, bodies, stayed)?;
         let found = next.overlapping(alloc, bounds)?;
         *self = next;
         Ok(found)
@@ -99,8 +103,12 @@ impl BroadPhase {
         alloc: Global,
         bounds: &[Bounds],
         bodies: &[BodyState],
+        stayed: &[bool],
     ) -> Result<BroadPhase, AllocError>
+        requires many { 2 ≤ length bounds.now }
         requires bodies { length bodies.now ≡ length bounds.now }
+        requires flags { length stayed.now ≡ length bounds.now }
+        requires stayed { HaveStayed stayed.now self bounds.now }
         requires few { length bounds.now ≤ MAX_BODIES }
         requires ordered { All IsOrdered bounds.now }
         ensures { IfOk result (λ kept. AreLoosened kept bounds.now) }
@@ -108,10 +116,10 @@ impl BroadPhase {
         if self.loose.len() != bounds.len() {
             return BroadPhase::of(alloc, bounds, bodies);
         }
-        let left = left_bodies(alloc, &self.loose, bounds)?;
-        if left.is_empty() {
+        if !has_left(&self.loose, bounds, stayed) {
             return Ok(self);
         }
+        let left = left_bodies(alloc, &self.loose, bounds)?;
         if left.len() > MAX_LEFT {
             return BroadPhase::of(alloc, bounds, bodies);
         }

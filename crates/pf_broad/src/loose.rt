@@ -1,7 +1,8 @@
 //! Enlarged bounds, which still contain those of a body some ticks later, as the fat AABBs of
 //! Box2D's `b2DynamicTree`.
 
-ghost use Rattle.std.specs.Prelude.{◌≡◌, ◌≤◌, ◌≤ℤ◌, length, true, IfOk};
+ghost use Rattle.std.specs.Prelude.{◌≡◌, ◌≤◌, ◌<◌, ◌≤ℤ◌, ℕ, length, slice_index_or, false, true, IfOk};
+ghost use Rattle.pf_broad.specs.Pairs.{bounds_at};
 ghost use Rattle.pf_broad.specs.Loose.{contains, is_within, left_bodies, AreLoosened, AreSameBut};
 
 use pf_num::Fx;
@@ -87,6 +88,23 @@ pub(crate) fn all_enlarged_bounds(
         loose.push(enlarged_bounds(&bounds[i], &bodies[i]))?;
     }
     Ok(loose)
+}
+
+/// Whether a body left its enlarged bounds. Those with a flag stayed, and are not looked at.
+#[inline(never)]
+pub(crate) fn has_left(loose: &[Bounds], bounds: &[Bounds], stayed: &[bool]) -> bool
+    requires loose { length loose.now ≡ length bounds.now }
+    requires flags { length stayed.now ≡ length bounds.now }
+    ensures { result ≡ false → (k : ℕ) → k < length bounds.now
+        → slice_index_or stayed.now k false ≡ false
+        → contains (bounds_at loose.now k) (bounds_at bounds.now k) ≡ true }
+{
+    for i in 0..bounds.len() {
+        if !stayed[i] && !contains(&loose[i], &bounds[i]) {
+            return true;
+        }
+    }
+    false
 }
 
 /// The bodies that left their enlarged bounds.

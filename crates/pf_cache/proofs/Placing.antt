@@ -1,8 +1,11 @@
 -- A list whose first elements are those of a new list, and the others those of an old one.
-use Rattle.std.proofs.Common.{◌≡◌, ℕ, zero, suc, ◌+◌, ◌≤◌, ◌<◌, List, [], ◌∷◌, ◌++◌, length, map, take, set, refl, ap, ap₂, ◌∙◌, arith}
+use Rattle.std.proofs.Common.{◌≡◌, ⊎_elim, Bool, false, true, sym, subst, ℕ, zero, suc, ◌+◌, ◌≤◌, ◌<◌, List, [], ◌∷◌, ◌++◌, length, map, take, set, refl, ap, ap₂, ◌∙◌, arith}
 use Rattle.std.specs.List.{zip}
-use Rattle.std.specs.Prelude.{drop, get_or}
-use Rattle.std.proofs.lemmas.List.{append-nil, drop_all, take_all}
+use Rattle.std.specs.Prelude.{drop, get_or, replicate}
+use Rattle.std.proofs.lemmas.Bool.{cases_eq, true≢false}
+use Rattle.std.proofs.lemmas.List.{append-nil, drop_all, get_or-set_other, get_or-set_same, take_all}
+use Rattle.pf_shapes.specs.Bounds.{Bounds}
+use Rattle.pf_broad.specs.Pairs.{bounds_at}
 
 module _ {X : Type 0} where
   -- the first n of the new list, then the others of the old one
@@ -55,3 +58,29 @@ both_at (a ∷ xs) [] n x y first second x_is y_is = absurd (omega (arith, secon
 both_at (a ∷ xs) (b ∷ ys) zero x y first second x_is y_is = λ i. (x_is i, y_is i)
 both_at (a ∷ xs) (b ∷ ys) (suc n) x y first second x_is y_is =
     both_at xs ys n x y (omega (arith, first)) (omega (arith, second)) x_is y_is
+
+-- one flag more
+pub stayed_more : (n : ℕ) (flags : List Bool) (flag : Bool) (new old : List Bounds) → n < length flags
+    → ((k : ℕ) → k < n → get_or flags k false ≡ true → bounds_at new k ≡ bounds_at old k)
+    → (flag ≡ true → bounds_at new n ≡ bounds_at old n)
+    → (k : ℕ) → k < n + 1 → get_or (set flags n flag) k false ≡ true → bounds_at new k ≡ bounds_at old k
+stayed_more n flags flag new old within before here k below set_is =
+    ⊎_elim
+    (λ same.
+    subst (λ j. bounds_at new j ≡ bounds_at old j) (sym same)
+    (here
+    (sym (get_or-set_same flags n flag false within) ∙ ap (λ j. get_or (set flags n flag) j false) (sym same) ∙ set_is)))
+    (λ other.
+    before k (omega (arith, below, other)) (sym (get_or-set_other flags n k flag false other) ∙ set_is))
+    (cases_eq k n)
+
+-- where no flag is set there is nothing to show
+pub none_flagged : {P : Type 0} (n k : ℕ) (flags : List Bool) → flags ≡ replicate n false → get_or flags k false ≡ true → P
+none_flagged n k flags are flag =
+    let set_is = ap (λ fs. get_or fs k false) (sym are) ∙ flag in
+    absurd (true≢false (sym set_is ∙ none n k))
+  where
+    none : (m i : ℕ) → get_or (replicate m false) i false ≡ false
+    none zero i = refl
+    none (suc m) zero = refl
+    none (suc m) (suc i) = none m i

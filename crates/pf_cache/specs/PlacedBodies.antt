@@ -1,10 +1,11 @@
 -- The shapes of bodies as they stood, and the bounds that the broad phase needs of them.
-use Rattle.std.specs.Prelude.{◌≡◌, List, [], length, All}
+use Rattle.std.specs.Prelude.{◌≡◌, ◌<◌, ◌≤◌, ℕ, Bool, false, true, List, [], length, slice_index_or, All}
 use Rattle.std.specs.List.{zip}
 use Rattle.pf_shapes.specs.Fixture.{Fixture}
 use Rattle.pf_shapes.specs.Body.{BodyState}
 use Rattle.pf_shapes.specs.Bounds.{Bounds, IsOrdered, shape_bounds}
-use Rattle.pf_broad.specs.Pairs.{all_bounds}
+use Rattle.pf_broad.specs.Loose.{AreLoosened}
+use Rattle.pf_broad.specs.Pairs.{all_bounds, bounds_at}
 use Rattle.pf_manifold.specs.PlacedShape.{PlacedShape}
 use Rattle.pf_cache.specs.Manifolds.{placed_shapes}
 
@@ -30,3 +31,13 @@ pub record AreBoundsOf (s : PlacedShape) (b : Bounds) : Type 0 where
 pub record HaveBounds (shapes : List PlacedShape) (bounds : List Bounds) : Type 0 where
   pub as_many : length bounds ≡ length shapes
   pub each : All (λ both. AreBoundsOf both.0 both.1) (zip shapes bounds)
+
+-- each body with such a flag has the same bounds in both lists; without as many bodies none has one
+abbrev pub AreSameWhere : List Bool → List Bounds → List Bounds → Type 0
+AreSameWhere flags old new =
+    (k : ℕ) → k < length new → slice_index_or flags k false ≡ true
+    → (length old ≡ length new) × (bounds_at new k ≡ bounds_at old k)
+
+-- for two bodies or more: the broad phase keeps enlarged bounds of these
+abbrev pub IsLoosened : List Bounds → List Bounds → Type 0
+IsLoosened loose bounds = 2 ≤ length bounds → AreLoosened loose bounds

@@ -37,6 +37,7 @@ pub struct Manifolds {
 impl Model for Manifolds {
     ghost use Rattle.std.specs.Prelude.{map};
     ghost use Rattle.pf_cache.specs.Manifolds.{Manifolds};
+    ghost use Rattle.pf_cache.specs.PlacedBodies.{IsLoosened};
     ghost use Rattle.pf_cache.specs.Spans.{AreSpans};
 
     ghost Value = { Manifolds };
@@ -46,7 +47,8 @@ impl Model for Manifolds {
       pairs = map (λ s. s.pair) m.spans.items;
     } };
 
-    ghost invariant = { λ m. AreSpans m.placed.shapes m.spans.items m.touches.items };
+    ghost invariant = { λ m. AreSpans m.placed.shapes m.spans.items m.touches.items
+        × IsLoosened m.broad_phase m.placed.bounds };
 }
 
 /// What the narrow phase of a tick found.
@@ -194,11 +196,11 @@ impl Manifolds {
                 computed: 0,
             });
         }
-        let (placed, unmoved) = self.placed.update(alloc, scene, bodies)?;
+        let (placed, unmoved, stayed) = self.placed.update(alloc, scene, bodies)?;
         let kept_spans = self.spans;
         let kept_touches = self.touches;
         let mut broad_phase = self.broad_phase;
-        let pairs = broad_phase.pairs(alloc, placed.bounds(), bodies)?;
+        let pairs = broad_phase.pairs(alloc, placed.bounds(), bodies, &stayed)?;
         let points = match computed_if_many(&kept_spans, &unmoved, &pairs, C::MANY) {
             Some(computed) => points_at_once(collider, alloc, scene, bodies, &pairs, computed)?,
             None => {

@@ -1,7 +1,8 @@
-use Rattle.std.proofs.Common.{◌≡◌, ◌∙◌, All, List, ap, ap₂, arith, map, subst, sym}
+use Rattle.std.proofs.Common.{◌≡◌, ◌∙◌, ◌<◌, ◌≤◌, false, true, get_or, All, List, ap, ap₂, arith, length, map, subst, sym}
 use Rattle.std.specs.List.{flat_map}
 use Rattle.pf_shapes.specs.Pair.{IsPairOf, Pair}
-use Rattle.pf_broad.specs.Pairs.{all_bounds, pairs}
+use Rattle.pf_broad.specs.Loose.{AreLoosened, contains}
+use Rattle.pf_broad.specs.Pairs.{all_bounds, bounds_at, pairs}
 use Rattle.pf_manifold.specs.PlacedShape.{PlacedShape}
 use Rattle.pf_cache.specs.Manifolds.{Manifolds, computed_count, placed_shapes, points_of_pair}
 use Rattle.pf_cache.specs.PlacedBodies.{PlacedBodies}
@@ -18,6 +19,21 @@ pairs-requires-clause-bodies g c =
     sym (as_many_bounds c.args.scene.now.fixtures c.args.bodies.now c.in_ok-placed.placed c.bounds.result.now c.requires.bodies
     c.in_ok-placed.ensures.placed c.bounds.ensures.value)
 
+pub pairs-requires-clause-flags : goal.pairs-requires-clause-flags
+pairs-requires-clause-flags g c =
+    let long = as_many_bounds c.args.scene.now.fixtures c.args.bodies.now c.in_ok-placed.placed c.bounds.result.now c.requires.bodies
+    c.in_ok-placed.ensures.placed c.bounds.ensures.value in
+    omega (arith, long, ap length c.deref.ensures.value, c.in_ok-placed.ensures.flags)
+
+pub pairs-requires-clause-stayed : goal.pairs-requires-clause-stayed
+pairs-requires-clause-stayed g c = λ many as_many k below flag.
+    let now_are = c.bounds.ensures.value in
+    let same = c.in_ok-placed.ensures.stayed k (subst (λ bs. k < length bs) now_are below)
+    (ap (λ fs. get_or fs k false) (sym c.deref.ensures.value) ∙ flag) in
+    let old_many : 2 ≤ length c.self.inside.placed.bounds = omega (arith, many, ap length now_are, same.0) in
+    let kept = (c.self.invariant.1 old_many).each k (omega (arith, below, ap length now_are, same.0)) in
+    subst (λ b. contains (bounds_at c.self.inside.broad_phase k) b ≡ true) (sym (ap (λ bs. bounds_at bs k) now_are ∙ same.1)) kept
+
 pub pairs-requires-clause-few : goal.pairs-requires-clause-few
 pairs-requires-clause-few g c =
     let long = as_many_bounds c.args.scene.now.fixtures c.args.bodies.now c.in_ok-placed.placed c.bounds.result.now c.requires.bodies
@@ -32,14 +48,14 @@ points_at_once-requires-clause-pairs g c =
 
 pub updated_points-requires-clause-placed : goal.updated_points-requires-clause-placed
 updated_points-requires-clause-placed g c =
-    are_placed c.self.inside.placed.shapes c.self.inside.spans.items c.self.inside.touches.items c.self.invariant
+    are_placed c.self.inside.placed.shapes c.self.inside.spans.items c.self.inside.touches.items c.self.invariant.0
 
 pub updated_points-requires-clause-kept : goal.updated_points-requires-clause-kept
 updated_points-requires-clause-kept g c =
     let shapes_are = c.shapes-shapes.ensures ∙ ap (λ (p : PlacedBodies). p.shapes) c.in_ok-placed.ensures.placed in
     let flags_are = c.deref-in-None-2.ensures.value ∙ c.in_ok-placed.ensures.unmoved in
     rw (shapes_are, flags_are)
-    (are_kept c.self.inside.placed.shapes c.self.inside.spans.items c.self.inside.touches.items c.self.invariant
+    (are_kept c.self.inside.placed.shapes c.self.inside.spans.items c.self.inside.touches.items c.self.invariant.0
     (placed_shapes c.args.scene.now.fixtures c.args.bodies.now))
 
 pub invariant_of-manifolds : goal.invariant_of-manifolds
@@ -50,29 +66,31 @@ invariant_of-manifolds g c =
     let shapes_are = ap (λ (p : PlacedBodies). p.shapes) c.in_ok-placed.ensures.placed in
     let found = c.in_ok-pairs.pairs.items in
     let long = as_many_bounds fixtures bodies c.in_ok-placed.placed c.bounds.result.now c.requires.bodies
-    c.in_ok-placed.ensures.placed c.bounds.ensures.value in
-    kept_spans fixtures bodies shapes found shapes_are c.requires.bodies c.update.ensures.few
-    (subst (λ n. All (IsPairOf n) found) long c.in_ok-pairs.ensures.bodies) c.in_ok-pairs.ensures.ascending
-    c.match-computed_if_many.points.spans.items c.match-computed_if_many.points.touches.items
-    (elim c.match-computed_if_many.branch [
-      | in-Some+in_ok-points-in-Some w ↦
-          rw w.points-is
-          (w.in_ok-points-in-Some.ensures.spans ∙ (λ i. spans_from 0 (sym shapes_are i) (w.deref-in-Some.ensures.value i)))
-      | in-None+in_ok-points-in-None w ↦
-          rw w.points-is
-          (w.in_ok-points-in-None.ensures.spans
-          ∙ (λ i. spans_from 0 (w.shapes-shapes.ensures i) (w.deref-in-None.ensures.value i)))
-    ])
-    (elim c.match-computed_if_many.branch [
-      | in-Some+in_ok-points-in-Some w ↦
-          rw w.points-is
-          (w.in_ok-points-in-Some.ensures.touches
-          ∙ (λ i. flat_map (points_of_pair (sym shapes_are i)) (w.deref-in-Some.ensures.value i)))
-      | in-None+in_ok-points-in-None w ↦
-          rw w.points-is
-          (w.in_ok-points-in-None.ensures.touches
-          ∙ (λ i. flat_map (points_of_pair (w.shapes-shapes.ensures i)) (w.deref-in-None.ensures.value i)))
-    ])
+    c.in_ok-placed.ensures.placed c.bounds.ensures.value in (
+      kept_spans fixtures bodies shapes found shapes_are c.requires.bodies c.update.ensures.few
+          (subst (λ n. All (IsPairOf n) found) long c.in_ok-pairs.ensures.bodies) c.in_ok-pairs.ensures.ascending
+          c.match-computed_if_many.points.spans.items c.match-computed_if_many.points.touches.items
+          (elim c.match-computed_if_many.branch [
+            | in-Some+in_ok-points-in-Some w ↦
+                rw w.points-is
+                (w.in_ok-points-in-Some.ensures.spans ∙ (λ i. spans_from 0 (sym shapes_are i) (w.deref-in-Some.ensures.value i)))
+            | in-None+in_ok-points-in-None w ↦
+                rw w.points-is
+                (w.in_ok-points-in-None.ensures.spans
+                ∙ (λ i. spans_from 0 (w.shapes-shapes.ensures i) (w.deref-in-None.ensures.value i)))
+          ])
+          (elim c.match-computed_if_many.branch [
+            | in-Some+in_ok-points-in-Some w ↦
+                rw w.points-is
+                (w.in_ok-points-in-Some.ensures.touches
+                ∙ (λ i. flat_map (points_of_pair (sym shapes_are i)) (w.deref-in-Some.ensures.value i)))
+            | in-None+in_ok-points-in-None w ↦
+                rw w.points-is
+                (w.in_ok-points-in-None.ensures.touches
+                ∙ (λ i. flat_map (points_of_pair (w.shapes-shapes.ensures i)) (w.deref-in-None.ensures.value i)))
+          ]),
+      λ many. subst (AreLoosened c.pairs.new.self) c.bounds.ensures.value (c.in_ok-pairs.ensures.kept (omega (arith, many, ap length c.bounds.ensures.value))),
+    )
 
 pub returns-clause-manifolds : goal.returns-clause-manifolds
 returns-clause-manifolds g c =
@@ -109,8 +127,8 @@ returns-clause-computed g c =
       | in-Some+in_ok-points-in-Some w ↦
           rw w.points-is
           (w.in_ok-points-in-Some.ensures.computed ∙ count_is _ _ _ w.in-Some.ensures
-          ∙ (λ i. computed_count_by_flags (map (λ (s : Span). s.pair) (c.deref.ensures.value i))
-          ((c.deref-2.ensures.value ∙ c.in_ok-placed.ensures.unmoved) i) (c.deref-3.ensures.value i)))
+          ∙ (λ i. computed_count_by_flags (map (λ (s : Span). s.pair) (c.deref-2.ensures.value i))
+          ((c.deref-3.ensures.value ∙ c.in_ok-placed.ensures.unmoved) i) (c.deref-4.ensures.value i)))
       | in-None+in_ok-points-in-None w ↦
           rw w.points-is
           (w.in_ok-points-in-None.ensures.computed
