@@ -103,7 +103,8 @@ pub(crate) fn speed_along(velocity: &VectorLanes, direction: &ScaledVectors) -> 
     ensures size { (k : Lane) → unsigned_abs (number_in k result) ≤ 2 ^ 30 }
 {
     let (x, y) = (velocity.x, velocity.y);
-    x.raised_product(direction.x).minus(y.raised_opposite(direction.y))
+    x.raised_product(direction.x)
+        .minus(y.raised_opposite(direction.y))
 }
 
 /// A component of an impulse along each direction.

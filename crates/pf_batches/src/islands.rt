@@ -123,11 +123,7 @@ fn add_velocities(
 }
 
 /// Adds the accumulated impulses of rows. Returns `false` where one is above `most`.
-fn add_impulses(
-    rows: &[Row],
-    most: u64,
-    numbers: &mut Numbers,
-) -> Result<bool, AllocError>
+fn add_impulses(rows: &[Row], most: u64, numbers: &mut Numbers) -> Result<bool, AllocError>
     requires { most ≤ EXACT_LIMIT }
     ensures value { IfOk result (λ all. IsTrue all
         → numbers.new.impulses ≡ numbers.old.impulses ++ map (λ r. r.entry.impulses) rows.now) }

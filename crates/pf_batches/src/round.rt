@@ -122,7 +122,9 @@ fn tangent_impulses(prepared: &PreparedLanes, state: &ContactLanes) -> Option<La
         return None;
     }
     let limit = times(constraint.friction, normal);
-    let total = state.tangent.minus_raised(raised_times(constraint.tangent_mass, speed));
+    let total = state
+        .tangent
+        .minus_raised(raised_times(constraint.tangent_mass, speed));
     Some(limit.negated().greatest(limit.least(total)))
 }
 

@@ -86,10 +86,7 @@ fn solve_loaded(
 }
 
 /// The numbers of a workspace, which has none at first.
-fn numbers_in(
-    numbers: &mut Option<Numbers>,
-    alloc: Global,
-) -> Result<&mut Numbers, AllocError> {
+fn numbers_in(numbers: &mut Option<Numbers>, alloc: Global) -> Result<&mut Numbers, AllocError> {
     if numbers.is_none() {
         *numbers = Some(Numbers::new(alloc)?);
     }

@@ -184,7 +184,9 @@ fn has_spin(state: &SeatState, spin: i64) -> bool {
 
 #[test]
 fn numbers_of_lanes_are_read_and_stored(rt: HostRuntime) -> Result<(), Fail> {
-    let turning = WholeVelocity::of(V2::ZERO, Fx::TICK, NUMBER_LIMIT).unwrap_or(WholeVelocity::none());
+    let turning = WholeVelocity::of(V2::ZERO, Fx::TICK, NUMBER_LIMIT).unwrap_or(
+        WholeVelocity::none(),
+    );
     let state = SeatState {
         first: turning,
         second: turning,
@@ -194,7 +196,9 @@ fn numbers_of_lanes_are_read_and_stored(rt: HostRuntime) -> Result<(), Fail> {
     let (seat, free) = (LaneSeat::of(0, &ground(0)), LaneSeat::none());
     assert!(rt; has_spin(&numbers.read(&seat), Fx::TICK.raw()));
     numbers.store(&[seat, free, free, free], &[state; 4]);
-    assert!(rt; has_spin(&numbers.read(&seat), Fx::TICK.raw()) && has_spin(&numbers.read(&free), 0));
+    assert!(rt;
+        has_spin(&numbers.read(&seat), Fx::TICK.raw()) && has_spin(&numbers.read(&free), 0)
+    );
     numbers.clear();
     assert!(rt; numbers.velocities().is_empty() && numbers.impulses().is_empty());
     Ok(())

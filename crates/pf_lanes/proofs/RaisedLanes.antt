@@ -139,14 +139,18 @@ module _ (xs ys : List Float) (a b : Lanes) (ha : Holds 1 xs a) (hb : Holds 1 ys
   down_holds : Holds 1 (zip2 (sub binary64) xs (four great)) down
   unfolding down
   down_holds = calculated_hold xs (four great) a (four_of raise) ha great_holds (sub binary64) (λ x y. x -ℤ y)
-      (λ k. (down_fits (number_in k a) (number_in k (four_of raise)) (h k) (number_in-four_of raise k),
-      sub_doubles 1 whole_scale (number_in k a) (number_in k (four_of raise)) (ha.whole k) (great_holds.whole k))) _ refl
+      (λ k. (
+        down_fits (number_in k a) (number_in k (four_of raise)) (h k) (number_in-four_of raise k),
+        sub_doubles 1 whole_scale (number_in k a) (number_in k (four_of raise)) (ha.whole k) (great_holds.whole k),
+      )) _ refl
 
   up_holds : Holds 1 (zip2 (add binary64) xs (four great)) up
   unfolding up
   up_holds = calculated_hold xs (four great) a (four_of raise) ha great_holds (add binary64) (λ x y. x +ℤ y)
-      (λ k. (up_fits (number_in k a) (number_in k (four_of raise)) (h k) (number_in-four_of raise k),
-      add_doubles 1 whole_scale (number_in k a) (number_in k (four_of raise)) (ha.whole k) (great_holds.whole k))) _ refl
+      (λ k. (
+        up_fits (number_in k a) (number_in k (four_of raise)) (h k) (number_in-four_of raise k),
+        add_doubles 1 whole_scale (number_in k a) (number_in k (four_of raise)) (ha.whole k) (great_holds.whole k),
+      )) _ refl
 
   pub plus_raised : Lanes
   plus_raised = zip_lanes (λ x y. x +ℤ y) down b
@@ -157,14 +161,18 @@ module _ (xs ys : List Float) (a b : Lanes) (ha : Holds 1 xs a) (hb : Holds 1 ys
   pub plus_raised_holds : Holds 1 (zip2 (add binary64) (zip2 (sub binary64) xs (four great)) ys) plus_raised
   unfolding plus_raised
   plus_raised_holds = calculated_hold _ ys down b down_holds hb (add binary64) (λ x y. x +ℤ y)
-      (λ k. (plus_fits (number_in k a) (number_in k b) (number_in k down) (h k) (small_in k) (down_in k),
-      add_doubles 1 whole_scale (number_in k down) (number_in k b) (down_holds.whole k) (hb.whole k))) _ refl
+      (λ k. (
+        plus_fits (number_in k a) (number_in k b) (number_in k down) (h k) (small_in k) (down_in k),
+        add_doubles 1 whole_scale (number_in k down) (number_in k b) (down_holds.whole k) (hb.whole k),
+      )) _ refl
 
   pub minus_raised_holds : Holds 1 (zip2 (sub binary64) (zip2 (add binary64) xs (four great)) ys) minus_raised
   unfolding minus_raised
   minus_raised_holds = calculated_hold _ ys up b up_holds hb (sub binary64) (λ x y. x -ℤ y)
-      (λ k. (minus_fits (number_in k a) (number_in k b) (number_in k up) (h k) (small_in k) (up_in k),
-      sub_doubles 1 whole_scale (number_in k up) (number_in k b) (up_holds.whole k) (hb.whole k))) _ refl
+      (λ k. (
+        minus_fits (number_in k a) (number_in k b) (number_in k up) (h k) (small_in k) (up_in k),
+        sub_doubles 1 whole_scale (number_in k up) (number_in k b) (up_holds.whole k) (hb.whole k),
+      )) _ refl
 
   module _ (r : Lanes) (k : Lane) where
     pub plus_raised_in : r ≡ plus_raised → number_in k r ≡ sum (number_in k a) (number_in k (lowered b))
@@ -209,8 +217,10 @@ module _ (xs ys : List Float) (a b : Lanes) (ha : Holds 1 xs a) (hb : Holds 1 ys
 
   pub both_hold : Holds 1 (zip2 (sub binary64) xs ys) (zip_lanes (λ x y. x -ℤ y) a b)
   both_hold = calculated_hold xs ys a b ha hb (sub binary64) (λ x y. x -ℤ y)
-      (λ k. (both_fit (number_in k a) (number_in k b) (small_of a raised_a k) (small_of b raised_b k),
-      sub_doubles 1 whole_scale (number_in k a) (number_in k b) (ha.whole k) (hb.whole k))) _ refl
+      (λ k. (
+        both_fit (number_in k a) (number_in k b) (small_of a raised_a k) (small_of b raised_b k),
+        sub_doubles 1 whole_scale (number_in k a) (number_in k b) (ha.whole k) (hb.whole k),
+      )) _ refl
 
   module _ (r : Lanes) (k : Lane) (e : r ≡ zip_lanes (λ x y. x -ℤ y) a b) where
     pub both_in : number_in k r ≡ difference (number_in k (lowered a)) (number_in k (lowered b))
