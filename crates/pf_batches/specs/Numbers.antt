@@ -8,7 +8,7 @@ use Rattle.pf_rows.specs.declared.row.Side.TheVariants.{Static, Dynamic}
 use Rattle.std.specs.Int.RustNames.{unsigned_abs}
 use Rattle.pf_rows.specs.Small.{IsShort}
 use Rattle.pf_rows.specs.Impulses.{Impulses, no_impulses}
-use Rattle.pf_rows.specs.Row.{InverseMass, IsSide, Row}
+use Rattle.pf_rows.specs.Row.{InverseMass, Row}
 use Rattle.pf_lanes.specs.Lanes.{Lane}
 use Rattle.pf_bundles.specs.Bundle.{Bundle, Seat, lane_number}
 use Rattle.pf_bundles.specs.LaneRow.{IsHeldBy, LaneRow, lane_row_in, no_lane_row}

@@ -1,5 +1,5 @@
 -- Numbers of lanes: how they stand behind the first place, and which lanes have a row.
-use Rattle.std.proofs.Common.{◌≡◌, ℕ, zero, suc, ◌+◌, ◌<◌, ◌≤◌, List, [], ◌∷◌, All, length, map, refl, sym, ap, ◌∙◌, subst, arith}
+use Rattle.std.proofs.Common.{◌≡◌, ℕ, zero, suc, ◌<◌, ◌≤◌, List, [], ◌∷◌, All, length, map, refl, sym, ap, subst, arith}
 use Rattle.std.specs.Prelude.{IfSome, None, Option, Some, drop, slice_get, slice_index_or, slice_set}
 use Rattle.pf_rows.specs.Impulses.{Impulses, no_impulses}
 use Rattle.pf_rows.specs.Row.{IsSide}

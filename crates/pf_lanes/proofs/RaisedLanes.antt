@@ -1,17 +1,17 @@
 -- Four rounded products side by side, raised.
-use Rattle.std.proofs.Common.{◌≡◌, ℕ, ◌+◌, ◌*◌, ◌≤◌, ◌<◌, ◌^◌, ℤ, pos, neg_ℤ, ◌+ℤ◌, ◌-ℤ◌, ◌*ℤ◌, List, refl, sym, ap, ◌∙◌, subst, arith}
-use Rattle.std.proofs.lemmas.Int.{ints, clamps, unsigned_abs-mul}
+use Rattle.std.proofs.Common.{◌≡◌, ◌+◌, ◌≤◌, ℤ, neg_ℤ, ◌+ℤ◌, ◌-ℤ◌, List, refl, sym, ap, ◌∙◌, subst, arith}
+use Rattle.std.proofs.lemmas.Int.{ints, clamps}
 use Rattle.std.specs.Int.RustNames.{unsigned_abs}
 use Rattle.pf_num.specs.Fx.{saturate, sum, difference, product}
 use Rattle.pf_num.proofs.Operations.{product-neg_left}
 use Rattle.pf_lanes.specs.Lanes.{Lane, Lanes, number_in}
-use Rattle.pf_lanes.specs.Raised.{raise, raised, lowered, AreRaised}
-use Rattle.pf_lanes.specs.Doubles.{double_of, FitsDouble}
+use Rattle.pf_lanes.specs.Raised.{raise, lowered, AreRaised}
+use Rattle.pf_lanes.specs.Doubles.{FitsDouble}
 use Rattle.pf_lanes.proofs.ByLane.{zip_lanes, four_of, rounded_product, number_in-zip_lanes, number_in-four_of}
 use Rattle.pf_lanes.proofs.Sums.{whole_scale, add_doubles, sub_doubles}
 use Rattle.pf_lanes.proofs.Products.{great, product-small}
 use Rattle.pf_lanes.proofs.Raising.{raised-lowered, down_again, number_in-lowered, product_raised, opposite_raised, great_double}
-use Rattle.pf_lanes.proofs.Holding.{Holds, Calculates, four, same_hold, zip_holds, calculated_hold}
+use Rattle.pf_lanes.proofs.Holding.{Holds, four, same_hold, zip_holds, calculated_hold}
 use Rattle.pf_lanes.proofs.Numbers.{HaveSmallProduct, product_fits, product_is}
 use lib.Ieee.{Float, binary64, add, sub, mul}
 use lib.Lanes.{zip2}

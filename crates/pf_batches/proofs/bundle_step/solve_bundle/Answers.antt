@@ -1,4 +1,4 @@
-use Rattle.std.proofs.Common.{◌∙◌, ◌+◌, ◌≤◌, ap₂, arith, length, subst, sym}
+use Rattle.std.proofs.Common.{◌∙◌, ◌+◌, ap₂, arith, subst, sym}
 use Rattle.std.specs.Prelude.{All}
 use Rattle.pf_bundles.specs.Seats.{numbers_with_all, taken_seats}
 use Rattle.pf_bundles.proofs.Seats.{stored_taken}

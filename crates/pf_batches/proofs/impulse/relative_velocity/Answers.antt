@@ -1,7 +1,6 @@
 use Rattle.std.proofs.Common.{arith}
 use Rattle.std.proofs.lemmas.Grind.{common_steps}
-use Rattle.pf_bundles.specs.Prepared.{constraint_in, vector_in}
-use Rattle.pf_lanes.specs.Lanes.{number_in}
+use Rattle.pf_bundles.specs.Prepared.{constraint_in}
 use Rattle.pf_batches.specs.Contact.{state_in}
 use Rattle.pf_solver.specs.Impulse.{relative_velocity}
 use Rattle.pf_batches.proofs.Sums.{relative}

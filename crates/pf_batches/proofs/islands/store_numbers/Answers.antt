@@ -1,5 +1,4 @@
 use Rattle.std.proofs.Common.{◌≡◌, ◌∙◌, ◌+◌, ◌<◌, ap, ap₂, arith, drop, get_or, length, refl, set, subst₂, sym}
-use Rattle.pf_bundles.specs.Numbers.{Numbers}
 use Rattle.pf_islands.specs.Split.{Island}
 use Rattle.pf_batches.specs.Islands.{island_with_first, numbers_behind}
 use Rattle.pf_batches.proofs.SideBySide.{AreStored, bodies_kept, enough_impulses, enough_velocities, rows_kept, stored_next}
