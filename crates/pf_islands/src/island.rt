@@ -2,7 +2,6 @@
 
 ghost use Rattle.std.specs.Prelude.{◌≡◌};
 
-use crate::sizes::IslandSize;
 use pf_bundles::Workspace;
 use pf_rows::Row;
 use pf_shapes::BodyState;
@@ -42,7 +41,7 @@ impl Model for Island {
 }
 
 impl Island {
-    ghost use Rattle.std.specs.Prelude.{◌≡◌, ◌≤◌, ◌++◌, ◌∷◌, [], IsOk, OnOk};
+    ghost use Rattle.std.specs.Prelude.{◌≡◌, ◌++◌, ◌∷◌, [], IsOk, OnOk};
     ghost use Rattle.pf_islands.specs.Split.{no_island};
 
     /// Without bodies. Takes no memory.
@@ -57,29 +56,30 @@ impl Island {
         }
     }
 
-    /// Whether it has far more memory than an island of this size needs.
-    fn has_too_much_memory(&self, size: IslandSize) -> bool {
-        self.bodies.capacity() / MAX_SPARE > size.bodies
-            || self.rows.capacity() / MAX_SPARE > size.rows
+    /// Whether it has far more memory than an island with so many bodies and contacts needs.
+    fn has_too_much_memory(&self, bodies: usize, rows: usize) -> bool {
+        self.bodies.capacity() / MAX_SPARE > bodies || self.rows.capacity() / MAX_SPARE > rows
     }
 
-    /// Drops its bodies and contacts, and reserves memory for so many others. Its memory stays,
-    /// unless it is far too much. Takes no memory for one body without contacts.
-    pub(crate) fn clear(&mut self, size: IslandSize) -> Result<(), AllocError>
+    /// Drops its bodies and contacts, and reserves memory for so many other contacts and the bodies
+    /// that they may connect. Its memory stays, unless it is far too much. Takes no memory for one
+    /// body without contacts.
+    pub(crate) fn clear(&mut self, rows: usize) -> Result<(), AllocError>
         ensures value { OnOk result (self.new ≡ no_island) }
-        ensures no_memory { size.bodies ≤ 1 → size.rows ≡ 0 → IsOk result }
+        ensures no_memory { rows ≡ 0 → IsOk result }
     {
-        if self.has_too_much_memory(size) {
+        let bodies = rows.saturating_add(1);
+        if self.has_too_much_memory(bodies, rows) {
             *self = Island::new(*self.rows.allocator());
         }
         self.numbers.clear();
         self.bodies.clear();
         self.rows.clear();
-        if size.bodies > 1 {
-            self.numbers.reserve(size.bodies)?;
-            self.bodies.reserve(size.bodies)?;
+        if rows > 0 {
+            self.numbers.reserve(bodies)?;
+            self.bodies.reserve(bodies)?;
         }
-        self.rows.reserve(size.rows)
+        self.rows.reserve(rows)
     }
 
     /// Adds a body with this number. After an error a part of it may have been added.

@@ -17,7 +17,7 @@ use crate::forest::singles;
 use crate::groups::Groups;
 use crate::island::Island;
 use crate::rows::{Active, active_of, row_of, wake_none};
-use crate::sizes::{IslandSize, sizes};
+use crate::sizes::row_counts;
 use pf_cache::Contact;
 use pf_manifold::Touch;
 use pf_rows::{Row, Side};
@@ -29,19 +29,19 @@ use std::alloc::{AllocError, Global};
 fn is_active_label(labels: &[usize], awake: &[bool], number: usize) -> bool
     requires number { number < length labels.now }
     requires awake { length awake.now ≡ length labels.now }
-    ensures { result
-        ≡ ((slice_index_or labels.now number 0 == number) && slice_index_or awake.now number false) }
+    ensures { result ≡ ((slice_index_or labels.now number 0 == number)
+        && slice_index_or awake.now number false) }
 {
     labels[number] == number && awake[number]
 }
 
-/// Clears the island at a place, with memory for so many bodies and contacts; or adds such an
-/// island, if `place` is the length of the list.
+/// Clears the island at a place, with memory for so many contacts; or adds such an island, if
+/// `place` is the length of the list.
 fn clear_at(
     alloc: Global,
     islands: &mut Vec<Island>,
     place: usize,
-    size: IslandSize,
+    rows: usize,
 ) -> Result<(), AllocError>
     requires { place ≤ length islands.old.items }
     ensures cleared { OnOk result
@@ -52,7 +52,7 @@ fn clear_at(
         islands.push(Island::new(alloc))?;
     }
     let island = &mut islands[place];
-    island.clear(size)
+    island.clear(rows)
 }
 
 /// An island without bodies for each group that is simulated, in the order of their labels, made in
@@ -64,11 +64,11 @@ fn empty_islands(
     labels: &[usize],
     bodies: &[BodyState],
     awake: &[bool],
-    sizes: &[IslandSize],
+    rows: &[usize],
 ) -> Result<(Vec<Island>, Vec<usize>), AllocError>
     requires bodies { length bodies.now ≡ length labels.now }
     requires awake { awake.now ≡ awake_flags bodies.now }
-    requires sizes { length sizes.now ≡ length labels.now }
+    requires rows { length rows.now ≡ length labels.now }
     ensures islands { IfOk result
         (λ made. made.0.items ≡ map (λ label. no_island) (active_labels labels.now bodies.now)) }
     ensures slots { IfOk result (λ made. made.1.items
@@ -81,7 +81,7 @@ fn empty_islands(
     for number in 0..bodies.len() {
         slots.push_reserved(count);
         if is_active_label(labels, awake, number) {
-            clear_at(alloc, &mut islands, count, sizes[number])?;
+            clear_at(alloc, &mut islands, count, rows[number])?;
             count += 1;
         }
     }
@@ -233,8 +233,8 @@ fn split(
     let simulated = active.places.as_slice();
     let groups = Groups::new(alloc, scene, touches, simulated)?;
     let labels = groups.labels();
-    let sizes = sizes(alloc, labels, awake, touches, simulated)?;
-    let (mut made, slots) = empty_islands(alloc, spare, labels, bodies, awake, &sizes)?;
+    let rows = row_counts(alloc, labels, awake, touches, simulated)?;
+    let (mut made, slots) = empty_islands(alloc, spare, labels, bodies, awake, &rows)?;
     let mut places = Vec::with_capacity(alloc, labels.len())?;
     places.resize(labels.len(), 0)?;
     deal_bodies(&mut made, &mut places, &slots, labels, awake, bodies)?;

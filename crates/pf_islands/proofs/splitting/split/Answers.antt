@@ -13,8 +13,8 @@ use Rattle.pf_islands.proofs.Together.{read_row_is_active}
 use Rattle.pf_islands.proofs.Whole.{islands_fit}
 use Rattle.pf_islands.proofs.splitting.split.Goals as goal
 
-pub sizes-requires-clause-awake : goal.sizes-requires-clause-awake
-sizes-requires-clause-awake c =
+pub row_counts-requires-clause-awake : goal.row_counts-requires-clause-awake
+row_counts-requires-clause-awake c =
     ap length (c.as_slice-awake.ensures.value ∙ c.requires.awake) ∙ length-map c.args.bodies.now _
     ∙ sym
     (labels_long c.args.scene.now c.args.bodies.now c.args.touches.now c.requires.bodies c.requires.settled
