@@ -1,5 +1,7 @@
 pub mod Sizes
 pub mod Sums
+pub mod Pushes
+pub mod Additions
 pub mod Steps
 pub mod Numbers
 pub mod Levels

@@ -6,7 +6,7 @@ use Rattle.pf_rows.specs.Row.{Constraint}
 use Rattle.pf_solver.specs.Impulse.{ContactState, after_friction_step, after_impulse, after_normal_step, normal_impulse, tangent_impulse}
 
 module _ (c : Constraint) (m after : ContactState) (total added : ℤ) where
-  pub normal_step : total ≡ normal_impulse c m → added ≡ difference total m.impulses.normal
+  pub normal_step : total ≡ normal_impulse c m → added ≡ difference (normal_impulse c m) m.impulses.normal
       → after ≡ after_impulse c (scale added c.normal) m
       → record after { impulses = record after.impulses { normal = total } } ≡ after_normal_step c m
   unfolding after_normal_step after_impulse
@@ -15,12 +15,12 @@ module _ (c : Constraint) (m after : ContactState) (total added : ℤ) where
       (after_is ∙ ap (λ d. after_impulse c (scale d c.normal) m) added_is)
       ∙ ap
       (λ t.
-      record (after_impulse c (scale (difference t m.impulses.normal) c.normal) m) {
+      record (after_impulse c (scale (difference (normal_impulse c m) m.impulses.normal) c.normal) m) {
         impulses = record m.impulses { normal = t };
       })
       total_is
 
-  pub friction_step : total ≡ tangent_impulse c m → added ≡ difference total m.impulses.tangent
+  pub friction_step : total ≡ tangent_impulse c m → added ≡ difference (tangent_impulse c m) m.impulses.tangent
       → after ≡ after_impulse c (scale added c.tangent) m
       → record after { impulses = record after.impulses { tangent = total } } ≡ after_friction_step c m
   unfolding after_friction_step after_impulse
@@ -29,7 +29,7 @@ module _ (c : Constraint) (m after : ContactState) (total added : ℤ) where
       (after_is ∙ ap (λ d. after_impulse c (scale d c.tangent) m) added_is)
       ∙ ap
       (λ t.
-      record (after_impulse c (scale (difference t m.impulses.tangent) c.tangent) m) {
+      record (after_impulse c (scale (difference (tangent_impulse c m) m.impulses.tangent) c.tangent) m) {
         impulses = record m.impulses { tangent = t };
       })
       total_is

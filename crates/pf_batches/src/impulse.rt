@@ -7,26 +7,30 @@ ghost use Rattle.pf_rot.specs.Vector.{add, cross, dot, scale, sub};
 ghost use Rattle.pf_rows.specs.Small.{IsShort};
 ghost use Rattle.pf_solver.specs.Impulse.{after_impulse, relative_velocity};
 ghost use Rattle.pf_lanes.specs.Lanes.{Lane, number_in};
-ghost use Rattle.pf_bundles.specs.Prepared.{constraint_in, vector_in};
+ghost use Rattle.pf_bundles.specs.Prepared.{constraint_in, mass_in, vector_in};
 ghost use Rattle.pf_batches.specs.Contact.{state_in};
-ghost use Rattle.pf_batches.specs.Limits.{AreGrown, AreShort, IsGrown, IsImpulse, IsReady};
+ghost use Rattle.pf_batches.specs.Limits.{AreGrown, AreShort, IsExact, IsExactOn, IsGrown, IsReady, SpinsWithin};
 ghost use Rattle.pf_bundles.specs.Limits.{HasShortProducts};
 
 use crate::contact::{ContactLanes, MotionChange, MotionLanes};
 use pf_bundles::limits::{
     LANE_DIRECTION_LIMIT, LANE_LIMIT, LANE_SPEED_LIMIT, NUMBER_LIMIT, PRODUCT_LIMIT,
+    QUARTER_ARM_SPIN,
 };
 use pf_bundles::{MassLanes, PreparedLanes, ScaledVectors, VectorLanes};
 use pf_lanes::{Lanes, Raised, Scaled};
 
-/// Whether the products of spins and arms are exact, so that a step may begin.
+/// Whether the spins are within the limits of the lanes, so that a step may begin.
 #[inline(always)]
+#[tactic(auto, using(crate::proofs::Pushes::is_ready))]
 pub(crate) fn is_ready(prepared: &PreparedLanes, state: &ContactLanes) -> bool
-    ensures { IsTrue result → (k : Lane)
-        → IsReady (constraint_in k prepared.now.constraint)
-        (unsigned_abs (number_in k prepared.now.limit)) (state_in k prepared.now state.now) }
+    ensures ready { IsTrue result → (k : Lane)
+        → IsReady (constraint_in k prepared.now.constraint) (state_in k prepared.now state.now) }
+    ensures spins { IsTrue result → (k : Lane)
+        → SpinsWithin (unsigned_abs (number_in k prepared.now.spin_limit))
+        (state_in k prepared.now state.now) }
 {
-    let limit = prepared.limit();
+    let limit = prepared.spin_limit();
     let (first, second) = (&state.first, &state.second);
     first.spin.are_within_each(limit) & second.spin.are_within_each(limit)
 }
@@ -64,8 +68,8 @@ fn between(velocities: (Lanes, Lanes), turns: Lanes) -> Lanes
 #[inline(always)]
 #[tactic(auto, unfolding(pf_solver::specs::Impulse::relative_velocity, pf_rot::specs::Vector::sub, pf_rot::specs::Vector::add, pf_rot::specs::Vector::cross_sv))]
 pub(crate) fn relative_velocity(prepared: &PreparedLanes, state: &ContactLanes) -> VectorLanes
-    requires ready { (k : Lane) → IsReady (constraint_in k prepared.now.constraint)
-        (unsigned_abs (number_in k prepared.now.limit)) (state_in k prepared.now state.now) }
+    requires ready { (k : Lane)
+        → IsReady (constraint_in k prepared.now.constraint) (state_in k prepared.now state.now) }
     requires velocities { (k : Lane)
         → AreShort (NUMBER_LIMIT + 2 ^ 30) (state_in k prepared.now state.now) }
     ensures { (k : Lane) → vector_in k result
@@ -190,19 +194,6 @@ fn turn_of(arm: &ScaledVectors, impulse: &VectorLanes) -> Lanes
     raised_times(arm.x, y).minus(raised_times(arm.y, x))
 }
 
-/// Whether what impulses change of bodies of these masses is exact. No part of an impulse exceeds
-/// `size`, and `turn` is how it turns its body.
-#[inline(always)]
-fn has_exact_changes(mass: &MassLanes, size: Lanes, turn: Lanes) -> bool
-    ensures mass { IsTrue result → (k : Lane) → unsigned_abs (number_in k size)
-        * unsigned_abs (number_in k mass.now.inverse_mass) < PRODUCT_LIMIT }
-    ensures inertia { IsTrue result → (k : Lane) → unsigned_abs (number_in k turn)
-        * unsigned_abs (number_in k mass.now.inverse_inertia) < PRODUCT_LIMIT }
-{
-    size.product_is_below(mass.inverse_mass, PRODUCT_LIMIT)
-        & turn.product_is_below(mass.inverse_inertia, PRODUCT_LIMIT)
-}
-
 /// What impulses change of bodies of these masses, which they turn so.
 #[inline(always)]
 #[tactic(auto, unfolding(pf_rot::specs::Vector::scale))]
@@ -231,7 +222,7 @@ fn changes(mass: &MassLanes, impulse: &VectorLanes, turn: Lanes) -> MotionChange
 fn second_after(body: &MotionLanes, change: MotionChange) -> MotionLanes
     requires velocity { (k : Lane)
         → IsShort (NUMBER_LIMIT + 2 ^ 30) (vector_in k body.now.velocity) }
-    requires spin { (k : Lane) → unsigned_abs (number_in k body.now.spin) ≤ LANE_LIMIT }
+    requires spin { (k : Lane) → unsigned_abs (number_in k body.now.spin) ≤ 2 * QUARTER_ARM_SPIN }
     ensures velocity { (k : Lane) → vector_in k result.velocity
         ≡ add (vector_in k body.now.velocity) (vector_in k change.velocity) }
     ensures spin { (k : Lane) → number_in k result.spin
@@ -256,7 +247,7 @@ fn second_after(body: &MotionLanes, change: MotionChange) -> MotionLanes
 fn first_after(body: &MotionLanes, change: MotionChange) -> MotionLanes
     requires velocity { (k : Lane)
         → IsShort (NUMBER_LIMIT + 2 ^ 30) (vector_in k body.now.velocity) }
-    requires spin { (k : Lane) → unsigned_abs (number_in k body.now.spin) ≤ LANE_LIMIT }
+    requires spin { (k : Lane) → unsigned_abs (number_in k body.now.spin) ≤ 2 * QUARTER_ARM_SPIN }
     ensures velocity { (k : Lane) → vector_in k result.velocity
         ≡ sub (vector_in k body.now.velocity) (vector_in k change.velocity) }
     ensures spin { (k : Lane) → number_in k result.spin
@@ -275,20 +266,100 @@ fn first_after(body: &MotionLanes, change: MotionChange) -> MotionLanes
     }
 }
 
-/// Both bodies of each contact after an impulse at the contact point, or `None` where a product is
-/// too great. No impulse exceeds `size`.
+/// Whether what these impulses change of bodies of these masses is exact. No part of an impulse
+/// exceeds `size`.
 #[inline(always)]
-#[tactic(auto, unfolding(pf_solver::specs::Impulse::after_impulse, pf_solver::specs::Impulse::first_after, pf_solver::specs::Impulse::second_after), using(crate::proofs::Sizes::part_below))]
+#[tactic(auto, using(crate::proofs::Sizes::part_below))]
+fn has_exact_changes(
+    mass: &MassLanes,
+    arm: &ScaledVectors,
+    impulse: &VectorLanes,
+    size: Lanes,
+) -> bool
+    requires size { (k : Lane)
+        → IsShort (unsigned_abs (number_in k size)) (vector_in k impulse.now) }
+    requires arm { (k : Lane)
+        → HasShortProducts (unsigned_abs (number_in k size)) (vector_in k arm.now) }
+    ensures { IsTrue result → (k : Lane)
+        → IsExactOn (mass_in k mass.now) (vector_in k arm.now) (vector_in k impulse.now) }
+{
+    size.product_is_below(mass.inverse_mass, PRODUCT_LIMIT)
+        & turn_of(arm, impulse).product_is_below(mass.inverse_inertia, PRODUCT_LIMIT)
+}
+
+/// Whether what these impulses do to both bodies of each contact is exact. No part of an impulse
+/// exceeds `size`.
+#[inline(always)]
+fn is_exact(
+    prepared: &PreparedLanes,
+    impulse: &VectorLanes,
+    size: Lanes,
+    state: &ContactLanes,
+) -> bool
+    requires size { (k : Lane)
+        → IsShort (unsigned_abs (number_in k size)) (vector_in k impulse.now) }
+    requires first { (k : Lane) → HasShortProducts (unsigned_abs (number_in k size))
+        (vector_in k prepared.now.constraint.first_arm) }
+    requires second { (k : Lane) → HasShortProducts (unsigned_abs (number_in k size))
+        (vector_in k prepared.now.constraint.second_arm) }
+    ensures { IsTrue result → (k : Lane) → IsExact (constraint_in k prepared.now.constraint)
+        (state_in k prepared.now state.now) (vector_in k impulse.now) }
+{
+    let constraint = prepared.constraint();
+    let (first_arm, second_arm) = (&constraint.first_arm, &constraint.second_arm);
+    let (first_mass, second_mass) = (prepared.first_mass(), prepared.second_mass());
+    has_exact_changes(&first_mass, first_arm, impulse, size)
+        & has_exact_changes(&second_mass, second_arm, impulse, size)
+}
+
+/// Both bodies of each contact after an impulse at the contact point.
+#[inline(always)]
+#[tactic(auto, unfolding(pf_solver::specs::Impulse::after_impulse, pf_solver::specs::Impulse::first_after, pf_solver::specs::Impulse::second_after))]
 pub(crate) fn after_impulse(
+    prepared: &PreparedLanes,
+    impulse: &VectorLanes,
+    state: &ContactLanes,
+) -> ContactLanes
+    requires ready { (k : Lane)
+        → IsReady (constraint_in k prepared.now.constraint) (state_in k prepared.now state.now) }
+    requires exact { (k : Lane) → IsExact (constraint_in k prepared.now.constraint)
+        (state_in k prepared.now state.now) (vector_in k impulse.now) }
+    requires velocities { (k : Lane)
+        → AreShort (NUMBER_LIMIT + 2 ^ 30) (state_in k prepared.now state.now) }
+    ensures value { (k : Lane) → state_in k prepared.now result
+        ≡ after_impulse (constraint_in k prepared.now.constraint) (vector_in k impulse.now)
+        (state_in k prepared.now state.now) }
+    ensures size { (k : Lane)
+        → AreGrown (2 ^ 29) (state_in k prepared.now state.now) (state_in k prepared.now result) }
+{
+    let constraint = prepared.constraint();
+    let (first_mass, second_mass) = (prepared.first_mass(), prepared.second_mass());
+    let first_turn = turn_of(&constraint.first_arm, impulse);
+    let second_turn = turn_of(&constraint.second_arm, impulse);
+    let of_first = changes(&first_mass, impulse, first_turn);
+    let of_second = changes(&second_mass, impulse, second_turn);
+    ContactLanes {
+        first: first_after(&state.first, of_first),
+        second: second_after(&state.second, of_second),
+        normal: state.normal,
+        tangent: state.tangent,
+    }
+}
+
+/// Both bodies of each contact after impulses of any size, or `None` where what they do is not
+/// exact, or a spin is then too great for the next step. No part of an impulse exceeds `size`.
+#[inline]
+#[tactic(auto, using(crate::proofs::Pushes::exact_products))]
+pub(crate) fn after_any_impulse(
     prepared: &PreparedLanes,
     impulse: &VectorLanes,
     size: Lanes,
     state: &ContactLanes,
 ) -> Option<ContactLanes>
-    requires ready { (k : Lane) → IsReady (constraint_in k prepared.now.constraint)
-        (unsigned_abs (number_in k prepared.now.limit)) (state_in k prepared.now state.now) }
-    requires impulse { (k : Lane) → IsImpulse (unsigned_abs (number_in k prepared.now.limit))
-        (unsigned_abs (number_in k size)) (vector_in k impulse.now) }
+    requires ready { (k : Lane)
+        → IsReady (constraint_in k prepared.now.constraint) (state_in k prepared.now state.now) }
+    requires size { (k : Lane)
+        → IsShort (unsigned_abs (number_in k size)) (vector_in k impulse.now) }
     requires velocities { (k : Lane)
         → AreShort (NUMBER_LIMIT + 2 ^ 30) (state_in k prepared.now state.now) }
     ensures value { IfSome result (λ after. (k : Lane) → state_in k prepared.now after
@@ -296,22 +367,16 @@ pub(crate) fn after_impulse(
         (state_in k prepared.now state.now)) }
     ensures size { IfSome result (λ after. (k : Lane)
         → AreGrown (2 ^ 29) (state_in k prepared.now state.now) (state_in k prepared.now after)) }
+    ensures ready { IfSome result (λ after. (k : Lane)
+        → IsReady (constraint_in k prepared.now.constraint) (state_in k prepared.now after)) }
 {
-    let constraint = prepared.constraint();
-    let (first_mass, second_mass) = (prepared.first_mass(), prepared.second_mass());
-    let first_turn = turn_of(&constraint.first_arm, impulse);
-    let second_turn = turn_of(&constraint.second_arm, impulse);
-    if !(has_exact_changes(&first_mass, size, first_turn)
-        & has_exact_changes(&second_mass, size, second_turn))
-    {
+    if !size.are_within_each(prepared.spin_limit()) || !is_exact(prepared, impulse, size, state) {
         return None;
     }
-    let of_first = changes(&first_mass, impulse, first_turn);
-    let of_second = changes(&second_mass, impulse, second_turn);
-    Some(ContactLanes {
-        first: first_after(&state.first, of_first),
-        second: second_after(&state.second, of_second),
-        normal: state.normal,
-        tangent: state.tangent,
-    })
+    let after = after_impulse(prepared, impulse, state);
+    if is_ready(prepared, &after) {
+        Some(after)
+    } else {
+        None
+    }
 }

@@ -8,10 +8,10 @@ ghost use Rattle.pf_solver.specs.Impulse.{after_warm_start};
 ghost use Rattle.pf_lanes.specs.Lanes.{Lane, number_in};
 ghost use Rattle.pf_bundles.specs.Prepared.{constraint_in, vector_in};
 ghost use Rattle.pf_batches.specs.Contact.{state_in};
-ghost use Rattle.pf_batches.specs.Limits.{AreGrown, AreWithin, IsReady};
+ghost use Rattle.pf_batches.specs.Limits.{AreGrown, AreWithin};
 
 use crate::contact::ContactLanes;
-use crate::impulse::{after_impulse, impulse_along, is_ready, twice};
+use crate::impulse::{after_any_impulse, impulse_along, is_ready, twice};
 use pf_bundles::limits::{LANE_DIRECTION_LIMIT, LANE_LIMIT, NUMBER_LIMIT};
 use pf_bundles::{ConstraintLanes, PreparedLanes, VectorLanes};
 use pf_lanes::Lanes;
@@ -92,9 +92,9 @@ pub(crate) fn after_warm_start(
 {
     let (normal, tangent) = (state.normal, state.tangent);
     let size = sizes(normal, tangent);
-    if !is_ready(prepared, state) || !size.are_within_each(prepared.limit()) {
+    if !is_ready(prepared, state) || !size.are_within(LANE_LIMIT) {
         return None;
     }
     let impulse = impulses(prepared.constraint(), normal, tangent);
-    after_impulse(prepared, &impulse, size, state)
+    after_any_impulse(prepared, &impulse, size, state)
 }

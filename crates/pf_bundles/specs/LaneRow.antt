@@ -1,5 +1,5 @@
 -- A row as a lane holds it: nothing moves a static body, so its masses and its arm are zeros.
-use Rattle.std.specs.Prelude.{◌≡◌, ◌≤◌, ℤ, pos, ◌≤ℤ◌}
+use Rattle.std.specs.Prelude.{◌≡◌, ◌≤◌, ℤ, pos}
 use Rattle.std.specs.Int.RustNames.{unsigned_abs}
 use Rattle.pf_lanes.specs.Lanes.{First, Fourth, Lane, Second, Third, number_in}
 use Rattle.pf_lanes.specs.declared.lanes.TheConstants.{EXACT_LIMIT}
@@ -7,17 +7,18 @@ use Rattle.pf_rot.specs.Vector.{V2, zero_vector}
 use Rattle.pf_rows.specs.declared.row.Side.{Side}
 use Rattle.pf_rows.specs.declared.row.Side.TheVariants.{Dynamic, Static}
 use Rattle.pf_rows.specs.Row.{Constraint, InverseMass, Row, no_constraint, no_mass}
-use Rattle.pf_bundles.specs.declared.limits.TheConstants.{LANE_LIMIT}
-use Rattle.pf_bundles.specs.Limits.{IsLimitFor, IsSmall}
+use Rattle.pf_bundles.specs.declared.limits.TheConstants.{LANE_LIMIT, QUARTER_ARM_SPIN}
+use Rattle.pf_bundles.specs.Limits.{AreLimits, HasLimits, IsSmall}
 use Rattle.pf_bundles.specs.Prepared.{PreparedLanes, constraint_in, mass_in}
 
--- what a lane holds of a row: inverse masses, the constraint, and the limit of spins and impulses up
--- to which its products are exact; it is negative where there is none
+-- what a lane holds of a row: inverse masses, the constraint, and the limits of spins and of impulses
+-- up to which its products are exact
 pub record LaneRow : Type 0 where
   pub first_mass : InverseMass
   pub second_mass : InverseMass
   pub constraint : Constraint
-  pub limit : ℤ
+  pub spin_limit : ℤ
+  pub push_limit : ℤ
 
 -- a lane without a row: nothing moves in it
 abbrev pub no_lane_row : LaneRow
@@ -25,7 +26,8 @@ no_lane_row = record {
   first_mass = no_mass;
   second_mass = no_mass;
   constraint = no_constraint;
-  limit = pos LANE_LIMIT;
+  spin_limit = pos QUARTER_ARM_SPIN;
+  push_limit = pos LANE_LIMIT;
 }
 
 -- the inverse mass, and the arm, of the body on a side
@@ -55,22 +57,30 @@ pub record MassFits (m : InverseMass) : Type 0 where
   pub inverse_mass : unsigned_abs m.inverse_mass ≤ EXACT_LIMIT
   pub inverse_inertia : unsigned_abs m.inverse_inertia ≤ EXACT_LIMIT
 
--- of a constraint, for which there is a limit
+-- of a constraint
 pub record ConstraintFits (c : Constraint) : Type 0 where
-  pub small : IsSmall c
   pub normal_mass : unsigned_abs c.normal_mass ≤ EXACT_LIMIT
   pub tangent_mass : unsigned_abs c.tangent_mass ≤ EXACT_LIMIT
   pub friction : unsigned_abs c.friction ≤ EXACT_LIMIT
 
--- of a row, but for the masses and the arms of static bodies
-pub record RowFits (r : Row) : Type 0 where
-  pub first_mass : MassFits (mass_on r.entry.first r.first_mass)
-  pub second_mass : MassFits (mass_on r.entry.second r.second_mass)
-  pub constraint : ConstraintFits (constraint_on r.entry.first r.entry.second r.constraint)
+-- of inverse masses and a constraint, for which there are limits
+pub record ContactFits (a b : InverseMass) (c : Constraint) : Type 0 where
+  pub first_mass : MassFits a
+  pub second_mass : MassFits b
+  pub constraint : ConstraintFits c
+  pub limits : HasLimits c a b
 
--- a limit that is not negative is one for the constraint
-abbrev pub HasLimit : Constraint → ℤ → Type 0
-HasLimit c limit = pos 0 ≤ℤ limit → IsLimitFor c (unsigned_abs limit)
+-- of a row, but for the masses and the arms of static bodies
+abbrev pub RowFits : Row → Type 0
+RowFits r =
+    ContactFits (mass_on r.entry.first r.first_mass) (mass_on r.entry.second r.second_mass)
+    (constraint_on r.entry.first r.entry.second r.constraint)
+
+-- the limits of what a lane holds
+abbrev pub HasItsLimits : LaneRow → Type 0
+HasItsLimits l =
+    AreLimits l.constraint l.first_mass l.second_mass
+    (unsigned_abs l.spin_limit) (unsigned_abs l.push_limit)
 
 -- what a lane holds
 abbrev pub lane_row_in : Lane → PreparedLanes → LaneRow
@@ -78,7 +88,8 @@ lane_row_in k p = record {
   first_mass = mass_in k p.first_mass;
   second_mass = mass_in k p.second_mass;
   constraint = constraint_in k p.constraint;
-  limit = number_in k p.limit;
+  spin_limit = number_in k p.spin_limit;
+  push_limit = number_in k p.push_limit;
 }
 
 -- one of four rows, by its lane

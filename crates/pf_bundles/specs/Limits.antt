@@ -1,27 +1,20 @@
 -- Numbers within which the products of a row in a lane are exact in doubles. In raw units of 2^-24.
-use Rattle.std.specs.Prelude.{ℕ, ◌*◌, ◌<◌, ◌≤◌, ℤ, pos, ◌≤ℤ◌}
+use Rattle.std.specs.Prelude.{◌≡◌, ◌⊎◌, ℕ, ◌+◌, ◌*◌, ◌^◌, ◌<◌, ◌≤◌}
 use Rattle.std.specs.Int.RustNames.{unsigned_abs}
 use Rattle.pf_rot.specs.Vector.{V2}
-use Rattle.pf_rows.specs.Row.{Constraint}
+use Rattle.pf_rows.specs.Row.{Constraint, InverseMass}
 use Rattle.pf_rows.specs.Small.{IsShort}
-use Rattle.pf_bundles.specs.declared.limits.TheConstants.{LANE_DIRECTION_LIMIT, LANE_LIMIT, LONG_ARM, LONG_LIMIT, MIDDLE_ARM, MIDDLE_LIMIT, NUMBER_LIMIT, PRODUCT_LIMIT, SHORT_ARM}
+use Rattle.pf_bundles.specs.declared.limits.TheConstants.{HALF_ARM_SPIN, LANE_DIRECTION_LIMIT, LANE_LIMIT, LEAST_PUSH, LONG_ARM_SPIN, LONGEST_ARM_SPIN, MIDDLE_ARM_SPIN, MIDDLE_PUSH, NUMBER_LIMIT, PRODUCT_LIMIT, QUARTER_ARM_SPIN, SHORT_ARM_SPIN, SMALL_PUSH}
 
 -- the exact products of a number with both parts of a vector are below the limit
 pub record HasShortProducts (n : ℕ) (v : V2) : Type 0 where
   pub x : n * unsigned_abs v.x < PRODUCT_LIMIT
   pub y : n * unsigned_abs v.y < PRODUCT_LIMIT
 
--- spins and impulses up to this are small enough for a constraint
-pub record IsLimitFor (c : Constraint) (limit : ℕ) : Type 0 where
-  pub most : limit ≤ LANE_LIMIT
-  pub first_arm : HasShortProducts limit c.first_arm
-  pub second_arm : HasShortProducts limit c.second_arm
-  pub normal : IsShort LANE_DIRECTION_LIMIT c.normal
-  pub tangent : IsShort LANE_DIRECTION_LIMIT c.tangent
-  pub bias : unsigned_abs c.bias ≤ NUMBER_LIMIT
+-- ---- constraints
 
--- the numbers of a constraint that bound its limit are small, but for the arms
-pub record IsSmallButArms (c : Constraint) : Type 0 where
+-- the numbers of a constraint are small that do not change in a step, but for the arms
+pub record IsSmall (c : Constraint) : Type 0 where
   pub normal : IsShort LANE_DIRECTION_LIMIT c.normal
   pub tangent : IsShort LANE_DIRECTION_LIMIT c.tangent
   pub bias : unsigned_abs c.bias ≤ NUMBER_LIMIT
@@ -31,13 +24,63 @@ pub record HasShortArms (most : ℕ) (c : Constraint) : Type 0 where
   pub first : IsShort most c.first_arm
   pub second : IsShort most c.second_arm
 
--- there is a limit for a constraint
-pub record IsSmall (c : Constraint) : Type 0 where
-  pub numbers : IsSmallButArms c
-  pub arms : HasShortArms LONG_ARM c
+-- ---- spins
 
--- a limit is at least so great where the arms are so short
-pub record IsGreatEnough (c : Constraint) (limit : ℤ) : Type 0 where
-  pub short : IsSmallButArms c → HasShortArms SHORT_ARM c → pos LANE_LIMIT ≤ℤ limit
-  pub middle : IsSmallButArms c → HasShortArms MIDDLE_ARM c → pos MIDDLE_LIMIT ≤ℤ limit
-  pub long : IsSmallButArms c → HasShortArms LONG_ARM c → pos LONG_LIMIT ≤ℤ limit
+-- spins up to this have exact products with the arms of a constraint, and so have spins up to twice
+-- this, which they are after a step
+pub record IsSpinLimit (c : Constraint) (spin : ℕ) : Type 0 where
+  pub most : spin ≤ QUARTER_ARM_SPIN
+  pub first_arm : HasShortProducts (2 * spin) c.first_arm
+  pub second_arm : HasShortProducts (2 * spin) c.second_arm
+
+-- the limits of spins that are tried
+abbrev pub IsTriedSpin : ℕ → Type 0
+IsTriedSpin spin =
+    (spin ≡ QUARTER_ARM_SPIN) ⊎ ((spin ≡ HALF_ARM_SPIN) ⊎ ((spin ≡ SHORT_ARM_SPIN)
+    ⊎ ((spin ≡ MIDDLE_ARM_SPIN) ⊎ ((spin ≡ LONG_ARM_SPIN) ⊎ (spin ≡ LONGEST_ARM_SPIN)))))
+
+-- ---- impulses
+
+-- both parts of an arm together: what an impulse along both axes turns with
+abbrev pub reach : V2 → ℕ
+reach arm = unsigned_abs arm.x + unsigned_abs arm.y
+
+-- what impulses of which no part is above `push` do to a body of this mass at this arm is exact in
+-- doubles, and changes its spin by `spin` at most
+pub record IsPushLimitOf (m : InverseMass) (arm : V2) (spin push : ℕ) : Type 0 where
+  pub moment : push * reach arm < PRODUCT_LIMIT
+  pub change : push * unsigned_abs m.inverse_mass < PRODUCT_LIMIT
+  pub exact : (push * reach arm + 2 ^ 24) * unsigned_abs m.inverse_inertia < PRODUCT_LIMIT * 2 ^ 24
+  pub turn : (push * reach arm + 2 ^ 24) * unsigned_abs m.inverse_inertia ≤ spin * 2 ^ 48
+
+-- and so for both bodies of a constraint
+pub record IsPushLimit (c : Constraint) (a b : InverseMass) (spin push : ℕ) : Type 0 where
+  pub most : push ≤ LANE_LIMIT
+  pub first : IsPushLimitOf a c.first_arm spin push
+  pub second : IsPushLimitOf b c.second_arm spin push
+
+-- the limits of impulses that are tried
+abbrev pub IsTriedPush : ℕ → Type 0
+IsTriedPush push =
+    (push ≡ LANE_LIMIT) ⊎ ((push ≡ MIDDLE_PUSH) ⊎ ((push ≡ SMALL_PUSH) ⊎ (push ≡ LEAST_PUSH)))
+
+-- ---- both
+
+-- the limits of spins and of impulses in a lane
+pub record AreLimits (c : Constraint) (a b : InverseMass) (spin push : ℕ) : Type 0 where
+  pub small : IsSmall c
+  pub spins : IsSpinLimit c spin
+  pub pushes : IsPushLimit c a b spin push
+
+-- no greater ones that are tried are limits
+pub record AreGreatest (c : Constraint) (a b : InverseMass) (spin push : ℕ) : Type 0 where
+  pub spins : (other : ℕ) → IsTriedSpin other → IsSpinLimit c other → other ≤ spin
+  pub pushes : (other : ℕ) → IsTriedPush other → IsPushLimit c a b spin other → other ≤ push
+
+-- there are limits for a constraint
+pub record HasLimits (c : Constraint) (a b : InverseMass) : Type 0 where
+  pub spin : ℕ
+  pub push : ℕ
+  pub tried_spin : IsTriedSpin spin
+  pub tried_push : IsTriedPush push
+  pub limits : AreLimits c a b spin push

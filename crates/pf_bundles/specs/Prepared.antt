@@ -45,10 +45,11 @@ constraint_in k c = record {
   friction = number_in k c.friction;
 }
 
--- what stays fixed during the rounds: inverse masses, constraints, and for each lane the limit of
--- spins and impulses up to which its products are exact
+-- what stays fixed during the rounds: inverse masses, constraints, and for each lane the limits of
+-- spins and of impulses up to which its products are exact
 pub record PreparedLanes : Type 0 where
   pub first_mass : MassLanes
   pub second_mass : MassLanes
   pub constraint : ConstraintLanes
-  pub limit : Lanes
+  pub spin_limit : Lanes
+  pub push_limit : Lanes

@@ -1,14 +1,15 @@
 //! A row as a lane holds it.
 
-ghost use Rattle.std.specs.Prelude.{◌≡◌, ◌≤◌, ◌↔◌, IfSome, IsSome, IsTrue};
+ghost use Rattle.std.specs.Prelude.{◌≡◌, ◌+◌, ◌*◌, ◌^◌, ◌<◌, ◌≤◌, ◌↔◌, ℕ, IfSome, IsSome, IsTrue, None};
 ghost use Rattle.std.specs.Int.RustNames.{unsigned_abs};
 ghost use Rattle.pf_rows.specs.Small.{IsShort};
-ghost use Rattle.pf_bundles.specs.LaneRow.{HasLimit, arm_on, mass_on};
-ghost use Rattle.pf_bundles.specs.Limits.{HasShortArms, IsGreatEnough, IsSmall, IsSmallButArms};
+ghost use Rattle.pf_bundles.specs.LaneRow.{arm_on, mass_on};
+ghost use Rattle.pf_bundles.specs.Limits.{HasShortArms, IsPushLimit, IsPushLimitOf, IsSmall, IsSpinLimit, IsTriedPush, IsTriedSpin, reach};
 
 use crate::limits::{
-    LANE_DIRECTION_LIMIT, LANE_LIMIT, LONG_ARM, LONG_LIMIT, MIDDLE_ARM, MIDDLE_LIMIT, NUMBER_LIMIT,
-    SHORT_ARM,
+    HALF_ARM, HALF_ARM_SPIN, LANE_DIRECTION_LIMIT, LANE_LIMIT, LEAST_PUSH, LONG_ARM, LONG_ARM_SPIN,
+    LONGEST_ARM, LONGEST_ARM_SPIN, MIDDLE_ARM, MIDDLE_ARM_SPIN, MIDDLE_PUSH, NUMBER_LIMIT,
+    PRODUCT_LIMIT, QUARTER_ARM, QUARTER_ARM_SPIN, SHORT_ARM, SHORT_ARM_SPIN, SMALL_PUSH,
 };
 use crate::whole::{WholeMass, WholeVector, number_of, whole_of};
 use pf_lanes::Whole;
@@ -72,11 +73,12 @@ pub struct LaneRow {
     pub(crate) first_mass: WholeMass,
     pub(crate) second_mass: WholeMass,
     pub(crate) constraint: WholeConstraint,
-    pub(crate) limit: Whole,
+    pub(crate) spin_limit: Whole,
+    pub(crate) push_limit: Whole,
 }
 
 impl Model for LaneRow {
-    ghost use Rattle.pf_bundles.specs.LaneRow.{HasLimit, LaneRow};
+    ghost use Rattle.pf_bundles.specs.LaneRow.{HasItsLimits, LaneRow};
 
     ghost Value = { LaneRow };
 
@@ -84,16 +86,24 @@ impl Model for LaneRow {
       first_mass = l.first_mass;
       second_mass = l.second_mass;
       constraint = l.constraint;
-      limit = l.limit;
+      spin_limit = l.spin_limit;
+      push_limit = l.push_limit;
     } };
 
-    ghost invariant = { λ l. HasLimit l.constraint l.limit };
+    ghost invariant = { λ l. HasItsLimits (record {
+      first_mass = l.first_mass;
+      second_mass = l.second_mass;
+      constraint = l.constraint;
+      spin_limit = l.spin_limit;
+      push_limit = l.push_limit;
+    }) };
 
     ghost inverse = { λ l. record {
       first_mass = l.first_mass;
       second_mass = l.second_mass;
       constraint = l.constraint;
-      limit = l.limit;
+      spin_limit = l.spin_limit;
+      push_limit = l.push_limit;
     } };
 }
 
@@ -116,7 +126,7 @@ fn is_short(v: V2, limit: u64) -> bool
 /// Whether directions and bias are within their limits.
 #[inline]
 fn has_small_numbers(c: &Constraint) -> bool
-    ensures { IsTrue result ↔ IsSmallButArms c.now }
+    ensures { IsTrue result ↔ IsSmall c.now }
 {
     is_short(c.normal, LANE_DIRECTION_LIMIT)
         && is_short(c.tangent, LANE_DIRECTION_LIMIT)
@@ -131,27 +141,121 @@ fn has_short_arms(c: &Constraint, limit: u64) -> bool
     is_short(c.first_arm, limit) && is_short(c.second_arm, limit)
 }
 
-/// The limit of a constraint: spins and impulses up to it have exact products. `None` where a
-/// direction, the bias or an arm is too great.
+/// The limit of the spins of a constraint, the greatest of six. `None` where an arm is too great for
+/// each of them.
 #[inline]
-#[tactic(auto, using(crate::proofs::Arms::short, crate::proofs::Arms::middle, crate::proofs::Arms::long))]
-fn limit_of(c: &Constraint) -> Option<Whole>
-    ensures exact { IfSome result (λ limit. HasLimit c.now limit) }
-    ensures great { IfSome result (λ limit. IsGreatEnough c.now limit) }
-    ensures small { IsSome result ↔ IsSmall c.now }
+#[tactic(auto, using(crate::proofs::Arms::quarter_limit, crate::proofs::Arms::half_limit, crate::proofs::Arms::short_limit, crate::proofs::Arms::middle_limit, crate::proofs::Arms::long_limit, crate::proofs::Arms::longest_limit))]
+fn spin_limit_of(c: &Constraint) -> Option<u64>
+    ensures exact { IfSome result (λ spin. IsSpinLimit c.now spin) }
+    ensures greatest { IfSome result
+        (λ spin. (other : ℕ) → IsTriedSpin other → IsSpinLimit c.now other → other ≤ spin) }
+    ensures tried { IfSome result (λ spin. IsTriedSpin spin) }
+    ensures some { IsSome result ↔ HasShortArms LONGEST_ARM c.now }
 {
-    let limit = if !has_small_numbers(c) {
-        return None;
+    if has_short_arms(c, QUARTER_ARM) {
+        Some(QUARTER_ARM_SPIN)
+    } else if has_short_arms(c, HALF_ARM) {
+        Some(HALF_ARM_SPIN)
     } else if has_short_arms(c, SHORT_ARM) {
-        LANE_LIMIT as i64
+        Some(SHORT_ARM_SPIN)
     } else if has_short_arms(c, MIDDLE_ARM) {
-        MIDDLE_LIMIT as i64
+        Some(MIDDLE_ARM_SPIN)
     } else if has_short_arms(c, LONG_ARM) {
-        LONG_LIMIT as i64
+        Some(LONG_ARM_SPIN)
+    } else if has_short_arms(c, LONGEST_ARM) {
+        Some(LONGEST_ARM_SPIN)
     } else {
-        return None;
-    };
-    Some(Whole::of(limit))
+        None
+    }
+}
+
+/// Both parts of an arm together.
+#[inline]
+fn reach(arm: V2) -> u64
+    requires { IsShort LONGEST_ARM arm }
+    ensures value { result ≡ reach arm }
+    ensures size { result ≤ 2 ^ 30 }
+{
+    arm.x.raw().unsigned_abs() + arm.y.raw().unsigned_abs()
+}
+
+/// Whether the change of a spin is exact that a turn up to this makes, and is at most `spin`. The
+/// turn is in units of 2^-48.
+#[inline]
+fn is_small_turn(inverse_inertia: Fx, turn: u64, spin: u64) -> bool
+    requires turn { turn < 2 ^ 63 }
+    requires spin { spin ≤ QUARTER_ARM_SPIN }
+    ensures { IsTrue result ↔ ((turn * unsigned_abs inverse_inertia < PRODUCT_LIMIT * 2 ^ 24)
+        × (turn * unsigned_abs inverse_inertia ≤ spin * 2 ^ 48)) }
+{
+    let change = turn as u128 * inverse_inertia.raw().unsigned_abs() as u128;
+    change < PRODUCT_LIMIT as u128 * (1 << 24) && change <= spin as u128 * (1 << 48)
+}
+
+/// Whether what impulses up to `push` do to a body of this mass at this arm is exact, and changes
+/// its spin by `spin` at most.
+#[inline]
+fn is_push_limit_of(mass: &InverseMass, arm: V2, spin: u64, push: u64) -> bool
+    requires arm { IsShort LONGEST_ARM arm }
+    requires spin { spin ≤ QUARTER_ARM_SPIN }
+    requires push { push ≤ LANE_LIMIT }
+    ensures { IsTrue result ↔ IsPushLimitOf mass.now arm spin push }
+{
+    let moment = push * reach(arm);
+    let change = push as u128 * mass.inverse_mass.raw().unsigned_abs() as u128;
+    moment < PRODUCT_LIMIT
+        && change < PRODUCT_LIMIT as u128
+        && is_small_turn(mass.inverse_inertia, moment + (1 << 24), spin)
+}
+
+/// Whether what impulses up to `push` do to both bodies is exact, and changes their spins by `spin`
+/// at most.
+#[inline]
+fn is_push_limit(
+    c: &Constraint,
+    first: &InverseMass,
+    second: &InverseMass,
+    spin: u64,
+    push: u64,
+) -> bool
+    requires arms { HasShortArms LONGEST_ARM c.now }
+    requires spin { spin ≤ QUARTER_ARM_SPIN }
+    requires push { push ≤ LANE_LIMIT }
+    ensures { IsTrue result ↔ IsPushLimit c.now first.now second.now spin push }
+{
+    is_push_limit_of(first, c.first_arm, spin, push)
+        && is_push_limit_of(second, c.second_arm, spin, push)
+}
+
+/// The limit of the impulses of a step, the greatest of four. `None` where each of them is too
+/// great.
+#[inline]
+fn push_limit_of(
+    c: &Constraint,
+    first: &InverseMass,
+    second: &InverseMass,
+    spin: u64,
+) -> Option<u64>
+    requires arms { HasShortArms LONGEST_ARM c.now }
+    requires spin { spin ≤ QUARTER_ARM_SPIN }
+    ensures exact { IfSome result (λ push. IsPushLimit c.now first.now second.now spin push) }
+    ensures greatest { IfSome result (λ push. (other : ℕ) → IsTriedPush other
+        → IsPushLimit c.now first.now second.now spin other → other ≤ push) }
+    ensures tried { IfSome result (λ push. IsTriedPush push) }
+    ensures none { result ≡ None → (other : ℕ) → IsTriedPush other
+        → IsPushLimit c.now first.now second.now spin other → ⊥ }
+{
+    if is_push_limit(c, first, second, spin, LANE_LIMIT) {
+        Some(LANE_LIMIT)
+    } else if is_push_limit(c, first, second, spin, MIDDLE_PUSH) {
+        Some(MIDDLE_PUSH)
+    } else if is_push_limit(c, first, second, spin, SMALL_PUSH) {
+        Some(SMALL_PUSH)
+    } else if is_push_limit(c, first, second, spin, LEAST_PUSH) {
+        Some(LEAST_PUSH)
+    } else {
+        None
+    }
 }
 
 /// The inverse mass of the body on a side.
@@ -180,7 +284,7 @@ impl WholeConstraint {
     ghost use Rattle.std.specs.Prelude.{◌≡◌, ◌↔◌, IfSome, IsSome};
     ghost use Rattle.pf_rows.specs.Row.{no_constraint};
     ghost use Rattle.pf_bundles.specs.LaneRow.{ConstraintFits};
-    ghost use Rattle.pf_bundles.specs.Limits.{IsSmall};
+    ghost use Rattle.pf_bundles.specs.Limits.{HasShortArms, IsSmall};
 
     /// That of no row.
     fn none() -> WholeConstraint
@@ -202,7 +306,8 @@ impl WholeConstraint {
     /// This constraint, or `None` where doubles do not hold an effective mass or the friction.
     #[inline]
     fn of(c: &Constraint) -> Option<WholeConstraint>
-        requires { IsSmall c.now }
+        requires small { IsSmall c.now }
+        requires arms { HasShortArms LONGEST_ARM c.now }
         ensures value { IfSome result (λ whole. whole ≡ c.now) }
         ensures fits { IsSome result ↔ ConstraintFits c.now }
     {
@@ -238,8 +343,9 @@ impl WholeConstraint {
 
 impl LaneRow {
     ghost use Rattle.std.specs.Prelude.{◌≡◌, ◌↔◌, IfSome, IsSome};
-    ghost use Rattle.pf_bundles.specs.LaneRow.{IsHeldBy, RowFits, no_lane_row};
-    ghost use Rattle.pf_bundles.specs.Limits.{IsGreatEnough};
+    ghost use Rattle.std.specs.Int.RustNames.{unsigned_abs};
+    ghost use Rattle.pf_bundles.specs.LaneRow.{ContactFits, IsHeldBy, RowFits, no_lane_row};
+    ghost use Rattle.pf_bundles.specs.Limits.{AreGreatest};
 
     /// A lane without a row: nothing moves in it.
     pub fn none() -> LaneRow
@@ -249,16 +355,50 @@ impl LaneRow {
             first_mass: WholeMass::none(),
             second_mass: WholeMass::none(),
             constraint: WholeConstraint::none(),
-            limit: Whole::of(LANE_LIMIT as i64),
+            spin_limit: Whole::of(QUARTER_ARM_SPIN as i64),
+            push_limit: Whole::of(LANE_LIMIT as i64),
         }
     }
 
-    /// A row in a lane, without the mass and the arm of a static body, or `None` where there is no
-    /// limit for it, or doubles do not hold one of its numbers.
+    /// A contact in a lane, or `None` where there are no limits for it, or doubles do not hold one
+    /// of its numbers.
+    #[inline]
+    #[tactic(auto, using(crate::proofs::Arms::fitting_arms))]
+    fn of_contact(
+        first_mass: &InverseMass,
+        second_mass: &InverseMass,
+        constraint: &Constraint,
+    ) -> Option<LaneRow>
+        ensures first { IfSome result (λ lane. lane.first_mass ≡ first_mass.now) }
+        ensures second { IfSome result (λ lane. lane.second_mass ≡ second_mass.now) }
+        ensures constraint { IfSome result (λ lane. lane.constraint ≡ constraint.now) }
+        ensures limits { IfSome result (λ lane.
+            AreGreatest constraint.now first_mass.now second_mass.now
+            (unsigned_abs lane.spin_limit) (unsigned_abs lane.push_limit)) }
+        ensures fits { IsSome result ↔ ContactFits first_mass.now second_mass.now constraint.now }
+    {
+        if !has_small_numbers(constraint) {
+            return None;
+        }
+        let spin = spin_limit_of(constraint)?;
+        let push = push_limit_of(constraint, first_mass, second_mass, spin)?;
+        Some(LaneRow {
+            first_mass: WholeMass::of(*first_mass)?,
+            second_mass: WholeMass::of(*second_mass)?,
+            constraint: WholeConstraint::of(constraint)?,
+            spin_limit: Whole::of(spin as i64),
+            push_limit: Whole::of(push as i64),
+        })
+    }
+
+    /// A row in a lane, without the mass and the arm of a static body, or `None` where there are no
+    /// limits for it, or doubles do not hold one of its numbers.
     #[inline]
     pub fn of(row: &Row) -> Option<LaneRow>
         ensures held { IfSome result (λ lane. IsHeldBy lane row.now) }
-        ensures limit { IfSome result (λ lane. IsGreatEnough lane.constraint lane.limit) }
+        ensures limits { IfSome result (λ lane.
+            AreGreatest lane.constraint lane.first_mass lane.second_mass
+            (unsigned_abs lane.spin_limit) (unsigned_abs lane.push_limit)) }
         ensures fits { IsSome result ↔ RowFits row.now }
     {
         let (first, second) = (row.entry.first, row.entry.second);
@@ -268,14 +408,9 @@ impl LaneRow {
             second_arm: arm_on(second, own.second_arm),
             ..*own
         };
-        let limit = limit_of(&constraint)?;
-        let constraint = WholeConstraint::of(&constraint)?;
-        Some(LaneRow {
-            first_mass: WholeMass::of(mass_on(first, row.prepared.first_mass()))?,
-            second_mass: WholeMass::of(mass_on(second, row.prepared.second_mass()))?,
-            constraint,
-            limit,
-        })
+        let first_mass = mass_on(first, row.prepared.first_mass());
+        let second_mass = mass_on(second, row.prepared.second_mass());
+        LaneRow::of_contact(&first_mass, &second_mass, &constraint)
     }
 
     /// What the rounds need of it by scalars.

@@ -84,21 +84,21 @@ impl Model for ConstraintLanes {
     } };
 }
 
-/// What stays fixed of contacts during the rounds. In a lane whose limit is not negative, spins and
-/// impulses up to this limit have exact products.
+/// What stays fixed of contacts during the rounds. In each lane spins and impulses up to its limits
+/// have exact products.
 #[derive(Clone, Copy)]
 pub struct PreparedLanes {
     first_mass: MassLanes,
     second_mass: MassLanes,
     constraint: ConstraintLanes,
-    limit: Lanes,
+    spin_limit: Lanes,
+    push_limit: Lanes,
 }
 
 impl Model for PreparedLanes {
-    ghost use Rattle.pf_lanes.specs.Lanes.{Lane, number_in};
+    ghost use Rattle.pf_lanes.specs.Lanes.{Lane};
+    ghost use Rattle.pf_bundles.specs.LaneRow.{HasItsLimits, lane_row_in};
     ghost use Rattle.pf_bundles.specs.Prepared.{PreparedLanes};
-    ghost use Rattle.pf_bundles.specs.LaneRow.{HasLimit};
-    ghost use Rattle.pf_bundles.specs.Prepared.{constraint_in};
 
     ghost Value = { PreparedLanes };
 
@@ -106,25 +106,31 @@ impl Model for PreparedLanes {
       first_mass = p.first_mass;
       second_mass = p.second_mass;
       constraint = p.constraint;
-      limit = p.limit;
+      spin_limit = p.spin_limit;
+      push_limit = p.push_limit;
     } };
 
-    ghost invariant = { λ p. (k : Lane)
-        → HasLimit (constraint_in k p.constraint) (number_in k p.limit) };
+    ghost invariant = { λ p. (k : Lane) → HasItsLimits (lane_row_in k (record {
+      first_mass = p.first_mass;
+      second_mass = p.second_mass;
+      constraint = p.constraint;
+      spin_limit = p.spin_limit;
+      push_limit = p.push_limit;
+    })) };
 
     ghost inverse = { λ p. record {
       first_mass = p.first_mass;
       second_mass = p.second_mass;
       constraint = p.constraint;
-      limit = p.limit;
+      spin_limit = p.spin_limit;
+      push_limit = p.push_limit;
     } };
 }
 
 impl PreparedLanes {
     ghost use Rattle.std.specs.Prelude.{◌≡◌};
-    ghost use Rattle.pf_lanes.specs.Lanes.{Lane, number_in};
-    ghost use Rattle.pf_bundles.specs.LaneRow.{HasLimit};
-    ghost use Rattle.pf_bundles.specs.Prepared.{constraint_in};
+    ghost use Rattle.pf_lanes.specs.Lanes.{Lane};
+    ghost use Rattle.pf_bundles.specs.LaneRow.{HasItsLimits, lane_row_in};
 
     /// The inverse masses of the first bodies.
     #[inline]
@@ -150,14 +156,22 @@ impl PreparedLanes {
         &self.constraint
     }
 
-    /// The limit of each lane.
+    /// The limit of the spins of each lane.
     #[inline]
-    pub fn limit(&self) -> Lanes
-        ensures value { result ≡ self.now.limit }
-        ensures limits { (k : Lane)
-            → HasLimit (constraint_in k self.now.constraint) (number_in k result) }
+    pub fn spin_limit(&self) -> Lanes
+        ensures value { result ≡ self.now.spin_limit }
+        ensures limits { (k : Lane) → HasItsLimits (lane_row_in k self.now) }
     {
-        self.limit
+        self.spin_limit
+    }
+
+    /// The limit of the impulses of a step of each lane.
+    #[inline]
+    pub fn push_limit(&self) -> Lanes
+        ensures value { result ≡ self.now.push_limit }
+        ensures limits { (k : Lane) → HasItsLimits (lane_row_in k self.now) }
+    {
+        self.push_limit
     }
 }
 
@@ -250,7 +264,8 @@ impl PreparedLanes {
             first_mass: masses(a.first_mass, b.first_mass, c.first_mass, d.first_mass),
             second_mass: masses(a.second_mass, b.second_mass, c.second_mass, d.second_mass),
             constraint: constraints(&a.constraint, &b.constraint, &c.constraint, &d.constraint),
-            limit: Lanes::gather([a.limit, b.limit, c.limit, d.limit]),
+            spin_limit: Lanes::gather([a.spin_limit, b.spin_limit, c.spin_limit, d.spin_limit]),
+            push_limit: Lanes::gather([a.push_limit, b.push_limit, c.push_limit, d.push_limit]),
         }
     }
 }

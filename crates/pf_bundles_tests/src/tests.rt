@@ -85,6 +85,7 @@ fn a_lane_holds_a_row(rt: HostRuntime) {
     let none = LaneRow::none().prepared();
     assert!(rt; none.second_mass().inverse_mass == Fx::ZERO);
     laws::named_limits();
+    laws::limits_of_spins();
 }
 
 /// A row of a static body and this one.
@@ -108,27 +109,33 @@ fn lane(arm: Fx, bias: Fx) -> LaneRow {
     LaneRow::of(&row(arm, bias)).unwrap_or(LaneRow::none())
 }
 
-/// The limit of a lane of a row with arms of this whole length, if there is one.
-fn limit(length: i64) -> Option<i64>
+/// The limits of spins and of impulses of a lane.
+fn limits_of(lane: LaneRow) -> (i64, i64) {
+    let bundle = Bundle::of(&[0], &[ground(0)], &[lane]);
+    let prepared = bundle.prepared();
+    (raw(prepared.spin_limit())[0], raw(prepared.push_limit())[0])
+}
+
+/// The limits of a row with an arm of this whole length, if there are any.
+fn limits(length: i64) -> Option<(i64, i64)>
     requires below { length ≤ℤ pos 99 }
     requires above { pos 1 ≤ℤ length }
 {
     let lane = LaneRow::of(&row(Fx::from_raw(length << 24)?, Fx::ONE))?;
-    let bundle = Bundle::of(&[0], &[ground(0)], &[lane]);
-    Some(raw(bundle.prepared().limit())[0])
+    Some(limits_of(lane))
 }
 
 #[test]
 fn limits_fall_with_long_arms(rt: HostRuntime) {
     for (length, expected) in [
-        (1, Some(1 << 28)),
-        (2, Some(1 << 26)),
-        (7, Some(1 << 26)),
-        (8, Some(1 << 24)),
-        (31, Some(1 << 24)),
+        (1, Some((1 << 27, 1 << 28))),
+        (2, Some((1 << 25, 1 << 25))),
+        (7, Some((1 << 25, 1 << 25))),
+        (8, Some((1 << 23, 1 << 25))),
+        (31, Some((1 << 23, 1 << 23))),
         (32, None),
     ] {
-        assert_eq!(rt; limit(length), expected, "at {length}");
+        assert_eq!(rt; limits(length), expected, "at {length}");
     }
 }
 

@@ -15,3 +15,4 @@ pub mod Levels
 pub mod AfterTick
 pub mod Beside
 pub mod Tick
+pub mod NoTurning

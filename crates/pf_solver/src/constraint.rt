@@ -1,8 +1,10 @@
 //! The pre-step of a contact: the part of it that stays fixed during the rounds.
 
 ghost use Rattle.std.specs.Prelude.{◌≡◌};
+ghost use Rattle.pf_num.specs.Fx.{product};
 ghost use Rattle.pf_solver.specs.Constraint.{bias_of, constraint_of, effective_mass, friction_of, squared_lever_arm, mobility, tangent_of};
 
+use crate::fast_path::fast_squared_lever_arm;
 use pf_manifold::ContactPoint;
 use pf_num::Fx;
 use pf_rot::V2;
@@ -52,14 +54,33 @@ fn tangent_of(normal: V2) -> V2
     }
 }
 
-/// How far from the centre an impulse along this direction acts, squared.
-#[inline(always)]
+/// How far from the centre an impulse along this direction acts, squared, by the general path.
+#[cold]
+#[inline(never)]
 #[tactic(auto, unfolding(crate::specs::Constraint::squared_lever_arm))]
-fn squared_lever_arm(arm: V2, direction: V2) -> Fx
+fn general_squared_lever_arm(arm: V2, direction: V2) -> Fx
     ensures { result ≡ squared_lever_arm arm direction }
 {
     let along = arm.dot(direction);
     Fx::ZERO.max(arm.dot(arm).sub(along.mul(along)))
+}
+
+/// What the turning of a body adds to the inverse of the effective mass along a unit direction. A
+/// body that impulses do not turn adds nothing, whatever its arm.
+#[inline(always)]
+#[tactic(auto, using(crate::proofs::NoTurning::no_turning))]
+fn turning_mobility(mass: &InverseMass, arm: V2, direction: V2) -> Fx
+    ensures { result ≡ product mass.now.inverse_inertia (squared_lever_arm arm direction) }
+{
+    let inverse_inertia = mass.inverse_inertia;
+    if inverse_inertia == Fx::ZERO {
+        return Fx::ZERO;
+    }
+    let squared = match fast_squared_lever_arm(arm, direction) {
+        Some(squared) => squared,
+        None => general_squared_lever_arm(arm, direction),
+    };
+    inverse_inertia.mul(squared)
 }
 
 /// The inverse of the effective mass along a unit direction, Box2D-Lite's `kNormal` and `kTangent`:
@@ -69,12 +90,8 @@ fn squared_lever_arm(arm: V2, direction: V2) -> Fx
 fn mobility(a: &InverseMass, b: &InverseMass, first_arm: V2, second_arm: V2, direction: V2) -> Fx
     ensures { result ≡ mobility a.now b.now first_arm second_arm direction }
 {
-    let first = a
-        .inverse_inertia
-        .mul(squared_lever_arm(first_arm, direction));
-    let second = b
-        .inverse_inertia
-        .mul(squared_lever_arm(second_arm, direction));
+    let first = turning_mobility(a, first_arm, direction);
+    let second = turning_mobility(b, second_arm, direction);
     a.inverse_mass.add(b.inverse_mass).add(first.add(second))
 }
 

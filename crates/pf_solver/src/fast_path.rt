@@ -1,25 +1,37 @@
-//! The fast path of warm starting and of rounds: the general path's results without overflow tests
-//! of each sum and product. Each function returns `None` where a number is above a limit of
-//! `pf_rows::limits`.
+//! The fast path of the pre-step, of warm starting and of rounds: the general path's results without
+//! overflow tests of each sum and product. Each function returns `None` where a number is above a
+//! limit of `pf_rows::limits`.
 
-ghost use Rattle.std.specs.Prelude.{◌≡◌, ◌≤◌, IfSome, IsTrue};
+ghost use Rattle.std.specs.Prelude.{◌≡◌, ◌≤◌, ◌<◌, ◌^◌, IfSome, IsTrue};
 ghost use Rattle.std.specs.Int.RustNames.{unsigned_abs};
-ghost use Rattle.pf_rows.specs.Small.{HasShortDirections, HasSmallNumbers, IsHeavy, IsSmallArm};
+ghost use Rattle.pf_rows.specs.Small.{HasShortDirections, HasSmallNumbers, IsHeavy, IsShort, IsSmallArm};
+ghost use Rattle.pf_solver.specs.Constraint.{squared_lever_arm};
 ghost use Rattle.pf_solver.specs.Impulse.{after_round, after_warm_start};
 ghost use Rattle.pf_solver.specs.Velocities.{static_motion};
 ghost use Rattle.pf_solver.specs.FastPath.{HasSmallArms, IsArmFor, IsMassOf, IsSlow, StandsFor};
 
 mod bodies;
+mod lever_arm;
 mod products;
 mod steps;
 
 use crate::fast_path::bodies::{after_impulse, impulse_along};
+use crate::fast_path::lever_arm::squared_lever_arm;
 use crate::fast_path::steps::{after_friction_step, after_normal_step, is_within};
 use crate::impulse::{ContactState, Motion};
 use pf_num::Fx;
 use pf_rot::V2;
-use pf_rows::limits::{ACCUMULATED_LIMIT, SPEED_LIMIT, STEP_LIMIT};
+use pf_rows::limits::{ACCUMULATED_LIMIT, ARM_LIMIT, DIRECTION_LIMIT, SPEED_LIMIT, STEP_LIMIT};
 use pf_rows::{Constraint, Impulses, InverseMass, Prepared};
+
+/// Whether both parts of a vector are at most this in magnitude.
+#[inline]
+fn is_short(v: V2, limit: u64) -> bool
+    requires { limit < 2 ^ 63 }
+    ensures { IsTrue result → IsShort limit v }
+{
+    is_within(v.x, limit) && is_within(v.y, limit)
+}
 
 /// Whether a body is slow enough for the fast path.
 #[inline]
@@ -27,11 +39,8 @@ fn is_slow_enough(body: &Motion) -> bool
     requires { IsHeavy body.now.mass }
     ensures { IsTrue result → IsSlow body.now }
 {
-    let velocity = body.velocity;
     let spin = body.spin;
-    is_within(velocity.x, SPEED_LIMIT)
-        && is_within(velocity.y, SPEED_LIMIT)
-        && is_within(spin, SPEED_LIMIT)
+    is_short(body.velocity, SPEED_LIMIT) && is_within(spin, SPEED_LIMIT)
 }
 
 /// Whether accumulated impulses are small enough for the fast path of a round.
@@ -152,6 +161,19 @@ fn small_constraint(prepared: &Prepared, state: &ContactState) -> Option<Constra
         second_arm,
         ..*own
     })
+}
+
+/// How far from the centre an impulse along this direction acts, squared, by the fast path, or
+/// `None`.
+#[inline(always)]
+pub fn fast_squared_lever_arm(arm: V2, direction: V2) -> Option<Fx>
+    ensures { IfSome result (λ squared. squared ≡ squared_lever_arm arm direction) }
+{
+    if is_short(arm, ARM_LIMIT) && is_short(direction, DIRECTION_LIMIT) {
+        Some(squared_lever_arm(arm, direction))
+    } else {
+        None
+    }
 }
 
 /// Warm starting by the fast path, or `None`.

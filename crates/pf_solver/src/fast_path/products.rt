@@ -94,3 +94,37 @@ pub(crate) fn inertia_by_turn(inverse_inertia: Fx, turn: Fx) -> Fx
 {
     inverse_inertia.unchecked_mul(turn)
 }
+
+/// The square of a component of an arm.
+#[inline]
+#[tactic(auto, using(crate::proofs::Sizes::times_within))]
+pub(crate) fn square_of_arm(arm: Fx) -> Fx
+    requires { unsigned_abs arm ≤ ARM_LIMIT }
+    ensures value { result ≡ product arm arm }
+    ensures size { unsigned_abs result ≤ 2 ^ 32 }
+{
+    arm.unchecked_mul(arm)
+}
+
+/// A component of an arm times a component of a direction.
+#[inline]
+#[tactic(auto, using(crate::proofs::Sizes::times_within))]
+pub(crate) fn arm_by_direction(arm: Fx, direction: Fx) -> Fx
+    requires arm { unsigned_abs arm ≤ ARM_LIMIT }
+    requires direction { unsigned_abs direction ≤ DIRECTION_LIMIT }
+    ensures value { result ≡ product arm direction }
+    ensures size { unsigned_abs result ≤ 2 ^ 29 }
+{
+    arm.unchecked_mul(direction)
+}
+
+/// The square of the part of an arm along a direction.
+#[inline]
+#[tactic(auto, using(crate::proofs::Sizes::times_within))]
+pub(crate) fn square_of_part(part: Fx) -> Fx
+    requires { unsigned_abs part ≤ 2 ^ 30 }
+    ensures value { result ≡ product part part }
+    ensures size { unsigned_abs result ≤ 2 ^ 36 }
+{
+    part.unchecked_mul(part)
+}

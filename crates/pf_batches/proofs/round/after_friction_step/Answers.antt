@@ -11,6 +11,6 @@ returns-clause-value c = λ k.
     let p = c.args.prepared.now in
     ap (state_in k p) c.with_tangent.ensures
     ∙ friction_step (constraint_in k p.constraint) (state_in k p c.args.state.now) (state_in k p c.in_ok-after.after)
-    (number_in k c.in_ok-tangent.tangent) (number_in k c.minus-added.result)
-    (c.in_ok-tangent.ensures.value k) (grind (arith, common_steps, c.minus-added.ensures.value k))
+    (number_in k c.plus-tangent.result) (number_in k c.in_ok-added.added)
+    (grind (arith, common_steps, c.plus-tangent.ensures.value k, c.in_ok-added.ensures.total k)) (c.in_ok-added.ensures.added k)
     (grind (arith, common_steps, c.in_ok-after.ensures.value k))
