@@ -4,7 +4,7 @@ ghost use Rattle.std.specs.Prelude.{◌≡◌};
 ghost use Rattle.pf_num.specs.Fx.{product};
 ghost use Rattle.pf_solver.specs.Constraint.{bias_of, constraint_of, effective_mass, friction_of, squared_lever_arm, mobility, tangent_of};
 
-use crate::fast_path::fast_squared_lever_arm;
+use crate::fast_path::fast_squared_lever_arms;
 use pf_manifold::ContactPoint;
 use pf_num::Fx;
 use pf_rot::V2;
@@ -45,7 +45,7 @@ impl Model for PreStepBody {
 
 /// The tangent: the normal, a quarter turn clockwise.
 #[inline]
-fn tangent_of(normal: V2) -> V2
+pub(crate) fn tangent_of(normal: V2) -> V2
     ensures { result ≡ tangent_of normal }
 {
     V2 {
@@ -54,59 +54,70 @@ fn tangent_of(normal: V2) -> V2
     }
 }
 
-/// How far from the centre an impulse along this direction acts, squared, by the general path.
-#[cold]
-#[inline(never)]
+/// How far from the centre an impulse along this direction acts, squared.
 #[tactic(auto, unfolding(crate::specs::Constraint::squared_lever_arm))]
-fn general_squared_lever_arm(arm: V2, direction: V2) -> Fx
+fn squared_lever_arm(arm: V2, direction: V2) -> Fx
     ensures { result ≡ squared_lever_arm arm direction }
 {
     let along = arm.dot(direction);
     Fx::ZERO.max(arm.dot(arm).sub(along.mul(along)))
 }
 
-/// What the turning of a body adds to the inverse of the effective mass along a unit direction. A
-/// body that impulses do not turn adds nothing, whatever its arm.
+/// The same along the normal and along the tangent, by the general path.
+#[cold]
+#[inline(never)]
+fn general_squared_lever_arms(arm: V2, normal: V2) -> (Fx, Fx)
+    ensures { result ≡ (squared_lever_arm arm normal, squared_lever_arm arm (tangent_of normal)) }
+{
+    (
+        squared_lever_arm(arm, normal),
+        squared_lever_arm(arm, tangent_of(normal)),
+    )
+}
+
+/// What the turning of a body adds to the inverses of both effective masses. A body that impulses
+/// do not turn adds nothing, whatever its arm.
 #[inline(always)]
 #[tactic(auto, using(crate::proofs::NoTurning::no_turning))]
-fn turning_mobility(mass: &InverseMass, arm: V2, direction: V2) -> Fx
-    ensures { result ≡ product mass.now.inverse_inertia (squared_lever_arm arm direction) }
+fn turning_mobilities(mass: &InverseMass, arm: V2, normal: V2) -> (Fx, Fx)
+    ensures normal { result.0
+        ≡ product mass.now.inverse_inertia (squared_lever_arm arm normal) }
+    ensures tangent { result.1
+        ≡ product mass.now.inverse_inertia (squared_lever_arm arm (tangent_of normal)) }
 {
     let inverse_inertia = mass.inverse_inertia;
     if inverse_inertia == Fx::ZERO {
-        return Fx::ZERO;
+        return (Fx::ZERO, Fx::ZERO);
     }
-    let squared = match fast_squared_lever_arm(arm, direction) {
+    let (along, across) = match fast_squared_lever_arms(arm, normal) {
         Some(squared) => squared,
-        None => general_squared_lever_arm(arm, direction),
+        None => general_squared_lever_arms(arm, normal),
     };
-    inverse_inertia.mul(squared)
+    (inverse_inertia.mul(along), inverse_inertia.mul(across))
 }
 
-/// The inverse of the effective mass along a unit direction, Box2D-Lite's `kNormal` and `kTangent`:
-/// by how much an impulse of 1 along it changes the relative speed along it.
+/// The effective masses along the normal and along the tangent: the inverses of Box2D-Lite's
+/// `kNormal` and `kTangent`, which say by how much an impulse of 1 changes the relative speed.
 #[inline(always)]
 #[tactic(auto, unfolding(crate::specs::Constraint::mobility))]
-fn mobility(a: &InverseMass, b: &InverseMass, first_arm: V2, second_arm: V2, direction: V2) -> Fx
-    ensures { result ≡ mobility a.now b.now first_arm second_arm direction }
-{
-    let first = turning_mobility(a, first_arm, direction);
-    let second = turning_mobility(b, second_arm, direction);
-    a.inverse_mass.add(b.inverse_mass).add(first.add(second))
-}
-
-/// The effective mass along a direction.
-#[inline(always)]
-fn effective_mass(
+fn effective_masses(
     a: &InverseMass,
     b: &InverseMass,
     first_arm: V2,
     second_arm: V2,
-    direction: V2,
-) -> Fx
-    ensures { result ≡ effective_mass a.now b.now first_arm second_arm direction }
+    normal: V2,
+) -> (Fx, Fx)
+    ensures normal { result.0 ≡ effective_mass a.now b.now first_arm second_arm normal }
+    ensures tangent { result.1
+        ≡ effective_mass a.now b.now first_arm second_arm (tangent_of normal) }
 {
-    Fx::ONE.div(mobility(a, b, first_arm, second_arm, direction))
+    let (first_along, first_across) = turning_mobilities(a, first_arm, normal);
+    let (second_along, second_across) = turning_mobilities(b, second_arm, normal);
+    let mass = a.inverse_mass.add(b.inverse_mass);
+    (
+        Fx::ONE.div(mass.add(first_along.add(second_along))),
+        Fx::ONE.div(mass.add(first_across.add(second_across))),
+    )
 }
 
 /// Baumgarte's bias: the separating speed aimed at, `BIAS_FACTOR` times the overlap beyond the
@@ -190,16 +201,18 @@ pub fn constraint_of(
     ensures { result ≡ constraint_of a.now b.now point.now }
 {
     let normal = point.normal;
-    let tangent = tangent_of(normal);
     let first_arm = point.position.sub(a.position);
     let second_arm = point.position.sub(b.position);
+    let (normal_mass, tangent_mass) = effective_masses(
+        &a.mass, &b.mass, first_arm, second_arm, normal,
+    );
     Constraint {
         normal,
-        tangent,
+        tangent: tangent_of(normal),
         first_arm,
         second_arm,
-        normal_mass: effective_mass(&a.mass, &b.mass, first_arm, second_arm, normal),
-        tangent_mass: effective_mass(&a.mass, &b.mass, first_arm, second_arm, tangent),
+        normal_mass,
+        tangent_mass,
         bias: bias_of(point.separation),
         friction: last.mix(a.friction, b.friction),
     }

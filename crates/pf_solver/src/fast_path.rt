@@ -5,7 +5,7 @@
 ghost use Rattle.std.specs.Prelude.{◌≡◌, ◌≤◌, ◌<◌, ◌^◌, IfSome, IsTrue};
 ghost use Rattle.std.specs.Int.RustNames.{unsigned_abs};
 ghost use Rattle.pf_rows.specs.Small.{HasShortDirections, HasSmallNumbers, IsHeavy, IsShort, IsSmallArm};
-ghost use Rattle.pf_solver.specs.Constraint.{squared_lever_arm};
+ghost use Rattle.pf_solver.specs.Constraint.{squared_lever_arm, tangent_of};
 ghost use Rattle.pf_solver.specs.Impulse.{after_round, after_warm_start};
 ghost use Rattle.pf_solver.specs.Velocities.{static_motion};
 ghost use Rattle.pf_solver.specs.FastPath.{HasSmallArms, IsArmFor, IsMassOf, IsSlow, StandsFor};
@@ -16,7 +16,7 @@ mod products;
 mod steps;
 
 use crate::fast_path::bodies::{after_impulse, impulse_along};
-use crate::fast_path::lever_arm::squared_lever_arm;
+use crate::fast_path::lever_arm::squared_lever_arms;
 use crate::fast_path::steps::{after_friction_step, after_normal_step, is_within};
 use crate::impulse::{ContactState, Motion};
 use pf_num::Fx;
@@ -163,14 +163,15 @@ fn small_constraint(prepared: &Prepared, state: &ContactState) -> Option<Constra
     })
 }
 
-/// How far from the centre an impulse along this direction acts, squared, by the fast path, or
-/// `None`.
+/// How far from the centre an impulse along the normal acts, and one along the tangent, squared, by
+/// the fast path, or `None`.
 #[inline(always)]
-pub fn fast_squared_lever_arm(arm: V2, direction: V2) -> Option<Fx>
-    ensures { IfSome result (λ squared. squared ≡ squared_lever_arm arm direction) }
+pub fn fast_squared_lever_arms(arm: V2, normal: V2) -> Option<(Fx, Fx)>
+    ensures { IfSome result (λ squared. squared
+        ≡ (squared_lever_arm arm normal, squared_lever_arm arm (tangent_of normal))) }
 {
-    if is_short(arm, ARM_LIMIT) && is_short(direction, DIRECTION_LIMIT) {
-        Some(squared_lever_arm(arm, direction))
+    if is_short(arm, ARM_LIMIT) && is_short(normal, DIRECTION_LIMIT) {
+        Some(squared_lever_arms(arm, normal))
     } else {
         None
     }

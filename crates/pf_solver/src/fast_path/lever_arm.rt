@@ -4,8 +4,9 @@ ghost use Rattle.std.specs.Prelude.{◌≡◌, ◌≤◌, ◌^◌};
 ghost use Rattle.std.specs.Int.RustNames.{unsigned_abs};
 ghost use Rattle.pf_rot.specs.Vector.{dot};
 ghost use Rattle.pf_rows.specs.Small.{IsShort};
-ghost use Rattle.pf_solver.specs.Constraint.{squared_lever_arm};
+ghost use Rattle.pf_solver.specs.Constraint.{squared_lever_arm, tangent_of};
 
+use crate::constraint::tangent_of;
 use crate::fast_path::products::{arm_by_direction, square_of_arm, square_of_part};
 use pf_num::Fx;
 use pf_rot::V2;
@@ -35,14 +36,20 @@ fn part_along(arm: V2, direction: V2) -> Fx
     x.unchecked_add(arm_by_direction(arm.y, direction.y))
 }
 
-/// How far from the centre an impulse along this direction acts, squared.
+/// How far from the centre an impulse along the normal acts, and one along the tangent, squared.
 #[inline(always)]
 #[tactic(auto, unfolding(crate::specs::Constraint::squared_lever_arm))]
-pub(crate) fn squared_lever_arm(arm: V2, direction: V2) -> Fx
+pub(crate) fn squared_lever_arms(arm: V2, normal: V2) -> (Fx, Fx)
     requires arm { IsShort ARM_LIMIT arm }
-    requires direction { IsShort DIRECTION_LIMIT direction }
-    ensures { result ≡ squared_lever_arm arm direction }
+    requires normal { IsShort DIRECTION_LIMIT normal }
+    ensures normal { result.0 ≡ squared_lever_arm arm normal }
+    ensures tangent { result.1 ≡ squared_lever_arm arm (tangent_of normal) }
 {
-    let along = part_along(arm, direction);
-    Fx::ZERO.max(squared_length(arm).unchecked_sub(square_of_part(along)))
+    let squared = squared_length(arm);
+    let along = part_along(arm, normal);
+    let across = part_along(arm, tangent_of(normal));
+    (
+        Fx::ZERO.max(squared.unchecked_sub(square_of_part(along))),
+        Fx::ZERO.max(squared.unchecked_sub(square_of_part(across))),
+    )
 }
