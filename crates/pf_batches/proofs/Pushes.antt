@@ -1,7 +1,7 @@
 -- What impulses within the limits of a lane do to bodies: it is exact, and their spins stay small.
-use Rattle.std.proofs.Common.{◌≡◌, ℕ, ◌+◌, ◌*◌, ◌<◌, ◌≤◌, ℤ, pos, ◌≤ℤ◌, refl, sym, ap, subst, arith}
+use Rattle.std.proofs.Common.{◌≡◌, ℕ, ◌+◌, ◌*◌, ◌<◌, ◌≤◌, ℤ, pos, ◌≤ℤ◌, sym, subst, arith}
 use Rattle.std.proofs.lemmas.Int.{ints, clamps}
-use Rattle.std.proofs.Math.Nat.{mul-le-mul, mul-le-mul_left, mul-le-mul_right}
+use Rattle.std.proofs.Math.Nat.{mul-le-mul_left, mul-le-mul_right}
 use Rattle.std.specs.Int.RustNames.{unsigned_abs}
 use Rattle.pf_num.specs.Fx.{difference, product, saturate, sum}
 use Rattle.pf_num.proofs.Range.{product_bound}
@@ -22,10 +22,11 @@ spin_products spin s arm h limit = record {
 }
 
 -- and so has an impulse
-pub exact_products : (spin : ℤ) (n : ℕ) (c : Constraint) → pos n ≤ℤ spin → IsSpinLimit c (unsigned_abs spin)
+pub exact_products : (spin most : ℤ) (n : ℕ) (c : Constraint) → unsigned_abs most ≡ 2 * unsigned_abs spin
+    → pos n ≤ℤ most → IsSpinLimit c (unsigned_abs spin)
     → HasShortProducts n c.first_arm × HasShortProducts n c.second_arm
-exact_products spin n c h limit =
-    let within : n ≤ 2 * unsigned_abs spin = omega (arith, ints, h) in (
+exact_products spin most n c e h limit =
+    let within : n ≤ 2 * unsigned_abs spin = omega (arith, ints, e, h) in (
       spin_products (unsigned_abs spin) n c.first_arm within limit.first_arm,
       spin_products (unsigned_abs spin) n c.second_arm within limit.second_arm,
     )

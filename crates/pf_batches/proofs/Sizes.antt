@@ -3,7 +3,7 @@ use Rattle.std.proofs.Common.{◌≡◌, ℕ, ◌+◌, ◌*◌, ◌<◌, ◌≤�
 use Rattle.std.proofs.Math.Nat.{mul-le-mul, mul-le-mul_left}
 use Rattle.pf_num.specs.Fx.{difference, sum}
 
--- a product of numbers up to m and n
+-- a product of a relative velocity, or of an impulse, with a direction
 pub times_below : (a b : ℕ) → a ≤ 503316480 → b ≤ 17825792 → a * b < 9007199254740992
 times_below a b ha hb = let h : a * b ≤ 503316480 * 17825792 = mul-le-mul ha hb in omega (arith, h)
 
@@ -11,7 +11,7 @@ times_below a b ha hb = let h : a * b ≤ 503316480 * 17825792 = mul-le-mul ha h
 pub part_below : (a n b m : ℕ) → a ≤ n → n * b < m → a * b < m
 part_below a n b m ha h = let below : a * b ≤ n * b = mul-le-mul ha (omega arith) in omega (arith, below, h)
 
--- a rounded product with a number below 2 is at most twice the other number
+-- a rounded product with a part of a direction is at most twice the other number
 pub doubled : (a d r : ℕ) → d ≤ 17825792 → r * 33554432 ≤ a * d * 2 + 16777216 → r ≤ 2 * a
 doubled a d r short rounded = let h : a * d ≤ a * 17825792 = mul-le-mul_left a short in omega (arith, h, rounded)
 

@@ -4,7 +4,6 @@ use Rattle.std.proofs.lemmas.Int.{ints}
 use Rattle.std.proofs.Math.IntN.{neg_ℤ-neg_ℤ}
 use Rattle.std.specs.Int.RustNames.{unsigned_abs}
 use Rattle.pf_num.specs.Fx.{difference, product, saturate, sum}
-use Rattle.pf_num.proofs.Operations.{product-neg}
 use Rattle.pf_rot.specs.Vector.{V2, add, cross_sv, sub}
 use Rattle.pf_rows.specs.Small.{IsShort}
 use Rattle.pf_bundles.specs.Limits.{HasShortProducts}
@@ -17,10 +16,6 @@ use Rattle.pf_batches.proofs.Sizes.{differences}
 -- a difference from an opposite number is a sum
 pub less_opposite : (a b : ℤ) → difference a (neg_ℤ b) ≡ sum a b
 less_opposite a b = differences a (neg_ℤ b) ∙ ap (sum a) (neg_ℤ-neg_ℤ b)
-
--- one from a product is a sum with that of the opposite number
-pub less_product : (a m p : ℤ) → difference a (product m p) ≡ sum a (product m (neg_ℤ p))
-less_product a m p = differences a (product m p) ∙ ap (sum a) (sym (product-neg m p))
 
 -- what a speed lacks to another one
 pub lacking : (speed wanted : ℤ) → difference wanted speed ≡ sum (neg_ℤ speed) wanted

@@ -1,13 +1,13 @@
 //! What a bundle does in one pass: in lanes, or row by row where a number is above a limit.
 
-ghost use Rattle.std.specs.Prelude.{◌≡◌, ℕ, ◌≤◌, ◌<◌, ◌^◌, ◌+◌, All, IfSome, IsTrue, List, Some, length, slice_get, slice_index_or};
+ghost use Rattle.std.specs.Prelude.{◌≡◌, ℕ, ◌≤◌, ◌<◌, ◌+◌, All, IfSome, IsTrue, List, Some, length, slice_get, slice_index_or};
 ghost use Rattle.pf_solver.specs.Velocities.{Batch};
 ghost use Rattle.pf_rows.specs.Row.{Constraint};
 ghost use Rattle.pf_lanes.specs.Lanes.{Lane};
 ghost use Rattle.pf_bundles.specs.Bundle.{Seat, lane_number};
 ghost use Rattle.pf_bundles.specs.LaneRow.{lane_row_in, no_lane_row};
 ghost use Rattle.pf_bundles.specs.Prepared.{constraint_in};
-ghost use Rattle.pf_solver.specs.FastPath.{IsArmFor, IsMassOf};
+ghost use Rattle.pf_solver.specs.FastPath.{IsArmFor};
 ghost use Rattle.pf_solver.specs.Impulse.{ContactState};
 ghost use Rattle.pf_batches.specs.Contact.{IsWithin, seat_state_in, state_in};
 ghost use Rattle.pf_batches.specs.Limits.{AreGrown, AreWithin};

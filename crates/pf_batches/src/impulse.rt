@@ -1,6 +1,6 @@
 //! Impulses on the bodies of contacts side by side.
 
-ghost use Rattle.std.specs.Prelude.{◌≡◌, ◌≤◌, ◌<◌, ◌^◌, ◌+◌, ◌*◌, IfSome, IsTrue};
+ghost use Rattle.std.specs.Prelude.{◌≡◌, ◌≤◌, ◌<◌, ◌^◌, ◌+◌, ◌*◌, ◌↔◌, IfSome, IsTrue};
 ghost use Rattle.std.specs.Int.RustNames.{unsigned_abs};
 ghost use Rattle.pf_num.specs.Fx.{difference, product, sum};
 ghost use Rattle.pf_rot.specs.Vector.{add, cross, dot, scale, sub};
@@ -20,19 +20,29 @@ use pf_bundles::limits::{
 use pf_bundles::{MassLanes, PreparedLanes, ScaledVectors, VectorLanes};
 use pf_lanes::{Lanes, Raised, Scaled};
 
-/// Whether the spins are within the limits of the lanes, so that a step may begin.
+/// Whether the spins are within the limits of the lanes.
 #[inline(always)]
-#[tactic(auto, using(crate::proofs::Pushes::is_ready))]
-pub(crate) fn is_ready(prepared: &PreparedLanes, state: &ContactLanes) -> bool
-    ensures ready { IsTrue result → (k : Lane)
-        → IsReady (constraint_in k prepared.now.constraint) (state_in k prepared.now state.now) }
-    ensures spins { IsTrue result → (k : Lane)
+fn spins_are_within(prepared: &PreparedLanes, state: &ContactLanes) -> bool
+    ensures { IsTrue result ↔ ((k : Lane)
         → SpinsWithin (unsigned_abs (number_in k prepared.now.spin_limit))
-        (state_in k prepared.now state.now) }
+        (state_in k prepared.now state.now)) }
 {
     let limit = prepared.spin_limit();
     let (first, second) = (&state.first, &state.second);
     first.spin.are_within_each(limit) & second.spin.are_within_each(limit)
+}
+
+/// Whether the spins are within the limits of the lanes, so that a step may begin.
+#[inline(always)]
+pub(crate) fn is_ready(prepared: &PreparedLanes, state: &ContactLanes) -> bool
+    ensures ready { IsTrue result → (k : Lane)
+        → IsReady (constraint_in k prepared.now.constraint) (state_in k prepared.now state.now) }
+    ensures spins { IsTrue result ↔ ((k : Lane)
+        → SpinsWithin (unsigned_abs (number_in k prepared.now.spin_limit))
+        (state_in k prepared.now state.now)) }
+{
+    let _limits = prepared.spin_limit(); // within which products with arms are exact
+    spins_are_within(prepared, state)
 }
 
 /// The differences of products.
@@ -169,7 +179,7 @@ pub(crate) fn times(factors: Scaled, numbers: Lanes) -> Lanes
 /// Factors times numbers, for a sum or a difference.
 #[inline(always)]
 #[tactic(auto, using(pf_num::proofs::Operations::product_comm))]
-pub(crate) fn raised_times(factors: Scaled, numbers: Lanes) -> Raised
+fn raised_times(factors: Scaled, numbers: Lanes) -> Raised
     requires { (k : Lane)
         → unsigned_abs (number_in k numbers) * unsigned_abs (number_in k factors) < PRODUCT_LIMIT }
     ensures value { (k : Lane) → number_in k result
@@ -346,8 +356,8 @@ pub(crate) fn after_impulse(
     }
 }
 
-/// Both bodies of each contact after impulses of any size, or `None` where what they do is not
-/// exact, or a spin is then too great for the next step. No part of an impulse exceeds `size`.
+/// Both bodies of each contact after impulses that may be above the limits of the lanes, or `None`
+/// where what they do is not exact. No part of an impulse exceeds `size`.
 #[inline]
 #[tactic(auto, using(crate::proofs::Pushes::exact_products))]
 pub(crate) fn after_any_impulse(
@@ -367,16 +377,10 @@ pub(crate) fn after_any_impulse(
         (state_in k prepared.now state.now)) }
     ensures size { IfSome result (λ after. (k : Lane)
         → AreGrown (2 ^ 29) (state_in k prepared.now state.now) (state_in k prepared.now after)) }
-    ensures ready { IfSome result (λ after. (k : Lane)
-        → IsReady (constraint_in k prepared.now.constraint) (state_in k prepared.now after)) }
 {
-    if !size.are_within_each(prepared.spin_limit()) || !is_exact(prepared, impulse, size, state) {
+    let limit = twice(prepared.spin_limit());
+    if !size.are_within_each(limit) || !is_exact(prepared, impulse, size, state) {
         return None;
     }
-    let after = after_impulse(prepared, impulse, state);
-    if is_ready(prepared, &after) {
-        Some(after)
-    } else {
-        None
-    }
+    Some(after_impulse(prepared, impulse, state))
 }

@@ -68,7 +68,7 @@ pub(crate) fn load_pairs(islands: &[Island], pairs: &mut Vec<Pair>) -> Result<us
     Ok(count)
 }
 
-/// Adds rows, each as a lane holds it. Returns `false` where doubles do not hold one of them.
+/// Adds rows, each as a lane holds it. Returns `false` where no lane holds one of them.
 fn add_rows(rows: &[Row], lanes: &mut Vec<LaneRow>) -> Result<bool, AllocError>
     ensures { IfOk result (λ all. IsTrue all → (front : List Row)
         → AreHeldBy lanes.old.items front
@@ -83,8 +83,8 @@ fn add_rows(rows: &[Row], lanes: &mut Vec<LaneRow>) -> Result<bool, AllocError>
     Ok(true)
 }
 
-/// Loads the rows of islands side by side, each as a lane holds it. Returns `false` where doubles
-/// do not hold one of them.
+/// Loads the rows of islands side by side, each as a lane holds it. Returns `false` where no lane
+/// holds one of them.
 pub(crate) fn load_rows(islands: &[Island], lanes: &mut Vec<LaneRow>) -> Result<bool, AllocError>
     ensures { IfOk result (λ all. IsTrue all
         → AreHeldBy lanes.new.items (batch_of islands.now).rows) }

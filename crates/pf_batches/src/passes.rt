@@ -1,6 +1,6 @@
 //! Warm starting and the rounds, level by level.
 
-ghost use Rattle.std.specs.Prelude.{◌≡◌, ℕ, ◌+◌, ◌*◌, ◌≤◌, All, IfSome, IsTrue, List};
+ghost use Rattle.std.specs.Prelude.{◌≡◌, ℕ, ◌+◌, All, IfSome, IsTrue, List};
 ghost use Rattle.pf_bundles.specs.Numbers.{Numbers};
 ghost use Rattle.pf_solver.specs.Beside.{velocities_of};
 ghost use Rattle.pf_solver.specs.Impulse.{after_round};

@@ -1,6 +1,6 @@
 //! One round of contacts side by side: the step of the normal, and that of friction.
 
-ghost use Rattle.std.specs.Prelude.{◌≡◌, ◌≤◌, ◌<◌, ◌^◌, ◌+◌, ◌*◌, IfSome, IsTrue};
+ghost use Rattle.std.specs.Prelude.{◌≡◌, ◌≤◌, ◌<◌, ◌^◌, ◌+◌, ◌*◌, ◌≤ℤ◌, pos, IfSome, IsSome};
 ghost use Rattle.std.specs.Int.RustNames.{unsigned_abs};
 ghost use Rattle.pf_solver.specs.Impulse.{after_friction_step, after_impulse, after_normal_step, after_round, normal_impulse, tangent_impulse};
 ghost use Rattle.pf_lanes.specs.Lanes.{Lane, number_in};
@@ -52,8 +52,8 @@ fn normal_pushes(prepared: &PreparedLanes, state: &ContactLanes) -> Option<Lanes
     Some(state.normal.negated().greatest(change))
 }
 
-/// Both bodies of each contact after impulses along these directions, of which one is above the
-/// limit of its lane; `None` where what they do is not exact, or a spin is then too great.
+/// Both bodies of each contact after impulses along these directions, each of them tested; `None`
+/// where what they do is not exact, or a spin is then too great.
 #[cold]
 #[inline(never)]
 fn after_great_push(
@@ -75,16 +75,19 @@ fn after_great_push(
     ensures size { IfSome result (λ after. (k : Lane)
         → AreGrown (2 ^ 29) (state_in k prepared.now state) (state_in k prepared.now after)) }
     ensures ready { IfSome result (λ after. (k : Lane)
-        → SpinsWithin (unsigned_abs (number_in k prepared.now.spin_limit))
-        (state_in k prepared.now state)
         → IsReady (constraint_in k prepared.now.constraint) (state_in k prepared.now after)) }
 {
     let size = twice(added);
-    if !size.are_within(LANE_LIMIT) {
+    if !size.are_within(2 * LANE_LIMIT) {
         return None;
     }
     let impulse = impulse_along(added, direction);
-    after_any_impulse(prepared, &impulse, size, &state)
+    let after = after_any_impulse(prepared, &impulse, size, &state)?;
+    if is_ready(prepared, &after) {
+        Some(after)
+    } else {
+        None
+    }
 }
 
 /// Both bodies of each contact after impulses along these directions, or `None` where what they do
@@ -112,6 +115,8 @@ fn after_push(
         → SpinsWithin (unsigned_abs (number_in k prepared.now.spin_limit))
         (state_in k prepared.now state.now)
         → IsReady (constraint_in k prepared.now.constraint) (state_in k prepared.now after)) }
+    ensures some { ((k : Lane) → pos (2 * unsigned_abs (number_in k added))
+        ≤ℤ number_in k prepared.now.push_limit) → IsSome result }
 {
     if !twice(added).are_within_each(prepared.push_limit()) {
         let after = after_great_push(prepared, direction, added, *state)?;

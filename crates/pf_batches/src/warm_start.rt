@@ -92,7 +92,7 @@ pub(crate) fn after_warm_start(
 {
     let (normal, tangent) = (state.normal, state.tangent);
     let size = sizes(normal, tangent);
-    if !is_ready(prepared, state) || !size.are_within(LANE_LIMIT) {
+    if !is_ready(prepared, state) || !size.are_within(2 * LANE_LIMIT) {
         return None;
     }
     let impulse = impulses(prepared.constraint(), normal, tangent);

@@ -1,5 +1,5 @@
 -- A row as a lane holds it: nothing moves a static body, so its masses and its arm are zeros.
-use Rattle.std.specs.Prelude.{◌≡◌, ◌≤◌, ℤ, pos}
+use Rattle.std.specs.Prelude.{◌≡◌, ◌≤◌, ℤ, pos, ◌≤ℤ◌}
 use Rattle.std.specs.Int.RustNames.{unsigned_abs}
 use Rattle.pf_lanes.specs.Lanes.{First, Fourth, Lane, Second, Third, number_in}
 use Rattle.pf_lanes.specs.declared.lanes.TheConstants.{EXACT_LIMIT}
@@ -8,7 +8,7 @@ use Rattle.pf_rows.specs.declared.row.Side.{Side}
 use Rattle.pf_rows.specs.declared.row.Side.TheVariants.{Dynamic, Static}
 use Rattle.pf_rows.specs.Row.{Constraint, InverseMass, Row, no_constraint, no_mass}
 use Rattle.pf_bundles.specs.declared.limits.TheConstants.{LANE_LIMIT, QUARTER_ARM_SPIN}
-use Rattle.pf_bundles.specs.Limits.{AreLimits, HasLimits, IsSmall}
+use Rattle.pf_bundles.specs.Limits.{AreLimits, HasLimits}
 use Rattle.pf_bundles.specs.Prepared.{PreparedLanes, constraint_in, mass_in}
 
 -- what a lane holds of a row: inverse masses, the constraint, and the limits of spins and of impulses
@@ -57,7 +57,7 @@ pub record MassFits (m : InverseMass) : Type 0 where
   pub inverse_mass : unsigned_abs m.inverse_mass ≤ EXACT_LIMIT
   pub inverse_inertia : unsigned_abs m.inverse_inertia ≤ EXACT_LIMIT
 
--- of a constraint
+-- those of a constraint that its limits do not bound
 pub record ConstraintFits (c : Constraint) : Type 0 where
   pub normal_mass : unsigned_abs c.normal_mass ≤ EXACT_LIMIT
   pub tangent_mass : unsigned_abs c.tangent_mass ≤ EXACT_LIMIT
@@ -76,11 +76,13 @@ RowFits r =
     ContactFits (mass_on r.entry.first r.first_mass) (mass_on r.entry.second r.second_mass)
     (constraint_on r.entry.first r.entry.second r.constraint)
 
--- the limits of what a lane holds
-abbrev pub HasItsLimits : LaneRow → Type 0
-HasItsLimits l =
-    AreLimits l.constraint l.first_mass l.second_mass
-    (unsigned_abs l.spin_limit) (unsigned_abs l.push_limit)
+-- the limits of what a lane holds, neither of them below 0
+pub record HasItsLimits (l : LaneRow) : Type 0 where
+  pub spin_sign : pos 0 ≤ℤ l.spin_limit
+  pub push_sign : pos 0 ≤ℤ l.push_limit
+  pub limits :
+      AreLimits l.constraint l.first_mass l.second_mass
+      (unsigned_abs l.spin_limit) (unsigned_abs l.push_limit)
 
 -- what a lane holds
 abbrev pub lane_row_in : Lane → PreparedLanes → LaneRow

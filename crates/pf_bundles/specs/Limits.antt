@@ -13,7 +13,7 @@ pub record HasShortProducts (n : ℕ) (v : V2) : Type 0 where
 
 -- ---- constraints
 
--- the numbers of a constraint are small that do not change in a step, but for the arms
+-- the directions and the bias of a constraint are small
 pub record IsSmall (c : Constraint) : Type 0 where
   pub normal : IsShort LANE_DIRECTION_LIMIT c.normal
   pub tangent : IsShort LANE_DIRECTION_LIMIT c.tangent
@@ -41,7 +41,7 @@ IsTriedSpin spin =
 
 -- ---- impulses
 
--- both parts of an arm together: what an impulse along both axes turns with
+-- the sum of the magnitudes of both parts of an arm
 abbrev pub reach : V2 → ℕ
 reach arm = unsigned_abs arm.x + unsigned_abs arm.y
 
@@ -59,10 +59,11 @@ pub record IsPushLimit (c : Constraint) (a b : InverseMass) (spin push : ℕ) : 
   pub first : IsPushLimitOf a c.first_arm spin push
   pub second : IsPushLimitOf b c.second_arm spin push
 
--- the limits of impulses that are tried
+-- the limits of impulses that are tried; with 0 each impulse is tested
 abbrev pub IsTriedPush : ℕ → Type 0
 IsTriedPush push =
-    (push ≡ LANE_LIMIT) ⊎ ((push ≡ MIDDLE_PUSH) ⊎ ((push ≡ SMALL_PUSH) ⊎ (push ≡ LEAST_PUSH)))
+    (push ≡ LANE_LIMIT) ⊎ ((push ≡ MIDDLE_PUSH) ⊎ ((push ≡ SMALL_PUSH) ⊎ ((push ≡ LEAST_PUSH)
+    ⊎ (push ≡ 0))))
 
 -- ---- both
 

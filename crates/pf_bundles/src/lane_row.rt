@@ -169,7 +169,7 @@ fn spin_limit_of(c: &Constraint) -> Option<u64>
     }
 }
 
-/// Both parts of an arm together.
+/// The sum of the magnitudes of both parts of an arm.
 #[inline]
 fn reach(arm: V2) -> u64
     requires { IsShort LONGEST_ARM arm }
@@ -179,8 +179,8 @@ fn reach(arm: V2) -> u64
     arm.x.raw().unsigned_abs() + arm.y.raw().unsigned_abs()
 }
 
-/// Whether the change of a spin is exact that a turn up to this makes, and is at most `spin`. The
-/// turn is in units of 2^-48.
+/// Whether the change of a spin by a turn up to this is exact, and at most `spin`. The turn is in
+/// units of 2^-48.
 #[inline]
 fn is_small_turn(inverse_inertia: Fx, turn: u64, spin: u64) -> bool
     requires turn { turn < 2 ^ 63 }
@@ -227,8 +227,8 @@ fn is_push_limit(
         && is_push_limit_of(second, c.second_arm, spin, push)
 }
 
-/// The limit of the impulses of a step, the greatest of four. `None` where each of them is too
-/// great.
+/// The limit of the impulses that are not tested, the greatest of five. The least is 0, with which
+/// each impulse is tested; `None` where even that is too great.
 #[inline]
 fn push_limit_of(
     c: &Constraint,
@@ -253,6 +253,8 @@ fn push_limit_of(
         Some(SMALL_PUSH)
     } else if is_push_limit(c, first, second, spin, LEAST_PUSH) {
         Some(LEAST_PUSH)
+    } else if is_push_limit(c, first, second, spin, 0) {
+        Some(0)
     } else {
         None
     }

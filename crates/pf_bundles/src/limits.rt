@@ -17,47 +17,52 @@ pub const NUMBER_LIMIT: u64 = 1 << 50;
 /// The greatest component of a relative velocity: 30 lengths a second.
 pub const LANE_SPEED_LIMIT: u64 = 30 << 24;
 
-/// An arm shorter than a quarter of a length, along each axis, and the greatest spin before a step
-/// with such arms: 64 radians a second.
+/// Arms are shorter than a quarter of a length along each axis.
 pub const QUARTER_ARM: u64 = (1 << 22) - 1;
 
+/// The greatest spin before a step with arms up to `QUARTER_ARM`: 64 radians a second.
 pub const QUARTER_ARM_SPIN: u64 = 1 << 30;
 
-/// Shorter than half a length, and 32 radians a second.
+/// Arms are shorter than half a length.
 pub const HALF_ARM: u64 = (1 << 23) - 1;
 
+/// The greatest spin with arms up to `HALF_ARM`: 32 radians a second.
 pub const HALF_ARM_SPIN: u64 = 1 << 29;
 
-/// Shorter than a length, and 16 radians a second.
+/// Arms are shorter than a length.
 pub const SHORT_ARM: u64 = (1 << 24) - 1;
 
+/// The greatest spin with arms up to `SHORT_ARM`: 16 radians a second.
 pub const SHORT_ARM_SPIN: u64 = 1 << 28;
 
-/// Shorter than 2 lengths, and 8 radians a second.
+/// Arms are shorter than 2 lengths.
 pub const MIDDLE_ARM: u64 = (1 << 25) - 1;
 
+/// The greatest spin with arms up to `MIDDLE_ARM`: 8 radians a second.
 pub const MIDDLE_ARM_SPIN: u64 = 1 << 27;
 
-/// Shorter than 8 lengths, and 2 radians a second.
+/// Arms are shorter than 8 lengths.
 pub const LONG_ARM: u64 = (1 << 27) - 1;
 
+/// The greatest spin with arms up to `LONG_ARM`: 2 radians a second.
 pub const LONG_ARM_SPIN: u64 = 1 << 25;
 
-/// Shorter than 32 lengths, and half a radian a second. A row with a longer arm is not solved in
-/// lanes.
+/// Arms are shorter than 32 lengths. A row with a longer one is not solved in lanes.
 pub const LONGEST_ARM: u64 = (1 << 29) - 1;
 
+/// The greatest spin with arms up to `LONGEST_ARM`: half a radian a second.
 pub const LONGEST_ARM_SPIN: u64 = 1 << 23;
 
-/// The greatest impulse of a step: 16.
+/// The greatest limit of the parts of an impulse, and half of the greatest part of any: 16. An
+/// impulse along a direction counts twice, since a direction may be a little longer than 1.
 pub const LANE_LIMIT: u64 = 1 << 28;
 
-/// The greatest impulse that is not tested where `LANE_LIMIT` is too great for that: 2. It is that of
-/// a box of 1 by 1 with the mass 1.
+/// The next limit of the parts of an impulse that is not tested: 2, so that impulses up to 1 are not.
+/// It is that of a box of 1 by 1 with the mass 1.
 pub const MIDDLE_PUSH: u64 = 1 << 25;
 
-/// Where that is too great as well: a half.
+/// The limit after `MIDDLE_PUSH`: a half.
 pub const SMALL_PUSH: u64 = 1 << 23;
 
-/// Where that is: an eighth.
+/// The limit after `SMALL_PUSH`: an eighth. Where it is too great each impulse is tested.
 pub const LEAST_PUSH: u64 = 1 << 21;

@@ -116,24 +116,23 @@ fn limits_of(lane: LaneRow) -> (i64, i64) {
     (raw(prepared.spin_limit())[0], raw(prepared.push_limit())[0])
 }
 
-/// The limits of a row with an arm of this whole length, if there are any.
-fn limits(length: i64) -> Option<(i64, i64)>
-    requires below { length ≤ℤ pos 99 }
-    requires above { pos 1 ≤ℤ length }
-{
-    let lane = LaneRow::of(&row(Fx::from_raw(length << 24)?, Fx::ONE))?;
+/// The limits of a row with an arm of this length, in units of 2^-24, if there are any.
+fn limits(length: i64) -> Option<(i64, i64)> {
+    let lane = LaneRow::of(&row(Fx::from_raw(length)?, Fx::ONE))?;
     Some(limits_of(lane))
 }
 
 #[test]
 fn limits_fall_with_long_arms(rt: HostRuntime) {
     for (length, expected) in [
-        (1, Some((1 << 27, 1 << 28))),
-        (2, Some((1 << 25, 1 << 25))),
-        (7, Some((1 << 25, 1 << 25))),
-        (8, Some((1 << 23, 1 << 25))),
-        (31, Some((1 << 23, 1 << 23))),
-        (32, None),
+        (1 << 21, Some((1 << 30, 1 << 28))),
+        (1 << 22, Some((1 << 29, 1 << 28))),
+        (1 << 23, Some((1 << 28, 1 << 28))),
+        (1 << 24, Some((1 << 27, 1 << 28))),
+        (1 << 25, Some((1 << 25, 1 << 25))),
+        (1 << 27, Some((1 << 23, 1 << 25))),
+        ((1 << 29) - 1, Some((1 << 23, 1 << 23))),
+        (1 << 29, None),
     ] {
         assert_eq!(rt; limits(length), expected, "at {length}");
     }

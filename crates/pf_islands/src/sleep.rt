@@ -1,6 +1,6 @@
 //! The phase Sleep of a group, as at the end of Box2D 2.x's `b2Island::Solve`.
 
-ghost use Rattle.std.specs.Prelude.{◌≡◌, ◌==◌, ◌↔◌, IsTrue, map};
+ghost use Rattle.std.specs.Prelude.{◌≡◌, ◌==◌, map};
 ghost use Rattle.std.specs.List.{list_all};
 ghost use Rattle.pf_islands.specs.Sleep.{at_sleep, island_after_sleep};
 

@@ -1,5 +1,5 @@
 -- Which errors of a crew a call can end with.
-use Rattle.std.proofs.Common.{◌≡◌, ◌≢◌, List, true, None, Some, Result, Ok, Err, ap, refl, inl, inr, subst, ◌∙◌}
+use Rattle.std.proofs.Common.{◌≡◌, ◌≢◌, List, true, None, Some, Result, Ok, Err, ap, refl, inr, subst, ◌∙◌}
 use Rattle.std.specs.Prelude.{is_some}
 use Rattle.std.proofs.lemmas.Bool.{true≢false}
 use Rattle.pf_step.specs.declared.crew.CrewError.TheVariants.{OutOfMemory, NoThread, GateShut, CrewLost}
@@ -13,7 +13,7 @@ use Rattle.pf_step.specs.declared.crew.CrewError.{CrewError}
 use Rattle.pf_console.specs.declared.error.ProgramError.{ProgramError}
 use Rattle.pf_console.specs.declared.error.ProgramError.TheVariants.{Words, Line, Frame, Memory, Crew, Read, Write}
 use Rattle.pf_program.specs.Options.{FailsByWordsOrMemory, HasCrewSize}
-use Rattle.pf_console.specs.Crews.{FailsByCrew, FailsByThreads}
+use Rattle.pf_console.specs.Crews.{FailsByCrew}
 use Rattle.pf_console.specs.Request.{CanStart, FailsByThreadsOf}
 use Rattle.pf_islands.specs.Split.{Island}
 use Rattle.pf_peers.specs.Crews.{CanFail}

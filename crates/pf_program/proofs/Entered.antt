@@ -1,5 +1,5 @@
 -- The subcommand that words enter, by the matches of a parse.
-use Rattle.std.proofs.Common.{rules, refl, ap, codes, ◌≡◌, ◌∙◌, List, Option, Some, None, [], Ok, ℕ, true, false, ◌∷◌}
+use Rattle.std.proofs.Common.{rules, refl, ap, codes, ◌≡◌, ◌∙◌, List, Option, Some, None, [], Ok, true}
 use Rattle.std.specs.Prelude.{option_map, unwrap_or}
 use Rattle.std.specs.Str.{bytes_eq}
 use Rattle.std.proofs.lemmas.Slice.Eq.{bytes_eq-Decides}

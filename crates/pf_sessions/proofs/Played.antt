@@ -9,7 +9,6 @@ use Rattle.pf_shapes.specs.Scene.{Scene}
 use Rattle.pf_commands.specs.Merge.{IsCommand, put_all}
 use Rattle.pf_links.specs.Link.{Frame, got, handed}
 use Rattle.pf_links.specs.declared.input.LinkIn.{LinkIn}
-use Rattle.pf_links.specs.declared.output.LinkOut.{LinkOut}
 use Rattle.pf_rollback.specs.Core.{PeerCore}
 use Rattle.pf_step.specs.World.{start_of}
 use Rattle.pf_scripts.specs.Frames.{commands_in, core_setting}

@@ -4,7 +4,7 @@ ghost use Rattle.std.specs.Prelude.{◌≡◌, All, length, IfSome};
 ghost use Rattle.pf_rows.specs.Row.{Constraint, IsEntryOf, IsSide};
 ghost use Rattle.pf_solver.specs.Impulse.{ContactState, after_round, after_warm_start};
 ghost use Rattle.pf_solver.specs.FastPath.{IsMassOf};
-ghost use Rattle.pf_solver.specs.Velocities.{Batch, bodies_after, bodies_with, with_motion, contact_state, motion_at, pass, passes, row_after, row_with};
+ghost use Rattle.pf_solver.specs.Velocities.{bodies_after, bodies_with, with_motion, contact_state, motion_at, pass, passes, row_after, row_with};
 
 use crate::fast_path::{fast_round, fast_warm_start};
 use crate::impulse::{ContactState, Motion, after_round, after_warm_start};

@@ -1,5 +1,4 @@
-use Rattle.std.proofs.Common.{rules, subst, arith}
-use Rattle.std.specs.Prelude.{IsSome}
+use Rattle.std.proofs.Common.{rules, arith}
 use Rattle.pf_bundles.proofs.Arms.{are_greatest, fitting_arms, no_some, unfitting}
 use Rattle.pf_bundles.proofs.lane_row.LaneRow.of_contact.Goals as goal
 
