@@ -97,7 +97,10 @@ fn world_after<C: Crew>(
     let mut payloads = payloads;
     let mut world = World::start(alloc, scene)?;
     for _ in 0..ticks {
-        world = step_by(&OneThread, alloc, scene, &world, payloads, &mut work, crew)?;
+        let changes = step_by(
+            &OneThread, alloc, scene, &mut world, payloads, &mut work, crew,
+        )?;
+        changes.lend(&mut work);
         payloads = &[];
     }
     Ok(world)

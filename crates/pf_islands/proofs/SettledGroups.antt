@@ -1,7 +1,7 @@
 -- Where no contact wakes a body, the groups of the contacts that are simulated are enough.
 use Rattle.std.proofs.Common.{◌≡◌, ◌∙◌, ◌⊎◌, inl, inr, ⊎_elim, ℕ, ◌+◌, ◌<◌, ◌==◌, Bool, true, false, not, ◌&&◌, ◌||◌, List, [], ◌∷◌, length, map, option_map, filter, get_or, cond, max, min, take, refl, sym, ap, ap₂, subst, arith}
 use Rattle.std.proofs.lemmas.Bool.{and_from, and_parts, cases_lt, cond_both, cond-false, cond-true, eq-eqb, eqb-true, false_from_ne_true, ne_eqb, true≢false}
-use Rattle.std.proofs.lemmas.List.{ext_get_or, get_or_read, length-map, map_more}
+use Rattle.std.proofs.lemmas.List.{ext_get_or, get_or_read, length-map, map_more, nil_from_length}
 use Rattle.std.proofs.lemmas.List.Elements.{All-cons, All-head, All-nil, All-tail, All-weaker}
 use Rattle.std.proofs.lemmas.List.Folds.{list_all-append}
 use Rattle.std.proofs.lemmas.List.FromFn.{get_or-map-range_with_len, length-map-range_with_len}
@@ -408,6 +408,18 @@ module _ (s : Scene) (bodies : List BodyState) (touches : List Touch) (count : l
 -- ---- bodies that are woken
 
 -- they are settled
+-- as many bodies are woken as there are
+pub woken_long : (s : Scene) (bodies : List BodyState) (touches : List Touch) → length bodies ≡ length s.fixtures
+    → length (woken_bodies (groups s touches) bodies) ≡ length bodies
+unfolding woken_bodies
+woken_long s bodies touches count =
+    length-map (zip (groups s touches) bodies) _ ∙ zip_length (groups s touches) bodies (groups_long s touches ∙ sym count)
+
+pub none_woken : (s : Scene) (bodies : List BodyState) (touches : List Touch) → length bodies ≡ length s.fixtures
+    → bodies ≡ [] → woken_bodies (groups s touches) bodies ≡ []
+none_woken s bodies touches count none =
+    nil_from_length (woken_bodies (groups s touches) bodies) (woken_long s bodies touches count ∙ ap length none)
+
 pub woken_settled : (s : Scene) (touches : List Touch) (bodies : List BodyState) → length bodies ≡ length s.fixtures
     → All (IsTouchOf (length bodies)) touches
     → AreSettled s (woken_bodies (groups s touches) bodies) touches

@@ -246,33 +246,35 @@ fn split(
     Ok(made)
 }
 
-/// The phase Activity where a contact wakes a body: wakes the bodies of each group that has an
-/// awake one. Takes no memory where there are no bodies and no contact points.
+/// The phase Activity where a contact wakes a body: the bodies, where those of each group that has
+/// an awake one are awake. Takes no memory where there are no bodies and no contact points.
 #[inline(never)]
-fn wake_groups(
+fn woken_bodies(
     alloc: Global,
     scene: &Scene,
-    bodies: &mut [BodyState],
+    bodies: &[BodyState],
     touches: &[Touch],
-) -> Result<(), AllocError>
-    requires bodies { length bodies.old ≡ length scene.now.fixtures }
-    requires touches { All (IsTouchOf (length bodies.old)) touches.now }
-    ensures bodies { OnOk result
-        (bodies.new ≡ woken_bodies (groups_of scene.now touches.now) bodies.old) }
-    ensures no_memory { bodies.old ≡ [] → touches.now ≡ [] → IsOk result }
+) -> Result<Vec<BodyState>, AllocError>
+    requires bodies { length bodies.now ≡ length scene.now.fixtures }
+    requires touches { All (IsTouchOf (length bodies.now)) touches.now }
+    ensures bodies { IfOk result
+        (λ woken. woken.items ≡ woken_bodies (groups_of scene.now touches.now) bodies.now) }
+    ensures no_memory { bodies.now ≡ [] → touches.now ≡ [] → IsOk result }
 {
+    let mut woken = Vec::with_capacity(alloc, bodies.len())?;
+    woken.extend_from_slice(bodies)?;
     let all = singles(alloc, touches.len())?;
     let mut groups = Groups::new(alloc, scene, touches, &all)?;
-    groups.wake(bodies);
-    Ok(())
+    groups.wake(&mut woken);
+    Ok(woken)
 }
 
-/// The phase Activity, and the islands of a tick, as Box2D 2.x's `b2World::Solve` makes them: wakes
-/// the bodies of each group that has an awake one, and returns an island for each such group, in
-/// the order of their least bodies, with copies of the bodies of the group and with the contacts
-/// that touch them. The groups are those of the contact points, and the contacts are theirs. The
-/// islands are made in the memory of the spare ones, whose bodies and contacts are gone. Takes no
-/// memory where there are no bodies and no contact points.
+/// The phase Activity, and the islands of a tick, as Box2D 2.x's `b2World::Solve` makes them: an
+/// island for each group that has an awake body, in the order of their least bodies, with copies of
+/// the bodies of the group, all of them awake, and with the contacts that touch them. The bodies
+/// themselves stay as they are. The groups are those of the contact points, and the contacts are
+/// theirs. The islands are made in the memory of the spare ones, whose bodies and contacts are
+/// gone. Takes no memory where there are no bodies and no contact points.
 ///
 /// In most ticks no contact wakes a body. Then only the contacts that are simulated are linked:
 /// what sleeps is not looked at.
@@ -280,26 +282,24 @@ pub fn wake_and_split(
     alloc: Global,
     spare: Vec<Island>,
     scene: &Scene,
-    bodies: &mut [BodyState],
+    bodies: &[BodyState],
     touches: &[Touch],
     contacts: &[Contact],
 ) -> Result<Vec<Island>, AllocError>
-    requires bodies { length bodies.old ≡ length scene.now.fixtures }
-    requires touches { All (IsTouchOf (length bodies.old)) touches.now }
+    requires bodies { length bodies.now ≡ length scene.now.fixtures }
+    requires touches { All (IsTouchOf (length bodies.now)) touches.now }
     requires contacts { length contacts.now ≡ length touches.now }
-    ensures bodies { OnOk result
-        (bodies.new ≡ woken_bodies (groups_of scene.now touches.now) bodies.old) }
-    ensures value { IfOk result (λ found. found.items
-        ≡ islands (groups_of scene.now touches.now) bodies.new
-        (active_rows scene.now bodies.new touches.now contacts.now)) }
+    ensures value { let woken = woken_bodies (groups_of scene.now touches.now) bodies.now in
+        IfOk result (λ found. found.items ≡ islands (groups_of scene.now touches.now) woken
+        (active_rows scene.now woken touches.now contacts.now)) }
     ensures fit { IfOk result (λ found. All (IsIslandOf scene.now) found.items) }
-    ensures no_memory { bodies.old ≡ [] → touches.now ≡ [] → IsOk result }
+    ensures no_memory { bodies.now ≡ [] → touches.now ≡ [] → IsOk result }
 {
     let active = active_of(alloc, scene, bodies, touches)?;
     if wake_none(scene, bodies, touches, &active.places) {
         return split(alloc, spare, scene, bodies, touches, contacts, &active);
     }
-    wake_groups(alloc, scene, bodies, touches)?;
-    let active = active_of(alloc, scene, bodies, touches)?;
-    split(alloc, spare, scene, bodies, touches, contacts, &active)
+    let woken = woken_bodies(alloc, scene, bodies, touches)?;
+    let active = active_of(alloc, scene, &woken, touches)?;
+    split(alloc, spare, scene, &woken, touches, contacts, &active)
 }

@@ -1,5 +1,5 @@
 -- What the type of peer cores keeps, through each call.
-use Rattle.std.proofs.Common.{◌≡◌, ℕ, zero, suc, ◌+◌, ◌<◌, ◌≤◌, ◌⊎◌, Bool, true, false, max, length, ◌^◌, List, Option, Some, None, Result, Ok, Err, OnErr, if◌then◌else◌, refl, ap, sym, ◌∙◌, subst, ⊎_elim, arith}
+use Rattle.std.proofs.Common.{◌≡◌, ℕ, zero, suc, ◌+◌, ◌<◌, ◌≤◌, ◌⊎◌, Bool, true, false, max, length, ◌^◌, List, Option, Some, None, Result, Ok, Err, OnErr, OnOk, if◌then◌else◌, refl, ap, sym, ◌∙◌, subst, ⊎_elim, arith}
 use Rattle.std.specs.Prelude.{IfSome}
 use Rattle.std.specs.FinMap.{entries, empty}
 use Rattle.pf_shapes.specs.Scene.{Scene}
@@ -132,6 +132,22 @@ core_settled s player reached m kept after latest world is below last made base 
       worlds = λ t w there. ⊎_elim (λ old. is.worlds t w old) (λ new. new.1 ∙ next ∙ ap (world_of s p) (sym new.0)) (worlds t w there);
       settled = omega arith;
     })
+
+-- a core after a step of its next tick, which may have failed
+pub core_stepped : {A E : Type 0} (r : Result A E) (s : Scene) (player reached : ℕ) (m : CommandMap) (kept after : Snapshots) (latest world : World)
+    → IsPeerCore s (peer_of player m reached kept) kept
+    → settled_tick (ticks_of kept) < reached
+    → IsKept kept (settled_tick (ticks_of kept)) latest
+    → world ≡ step s latest (payloads_at m (settled_tick (ticks_of kept)))
+    → (after.horizon ≡ kept.horizon) × (after.base ≡ kept.base)
+    → OnOk r ((t : ℕ) (w : World) → IsKept after t w → IsKept kept t w ⊎ ((t ≡ settled_tick (ticks_of kept) + 1) × (w ≡ world)))
+    → OnOk r (settled_tick (ticks_of after) ≡ settled_tick (ticks_of kept) + 1)
+    → OnErr r (after ≡ kept)
+    → IsPeerCore s (peer_of player m reached after) after
+core_stepped (Ok done) s player reached m kept after latest world is below last made base worlds settled same =
+    core_settled s player reached m kept after latest world is below last made base worlds settled
+core_stepped (Err fault) s player reached m kept after latest world is below last made base worlds settled same =
+    subst (λ k. IsPeerCore s (peer_of player m reached k) k) (sym same) is
 
 -- the core of a peer that begins
 pub core_new : (s : Scene) (player : ℕ) (commands : CommandMap) (kept : Snapshots) (start : World) → player < PLAYERS
@@ -299,3 +315,17 @@ same_islands old new more tick has = ap (λ (core : PeerCore). islands_at core t
 pub on_err : {A E P : Type 0} (r : Result A E) → P → OnErr r P
 on_err (Ok value) is = tt
 on_err (Err fault) is = is
+
+-- what follows from what holds of an answer holds of it
+pub ok_map : {A E P Q : Type 0} (r : Result A E) → (P → Q) → OnOk r P → OnOk r Q
+ok_map (Ok value) f is = f is
+ok_map (Err fault) f is = tt
+
+pub ok_both : {A E P Q R : Type 0} (r : Result A E) → (P → Q → R) → OnOk r P → OnOk r Q → OnOk r R
+ok_both (Ok value) f a b = f a b
+ok_both (Err fault) f a b = tt
+
+-- and of an error
+pub err_both : {A E P Q R : Type 0} (r : Result A E) → (P → Q → R) → OnErr r P → OnErr r Q → OnErr r R
+err_both (Ok value) f a b = tt
+err_both (Err fault) f a b = f a b

@@ -6,6 +6,7 @@ pub mod Allowed
 pub mod Late
 -- Kept ticks and worlds.
 pub mod KeptTicks
+pub mod RecentWorlds
 pub mod KeptWorlds
 pub mod SealedWorlds
 pub mod Settling

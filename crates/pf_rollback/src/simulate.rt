@@ -38,13 +38,11 @@ pub(crate) fn simulate_from(
         → ((earlier : ℕ) → earlier < tick → payloads_at commands.now earlier ≡ [])
         → IsOk result }
 {
-    let (from, kept) = snapshots.nearest(tick);
-    let mut world = kept.try_clone()?;
+    let (from, mut world) = snapshots.nearest(tick)?;
     for at in from..tick {
         let payloads = commands.at_tick(alloc, at)?;
-        let next = step_on_one_thread(alloc, scene, &world, &payloads, work)?;
-        world.lend(work);
-        world = next;
+        let changes = step_on_one_thread(alloc, scene, &mut world, &payloads, work)?;
+        changes.lend(work);
     }
     Ok(world)
 }

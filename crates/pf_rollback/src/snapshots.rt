@@ -1,19 +1,23 @@
 //! Snapshots: the worlds that a peer keeps, to simulate from where commands come late.
 
-ghost use Rattle.std.specs.Prelude.{◌≡◌, ◌<◌, ◌%◌, ◌==◌, [], ◌∷◌, ◌++◌, if◌then◌else◌, vec_len, vec_capacity};
+ghost use Rattle.std.specs.Prelude.{◌≡◌, ◌≤◌, ◌<◌, ◌-◌, ◌%◌, ◌==◌, [], ◌∷◌, ◌++◌, if◌then◌else◌, None, Some, IfOk, OnErr, OnOk, drop, length, nat_le, take, vec_len, vec_capacity};
 ghost use Rattle.circular_buffer.specs.Buffer.{buffer, keep_last};
+ghost use Rattle.pf_rollback.specs.Snapshots.{last_world, taken_world, world_before_all, other_keyframes};
 
 use circular_buffer::HeapCircularBuffer;
-use pf_step::{Work, World};
+use pf_commands::Payload;
+use pf_manifold::Collider;
+use pf_shapes::Scene;
+use pf_step::{Changes, Crew, StepError, Work, World, step_by};
 use std::alloc::{AllocError, Global};
 use std::marker::Model;
-use std::mem;
 
 /// A keyframe is the world of a settled tick after the horizon that is a multiple of this. It is
 /// kept until news of an earlier tick come, or that tick or a later one is sealed.
 pub const KEYFRAME_INTERVAL: u32 = 256;
 
-/// The world of the horizon, the last settled worlds in a ring, and a keyframe at each multiple of
+/// The world of the horizon; the world of the settled tick, and in a ring what each of the last
+/// settled ticks changed, which makes their worlds of it; and a keyframe at each multiple of
 /// [`KEYFRAME_INTERVAL`] after the horizon up to the settled tick. No world stands here twice.
 ///
 /// Contracts see the kept ticks, and which world is kept at a tick.
@@ -24,14 +28,16 @@ pub(crate) struct Snapshots {
     /// The world of the horizon: at first the start world.
     base: World,
     keyframes: Vec<World>,
-    /// The last is that of the settled tick; None stands for a world that is a keyframe.
-    recent: HeapCircularBuffer<Option<World>>,
+    /// The world of the settled tick; None where that is the base or the last keyframe.
+    latest: Option<World>,
+    /// What each of the last settled ticks changed; the last is that of the settled tick.
+    recent: HeapCircularBuffer<Changes>,
     settled: u32,
 }
 
 impl Model for Snapshots {
     ghost use Rattle.std.specs.Prelude.{◌-◌, vec_len, vec_capacity};
-    ghost use Rattle.pf_rollback.specs.Snapshots.{IsSnapshots, Snapshots};
+    ghost use Rattle.pf_rollback.specs.Snapshots.{IsSnapshots, Snapshots, last_world, worlds_after};
 
     ghost Value = { Snapshots };
 
@@ -39,7 +45,8 @@ impl Model for Snapshots {
       horizon = s.horizon;
       base = s.base;
       keyframes = s.keyframes.items;
-      recent = s.recent.items;
+      latest = s.latest;
+      recent = worlds_after s.recent.items (last_world s.base s.keyframes.items s.latest);
       settled = s.settled;
       ring = s.recent.capacity;
       room = vec_capacity s.keyframes - vec_len s.keyframes;
@@ -49,50 +56,114 @@ impl Model for Snapshots {
       horizon = s.horizon;
       base = s.base;
       keyframes = s.keyframes.items;
-      recent = s.recent.items;
+      latest = s.latest;
+      recent = worlds_after s.recent.items (last_world s.base s.keyframes.items s.latest);
       settled = s.settled;
       ring = s.recent.capacity;
       room = vec_capacity s.keyframes - vec_len s.keyframes;
     }) };
 }
 
-/// Keeps the world of a tick, as a keyframe or among the recent worlds. Returns the world that
-/// falls out of the ring, if one does.
-fn keep_at(
-    keyframes: &mut Vec<World>,
-    recent: &mut HeapCircularBuffer<Option<World>>,
-    tick: u32,
-    world: World,
-) -> Option<World>
-    requires { vec_len keyframes.old < vec_capacity keyframes.old }
-    ensures keyframes { keyframes.new.items ≡ (if tick % KEYFRAME_INTERVAL == 0
-        then keyframes.old.items ++ world ∷ [] else keyframes.old.items) }
-    ensures recent { recent.new ≡ buffer (keep_last recent.old.capacity (recent.old.items
-        ++ (if tick % KEYFRAME_INTERVAL == 0 then None else Some world) ∷ [])) recent.old.capacity }
+/// The world of the settled tick, which leaves its place, if it has one of its own; else a copy.
+fn owned_latest(
+    latest: &mut Option<World>,
+    keyframes: &[World],
+    base: &World,
+) -> Result<World, AllocError>
+    ensures value { IfOk result (λ world. world ≡ last_world base.now keyframes.now latest.old) }
+    ensures ok { OnOk result (latest.new ≡ None) }
+    ensures err { OnErr result (latest.new ≡ latest.old) }
 {
-    if tick % KEYFRAME_INTERVAL == 0 {
-        keyframes.push_reserved(world);
-        recent.push_back(None).flatten()
-    } else {
-        recent.push_back(Some(world)).flatten()
+    match latest.take() {
+        Some(world) => Ok(world),
+        None => keyframes.last().unwrap_or(base).try_clone(),
     }
 }
 
-/// Lends the memory of a world, if there is one, to the next one that is made with `work`.
-fn lend(world: Option<World>, work: &mut Work)
+/// Puts the world of a tick in its place: among the keyframes, if it is one; else apart. Takes no
+/// memory.
+fn place(keyframes: &mut Vec<World>, latest: &mut Option<World>, tick: u32, world: World)
+    requires { vec_len keyframes.old < vec_capacity keyframes.old }
+    ensures keyframes { keyframes.new.items ≡ (if tick % KEYFRAME_INTERVAL == 0
+        then keyframes.old.items ++ world ∷ [] else keyframes.old.items) }
+    ensures latest { latest.new ≡ (if tick % KEYFRAME_INTERVAL == 0 then None else Some world) }
+{
+    if tick % KEYFRAME_INTERVAL == 0 {
+        keyframes.push_reserved(world);
+        *latest = None;
+    } else {
+        *latest = Some(world);
+    }
+}
+
+/// Lends the memory of changes, if there are any, to the next step with `work`.
+fn lend(changes: Option<Changes>, work: &mut Work)
     ensures { work.new ≡ work.old }
 {
-    if let Some(world) = world {
-        world.lend(work);
+    if let Some(changes) = changes {
+        changes.lend(work);
+    }
+}
+
+/// Takes the world of the settled tick out of its place: where it does not stand apart, out of the
+/// keyframes.
+fn take_latest(latest: &mut Option<World>, keyframes: &mut Vec<World>) -> Option<World>
+    ensures value { result ≡ taken_world keyframes.old.items latest.old }
+    ensures latest { latest.new ≡ None }
+    ensures keyframes { keyframes.new.items ≡ other_keyframes keyframes.old.items latest.old }
+{
+    match latest.take() {
+        Some(world) => Some(world),
+        None => keyframes.pop(),
+    }
+}
+
+/// Undoes the last changes in the world that they made. Takes no memory.
+fn undo_last(recent: &mut HeapCircularBuffer<Changes>, count: usize, world: &mut World)
+    requires { count ≤ length recent.old.items }
+    ensures world { let left = length recent.old.items - count in
+        world.new ≡ world_before_all (drop left recent.old.items) world.old }
+    ensures recent { let left = length recent.old.items - count in
+        recent.new ≡ buffer (take left recent.old.items) recent.old.capacity }
+{
+    for _ in 0..count {
+        if let Some(changes) = recent.pop_back() {
+            world.undo(changes);
+        }
+    }
+}
+
+/// Puts the world of a tick in its place, where its keyframe stands already, if it has one.
+fn put_back(latest: &mut Option<World>, tick: u32, world: World)
+    ensures { latest.new ≡ (if tick % KEYFRAME_INTERVAL == 0 then None else Some world) }
+{
+    if tick % KEYFRAME_INTERVAL == 0 {
+        *latest = None;
+    } else {
+        *latest = Some(world);
+    }
+}
+
+/// Drops the world of the settled tick that stands apart, if the settled tick is sealed.
+fn drop_sealed(latest: &mut Option<World>, settled: u32, tick: u32)
+    ensures { latest.new ≡ (if nat_le settled tick then None else latest.old) }
+{
+    if settled <= tick {
+        *latest = None;
     }
 }
 
 impl Snapshots {
-    ghost use Rattle.std.specs.Prelude.{◌≡◌, ◌≤◌, ◌<◌, ◌+◌, ◌-◌, ◌%◌, ◌⊎◌, ℕ, length, max, IfOk, IfSome, IfNone, OnOk};
+    ghost use Rattle.std.specs.Prelude.{◌≡◌, ◌≤◌, ◌<◌, ◌+◌, ◌-◌, ◌%◌, ◌⊎◌, ℕ, [], length, max, IfErr, IfOk, IfSome, IsOk, OnErr, OnOk};
     ghost use Rattle.pf_commands.specs.declared.name.TheConstants.{MAX_TICK};
+    ghost use Rattle.pf_step.specs.Activity.{islands_of_tick};
+    ghost use Rattle.pf_step.specs.Step.{collisions_of_tick, step};
+    ghost use Rattle.pf_step.specs.Stepping.{FailsBy};
+    ghost use Rattle.pf_step.specs.Work.{work_after_tick};
     ghost use Rattle.pf_step.specs.World.{World};
+    ghost use Rattle.pf_cache.specs.Manifolds.{no_manifolds};
     ghost use Rattle.pf_rollback.specs.Kept.{AreRising, no_ticks, settled_tick, nearest_tick, ticks_after_news, ticks_after_seal, ticks_after_settling, ticks_up_to};
-    ghost use Rattle.pf_rollback.specs.Snapshots.{ticks_of, IsKept, IsRecent};
+    ghost use Rattle.pf_rollback.specs.Snapshots.{ticks_of, settled_world, AreEmpty, IsKept, IsRecent};
 
     /// Only the start world, with a ring of so many places.
     pub(crate) fn new(alloc: Global, start: World, ring: usize) -> Result<Snapshots, AllocError>
@@ -107,6 +178,7 @@ impl Snapshots {
             horizon: 0,
             base: start,
             keyframes: Vec::new(alloc),
+            latest: None,
             recent,
             settled: 0,
         })
@@ -146,24 +218,59 @@ impl Snapshots {
         self.keyframes.reserve(1)
     }
 
-    /// Keeps the world of the tick after the settled one. A full ring drops its oldest world, which
-    /// lends its memory to the next one that is made with `work`. Takes no memory.
-    pub(crate) fn keep(&mut self, world: World, work: &mut Work)
+    /// Settles the tick after the settled one: steps its world in place, with the payloads of its
+    /// commands, and keeps what that changed. What falls out of a full ring lends its memory to the
+    /// next step with `work`. An error leaves all as it was.
+    pub(crate) fn settle<P: Collider, C: Crew>(
+        &mut self,
+        collider: &P,
+        alloc: Global,
+        scene: &Scene,
+        payloads: &[Payload],
+        work: &mut Work,
+        crew: &mut C,
+    ) -> Result<(), StepError>
+        requires can { P.can_collide collider.now }
         requires room { 0 < self.old.room }
         requires limit { settled_tick (ticks_of self.old) < MAX_TICK }
-        ensures ticks { ticks_of self.new
-            ≡ ticks_after_settling (ticks_of self.old) (settled_tick (ticks_of self.old) + 1) }
-        ensures settled { settled_tick (ticks_of self.new)
-            ≡ settled_tick (ticks_of self.old) + 1 }
+        requires world { (world : World) → IsKept self.old (settled_tick (ticks_of self.old)) world
+            → length world.bodies ≡ length scene.now.fixtures }
+        ensures latest { let tick = settled_tick (ticks_of self.old) in
+            IsKept self.old tick (settled_world self.old) }
+        ensures ticks { OnOk result (ticks_of self.new
+            ≡ ticks_after_settling (ticks_of self.old) (settled_tick (ticks_of self.old) + 1)) }
+        ensures settled { OnOk result (settled_tick (ticks_of self.new)
+            ≡ settled_tick (ticks_of self.old) + 1) }
         ensures base { (self.new.horizon ≡ self.old.horizon) × (self.new.base ≡ self.old.base) }
-        ensures worlds { (tick : ℕ) (w : World) → IsKept self.new tick w → IsKept self.old tick w
-            ⊎ ((tick ≡ settled_tick (ticks_of self.old) + 1) × (w ≡ world)) }
-        ensures work { work.new ≡ work.old }
+        ensures worlds { let next = step scene.now (settled_world self.old) payloads.now in
+            OnOk result ((tick : ℕ) (w : World) → IsKept self.new tick w → IsKept self.old tick w
+            ⊎ ((tick ≡ settled_tick (ticks_of self.old) + 1) × (w ≡ next))) }
+        ensures err { OnErr result (self.new ≡ self.old) }
+        ensures counted { let world = settled_world self.old in
+            let found = collisions_of_tick scene.now world payloads.now work.old.manifolds in
+            OnOk result (work.new ≡ work_after_tick found work.old) }
+        ensures not_counted { OnErr result (work.new.meter ≡ work.old.meter) }
+        ensures called { let world = settled_world self.old in
+            let islands = islands_of_tick scene.now world payloads.now in
+            OnOk result (C.is_called crew.old islands crew.new) }
+        ensures failed { let world = settled_world self.old in
+            let islands = islands_of_tick scene.now world payloads.now in
+            IfErr result (λ error. FailsBy C.may_fail crew.old islands error crew.new) }
     {
-        let settled = self.settled + 1;
-        let fallen = keep_at(&mut self.keyframes, &mut self.recent, settled, world);
-        self.settled = settled;
-        lend(fallen, work);
+        let apart = self.latest.is_some();
+        let mut world = owned_latest(&mut self.latest, &self.keyframes, &self.base)?;
+        match step_by(collider, alloc, scene, &mut world, payloads, work, crew) {
+            Ok(changes) => {
+                lend(self.recent.push_back(changes), work);
+                self.settled += 1;
+                place(&mut self.keyframes, &mut self.latest, self.settled, world);
+                Ok(())
+            }
+            Err(error) => {
+                self.latest = apart.then_some(world);
+                Err(error)
+            }
+        }
     }
 
     /// Drops each world after the least tick of news, if there are any, which is not before the
@@ -194,23 +301,28 @@ impl Snapshots {
         ensures near { tick ≤ settled_tick (ticks_of self.old)
             → tick < settled_tick (ticks_of self.new) + KEYFRAME_INTERVAL }
     {
-        let last = tick.min(self.settled);
-        let keyframe = last / KEYFRAME_INTERVAL;
-        let later = (self.settled - last) as usize;
-        let left = self.recent.len().saturating_sub(later);
-        self.recent.truncate_back(left);
+        if self.settled <= tick {
+            return;
+        }
+        let Some(mut world) = take_latest(&mut self.latest, &mut self.keyframes) else {
+            unreachable!();
+        };
+        let later = (self.settled - tick) as usize;
+        let keyframe = tick / KEYFRAME_INTERVAL;
         self.keyframes
             .truncate((keyframe - self.horizon / KEYFRAME_INTERVAL) as usize);
-        self.settled = if left == 0 {
-            self.horizon.max(keyframe * KEYFRAME_INTERVAL)
+        if later < self.recent.len() {
+            undo_last(&mut self.recent, later, &mut world);
+            self.settled = tick;
+            put_back(&mut self.latest, tick, world);
         } else {
-            last
-        };
+            self.recent.clear();
+            self.settled = self.horizon.max(keyframe * KEYFRAME_INTERVAL);
+        }
     }
 
-    /// Makes a tick the horizon, with this world. Each world up to it is dropped; the one of the
-    /// old horizon lends its memory to the next that is made with `work`. Takes no memory.
-    pub(crate) fn seal(&mut self, tick: u32, world: World, work: &mut Work)
+    /// Makes a tick the horizon, with this world. Each world up to it is dropped. Takes no memory.
+    pub(crate) fn seal(&mut self, tick: u32, world: World)
         requires horizon { self.old.horizon ≤ tick }
         requires limit { tick ≤ MAX_TICK }
         ensures ticks { ticks_of self.new ≡ ticks_after_seal tick (ticks_of self.old) }
@@ -219,54 +331,66 @@ impl Snapshots {
             ≡ max tick (settled_tick (ticks_of self.old)) }
         ensures worlds { (t : ℕ) (w : World) → IsKept self.new t w
             → (IsKept self.old t w × (tick < t)) ⊎ ((t ≡ tick) × (w ≡ world)) }
-        ensures work { work.new ≡ work.old }
     {
         let last = tick.min(self.settled);
         let gone = last / KEYFRAME_INTERVAL - self.horizon / KEYFRAME_INTERVAL;
         self.keyframes.drain(..gone as usize);
         self.recent.truncate_front((self.settled - last) as usize);
+        drop_sealed(&mut self.latest, self.settled, tick);
         self.settled = self.settled.max(tick);
         self.horizon = tick;
-        mem::replace(&mut self.base, world).lend(work);
+        self.base = world;
     }
 
-    /// The ring's world of a tick up to the settled one, if it stands there.
-    fn recent_at(&self, tick: u32) -> Option<&World>
-        requires { tick ≤ self.now.settled }
-        ensures some { IfSome result (λ world. IsRecent self.now tick world.now) }
-        ensures none { IfNone result (self.now.settled - tick < length self.now.recent
-            → tick % KEYFRAME_INTERVAL ≡ 0) }
+    /// A copy of the world of a recent tick: of the settled one, without what the ticks after it
+    /// changed.
+    fn recent_at(&self, tick: u32) -> Result<World, AllocError>
+        requires low { tick ≤ self.now.settled }
+        requires recent { self.now.settled - tick < length self.now.recent }
+        ensures value { IfOk result (λ world. IsRecent self.now tick world) }
+        ensures no_memory { AreEmpty self.now → IsOk result }
     {
+        let mut world = self.latest().try_clone()?;
         let later = (self.settled - tick) as usize;
-        let item = self.recent.nth_back(later)?;
-        item.as_ref()
+        for place in 0..later {
+            if let Some(changes) = self.recent.nth_back(place) {
+                world.undo_copied(changes)?;
+            }
+        }
+        Ok(world)
     }
 
-    /// The last kept world that is not after a tick, and its tick. Takes constant time.
-    pub(crate) fn nearest(&self, tick: u32) -> (u32, &World)
+    /// A copy of the last kept world that is not after a tick, and its tick. Takes no memory where
+    /// no kept world has a body or a contact.
+    pub(crate) fn nearest(&self, tick: u32) -> Result<(u32, World), AllocError>
         requires { self.now.horizon ≤ tick }
-        ensures low { self.now.horizon ≤ result.0 }
-        ensures tick { result.0 ≡ nearest_tick (ticks_of self.now) tick }
-        ensures before { result.0 ≤ tick }
-        ensures kept { IsKept self.now result.0 result.1.now }
+        ensures low { IfOk result (λ found. self.now.horizon ≤ found.0) }
+        ensures tick { IfOk result (λ found. found.0 ≡ nearest_tick (ticks_of self.now) tick) }
+        ensures before { IfOk result (λ found. found.0 ≤ tick) }
+        ensures kept { IfOk result (λ found. IsKept self.now found.0 found.1) }
+        ensures no_memory { AreEmpty self.now → IsOk result }
     {
         let last = tick.min(self.settled);
-        if let Some(world) = self.recent_at(last) {
-            return (last, world);
+        if ((self.settled - last) as usize) < self.recent.len() {
+            return Ok((last, self.recent_at(last)?));
         }
         let keyframe = last / KEYFRAME_INTERVAL;
         let count = (keyframe - self.horizon / KEYFRAME_INTERVAL) as usize;
         if count == 0 {
-            return (self.horizon, &self.base);
+            return Ok((self.horizon, self.base.try_clone()?));
         }
-        (keyframe * KEYFRAME_INTERVAL, &self.keyframes[count - 1])
+        let world = self.keyframes[count - 1].try_clone()?;
+        Ok((keyframe * KEYFRAME_INTERVAL, world))
     }
 
     /// The world of the settled tick.
     pub(crate) fn latest(&self) -> &World
-        ensures { IsKept self.now (settled_tick (ticks_of self.now)) result.now }
+        ensures value { result.now ≡ settled_world self.now }
+        ensures kept { IsKept self.now (settled_tick (ticks_of self.now)) result.now }
     {
-        let (_, world) = self.nearest(self.settled);
-        world
+        match &self.latest {
+            Some(world) => world,
+            None => self.keyframes.last().unwrap_or(&self.base),
+        }
     }
 }

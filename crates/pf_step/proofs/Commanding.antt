@@ -1,16 +1,22 @@
 -- What commands do to bodies.
-use Rattle.std.proofs.Common.{◌≡◌, ◌≢◌, ◌==◌, ℕ, true, false, Bool, pos, ℤ, List, [], ◌∷◌, Option, Some, None, length, refl, ap, sym, ◌∙◌, subst, arith, slice_get, slice_set, if◌then◌else◌}
+use Rattle.std.proofs.Common.{◌≡◌, ◌≢◌, ◌==◌, ℕ, true, false, Bool, pos, ℤ, List, [], ◌∷◌, Option, Some, None, length, map, get_or, unwrap_or, refl, ap, ap₂, sym, ◌∙◌, subst, arith, slice_get, slice_set, if◌then◌else◌}
+use Rattle.std.proofs.lemmas.Bool.{or_parts}
 use Rattle.std.proofs.lemmas.Bool.Decides.{nat_tests}
+use Rattle.std.proofs.lemmas.Option.{unwrap_or-slice_get}
 use Rattle.pf_rot.specs.Vector.{zero_vector}
 use Rattle.pf_shapes.specs.Fixture.{Fixture, is_static}
-use Rattle.pf_shapes.specs.Body.{BodyState}
+use Rattle.pf_shapes.specs.Body.{BodyState, no_state}
 use Rattle.pf_shapes.specs.Scene.{Scene}
 use Rattle.pf_commands.specs.declared.payload.Payload.{Payload}
 use Rattle.pf_commands.specs.declared.payload.Payload.TheVariants.{Push, Turn, Stop, Place}
 use Rattle.pf_commands.specs.Payload.{body_of}
 use Rattle.pf_step.specs.Commands.{after_payload, bodies_with, after_command, after_commands, apply}
 use Rattle.pf_step.specs.World.{World}
+use Rattle.std.proofs.lemmas.List.Folds.{flat_map-map}
+use Rattle.pf_islands.specs.Island.{has_number}
 use Rattle.pf_islands.proofs.Elements.{same_element, set_length, set_other, set_same}
+use Rattle.pf_step.specs.Changes.{BodyChange, bodies_before, change_of, changes_by_commands}
+use Rattle.pf_step.proofs.Changing.{noted_before}
 
 -- ---- one command
 
@@ -95,6 +101,37 @@ pub static_body : (scene : Scene) (w : World) (p : Payload) (i : ℕ) (f : Fixtu
     → slice_get (apply scene w p).bodies i ≡ slice_get w.bodies i
 unfolding apply after_commands
 static_body scene w p i f = static_stays scene.fixtures w.bodies (p ∷ []) i f
+
+-- commands leave the bodies that they are not for
+pub commands_leave : (fixtures : List Fixture) (bodies : List BodyState) (payloads : List Payload) (i : ℕ)
+    → has_number (map body_of payloads) i ≡ false
+    → slice_get (after_commands fixtures bodies payloads) i ≡ slice_get bodies i
+unfolding after_commands after_command
+commands_leave fixtures bodies [] i none = refl
+commands_leave fixtures bodies (p ∷ payloads) i none =
+    let parts = or_parts (body_of p == i) (has_number (map body_of payloads) i) none in
+    commands_leave fixtures (after_command fixtures bodies p) payloads i parts.1
+    ∙ leaves bodies p (slice_get fixtures (body_of p)) (slice_get bodies (body_of p)) i
+    (λ same. absurd (let other = parts.0 in grind (arith, nat_tests)))
+
+-- so undoing what was noted of their bodies gives the bodies before them
+pub commands_before : (fixtures : List Fixture) (bodies : List BodyState) (payloads : List Payload)
+    → bodies_before (changes_by_commands bodies payloads) (after_commands fixtures bodies payloads) ≡ bodies
+commands_before fixtures bodies payloads =
+    let after = after_commands fixtures bodies payloads in
+    ap (λ cs. bodies_before cs after) (sym (flat_map-map (change_of bodies) body_of payloads))
+    ∙ noted_before bodies after (commands_length fixtures bodies payloads) (map body_of payloads)
+    (λ j within none. same_read after bodies j (commands_leave fixtures bodies payloads j none))
+  where
+    same_read : (xs ys : List BodyState) (j : ℕ) → slice_get xs j ≡ slice_get ys j → get_or xs j no_state ≡ get_or ys j no_state
+    same_read xs ys j same =
+        sym (unwrap_or-slice_get xs j no_state) ∙ ap (λ o. unwrap_or o no_state) same ∙ unwrap_or-slice_get ys j no_state
+
+pub commands_undone : (fixtures : List Fixture) (bodies after : List BodyState) (payloads : List Payload) (notes : List BodyChange)
+    → notes ≡ changes_by_commands bodies payloads → after ≡ after_commands fixtures bodies payloads
+    → bodies_before notes after ≡ bodies
+commands_undone fixtures bodies after payloads notes noted is =
+    ap₂ bodies_before noted is ∙ commands_before fixtures bodies payloads
 
 -- what the commands of a tick make of a body: it is as it was, or it was commanded and is awake
 pub data Commanded (b c : BodyState) : Type 0 where

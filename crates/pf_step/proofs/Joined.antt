@@ -3,7 +3,7 @@ use Rattle.std.proofs.Common.{◌≡◌, ◌∙◌, inl, inr, ℕ, ◌<◌, ◌=
 use Rattle.std.proofs.lemmas.Bool.{and_parts, eqb-true, false_from_ne_true, true≢false}
 use Rattle.std.proofs.lemmas.List.Elements.{All-filter, All-map, All-weaker}
 use Rattle.std.proofs.lemmas.Option.{get_or_from_slice_get, slice_get-get_or, slice_get-map}
-use Rattle.std.specs.List.{list_any, range_with_len, zip}
+use Rattle.std.specs.List.{flat_map, list_any, range_with_len, zip}
 use Rattle.std.specs.Prelude.{All}
 use Rattle.pf_shapes.specs.Body.{BodyState, no_state}
 use Rattle.pf_shapes.specs.Scene.{Scene}
@@ -39,6 +39,9 @@ use Rattle.pf_step.proofs.Alone.{group_after}
 use Rattle.pf_step.proofs.Apart.{groups_alone}
 use Rattle.pf_step.proofs.Lengths.{updated_length, woken_length, world_after_length}
 use Rattle.pf_step.proofs.Touching.{points_of_bodies}
+use Rattle.pf_step.proofs.TickCases.{woken_at as body_woken_at}
+use Rattle.pf_step.specs.Changes.{bodies_before, changes_of_islands}
+use Rattle.pf_step.proofs.Changing.{noted_before, notes_of_all, number_of_all}
 
 -- a test of mapped elements
 any_mapped : {X Y : Type 0} (p : Y → Bool) (f : X → Y) (xs : List X) → list_any p (map f xs) ≡ list_any (λ x. p (f x)) xs
@@ -85,10 +88,10 @@ module _ (s : Scene) (before : List Contact) (commanded : List BodyState) (count
 
   -- ---- what putting islands back requires
 
-  pub ended_at_home : All (IsAtHome (length batch.bodies)) ended
+  pub ended_at_home : All (IsAtHome (length commanded)) ended
   ended_at_home =
-      after_tick_at_home s (length batch.bodies) found
-      (subst (λ n. All (IsAtHome n) found) (groups_long s points ∙ sym awake_long)
+      after_tick_at_home s (length commanded) found
+      (subst (λ n. All (IsAtHome n) found) (groups_long s points ∙ sym count)
       (islands_at_home labels batch.bodies batch.rows))
 
   pub ended_at_contacts : AreTouches points → All (λ (i : Island). AreRowsAt contacts i.rows) ended
@@ -191,18 +194,48 @@ module _ (s : Scene) (before : List Contact) (commanded : List BodyState) (count
       rest : ℕ × BodyState → BodyState
       rest m = if m.1.awake && is_resting STILL_TICKS labels after.bodies m.0 then at_sleep m.1 else m.1
 
+  -- nothing woke them
+  slept : (j : ℕ) → j < length s.fixtures → is_awake_at batch.bodies j ≡ false
+      → get_or commanded j no_state ≡ get_or batch.bodies j no_state
+  slept j within sleeps =
+      let b = get_or batch.bodies j no_state in
+      let w = body_woken_at labels commanded j b (slice_get-get_or batch.bodies j no_state (omega (arith, within, awake_long))) in
+      get_or_from_slice_get commanded j w.from no_state w.is_there
+      ∙ by w.from w.flag (w.from.awake) refl (ap (λ (x : BodyState). x.awake) w.value ∙ sleeps) w.stays ∙ w.value
+    where
+      by : (x : BodyState) (flag awake : Bool) → x.awake ≡ awake → flag ≡ false → (x.awake ≡ true → flag ≡ true)
+          → x ≡ record x { awake = flag }
+      by x flag true is off on = absurd (true≢false (sym (on is) ∙ off))
+      by x flag false is off on = ap (λ t. record x { awake = t }) (is ∙ sym off)
+
+  -- so a body of no island is after the tick as it was after the commands
+  pub others_stay : (j : ℕ) → j < length s.fixtures → list_any (λ (i : Island). has_number i.numbers j) ended ≡ false
+      → get_or commanded j no_state ≡ get_or (world_after s before commanded).bodies j no_state
+  others_stay j within none =
+      let sleeps = asleep j within none in
+      slept j within sleeps ∙ stays j within sleeps
+
   -- ---- the world
 
   pub ended_join : AreTouches points
-      → (joined_bodies ended batch.bodies ≡ (world_after s before commanded).bodies)
+      → (joined_bodies ended commanded ≡ (world_after s before commanded).bodies)
       × (joined_contacts ended contacts ≡ (world_after s before commanded).contacts)
   ended_join order =
       let rows : AreRows batch.rows = rows_in_order s batch.bodies points contacts order in (
-        joined_is (world_after s before commanded).bodies ended batch.bodies
-            (world_after_length s before commanded count ∙ sym awake_long) states_ended
-            (λ j inside none.
-            let within : j < length s.fixtures = omega (arith, inside, awake_long) in
-            stays j within (asleep j within none)),
+        joined_is (world_after s before commanded).bodies ended commanded
+            (world_after_length s before commanded count ∙ sym count) states_ended
+            (λ j inside none. others_stay j (omega (arith, inside, count)) none),
         joined_contacts_are after.rows ended contacts
             (subst AreTouches (sym (solved_touches s batch.bodies batch.rows)) rows) rows_ended rows_are_ended,
       )
+
+  -- undoing what was noted of the islands gives the bodies after the commands
+  pub islands_before : bodies_before (changes_of_islands commanded found) (world_after s before commanded).bodies ≡ commanded
+  islands_before =
+      let final = (world_after s before commanded).bodies in
+      let numbers = flat_map (λ (i : Island). i.numbers) found in
+      ap (λ cs. bodies_before cs final) (notes_of_all commanded (λ (i : Island). i.numbers) found)
+      ∙ noted_before commanded final (world_after_length s before commanded count ∙ sym count) numbers
+      (λ j within none.
+      sym (others_stay j (omega (arith, within, count))
+      (any_mapped (λ (i : Island). has_number i.numbers j) (island_after_tick s) found ∙ sym (number_of_all found j) ∙ none)))

@@ -1,6 +1,7 @@
 -- The lemmas of this crate.
 pub mod Ticks
 pub mod Orders
+pub mod Changing
 pub mod Commanding
 pub mod Lengths
 pub mod Empty

@@ -40,14 +40,14 @@ pub record IsTicked (bodies : List BodyState) (i : ℕ) (c : BodyState) : Type 0
 
 -- ---- Activity
 
-record IsWoken (bodies : List BodyState) (i : ℕ) (c : BodyState) : Type 0 where
-  from : BodyState
-  flag : Bool
-  is_there : slice_get bodies i ≡ Some from
-  value : record from { awake = flag } ≡ c
-  stays : from.awake ≡ true → flag ≡ true
+pub record IsWoken (bodies : List BodyState) (i : ℕ) (c : BodyState) : Type 0 where
+  pub from : BodyState
+  pub flag : Bool
+  pub is_there : slice_get bodies i ≡ Some from
+  pub value : record from { awake = flag } ≡ c
+  pub stays : from.awake ≡ true → flag ≡ true
 
-woken_at : (labels : List ℕ) (bodies : List BodyState) (i : ℕ) (c : BodyState)
+pub woken_at : (labels : List ℕ) (bodies : List BodyState) (i : ℕ) (c : BodyState)
     → slice_get (woken_bodies labels bodies) i ≡ Some c → IsWoken bodies i c
 unfolding woken_bodies
 woken_at labels bodies i c here =

@@ -1,18 +1,19 @@
 -- A tick without contact points: each body is its own group, and is simulated on its own.
-use Rattle.std.proofs.Common.{◌≡◌, ◌∙◌, ℕ, zero, suc, ◌<◌, ◌+◌, ◌==◌, Bool, true, false, not, ◌&&◌, ◌||◌, List, [], ◌∷◌, Some, length, map, refl, sym, ap, ap₂, arith, slice_get, if◌then◌else◌}
+use Rattle.std.proofs.Common.{◌≡◌, ◌∙◌, ℕ, zero, suc, ◌<◌, ◌+◌, ◌==◌, Bool, true, false, not, ◌&&◌, ◌||◌, List, [], ◌∷◌, Some, filter, get_or, length, map, option_map, refl, sym, ap, ap₂, arith, slice_get, if◌then◌else◌}
 use Rattle.std.proofs.lemmas.Bool.{eq-eqb, ne_eqb}
 use Rattle.std.proofs.lemmas.List.{length-map}
-use Rattle.std.proofs.lemmas.Option.{none-some, same_Some}
+use Rattle.std.proofs.lemmas.Option.{get_or_from_slice_get, none-some, same_Some, slice_get-get_or, slice_get-map}
 use Rattle.std.specs.List.{list_all, list_any, range_with_len, zip}
 use Rattle.pf_rot.specs.Vector.{V2}
-use Rattle.pf_shapes.specs.Body.{BodyState}
+use Rattle.pf_shapes.specs.Body.{BodyState, no_state}
 use Rattle.pf_shapes.specs.Scene.{Scene}
 use Rattle.pf_manifold.specs.Touches.{Touch}
 use Rattle.pf_cache.specs.Contact.{Contact, next_contacts}
 use Rattle.pf_rows.specs.Row.{Row}
 use Rattle.pf_cache.specs.ContactRows.{with_rows}
 use Rattle.pf_islands.specs.Group.{group, groups}
-use Rattle.pf_islands.specs.Rows.{active_rows}
+use Rattle.pf_islands.specs.Rows.{active_rows, is_awake_at}
+use Rattle.pf_islands.proofs.Members.{has_filter, has_range}
 use Rattle.pf_islands.specs.Sleep.{at_sleep, is_active, is_resting, bodies_after_sleep, woken_bodies}
 use Rattle.pf_solver.specs.declared.bodies.TheConstants.{STILL_TICKS}
 use Rattle.pf_solver.specs.Alone.{asleep_if_still, body_after_tick}
@@ -20,7 +21,9 @@ use Rattle.pf_solver.specs.Bodies.{after_gravity, after_motion, after_timer, eac
 use Rattle.pf_solver.specs.Solve.{solved_batch}
 use Rattle.pf_solver.specs.Velocities.{Batch}
 use Rattle.pf_solver.proofs.Free.{free_is_solved}
+use Rattle.pf_step.specs.Changes.{bodies_before, changes_of_awake}
 use Rattle.pf_step.specs.Step.{touches_of_scene, world_after}
+use Rattle.pf_step.proofs.Changing.{noted_before}
 use Rattle.pf_step.specs.World.{World}
 
 -- the labels k, k + 1, .. of so many groups of one body
@@ -169,3 +172,27 @@ pub untouched_world : (s : Scene) (before : List Contact) (bodies : List BodySta
 untouched_world s before bodies paired none =
     ap (world_with s before bodies) none
     ∙ ap₂ (λ bs cs. record { bodies = bs; contacts = cs }) (bodies_alone s bodies paired (next_contacts before [])) (no_contacts before _)
+
+-- ---- what is noted of the awake bodies
+
+asleep_stays : (pull : V2) (b : BodyState) → b.awake ≡ false → body_after_tick pull b ≡ b
+unfolding body_after_tick
+asleep_stays pull b asleep =
+    ap asleep_if_still (ap (λ t. if t then after_timer (after_motion (after_gravity pull b)) else b) asleep)
+    ∙ ap (λ t. if t && (b.timer == STILL_TICKS) then at_sleep b else b) asleep
+
+-- undoing it gives the bodies before
+pub awake_before : (pull : V2) (bodies : List BodyState)
+    → bodies_before (changes_of_awake bodies) (map (body_after_tick pull) bodies) ≡ bodies
+awake_before pull bodies =
+    noted_before bodies (map (body_after_tick pull) bodies) (length-map bodies _)
+    (filter (is_awake_at bodies) (range_with_len 0 (length bodies)))
+    (λ j within none.
+    let b = get_or bodies j no_state in
+    let here : slice_get bodies j ≡ Some b = slice_get-get_or bodies j no_state within in
+    let sleeps : b.awake ≡ false =
+    sym (ap (λ t. t && is_awake_at bodies j) (has_range 0 (length bodies) j (omega arith) (omega (arith, within))))
+    ∙ sym (has_filter (is_awake_at bodies) (range_with_len 0 (length bodies)) j) ∙ none in
+    get_or_from_slice_get (map (body_after_tick pull) bodies) j b no_state
+    (slice_get-map (body_after_tick pull) bodies j ∙ ap (option_map (body_after_tick pull)) here
+    ∙ ap (λ x. Some x) (asleep_stays pull b sleeps)))

@@ -4,6 +4,7 @@ pub mod Work
 pub mod WorldLaws
 pub mod Commands
 pub mod Step
+pub mod Changes
 pub mod Stepping
 pub mod Simulation
 pub mod Activity

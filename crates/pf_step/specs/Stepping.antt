@@ -4,22 +4,38 @@ use Rattle.pf_shapes.specs.Scene.{Scene}
 use Rattle.pf_commands.specs.declared.payload.Payload.{Payload}
 use Rattle.pf_cache.specs.Manifolds.{no_manifolds}
 use Rattle.pf_step.specs.Work.{Work, work_after_tick}
+use Rattle.pf_step.specs.Changes.{BodyChange, Changes, bodies_before, world_before}
 use Rattle.pf_islands.specs.Split.{Island}
 use Rattle.pf_step.specs.declared.crew.CrewError.{CrewError}
 use Rattle.pf_step.specs.declared.crew.StepError.{StepError}
 use Rattle.pf_step.specs.declared.crew.StepError.TheVariants.{Crew, OutOfMemory}
-use Rattle.pf_step.specs.Step.{collisions_of_tick, step}
+use Rattle.pf_step.specs.Step.{collisions_of_tick, step, world_after}
 use Rattle.pf_step.specs.World.{World}
 
--- what a step from a world with the payloads of a tick returns: the next world, with the tick
--- counted and its contact points kept; or an error, with nothing counted and no points kept
+-- what a step with the payloads of a tick does to a world: it makes the next one of it, returns
+-- what undoes that, counts the tick, and keeps its contact points; or it returns an error, and
+-- leaves the world as it was, with nothing counted and no points kept
 pub record IsStep {E : Type 0} (s : Scene) (w : World) (payloads : List Payload) (old new : Work)
-    (result : Result World E) : Type 0 where
-  pub value : IfOk result (λ next. next ≡ step s w payloads)
-  pub bodies : IfOk result (λ next. length next.bodies ≡ length s.fixtures)
+    (after : World) (result : Result Changes E) : Type 0 where
+  pub value : OnOk result (after ≡ step s w payloads)
+  pub before : IfOk result (λ changes. world_before changes after ≡ w)
+  pub unchanged : OnErr result (after ≡ w)
+  pub bodies : length after.bodies ≡ length s.fixtures
   pub counted : OnOk result
       (new ≡ work_after_tick (collisions_of_tick s w payloads old.manifolds) old)
   pub not_counted : OnErr result (new ≡ record old { manifolds = no_manifolds })
+
+-- what the phases after Points do to a world, where some changes of bodies are noted before: they
+-- make the next world of it, and undoing all changes undoes these too; or they return an error,
+-- leave the world, and note nothing that undoing would change
+pub record IsEnding {A E : Type 0} (s : Scene) (w : World) (noted : List BodyChange)
+    (after : World) (changes : Changes) (result : Result A E) : Type 0 where
+  pub value : OnOk result (after ≡ world_after s w.contacts w.bodies)
+  pub before : OnOk result (world_before changes after
+      ≡ record { bodies = bodies_before noted w.bodies; contacts = w.contacts })
+  pub unchanged : OnErr result (after ≡ w)
+  pub undone : OnErr result
+      (bodies_before changes.bodies w.bodies ≡ bodies_before noted w.bodies)
 
 -- why a step that calls a crew failed: it was out of memory before the call, or the call with these
 -- islands failed with this error

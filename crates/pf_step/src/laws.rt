@@ -1,6 +1,6 @@
 //! Laws of simulations. These functions compute nothing: their clauses are the statements.
 
-ghost use Rattle.std.specs.Prelude.{◌≡◌, ◌≢◌, ◌⊎◌, ℕ, ℤ, ◌+◌, ◌-◌, ◌≤◌, ◌<◌, pos, true, false, Some, All, List, length, map, slice_get};
+ghost use Rattle.std.specs.Prelude.{◌≡◌, ◌≢◌, ◌⊎◌, ◌∷◌, ◌++◌, ℕ, ℤ, ◌+◌, ◌-◌, ◌≤◌, ◌<◌, pos, true, false, Some, All, List, length, map, slice_get};
 ghost use Rattle.pf_rot.specs.Vector.{zero_vector};
 ghost use Rattle.pf_rot.specs.Laws.{IsAtMostOne};
 ghost use Rattle.pf_shapes.specs.Body.{BodyState};
@@ -20,6 +20,7 @@ ghost use Rattle.pf_solver.specs.Bodies.{is_still};
 ghost use Rattle.pf_solver.specs.Alone.{seen_from};
 ghost use Rattle.pf_islands.specs.Island.{states_of, rows_among, members};
 ghost use Rattle.pf_solver.specs.Solve.{solved_batch};
+ghost use Rattle.pf_step.specs.Changes.{BodyChange, bodies_before};
 ghost use Rattle.pf_step.specs.Commands.{after_commands, apply};
 ghost use Rattle.pf_step.specs.Activity.{batch_of_tick, labels_of_tick};
 ghost use Rattle.pf_step.specs.Laws.{IsUndisturbed, IsWithinFriction, bodies_before_sleep, commanded_bodies};
@@ -201,4 +202,16 @@ pub fn rotations_stay_at_most_one()
     ensures starts { (scene : Scene) (commands : CommandMap) (tick : ℕ)
         → All (λ b. IsAtMostOne b.rotation) scene.starts
         → All (λ b. IsAtMostOne b.rotation) (sim scene commands tick).bodies }
+{}
+
+/// Before some changes, a body that is among them had the state that its first change notes, and
+/// the others were as they are.
+#[tactic(auto, using(crate::proofs::Changing::first_decides, crate::proofs::Changing::unchanged_stays))]
+pub fn first_changes_decide()
+    ensures first { (earlier later : List BodyChange) (c : BodyChange) (bodies : List BodyState)
+        → All (λ e. e.number ≢ c.number) earlier → c.number < length bodies
+        → slice_get (bodies_before (earlier ++ c ∷ later) bodies) c.number ≡ Some c.before }
+    ensures others { (changes : List BodyChange) (bodies : List BodyState) (i : ℕ)
+        → All (λ c. c.number ≢ i) changes
+        → slice_get (bodies_before changes bodies) i ≡ slice_get bodies i }
 {}

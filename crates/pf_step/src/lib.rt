@@ -4,6 +4,7 @@
 //! those of Box2D 2.x.
 #![tactic(auto)]
 
+mod changes;
 mod command;
 mod crew;
 mod ending;
@@ -12,6 +13,7 @@ mod step;
 mod work;
 mod world;
 
+pub use changes::Changes;
 pub use command::apply;
 pub use crew::{Crew, CrewError, StepError, solve_all};
 pub use step::{step_by, step_on_one_thread, step_with};

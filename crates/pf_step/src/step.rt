@@ -10,35 +10,18 @@ ghost use Rattle.pf_step.specs.Stepping.{FailsBy, IsStep};
 ghost use Rattle.pf_step.specs.Commands.{after_commands};
 ghost use Rattle.pf_step.specs.Step.{collisions_of_bodies, touches_of_scene};
 
+use crate::changes::{Changes, undo_bodies};
 use crate::command::apply_all;
 use crate::crew::{Crew, StepError};
 use crate::ending::finish;
 use crate::work::Work;
-use crate::world::{World, copy_into};
+use crate::world::World;
 use pf_cache::{Collisions, Manifolds};
 use pf_commands::Payload;
 use pf_manifold::{Collider, OneThread, SeveralThreads};
 use pf_shapes::{BodyState, Scene};
 use std::alloc::{AllocError, Global};
 use std::thread::Threads;
-
-/// The phase Commands: the bodies after the commands of a tick, in the memory of `spare`.
-#[tactic(auto, using(crate::proofs::Commanding::commands_length))]
-fn bodies_after_commands(
-    spare: Vec<BodyState>,
-    scene: &Scene,
-    world: &World,
-    payloads: &[Payload],
-) -> Result<Vec<BodyState>, AllocError>
-    ensures bodies { IfOk result (λ bodies. bodies.items
-        ≡ after_commands scene.now.fixtures world.now.bodies payloads.now) }
-    ensures count { IfOk result (λ bodies. length bodies.items ≡ length world.now.bodies) }
-    ensures no_memory { world.now.bodies ≡ [] → IsOk result }
-{
-    let mut bodies = copy_into(spare, world.bodies())?;
-    apply_all(scene.fixtures(), &mut bodies, payloads);
-    Ok(bodies)
-}
 
 /// The contact points of the bodies of a scene as they stand; kept ones are reused.
 #[tactic(auto, using(pf_cache::proofs::Unmoved::kept_points, pf_manifold::proofs::KeyOrder::touches_of_bodies))]
@@ -62,40 +45,51 @@ fn find_collisions<P: Collider>(
     kept.update(collider, alloc, scene, bodies)
 }
 
-/// The world one tick of 1/64 s later, with the payloads of the tick's commands in order of player,
-/// then number. The world has one state for each body of the scene. The collider computes contact
-/// points. The crew is called once, with the islands of the tick, or not at all where nothing
-/// touches and the crew allows that. Counts in `work` the tick and the pairs that cannot reuse kept
-/// points, and leaves the points there; after an error none are kept, and nothing is counted. Takes
-/// no memory of its own where there are no bodies.
+/// Makes of a world the one that is one tick of 1/64 s later, with the payloads of the tick's
+/// commands in order of player, then number, and returns what changed. The world has one state for
+/// each body of the scene. The collider computes contact points. The crew is called once, with the
+/// islands of the tick, or not at all where nothing touches and the crew allows that. Counts in
+/// `work` the tick and the pairs that cannot reuse kept points, and leaves the points there. An
+/// error leaves the world as it was; then no points are kept, and nothing is counted. Takes no
+/// memory of its own where there are no bodies.
 pub fn step_by<P: Collider, C: Crew>(
     collider: &P,
     alloc: Global,
     scene: &Scene,
-    world: &World,
+    world: &mut World,
     payloads: &[Payload],
     work: &mut Work,
     crew: &mut C,
-) -> Result<World, StepError>
+) -> Result<Changes, StepError>
     requires can { P.can_collide collider.now }
-    requires world { length world.now.bodies ≡ length scene.now.fixtures }
-    ensures step { IsStep scene.now world.now payloads.now work.old work.new result }
-    ensures called { let islands = islands_of_tick scene.now world.now payloads.now in
+    requires world { length world.old.bodies ≡ length scene.now.fixtures }
+    ensures step { IsStep scene.now world.old payloads.now work.old work.new world.new result }
+    ensures called { let islands = islands_of_tick scene.now world.old payloads.now in
         OnOk result (C.is_called crew.old islands crew.new) }
-    ensures failed { let islands = islands_of_tick scene.now world.now payloads.now in
+    ensures failed { let islands = islands_of_tick scene.now world.old payloads.now in
         IfErr result (λ error. FailsBy C.may_fail crew.old islands error crew.new) }
-    ensures no_memory { world.now.bodies ≡ [] → result ≢ Err OutOfMemory }
+    ensures no_memory { world.old.bodies ≡ [] → result ≢ Err OutOfMemory }
 {
     let kept = work.take_manifolds(alloc);
-    let spare = work.take_bodies(alloc);
-    let bodies = bodies_after_commands(spare, scene, world, payloads)?;
-    let found = find_collisions(collider, alloc, scene, &bodies, kept)?;
-    match finish(alloc, scene, world.contacts(), bodies, &found, work, crew) {
-        Ok(next) => {
-            work.end_tick(found);
-            Ok(next)
+    let mut changes = work.take_changes(alloc);
+    changes.note_commanded(&world.bodies, payloads)?;
+    apply_all(scene.fixtures(), &mut world.bodies, payloads);
+    let found = match find_collisions(collider, alloc, scene, &world.bodies, kept) {
+        Ok(found) => found,
+        Err(error) => {
+            undo_bodies(&mut world.bodies, changes.bodies());
+            return Err(StepError::from(error));
         }
-        Err(error) => Err(error),
+    };
+    match finish(alloc, scene, world, &found, work, crew, &mut changes) {
+        Ok(()) => {
+            work.end_tick(found);
+            Ok(changes)
+        }
+        Err(error) => {
+            undo_bodies(&mut world.bodies, changes.bodies());
+            Err(error)
+        }
     }
 }
 
@@ -103,13 +97,13 @@ pub fn step_by<P: Collider, C: Crew>(
 pub fn step_on_one_thread(
     alloc: Global,
     scene: &Scene,
-    world: &World,
+    world: &mut World,
     payloads: &[Payload],
     work: &mut Work,
-) -> Result<World, AllocError>
-    requires { length world.now.bodies ≡ length scene.now.fixtures }
-    ensures step { IsStep scene.now world.now payloads.now work.old work.new result }
-    ensures no_memory { world.now.bodies ≡ [] → IsOk result }
+) -> Result<Changes, AllocError>
+    requires { length world.old.bodies ≡ length scene.now.fixtures }
+    ensures step { IsStep scene.now world.old payloads.now work.old work.new world.new result }
+    ensures no_memory { world.old.bodies ≡ [] → IsOk result }
 {
     match step_by(
         &OneThread,
@@ -120,7 +114,7 @@ pub fn step_on_one_thread(
         work,
         &mut OneThread,
     ) {
-        Ok(next) => Ok(next),
+        Ok(changes) => Ok(changes),
         Err(StepError::OutOfMemory) => Err(AllocError),
         Err(StepError::Crew(_)) => unreachable!(),
     }
@@ -132,18 +126,18 @@ pub fn step_with<R: Threads + Sync, C: Crew>(
     rt: &R,
     alloc: Global,
     scene: &Scene,
-    world: &World,
+    world: &mut World,
     payloads: &[Payload],
     work: &mut Work,
     crew: &mut C,
-) -> Result<World, StepError>
-    requires { length world.now.bodies ≡ length scene.now.fixtures }
-    ensures step { IsStep scene.now world.now payloads.now work.old work.new result }
-    ensures called { let islands = islands_of_tick scene.now world.now payloads.now in
+) -> Result<Changes, StepError>
+    requires { length world.old.bodies ≡ length scene.now.fixtures }
+    ensures step { IsStep scene.now world.old payloads.now work.old work.new world.new result }
+    ensures called { let islands = islands_of_tick scene.now world.old payloads.now in
         OnOk result (C.is_called crew.old islands crew.new) }
-    ensures failed { let islands = islands_of_tick scene.now world.now payloads.now in
+    ensures failed { let islands = islands_of_tick scene.now world.old payloads.now in
         IfErr result (λ error. FailsBy C.may_fail crew.old islands error crew.new) }
-    ensures no_memory { world.now.bodies ≡ [] → result ≢ Err OutOfMemory }
+    ensures no_memory { world.old.bodies ≡ [] → result ≢ Err OutOfMemory }
 {
     let collider = SeveralThreads { rt };
     step_by(&collider, alloc, scene, world, payloads, work, crew)

@@ -1,24 +1,22 @@
 //! What steps of one simulation share.
 
-use pf_cache::{Collisions, Contacts, Manifolds, Meter};
+use crate::changes::Changes;
+use pf_cache::{Collisions, Manifolds, Meter};
 use pf_islands::Island;
-use pf_shapes::BodyState;
 use std::alloc::Global;
 use std::marker::Model;
 use std::mem;
 
 /// What one step of a simulation leaves to the next beside the world: how much work was done, the
-/// contact points of the last tick, and spare memory of worlds and islands that are gone.
+/// contact points of the last tick, and spare memory of changes and islands that are gone.
 ///
 /// Contracts do not see the spare memory, since it changes no result.
 #[derive(Debug, Drop)]
 pub struct Work {
     meter: Meter,
     manifolds: Manifolds,
-    /// The memory for the bodies of the next world.
-    spare_bodies: Vec<BodyState>,
-    /// The memory for its contacts.
-    spare_contacts: Contacts,
+    /// The memory for what the next step changes.
+    spare_changes: Changes,
     /// The memory for the islands of the next tick.
     spare_islands: Vec<Island>,
 }
@@ -32,7 +30,7 @@ impl Model for Work {
 }
 
 impl Work {
-    ghost use Rattle.std.specs.Prelude.{◌≡◌};
+    ghost use Rattle.std.specs.Prelude.{◌≡◌, []};
     ghost use Rattle.pf_cache.specs.Manifolds.{no_manifolds};
     ghost use Rattle.pf_step.specs.Work.{no_work, work_after_tick};
 
@@ -43,8 +41,7 @@ impl Work {
         Work {
             meter: Meter::NONE,
             manifolds: Manifolds::new(alloc),
-            spare_bodies: Vec::new(alloc),
-            spare_contacts: Contacts::new(alloc),
+            spare_changes: Changes::new(alloc),
             spare_islands: Vec::new(alloc),
         }
     }
@@ -73,12 +70,11 @@ impl Work {
         mem::replace(&mut self.manifolds, Manifolds::new(alloc))
     }
 
-    /// Keeps the memory of these bodies and contacts for the next world.
-    pub(crate) fn keep_world(&mut self, bodies: Vec<BodyState>, contacts: Contacts)
+    /// Keeps the memory of these changes for those of the next step.
+    pub(crate) fn keep_changes(&mut self, changes: Changes)
         ensures { self.new ≡ self.old }
     {
-        self.spare_bodies = bodies;
-        self.spare_contacts = contacts;
+        self.spare_changes = changes;
     }
 
     /// Keeps the memory of these islands for those of the next tick.
@@ -88,18 +84,15 @@ impl Work {
         self.spare_islands = islands;
     }
 
-    /// Takes the memory that is kept for bodies. What it holds is of no use. Takes no memory.
-    pub(crate) fn take_bodies(&mut self, alloc: Global) -> Vec<BodyState>
-        ensures { self.new ≡ self.old }
+    /// Takes the memory that is kept for changes: without bodies, and the contacts are of no use.
+    /// Takes no memory.
+    pub(crate) fn take_changes(&mut self, alloc: Global) -> Changes
+        ensures changes { result.bodies ≡ [] }
+        ensures work { self.new ≡ self.old }
     {
-        mem::replace(&mut self.spare_bodies, Vec::new(alloc))
-    }
-
-    /// Takes the memory that is kept for contacts. What it holds is of no use. Takes no memory.
-    pub(crate) fn take_contacts(&mut self, alloc: Global) -> Contacts
-        ensures { self.new ≡ self.old }
-    {
-        mem::replace(&mut self.spare_contacts, Contacts::new(alloc))
+        let mut changes = mem::replace(&mut self.spare_changes, Changes::new(alloc));
+        changes.clear();
+        changes
     }
 
     /// Takes the memory that is kept for islands. What it holds is of no use. Takes no memory.

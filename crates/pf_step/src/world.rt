@@ -2,7 +2,7 @@
 
 ghost use Rattle.std.specs.Prelude.{◌≡◌, [], IfOk, IsOk};
 
-use crate::work::Work;
+use crate::changes::{Changes, undo_bodies};
 use pf_cache::Contacts;
 use pf_shapes::{BodyState, Scene};
 use std::alloc::{AllocError, Global};
@@ -35,23 +35,9 @@ pub(crate) fn copy_of(alloc: Global, bodies: &[BodyState]) -> Result<Vec<BodySta
     Vec::from_slice(alloc, bodies)
 }
 
-/// A copy of bodies in the memory of `spare`, whose bodies are gone. Takes more memory only where
-/// that is too little.
-pub(crate) fn copy_into(
-    spare: Vec<BodyState>,
-    bodies: &[BodyState],
-) -> Result<Vec<BodyState>, AllocError>
-    ensures items { IfOk result (λ copy. copy.items ≡ bodies.now) }
-    ensures no_memory { bodies.now ≡ [] → IsOk result }
-{
-    let mut copy = spare;
-    copy.clear();
-    copy.extend_from_slice(bodies)?;
-    Ok(copy)
-}
-
 impl World {
-    ghost use Rattle.std.specs.Prelude.{◌≡◌, [], length, IfOk, IsOk};
+    ghost use Rattle.std.specs.Prelude.{◌≡◌, [], length, IfOk, IsOk, OnErr, OnOk};
+    ghost use Rattle.pf_step.specs.Changes.{world_before};
     ghost use Rattle.pf_step.specs.World.{start_of, same_world};
 
     /// The world at tick 0: each body at its start, and no contacts. Takes no memory where the
@@ -81,12 +67,29 @@ impl World {
         &self.contacts
     }
 
-    /// Lends the memory of this world to the next one that is made with `work`. What contracts see
-    /// of the work stays as it is.
-    pub fn lend(self, work: &mut Work)
-        ensures { work.new ≡ work.old }
+    /// Undoes a step: this is the world after it, and `changes` are what it returned. Takes time
+    /// for what changed, and no memory.
+    #[tactic(auto, unfolding(crate::specs::Changes::world_before))]
+    pub fn undo(&mut self, changes: Changes)
+        ensures { self.new ≡ world_before changes self.old }
     {
-        work.keep_world(self.bodies, self.contacts);
+        let (bodies, contacts) = changes.into_parts();
+        undo_bodies(&mut self.bodies, &bodies);
+        self.contacts = contacts;
+    }
+
+    /// Undoes a step as [`World::undo`] does, where the changes are still needed. Copies the
+    /// contacts, and takes memory where there are some. Out of memory changes nothing.
+    #[tactic(auto, unfolding(crate::specs::Changes::world_before))]
+    pub fn undo_copied(&mut self, changes: &Changes) -> Result<(), AllocError>
+        ensures value { OnOk result (self.new ≡ world_before changes.now self.old) }
+        ensures err { OnErr result (self.new ≡ self.old) }
+        ensures no_memory { (world_before changes.now self.old).contacts ≡ [] → IsOk result }
+    {
+        let contacts = changes.contacts().try_clone()?;
+        undo_bodies(&mut self.bodies, changes.bodies());
+        self.contacts = contacts;
+        Ok(())
     }
 
     /// A copy. Takes time and memory for all bodies and contacts, and no memory where there are

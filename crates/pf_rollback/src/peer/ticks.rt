@@ -12,7 +12,7 @@ use crate::error::{PeerError, Refusal};
 use crate::peer::PeerCore;
 use pf_commands::MAX_TICK;
 use pf_manifold::{Collider, OneThread, SeveralThreads};
-use pf_step::{Crew, StepError, step_by};
+use pf_step::{Crew, StepError};
 use std::alloc::{AllocError, Global};
 use std::thread::Threads;
 
@@ -61,8 +61,9 @@ impl PeerCore {
         Ok(last)
     }
 
-    /// Steps from the latest kept world to the world one tick later, and keeps that. The world that
-    /// falls out of the ring lends its memory to the next. An error leaves the peer as it was.
+    /// Steps the world of the settled tick to that of the next one, and keeps what that changed.
+    /// What falls out of the ring lends its memory to the next step. An error leaves the peer as it
+    /// was.
     fn settle_tick<P: Collider, C: Crew>(
         &mut self,
         collider: &P,
@@ -83,15 +84,9 @@ impl PeerCore {
     {
         self.snapshots.reserve()?;
         let payloads = self.commands.at_tick(alloc, tick)?;
-        let latest = self.snapshots.latest();
         let work = &mut self.work;
-        match step_by(collider, alloc, &self.scene, latest, &payloads, work, crew) {
-            Ok(world) => {
-                self.snapshots.keep(world, &mut self.work);
-                Ok(())
-            }
-            Err(error) => Err(error),
-        }
+        self.snapshots
+            .settle(collider, alloc, &self.scene, &payloads, work, crew)
     }
 
     /// Settles the ticks up to the reached one, in their order, by steps on one thread, and returns

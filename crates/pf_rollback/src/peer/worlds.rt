@@ -97,7 +97,7 @@ impl PeerCore {
         let work = &mut self.work;
         let world = simulate_from(alloc, &self.scene, &self.commands, kept, tick, work)?;
         self.commands.drop_before(tick);
-        self.snapshots.seal(tick, world, &mut self.work);
+        self.snapshots.seal(tick, world);
         Ok(())
     }
 }

@@ -1,13 +1,19 @@
-use Rattle.std.proofs.Common.{ap, subst, sym, ◌∙◌}
-use Rattle.pf_rollback.specs.Kept.{nearest_tick}
-use Rattle.pf_rollback.specs.Snapshots.{Snapshots, IsKept, IsSnapshots, ticks_of}
-use Rattle.pf_rollback.proofs.KeptWorlds.{nearest_settled, settled_is}
+use Rattle.std.proofs.Common.{rules, ◌≡◌, subst, sym, ap, ◌∙◌}
+use Rattle.pf_rollback.specs.Kept.{settled_tick}
+use Rattle.pf_rollback.specs.Snapshots.{IsKept, IsSnapshots, last_world, settled_world, ticks_of}
+use Rattle.pf_rollback.proofs.KeptWorlds.{settled_tick_kept}
 use Rattle.pf_rollback.proofs.snapshots.Snapshots.latest.Goals as goal
 
-pub returns : goal.returns
-returns c =
-    let is = subst IsSnapshots c.self.view_is c.self.invariant in
-    let settled = ap (λ (s : Snapshots). s.settled) c.self.view_is ∙ sym (settled_is c.args.self.now is) in
-    let tick =
-    c.nearest.ensures.tick ∙ ap (λ t. nearest_tick (ticks_of c.args.self.now) t) settled ∙ nearest_settled c.args.self.now is in
-    subst (λ t. IsKept c.args.self.now t c.nearest.result.1.now) tick c.nearest.ensures.kept
+pub returns-in-Some-clause-kept : goal.returns-in-Some-clause-kept
+returns-in-Some-clause-kept c =
+    let s = c.self.inside in
+    let now = c.args.self.now in
+    let world : settled_world now ≡ c.in-Some.world =
+    ap settled_world (sym c.self.view_is) ∙ ap (last_world s.base s.keyframes.items) c.in-Some.is in
+    subst (IsKept now (settled_tick (ticks_of now))) world (settled_tick_kept now (subst IsSnapshots c.self.view_is c.self.invariant))
+
+pub returns-in-None-clause-kept : goal.returns-in-None-clause-kept
+returns-in-None-clause-kept c =
+    let now = c.args.self.now in
+    let world : settled_world now ≡ c.unwrap_or.result.now = search rules in
+    subst (IsKept now (settled_tick (ticks_of now))) world (settled_tick_kept now (subst IsSnapshots c.self.view_is c.self.invariant))

@@ -1,4 +1,5 @@
-use Rattle.std.proofs.Common.{◌≡◌, ◌∙◌, ◌<◌, ap, arith, length, subst, sym}
+use Rattle.std.proofs.Common.{rules, ◌≡◌, ◌∙◌, ◌<◌, ap, ap₂, arith, length, subst, sym}
+use Rattle.std.proofs.lemmas.List.{with_items_is}
 use Rattle.std.specs.Prelude.{All}
 use Rattle.pf_islands.specs.Group.{groups}
 use Rattle.pf_islands.specs.Settled.{touches_at}
@@ -6,7 +7,7 @@ use Rattle.pf_islands.specs.Sleep.{woken_bodies}
 use Rattle.pf_islands.proofs.Members.{range_within}
 use Rattle.pf_islands.proofs.SettledGroups.{touches_at_all}
 use Rattle.pf_islands.proofs.Starting.{groups_long}
-use Rattle.pf_islands.proofs.splitting.wake_groups.Goals as goal
+use Rattle.pf_islands.proofs.splitting.woken_bodies.Goals as goal
 
 pub new-requires-clause-places : goal.new-requires-clause-places
 new-requires-clause-places c =
@@ -15,7 +16,8 @@ new-requires-clause-places c =
 
 pub wake-requires : goal.wake-requires
 wake-requires c =
-    c.requires.bodies
+    let same : c.deref_mut.result.now ≡ c.args.bodies.now = search rules in
+    ap length same ∙ c.requires.bodies
     ∙ sym (ap length c.in_ok-groups.ensures.value ∙ groups_long c.args.scene.now _)
 
 pub returns-clause-bodies : goal.returns-clause-bodies
@@ -25,4 +27,6 @@ returns-clause-bodies c =
     let all : c.in_ok-groups.groups ≡ groups s touches =
     c.in_ok-groups.ensures.value
     ∙ ap (groups s) (ap (touches_at touches) (c.deref.ensures.value ∙ c.in_ok-all.ensures.value) ∙ touches_at_all touches) in
-    c.wake.ensures.bodies ∙ ap (λ ns. woken_bodies ns c.args.bodies.now) all
+    let same : c.deref_mut.result.now ≡ c.args.bodies.now = search rules in
+    with_items_is c.extend_from_slice.new.self c.wake.new.bodies (c.wake.auto.bodies ∙ c.deref_mut.ensures.len)
+    ∙ c.wake.ensures.bodies ∙ ap₂ woken_bodies all same

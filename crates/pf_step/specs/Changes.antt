@@ -1,0 +1,57 @@
+-- What a step changed in a world, so that the world before the step can be had back.
+use Rattle.std.specs.Prelude.{ℕ, List, [], ◌∷◌, Option, Some, None, filter, length, slice_get, slice_set}
+use Rattle.std.specs.List.{flat_map, range_with_len}
+use Rattle.pf_shapes.specs.Body.{BodyState}
+use Rattle.pf_cache.specs.Contact.{Contact}
+use Rattle.pf_commands.specs.declared.payload.Payload.{Payload}
+use Rattle.pf_commands.specs.Payload.{body_of}
+use Rattle.pf_islands.specs.Rows.{is_awake_at}
+use Rattle.pf_islands.specs.Split.{Island}
+use Rattle.pf_step.specs.World.{World}
+
+-- a body that changed, by its number, and its state before
+pub record BodyChange : Type 0 where
+  pub number : ℕ
+  pub before : BodyState
+
+-- the changes of bodies, in their order, and the contacts of the world before
+pub record Changes : Type 0 where
+  pub bodies : List BodyChange
+  pub contacts : List Contact
+
+-- the bodies before some changes, of those after them: the last change is undone first
+unfoldable pub bodies_before : List BodyChange → List BodyState → List BodyState
+bodies_before [] bodies = bodies
+bodies_before (c ∷ changes) bodies = slice_set (bodies_before changes bodies) c.number c.before
+
+-- the world before a step, of the world after it
+unfoldable pub world_before : Changes → World → World
+world_before changes w =
+    record { bodies = bodies_before changes.bodies w.bodies; contacts = changes.contacts }
+
+-- ---- what is noted before bodies change
+
+abbrev pub change_if : ℕ → Option BodyState → List BodyChange
+change_if number (Some before) = record { number = number; before = before } ∷ []
+change_if number None = []
+
+-- a body as it is, if there is one with this number
+abbrev pub change_of : List BodyState → ℕ → List BodyChange
+change_of bodies number = change_if number (slice_get bodies number)
+
+-- some bodies as they are
+abbrev pub changes_of : List BodyState → List ℕ → List BodyChange
+changes_of bodies numbers = flat_map (change_of bodies) numbers
+
+-- the bodies that commands are for
+abbrev pub changes_by_commands : List BodyState → List Payload → List BodyChange
+changes_by_commands bodies payloads = flat_map (λ p. change_of bodies (body_of p)) payloads
+
+-- the bodies of islands
+abbrev pub changes_of_islands : List BodyState → List Island → List BodyChange
+changes_of_islands bodies islands = flat_map (λ i. changes_of bodies i.numbers) islands
+
+-- the awake bodies
+abbrev pub changes_of_awake : List BodyState → List BodyChange
+changes_of_awake bodies =
+    changes_of bodies (filter (is_awake_at bodies) (range_with_len 0 (length bodies)))

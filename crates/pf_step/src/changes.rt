@@ -1,0 +1,215 @@
+//! What a step changes in a world, so that it can be undone.
+
+ghost use Rattle.std.specs.Prelude.{◌≡◌, ◌++◌, [], IsOk, OnErr, OnOk, slice_set};
+ghost use Rattle.pf_step.specs.Changes.{bodies_before, change_of, changes_of};
+
+use crate::work::Work;
+use pf_cache::Contacts;
+use pf_commands::Payload;
+use pf_islands::Island;
+use pf_shapes::BodyState;
+use std::alloc::{AllocError, Global};
+use std::marker::Model;
+use std::mem;
+
+/// A body that a step changed, and its state before.
+#[derive(Clone, Copy, Debug)]
+pub(crate) struct BodyChange {
+    number: usize,
+    before: BodyState,
+}
+
+impl Model for BodyChange {
+    ghost use Rattle.pf_step.specs.Changes.{BodyChange};
+
+    ghost Value = { BodyChange };
+
+    ghost view = { λ c. record { number = c.number; before = c.before } };
+
+    ghost inverse = { λ c. record { number = c.number; before = c.before } };
+}
+
+/// What a step changed in a world: the states that its bodies had, of those that the step may have
+/// changed, and the contacts of the world before. With it [`World::undo`](crate::World::undo) has
+/// the world before the step back. It is small where most bodies sleep.
+#[derive(Debug, Drop)]
+pub struct Changes {
+    bodies: Vec<BodyChange>,
+    contacts: Contacts,
+}
+
+impl Model for Changes {
+    ghost use Rattle.pf_step.specs.Changes.{Changes};
+
+    ghost Value = { Changes };
+
+    ghost view = { λ c. record { bodies = c.bodies.items; contacts = c.contacts } };
+}
+
+/// Notes a body as it is, if there is one with this number.
+#[inline]
+fn note(
+    changes: &mut Vec<BodyChange>,
+    bodies: &[BodyState],
+    number: usize,
+) -> Result<(), AllocError>
+    ensures ok { OnOk result
+        (changes.new.items ≡ changes.old.items ++ change_of bodies.now number) }
+    ensures err { OnErr result (changes.new.items ≡ changes.old.items) }
+    ensures no_memory { bodies.now ≡ [] → IsOk result }
+{
+    if let Some(body) = bodies.get(number) {
+        changes.push(BodyChange {
+            number,
+            before: *body,
+        })?;
+    }
+    Ok(())
+}
+
+/// Notes these bodies as they are. After an error some of them may be noted.
+fn note_all(
+    changes: &mut Vec<BodyChange>,
+    bodies: &[BodyState],
+    numbers: &[usize],
+) -> Result<(), AllocError>
+    ensures noted { OnOk result
+        (changes.new.items ≡ changes.old.items ++ changes_of bodies.now numbers.now) }
+    ensures same { bodies_before changes.new.items bodies.now
+        ≡ bodies_before changes.old.items bodies.now }
+    ensures no_memory { bodies.now ≡ [] → IsOk result }
+{
+    for number in numbers {
+        note(changes, bodies, *number)?;
+    }
+    Ok(())
+}
+
+/// Gives a body the state that it had before a change, if there is one with its number.
+#[inline]
+fn undo_body(bodies: &mut [BodyState], change: &BodyChange)
+    ensures { bodies.new ≡ slice_set bodies.old change.now.number change.now.before }
+{
+    if change.number < bodies.len() {
+        bodies[change.number] = change.before;
+    }
+}
+
+/// Undoes changes of bodies, the last one first.
+pub(crate) fn undo_bodies(bodies: &mut [BodyState], changes: &[BodyChange])
+    ensures { bodies.new ≡ bodies_before changes.now bodies.old }
+{
+    for change in changes.iter().rev() {
+        undo_body(bodies, change);
+    }
+}
+
+impl Changes {
+    ghost use Rattle.std.specs.Prelude.{◌≡◌, ◌++◌, [], IsOk, OnOk};
+    ghost use Rattle.pf_step.specs.Changes.{bodies_before, changes_by_commands, changes_of_awake, changes_of_islands};
+
+    /// No changes of a world without contacts. Takes no memory.
+    pub(crate) fn new(alloc: Global) -> Changes
+        ensures { result ≡ record { bodies = []; contacts = [] } }
+    {
+        Changes {
+            bodies: Vec::new(alloc),
+            contacts: Contacts::new(alloc),
+        }
+    }
+
+    /// The changes of bodies in their order.
+    pub(crate) fn bodies(&self) -> &[BodyChange]
+        ensures { result.now ≡ self.now.bodies }
+    {
+        self.bodies.as_slice()
+    }
+
+    /// Forgets the changes of bodies, and keeps the memory.
+    pub(crate) fn clear(&mut self)
+        ensures { self.new ≡ record self.old { bodies = [] } }
+    {
+        self.bodies.clear();
+    }
+
+    /// Notes the bodies that commands are for. They are noted before they change, as are all.
+    pub(crate) fn note_commanded(
+        &mut self,
+        bodies: &[BodyState],
+        payloads: &[Payload],
+    ) -> Result<(), AllocError>
+        ensures noted { OnOk result (self.new.bodies
+            ≡ self.old.bodies ++ changes_by_commands bodies.now payloads.now) }
+        ensures no_memory { bodies.now ≡ [] → IsOk result }
+    {
+        for payload in payloads {
+            note(&mut self.bodies, bodies, usize::from(payload.body()))?;
+        }
+        Ok(())
+    }
+
+    /// Notes the bodies of islands. After an error some of them may be noted.
+    pub(crate) fn note_islands(
+        &mut self,
+        bodies: &[BodyState],
+        islands: &[Island],
+    ) -> Result<(), AllocError>
+        ensures noted { OnOk result (self.new.bodies
+            ≡ self.old.bodies ++ changes_of_islands bodies.now islands.now) }
+        ensures same { bodies_before self.new.bodies bodies.now
+            ≡ bodies_before self.old.bodies bodies.now }
+        ensures no_memory { bodies.now ≡ [] → IsOk result }
+    {
+        for island in islands {
+            note_all(&mut self.bodies, bodies, island.numbers.as_slice())?;
+        }
+        Ok(())
+    }
+
+    /// Notes the awake bodies. After an error some of them may be noted.
+    pub(crate) fn note_awake(&mut self, bodies: &[BodyState]) -> Result<(), AllocError>
+        ensures noted { OnOk result
+            (self.new.bodies ≡ self.old.bodies ++ changes_of_awake bodies.now) }
+        ensures same { bodies_before self.new.bodies bodies.now
+            ≡ bodies_before self.old.bodies bodies.now }
+        ensures no_memory { bodies.now ≡ [] → IsOk result }
+    {
+        for (number, body) in bodies.iter().enumerate() {
+            if body.awake {
+                note(&mut self.bodies, bodies, number)?;
+            }
+        }
+        Ok(())
+    }
+
+    /// Notes the contacts of a world that gets others, and returns what stood here before: memory
+    /// for the contacts of a world, at first.
+    pub(crate) fn note_contacts(&mut self, contacts: Contacts) -> Contacts
+        ensures noted { self.new ≡ record self.old { contacts = contacts } }
+        ensures before { result ≡ self.old.contacts }
+    {
+        mem::replace(&mut self.contacts, contacts)
+    }
+
+    /// The changes of bodies, and the contacts before.
+    pub(crate) fn into_parts(self) -> (Vec<BodyChange>, Contacts)
+        ensures { (result.0.items ≡ self.bodies) × (result.1 ≡ self.contacts) }
+    {
+        (self.bodies, self.contacts)
+    }
+
+    /// The contacts before the step.
+    pub(crate) fn contacts(&self) -> &Contacts
+        ensures { result.now ≡ self.now.contacts }
+    {
+        &self.contacts
+    }
+
+    /// Lends its memory to the next step that is made with `work`. What contracts see of the work
+    /// stays as it is.
+    pub fn lend(self, work: &mut Work)
+        ensures { work.new ≡ work.old }
+    {
+        work.keep_changes(self);
+    }
+}
