@@ -259,6 +259,8 @@ fn woken_bodies(
     requires touches { All (IsTouchOf (length bodies.now)) touches.now }
     ensures bodies { IfOk result
         (λ woken. woken.items ≡ woken_bodies (groups_of scene.now touches.now) bodies.now) }
+    ensures as_many { IfOk result (λ woken. length woken.items ≡ length bodies.now) }
+    ensures none { bodies.now ≡ [] → IfOk result (λ woken. woken.items ≡ []) }
     ensures no_memory { bodies.now ≡ [] → touches.now ≡ [] → IsOk result }
 {
     let mut woken = Vec::with_capacity(alloc, bodies.len())?;
@@ -300,6 +302,7 @@ pub fn wake_and_split(
         return split(alloc, spare, scene, bodies, touches, contacts, &active);
     }
     let woken = woken_bodies(alloc, scene, bodies, touches)?;
-    let active = active_of(alloc, scene, &woken, touches)?;
-    split(alloc, spare, scene, &woken, touches, contacts, &active)
+    let bodies = woken.as_slice();
+    let active = active_of(alloc, scene, bodies, touches)?;
+    split(alloc, spare, scene, bodies, touches, contacts, &active)
 }

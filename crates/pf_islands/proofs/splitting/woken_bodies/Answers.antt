@@ -5,7 +5,7 @@ use Rattle.pf_islands.specs.Group.{groups}
 use Rattle.pf_islands.specs.Settled.{touches_at}
 use Rattle.pf_islands.specs.Sleep.{woken_bodies}
 use Rattle.pf_islands.proofs.Members.{range_within}
-use Rattle.pf_islands.proofs.SettledGroups.{touches_at_all}
+use Rattle.pf_islands.proofs.SettledGroups.{none_woken, touches_at_all, woken_long}
 use Rattle.pf_islands.proofs.Starting.{groups_long}
 use Rattle.pf_islands.proofs.splitting.woken_bodies.Goals as goal
 
@@ -30,3 +30,13 @@ returns-clause-bodies c =
     let same : c.deref_mut.result.now ≡ c.args.bodies.now = search rules in
     with_items_is c.extend_from_slice.new.self c.wake.new.bodies (c.wake.auto.bodies ∙ c.deref_mut.ensures.len)
     ∙ c.wake.ensures.bodies ∙ ap₂ woken_bodies all same
+
+pub returns-clause-as_many : goal.returns-clause-as_many
+returns-clause-as_many c =
+    let s = c.args.scene.now in
+    ap length (returns-clause-bodies c) ∙ woken_long s c.args.bodies.now c.args.touches.now c.requires.bodies
+
+pub returns-clause-none : goal.returns-clause-none
+returns-clause-none c nothing =
+    let s = c.args.scene.now in
+    returns-clause-bodies c ∙ none_woken s c.args.bodies.now c.args.touches.now c.requires.bodies nothing
