@@ -43,7 +43,8 @@ pub enum PeerError {
     /// The peer refuses it.
     #[error("{0}")]
     Refused(Refusal),
-    /// An allocation failed. The peer is as it was, except that a seal may have counted ticks.
+    /// An allocation failed. The peer is as it was, except that a seal may have counted ticks
+    /// and pairs.
     #[error("out of memory")]
     OutOfMemory,
 }

@@ -63,8 +63,8 @@ impl PeerCore {
     ghost use Rattle.pf_rollback.specs.Peer.{world_at};
     ghost use Rattle.pf_rollback.specs.Core.{AreAllowed, new_core};
 
-    /// A peer at tick 0 and without commands, which keeps this many settled worlds. Players count
-    /// from 0. Returns an error where it is out of memory.
+    /// A peer at tick 0 and without commands, which keeps the worlds of at most so many of the last
+    /// settled ticks. Players count from 0. Returns an error where it is out of memory.
     pub fn new(alloc: Global, scene: Scene, player: u8, ring: usize) -> Result<PeerCore, AllocError>
         requires player { player < PLAYERS }
         requires ring { (0 < ring) × (ring ≤ MAX_RING) }
@@ -158,7 +158,8 @@ impl PeerCore {
         self.snapshots.latest()
     }
 
-    /// How much work was done to settle and to seal ticks.
+    /// How many ticks were simulated to settle and to seal. Of the count of pairs no clause says
+    /// anything.
     pub fn meter(&self) -> Meter
         ensures { result ≡ self.now.meter }
     {

@@ -16,11 +16,12 @@ use std::marker::Model;
 /// kept until news of an earlier tick come, or that tick or a later one is sealed.
 pub const KEYFRAME_INTERVAL: u32 = 256;
 
-/// The world of the horizon; the world of the settled tick, and in a ring what each of the last
-/// settled ticks changed, which makes their worlds of it; and a keyframe at each multiple of
-/// [`KEYFRAME_INTERVAL`] after the horizon up to the settled tick. No world stands here twice.
+/// The world of the horizon; the settled world; in a ring, what each of the last settled ticks
+/// changed, so that they can be undone; and a keyframe at each multiple of [`KEYFRAME_INTERVAL`]
+/// after the horizon up to the settled tick.
 ///
-/// Contracts see the kept ticks, and which world is kept at a tick.
+/// Contracts see each world where it stands, and recent ones as undoing makes them; `ticks_of` and
+/// `IsKept` say at which ticks they are kept.
 #[derive(Drop)]
 pub(crate) struct Snapshots {
     /// The tick before which no world is kept.

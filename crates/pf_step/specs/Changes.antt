@@ -1,4 +1,4 @@
--- What a step changed in a world, so that the world before the step can be had back.
+-- What a step changed in a world, so that the world before the step can be restored.
 use Rattle.std.specs.Prelude.{ℕ, List, [], ◌∷◌, Option, Some, None, filter, length, slice_get, slice_set}
 use Rattle.std.specs.List.{flat_map, range_with_len}
 use Rattle.pf_shapes.specs.Body.{BodyState}

@@ -25,9 +25,9 @@ pub record IsStep {E : Type 0} (s : Scene) (w : World) (payloads : List Payload)
       (new ≡ work_after_tick (collisions_of_tick s w payloads old.manifolds) old)
   pub not_counted : OnErr result (new ≡ record old { manifolds = no_manifolds })
 
--- what the phases after Points do to a world, where some changes of bodies are noted before: they
--- make the next world of it, and undoing all changes undoes these too; or they return an error,
--- leave the world, and note nothing that undoing would change
+-- what the phases after Points do to a world, where some changes of bodies are noted already: they
+-- make the next world of it, and undoing all changes leaves what undoing those alone would have
+-- left before; or they return an error, and the world, and what undoing makes of it, are as before
 pub record IsEnding {A E : Type 0} (s : Scene) (w : World) (noted : List BodyChange)
     (after : World) (changes : Changes) (result : Result A E) : Type 0 where
   pub value : OnOk result (after ≡ world_after s w.contacts w.bodies)

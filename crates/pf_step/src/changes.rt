@@ -30,8 +30,9 @@ impl Model for BodyChange {
 }
 
 /// What a step changed in a world: the states that its bodies had, of those that the step may have
-/// changed, and the contacts of the world before. With it [`World::undo`](crate::World::undo) has
-/// the world before the step back. It is small where most bodies sleep.
+/// changed, and the contacts of the world before. With it [`World::undo`](crate::World::undo)
+/// restores the world before the step. Where most bodies sleep it has few bodies, but all contacts;
+/// no clause says how few.
 #[derive(Debug, Drop)]
 pub struct Changes {
     bodies: Vec<BodyChange>,
@@ -132,7 +133,8 @@ impl Changes {
         self.bodies.clear();
     }
 
-    /// Notes the bodies that commands are for. They are noted before they change, as are all.
+    /// Notes the bodies that commands are for; it is called before the commands are applied. After
+    /// an error some of them may be noted.
     pub(crate) fn note_commanded(
         &mut self,
         bodies: &[BodyState],
@@ -182,8 +184,8 @@ impl Changes {
         Ok(())
     }
 
-    /// Notes the contacts of a world that gets others, and returns what stood here before: memory
-    /// for the contacts of a world, at first.
+    /// Keeps the contacts of the world before the step, and returns the list that stood here, whose
+    /// memory is free.
     pub(crate) fn note_contacts(&mut self, contacts: Contacts) -> Contacts
         ensures noted { self.new ≡ record self.old { contacts = contacts } }
         ensures before { result ≡ self.old.contacts }

@@ -31,7 +31,7 @@ pub enum CrewError {
 /// Why a step was not made.
 #[derive(Clone, Copy, Debug, PartialEq, Eq, Error)]
 pub enum StepError {
-    /// There was no memory for the next world.
+    /// There was no memory for contact points, contacts, islands, or what the step changes.
     #[error("out of memory")]
     OutOfMemory,
     /// The crew could not solve the islands.
@@ -62,8 +62,8 @@ pub trait Crew {
         ensures called { OnOk result (is_called self.old islands.items self.new) }
         ensures failed { IfErr result (λ error. may_fail self.old islands.items error self.new) };
 
-    /// Whether a tick in which nothing touches may be made without a call, each body where it
-    /// stands. Only the caller's own thread says so: a crew is called in each tick.
+    /// Whether the step may advance the bodies itself, without a call, in a tick where nothing
+    /// touches. By default it may not.
     fn skips_untouched(&self) -> bool
         ensures { IsTrue result
             → (islands : List Island) → is_called self.now islands self.now }

@@ -86,48 +86,10 @@ fn finish_untouched(
     Ok(())
 }
 
-/// The end of a tick: makes its islands, has them solved by one call of the crew, and puts them
-/// back.
-fn finish_islands<C: Crew>(
-    alloc: Global,
-    scene: &Scene,
-    world: &mut World,
-    found: &Collisions,
-    work: &mut Work,
-    crew: &mut C,
-    changes: &mut Changes,
-) -> Result<(), StepError>
-    requires bodies { length world.old.bodies ≡ length scene.now.fixtures }
-    requires points { kept_touches found.now.manifolds
-        ≡ touches_of_scene scene.now world.old.bodies }
-    requires touches { All (IsTouchOf (length world.old.bodies))
-        (kept_touches found.now.manifolds) }
-    ensures ending { IsEnding scene.now world.old changes.old.bodies world.new changes.new result }
-    ensures called { let islands = islands_of_bodies scene.now world.old.contacts world.old.bodies
-        in OnOk result (C.is_called crew.old islands crew.new) }
-    ensures failed { let islands = islands_of_bodies scene.now world.old.contacts world.old.bodies
-        in IfErr result (λ error. FailsBy C.may_fail crew.old islands error crew.new) }
-    ensures work { work.new ≡ work.old }
-    ensures no_memory { world.old.bodies ≡ [] → result ≢ Err OutOfMemory }
-{
-    let spare = Tick {
-        contacts: changes.note_contacts(Contacts::new(alloc)),
-        islands: work.take_islands(alloc),
-    };
-    let tick = prepare(alloc, scene, world, spare, found)?;
-    changes.note_islands(&world.bodies, &tick.islands)?;
-    let solved = crew.solve(scene, tick.islands)?;
-    let mut contacts = tick.contacts;
-    join_back(&solved, &mut world.bodies, &mut contacts);
-    changes.note_contacts(mem::replace(&mut world.contacts, contacts));
-    work.keep_islands(solved);
-    Ok(())
-}
-
 /// A tick from its contact points on, in the world after its commands. `found` is what the narrow
-/// phase found for its bodies. Where nothing touches, a crew that allows it is not called. Notes
-/// what changes. An error leaves the world as it is. Takes no memory of its own where there are no
-/// bodies.
+/// phase found for its bodies. Makes its islands, has them solved by one call of the crew, and puts
+/// them back; where nothing touches, a crew that allows it is not called. Notes what changes. An
+/// error leaves the world as it is. Takes no memory of its own where there are no bodies.
 pub(crate) fn finish<C: Crew>(
     alloc: Global,
     scene: &Scene,
@@ -154,5 +116,16 @@ pub(crate) fn finish<C: Crew>(
         finish_untouched(alloc, scene, world, changes)?;
         return Ok(());
     }
-    finish_islands(alloc, scene, world, found, work, crew, changes)
+    let spare = Tick {
+        contacts: changes.note_contacts(Contacts::new(alloc)),
+        islands: work.take_islands(alloc),
+    };
+    let tick = prepare(alloc, scene, world, spare, found)?;
+    changes.note_islands(&world.bodies, &tick.islands)?;
+    let solved = crew.solve(scene, tick.islands)?;
+    let mut contacts = tick.contacts;
+    join_back(&solved, &mut world.bodies, &mut contacts);
+    changes.note_contacts(mem::replace(&mut world.contacts, contacts));
+    work.keep_islands(solved);
+    Ok(())
 }

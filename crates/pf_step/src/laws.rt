@@ -204,8 +204,8 @@ pub fn rotations_stay_at_most_one()
         → All (λ b. IsAtMostOne b.rotation) (sim scene commands tick).bodies }
 {}
 
-/// Before some changes, a body that is among them had the state that its first change notes, and
-/// the others were as they are.
+/// Undoing changes gives a body the state that its first change noted, and a body without a change
+/// stays as it is.
 #[tactic(auto, using(crate::proofs::Changing::first_decides, crate::proofs::Changing::unchanged_stays))]
 pub fn first_changes_decide()
     ensures first { (earlier later : List BodyChange) (c : BodyChange) (bodies : List BodyState)

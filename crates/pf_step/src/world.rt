@@ -67,8 +67,9 @@ impl World {
         &self.contacts
     }
 
-    /// Undoes a step: this is the world after it, and `changes` are what it returned. Takes time
-    /// for what changed, and no memory.
+    /// Undoes a step: this is the world after it, and `changes` are what it returned. Other changes
+    /// are undone all the same: each noted body gets its noted state. Takes time for what changed,
+    /// and no memory.
     #[tactic(auto, unfolding(crate::specs::Changes::world_before))]
     pub fn undo(&mut self, changes: Changes)
         ensures { self.new ≡ world_before changes self.old }

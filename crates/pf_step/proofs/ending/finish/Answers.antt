@@ -12,7 +12,7 @@ use Rattle.pf_step.specs.Step.{world_after}
 use Rattle.pf_step.specs.World.{World}
 use Rattle.pf_step.proofs.Changing.{before_more}
 use Rattle.pf_step.proofs.Joined.{ended_at_contacts, ended_at_home, ended_join, islands_before}
-use Rattle.pf_step.proofs.ending.finish_islands.Goals as goal
+use Rattle.pf_step.proofs.ending.finish.Goals as goal
 
 pub join_back-requires-clause-bodies : goal.join_back-requires-clause-bodies
 join_back-requires-clause-bodies g c =
