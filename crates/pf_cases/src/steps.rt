@@ -1,6 +1,8 @@
 //! Worlds are compared and copied, and steps are undone. Many ticks stand in the stored runs of
 //! `pf_runs` and `pf_calls`.
 
+ghost use Rattle.std.specs.Prelude.{◌≡◌, length};
+
 use crate::scenes::scene_of;
 use pf_shapes::Scene;
 use pf_step::{Changes, Work, World, step_on_one_thread};
@@ -11,7 +13,9 @@ use std::test::Fail;
 const FALLING: &[u8] = b"gravity 0 -167772160\ncircle 0 16777216 0 16777216 0 0\nend\n";
 
 /// The world after a step, and what the step changed.
-fn stepped(alloc: Global, scene: &Scene, start: &World) -> Result<(World, Changes), AllocError> {
+fn stepped(alloc: Global, scene: &Scene, start: &World) -> Result<(World, Changes), AllocError>
+    requires { length start.now.bodies ≡ length scene.now.fixtures }
+{
     let mut world = start.try_clone()?;
     let mut work = Work::new(alloc);
     let changes = step_on_one_thread(alloc, scene, &mut world, &[], &mut work)?;
