@@ -22,7 +22,7 @@ use std::mem;
 pub const START_LIMIT: u64 = 1 << 49;
 
 /// How many rows a level has to have on average, so that lanes pay.
-const ROWS_A_LEVEL: usize = 3;
+const ROWS_A_LEVEL: usize = 2;
 
 /// Finds the levels of the rows of islands; `false` where they have too few rows for lanes to pay.
 #[tactic(auto, using(crate::proofs::OfLevels::more_bodies))]
