@@ -1,11 +1,11 @@
 -- The bodies that left their enlarged bounds, and the candidates after others were made for them.
-use Rattle.std.proofs.Common.{◌≡◌, ℕ, suc, ◌+◌, ◌<◌, ◌≤◌, Bool, true, false, cond, not, ◌&&◌, ◌||◌, List, [], ◌∷◌, ◌++◌, length, map, nat_lt, nat_eq, refl, sym, ap, ◌∙◌, arith, add-one, ⊎_elim}
+use Rattle.std.proofs.Common.{◌≡◌, ℕ, suc, ◌+◌, ◌<◌, ◌≤◌, Bool, true, false, cond, not, ◌&&◌, ◌||◌, List, [], ◌∷◌, ◌++◌, length, map, nat_lt, nat_eq, refl, sym, subst, ap, ◌∙◌, arith, add-one, ⊎_elim}
 use Rattle.std.proofs.lemmas.Bool.{cases_lt}
 use Rattle.std.proofs.lemmas.Bool.Decides.{nat_tests}
 use Rattle.std.proofs.lemmas.List.{get_or_past}
 use Rattle.std.proofs.lemmas.List.Elements.{All-weaker}
 use Rattle.std.proofs.lemmas.List.Folds.{list_any_none}
-use Rattle.std.specs.List.{range_with_len, filter, flat_map}
+use Rattle.std.specs.List.{range_with_len, filter, flat_map, list_any}
 use Rattle.pf_shapes.specs.Bounds.{Bounds}
 use Rattle.pf_shapes.specs.Pair.{Pair}
 use Rattle.pf_broad.specs.Pairs.{no_bounds, bounds_at, may_touch, is_pair, pair, partners_of, pairs_of}
@@ -72,6 +72,24 @@ AreBodies-within bs left are j is =
   where
     other : (k j n : ℕ) → k < n → nat_lt j n ≡ false → nat_eq k j ≡ false
     other k j n below past = grind (arith, nat_tests)
+
+-- where no listed one passes a test, one that is listed fails it
+pub none_listed : (p : ℕ → Bool) (xs : List ℕ) (k : ℕ) → list_any p xs ≡ false → has_body xs k ≡ true → p k ≡ false
+none_listed p [] k none there = cc
+none_listed p (x ∷ xs) k none there =
+    let both = neither (p x) (list_any p xs) none in
+    elim (nat_eq x k) as (λ b. nat_eq x k ≡ b → p k ≡ false) [
+      | true ↦ λ is. subst (λ n. p n ≡ false) (same x k is) both.0
+      | false ↦ λ is. none_listed p xs k both.1 (sym (ap (λ b. b || has_body xs k) is) ∙ there)
+    ] refl
+  where
+    neither : (a b : Bool) → (a || b) ≡ false → (a ≡ false) × (b ≡ false)
+    neither false b e = (refl, e)
+    neither true false e = (e, refl)
+    neither true true e = (e, e)
+
+    same : (x k : ℕ) → nat_eq x k ≡ true → x ≡ k
+    same x k is = grind (arith, nat_tests)
 
 -- one that is no body that left, in range, is contained
 pub left-contained : (loose bounds : List Bounds) (k : ℕ) → k < length bounds → has_body (left_bodies loose bounds) k ≡ false → contains (bounds_at loose k) (bounds_at bounds k) ≡ true

@@ -56,19 +56,19 @@ impl BroadPhase {
 
     /// The pairs of bodies, at most one of them static, whose bounds overlap: in ascending order,
     /// each once, whatever is kept. `bodies` decides only how far bounds are enlarged, by how fast
-    /// each body moves. A flag in `stayed` says that the body has the bounds that it had in the
-    /// last call, so that it is not looked at; without flags all are. For fewer than two bodies it
-    /// takes no memory, and can't fail. An error drops what is kept.
+    /// each body moves. Bodies that are not in `moved` have the bounds that they had in the last
+    /// call, and are not looked at. For fewer than two bodies it takes no memory, and can't fail. An
+    /// error drops what is kept.
     pub fn pairs(
         &mut self,
         alloc: Global,
         bounds: &[Bounds],
         bodies: &[BodyState],
-        stayed: &[bool],
+        moved: &[usize],
     ) -> Result<Vec<Pair>, AllocError>
         requires bodies { length bodies.now ≡ length bounds.now }
-        requires flags { length stayed.now ≡ length bounds.now }
-        requires stayed { HaveStayed stayed.now self.old bounds.now }
+        requires moved { AreBodies bounds.now moved.now }
+        requires others { HaveStayed moved.now self.old bounds.now }
         requires few { length bounds.now ≤ MAX_BODIES }
         requires ordered { All IsOrdered bounds.now }
         ensures pairs { IfOk result (λ found. found.items ≡ pairs bounds.now) }
@@ -82,7 +82,7 @@ impl BroadPhase {
             return Ok(Vec::new(alloc));
         }
         let kept = mem::replace(self, BroadPhase::new(alloc));
-        let next = kept.refresh(alloc, bounds, bodies, stayed)?;
+        let next = kept.refresh(alloc, bounds, bodies, moved)?;
         let found = next.overlapping(alloc, bounds)?;
         *self = next;
         Ok(found)
@@ -103,12 +103,12 @@ impl BroadPhase {
         alloc: Global,
         bounds: &[Bounds],
         bodies: &[BodyState],
-        stayed: &[bool],
+        moved: &[usize],
     ) -> Result<BroadPhase, AllocError>
         requires many { 2 ≤ length bounds.now }
         requires bodies { length bodies.now ≡ length bounds.now }
-        requires flags { length stayed.now ≡ length bounds.now }
-        requires stayed { HaveStayed stayed.now self bounds.now }
+        requires moved { AreBodies bounds.now moved.now }
+        requires others { HaveStayed moved.now self bounds.now }
         requires few { length bounds.now ≤ MAX_BODIES }
         requires ordered { All IsOrdered bounds.now }
         ensures { IfOk result (λ kept. AreLoosened kept bounds.now) }
@@ -116,7 +116,7 @@ impl BroadPhase {
         if self.loose.len() != bounds.len() {
             return BroadPhase::of(alloc, bounds, bodies);
         }
-        if !has_left(&self.loose, bounds, stayed) {
+        if !has_left(&self.loose, bounds, moved) {
             return Ok(self);
         }
         let left = left_bodies(alloc, &self.loose, bounds)?;

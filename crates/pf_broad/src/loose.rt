@@ -1,8 +1,10 @@
 //! Enlarged bounds, which still contain those of a body some ticks later, as the fat AABBs of
 //! Box2D's `b2DynamicTree`.
 
-ghost use Rattle.std.specs.Prelude.{◌≡◌, ◌≤◌, ◌<◌, ◌≤ℤ◌, ℕ, length, slice_index_or, false, true, IfOk};
+ghost use Rattle.std.specs.Prelude.{◌≡◌, ◌≤◌, ◌≤ℤ◌, length, not, true, IfOk};
+ghost use Rattle.std.specs.List.{list_any};
 ghost use Rattle.pf_broad.specs.Pairs.{bounds_at};
+ghost use Rattle.pf_broad.specs.Partners.{AreBodies};
 ghost use Rattle.pf_broad.specs.Loose.{contains, is_within, left_bodies, AreLoosened, AreSameBut};
 
 use pf_num::Fx;
@@ -90,17 +92,16 @@ pub(crate) fn all_enlarged_bounds(
     Ok(loose)
 }
 
-/// Whether a body left its enlarged bounds. Those with a flag stayed, and are not looked at.
+/// Whether one of these bodies left its enlarged bounds.
 #[inline(never)]
-pub(crate) fn has_left(loose: &[Bounds], bounds: &[Bounds], stayed: &[bool]) -> bool
+pub(crate) fn has_left(loose: &[Bounds], bounds: &[Bounds], moved: &[usize]) -> bool
     requires loose { length loose.now ≡ length bounds.now }
-    requires flags { length stayed.now ≡ length bounds.now }
-    ensures { result ≡ false → (k : ℕ) → k < length bounds.now
-        → slice_index_or stayed.now k false ≡ false
-        → contains (bounds_at loose.now k) (bounds_at bounds.now k) ≡ true }
+    requires moved { AreBodies bounds.now moved.now }
+    ensures { result
+        ≡ list_any (λ k. not (contains (bounds_at loose.now k) (bounds_at bounds.now k))) moved.now }
 {
-    for i in 0..bounds.len() {
-        if !stayed[i] && !contains(&loose[i], &bounds[i]) {
+    for number in moved {
+        if !contains(&loose[*number], &bounds[*number]) {
             return true;
         }
     }

@@ -1,9 +1,11 @@
-use Rattle.std.proofs.Common.{◌≡◌, ⊎_elim, ℕ, not, false, true, get_or, length, sym, subst, ap, ◌∙◌, arith}
+use Rattle.std.proofs.Common.{◌≡◌, ⊎_elim, ℕ, Bool, not, false, true, length, refl, sym, subst, ap, ◌∙◌, arith}
 use Rattle.std.proofs.lemmas.Bool.{cases_Bool}
 use Rattle.std.proofs.lemmas.Bool.Decides.{nat_tests}
 use Rattle.std.specs.List.{filter, range_with_len}
 use Rattle.pf_broad.specs.Pairs.{bounds_at, pairs}
 use Rattle.pf_broad.specs.Loose.{contains}
+use Rattle.pf_broad.specs.Partners.{has_body}
+use Rattle.pf_broad.proofs.Leaving.{none_listed}
 use Rattle.pf_broad.proofs.Loosening.{candidates_of}
 use Rattle.pf_broad.proofs.Partnering.{filter-AreBodies}
 use Rattle.pf_broad.proofs.kept.BroadPhase.refresh.Goals as goal
@@ -16,11 +18,18 @@ returns-then-not-has_left c =
     record {
       as_many = as_many;
       each = λ k below.
-          ⊎_elim (λ flag. c.requires.stayed c.requires.many as_many k below flag)
-          (λ none.
-          subst (λ loose. contains (bounds_at loose k) (bounds_at bs k) ≡ true) shown (c.has_left.ensures c.if-not-has_left.true k below none))
-          (cases_Bool (get_or c.args.stayed.now k false));
+          ⊎_elim
+          (λ listed. subst (λ loose. contains (bounds_at loose k) (bounds_at bs k) ≡ true) shown
+          (holds (contains (bounds_at c.deref.result.now k) (bounds_at bs k))
+          (none_listed (λ j. not (contains (bounds_at c.deref.result.now j) (bounds_at bs j))) c.args.moved.now k
+          (sym c.has_left.ensures ∙ c.if-not-has_left.true) listed)))
+          (λ other. c.requires.others c.requires.many as_many k below other)
+          (cases_Bool (has_body c.args.moved.now k));
     }
+  where
+    holds : (b : Bool) → not b ≡ false → b ≡ true
+    holds true e = refl
+    holds false e = sym e
 
 pub update_candidates-requires-clause-left : goal.update_candidates-requires-clause-left
 update_candidates-requires-clause-left c =
