@@ -14,7 +14,7 @@ use Rattle.pf_manifold.specs.Key.{AreTouches}
 use Rattle.pf_manifold.specs.PlacedShape.{PlacedShape}
 use Rattle.pf_manifold.specs.Touches.{Touch}
 use Rattle.pf_manifold.proofs.KeyOrder.{touches_in_order}
-use Rattle.pf_cache.specs.Manifolds.{computed_count, has_pair, is_unmoved, placed_shapes, points_of_pair}
+use Rattle.pf_cache.specs.Manifolds.{Manifolds, computed_count, has_pair, is_unmoved, placed_shapes, points_of_pair}
 use Rattle.pf_cache.specs.Spans.{ArePlaced, AreRefreshed, AreSpans, IsKeptSpan, IsSpan, Span, are_unmoved, computed_count_by_flags, spans_from, unmoved_flags}
 use Rattle.pf_cache.proofs.Bounded.{length-placed_shapes}
 use Rattle.pf_cache.proofs.Refreshing.{placed_end, placed_from, spans_here, spans_of_both}
@@ -27,10 +27,10 @@ flags_are : (old shapes : List PlacedShape) (p : Pair)
 flags_are old shapes p = ap₂ (λ s t. s && t) (flag_at old shapes p.a) (flag_at old shapes p.b)
 
 -- the pairs that have to be computed, by the flags
-pub counted : (old shapes : List PlacedShape) (kept pairs : List Pair)
-    → computed_count_by_flags kept (unmoved_flags old shapes) pairs ≡ computed_count (record { shapes = old; pairs = kept }) shapes pairs
-counted old shapes kept pairs =
-    ap (λ (test : Pair → Bool). count_by test pairs) (λ i p. not (has_pair kept p && flags_are old shapes p i))
+pub counted : (m : Manifolds) (shapes : List PlacedShape) (pairs : List Pair)
+    → computed_count_by_flags m.pairs (unmoved_flags m.shapes shapes) pairs ≡ computed_count m shapes pairs
+counted m shapes pairs =
+    ap (λ (test : Pair → Bool). count_by test pairs) (λ i p. not (has_pair m.pairs p && flags_are m.shapes shapes p i))
 
 -- spans of points as the bodies stood
 module _ (old : List PlacedShape) (spans : List Span) (touches : List Touch) (are : AreSpans old spans touches) where

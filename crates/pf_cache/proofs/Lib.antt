@@ -13,6 +13,7 @@ pub mod Unmoved
 pub mod Reusable
 pub mod Placing
 pub mod Bounded
+pub mod Standing
 pub mod Refreshing
 pub mod Updating
 pub mod Keeping

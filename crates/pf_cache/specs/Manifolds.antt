@@ -5,15 +5,18 @@ use Rattle.std.specs.Prelude.{ℕ, Bool, false, not, ◌&&◌, ◌==◌, Option,
 use Rattle.std.specs.List.{flat_map, list_any, zip}
 use Rattle.pf_shapes.specs.Fixture.{Fixture}
 use Rattle.pf_shapes.specs.Body.{BodyState}
+use Rattle.pf_shapes.specs.Bounds.{Bounds}
 use Rattle.pf_shapes.specs.Pair.{Pair}
 use Rattle.pf_shapes.specs.Same.{same_rotation, same_shape, same_vector}
+use Rattle.pf_broad.specs.Pairs.{all_bounds}
 use Rattle.pf_manifold.specs.PlacedShape.{PlacedShape}
 use Rattle.pf_manifold.specs.Touches.{Touch, touches_between}
 
--- the shapes of all bodies at their positions and rotations, and the pairs whose contact points are
--- kept
+-- the shapes of all bodies at their positions and rotations, with their bounds, and the pairs whose
+-- contact points are kept
 pub record Manifolds : Type 0 where
   pub shapes : List PlacedShape
+  pub bounds : List Bounds
   pub pairs : List Pair
 
 -- what the narrow phase of a tick found: the contact points of its pairs, and how many of the pairs
@@ -23,7 +26,7 @@ pub record Collisions : Type 0 where
   pub computed : ℕ
 
 abbrev pub no_manifolds : Manifolds
-no_manifolds = record { shapes = []; pairs = [] }
+no_manifolds = record { shapes = []; bounds = []; pairs = [] }
 
 -- the shape of a body at its position and rotation
 abbrev pub shape_of_body : Fixture → BodyState → PlacedShape
@@ -36,7 +39,11 @@ placed_shapes fixtures bodies = map (λ body. shape_of_body body.0 body.1) (zip 
 -- what is kept of these pairs: their points, as the bodies stand
 abbrev pub manifolds_of : List Fixture → List BodyState → List Pair → Manifolds
 manifolds_of fixtures bodies pairs =
-    record { shapes = placed_shapes fixtures bodies; pairs = pairs }
+    record {
+      shapes = placed_shapes fixtures bodies;
+      bounds = all_bounds fixtures bodies;
+      pairs = pairs;
+    }
 
 -- the contact points of two of these bodies
 abbrev pub points_of_pair : List PlacedShape → Pair → List Touch

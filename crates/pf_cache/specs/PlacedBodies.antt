@@ -1,13 +1,14 @@
 -- The shapes of bodies as they stood, and the bounds that the broad phase needs of them.
-use Rattle.std.specs.Prelude.{◌≡◌, ◌<◌, ◌≤◌, ℕ, Bool, false, true, List, [], length, slice_index_or, All}
+use Rattle.std.specs.Prelude.{◌≡◌, ◌<◌, ◌≤◌, ℕ, false, List, [], length, slice_get, All}
 use Rattle.std.specs.List.{zip}
 use Rattle.pf_shapes.specs.Fixture.{Fixture}
 use Rattle.pf_shapes.specs.Body.{BodyState}
 use Rattle.pf_shapes.specs.Bounds.{Bounds, IsOrdered, shape_bounds}
 use Rattle.pf_broad.specs.Loose.{AreLoosened}
-use Rattle.pf_broad.specs.Pairs.{all_bounds, bounds_at}
+use Rattle.pf_broad.specs.Pairs.{all_bounds}
+use Rattle.pf_broad.specs.Partners.{has_body}
 use Rattle.pf_manifold.specs.PlacedShape.{PlacedShape}
-use Rattle.pf_cache.specs.Manifolds.{placed_shapes}
+use Rattle.pf_cache.specs.Manifolds.{Manifolds, placed_shapes}
 
 -- the shapes of all bodies at their positions and rotations, and their bounds
 pub record PlacedBodies : Type 0 where
@@ -22,6 +23,10 @@ abbrev pub placed_bodies : List Fixture → List BodyState → PlacedBodies
 placed_bodies fixtures bodies =
     record { shapes = placed_shapes fixtures bodies; bounds = all_bounds fixtures bodies }
 
+-- the bodies whose contact points are kept, as they stood
+abbrev pub bodies_of : Manifolds → PlacedBodies
+bodies_of m = record { shapes = m.shapes; bounds = m.bounds }
+
 -- these are the bounds of this shape at its position and rotation, of a static or of a dynamic body
 pub record AreBoundsOf (s : PlacedShape) (b : Bounds) : Type 0 where
   pub value : b ≡ shape_bounds s.shape s.position s.rotation b.is_static
@@ -32,11 +37,13 @@ pub record HaveBounds (shapes : List PlacedShape) (bounds : List Bounds) : Type 
   pub as_many : length bounds ≡ length shapes
   pub each : All (λ both. AreBoundsOf both.0 both.1) (zip shapes bounds)
 
--- each body with such a flag has the same bounds in both lists; without as many bodies none has one
-abbrev pub AreSameWhere : List Bool → List Bounds → List Bounds → Type 0
-AreSameWhere flags old new =
-    (k : ℕ) → k < length new → slice_index_or flags k false ≡ true
-    → (length old ≡ length new) × (bounds_at new k ≡ bounds_at old k)
+-- where as many bodies are placed: each of these that is not listed stands as it is placed, and has
+-- the same bounds
+abbrev pub HaveStayed : List ℕ → PlacedBodies → List Fixture → List BodyState → Type 0
+HaveStayed moved placed fixtures bodies =
+    length placed.shapes ≡ length bodies → (k : ℕ) → k < length bodies → has_body moved k ≡ false
+    → (slice_get placed.shapes k ≡ slice_get (placed_shapes fixtures bodies) k)
+    × (slice_get placed.bounds k ≡ slice_get (all_bounds fixtures bodies) k)
 
 -- for two bodies or more: the broad phase keeps enlarged bounds of these
 abbrev pub IsLoosened : List Bounds → List Bounds → Type 0

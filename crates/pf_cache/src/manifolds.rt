@@ -1,6 +1,6 @@
 //! Contact points that are kept from tick to tick.
 
-ghost use Rattle.std.specs.Prelude.{◌≡◌, ◌≤◌, All, IfOk, length, map};
+ghost use Rattle.std.specs.Prelude.{◌≡◌, ◌≢◌, ◌≤◌, [], All, IfOk, length, map};
 ghost use Rattle.std.specs.List.{flat_map};
 ghost use Rattle.pf_shapes.specs.Pair.{IsAscending, IsPairOf};
 ghost use Rattle.pf_shapes.specs.declared.scene.TheConstants.{MAX_BODIES};
@@ -44,6 +44,7 @@ impl Model for Manifolds {
 
     ghost view = { λ m. record {
       shapes = m.placed.shapes;
+      bounds = m.placed.bounds;
       pairs = map (λ s. s.pair) m.spans.items;
     } };
 
@@ -66,6 +67,18 @@ impl Model for Collisions {
     ghost Value = { Collisions };
 
     ghost view = { λ n. record { manifolds = n.manifolds; computed = n.computed } };
+}
+
+/// What the broad phase keeps of so many bodies, if they are as many as now; else nothing.
+fn kept_for(alloc: Global, kept: BroadPhase, count: usize, bodies: usize) -> BroadPhase
+    ensures same { count ≡ bodies → result ≡ kept }
+    ensures other { count ≢ bodies → result ≡ [] }
+{
+    if count == bodies {
+        kept
+    } else {
+        BroadPhase::new(alloc)
+    }
 }
 
 /// The contact points of these pairs. Those that are kept are updated where they stand, and those
@@ -142,9 +155,10 @@ fn points_at_once<C: Collider>(
 }
 
 impl Manifolds {
-    ghost use Rattle.std.specs.Prelude.{◌≡◌, [], length, IfOk, IsOk};
+    ghost use Rattle.std.specs.Prelude.{◌≡◌, ◌<◌, [], length, All, IfOk, IsOk};
     ghost use Rattle.pf_broad.specs.Pairs.{all_bounds, pairs};
     ghost use Rattle.pf_manifold.specs.Key.{AreTouches};
+    ghost use Rattle.pf_cache.specs.PlacedBodies.{HaveStayed, bodies_of};
     ghost use Rattle.pf_cache.specs.Manifolds.{computed_count, kept_touches, manifolds_of, no_manifolds, placed_shapes};
 
     /// Nothing kept. Takes no memory.
@@ -172,16 +186,21 @@ impl Manifolds {
     /// The points of a pair that is kept are reused if both bodies still have the shape, position
     /// and rotation that they had. The other pairs cannot reuse kept points: theirs are computed,
     /// and these pairs are counted. If these are many, the collider computes the points of all
-    /// pairs at once. An error drops what is kept. Takes no memory where there are no bodies.
+    /// pairs at once. Only bodies of `moved` are compared with how they stood: where as many bodies
+    /// are kept, all others stand as they stood. An error drops what is kept. Takes no memory where
+    /// there are no bodies.
     pub fn update<C: Collider>(
         self,
         collider: &C,
         alloc: Global,
         scene: &Scene,
         bodies: &[BodyState],
+        moved: &[usize],
     ) -> Result<Collisions, AllocError>
         requires can { C.can_collide collider.now }
         requires bodies { length bodies.now ≡ length scene.now.fixtures }
+        requires moved { All (λ number. number < length bodies.now) moved.now }
+        requires others { HaveStayed moved.now (bodies_of self) scene.now.fixtures bodies.now }
         ensures manifolds { IfOk result (λ found. found.manifolds
             ≡ manifolds_of scene.now.fixtures bodies.now
             (pairs (all_bounds scene.now.fixtures bodies.now))) }
@@ -196,11 +215,12 @@ impl Manifolds {
                 computed: 0,
             });
         }
-        let (placed, unmoved, stayed) = self.placed.update(alloc, scene, bodies)?;
+        let count = self.placed.shapes().len();
+        let mut broad_phase = kept_for(alloc, self.broad_phase, count, bodies.len());
+        let (placed, unmoved) = self.placed.update(alloc, scene, bodies, moved)?;
         let kept_spans = self.spans;
         let kept_touches = self.touches;
-        let mut broad_phase = self.broad_phase;
-        let pairs = broad_phase.pairs(alloc, placed.bounds(), bodies, &stayed)?;
+        let pairs = broad_phase.pairs(alloc, placed.bounds(), bodies, moved)?;
         let points = match computed_if_many(&kept_spans, &unmoved, &pairs, C::MANY) {
             Some(computed) => points_at_once(collider, alloc, scene, bodies, &pairs, computed)?,
             None => {

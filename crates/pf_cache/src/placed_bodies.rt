@@ -1,10 +1,11 @@
 //! The bodies of the last tick as they stood.
 
-ghost use Rattle.std.specs.Prelude.{◌≡◌, All, IfOk, false, length, replicate, true};
+ghost use Rattle.std.specs.Prelude.{◌≡◌, All, IfOk, length, replicate, true};
 ghost use Rattle.pf_shapes.specs.Bounds.{IsOrdered, fixture_bounds};
 ghost use Rattle.pf_broad.specs.Pairs.{all_bounds};
+ghost use Rattle.pf_broad.specs.Partners.{AreBodies};
 ghost use Rattle.pf_cache.specs.Manifolds.{placed_shapes, same_placed_shape, shape_of_body};
-ghost use Rattle.pf_cache.specs.PlacedBodies.{AreBoundsOf, AreSameWhere, HaveBounds};
+ghost use Rattle.pf_cache.specs.PlacedBodies.{AreBoundsOf, HaveBounds, HaveStayed, PlacedBodies};
 ghost use Rattle.pf_cache.specs.Spans.{unmoved_flags};
 
 use crate::kept_shape::{KeptShape, placed_shapes, unmoved_flags};
@@ -32,83 +33,81 @@ impl Model for PlacedBodies {
 }
 
 /// Brings the shape and the bounds of a body up to date. They stay if its shape, position and
-/// rotation are the same, and it is still static or still dynamic. Returns whether it is unmoved,
-/// and whether its bounds stayed.
+/// rotation are the same, and it is still static or still dynamic. Returns whether it is unmoved.
 #[inline]
 fn refresh_body(
     shape: &mut KeptShape,
     bounds: &mut Bounds,
     fixture: &Fixture,
     body: &BodyState,
-) -> (bool, bool)
+) -> bool
     requires { AreBoundsOf shape.old bounds.old }
-    ensures unmoved { result.0 ≡ same_placed_shape shape.old (shape_of_body fixture.now body.now) }
-    ensures stayed { result.1 ≡ true → bounds.new ≡ bounds.old }
+    ensures unmoved { result ≡ same_placed_shape shape.old (shape_of_body fixture.now body.now) }
     ensures shape { shape.new ≡ shape_of_body fixture.now body.now }
     ensures bounds { bounds.new ≡ fixture_bounds fixture.now body.now }
     ensures ordered { IsOrdered bounds.new }
 {
     let is_unmoved = shape.is_of(fixture, body);
     if is_unmoved && bounds.is_static == fixture.is_static() {
-        return (true, true);
+        return true;
     }
     *shape = KeptShape::of(fixture, body);
     *bounds = fixture.bounds(body);
-    (is_unmoved, false)
+    is_unmoved
 }
 
-/// Brings the shapes and the bounds of all bodies up to date, and sets for each whether it is
-/// unmoved, and whether its bounds stayed.
+/// Brings the shapes and the bounds of these bodies up to date, all others stand as they stood.
+/// Clears the flag of each that moved.
 #[inline(never)]
 fn refresh_bodies(
     shapes: &mut [KeptShape],
     bounds: &mut [Bounds],
     unmoved: &mut [bool],
-    stayed: &mut [bool],
     fixtures: &[Fixture],
     bodies: &[BodyState],
+    moved: &[usize],
 )
     requires fixtures { length fixtures.now ≡ length shapes.old }
     requires bodies { length bodies.now ≡ length shapes.old }
-    requires unmoved { length unmoved.old ≡ length shapes.old }
-    requires stayed { length stayed.old ≡ length shapes.old }
     requires bounds { HaveBounds shapes.old bounds.old }
+    requires flags { unmoved.old ≡ replicate (length shapes.old) true }
+    requires moved { AreBodies bounds.old moved.now }
+    requires others { let placed : PlacedBodies =
+        record { shapes = shapes.old; bounds = bounds.old } in
+        HaveStayed moved.now placed fixtures.now bodies.now }
     ensures shapes { shapes.new ≡ placed_shapes fixtures.now bodies.now }
     ensures bounds { bounds.new ≡ all_bounds fixtures.now bodies.now }
     ensures ordered { All IsOrdered bounds.new }
     ensures unmoved { unmoved.new
         ≡ unmoved_flags shapes.old (placed_shapes fixtures.now bodies.now) }
-    ensures stayed { AreSameWhere stayed.new bounds.old bounds.new }
 {
-    for number in 0..shapes.len() {
-        let fixture = &fixtures[number];
-        let body = &bodies[number];
-        let (is_unmoved, has_stayed) = refresh_body(
+    for number in moved {
+        let number = *number;
+        let is_unmoved = refresh_body(
             &mut shapes[number],
             &mut bounds[number],
-            fixture,
-            body,
+            &fixtures[number],
+            &bodies[number],
         );
-        unmoved[number] = is_unmoved;
-        stayed[number] = has_stayed;
+        unmoved[number] = unmoved[number] & is_unmoved;
     }
 }
 
-/// So many flags, none of them set.
-fn no_flags(alloc: Global, len: usize) -> Result<Vec<bool>, AllocError>
-    ensures { IfOk result (λ flags. flags.items ≡ replicate len false) }
+/// So many flags, all of them set.
+fn set_flags(alloc: Global, len: usize) -> Result<Vec<bool>, AllocError>
+    ensures { IfOk result (λ flags. flags.items ≡ replicate len true) }
 {
     let mut flags = Vec::with_capacity(alloc, len)?;
-    flags.resize(len, false)?;
+    flags.resize(len, true)?;
     Ok(flags)
 }
 
 impl PlacedBodies {
-    ghost use Rattle.std.specs.Prelude.{◌≡◌, ◌≤◌, All, IfOk, length};
+    ghost use Rattle.std.specs.Prelude.{◌≡◌, ◌<◌, ◌≤◌, All, IfOk, length};
     ghost use Rattle.pf_shapes.specs.Bounds.{IsOrdered};
     ghost use Rattle.pf_shapes.specs.declared.scene.TheConstants.{MAX_BODIES};
     ghost use Rattle.pf_cache.specs.Manifolds.{placed_shapes};
-    ghost use Rattle.pf_cache.specs.PlacedBodies.{AreSameWhere, none_placed, placed_bodies};
+    ghost use Rattle.pf_cache.specs.PlacedBodies.{HaveStayed, none_placed, placed_bodies};
     ghost use Rattle.pf_cache.specs.Spans.{unmoved_flags};
 
     /// Of no bodies. Takes no memory.
@@ -124,7 +123,8 @@ impl PlacedBodies {
     /// The shapes of the bodies.
     #[inline]
     pub fn shapes(&self) -> &[KeptShape]
-        ensures { result.now ≡ self.now.shapes }
+        ensures value { result.now ≡ self.now.shapes }
+        ensures bounds { length self.now.bounds ≡ length self.now.shapes }
     {
         self.shapes.as_slice()
     }
@@ -150,41 +150,41 @@ impl PlacedBodies {
     }
 
     /// All bodies of a scene as they stand, in the lists of the old ones if these are as many; and
-    /// for each whether it is unmoved, and whether its bounds stayed. Each body is compared once.
+    /// for each whether it is unmoved. Where they are as many, only bodies of `moved` are compared:
+    /// all others stand as they stood.
     pub fn update(
         self,
         alloc: Global,
         scene: &Scene,
         bodies: &[BodyState],
-    ) -> Result<(PlacedBodies, Vec<bool>, Vec<bool>), AllocError>
-        requires { length bodies.now ≡ length scene.now.fixtures }
+        moved: &[usize],
+    ) -> Result<(PlacedBodies, Vec<bool>), AllocError>
+        requires bodies { length bodies.now ≡ length scene.now.fixtures }
+        requires moved { All (λ number. number < length bodies.now) moved.now }
+        requires others { HaveStayed moved.now self scene.now.fixtures bodies.now }
         ensures placed { IfOk result
             (λ found. found.0 ≡ placed_bodies scene.now.fixtures bodies.now) }
         ensures unmoved { IfOk result (λ found. found.1.items
             ≡ unmoved_flags self.shapes (placed_shapes scene.now.fixtures bodies.now)) }
-        ensures flags { IfOk result (λ found. length found.2.items ≡ length bodies.now) }
-        ensures stayed { IfOk result
-            (λ found. AreSameWhere found.2.items self.bounds found.0.bounds) }
         ensures few { length bodies.now ≤ MAX_BODIES }
     {
         let fixtures = scene.fixtures();
-        let mut stayed = no_flags(alloc, bodies.len())?;
         if self.shapes.len() != bodies.len() {
             let placed = PlacedBodies::of(alloc, scene, bodies)?;
             let unmoved = unmoved_flags(alloc, &self.shapes, placed.shapes())?;
-            return Ok((placed, unmoved, stayed));
+            return Ok((placed, unmoved));
         }
-        let mut unmoved = no_flags(alloc, bodies.len())?;
+        let mut unmoved = set_flags(alloc, bodies.len())?;
         let mut shapes = self.shapes;
         let mut bounds = self.bounds;
         refresh_bodies(
             &mut shapes,
             &mut bounds,
             &mut unmoved,
-            &mut stayed,
             fixtures,
             bodies,
+            moved,
         );
-        Ok((PlacedBodies { shapes, bounds }, unmoved, stayed))
+        Ok((PlacedBodies { shapes, bounds }, unmoved))
     }
 }

@@ -1,15 +1,16 @@
-use Rattle.std.proofs.Common.{◌≡◌, ◌∙◌, ◌<◌, ◌≤◌, false, true, get_or, All, List, ap, ap₂, arith, length, map, subst, sym}
+use Rattle.std.proofs.Common.{◌≡◌, ⊎_elim, ◌∙◌, ◌<◌, true, All, ap, arith, length, map, subst, sym}
+use Rattle.std.proofs.lemmas.Bool.{cases_eq}
 use Rattle.std.specs.List.{flat_map}
-use Rattle.pf_shapes.specs.Pair.{IsPairOf, Pair}
+use Rattle.pf_shapes.specs.Pair.{IsPairOf}
 use Rattle.pf_broad.specs.Loose.{AreLoosened, contains}
-use Rattle.pf_broad.specs.Pairs.{all_bounds, bounds_at, pairs}
-use Rattle.pf_manifold.specs.PlacedShape.{PlacedShape}
-use Rattle.pf_cache.specs.Manifolds.{Manifolds, computed_count, placed_shapes, points_of_pair}
-use Rattle.pf_cache.specs.PlacedBodies.{PlacedBodies}
+use Rattle.pf_broad.specs.Pairs.{all_bounds, bounds_at, no_bounds, pairs}
+use Rattle.pf_cache.specs.Manifolds.{computed_count, placed_shapes, points_of_pair}
+use Rattle.pf_cache.specs.PlacedBodies.{HaveStayed, PlacedBodies, bodies_of}
 use Rattle.pf_cache.specs.Spans.{Span, computed_count_by_flags, spans_from, unmoved_flags}
 use Rattle.pf_cache.proofs.Bounded.{as_many_bounds}
 use Rattle.pf_cache.proofs.Keeping.{are_kept, are_placed, counted, kept_spans}
 use Rattle.pf_cache.proofs.Refreshing.{pairs_of_spans}
+use Rattle.pf_cache.proofs.Standing.{same_at}
 use Rattle.pf_cache.proofs.Updating.{count_is}
 use Rattle.pf_cache.proofs.manifolds.Manifolds.update.Goals.{in-Some+in_ok-points-in-Some, in-None+in_ok-points-in-None}
 use Rattle.pf_cache.proofs.manifolds.Manifolds.update.Goals as goal
@@ -19,20 +20,36 @@ pairs-requires-clause-bodies g c =
     sym (as_many_bounds c.args.scene.now.fixtures c.args.bodies.now c.in_ok-placed.placed c.bounds.result.now c.requires.bodies
     c.in_ok-placed.ensures.placed c.bounds.ensures.value)
 
-pub pairs-requires-clause-flags : goal.pairs-requires-clause-flags
-pairs-requires-clause-flags g c =
+pub pairs-requires-clause-moved : goal.pairs-requires-clause-moved
+pairs-requires-clause-moved g c =
     let long = as_many_bounds c.args.scene.now.fixtures c.args.bodies.now c.in_ok-placed.placed c.bounds.result.now c.requires.bodies
     c.in_ok-placed.ensures.placed c.bounds.ensures.value in
-    omega (arith, long, ap length c.deref.ensures.value, c.in_ok-placed.ensures.flags)
+    subst (λ n. All (λ number. number < n) c.args.moved.now) (sym long) c.requires.moved
 
-pub pairs-requires-clause-stayed : goal.pairs-requires-clause-stayed
-pairs-requires-clause-stayed g c = λ many as_many k below flag.
-    let now_are = c.bounds.ensures.value in
-    let same = c.in_ok-placed.ensures.stayed k (subst (λ bs. k < length bs) now_are below)
-    (ap (λ fs. get_or fs k false) (sym c.deref.ensures.value) ∙ flag) in
-    let old_many : 2 ≤ length c.self.inside.placed.bounds = omega (arith, many, ap length now_are, same.0) in
-    let kept = (c.self.invariant.1 old_many).each k (omega (arith, below, ap length now_are, same.0)) in
-    subst (λ b. contains (bounds_at c.self.inside.broad_phase k) b ≡ true) (sym (ap (λ bs. bounds_at bs k) now_are ∙ same.1)) kept
+pub pairs-requires-clause-others : goal.pairs-requires-clause-others
+pairs-requires-clause-others g c = λ many as_many k below other.
+    let fixtures = c.args.scene.now.fixtures in
+    let bodies = c.args.bodies.now in
+    let old = c.self.inside.placed in
+    let new = all_bounds fixtures bodies in
+    let counted = ap length c.shapes-count.ensures.value in
+    let now_are : c.bounds.result.now ≡ new =
+    c.bounds.ensures.value ∙ ap (λ (p : PlacedBodies). p.bounds) c.in_ok-placed.ensures.placed in
+    let long = as_many_bounds fixtures bodies c.in_ok-placed.placed c.bounds.result.now c.requires.bodies c.in_ok-placed.ensures.placed
+    c.bounds.ensures.value in
+    let stood = subst (λ m. HaveStayed c.args.moved.now (bodies_of m) fixtures bodies) (sym c.self.view_is) c.requires.others in
+    ⊎_elim
+    (λ same.
+    let placed_long : length old.shapes ≡ length bodies = sym counted ∙ same in
+    let as_long : length old.bounds ≡ length bodies = c.shapes-count.ensures.bounds ∙ placed_long in
+    let bound = (stood placed_long k (omega (arith, below, long)) other).1 in
+    let kept = (c.self.invariant.1 (omega (arith, many, long, as_long))).each k (omega (arith, below, long, as_long)) in
+    subst (λ l. contains (bounds_at l k) (bounds_at c.bounds.result.now k) ≡ true) (sym (c.kept_for-broad_phase.ensures.same same))
+    (subst (λ b. contains (bounds_at c.self.inside.broad_phase k) b ≡ true)
+    (same_at old.bounds new k bound no_bounds ∙ ap (λ bs. bounds_at bs k) (sym now_are)) kept))
+    (λ differ.
+    absurd (omega (arith, many, as_many, ap length (c.kept_for-broad_phase.ensures.other differ))))
+    (cases_eq (length c.shapes-count.result.now) (length bodies))
 
 pub pairs-requires-clause-few : goal.pairs-requires-clause-few
 pairs-requires-clause-few g c =
@@ -52,7 +69,7 @@ updated_points-requires-clause-placed g c =
 
 pub updated_points-requires-clause-kept : goal.updated_points-requires-clause-kept
 updated_points-requires-clause-kept g c =
-    let shapes_are = c.shapes-shapes.ensures ∙ ap (λ (p : PlacedBodies). p.shapes) c.in_ok-placed.ensures.placed in
+    let shapes_are = c.shapes-shapes.ensures.value ∙ ap (λ (p : PlacedBodies). p.shapes) c.in_ok-placed.ensures.placed in
     let flags_are = c.deref-in-None-2.ensures.value ∙ c.in_ok-placed.ensures.unmoved in
     rw (shapes_are, flags_are)
     (are_kept c.self.inside.placed.shapes c.self.inside.spans.items c.self.inside.touches.items c.self.invariant.0
@@ -77,7 +94,7 @@ invariant_of-manifolds g c =
             | in-None+in_ok-points-in-None w ↦
                 rw w.points-is
                 (w.in_ok-points-in-None.ensures.spans
-                ∙ (λ i. spans_from 0 (w.shapes-shapes.ensures i) (w.deref-in-None.ensures.value i)))
+                ∙ (λ i. spans_from 0 (w.shapes-shapes.ensures.value i) (w.deref-in-None.ensures.value i)))
           ])
           (elim c.match-computed_if_many.branch [
             | in-Some+in_ok-points-in-Some w ↦
@@ -87,7 +104,7 @@ invariant_of-manifolds g c =
             | in-None+in_ok-points-in-None w ↦
                 rw w.points-is
                 (w.in_ok-points-in-None.ensures.touches
-                ∙ (λ i. flat_map (points_of_pair (w.shapes-shapes.ensures i)) (w.deref-in-None.ensures.value i)))
+                ∙ (λ i. flat_map (points_of_pair (w.shapes-shapes.ensures.value i)) (w.deref-in-None.ensures.value i)))
           ]),
       λ many. subst (AreLoosened c.pairs.new.self) c.bounds.ensures.value (c.in_ok-pairs.ensures.kept (omega (arith, many, ap length c.bounds.ensures.value))),
     )
@@ -108,10 +125,11 @@ returns-clause-manifolds g c =
       | in-None+in_ok-points-in-None w ↦
           rw w.points-is
           (w.in_ok-points-in-None.ensures.spans
-          ∙ (λ i. spans_from 0 ((w.shapes-shapes.ensures ∙ shapes_are) i) (w.deref-in-None.ensures.value i)))
+          ∙ (λ i. spans_from 0 ((w.shapes-shapes.ensures.value ∙ shapes_are) i) (w.deref-in-None.ensures.value i)))
     ] in
-    let kept_of : List PlacedShape → List Pair → Manifolds = λ ss ps. record { shapes = ss; pairs = ps } in
-    ap₂ kept_of shapes_are (ap (map (λ (s : Span). s.pair)) spans_are ∙ pairs_of_spans shapes 0 found ∙ found_are)
+    let bounds_are = ap (λ (p : PlacedBodies). p.bounds) c.in_ok-placed.ensures.placed in
+    let pairs_are = (ap (map (λ (s : Span). s.pair)) spans_are ∙ pairs_of_spans shapes 0 found ∙ found_are) in
+    λ i. record { shapes = shapes_are i; bounds = bounds_are i; pairs = pairs_are i }
 
 pub returns-clause-computed : goal.returns-clause-computed
 returns-clause-computed g c =
@@ -127,12 +145,13 @@ returns-clause-computed g c =
       | in-Some+in_ok-points-in-Some w ↦
           rw w.points-is
           (w.in_ok-points-in-Some.ensures.computed ∙ count_is _ _ _ w.in-Some.ensures
-          ∙ (λ i. computed_count_by_flags (map (λ (s : Span). s.pair) (c.deref-2.ensures.value i))
-          ((c.deref-3.ensures.value ∙ c.in_ok-placed.ensures.unmoved) i) (c.deref-4.ensures.value i)))
+          ∙ (λ i. computed_count_by_flags (map (λ (s : Span). s.pair) (c.deref.ensures.value i))
+          ((c.deref-2.ensures.value ∙ c.in_ok-placed.ensures.unmoved) i) (c.deref-3.ensures.value i)))
       | in-None+in_ok-points-in-None w ↦
           rw w.points-is
           (w.in_ok-points-in-None.ensures.computed
           ∙ (λ i. computed_count_by_flags kept ((w.deref-in-None-2.ensures.value ∙ c.in_ok-placed.ensures.unmoved) i)
           (w.deref-in-None.ensures.value i)))
     ] in
-    count ∙ counted old shapes kept found ∙ ap₂ (λ m ps. computed_count m shapes ps) c.self.view_is found_are
+    count ∙ (λ i. computed_count_by_flags (c.self.view_is i).pairs (unmoved_flags (c.self.view_is i).shapes shapes) found)
+    ∙ counted c.args.self shapes found ∙ ap (computed_count c.args.self shapes) found_are
