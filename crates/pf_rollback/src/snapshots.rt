@@ -8,7 +8,7 @@ use circular_buffer::HeapCircularBuffer;
 use pf_commands::Payload;
 use pf_manifold::Collider;
 use pf_shapes::Scene;
-use pf_step::{Changes, Crew, StepError, Work, World, step_by};
+use pf_step::{Changes, Crew, StepError, Work, World, step_next};
 use std::alloc::{AllocError, Global};
 use std::marker::Model;
 
@@ -160,7 +160,8 @@ impl Snapshots {
     ghost use Rattle.pf_step.specs.Activity.{islands_of_tick};
     ghost use Rattle.pf_step.specs.Step.{collisions_of_tick, step};
     ghost use Rattle.pf_step.specs.Stepping.{FailsBy};
-    ghost use Rattle.pf_step.specs.Work.{work_after_tick};
+    ghost use Rattle.pf_shapes.specs.Scene.{Scene};
+    ghost use Rattle.pf_step.specs.Work.{Follows, work_after_tick};
     ghost use Rattle.pf_step.specs.World.{World};
     ghost use Rattle.pf_cache.specs.Manifolds.{no_manifolds};
     ghost use Rattle.pf_rollback.specs.Kept.{AreRising, no_ticks, settled_tick, nearest_tick, ticks_after_news, ticks_after_seal, ticks_after_settling, ticks_up_to};
@@ -221,7 +222,8 @@ impl Snapshots {
 
     /// Settles the tick after the settled one: steps its world in place, with the payloads of its
     /// commands, and keeps what that changed. What falls out of a full ring lends its memory to the
-    /// next step with `work`. An error leaves all as it was.
+    /// next step with `work`. What `work` knows of moved bodies is true of the settled world, before
+    /// and after. An error leaves all as it was.
     pub(crate) fn settle<P: Collider, C: Crew>(
         &mut self,
         collider: &P,
@@ -236,6 +238,7 @@ impl Snapshots {
         requires limit { settled_tick (ticks_of self.old) < MAX_TICK }
         requires world { (world : World) → IsKept self.old (settled_tick (ticks_of self.old)) world
             → length world.bodies ≡ length scene.now.fixtures }
+        requires follows { Follows scene.now (settled_world self.old).bodies work.old }
         ensures latest { let tick = settled_tick (ticks_of self.old) in
             IsKept self.old tick (settled_world self.old) }
         ensures ticks { OnOk result (ticks_of self.new
@@ -249,8 +252,9 @@ impl Snapshots {
         ensures err { OnErr result (self.new ≡ self.old) }
         ensures counted { let world = settled_world self.old in
             let found = collisions_of_tick scene.now world payloads.now work.old.manifolds in
-            OnOk result (work.new ≡ work_after_tick found work.old) }
+            OnOk result (work.new ≡ work_after_tick found work.new.moved work.old) }
         ensures not_counted { OnErr result (work.new.meter ≡ work.old.meter) }
+        ensures follows { Follows scene.now (settled_world self.new).bodies work.new }
         ensures called { let world = settled_world self.old in
             let islands = islands_of_tick scene.now world payloads.now in
             OnOk result (C.is_called crew.old islands crew.new) }
@@ -260,7 +264,7 @@ impl Snapshots {
     {
         let apart = self.latest.is_some();
         let mut world = owned_latest(&mut self.latest, &self.keyframes, &self.base)?;
-        match step_by(collider, alloc, scene, &mut world, payloads, work, crew) {
+        match step_next(collider, alloc, scene, &mut world, payloads, work, crew) {
             Ok(changes) => {
                 lend(self.recent.push_back(changes), work);
                 self.settled += 1;
@@ -275,8 +279,8 @@ impl Snapshots {
     }
 
     /// Drops each world after the least tick of news, if there are any, which is not before the
-    /// horizon. Takes no memory.
-    pub(crate) fn drop_after_news(&mut self, least: Option<u32>)
+    /// horizon. What `work` knows of moved bodies stays true of the settled world. Takes no memory.
+    pub(crate) fn drop_after_news(&mut self, least: Option<u32>, work: &mut Work)
         requires { IfSome least (λ tick. self.old.horizon ≤ tick) }
         ensures base { (self.new.horizon ≡ self.old.horizon) × (self.new.base ≡ self.old.base) }
         ensures ticks { ticks_of self.new ≡ ticks_after_news least (ticks_of self.old) }
@@ -285,14 +289,18 @@ impl Snapshots {
         ensures lower { settled_tick (ticks_of self.new) ≤ settled_tick (ticks_of self.old) }
         ensures near { IfSome least (λ tick. tick ≤ settled_tick (ticks_of self.old)
             → tick < settled_tick (ticks_of self.new) + KEYFRAME_INTERVAL) }
+        ensures meter { work.new.meter ≡ work.old.meter }
+        ensures follows { (s : Scene) → Follows s (settled_world self.old).bodies work.old
+            → Follows s (settled_world self.new).bodies work.new }
     {
         if let Some(tick) = least {
-            self.drop_after(tick);
+            self.drop_after(tick, work);
         }
     }
 
-    /// Drops each world after a tick that is not before the horizon. Takes no memory.
-    fn drop_after(&mut self, tick: u32)
+    /// Drops each world after a tick that is not before the horizon. If the settled world is one of
+    /// them, `work` forgets which bodies have moved. Takes no memory.
+    fn drop_after(&mut self, tick: u32, work: &mut Work)
         requires { self.old.horizon ≤ tick }
         ensures base { (self.new.horizon ≡ self.old.horizon) × (self.new.base ≡ self.old.base) }
         ensures ticks { ticks_of self.new ≡ ticks_up_to tick (ticks_of self.old) }
@@ -301,10 +309,14 @@ impl Snapshots {
         ensures lower { settled_tick (ticks_of self.new) ≤ settled_tick (ticks_of self.old) }
         ensures near { tick ≤ settled_tick (ticks_of self.old)
             → tick < settled_tick (ticks_of self.new) + KEYFRAME_INTERVAL }
+        ensures meter { work.new.meter ≡ work.old.meter }
+        ensures follows { (s : Scene) → Follows s (settled_world self.old).bodies work.old
+            → Follows s (settled_world self.new).bodies work.new }
     {
         if self.settled <= tick {
             return;
         }
+        work.forget_moved();
         let Some(mut world) = take_latest(&mut self.latest, &mut self.keyframes) else {
             unreachable!();
         };

@@ -17,3 +17,4 @@ pub mod Alone
 pub mod AloneContacts
 pub mod Joined
 pub mod Untouched
+pub mod Following

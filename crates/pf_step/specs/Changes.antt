@@ -1,5 +1,5 @@
 -- What a step changed in a world, so that the world before the step can be restored.
-use Rattle.std.specs.Prelude.{ℕ, List, [], ◌∷◌, Option, Some, None, filter, length, slice_get, slice_set}
+use Rattle.std.specs.Prelude.{◌≡◌, ℕ, ◌<◌, List, [], ◌∷◌, ◌++◌, All, map, Option, Some, None, filter, length, slice_get, slice_set}
 use Rattle.std.specs.List.{flat_map, range_with_len}
 use Rattle.pf_shapes.specs.Body.{BodyState}
 use Rattle.pf_cache.specs.Contact.{Contact}
@@ -28,6 +28,15 @@ bodies_before (c ∷ changes) bodies = slice_set (bodies_before changes bodies) 
 unfoldable pub world_before : Changes → World → World
 world_before changes w =
     record { bodies = bodies_before changes.bodies w.bodies; contacts = changes.contacts }
+
+-- the bodies that changed
+abbrev pub numbers_of : List BodyChange → List ℕ
+numbers_of changes = map (λ c. c.number) changes
+
+-- to these changes others are added, of bodies of so many
+abbrev pub AreAdded : ℕ → List BodyChange → List BodyChange → Type 0
+AreAdded count old new =
+    (more : List BodyChange) × (new ≡ old ++ more) × All (λ c. c.number < count) more
 
 -- ---- what is noted before bodies change
 

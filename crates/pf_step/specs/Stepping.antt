@@ -3,8 +3,8 @@ use Rattle.std.specs.Prelude.{◌≡◌, List, Result, IfOk, OnErr, OnOk, length
 use Rattle.pf_shapes.specs.Scene.{Scene}
 use Rattle.pf_commands.specs.declared.payload.Payload.{Payload}
 use Rattle.pf_cache.specs.Manifolds.{no_manifolds}
-use Rattle.pf_step.specs.Work.{Work, work_after_tick}
-use Rattle.pf_step.specs.Changes.{BodyChange, Changes, bodies_before, world_before}
+use Rattle.pf_step.specs.Work.{Follows, Work, work_after_tick}
+use Rattle.pf_step.specs.Changes.{AreAdded, BodyChange, Changes, bodies_before, world_before}
 use Rattle.pf_islands.specs.Split.{Island}
 use Rattle.pf_step.specs.declared.crew.CrewError.{CrewError}
 use Rattle.pf_step.specs.declared.crew.StepError.{StepError}
@@ -14,7 +14,8 @@ use Rattle.pf_step.specs.World.{World}
 
 -- what a step with the payloads of a tick does to a world: it makes the next one of it, returns
 -- what undoes that, counts the tick, and keeps its contact points; or it returns an error, and
--- leaves the world as it was, with nothing counted and no points kept
+-- leaves the world as it was, with nothing counted and no points kept; and what the work then knows
+-- of moved bodies is true of the world
 pub record IsStep {E : Type 0} (s : Scene) (w : World) (payloads : List Payload) (old new : Work)
     (after : World) (result : Result Changes E) : Type 0 where
   pub value : OnOk result (after ≡ step s w payloads)
@@ -22,18 +23,21 @@ pub record IsStep {E : Type 0} (s : Scene) (w : World) (payloads : List Payload)
   pub unchanged : OnErr result (after ≡ w)
   pub bodies : length after.bodies ≡ length s.fixtures
   pub counted : OnOk result
-      (new ≡ work_after_tick (collisions_of_tick s w payloads old.manifolds) old)
-  pub not_counted : OnErr result (new ≡ record old { manifolds = no_manifolds })
+      (new ≡ work_after_tick (collisions_of_tick s w payloads old.manifolds) new.moved old)
+  pub not_counted : OnErr result
+      (new ≡ record old { manifolds = no_manifolds; moved = new.moved; is_known = false })
+  pub follows : Follows s after.bodies new
 
 -- what the phases after Points do to a world, where some changes of bodies are noted already: they
--- make the next world of it, and undoing all changes leaves what undoing those alone would have
--- left before; or they return an error, and the world, and what undoing makes of it, are as before
+-- make the next world of it, note changes of more bodies, and undoing all leaves what undoing those
+-- alone would have left before; or they return an error, and the world, and what undoing makes of it, are as before
 pub record IsEnding {A E : Type 0} (s : Scene) (w : World) (noted : List BodyChange)
     (after : World) (changes : Changes) (result : Result A E) : Type 0 where
   pub value : OnOk result (after ≡ world_after s w.contacts w.bodies)
   pub before : OnOk result (world_before changes after
       ≡ record { bodies = bodies_before noted w.bodies; contacts = w.contacts })
   pub unchanged : OnErr result (after ≡ w)
+  pub added : OnOk result (AreAdded (length w.bodies) noted changes.bodies)
   pub undone : OnErr result
       (bodies_before changes.bodies w.bodies ≡ bodies_before noted w.bodies)
 

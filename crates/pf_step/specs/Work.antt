@@ -1,22 +1,48 @@
 -- What steps of one simulation leave to the next one beside the world.
+use Rattle.std.specs.Prelude.{◌≡◌, ◌<◌, ◌++◌, ℕ, Bool, true, false, List, [], All, length}
+use Rattle.std.specs.List.{range_with_len}
+use Rattle.pf_shapes.specs.Body.{BodyState}
+use Rattle.pf_shapes.specs.Scene.{Scene}
 use Rattle.pf_cache.specs.Manifolds.{Manifolds, Collisions, no_manifolds}
 use Rattle.pf_cache.specs.Meter.{Meter, saturating_sum}
+use Rattle.pf_cache.specs.PlacedBodies.{HaveStayed, bodies_of}
 
--- how much work was done, and the contact points of the last tick
+-- how much work was done, and the contact points of the last tick; which bodies may have moved since
+-- these points were computed, if that is known
 pub record Work : Type 0 where
   pub meter : Meter
   pub manifolds : Manifolds
+  pub moved : List ℕ
+  pub is_known : Bool
 
 abbrev pub no_work : Work
-no_work =
-    record { meter = record { ticks = 0; collides = 0 }; manifolds = no_manifolds }
+no_work = record {
+  meter = record { ticks = 0; collides = 0 };
+  manifolds = no_manifolds;
+  moved = [];
+  is_known = false;
+}
 
--- the work after a tick with this narrow phase
-abbrev pub work_after_tick : Collisions → Work → Work
-work_after_tick found w = record {
+-- the work after a tick with this narrow phase, in which these bodies may have moved
+abbrev pub work_after_tick : Collisions → List ℕ → Work → Work
+work_after_tick found moved w = record {
   meter = record {
     ticks = saturating_sum w.meter.ticks 1;
     collides = saturating_sum w.meter.collides found.computed;
   };
   manifolds = found.manifolds;
+  moved = moved;
+  is_known = true;
 }
+
+-- which bodies may have moved once commands are applied: where it is not known which had before,
+-- all of so many
+abbrev pub moved_bodies : Bool → List ℕ → ℕ → List ℕ → List ℕ
+moved_bodies true moved count commanded = moved ++ commanded
+moved_bodies false moved count commanded = range_with_len 0 count
+
+-- what a work knows of moved bodies is true of these bodies of a scene
+abbrev pub Follows : Scene → List BodyState → Work → Type 0
+Follows s bodies w =
+    w.is_known ≡ true → All (λ number. number < length bodies) w.moved
+    × HaveStayed w.moved (bodies_of w.manifolds) s.fixtures bodies

@@ -15,7 +15,7 @@ use std::mem;
 /// A body that a step changed, and its state before.
 #[derive(Clone, Copy, Debug)]
 pub(crate) struct BodyChange {
-    number: usize,
+    pub number: usize,
     before: BodyState,
 }
 

@@ -7,6 +7,7 @@ ghost use Rattle.pf_cache.specs.Manifolds.{kept_touches};
 ghost use Rattle.pf_islands.specs.Split.{IsIslandOf};
 ghost use Rattle.pf_step.specs.declared.crew.StepError.TheVariants.{OutOfMemory};
 ghost use Rattle.pf_step.specs.Activity.{contacts_of_bodies, islands_of_bodies};
+ghost use Rattle.pf_step.specs.Changes.{numbers_of};
 ghost use Rattle.pf_step.specs.Stepping.{FailsBy, IsEnding};
 ghost use Rattle.pf_step.specs.Step.{touches_of_scene};
 
@@ -73,14 +74,18 @@ fn finish_untouched(
     alloc: Global,
     scene: &Scene,
     world: &mut World,
+    work: &mut Work,
     changes: &mut Changes,
 ) -> Result<(), AllocError>
     requires bodies { length world.old.bodies ≡ length scene.now.fixtures }
     requires untouched { touches_of_scene scene.now world.old.bodies ≡ [] }
     ensures ending { IsEnding scene.now world.old changes.old.bodies world.new changes.new result }
-    ensures no_memory { world.old.bodies ≡ [] → IsOk result }
+    ensures moved { OnOk result (work.new.moved ≡ numbers_of changes.new.bodies) }
+    ensures work { work.new ≡ record work.old { moved = work.new.moved } }
+    ensures no_memory { world.old.bodies ≡ [] → changes.old.bodies ≡ [] → IsOk result }
 {
     changes.note_awake(&world.bodies)?;
+    work.note_moved(changes.bodies())?;
     solve_untouched(scene, &mut world.bodies);
     changes.note_contacts(mem::replace(&mut world.contacts, Contacts::new(alloc)));
     Ok(())
@@ -88,8 +93,9 @@ fn finish_untouched(
 
 /// A tick from its contact points on, in the world after its commands. `found` is what the narrow
 /// phase found for its bodies. Makes its islands, has them solved by one call of the crew, and puts
-/// them back; where nothing touches, a crew that allows it is not called. Notes what changes. An
-/// error leaves the world as it is. Takes no memory of its own where there are no bodies.
+/// them back; where nothing touches, a crew that allows it is not called. Notes what changes, and
+/// lists these bodies as those that may have moved. An error leaves the world as it is. Takes no
+/// memory of its own where there are no bodies.
 pub(crate) fn finish<C: Crew>(
     alloc: Global,
     scene: &Scene,
@@ -109,11 +115,13 @@ pub(crate) fn finish<C: Crew>(
         in OnOk result (C.is_called crew.old islands crew.new) }
     ensures failed { let islands = islands_of_bodies scene.now world.old.contacts world.old.bodies
         in IfErr result (λ error. FailsBy C.may_fail crew.old islands error crew.new) }
-    ensures work { work.new ≡ work.old }
-    ensures no_memory { world.old.bodies ≡ [] → result ≢ Err OutOfMemory }
+    ensures moved { OnOk result (work.new.moved ≡ numbers_of changes.new.bodies) }
+    ensures work { work.new ≡ record work.old { moved = work.new.moved } }
+    ensures no_memory { world.old.bodies ≡ [] → changes.old.bodies ≡ []
+        → result ≢ Err OutOfMemory }
 {
     if found.manifolds.touches().is_empty() && crew.skips_untouched() {
-        finish_untouched(alloc, scene, world, changes)?;
+        finish_untouched(alloc, scene, world, work, changes)?;
         return Ok(());
     }
     let spare = Tick {
@@ -122,6 +130,7 @@ pub(crate) fn finish<C: Crew>(
     };
     let tick = prepare(alloc, scene, world, spare, found)?;
     changes.note_islands(&world.bodies, &tick.islands)?;
+    work.note_moved(changes.bodies())?;
     let solved = crew.solve(scene, tick.islands)?;
     let mut contacts = tick.contacts;
     join_back(&solved, &mut world.bodies, &mut contacts);

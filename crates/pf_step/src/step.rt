@@ -6,6 +6,8 @@ ghost use Rattle.pf_manifold.specs.Touches.{IsTouchOf};
 ghost use Rattle.pf_cache.specs.Manifolds.{kept_touches};
 ghost use Rattle.pf_step.specs.declared.crew.StepError.TheVariants.{OutOfMemory};
 ghost use Rattle.pf_step.specs.Activity.{islands_of_tick};
+ghost use Rattle.pf_cache.specs.PlacedBodies.{HaveStayed, bodies_of};
+ghost use Rattle.pf_step.specs.Work.{Follows};
 ghost use Rattle.pf_step.specs.Stepping.{FailsBy, IsStep};
 ghost use Rattle.pf_step.specs.Commands.{after_commands};
 ghost use Rattle.pf_step.specs.Step.{collisions_of_bodies, touches_of_scene};
@@ -23,7 +25,8 @@ use pf_shapes::{BodyState, Scene};
 use std::alloc::{AllocError, Global};
 use std::thread::Threads;
 
-/// The contact points of the bodies of a scene as they stand; kept ones are reused.
+/// The contact points of the bodies of a scene as they stand; kept ones are reused. Only bodies of
+/// `moved` may have moved since these were computed.
 #[tactic(auto, using(pf_cache::proofs::Unmoved::kept_points, pf_manifold::proofs::KeyOrder::touches_of_bodies))]
 fn find_collisions<P: Collider>(
     collider: &P,
@@ -31,9 +34,12 @@ fn find_collisions<P: Collider>(
     scene: &Scene,
     bodies: &[BodyState],
     kept: Manifolds,
+    moved: &[usize],
 ) -> Result<Collisions, AllocError>
     requires can { P.can_collide collider.now }
     requires bodies { length bodies.now ≡ length scene.now.fixtures }
+    requires moved { All (λ number. number < length bodies.now) moved.now }
+    requires others { HaveStayed moved.now (bodies_of kept) scene.now.fixtures bodies.now }
     ensures value { IfOk result
         (λ found. found ≡ collisions_of_bodies scene.now.fixtures bodies.now kept) }
     ensures touches { IfOk result
@@ -42,16 +48,65 @@ fn find_collisions<P: Collider>(
         (λ found. All (IsTouchOf (length bodies.now)) (kept_touches found.manifolds)) }
     ensures no_memory { bodies.now ≡ [] → IsOk result }
 {
-    kept.update(collider, alloc, scene, bodies)
+    kept.update(collider, alloc, scene, bodies, moved)
 }
 
 /// Makes of a world the one that is one tick of 1/64 s later, with the payloads of the tick's
 /// commands in order of player, then number, and returns what changed. The world has one state for
 /// each body of the scene. The collider computes contact points. The crew is called once, with the
 /// islands of the tick, or not at all where nothing touches and the crew allows that. Counts in
-/// `work` the tick and the pairs that cannot reuse kept points, and leaves the points there. An
-/// error leaves the world as it was; then no points are kept, and nothing is counted. Takes no
-/// memory of its own where there are no bodies.
+/// `work` the tick and the pairs that cannot reuse kept points, and leaves the points there, with
+/// the bodies that may have moved since. An error leaves the world as it was; then no points are
+/// kept, and nothing is counted. Takes no memory of its own where there are no bodies.
+///
+/// What `work` knows of moved bodies is true of this world: it is the one that the last step with
+/// `work` left. Then only these bodies, and those that commands are for, are compared with how they
+/// stood. [`step_by`] steps any world.
+pub fn step_next<P: Collider, C: Crew>(
+    collider: &P,
+    alloc: Global,
+    scene: &Scene,
+    world: &mut World,
+    payloads: &[Payload],
+    work: &mut Work,
+    crew: &mut C,
+) -> Result<Changes, StepError>
+    requires can { P.can_collide collider.now }
+    requires world { length world.old.bodies ≡ length scene.now.fixtures }
+    requires follows { Follows scene.now world.old.bodies work.old }
+    ensures step { IsStep scene.now world.old payloads.now work.old work.new world.new result }
+    ensures called { let islands = islands_of_tick scene.now world.old payloads.now in
+        OnOk result (C.is_called crew.old islands crew.new) }
+    ensures failed { let islands = islands_of_tick scene.now world.old payloads.now in
+        IfErr result (λ error. FailsBy C.may_fail crew.old islands error crew.new) }
+    ensures no_memory { world.old.bodies ≡ [] → result ≢ Err OutOfMemory }
+{
+    let (kept, is_known) = work.take_manifolds(alloc);
+    let mut changes = work.take_changes(alloc);
+    changes.note_commanded(&world.bodies, payloads)?;
+    work.list_moved(is_known, world.bodies.len(), changes.bodies())?;
+    apply_all(scene.fixtures(), &mut world.bodies, payloads);
+    let found = match find_collisions(collider, alloc, scene, &world.bodies, kept, work.moved()) {
+        Ok(found) => found,
+        Err(error) => {
+            undo_bodies(&mut world.bodies, changes.bodies());
+            return Err(StepError::from(error));
+        }
+    };
+    match finish(alloc, scene, world, &found, work, crew, &mut changes) {
+        Ok(()) => {
+            work.end_tick(found);
+            Ok(changes)
+        }
+        Err(error) => {
+            undo_bodies(&mut world.bodies, changes.bodies());
+            Err(error)
+        }
+    }
+}
+
+/// [`step_next`] of any world: which of its bodies may have moved since contact points were kept in
+/// `work` is not known, so that all are compared.
 pub fn step_by<P: Collider, C: Crew>(
     collider: &P,
     alloc: Global,
@@ -70,27 +125,8 @@ pub fn step_by<P: Collider, C: Crew>(
         IfErr result (λ error. FailsBy C.may_fail crew.old islands error crew.new) }
     ensures no_memory { world.old.bodies ≡ [] → result ≢ Err OutOfMemory }
 {
-    let kept = work.take_manifolds(alloc);
-    let mut changes = work.take_changes(alloc);
-    changes.note_commanded(&world.bodies, payloads)?;
-    apply_all(scene.fixtures(), &mut world.bodies, payloads);
-    let found = match find_collisions(collider, alloc, scene, &world.bodies, kept) {
-        Ok(found) => found,
-        Err(error) => {
-            undo_bodies(&mut world.bodies, changes.bodies());
-            return Err(StepError::from(error));
-        }
-    };
-    match finish(alloc, scene, world, &found, work, crew, &mut changes) {
-        Ok(()) => {
-            work.end_tick(found);
-            Ok(changes)
-        }
-        Err(error) => {
-            undo_bodies(&mut world.bodies, changes.bodies());
-            Err(error)
-        }
-    }
+    work.forget_moved();
+    step_next(collider, alloc, scene, world, payloads, work, crew)
 }
 
 /// [`step_by`] on one thread, without a runtime. Where nothing touches, no islands are made.

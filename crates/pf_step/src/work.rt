@@ -1,20 +1,29 @@
 //! What steps of one simulation share.
 
-use crate::changes::Changes;
+ghost use Rattle.std.specs.Prelude.{◌≡◌, ◌++◌, [], IsOk, OnOk};
+ghost use Rattle.std.specs.List.{range_with_len};
+ghost use Rattle.pf_step.specs.Changes.{numbers_of};
+
+use crate::changes::{BodyChange, Changes};
 use pf_cache::{Collisions, Manifolds, Meter};
 use pf_islands::Island;
-use std::alloc::Global;
+use std::alloc::{AllocError, Global};
 use std::marker::Model;
 use std::mem;
 
 /// What one step of a simulation leaves to the next beside the world: how much work was done, the
-/// contact points of the last tick, and spare memory of changes and islands that are gone.
+/// contact points of the last tick, which bodies may have moved since these were computed, and spare
+/// memory of changes and islands that are gone.
 ///
 /// Contracts do not see the spare memory, since it changes no result.
 #[derive(Debug, Drop)]
 pub struct Work {
     meter: Meter,
     manifolds: Manifolds,
+    /// The bodies that may have moved since the contact points were computed, if that is known.
+    moved: Vec<usize>,
+    /// Whether it is known which bodies may have moved.
+    is_known: bool,
     /// The memory for what the next step changes.
     spare_changes: Changes,
     /// The memory for the islands of the next tick.
@@ -26,13 +35,43 @@ impl Model for Work {
 
     ghost Value = { Work };
 
-    ghost view = { λ w. record { meter = w.meter; manifolds = w.manifolds } };
+    ghost view = { λ w. record {
+      meter = w.meter;
+      manifolds = w.manifolds;
+      moved = w.moved.items;
+      is_known = w.is_known;
+    } };
+}
+
+/// Adds the bodies of these changes to a list. After an error some of them may be added.
+fn add_numbers(numbers: &mut Vec<usize>, changes: &[BodyChange]) -> Result<(), AllocError>
+    ensures added { OnOk result
+        (numbers.new.items ≡ numbers.old.items ++ numbers_of changes.now) }
+    ensures no_memory { changes.now ≡ [] → IsOk result }
+{
+    for change in changes {
+        numbers.push(change.number)?;
+    }
+    Ok(())
+}
+
+/// Adds so many bodies, from the first one on. After an error some of them may be added.
+fn add_all(numbers: &mut Vec<usize>, count: usize) -> Result<(), AllocError>
+    ensures added { OnOk result
+        (numbers.new.items ≡ numbers.old.items ++ range_with_len 0 count) }
+    ensures no_memory { count ≡ 0 → IsOk result }
+{
+    for number in 0..count {
+        numbers.push(number)?;
+    }
+    Ok(())
 }
 
 impl Work {
-    ghost use Rattle.std.specs.Prelude.{◌≡◌, []};
+    ghost use Rattle.std.specs.Prelude.{◌≡◌, [], IsOk, OnOk};
     ghost use Rattle.pf_cache.specs.Manifolds.{no_manifolds};
-    ghost use Rattle.pf_step.specs.Work.{no_work, work_after_tick};
+    ghost use Rattle.pf_step.specs.Changes.{numbers_of};
+    ghost use Rattle.pf_step.specs.Work.{moved_bodies, no_work, work_after_tick};
 
     /// With nothing counted and nothing kept. Takes no memory.
     pub fn new(alloc: Global) -> Work
@@ -41,6 +80,8 @@ impl Work {
         Work {
             meter: Meter::NONE,
             manifolds: Manifolds::new(alloc),
+            moved: Vec::new(alloc),
+            is_known: false,
             spare_changes: Changes::new(alloc),
             spare_islands: Vec::new(alloc),
         }
@@ -61,13 +102,62 @@ impl Work {
         &self.manifolds
     }
 
-    /// Takes the contact points of the last tick, so that the next tick can reuse them and their
-    /// memory. None are kept from then on. Takes no memory.
-    pub(crate) fn take_manifolds(&mut self, alloc: Global) -> Manifolds
-        ensures taken { result ≡ self.old.manifolds }
-        ensures rest { self.new ≡ record self.old { manifolds = no_manifolds } }
+    /// Forgets which bodies may have moved, so that the next step compares all. Needed where a step
+    /// with this work is followed by one of another world. Takes no memory.
+    pub fn forget_moved(&mut self)
+        ensures { self.new ≡ record self.old { is_known = false } }
     {
-        mem::replace(&mut self.manifolds, Manifolds::new(alloc))
+        self.is_known = false;
+    }
+
+    /// Takes the contact points of the last tick, so that the next tick can reuse them and their
+    /// memory. None are kept from then on, and nothing is known of moved bodies. Returns also
+    /// whether it was known which may have moved. Takes no memory.
+    pub(crate) fn take_manifolds(&mut self, alloc: Global) -> (Manifolds, bool)
+        ensures taken { (result.0 ≡ self.old.manifolds) × (result.1 ≡ self.old.is_known) }
+        ensures rest { self.new ≡ record self.old { manifolds = no_manifolds; is_known = false } }
+    {
+        let is_known = mem::replace(&mut self.is_known, false);
+        let manifolds = mem::replace(&mut self.manifolds, Manifolds::new(alloc));
+        (manifolds, is_known)
+    }
+
+    /// Lists the bodies that may have moved once these commanded bodies have changed: where it is
+    /// not known which had before, all of so many. After an error some of them may be listed.
+    pub(crate) fn list_moved(
+        &mut self,
+        is_known: bool,
+        count: usize,
+        commanded: &[BodyChange],
+    ) -> Result<(), AllocError>
+        ensures listed { OnOk result (self.new.moved
+            ≡ moved_bodies is_known self.old.moved count (numbers_of commanded.now)) }
+        ensures rest { self.new ≡ record self.old { moved = self.new.moved } }
+        ensures no_memory { count ≡ 0 → commanded.now ≡ [] → IsOk result }
+    {
+        if is_known {
+            return add_numbers(&mut self.moved, commanded);
+        }
+        self.moved.clear();
+        add_all(&mut self.moved, count)
+    }
+
+    /// The bodies that may have moved.
+    pub(crate) fn moved(&self) -> &[usize]
+        ensures { result.now ≡ self.now.moved }
+    {
+        self.moved.as_slice()
+    }
+
+    /// Lists the bodies of these changes as those that may have moved. After an error some of them
+    /// may be listed.
+    pub(crate) fn note_moved(&mut self, changes: &[BodyChange]) -> Result<(), AllocError>
+        ensures listed { OnOk result (self.new.moved ≡ numbers_of changes.now) }
+        ensures rest { self.new ≡ record self.old { moved = self.new.moved } }
+        ensures no_memory { changes.now ≡ [] → IsOk result }
+    {
+        self.moved.clear();
+        add_numbers(&mut self.moved, changes)
     }
 
     /// Keeps the memory of these changes for those of the next step.
@@ -103,12 +193,13 @@ impl Work {
     }
 
     /// Counts a tick and its pairs that could not reuse kept points, and keeps the contact points
-    /// of its pairs.
+    /// of its pairs. The bodies that are listed are all that may have moved since.
     pub(crate) fn end_tick(&mut self, found: Collisions)
-        ensures { self.new ≡ work_after_tick found self.old }
+        ensures { self.new ≡ work_after_tick found self.old.moved self.old }
     {
         self.meter.count_tick();
         self.meter.count_collides(found.computed as u64);
         self.manifolds = found.manifolds;
+        self.is_known = true;
     }
 }

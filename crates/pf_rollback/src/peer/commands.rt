@@ -42,8 +42,8 @@ impl PeerCore {
         ensures no_memory { IsSome (get self.old.peer.commands command.now.name) → IsOk result }
     {
         let put = self.commands.put(command)?;
-        self.snapshots
-            .drop_after_news(tick_of_news(put, command.name.tick()));
+        let least = tick_of_news(put, command.name.tick());
+        self.snapshots.drop_after_news(least, &mut self.work);
         Ok(put)
     }
 
@@ -117,7 +117,8 @@ impl PeerCore {
             return Err(PeerError::Refused(Refusal::TooOld(horizon)));
         }
         let merged = self.commands.merge(other)?;
-        self.snapshots.drop_after_news(merged.least);
+        self.snapshots
+            .drop_after_news(merged.least, &mut self.work);
         Ok(merged.count)
     }
 

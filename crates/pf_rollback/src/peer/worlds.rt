@@ -95,7 +95,9 @@ impl PeerCore {
             return Ok(());
         }
         let work = &mut self.work;
-        let world = simulate_from(alloc, &self.scene, &self.commands, kept, tick, work)?;
+        let result = simulate_from(alloc, &self.scene, &self.commands, kept, tick, work);
+        self.work.forget_moved();
+        let world = result?;
         self.commands.drop_before(tick);
         self.snapshots.seal(tick, world);
         Ok(())

@@ -15,7 +15,7 @@ returns-then-tick-horizon-clause-not_counted c = (0, omega arith, refl, sym (cou
 
 pub returns-then-tick-horizon-2-clause-peer : goal.returns-then-tick-horizon-2-clause-peer
 returns-then-tick-horizon-2-clause-peer c =
-    rw (← c.self.view_is) (seal_again _ _ _ (c.if-tick-horizon-2.true ∙ c.horizon-horizon.ensures.value) c.self.invariant.peer)
+    rw (← c.self.view_is) (seal_again _ _ _ (c.if-tick-horizon-2.true ∙ c.horizon-horizon.ensures.value) c.self.invariant.0.peer)
 
 pub returns-then-tick-horizon-2-clause-counted : goal.returns-then-tick-horizon-2-clause-counted
 returns-then-tick-horizon-2-clause-counted c =
@@ -27,5 +27,5 @@ returns-then-tick-horizon-2-clause-counted c =
 pub invariant_of-self-2 : goal.invariant_of-self-2
 invariant_of-self-2 c =
     let later : c.self.inside.snapshots.horizon ≤ c.args.tick = omega (arith, c.horizon-horizon.ensures.value, c.if-tick-horizon.false) in
-    core_sealed _ _ _ _ _ _ _ c.args.tick _ c.self.invariant later c.if-tick-self.false c.in_ok-world.ensures.value c.drop_before.ensures
+    core_sealed _ _ _ _ _ _ _ c.args.tick _ c.self.invariant.0 later c.if-tick-self.false c.in_ok-world.ensures.value c.drop_before.ensures
     c.seal.ensures.base c.seal.ensures.worlds c.seal.ensures.settled

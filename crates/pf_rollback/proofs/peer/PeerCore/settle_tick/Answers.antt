@@ -15,14 +15,14 @@ use Rattle.pf_rollback.proofs.Simulation.{sim_at_bodies}
 use Rattle.pf_rollback.proofs.peer.PeerCore.settle_tick.Goals as goal
 
 pub invariant_of-self : goal.invariant_of-self
-invariant_of-self g c = core_reserved _ _ _ _ _ _ c.reserve.ensures.kept c.self.invariant
+invariant_of-self g c = core_reserved _ _ _ _ _ _ c.reserve.ensures.kept c.self.invariant.0
 
 pub returns-in_err-reserve-clause-err : goal.returns-in_err-reserve-clause-err
 returns-in_err-reserve-clause-err g c =
     rw (← c.self.view_is) (on_err _ (settled_none _ _ _ _ (peer_reserved _ _ _ c.self.inside.snapshots c.reserve.new.self c.reserve.ensures.kept) (ticks_reserved c.self.inside.snapshots c.reserve.new.self c.reserve.ensures.kept) refl))
 
 pub invariant_of-self-in_err-payloads : goal.invariant_of-self-in_err-payloads
-invariant_of-self-in_err-payloads g c = core_reserved _ _ _ _ _ _ c.reserve.ensures.kept c.self.invariant
+invariant_of-self-in_err-payloads g c = core_reserved _ _ _ _ _ _ c.reserve.ensures.kept c.self.invariant.0
 
 pub returns-in_err-payloads-clause-err : goal.returns-in_err-payloads-clause-err
 returns-in_err-payloads-clause-err g c =
@@ -30,7 +30,7 @@ returns-in_err-payloads-clause-err g c =
 
 pub settle-requires-clause-world : goal.settle-requires-clause-world
 settle-requires-clause-world g c world there =
-    let is = core_reserved _ _ _ _ _ _ c.reserve.ensures.kept c.self.invariant in
+    let is = core_reserved _ _ _ _ _ _ c.reserve.ensures.kept c.self.invariant.0 in
     ap (λ (w : World). length w.bodies) (is.worlds _ _ there) ∙ sim_at_bodies _ _ _ _ _ is.bodies
 
 pub settle-requires-clause-limit : goal.settle-requires-clause-limit
@@ -38,12 +38,12 @@ settle-requires-clause-limit g c =
     let next = rw (← c.self.view_is) at c.requires.next in
     let reached = rw (← c.self.view_is) at c.requires.reached in
     let same = ap settled_tick (ticks_reserved c.self.inside.snapshots c.reserve.new.self c.reserve.ensures.kept) in
-    omega (arith, same, next, reached, c.self.invariant.peer.reached)
+    omega (arith, same, next, reached, c.self.invariant.0.peer.reached)
 
 pub invariant_of-self-2 : goal.invariant_of-self-2
 invariant_of-self-2 g c =
     let s = c.self.inside.scene in
-    let is = core_reserved _ _ _ _ _ _ c.reserve.ensures.kept c.self.invariant in
+    let is = core_reserved _ _ _ _ _ _ c.reserve.ensures.kept c.self.invariant.0 in
     let next = rw (← c.self.view_is) at c.requires.next in
     let reached = rw (← c.self.view_is) at c.requires.reached in
     let same = ap settled_tick (ticks_reserved c.self.inside.snapshots c.reserve.new.self c.reserve.ensures.kept) in
@@ -89,7 +89,7 @@ returns-clause-called g c =
     let next = rw (← c.self.view_is) at c.requires.next in
     let same = ap settled_tick (ticks_reserved kept c.reserve.new.self c.reserve.ensures.kept) in
     let world : settled_world c.reserve.new.self ≡ kept_world s m kept c.args.tick =
-    c.self.invariant.worlds _ _ (kept_reserved _ _ _ _ c.reserve.ensures.kept c.settle.ensures.latest)
+    c.self.invariant.0.worlds _ _ (kept_reserved _ _ _ _ c.reserve.ensures.kept c.settle.ensures.latest)
     ∙ ap (kept_world s m kept) (same ∙ sym next) in
     let payloads : c.deref.result.now ≡ payloads_at m c.args.tick = c.deref.ensures.value ∙ c.in_ok-payloads.ensures.items in
     rw (← c.self.view_is)
@@ -104,7 +104,7 @@ returns-clause-failed g c =
     let next = rw (← c.self.view_is) at c.requires.next in
     let same = ap settled_tick (ticks_reserved kept c.reserve.new.self c.reserve.ensures.kept) in
     let world : settled_world c.reserve.new.self ≡ kept_world s m kept c.args.tick =
-    c.self.invariant.worlds _ _ (kept_reserved _ _ _ _ c.reserve.ensures.kept c.settle.ensures.latest)
+    c.self.invariant.0.worlds _ _ (kept_reserved _ _ _ _ c.reserve.ensures.kept c.settle.ensures.latest)
     ∙ ap (kept_world s m kept) (same ∙ sym next) in
     let payloads : c.deref.result.now ≡ payloads_at m c.args.tick = c.deref.ensures.value ∙ c.in_ok-payloads.ensures.items in
     rw (← c.self.view_is)

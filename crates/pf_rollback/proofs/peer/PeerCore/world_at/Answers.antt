@@ -11,4 +11,4 @@ returns-then-tick-horizon-clause-not_counted c = (0, omega arith, sym (count_non
 pub returns-clause-from_zero : goal.returns-clause-from_zero
 returns-clause-from_zero c =
     rw (← c.self.view_is)
-    (λ first. c.in_ok-simulate_from.ensures.value ∙ unsealed_world _ _ _ _ _ _ c.self.invariant first)
+    (λ first. c.in_ok-simulate_from.ensures.value ∙ unsealed_world _ _ _ _ _ _ c.self.invariant.0 first)

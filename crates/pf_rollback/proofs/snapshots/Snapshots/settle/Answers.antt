@@ -8,8 +8,8 @@ use Rattle.pf_rollback.specs.contracts.snapshots.Snapshots.{the_view}
 use Rattle.pf_rollback.proofs.KeptWorlds.{IsKeeping, settled_is, keeping_is, keeping_recent, keeping_ticks, keeping_settled, keeping_kept, settled_tick_kept}
 use Rattle.pf_rollback.proofs.snapshots.Snapshots.settle.Goals as goal
 
-pub step_by-requires-clause-world : goal.step_by-requires-clause-world
-step_by-requires-clause-world g c =
+pub step_next-requires-clause-world : goal.step_next-requires-clause-world
+step_next-requires-clause-world g c =
     let s = c.self.inside in
     let now = c.args.self.now in
     let latest : c.in_ok-world.world ≡ settled_world now =
@@ -18,7 +18,7 @@ step_by-requires-clause-world g c =
 
 keeping : (g : _) (c : goal.After-place g)
     → IsKeeping (the_view c.self.inside)
-    (the_view (record { horizon = c.self.inside.horizon; base = c.self.inside.base; keyframes = c.place.new.keyframes; latest = c.place.new.latest; recent = c.push_back.new.self; settled = c.self.inside.settled + 1 })) c.step_by.new.world
+    (the_view (record { horizon = c.self.inside.horizon; base = c.self.inside.base; keyframes = c.place.new.keyframes; latest = c.place.new.latest; recent = c.push_back.new.self; settled = c.self.inside.settled + 1 })) c.step_next.new.world
 keeping g c =
     let s = c.self.inside in
     record {
@@ -27,7 +27,7 @@ keeping g c =
       keyframes = c.place.ensures.keyframes;
       latest = c.place.ensures.latest;
       recent =
-          keeping_recent s.recent.capacity s.recent.items _ c.in-Ok.changes s.base c.in_ok-world.world c.step_by.new.world s.keyframes.items _ s.latest _ _
+          keeping_recent s.recent.capacity s.recent.items _ c.in-Ok.changes s.base c.in_ok-world.world c.step_next.new.world s.keyframes.items _ s.latest _ _
           (ap (λ b. b.items) c.push_back.ensures.items) c.in-Ok.ensures.step.before
           (c.in_ok-world.ensures.value ∙ ap (λ ks. last_world s.base ks s.latest) c.deref.ensures.value) c.place.ensures.keyframes
           c.place.ensures.latest;
@@ -38,7 +38,7 @@ keeping g c =
 pub invariant_of-self-in-Ok : goal.invariant_of-self-in-Ok
 invariant_of-self-in-Ok g c =
     let limit = rw (← c.self.view_is) at c.requires.limit in
-    keeping_is _ _ c.step_by.new.world (keeping g c) c.self.invariant (omega (arith, settled_is _ c.self.invariant, limit))
+    keeping_is _ _ c.step_next.new.world (keeping g c) c.self.invariant (omega (arith, settled_is _ c.self.invariant, limit))
 
 pub returns-in-Ok-clause-ticks : goal.returns-in-Ok-clause-ticks
 returns-in-Ok-clause-ticks g c =
@@ -71,7 +71,7 @@ returns-in-Ok-clause-called g c =
     let s = c.self.inside in
     let latest : c.in_ok-world.world ≡ settled_world c.args.self.now =
     c.in_ok-world.ensures.value ∙ ap (λ ks. last_world s.base ks s.latest) c.deref.ensures.value ∙ ap settled_world c.self.view_is in
-    subst (λ (w : World). g.C.Crew.is_called c.args.crew.now (islands_of_tick c.args.scene.now w c.args.payloads.now) c.step_by.new.crew)
+    subst (λ (w : World). g.C.Crew.is_called c.args.crew.now (islands_of_tick c.args.scene.now w c.args.payloads.now) c.step_next.new.crew)
     latest c.in-Ok.ensures.called
 
 pub returns-in-Err-clause-failed : goal.returns-in-Err-clause-failed
@@ -79,5 +79,5 @@ returns-in-Err-clause-failed g c =
     let s = c.self.inside in
     let latest : c.in_ok-world.world ≡ settled_world c.args.self.now =
     c.in_ok-world.ensures.value ∙ ap (λ ks. last_world s.base ks s.latest) c.deref.ensures.value ∙ ap settled_world c.self.view_is in
-    subst (λ (w : World). FailsBy g.C.Crew.may_fail c.args.crew.now (islands_of_tick c.args.scene.now w c.args.payloads.now) c.in-Err.error c.step_by.new.crew)
+    subst (λ (w : World). FailsBy g.C.Crew.may_fail c.args.crew.now (islands_of_tick c.args.scene.now w c.args.payloads.now) c.in-Err.error c.step_next.new.crew)
     latest c.in-Err.ensures.failed

@@ -1,0 +1,177 @@
+-- What a work knows of moved bodies stays true from step to step.
+use Rattle.std.proofs.Common.{◌≡◌, ◌≢◌, ⊎_elim, ℕ, zero, suc, ◌<◌, ◌==◌, ◌||◌, Bool, true, false, List, [], ◌∷◌, ◌++◌, Option, Some, None, length, map, nat_lt, refl, sym, ap, ap₂, subst, ◌∙◌, arith, slice_get}
+use Rattle.std.specs.Prelude.{All}
+use Rattle.std.specs.List.{flat_map, range_with_len, zip}
+use Rattle.std.proofs.lemmas.Bool.{or_parts, true≢false}
+use Rattle.std.proofs.lemmas.Bool.Decides.{nat_tests}
+use Rattle.std.proofs.lemmas.List.Elements.{All-append, All-cons, All-map, All-nil}
+use Rattle.std.proofs.lemmas.List.Folds.{list_any-append}
+use Rattle.std.proofs.lemmas.List.FromFn.{get_or-range_with_len, length-range_with_len}
+use Rattle.std.proofs.lemmas.Option.{slice_get_within}
+use Rattle.pf_shapes.specs.Body.{BodyState}
+use Rattle.pf_shapes.specs.Bounds.{fixture_bounds}
+use Rattle.pf_shapes.specs.Fixture.{Fixture}
+use Rattle.pf_shapes.specs.Scene.{Scene}
+use Rattle.pf_broad.specs.Pairs.{all_bounds}
+use Rattle.pf_broad.specs.Partners.{has_body}
+use Rattle.pf_broad.proofs.Ranges.{has_body-below}
+use Rattle.pf_commands.specs.declared.payload.Payload.{Payload}
+use Rattle.pf_commands.specs.Payload.{body_of}
+use Rattle.pf_cache.specs.Manifolds.{Manifolds, placed_shapes, shape_of_body}
+use Rattle.pf_cache.specs.PlacedBodies.{HaveStayed, bodies_of}
+use Rattle.pf_step.specs.Changes.{AreAdded, BodyChange, bodies_before, change_if, change_of, changes_by_commands, changes_of, numbers_of}
+use Rattle.pf_step.specs.Commands.{after_commands}
+use Rattle.pf_step.specs.Work.{Follows, Work, moved_bodies}
+use Rattle.pf_step.proofs.Changing.{unchanged_stays}
+use Rattle.pf_step.proofs.Commanding.{commands_before, commands_length}
+
+-- ---- what is made of two lists side by side
+
+module _ {X Y Z : Type 0} (f : X × Y → Z) where
+  made_of : Option X → Option Y → Option Z
+  made_of (Some x) (Some y) = Some (f (x, y))
+  made_of (Some x) None = None
+  made_of None y = None
+
+  no_second : (x : Option X) → None ≡ made_of x None
+  no_second None = refl
+  no_second (Some x) = refl
+
+  made_at : (xs : List X) (ys : List Y) (k : ℕ) → slice_get (map f (zip xs ys)) k ≡ made_of (slice_get xs k) (slice_get ys k)
+  made_at [] ys k = refl
+  made_at (x ∷ xs) [] k = no_second (slice_get (x ∷ xs) k)
+  made_at (x ∷ xs) (y ∷ ys) zero = refl
+  made_at (x ∷ xs) (y ∷ ys) (suc k) = made_at xs ys k
+
+  -- where the second lists agree, so does what is made
+  pub same_made : (xs : List X) (ys zs : List Y) (k : ℕ) → slice_get ys k ≡ slice_get zs k
+      → slice_get (map f (zip xs ys)) k ≡ slice_get (map f (zip xs zs)) k
+  same_made xs ys zs k same = made_at xs ys k ∙ ap (made_of (slice_get xs k)) same ∙ sym (made_at xs zs k)
+
+-- ---- bodies that are not listed
+
+-- a body that has no change is as it was before
+none_of : (changes : List BodyChange) (k : ℕ) → has_body (numbers_of changes) k ≡ false → All (λ c. c.number ≢ k) changes
+none_of [] k none = All-nil (λ (c : BodyChange). c.number ≢ k)
+none_of (c ∷ changes) k none =
+    let parts = or_parts (c.number == k) (has_body (numbers_of changes) k) none in
+    All-cons (λ (x : BodyChange). x.number ≢ k) c changes (λ same. absurd (differs c.number k parts.0 same)) (none_of changes k parts.1)
+  where
+    differs : (m k : ℕ) → (m == k) ≡ false → m ≢ k
+    differs m k test same = grind (arith, nat_tests)
+
+pub unlisted : (changes : List BodyChange) (after before : List BodyState) (k : ℕ) → bodies_before changes after ≡ before
+    → has_body (numbers_of changes) k ≡ false → slice_get after k ≡ slice_get before k
+unlisted changes after before k undone none =
+    sym (unchanged_stays changes after k (none_of changes k none)) ∙ ap (λ bs. slice_get bs k) undone
+
+numbers_more : (changes more : List BodyChange) → numbers_of (changes ++ more) ≡ numbers_of changes ++ numbers_of more
+numbers_more [] more = refl
+numbers_more (c ∷ changes) more = ap (λ ns. c.number ∷ ns) (numbers_more changes more)
+
+-- one that is not in both lists is in none of them
+pub neither : (first second : List ℕ) (k : ℕ) → has_body (first ++ second) k ≡ false
+    → (has_body first k ≡ false) × (has_body second k ≡ false)
+neither first second k none =
+    or_parts (has_body first k) (has_body second k) (sym (list_any-append (λ m. m == k) first second) ∙ none)
+
+-- ---- noted bodies are there
+
+noted_within : (n : ℕ) (bodies : List BodyState) (b : Option BodyState) → slice_get bodies n ≡ b
+    → All (λ c. c.number < length bodies) (change_if n b)
+noted_within n bodies None none = All-nil (λ (c : BodyChange). c.number < length bodies)
+noted_within n bodies (Some b) there =
+    All-cons (λ (c : BodyChange). c.number < length bodies) (record { number = n; before = b }) []
+    (slice_get_within bodies n b there) (All-nil (λ (c : BodyChange). c.number < length bodies))
+
+pub all_within : {X : Type 0} (bodies : List BodyState) (f : X → ℕ) (xs : List X)
+    → All (λ c. c.number < length bodies) (flat_map (λ x. change_of bodies (f x)) xs)
+all_within bodies f [] = All-nil (λ (c : BodyChange). c.number < length bodies)
+all_within bodies f (x ∷ xs) =
+    All-append (λ (c : BodyChange). c.number < length bodies) (change_of bodies (f x)) (flat_map (λ y. change_of bodies (f y)) xs)
+    (noted_within (f x) bodies (slice_get bodies (f x)) refl) (all_within bodies f xs)
+
+numbers_within : (n : ℕ) (changes : List BodyChange) → All (λ c. c.number < n) changes → All (λ number. number < n) (numbers_of changes)
+numbers_within n changes within = All-map (λ (number : ℕ). number < n) (λ (c : BodyChange). c.number) changes within
+
+range_within : (n : ℕ) → All (λ number. number < n) (range_with_len 0 n)
+range_within n i d here =
+    let long = length-range_with_len 0 n in
+    let is = get_or-range_with_len 0 n i d (omega (arith, here, long)) in
+    omega (arith, is, here, long)
+
+listed_below : (n k : ℕ) → k < n → has_body (range_with_len 0 n) k ≡ true
+listed_below n k below = has_body-below n k ∙ is_below
+  where
+    is_below : nat_lt k n ≡ true
+    is_below = grind (arith, nat_tests)
+
+-- ---- the next step
+
+-- after commands, only the listed bodies may have moved
+pub stayed_after_commands : (s : Scene) (bodies : List BodyState) (payloads : List Payload) (work : Work) (m : Manifolds) (moved : List ℕ)
+    (notes : List BodyChange) (after : List BodyState) → Follows s bodies work → m ≡ work.manifolds
+    → notes ≡ changes_by_commands bodies payloads → after ≡ after_commands s.fixtures bodies payloads
+    → moved ≡ moved_bodies work.is_known work.moved (length bodies) (numbers_of notes)
+    → All (λ number. number < length after) moved × HaveStayed moved (bodies_of m) s.fixtures after
+stayed_after_commands s bodies payloads work m moved notes after follows m_is noted after_is listed = by work.is_known refl
+  where
+    long_after : length after ≡ length bodies
+    long_after = ap length after_is ∙ commands_length s.fixtures bodies payloads
+
+    by : (known : Bool) → work.is_known ≡ known
+        → All (λ number. number < length after) moved × HaveStayed moved (bodies_of m) s.fixtures after
+    by true known =
+        let knows = follows known in
+        let list : moved ≡ work.moved ++ numbers_of notes =
+        listed ∙ ap (λ b. moved_bodies b work.moved (length bodies) (numbers_of notes)) known in
+        let there = subst (All (λ c. c.number < length bodies)) (sym noted) (all_within bodies body_of payloads) in (
+          subst (λ n. All (λ number. number < n) moved) (sym long_after)
+              (subst (All (λ number. number < length bodies)) (sym list)
+              (All-append (λ (number : ℕ). number < length bodies) work.moved (numbers_of notes) knows.0
+              (numbers_within (length bodies) notes there))),
+          λ long k below other.
+          let parts = neither work.moved (numbers_of notes) k (sym (ap (λ ns. has_body ns k) list) ∙ other) in
+          let same = unlisted notes after bodies k
+          (ap₂ bodies_before noted after_is ∙ commands_before s.fixtures bodies payloads) parts.1 in
+          let stood = knows.1 (ap (λ (x : Manifolds). length x.shapes) (sym m_is) ∙ long ∙ long_after) k
+          (omega (arith, below, long_after)) parts.0 in (
+            ap (λ (x : Manifolds). slice_get x.shapes k) m_is ∙ stood.0
+                ∙ same_made (λ (b : Fixture × BodyState). shape_of_body b.0 b.1) s.fixtures bodies after k (sym same),
+            ap (λ (x : Manifolds). slice_get x.bounds k) m_is ∙ stood.1
+                ∙ same_made (λ (b : Fixture × BodyState). fixture_bounds b.0 b.1) s.fixtures bodies after k (sym same),
+          ),
+        )
+    by false unknown =
+        let list : moved ≡ range_with_len 0 (length bodies) =
+        listed ∙ ap (λ b. moved_bodies b work.moved (length bodies) (numbers_of notes)) unknown in (
+          subst (λ n. All (λ number. number < n) moved) (sym long_after)
+              (subst (All (λ number. number < length bodies)) (sym list) (range_within (length bodies))),
+          λ long k below other.
+          absurd (true≢false (sym (listed_below (length bodies) k (omega (arith, below, long_after)))
+          ∙ sym (ap (λ ns. has_body ns k) list) ∙ other)),
+        )
+
+-- after a step, only bodies that it changed may have moved since the contact points were computed
+pub stayed_after_step : (s : Scene) (before commanded after : List BodyState) (m : Manifolds) (notes changes : List BodyChange)
+    → length after ≡ length before
+    → m.shapes ≡ placed_shapes s.fixtures commanded → m.bounds ≡ all_bounds s.fixtures commanded
+    → All (λ c. c.number < length before) notes → AreAdded (length before) notes changes
+    → bodies_before notes commanded ≡ before → bodies_before changes after ≡ before
+    → All (λ number. number < length after) (numbers_of changes) × HaveStayed (numbers_of changes) (bodies_of m) s.fixtures after
+stayed_after_step s before commanded after m notes changes long shapes bounds within added noted undone =
+    let more = added.0 in
+    let there = subst (All (λ c. c.number < length before)) (sym added.1.0)
+    (All-append (λ (c : BodyChange). c.number < length before) notes more within added.1.1) in (
+      subst (λ n. All (λ number. number < n) (numbers_of changes)) (sym long) (numbers_within (length before) changes there),
+      λ as_many k below other.
+      let parts = neither (numbers_of notes) (numbers_of more) k
+      (sym (ap (λ cs. has_body (numbers_of cs) k) added.1.0 ∙ ap (λ ns. has_body ns k) (numbers_more notes more)) ∙ other) in
+      let same : slice_get commanded k ≡ slice_get after k =
+      unlisted notes commanded before k noted parts.0 ∙ sym (unlisted changes after before k undone other) in (
+        ap (λ xs. slice_get xs k) shapes
+            ∙ same_made (λ (b : Fixture × BodyState). shape_of_body b.0 b.1) s.fixtures commanded after k same,
+        ap (λ xs. slice_get xs k) bounds
+            ∙ same_made (λ (b : Fixture × BodyState). fixture_bounds b.0 b.1) s.fixtures commanded after k same,
+      ),
+    )
