@@ -1,11 +1,12 @@
 -- What a work knows of moved bodies stays true from step to step.
-use Rattle.std.proofs.Common.{◌≡◌, ◌≢◌, ⊎_elim, ℕ, zero, suc, ◌<◌, ◌==◌, ◌||◌, Bool, true, false, List, [], ◌∷◌, ◌++◌, Option, Some, None, length, map, nat_lt, refl, sym, ap, ap₂, subst, ◌∙◌, arith, slice_get}
-use Rattle.std.specs.Prelude.{All}
+use Rattle.std.proofs.Common.{◌≡◌, ◌≢◌, ⊎_elim, ℕ, zero, suc, ◌+◌, ◌<◌, ◌==◌, ◌||◌, Bool, true, false, List, [], ◌∷◌, ◌++◌, Option, Some, None, length, map, nat_lt, refl, sym, ap, ap₂, subst, ◌∙◌, arith, slice_get}
+use Rattle.std.specs.Prelude.{All, Err, Ok, Result}
 use Rattle.std.specs.List.{flat_map, range_with_len, zip}
 use Rattle.std.proofs.lemmas.Bool.{or_parts, true≢false}
 use Rattle.std.proofs.lemmas.Bool.Decides.{nat_tests}
 use Rattle.std.proofs.lemmas.List.Elements.{All-append, All-cons, All-map, All-nil}
 use Rattle.std.proofs.lemmas.List.Folds.{list_any-append}
+use Rattle.std.proofs.lemmas.List.{append_assoc}
 use Rattle.std.proofs.lemmas.List.FromFn.{get_or-range_with_len, length-range_with_len}
 use Rattle.std.proofs.lemmas.Option.{slice_get_within}
 use Rattle.pf_shapes.specs.Body.{BodyState}
@@ -19,16 +20,17 @@ use Rattle.pf_commands.specs.declared.payload.Payload.{Payload}
 use Rattle.pf_commands.specs.Payload.{body_of}
 use Rattle.pf_cache.specs.Manifolds.{Manifolds, placed_shapes, shape_of_body}
 use Rattle.pf_cache.specs.PlacedBodies.{HaveStayed, bodies_of}
-use Rattle.pf_step.specs.Changes.{AreAdded, BodyChange, bodies_before, change_if, change_of, changes_by_commands, changes_of, numbers_of}
+use Rattle.pf_islands.specs.Split.{Island}
+use Rattle.pf_step.specs.Changes.{AreAdded, BodyChange, bodies_before, change_if, change_of, changes_by_commands, changes_of_islands, numbers_of}
 use Rattle.pf_step.specs.Commands.{after_commands}
 use Rattle.pf_step.specs.Work.{Follows, Work, moved_bodies}
-use Rattle.pf_step.proofs.Changing.{unchanged_stays}
+use Rattle.pf_step.proofs.Changing.{notes_of_all, unchanged_stays}
 use Rattle.pf_step.proofs.Commanding.{commands_before, commands_length}
 
 -- ---- what is made of two lists side by side
 
 module _ {X Y Z : Type 0} (f : X × Y → Z) where
-  made_of : Option X → Option Y → Option Z
+  abbrev made_of : Option X → Option Y → Option Z
   made_of (Some x) (Some y) = Some (f (x, y))
   made_of (Some x) None = None
   made_of None y = None
@@ -91,8 +93,55 @@ all_within bodies f (x ∷ xs) =
     All-append (λ (c : BodyChange). c.number < length bodies) (change_of bodies (f x)) (flat_map (λ y. change_of bodies (f y)) xs)
     (noted_within (f x) bodies (slice_get bodies (f x)) refl) (all_within bodies f xs)
 
+pub none_there : {X : Type 0} (xs : List X) → length xs ≡ 0 → xs ≡ []
+none_there [] none = refl
+none_there (x ∷ xs) none = absurd (omega (arith, none))
+
+-- an error that is not another is not that one of another call either
+pub other_error : {A B E : Type 0} (a b : E) → ◌≢◌ {A = Result A E} (Err a) (Err b) → ◌≢◌ {A = Result B E} (Err a) (Err b)
+other_error {A = A} {B = B} {E = E} a b differ same = differ (ap moved same)
+  where
+    moved : Result B E → Result A E
+    moved (Ok value) = Err a
+    moved (Err error) = Err error
+
+-- where there are no bodies none are noted
+pub none_noted : {X : Type 0} (bodies : List BodyState) (f : X → ℕ) (xs : List X) → bodies ≡ []
+    → flat_map (λ x. change_of bodies (f x)) xs ≡ []
+none_noted {X = X} bodies f xs none = ap (λ bs. flat_map (λ x. change_of bs (f x)) xs) none ∙ all_none xs
+  where
+    all_none : (ys : List X) → flat_map (λ x. change_of [] (f x)) ys ≡ []
+    all_none [] = refl
+    all_none (y ∷ ys) = all_none ys
+
+pub islands_within : (bodies : List BodyState) (islands : List Island)
+    → All (λ c. c.number < length bodies) (changes_of_islands bodies islands)
+islands_within bodies islands =
+    subst (All (λ (c : BodyChange). c.number < length bodies)) (sym (notes_of_all bodies (λ (i : Island). i.numbers) islands))
+    (all_within bodies (λ n. n) (flat_map (λ (i : Island). i.numbers) islands))
+
 numbers_within : (n : ℕ) (changes : List BodyChange) → All (λ c. c.number < n) changes → All (λ number. number < n) (numbers_of changes)
 numbers_within n changes within = All-map (λ (number : ℕ). number < n) (λ (c : BodyChange). c.number) changes within
+
+-- one number more
+range_suc : (start n : ℕ) → range_with_len start (suc n) ≡ range_with_len start n ++ (start + n) ∷ []
+range_suc start zero = ap (λ m. m ∷ []) (none start)
+  where
+    none : (m : ℕ) → m ≡ m + 0
+    none m = omega arith
+range_suc start (suc n) =
+    ap (λ ns. start ∷ ns) (range_suc (start + 1) n ∙ ap (λ m. range_with_len (start + 1) n ++ m ∷ []) (moved start n))
+  where
+    moved : (m k : ℕ) → (m + 1) + k ≡ m + suc k
+    moved m k = omega arith
+
+pub numbered_more : (first now next : List ℕ) (n : ℕ) → now ≡ first ++ range_with_len 0 n → next ≡ now ++ n ∷ []
+    → next ≡ first ++ range_with_len 0 (n + 1)
+numbered_more first now next n now_is next_is =
+    let after : suc n ≡ n + 1 = omega arith in
+    let here : n ≡ 0 + n = omega arith in
+    next_is ∙ ap₂ (λ ns m. ns ++ m ∷ []) now_is here ∙ append_assoc first (range_with_len 0 n) ((0 + n) ∷ [])
+    ∙ ap (λ ns. first ++ ns) (sym (range_suc 0 n) ∙ ap (range_with_len 0) after)
 
 range_within : (n : ℕ) → All (λ number. number < n) (range_with_len 0 n)
 range_within n i d here =
@@ -161,12 +210,12 @@ pub stayed_after_step : (s : Scene) (before commanded after : List BodyState) (m
     → All (λ number. number < length after) (numbers_of changes) × HaveStayed (numbers_of changes) (bodies_of m) s.fixtures after
 stayed_after_step s before commanded after m notes changes long shapes bounds within added noted undone =
     let more = added.0 in
-    let there = subst (All (λ c. c.number < length before)) (sym added.1.0)
-    (All-append (λ (c : BodyChange). c.number < length before) notes more within added.1.1) in (
+    let there = subst (All (λ c. c.number < length before)) (sym added.1)
+    (All-append (λ (c : BodyChange). c.number < length before) notes more within added.2) in (
       subst (λ n. All (λ number. number < n) (numbers_of changes)) (sym long) (numbers_within (length before) changes there),
       λ as_many k below other.
       let parts = neither (numbers_of notes) (numbers_of more) k
-      (sym (ap (λ cs. has_body (numbers_of cs) k) added.1.0 ∙ ap (λ ns. has_body ns k) (numbers_more notes more)) ∙ other) in
+      (sym (ap (λ cs. has_body (numbers_of cs) k) added.1 ∙ ap (λ ns. has_body ns k) (numbers_more notes more)) ∙ other) in
       let same : slice_get commanded k ≡ slice_get after k =
       unlisted notes commanded before k noted parts.0 ∙ sym (unlisted changes after before k undone other) in (
         ap (λ xs. slice_get xs k) shapes

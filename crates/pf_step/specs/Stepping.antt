@@ -1,5 +1,5 @@
 -- What a step returns, and why a step that calls a crew fails.
-use Rattle.std.specs.Prelude.{◌≡◌, List, Result, IfOk, OnErr, OnOk, length}
+use Rattle.std.specs.Prelude.{◌≡◌, false, List, Result, IfOk, OnErr, OnOk, length}
 use Rattle.pf_shapes.specs.Scene.{Scene}
 use Rattle.pf_commands.specs.declared.payload.Payload.{Payload}
 use Rattle.pf_cache.specs.Manifolds.{no_manifolds}

@@ -1,7 +1,7 @@
 //! A tick: from a world to the world one tick later. Its definition is on one screen,
 //! `specs/Step.antt`.
 
-ghost use Rattle.std.specs.Prelude.{◌≡◌, ◌≢◌, [], Err, All, length, IfErr, IfOk, IsOk, OnOk};
+ghost use Rattle.std.specs.Prelude.{◌≡◌, ◌≢◌, ◌<◌, [], Err, All, length, IfErr, IfOk, IsOk, OnOk};
 ghost use Rattle.pf_manifold.specs.Touches.{IsTouchOf};
 ghost use Rattle.pf_cache.specs.Manifolds.{kept_touches};
 ghost use Rattle.pf_step.specs.declared.crew.StepError.TheVariants.{OutOfMemory};
@@ -84,7 +84,8 @@ pub fn step_next<P: Collider, C: Crew>(
     let (kept, is_known) = work.take_manifolds(alloc);
     let mut changes = work.take_changes(alloc);
     changes.note_commanded(&world.bodies, payloads)?;
-    work.list_moved(is_known, world.bodies.len(), changes.bodies())?;
+    let count = world.bodies.as_slice().len();
+    work.list_moved(is_known, count, changes.bodies())?;
     apply_all(scene.fixtures(), &mut world.bodies, payloads);
     let found = match find_collisions(collider, alloc, scene, &world.bodies, kept, work.moved()) {
         Ok(found) => found,

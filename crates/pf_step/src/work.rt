@@ -68,7 +68,7 @@ fn add_all(numbers: &mut Vec<usize>, count: usize) -> Result<(), AllocError>
 }
 
 impl Work {
-    ghost use Rattle.std.specs.Prelude.{◌≡◌, [], IsOk, OnOk};
+    ghost use Rattle.std.specs.Prelude.{◌≡◌, false, [], IsOk, OnOk};
     ghost use Rattle.pf_cache.specs.Manifolds.{no_manifolds};
     ghost use Rattle.pf_step.specs.Changes.{numbers_of};
     ghost use Rattle.pf_step.specs.Work.{moved_bodies, no_work, work_after_tick};

@@ -11,6 +11,7 @@ use Rattle.pf_step.specs.Changes.{BodyChange, Changes, bodies_before, changes_of
 use Rattle.pf_step.specs.Step.{world_after}
 use Rattle.pf_step.specs.World.{World}
 use Rattle.pf_step.proofs.Changing.{before_more}
+use Rattle.pf_step.proofs.Following.{islands_within}
 use Rattle.pf_step.proofs.Joined.{ended_at_contacts, ended_at_home, ended_join, islands_before}
 use Rattle.pf_step.proofs.ending.finish.Goals as goal
 
@@ -62,6 +63,7 @@ returns-clause-ending g c =
           ∙ ap (bodies_before noted) (islands_before s w.contacts w.bodies c.requires.bodies))
           (ap (λ (x : Changes). x.contacts) c.note_contacts-2.ensures.noted ∙ c.replace.ensures.value
           ∙ ap (λ (x : World). x.contacts) c.world.view_is);
+      added = (changes_of_islands w.bodies found, notes, islands_within w.bodies found);
       unchanged = tt;
       undone = tt;
     }

@@ -5,6 +5,7 @@ use Rattle.pf_solver.specs.Bodies.{gravity_per_tick}
 use Rattle.pf_step.specs.Changes.{Changes, bodies_before, changes_of_awake, world_before}
 use Rattle.pf_step.specs.World.{World}
 use Rattle.pf_step.proofs.Changing.{before_more}
+use Rattle.pf_step.proofs.Following.{all_within}
 use Rattle.pf_step.proofs.Untouched.{awake_before, untouched_world}
 use Rattle.pf_step.proofs.ending.finish_untouched.Goals as goal
 
@@ -28,6 +29,7 @@ returns-clause-ending c =
           ∙ ap (bodies_before noted) (awake_before pull w.bodies))
           (ap (λ (x : Changes). x.contacts) c.note_contacts.ensures.noted ∙ c.replace.ensures.value
           ∙ ap (λ (x : World). x.contacts) c.world.view_is);
+      added = (changes_of_awake w.bodies, notes, all_within w.bodies (λ n. n) _);
       unchanged = tt;
       undone = tt;
     }

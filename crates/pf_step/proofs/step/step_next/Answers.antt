@@ -1,0 +1,232 @@
+use Rattle.std.proofs.Common.{◌≡◌, ◌<◌, ◌∙◌, ◌++◌, ℕ, List, ap, ap₂, false, length, subst, sym}
+use Rattle.std.specs.Prelude.{All}
+use Rattle.std.proofs.lemmas.Bool.{true≢false}
+use Rattle.std.proofs.lemmas.List.{with_items_is}
+use Rattle.std.specs.Vec.{with_items}
+use Rattle.pf_shapes.specs.Body.{BodyState}
+use Rattle.pf_cache.specs.Contact.{Contact}
+use Rattle.pf_broad.specs.Pairs.{all_bounds}
+use Rattle.pf_commands.specs.Payload.{body_of}
+use Rattle.pf_cache.specs.Manifolds.{Collisions, Manifolds, no_manifolds, placed_shapes}
+use Rattle.pf_cache.specs.PlacedBodies.{HaveStayed, bodies_of}
+use Rattle.pf_islands.specs.Split.{Island}
+use Rattle.pf_step.specs.Activity.{islands_of_bodies}
+use Rattle.pf_step.specs.Changes.{AreAdded, BodyChange, bodies_before, changes_by_commands, numbers_of, world_before}
+use Rattle.pf_step.specs.Commands.{after_commands}
+use Rattle.pf_step.specs.Step.{collisions_of_bodies, step, world_after}
+use Rattle.pf_step.specs.Stepping.{FailsBy}
+use Rattle.pf_step.specs.Work.{Work, moved_bodies, work_after_tick}
+use Rattle.pf_step.specs.World.{World}
+use Rattle.pf_step.proofs.Commanding.{commands_length, commands_undone}
+use Rattle.pf_step.proofs.Following.{all_within, none_noted, none_there, other_error, stayed_after_commands, stayed_after_step}
+use Rattle.pf_step.proofs.Lengths.{step_length}
+use Rattle.pf_step.proofs.step.step_next.Goals as goal
+
+pub returns-in-Ok-finish-clause-step : goal.returns-in-Ok-finish-clause-step
+unfolding step world_before
+returns-in-Ok-finish-clause-step g c =
+    let s = c.args.scene.now in
+    let w = c.args.world.now in
+    let payloads = c.args.payloads.now in
+    let of_world = ap (λ (x : World). x.bodies) c.world.view_is in
+    let commanded = with_items_is c.world.inside.bodies c.apply_all.new.bodies (c.apply_all.auto.bodies ∙ c.deref_mut.ensures.len)
+    ∙ c.apply_all.ensures ∙ ap₂ (λ fs bs. after_commands fs bs payloads) c.fixtures.ensures.value (c.deref_mut.ensures.value ∙ of_world) in
+    let contacts = ap (λ (x : World). x.contacts) c.world.view_is in
+    let notes = c.in_ok-note_commanded.ensures.noted
+    ∙ ap₂ (λ (cs : List BodyChange) (bs : List BodyState). cs ++ changes_by_commands bs payloads)
+    c.take_changes-changes.ensures.changes (c.deref.ensures.value ∙ of_world) in
+    let value : c.finish.new.world ≡ step s w payloads =
+    c.in-Ok-finish.ensures.ending.value ∙ ap₂ (λ (cs : List Contact) (bs : List BodyState). world_after s cs bs) contacts commanded in
+    let found = ap₂ (λ (bs : List BodyState) (kept : Manifolds). collisions_of_bodies s.fixtures bs kept)
+    (c.deref-2.ensures.value ∙ commanded) c.take_manifolds-kept.ensures.taken.0 in
+    let b = (with_items c.world.inside.bodies c.apply_all.new.bodies).items in
+    let moved_is = ap (λ (x : Work). x.moved) c.end_tick.ensures ∙ c.in-Ok-finish.ensures.moved in
+    let manifolds_is = ap (λ (x : Work). x.manifolds) c.end_tick.ensures in
+    let work_before : c.list_moved.new.self ≡ record c.args.work.now {
+      manifolds = no_manifolds;
+      moved = c.list_moved.new.self.moved;
+      is_known = false;
+    } =
+    c.list_moved.ensures.rest
+    ∙ (λ i. record ((c.take_changes-changes.ensures.work ∙ c.take_manifolds-kept.ensures.rest) i) { moved = c.list_moved.new.self.moved }) in
+    record {
+      value = value;
+      before = c.in-Ok-finish.ensures.ending.before
+          ∙ ap₂ (λ bs cs. record { bodies = bs; contacts = cs })
+          (commands_undone s.fixtures w.bodies _ payloads _ notes commanded) contacts;
+      unchanged = tt;
+      bodies = ap (λ (x : World). length x.bodies) value ∙ step_length s w payloads c.requires.world;
+      counted = c.end_tick.ensures
+          ∙ (λ i. work_after_tick ((c.in-Ok.ensures.value ∙ found) i) (sym (ap (λ (x : Work). x.moved) c.end_tick.ensures) i)
+          ((c.finish.ensures.work ∙ (λ j. record (work_before j) { moved = c.finish.new.work.moved })) i));
+      not_counted = tt;
+      follows = λ known.
+          subst (λ (x : List ℕ × Manifolds). All (λ number. number < length c.finish.new.world.bodies) x.0
+          × HaveStayed x.0 (bodies_of x.1) s.fixtures c.finish.new.world.bodies)
+          (λ i. (sym moved_is i, sym manifolds_is i))
+          (stayed_after_step s w.bodies b c.finish.new.world.bodies c.in-Ok.found.manifolds c.note_commanded.new.self.bodies
+          c.finish.new.changes.bodies (ap (λ (x : World). length x.bodies) value ∙ step_length s w payloads c.requires.world ∙ sym c.requires.world)
+          (ap (λ (x : Collisions). x.manifolds.shapes) c.in-Ok.ensures.value ∙ ap (placed_shapes s.fixtures) c.deref-2.ensures.value)
+          (ap (λ (x : Collisions). x.manifolds.bounds) c.in-Ok.ensures.value ∙ ap (all_bounds s.fixtures) c.deref-2.ensures.value)
+          (subst (All (λ (x : BodyChange). x.number < length w.bodies)) (sym notes) (all_within w.bodies body_of payloads))
+          (subst (λ n. AreAdded n c.note_commanded.new.self.bodies c.finish.new.changes.bodies)
+          (ap length commanded ∙ commands_length s.fixtures w.bodies payloads) c.in-Ok-finish.ensures.ending.added)
+          (commands_undone s.fixtures w.bodies _ payloads _ notes commanded)
+          (ap (λ (x : World). x.bodies) c.in-Ok-finish.ensures.ending.before
+          ∙ commands_undone s.fixtures w.bodies _ payloads _ notes commanded));
+    }
+
+pub returns-in-Ok-finish-clause-called : goal.returns-in-Ok-finish-clause-called
+returns-in-Ok-finish-clause-called g c =
+    let s = c.args.scene.now in
+    let w = c.args.world.now in
+    let payloads = c.args.payloads.now in
+    let of_world = ap (λ (x : World). x.bodies) c.world.view_is in
+    let commanded = with_items_is c.world.inside.bodies c.apply_all.new.bodies (c.apply_all.auto.bodies ∙ c.deref_mut.ensures.len)
+    ∙ c.apply_all.ensures ∙ ap₂ (λ fs bs. after_commands fs bs payloads) c.fixtures.ensures.value (c.deref_mut.ensures.value ∙ of_world) in
+    let contacts = ap (λ (x : World). x.contacts) c.world.view_is in
+    subst (λ (is : List Island). g.C.Crew.is_called c.args.crew.now is c.finish.new.crew)
+    (ap₂ (λ (cs : List Contact) (bs : List BodyState). islands_of_bodies s cs bs) contacts commanded)
+    c.in-Ok-finish.ensures.called
+
+-- only listed bodies may have moved since the kept points were computed
+stayed : (g : _) (c : goal.After-moved g)
+    → All (λ number. number < length c.deref-2.result.now) c.moved.result.now
+    × HaveStayed c.moved.result.now (bodies_of c.take_manifolds-kept.result.0) c.args.scene.now.fixtures c.deref-2.result.now
+stayed g c =
+    let s = c.args.scene.now in
+    let w = c.args.world.now in
+    let payloads = c.args.payloads.now in
+    let of_world = ap (λ (x : World). x.bodies) c.world.view_is in
+    let commanded = with_items_is c.world.inside.bodies c.apply_all.new.bodies (c.apply_all.auto.bodies ∙ c.deref_mut.ensures.len)
+    ∙ c.apply_all.ensures ∙ ap₂ (λ fs bs. after_commands fs bs payloads) c.fixtures.ensures.value (c.deref_mut.ensures.value ∙ of_world) in
+    let notes = c.in_ok-note_commanded.ensures.noted
+    ∙ ap₂ (λ (cs : List BodyChange) (bs : List BodyState). cs ++ changes_by_commands bs payloads)
+    c.take_changes-changes.ensures.changes (c.deref.ensures.value ∙ of_world) in
+    let work = c.args.work.now in
+    let listed_before = ap (λ (x : Work). x.moved) (c.take_changes-changes.ensures.work ∙ c.take_manifolds-kept.ensures.rest) in
+    stayed_after_commands s w.bodies payloads work c.take_manifolds-kept.result.0 c.moved.result.now c.bodies.result.now c.deref-2.result.now
+    c.requires.follows c.take_manifolds-kept.ensures.taken.0 (c.bodies.ensures ∙ notes) (c.deref-2.ensures.value ∙ commanded)
+    (c.moved.ensures ∙ c.in_ok-list_moved.ensures.listed
+    ∙ (λ i. moved_bodies (c.take_manifolds-kept.ensures.taken.1 i) (listed_before i) ((ap length (c.as_slice-count.ensures.value ∙ of_world)) i)
+    (numbers_of c.bodies.result.now)))
+
+pub find_collisions-requires-clause-moved : goal.find_collisions-requires-clause-moved
+find_collisions-requires-clause-moved g c = (stayed g c).0
+
+pub find_collisions-requires-clause-others : goal.find_collisions-requires-clause-others
+find_collisions-requires-clause-others g c = (stayed g c).1
+
+pub returns-in_err-list_moved-clause-no_memory : goal.returns-in_err-list_moved-clause-no_memory
+returns-in_err-list_moved-clause-no_memory g c none _ =
+    let of_world = ap (λ (x : World). x.bodies) c.world.view_is in
+    let payloads = c.args.payloads.now in
+    let notes = c.in_ok-note_commanded.ensures.noted
+    ∙ ap₂ (λ (cs : List BodyChange) (bs : List BodyState). cs ++ changes_by_commands bs payloads)
+    c.take_changes-changes.ensures.changes (c.deref.ensures.value ∙ of_world) in
+    absurd (true≢false (sym (c.in_err-list_moved.ensures.no_memory (ap length (c.as_slice-count.ensures.value ∙ of_world ∙ none))
+    (c.bodies.ensures ∙ notes ∙ none_noted c.args.world.now.bodies body_of payloads none))))
+
+pub returns-in-Err-finish-clause-no_memory : goal.returns-in-Err-finish-clause-no_memory
+returns-in-Err-finish-clause-no_memory g c none =
+    let s = c.args.scene.now in
+    let w = c.args.world.now in
+    let payloads = c.args.payloads.now in
+    let of_world = ap (λ (x : World). x.bodies) c.world.view_is in
+    let commanded = with_items_is c.world.inside.bodies c.apply_all.new.bodies (c.apply_all.auto.bodies ∙ c.deref_mut.ensures.len)
+    ∙ c.apply_all.ensures ∙ ap₂ (λ fs bs. after_commands fs bs payloads) c.fixtures.ensures.value (c.deref_mut.ensures.value ∙ of_world) in
+    let notes = c.in_ok-note_commanded.ensures.noted
+    ∙ ap₂ (λ (cs : List BodyChange) (bs : List BodyState). cs ++ changes_by_commands bs payloads)
+    c.take_changes-changes.ensures.changes (c.deref.ensures.value ∙ of_world) in
+    other_error _ _
+    (c.in-Err-finish.ensures.no_memory
+    (commanded ∙ none_there (after_commands s.fixtures w.bodies payloads) (commands_length s.fixtures w.bodies payloads ∙ ap length none))
+    (notes ∙ none_noted w.bodies body_of payloads none))
+
+pub returns-in-Err-clause-step : goal.returns-in-Err-clause-step
+returns-in-Err-clause-step g c =
+    let s = c.args.scene.now in
+    let w = c.args.world.now in
+    let payloads = c.args.payloads.now in
+    let of_world = ap (λ (x : World). x.bodies) c.world.view_is in
+    let commanded = with_items_is c.world.inside.bodies c.apply_all.new.bodies (c.apply_all.auto.bodies ∙ c.deref_mut.ensures.len)
+    ∙ c.apply_all.ensures ∙ ap₂ (λ fs bs. after_commands fs bs payloads) c.fixtures.ensures.value (c.deref_mut.ensures.value ∙ of_world) in
+    let contacts = ap (λ (x : World). x.contacts) c.world.view_is in
+    let notes = c.in_ok-note_commanded.ensures.noted
+    ∙ ap₂ (λ (cs : List BodyChange) (bs : List BodyState). cs ++ changes_by_commands bs payloads)
+    c.take_changes-changes.ensures.changes (c.deref.ensures.value ∙ of_world) in
+    let undone = with_items_is (with_items c.world.inside.bodies c.apply_all.new.bodies) c.undo_bodies.new.bodies (c.undo_bodies.auto.bodies ∙ c.deref_mut-in-Err.ensures.len)
+    ∙ c.undo_bodies.ensures
+    ∙ commands_undone s.fixtures w.bodies _ payloads _ (c.bodies-in-Err.ensures ∙ notes) (c.deref_mut-in-Err.ensures.value ∙ commanded) in
+    let not_counted : c.list_moved.new.self ≡ record c.args.work.now {
+      manifolds = no_manifolds;
+      moved = c.list_moved.new.self.moved;
+      is_known = false;
+    } =
+    c.list_moved.ensures.rest
+    ∙ (λ i. record ((c.take_changes-changes.ensures.work ∙ c.take_manifolds-kept.ensures.rest) i) { moved = c.list_moved.new.self.moved }) in
+    record {
+      value = tt;
+      before = tt;
+      unchanged = ap₂ (λ bs cs. record { bodies = bs; contacts = cs }) undone contacts;
+      bodies = ap length undone ∙ c.requires.world;
+      counted = tt;
+      not_counted = not_counted;
+      follows = λ known. absurd (true≢false (sym known ∙ ap (λ (x : Work). x.is_known) not_counted));
+    }
+
+pub returns-in-Err-finish-clause-step : goal.returns-in-Err-finish-clause-step
+returns-in-Err-finish-clause-step g c =
+    let s = c.args.scene.now in
+    let w = c.args.world.now in
+    let payloads = c.args.payloads.now in
+    let of_world = ap (λ (x : World). x.bodies) c.world.view_is in
+    let commanded = with_items_is c.world.inside.bodies c.apply_all.new.bodies (c.apply_all.auto.bodies ∙ c.deref_mut.ensures.len)
+    ∙ c.apply_all.ensures ∙ ap₂ (λ fs bs. after_commands fs bs payloads) c.fixtures.ensures.value (c.deref_mut.ensures.value ∙ of_world) in
+    let contacts = ap (λ (x : World). x.contacts) c.world.view_is in
+    let notes = c.in_ok-note_commanded.ensures.noted
+    ∙ ap₂ (λ (cs : List BodyChange) (bs : List BodyState). cs ++ changes_by_commands bs payloads)
+    c.take_changes-changes.ensures.changes (c.deref.ensures.value ∙ of_world) in
+    let ending = c.in-Err-finish.ensures.ending in
+    let same = c.world-2.view_is ∙ ending.unchanged in
+    let bodies = c.deref_mut-in-Err-finish.ensures.value ∙ ap (λ (x : World). x.bodies) same in
+    let undone = with_items_is c.world-2.inside.bodies c.undo_bodies-in-Err-finish.new.bodies
+    (c.undo_bodies-in-Err-finish.auto.bodies ∙ c.deref_mut-in-Err-finish.ensures.len)
+    ∙ c.undo_bodies-in-Err-finish.ensures ∙ ap₂ bodies_before c.bodies-in-Err-finish.ensures bodies ∙ ending.undone
+    ∙ commands_undone s.fixtures w.bodies _ payloads _ notes commanded in
+    let work_before : c.list_moved.new.self ≡ record c.args.work.now {
+      manifolds = no_manifolds;
+      moved = c.list_moved.new.self.moved;
+      is_known = false;
+    } =
+    c.list_moved.ensures.rest
+    ∙ (λ i. record ((c.take_changes-changes.ensures.work ∙ c.take_manifolds-kept.ensures.rest) i) { moved = c.list_moved.new.self.moved }) in
+    let not_counted : c.finish.new.work ≡ record c.args.work.now {
+      manifolds = no_manifolds;
+      moved = c.finish.new.work.moved;
+      is_known = false;
+    } =
+    c.finish.ensures.work ∙ (λ i. record (work_before i) { moved = c.finish.new.work.moved }) in
+    record {
+      value = tt;
+      before = tt;
+      unchanged = ap₂ (λ bs cs. record { bodies = bs; contacts = cs }) undone
+          (ap (λ (x : World). x.contacts) same ∙ contacts);
+      bodies = ap length undone ∙ c.requires.world;
+      counted = tt;
+      not_counted = not_counted;
+      follows = λ known. absurd (true≢false (sym known ∙ ap (λ (x : Work). x.is_known) not_counted));
+    }
+
+pub returns-in-Err-finish-clause-failed : goal.returns-in-Err-finish-clause-failed
+returns-in-Err-finish-clause-failed g c =
+    let s = c.args.scene.now in
+    let w = c.args.world.now in
+    let payloads = c.args.payloads.now in
+    let of_world = ap (λ (x : World). x.bodies) c.world.view_is in
+    let commanded = with_items_is c.world.inside.bodies c.apply_all.new.bodies (c.apply_all.auto.bodies ∙ c.deref_mut.ensures.len)
+    ∙ c.apply_all.ensures ∙ ap₂ (λ fs bs. after_commands fs bs payloads) c.fixtures.ensures.value (c.deref_mut.ensures.value ∙ of_world) in
+    let contacts = ap (λ (x : World). x.contacts) c.world.view_is in
+    subst (λ (is : List Island). FailsBy g.C.Crew.may_fail c.args.crew.now is c.in-Err-finish.error c.finish.new.crew)
+    (ap₂ (λ (cs : List Contact) (bs : List BodyState). islands_of_bodies s cs bs) contacts commanded)
+    c.in-Err-finish.ensures.failed
