@@ -43,6 +43,13 @@ module _ (old : List PlacedShape) (spans : List Span) (touches : List Touch) (ar
       let ends : length touches ≡ 0 + length (flat_map (points_of_pair old) kept) = omega (arith, long) in
       subst (λ ss. ArePlaced 0 ss (length touches)) (sym are.placed) (placed_from old 0 (length touches) kept ends)
 
+  -- each span holds the points of its pair
+  pub hold_points : All (IsSpan old touches) spans
+  hold_points =
+      subst (All (IsSpan old touches)) (sym are.placed)
+      (spans_here old kept [] [] touches 0 refl (are.whole ∙ sym (append-nil _))
+      (All-map (IsPairOf MAX_BODIES) (λ (s : Span). s.pair) spans are.bodies))
+
   pub are_kept : (shapes : List PlacedShape) → All (IsKeptSpan shapes (unmoved_flags old shapes) touches) spans
   are_kept shapes =
       All-weaker (IsSpan old touches) (IsKeptSpan shapes (unmoved_flags old shapes) touches)
@@ -51,10 +58,7 @@ module _ (old : List PlacedShape) (spans : List Span) (touches : List Touch) (ar
         within = h.within;
         points = λ e. h.points ∙ unmoved_points old shapes s.pair (sym (flags_are old shapes s.pair) ∙ e);
       })
-      spans
-      (subst (All (IsSpan old touches)) (sym are.placed)
-      (spans_here old kept [] [] touches 0 refl (are.whole ∙ sym (append-nil _))
-      (All-map (IsPairOf MAX_BODIES) (λ (s : Span). s.pair) spans are.bodies)))
+      spans hold_points
 
 -- spans and points of all pairs, by the shapes of the bodies as they stand, are as they are kept
 pub kept_spans : (fixtures : List Fixture) (bodies : List BodyState) (shapes : List PlacedShape) (pairs : List Pair)

@@ -19,3 +19,4 @@ pub mod Updating
 pub mod Keeping
 pub mod Gathering
 pub mod PointsAtOnce
+pub mod OwnPoints

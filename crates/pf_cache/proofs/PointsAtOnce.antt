@@ -19,7 +19,8 @@ use Rattle.pf_cache.proofs.Refreshing.{points_more, spans_more}
 
 -- ---- points of one pair, and behind them those of later ones
 
-own : (p : Pair) → ((p.a == p.a) && (p.b == p.b)) ≡ true
+-- a pair passes its own test
+pub own : (p : Pair) → ((p.a == p.a) && (p.b == p.b)) ≡ true
 own p = rw ((Decides-eqb p.a p.a).1 refl, (Decides-eqb p.b p.b).1 refl) refl
 
 -- the points of a later pair are not of this one

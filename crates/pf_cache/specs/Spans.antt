@@ -80,6 +80,12 @@ pub record IsKeptSpan
   pub points : are_unmoved unmoved s.pair ≡ true
       → span_points touches s ≡ points_of_pair shapes s.pair
 
+-- the spans of these contact points: they stand one after the other, and each has points of its
+-- own pair alone
+pub record AreSpansOf (spans : List Span) (touches : List Touch) : Type 0 where
+  pub placed : ArePlaced 0 spans (length touches)
+  pub own : All (λ s. All (λ t. is_of_pair s.pair t ≡ true) (span_points touches s)) spans
+
 -- spans in the order of their pairs, each pair once, and their points one after the other
 pub record AreSpans (shapes : List PlacedShape) (list : List Span) (touches : List Touch)
     : Type 0 where

@@ -20,3 +20,4 @@ pub use contact::Contact;
 pub use contacts::Contacts;
 pub use manifolds::{Collisions, Manifolds};
 pub use meter::Meter;
+pub use spans::Span;

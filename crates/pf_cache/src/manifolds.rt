@@ -160,6 +160,7 @@ impl Manifolds {
     ghost use Rattle.pf_manifold.specs.Key.{AreTouches};
     ghost use Rattle.pf_cache.specs.PlacedBodies.{HaveStayed, bodies_of};
     ghost use Rattle.pf_cache.specs.Manifolds.{computed_count, kept_touches, manifolds_of, no_manifolds, placed_shapes};
+    ghost use Rattle.pf_cache.specs.Spans.{AreSpansOf};
 
     /// Nothing kept. Takes no memory.
     pub fn new(alloc: Global) -> Manifolds
@@ -180,6 +181,14 @@ impl Manifolds {
         ensures order { AreTouches result.now }
     {
         self.touches.as_slice()
+    }
+
+    /// The pairs whose contact points are kept, and where the points of each stand in the list of
+    /// all.
+    pub fn spans(&self) -> &[Span]
+        ensures { AreSpansOf result.now (kept_touches self.now) }
+    {
+        self.spans.as_slice()
     }
 
     /// The contact points of all pairs of bodies, at most one of them static, whose bounds overlap.
