@@ -1,24 +1,27 @@
 -- The rows of a tick.
-use Rattle.std.proofs.Common.{◌≡◌, append_assoc, ℕ, suc, ◌+◌, ◌<◌, ◌≤◌, Bool, true, false, not, ◌&&◌, ◌||◌, List, [], ◌∷◌, ◌++◌, Some, length, map, filter, take, take_all, get_or, cond, refl, ap, ap₂, sym, ◌∙◌, subst, arith, slice_get, if◌then◌else◌}
-use Rattle.std.proofs.lemmas.List.{append-nil, drop_all, drop_more, get_or_read, length-map, map_more}
+use Rattle.std.proofs.Common.{◌≡◌, ℕ, suc, ◌+◌, ◌<◌, ◌≤◌, Bool, true, false, not, ◌&&◌, ◌||◌, List, [], ◌∷◌, ◌++◌, Some, length, map, filter, take, take_all, get_or, cond, refl, ap, ap₂, sym, ◌∙◌, subst, arith, eqb-true, slice_get, if◌then◌else◌}
+use Rattle.std.proofs.lemmas.Bool.{and_parts}
+use Rattle.std.proofs.lemmas.List.{get_or_read, length-map, map_more}
 use Rattle.std.proofs.lemmas.List.FromFn.{get_or-enumerate_from, length-enumerate_from}
 use Rattle.std.proofs.Math.ListN.{get_or-map}
 use Rattle.std.proofs.lemmas.Simd.{map-map}
 use Rattle.std.proofs.lemmas.Option.{get_or_from_slice_get, slice_get-get_or, slice_get_within}
 use Rattle.std.proofs.lemmas.List.Elements.{All-nil, All-cons, All-filter, All-head, All-tail, All-map, All-weaker}
 use Rattle.std.specs.List.{enumerate_from}
-use Rattle.std.specs.Prelude.{All, drop}
+use Rattle.std.specs.Prelude.{All}
 use Rattle.pf_shapes.specs.Body.{BodyState, no_state}
+use Rattle.pf_shapes.specs.Pair.{Pair}
 use Rattle.pf_shapes.specs.Scene.{Scene, is_static_at}
 use Rattle.pf_manifold.specs.Key.{AreTouches, IsKey, IsRising, key_of, rank}
 use Rattle.pf_manifold.specs.Touches.{IsTouchOf, Touch}
 use Rattle.pf_manifold.proofs.Rising.{rising-weaken}
 use Rattle.pf_rows.specs.declared.row.Side.TheVariants.{Static, Dynamic}
 use Rattle.pf_cache.specs.Contact.{Contact, no_contact}
+use Rattle.pf_cache.specs.Spans.{is_of_pair}
 use Rattle.pf_rows.specs.Row.{AreApart, AreRows, IsSide, Row}
 use Rattle.pf_cache.specs.ContactRows.{AreRowsAt, IsRowAt}
-use Rattle.pf_islands.specs.Flags.{awake_flags, is_active_by}
-use Rattle.pf_islands.specs.Rows.{IsRowOf, active_points, active_rows, is_active_contact, is_awake_at, row_of, side_of}
+use Rattle.pf_islands.specs.Flags.{awake_flags, is_active_by, is_simulated_by}
+use Rattle.pf_islands.specs.Rows.{IsRowOf, active_points, active_rows, is_active_contact, is_awake_at, is_simulated_at, row_of, side_of}
 use Rattle.pf_islands.specs.Settled.{no_touch, touches_at}
 
 -- functions that agree where P holds
@@ -79,37 +82,6 @@ module _ (s : Scene) (bodies : List BodyState) where
           → All P (one_point k t e ++ points_from (k + 1) touches)
       by true here rest = All-cons P (k, t) (points_from (k + 1) touches) (here refl k) rest
       by false here rest = rest
-
-  -- the place of one point more, where it is simulated
-  pub points_next : (touches : List Touch) (k : ℕ) (t : Touch) (e : Bool) (made now all : List ℕ) → k < length touches
-      → t ≡ get_or touches k t → is_active_contact s bodies t ≡ e
-      → now ≡ made ++ (if e then k ∷ [] else [])
-      → made ++ map (λ (m : ℕ × Touch). m.0) (points_from k (drop k touches)) ≡ all
-      → now ++ map (λ (m : ℕ × Touch). m.0) (points_from (k + 1) (drop (k + 1) touches)) ≡ all
-  points_next touches k t e made now all within is active now_is before =
-      let rest : List (ℕ × Touch) = points_from (k + 1) (drop (k + 1) touches) in
-      ap (λ ns. ns ++ map (λ (m : ℕ × Touch). m.0) rest) now_is
-      ∙ append_assoc made (if e then k ∷ [] else []) (map (λ (m : ℕ × Touch). m.0) rest)
-      ∙ ap (λ ns. made ++ ns)
-      (by e rest
-      ∙ ap (λ d. map (λ (m : ℕ × Touch). m.0) (one_point k t d ++ rest)) (sym active)
-      ∙ sym (ap (map (λ (m : ℕ × Touch). m.0)) (points_cons k t (drop (k + 1) touches)))
-      ∙ ap (λ ts. map (λ (m : ℕ × Touch). m.0) (points_from k ts))
-      (ap (λ x. x ∷ drop (k + 1) touches) is ∙ sym (drop_more touches k t within)))
-      ∙ before
-    where
-      by : (d : Bool) (rest : List (ℕ × Touch))
-          → (if d then k ∷ [] else []) ++ map (λ (m : ℕ × Touch). m.0) rest
-          ≡ map (λ (m : ℕ × Touch). m.0) (one_point k t d ++ rest)
-      by true rest = refl
-      by false rest = refl
-
-  -- behind the last point there is none
-  pub none_left : (touches : List Touch) (k : ℕ) (made all : List ℕ) → length touches ≤ k
-      → made ++ map (λ (m : ℕ × Touch). m.0) (points_from k (drop k touches)) ≡ all → made ≡ all
-  none_left touches k made all over is =
-      sym (append-nil made)
-      ∙ ap (λ ts. made ++ map (λ (m : ℕ × Touch). m.0) (points_from k ts)) (sym (drop_all k touches over)) ∙ is
 
   -- their ranks rise as those of all contact points
   points_rise : (least k : ℕ) (touches : List Touch) → IsRising least (map (λ t. rank (key_of t)) touches)
@@ -317,10 +289,15 @@ pub flag_at : (bodies : List BodyState) (awake : List Bool) (k : ℕ) → awake 
 flag_at bodies awake k are =
     ap (λ fs. get_or fs k false) are ∙ get_or-map (λ (b : BodyState). b.awake) bodies k no_state
 
--- contacts are simulated as the flags say
-pub active_by : (s : Scene) (bodies : List BodyState) (awake : List Bool) (t : Touch) → awake ≡ awake_flags bodies
-    → is_active_by s awake t ≡ is_active_contact s bodies t
+-- a contact is simulated as the flags say of its pair
+pub active_as_pair : (s : Scene) (bodies : List BodyState) (t : Touch) (p : Pair) → is_of_pair p t ≡ true
+    → is_active_contact s bodies t ≡ is_active_by s (awake_flags bodies) p
 unfolding is_active_contact
-active_by s bodies awake t are =
-    ap₂ (λ x y. (not (is_static_at s t.a) && x) || (not (is_static_at s t.b) && y))
-    (flag_at bodies awake t.a are) (flag_at bodies awake t.b are)
+active_as_pair s bodies t p own =
+    let same = and_parts _ _ own in
+    ap₂ (λ x y. x || y) (simulated t.a p.a (eqb-true t.a p.a same.0)) (simulated t.b p.b (eqb-true t.b p.b same.1))
+  where
+    simulated : (i j : ℕ) → i ≡ j → is_simulated_at s bodies i ≡ is_simulated_by s (awake_flags bodies) j
+    simulated i j e =
+        ap (is_simulated_at s bodies) e
+        ∙ ap (λ x. not (is_static_at s j) && x) (sym (flag_at bodies (awake_flags bodies) j refl))

@@ -8,6 +8,7 @@ pub mod Chains
 pub mod Looked
 pub mod Sleeping
 pub mod ActiveRows
+pub mod ActiveSpans
 pub mod Members
 pub mod Dealing
 pub mod Elements

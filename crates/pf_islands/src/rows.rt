@@ -1,16 +1,18 @@
 //! The rows of a tick: the contacts that are simulated, as the solver takes them.
 
-ghost use Rattle.std.specs.Prelude.{◌≡◌, ◌<◌, [], true, All, length, IfOk, IsOk, IsTrue};
-ghost use Rattle.std.specs.List.{list_all};
+ghost use Rattle.std.specs.Prelude.{◌≡◌, ◌+◌, ◌^◌, ◌<◌, ◌≤◌, ◌++◌, [], true, All, length, vec_capacity, vec_len, IfOk, IsOk, IsTrue};
+ghost use Rattle.std.specs.List.{list_all, range_with_len};
+ghost use Rattle.pf_shapes.specs.Pair.{IsPairOf};
 ghost use Rattle.pf_manifold.specs.Touches.{IsTouchOf};
+ghost use Rattle.pf_cache.specs.Spans.{AreSpansOf};
 ghost use Rattle.pf_islands.specs.Flags.{awake_flags, is_active_by, is_simulated_by};
 ghost use Rattle.pf_islands.specs.Rows.{row_of, side_of};
 ghost use Rattle.pf_islands.specs.Settled.{active_places, touches_at, wakes_none};
 
-use pf_cache::Contact;
+use pf_cache::{Contact, Span};
 use pf_manifold::Touch;
 use pf_rows::{Entry, Row, Side};
-use pf_shapes::{BodyState, Scene};
+use pf_shapes::{BodyState, Pair, Scene};
 use std::alloc::{AllocError, Global};
 
 /// Where the body of a number stands for the solver.
@@ -64,15 +66,28 @@ fn is_simulated_by(scene: &Scene, awake: &[bool], number: usize) -> bool
     awake[number] && !scene.fixtures()[number].is_static()
 }
 
-/// Whether one of a contact's bodies is dynamic, and awake by these flags.
+/// Whether one of a pair's bodies is dynamic, and awake by these flags.
 #[inline]
-fn is_active_by(scene: &Scene, awake: &[bool], touch: &Touch) -> bool
+fn is_active_by(scene: &Scene, awake: &[bool], pair: &Pair) -> bool
     requires awake { length awake.now ≡ length scene.now.fixtures }
-    requires touch { IsTouchOf (length awake.now) touch.now }
-    ensures { result ≡ is_active_by scene.now awake.now touch.now }
+    requires pair { IsPairOf (length awake.now) pair.now }
+    ensures { result ≡ is_active_by scene.now awake.now pair.now }
 {
-    is_simulated_by(scene, awake, usize::from(touch.a))
-        || is_simulated_by(scene, awake, usize::from(touch.b))
+    is_simulated_by(scene, awake, pair.a) || is_simulated_by(scene, awake, pair.b)
+}
+
+/// Adds the places of a span's points, for which there is room.
+#[inline]
+fn push_places(places: &mut Vec<usize>, span: &Span)
+    requires number { span.now.start + span.now.len < 2 ^ 64 }
+    requires room { vec_len places.old + span.now.len ≤ vec_capacity places.old }
+    ensures items { places.new.items
+        ≡ places.old.items ++ range_with_len span.now.start span.now.len }
+    ensures room { vec_capacity places.new ≡ vec_capacity places.old }
+{
+    for place in span.start..span.start + span.len {
+        places.push_reserved(place);
+    }
 }
 
 /// What is simulated in a tick.
@@ -84,16 +99,19 @@ pub(crate) struct Active {
     pub places: Vec<usize>,
 }
 
-/// Which bodies are awake, and the places of the contacts that are simulated. Takes no memory where
-/// there are no bodies and no contact points.
+/// Which bodies are awake, and the places of the contacts that are simulated. `spans` are the pairs
+/// with their points, so that the points of a pair that sleeps are not looked at. Takes no memory
+/// where there are no bodies and no contact points.
 pub(crate) fn active_of(
     alloc: Global,
     scene: &Scene,
     bodies: &[BodyState],
     touches: &[Touch],
+    spans: &[Span],
 ) -> Result<Active, AllocError>
     requires bodies { length bodies.now ≡ length scene.now.fixtures }
     requires touches { All (IsTouchOf (length bodies.now)) touches.now }
+    requires spans { AreSpansOf spans.now touches.now }
     ensures awake { IfOk result (λ found. found.awake.items ≡ awake_flags bodies.now) }
     ensures places { IfOk result
         (λ found. found.places.items ≡ active_places scene.now bodies.now touches.now) }
@@ -103,9 +121,9 @@ pub(crate) fn active_of(
 {
     let awake = awake_flags(alloc, bodies)?;
     let mut places = Vec::with_capacity(alloc, touches.len())?;
-    for (place, touch) in touches.iter().enumerate() {
-        if is_active_by(scene, &awake, touch) {
-            places.push_reserved(place);
+    for span in spans {
+        if span.len > 0 && is_active_by(scene, &awake, &span.pair) {
+            push_places(&mut places, span);
         }
     }
     Ok(Active { awake, places })

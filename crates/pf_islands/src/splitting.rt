@@ -4,6 +4,7 @@ ghost use Rattle.std.specs.Prelude.{◌≡◌, ◌<◌, ◌≤◌, ◌==◌, ◌
 ghost use Rattle.std.specs.List.{range_with_len};
 ghost use Rattle.pf_rows.specs.Row.{IsSide};
 ghost use Rattle.pf_manifold.specs.Touches.{IsTouchOf};
+ghost use Rattle.pf_cache.specs.Spans.{AreSpansOf};
 ghost use Rattle.pf_islands.specs.Group.{groups as groups_of};
 ghost use Rattle.pf_islands.specs.Island.{members};
 ghost use Rattle.pf_islands.specs.Rows.{active_rows};
@@ -18,7 +19,7 @@ use crate::groups::Groups;
 use crate::island::Island;
 use crate::rows::{Active, active_of, row_of, wake_none};
 use crate::sizes::row_counts;
-use pf_cache::Contact;
+use pf_cache::{Contact, Span};
 use pf_manifold::Touch;
 use pf_rows::{Row, Side};
 use pf_shapes::{BodyState, Scene};
@@ -278,18 +279,21 @@ fn woken_bodies(
 /// theirs. The islands are made in the memory of the spare ones, whose bodies and contacts are
 /// gone. Takes no memory where there are no bodies and no contact points.
 ///
-/// In most ticks no contact wakes a body. Then only the contacts that are simulated are linked:
-/// what sleeps is not looked at.
+/// `spans` are the pairs with their points. In most ticks no contact wakes a body. Then only the
+/// contacts that are simulated are linked, and the contact points of a pair that sleeps are not
+/// looked at.
 pub fn wake_and_split(
     alloc: Global,
     spare: Vec<Island>,
     scene: &Scene,
     bodies: &[BodyState],
     touches: &[Touch],
+    spans: &[Span],
     contacts: &[Contact],
 ) -> Result<Vec<Island>, AllocError>
     requires bodies { length bodies.now ≡ length scene.now.fixtures }
     requires touches { All (IsTouchOf (length bodies.now)) touches.now }
+    requires spans { AreSpansOf spans.now touches.now }
     requires contacts { length contacts.now ≡ length touches.now }
     ensures value { let woken = woken_bodies (groups_of scene.now touches.now) bodies.now in
         IfOk result (λ found. found.items ≡ islands (groups_of scene.now touches.now) woken
@@ -297,12 +301,12 @@ pub fn wake_and_split(
     ensures fit { IfOk result (λ found. All (IsIslandOf scene.now) found.items) }
     ensures no_memory { bodies.now ≡ [] → touches.now ≡ [] → IsOk result }
 {
-    let active = active_of(alloc, scene, bodies, touches)?;
+    let active = active_of(alloc, scene, bodies, touches, spans)?;
     if wake_none(scene, bodies, touches, &active.places) {
         return split(alloc, spare, scene, bodies, touches, contacts, &active);
     }
     let woken = woken_bodies(alloc, scene, bodies, touches)?;
     let bodies = woken.as_slice();
-    let active = active_of(alloc, scene, bodies, touches)?;
+    let active = active_of(alloc, scene, bodies, touches, spans)?;
     split(alloc, spare, scene, bodies, touches, contacts, &active)
 }

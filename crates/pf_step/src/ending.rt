@@ -64,6 +64,7 @@ fn prepare(
         scene,
         &world.bodies,
         touches,
+        found.manifolds.spans(),
         contacts.as_slice(),
     )?;
     Ok(Tick { contacts, islands })

@@ -1,14 +1,13 @@
-use Rattle.std.proofs.Common.{◌≡◌, ◌≤◌, ◌++◌, ℕ, length, map, vec_capacity, vec_len}
+use Rattle.std.proofs.Common.{◌≡◌, ◌≤◌, ◌++◌, length, vec_capacity}
 use Rattle.std.specs.Prelude.{drop}
-use Rattle.pf_manifold.specs.Touches.{Touch}
-use Rattle.pf_islands.specs.Rows.{active_points}
-use Rattle.pf_islands.proofs.ActiveRows.{points_from}
+use Rattle.pf_islands.specs.Flags.{awake_flags}
+use Rattle.pf_islands.specs.Settled.{active_places}
+use Rattle.pf_islands.proofs.ActiveSpans.{places_of_spans}
 use Rattle.pf_islands.proofs.rows.active_of.Given as goal
 
-abbrev pub invariant-loop-place : goal.invariant-loop-place
-invariant-loop-place l = record {
-  made : l.places.items ++ map (λ (m : ℕ × Touch). m.0) (points_from l.scene l.bodies l.place (drop l.place l.touches))
-      ≡ map (λ (m : ℕ × Touch). m.0) (active_points l.scene l.bodies l.touches);
-  count : vec_len l.places ≤ l.place;
+abbrev pub invariant-loop-span : goal.invariant-loop-span
+invariant-loop-span l = record {
+  made : l.places.items ++ places_of_spans l.scene (awake_flags l.bodies) (drop l.span-index l.spans)
+      ≡ active_places l.scene l.bodies l.touches;
   room : length l.touches ≤ vec_capacity l.places;
 }
