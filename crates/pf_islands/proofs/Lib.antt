@@ -11,6 +11,7 @@ pub mod ActiveRows
 pub mod ActiveSpans
 pub mod Members
 pub mod Dealing
+pub mod AwakeNumbers
 pub mod Elements
 pub mod Together
 pub mod HomeAgain

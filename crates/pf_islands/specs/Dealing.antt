@@ -14,6 +14,12 @@ abbrev pub slot_of : List ℕ → List BodyState → ℕ → ℕ
 slot_of labels bodies label =
     length (filter (is_active_label labels bodies) (range_with_len 0 label))
 
+-- each label of a group that is simulated has the place of the group's island
+abbrev pub AreSlots : List ℕ → List BodyState → List ℕ → Type 0
+AreSlots labels bodies slots =
+    (i : ℕ) → i < length labels → is_active_label labels bodies i ≡ true
+    → slice_index_or slots i 0 ≡ slot_of labels bodies i
+
 -- an island with one body more
 abbrev pub with_body : ℕ → BodyState → Island → Island
 with_body number body i = record i {

@@ -5,7 +5,7 @@ ghost use Rattle.std.specs.List.{list_all, range_with_len};
 ghost use Rattle.pf_shapes.specs.Pair.{IsPairOf};
 ghost use Rattle.pf_manifold.specs.Touches.{IsTouchOf};
 ghost use Rattle.pf_cache.specs.Spans.{AreSpansOf};
-ghost use Rattle.pf_islands.specs.Flags.{awake_flags, is_active_by, is_simulated_by};
+ghost use Rattle.pf_islands.specs.Flags.{awake_flags, awake_numbers, is_active_by, is_simulated_by};
 ghost use Rattle.pf_islands.specs.Rows.{row_of, side_of};
 ghost use Rattle.pf_islands.specs.Settled.{active_places, touches_at, wakes_none};
 
@@ -43,17 +43,23 @@ pub(crate) fn row_of(scene: &Scene, place: usize, touch: &Touch, contact: &Conta
     })
 }
 
-/// For each body, whether it is awake. A list of flags is short, so that it can be read again and
-/// again. Takes no memory where there are no bodies.
-fn awake_flags(alloc: Global, bodies: &[BodyState]) -> Result<Vec<bool>, AllocError>
-    ensures value { IfOk result (λ awake. awake.items ≡ awake_flags bodies.now) }
+/// For each body whether it is awake, and the numbers of those that are, in ascending order. Both
+/// lists are short, so that they can be read again and again. Takes no memory where there are no
+/// bodies.
+fn awake_of(alloc: Global, bodies: &[BodyState]) -> Result<(Vec<bool>, Vec<usize>), AllocError>
+    ensures flags { IfOk result (λ found. found.0.items ≡ awake_flags bodies.now) }
+    ensures numbers { IfOk result (λ found. found.1.items ≡ awake_numbers bodies.now) }
     ensures no_memory { bodies.now ≡ [] → IsOk result }
 {
     let mut awake = Vec::with_capacity(alloc, bodies.len())?;
-    for body in bodies {
+    let mut numbers = Vec::with_capacity(alloc, bodies.len())?;
+    for (number, body) in bodies.iter().enumerate() {
         awake.push_reserved(body.awake);
+        if body.awake {
+            numbers.push_reserved(number);
+        }
     }
-    Ok(awake)
+    Ok((awake, numbers))
 }
 
 /// Whether the body of a number is dynamic, and awake by these flags.
@@ -95,6 +101,8 @@ fn push_places(places: &mut Vec<usize>, span: &Span)
 pub(crate) struct Active {
     /// For each body, whether it is awake.
     pub awake: Vec<bool>,
+    /// The numbers of the awake bodies, in ascending order.
+    pub numbers: Vec<usize>,
     /// The places of the contacts that are simulated.
     pub places: Vec<usize>,
 }
@@ -113,20 +121,25 @@ pub(crate) fn active_of(
     requires touches { All (IsTouchOf (length bodies.now)) touches.now }
     requires spans { AreSpansOf spans.now touches.now }
     ensures awake { IfOk result (λ found. found.awake.items ≡ awake_flags bodies.now) }
+    ensures numbers { IfOk result (λ found. found.numbers.items ≡ awake_numbers bodies.now) }
     ensures places { IfOk result
         (λ found. found.places.items ≡ active_places scene.now bodies.now touches.now) }
     ensures within { IfOk result
         (λ found. All (λ place. place < length touches.now) found.places.items) }
     ensures no_memory { bodies.now ≡ [] → touches.now ≡ [] → IsOk result }
 {
-    let awake = awake_flags(alloc, bodies)?;
+    let (awake, numbers) = awake_of(alloc, bodies)?;
     let mut places = Vec::with_capacity(alloc, touches.len())?;
     for span in spans {
         if span.len > 0 && is_active_by(scene, &awake, &span.pair) {
             push_places(&mut places, span);
         }
     }
-    Ok(Active { awake, places })
+    Ok(Active {
+        awake,
+        numbers,
+        places,
+    })
 }
 
 /// Whether a contact that is simulated wakes none of its bodies: one of them is static, or both are

@@ -8,11 +8,11 @@ ghost use Rattle.pf_cache.specs.Spans.{AreSpansOf};
 ghost use Rattle.pf_islands.specs.Group.{groups as groups_of};
 ghost use Rattle.pf_islands.specs.Island.{members};
 ghost use Rattle.pf_islands.specs.Rows.{active_rows};
-ghost use Rattle.pf_islands.specs.Flags.{awake_flags};
+ghost use Rattle.pf_islands.specs.Flags.{awake_flags, awake_numbers};
 ghost use Rattle.pf_islands.specs.Settled.{AreSettled, active_places};
 ghost use Rattle.pf_islands.specs.Sleep.{woken_bodies};
 ghost use Rattle.pf_islands.specs.Split.{AreWoken, IsIslandOf, active_labels, is_active_label, island_of, islands, no_island};
-ghost use Rattle.pf_islands.specs.Dealing.{ArePlaces, group_of_row, group_of_sides, placed_row, placed_side, slot_of, with_body, with_row};
+ghost use Rattle.pf_islands.specs.Dealing.{ArePlaces, AreSlots, group_of_row, group_of_sides, placed_row, placed_side, slot_of, with_body, with_row};
 
 use crate::forest::singles;
 use crate::groups::Groups;
@@ -24,17 +24,6 @@ use pf_manifold::Touch;
 use pf_rows::{Row, Side};
 use pf_shapes::{BodyState, Scene};
 use std::alloc::{AllocError, Global};
-
-/// Whether a body is awake and the least of its group, so that its number is the label.
-#[inline]
-fn is_active_label(labels: &[usize], awake: &[bool], number: usize) -> bool
-    requires number { number < length labels.now }
-    requires awake { length awake.now ≡ length labels.now }
-    ensures { result ≡ ((slice_index_or labels.now number 0 == number)
-        && slice_index_or awake.now number false) }
-{
-    labels[number] == number && awake[number]
-}
 
 /// Clears the island at a place, with memory for so many contacts; or adds such an island, if
 /// `place` is the length of the list.
@@ -57,32 +46,34 @@ fn clear_at(
 }
 
 /// An island without bodies for each group that is simulated, in the order of their labels, made in
-/// the memory of the spare islands; and for each body how many of these labels are less than its
-/// number.
+/// the memory of the spare islands; and at each of these labels the place of its island. `numbers`
+/// are those of the awake bodies.
 fn empty_islands(
     alloc: Global,
     spare: Vec<Island>,
     labels: &[usize],
     bodies: &[BodyState],
-    awake: &[bool],
+    numbers: &[usize],
     rows: &[usize],
 ) -> Result<(Vec<Island>, Vec<usize>), AllocError>
     requires bodies { length bodies.now ≡ length labels.now }
-    requires awake { awake.now ≡ awake_flags bodies.now }
+    requires numbers { numbers.now ≡ awake_numbers bodies.now }
     requires rows { length rows.now ≡ length labels.now }
     ensures islands { IfOk result
         (λ made. made.0.items ≡ map (λ label. no_island) (active_labels labels.now bodies.now)) }
-    ensures slots { IfOk result (λ made. made.1.items
-        ≡ map (slot_of labels.now bodies.now) (range_with_len 0 (length labels.now))) }
+    ensures slots { IfOk result (λ made. AreSlots labels.now bodies.now made.1.items) }
+    ensures as_many { IfOk result (λ made. length made.1.items ≡ length labels.now) }
     ensures no_memory { length labels.now ≡ 0 → IsOk result }
 {
     let mut islands = spare;
-    let mut slots = Vec::with_capacity(alloc, labels.len())?;
+    let mut slots = Vec::with_capacity(alloc, bodies.len())?;
+    slots.resize(bodies.len(), 0)?;
     let mut count = 0;
-    for number in 0..bodies.len() {
-        slots.push_reserved(count);
-        if is_active_label(labels, awake, number) {
+    for number in numbers {
+        let number = *number;
+        if labels[number] == number {
             clear_at(alloc, &mut islands, count, rows[number])?;
+            slots[number] = count;
             count += 1;
         }
     }
@@ -121,20 +112,21 @@ fn add_row(islands: &mut [Island], slot: usize, row: Row) -> Result<(), AllocErr
     island.add_row(row)
 }
 
-/// Adds each awake body to the island of its group, and notes its place there.
+/// Adds each awake body to the island of its group, and notes its place there. `numbers` are those
+/// of the awake bodies.
 fn deal_bodies(
     islands: &mut [Island],
     places: &mut [usize],
     slots: &[usize],
     labels: &[usize],
-    awake: &[bool],
+    numbers: &[usize],
     bodies: &[BodyState],
 ) -> Result<(), AllocError>
     requires bodies { length bodies.now ≡ length labels.now }
-    requires awake { awake.now ≡ awake_flags bodies.now }
+    requires numbers { numbers.now ≡ awake_numbers bodies.now }
     requires places { length places.old ≡ length labels.now }
-    requires slots { slots.now
-        ≡ map (slot_of labels.now bodies.now) (range_with_len 0 (length labels.now)) }
+    requires slots { AreSlots labels.now bodies.now slots.now }
+    requires as_many { length slots.now ≡ length labels.now }
     requires labelled { All (λ label. label < length labels.now) labels.now }
     requires woken_bodies { AreWoken labels.now bodies.now }
     requires empty { islands.old ≡ map (λ label. no_island) (active_labels labels.now bodies.now) }
@@ -144,11 +136,10 @@ fn deal_bodies(
     ensures places { OnOk result (ArePlaces labels.now bodies.now places.new) }
     ensures no_memory { bodies.now ≡ [] → IsOk result }
 {
-    for number in 0..bodies.len() {
-        if awake[number] {
-            let slot = slots[labels[number]];
-            places[number] = add_body(islands, slot, number, &bodies[number])?;
-        }
+    for number in numbers {
+        let number = *number;
+        let slot = slots[labels[number]];
+        places[number] = add_body(islands, slot, number, &bodies[number])?;
     }
     Ok(())
 }
@@ -222,6 +213,7 @@ fn split(
     requires contacts { length contacts.now ≡ length touches.now }
     requires settled { AreSettled scene.now bodies.now touches.now }
     requires awake { active.now.awake.items ≡ awake_flags bodies.now }
+    requires numbers { active.now.numbers.items ≡ awake_numbers bodies.now }
     requires active { active.now.places.items ≡ active_places scene.now bodies.now touches.now }
     requires within { All (λ place. place < length touches.now) active.now.places.items }
     ensures value { IfOk result (λ found. found.items
@@ -231,14 +223,15 @@ fn split(
     ensures no_memory { bodies.now ≡ [] → touches.now ≡ [] → IsOk result }
 {
     let awake = active.awake.as_slice();
+    let numbers = active.numbers.as_slice();
     let simulated = active.places.as_slice();
     let groups = Groups::new(alloc, scene, touches, simulated)?;
     let labels = groups.labels();
     let rows = row_counts(alloc, labels, awake, touches, simulated)?;
-    let (mut made, slots) = empty_islands(alloc, spare, labels, bodies, awake, &rows)?;
+    let (mut made, slots) = empty_islands(alloc, spare, labels, bodies, numbers, &rows)?;
     let mut places = Vec::with_capacity(alloc, labels.len())?;
     places.resize(labels.len(), 0)?;
-    deal_bodies(&mut made, &mut places, &slots, labels, awake, bodies)?;
+    deal_bodies(&mut made, &mut places, &slots, labels, numbers, bodies)?;
     for place in simulated {
         let place = *place;
         let row = row_of(scene, place, &touches[place], &contacts[place]);
@@ -280,8 +273,8 @@ fn woken_bodies(
 /// gone. Takes no memory where there are no bodies and no contact points.
 ///
 /// `spans` are the pairs with their points. In most ticks no contact wakes a body. Then only the
-/// contacts that are simulated are linked, and the contact points of a pair that sleeps are not
-/// looked at.
+/// contacts that are simulated are linked, and only awake bodies are added to islands: of what
+/// sleeps each body is looked at once, and no contact point.
 pub fn wake_and_split(
     alloc: Global,
     spare: Vec<Island>,

@@ -21,7 +21,7 @@ loop-span-init c = record {
 pub is_active_by-requires-clause-pair : goal.is_active_by-requires-clause-pair
 is_active_by-requires-clause-pair c =
     let bodies = c.args.bodies.now in
-    let flags = ap length (c.deref.ensures.value ∙ c.in_ok-awake.ensures.value) ∙ length-map bodies (λ (b : BodyState). b.awake) in
+    let flags = ap length (c.deref.ensures.value ∙ c.in_ok-awake.ensures.flags) ∙ length-map bodies (λ (b : BodyState). b.awake) in
     subst (λ n. IsPairOf n c.span.inside.pair) (sym flags)
     (subst (λ (x : Span). IsPairOf (length bodies) x.pair) (sym c.span.view_is)
     (pair_within c.args.touches.now c.args.spans.now c.requires.spans c.loop-span.span-index c.span-item.result
@@ -40,7 +40,7 @@ push_places-requires-clause-room c =
     let bodies = c.args.bodies.now in
     let touches = c.args.touches.now in
     let active = sym c.is_active_by.ensures ∙ c.if-is_active_by.true in
-    let flags = c.deref.ensures.value ∙ c.in_ok-awake.ensures.value in
+    let flags = c.deref.ensures.value ∙ c.in_ok-awake.ensures.flags in
     let room = has_room s (awake_flags bodies) c.args.spans.now c.loop-span.span-index c.span-item.result
     c.loop-span-test.true c.span-item.is c.loop-span.places.items (active_places s bodies touches) c.loop-span.invariant.made
     (sym (ap₂ (λ fs (x : Span). is_active_by s fs x.pair) flags c.span.view_is) ∙ active) in
@@ -59,7 +59,7 @@ loop-span-preserved c =
     record {
       made = elim c.if-span-gt0.branch [
         | then-span-gt0+then-is_active_by w ↦
-            let flags = w.deref.ensures.value ∙ c.in_ok-awake.ensures.value in
+            let flags = w.deref.ensures.value ∙ c.in_ok-awake.ensures.flags in
             places_added s awake spans i x c.loop-span-test.true c.span-item.is made all c.loop-span.invariant.made _
             (ap (λ (v : Vec ℕ Global). v.items) w.places-is ∙ w.push_places.ensures.items)
             (sym (ap₂ (λ fs (y : Span). is_active_by s fs y.pair) flags c.span.view_is)
@@ -69,7 +69,7 @@ loop-span-preserved c =
             (ap (λ (v : Vec ℕ Global). v.items) w.places-is)
             (elim w.else-span-gt0.branch [
               | else-span-gt0-via-then-span-gt0+else-is_active_by v ↦
-                  let flags = v.deref.ensures.value ∙ c.in_ok-awake.ensures.value in
+                  let flags = v.deref.ensures.value ∙ c.in_ok-awake.ensures.flags in
                   not_active s awake x
                   (sym (ap₂ (λ fs (y : Span). is_active_by s fs y.pair) flags c.span.view_is)
                   ∙ sym v.is_active_by.ensures ∙ v.if-is_active_by.false)

@@ -1,45 +1,71 @@
-use Rattle.std.proofs.Common.{rules, ◌≡◌, ◌==◌, ◌&&◌, get_or, ◌∙◌, ◌+◌, ◌++◌, ◌∷◌, [], ap, ap₂, append-nil, arith, sym, true, false}
-use Rattle.std.proofs.lemmas.List.FromFn.{map-range_with_len_more}
-use Rattle.pf_islands.specs.Dealing.{slot_of}
-use Rattle.pf_islands.specs.Split.{is_active_label, no_island}
-use Rattle.pf_islands.proofs.ActiveRows.{flag_at}
-use Rattle.pf_islands.proofs.Dealing.{made_more, slot_more}
-use Rattle.pf_islands.proofs.splitting.empty_islands.Goals.{then-is_active_label+in_ok-clear_at, else-is_active_label}
+use Rattle.std.proofs.Common.{rules, ◌∙◌, ◌+◌, get_or, set, length-set, arith, true, false}
+use Rattle.std.proofs.lemmas.Bool.{eq-eqb, ne_eqb}
+use Rattle.pf_islands.proofs.AwakeNumbers.{AreEmptied, asleep_inactive, at_first, at_next, at_number, awake_active, emptied_more, emptied_same, none_emptied, number_awake, number_low}
+use Rattle.pf_islands.proofs.splitting.empty_islands.Goals.{then-labels-number+in_ok-clear_at, else-labels-number}
 use Rattle.pf_islands.proofs.splitting.empty_islands.Goals as goal
+
+pub loop-number-init : goal.loop-number-init
+loop-number-init c =
+    let labels = c.args.labels.now in
+    let bodies = c.args.bodies.now in
+    let islands = c.args.spare.items in
+    let slots = c.resize.new.self.items in
+    record {
+      emptied = at_first bodies c.args.numbers.now c.requires.numbers (AreEmptied labels bodies islands 0 slots)
+          (λ j below asleep h. emptied_same labels bodies islands 0 slots j (asleep_inactive labels bodies j asleep) h)
+          (none_emptied labels bodies islands slots);
+      within = search rules;
+      long = search rules;
+    }
+
+pub offset_bounds-labels-number : goal.offset_bounds-labels-number
+offset_bounds-labels-number c =
+    let low = number_low c.args.bodies.now c.args.numbers.now c.requires.numbers c.loop-number.number-index 0 c.loop-number-test.true in
+    search (rules, low, c.requires.bodies)
+
+pub bounds-labels-number : goal.bounds-labels-number
+bounds-labels-number c =
+    let low = number_low c.args.bodies.now c.args.numbers.now c.requires.numbers c.loop-number.number-index 0 c.loop-number-test.true in
+    omega (arith, low, c.requires.bodies)
 
 pub loop-number-preserved : goal.loop-number-preserved
 loop-number-preserved c =
     let labels = c.args.labels.now in
     let bodies = c.args.bodies.now in
-    let k = c.loop-number.number in
-    let active_is : is_active_label labels bodies k ≡ ((get_or labels k 0 == k) && get_or c.args.awake.now k false) =
-    sym (ap (λ t. (get_or labels k 0 == k) && t) (flag_at bodies c.args.awake.now k c.requires.awake)) in
+    let numbers = c.args.numbers.now in
+    let i = c.loop-number.number-index in
+    let k = get_or numbers i 0 in
+    let test = c.loop-number-test.true in
+    let low = number_low bodies numbers c.requires.numbers i 0 test in
+    let awake = number_awake bodies numbers c.requires.numbers i 0 test in
+    let before = at_number bodies numbers c.requires.numbers
+    (AreEmptied labels bodies c.loop-number.islands.items c.loop-number.count c.loop-number.slots.items) i test
+    c.loop-number.invariant.emptied in
     record {
-      islands = elim c.if-is_active_label.branch [
-        | then-is_active_label+in_ok-clear_at w ↦ rw w.islands-is (rw w.count-is
-            (w.in_ok-clear_at.ensures.cleared ∙ ap (λ xs. xs ++ no_island ∷ []) c.loop-number.invariant.islands
-            ∙ sym (made_more labels bodies k true (active_is ∙ sym w.if-is_active_label.ensures))))
-        | else-is_active_label w ↦ rw w.islands-is (rw w.count-is
-            (c.loop-number.invariant.islands ∙ sym (append-nil _)
-            ∙ sym (made_more labels bodies k false (active_is ∙ sym w.if-is_active_label.ensures))))
+      emptied = elim c.if-labels-number.branch [
+        | then-labels-number+in_ok-clear_at w ↦ rw w.islands-is (rw w.slots-is (rw w.count-is
+            (at_next bodies numbers c.requires.numbers
+            (AreEmptied labels bodies w.clear_at.new.islands.items (c.loop-number.count + 1)
+            (set c.loop-number.slots.items k c.loop-number.count))
+            (λ j below asleep h. emptied_same labels bodies _ _ _ j (asleep_inactive labels bodies j asleep) h) i test
+            (emptied_more labels bodies c.loop-number.islands.items w.clear_at.new.islands.items c.loop-number.count
+            c.loop-number.slots.items k (omega (arith, low, c.requires.bodies, c.loop-number.invariant.long))
+            (awake_active labels bodies k true awake (eq-eqb (get_or labels k 0) k w.if-labels-number.true))
+            w.in_ok-clear_at.ensures.cleared before))))
+        | else-labels-number w ↦ rw w.islands-is (rw w.slots-is (rw w.count-is
+            (at_next bodies numbers c.requires.numbers
+            (AreEmptied labels bodies c.loop-number.islands.items c.loop-number.count c.loop-number.slots.items)
+            (λ j below asleep h. emptied_same labels bodies _ _ _ j (asleep_inactive labels bodies j asleep) h) i test
+            (emptied_same labels bodies _ _ _ k (awake_active labels bodies k false awake (ne_eqb (get_or labels k 0) k w.if-labels-number.false)) before))))
       ];
-      within = elim c.if-is_active_label.branch [
-        | then-is_active_label+in_ok-clear_at w ↦ rw w.islands-is (rw w.count-is
+      within = elim c.if-labels-number.branch [
+        | then-labels-number+in_ok-clear_at w ↦ rw w.islands-is (rw w.count-is
             (let inside = w.in_ok-clear_at.ensures.within in omega (arith, inside)))
-        | else-is_active_label w ↦ rw w.islands-is (rw w.count-is (c.loop-number.invariant.within))
+        | else-labels-number w ↦ rw w.islands-is (rw w.count-is (c.loop-number.invariant.within))
       ];
-      made = elim c.if-is_active_label.branch [
-        | then-is_active_label+in_ok-clear_at w ↦ rw w.count-is
-            (ap (λ n. n + 1) c.loop-number.invariant.made
-            ∙ sym (slot_more labels bodies k true (active_is ∙ sym w.if-is_active_label.ensures)))
-        | else-is_active_label w ↦ rw w.count-is
-            (let same = c.loop-number.invariant.made in
-            let more = slot_more labels bodies k false (active_is ∙ sym w.if-is_active_label.ensures) in
-            omega (arith, same, more))
+      long = elim c.if-labels-number.branch [
+        | then-labels-number+in_ok-clear_at w ↦ rw w.slots-is
+            (length-set c.loop-number.slots.items k c.loop-number.count ∙ c.loop-number.invariant.long)
+        | else-labels-number w ↦ rw w.slots-is c.loop-number.invariant.long
       ];
-      slots = c.push_reserved.ensures.items
-          ∙ ap₂ (λ xs n. xs ++ n ∷ []) c.loop-number.invariant.slots c.loop-number.invariant.made
-          ∙ sym (map-range_with_len_more (slot_of labels bodies) 0 k k (omega arith));
-      count = search rules;
-      room = search rules;
     }

@@ -1,9 +1,8 @@
 use Rattle.std.proofs.Common.{◌≡◌, ◌∙◌, refl, [], ◌∷◌, ◌++◌, List, ap, arith, get_or, length, map, set, subst, sym, take}
 use Rattle.std.specs.Prelude.{All}
 use Rattle.std.proofs.lemmas.List.{length-map, map_more, with_items_is}
-use Rattle.std.proofs.lemmas.List.FromFn.{get_or-map-range_with_len, length-map-range_with_len}
 use Rattle.pf_rows.specs.Row.{Row}
-use Rattle.pf_islands.specs.Dealing.{ArePlaces, group_of_row, placed_row, slot_of, with_row}
+use Rattle.pf_islands.specs.Dealing.{ArePlaces, group_of_row, placed_row, with_row}
 use Rattle.pf_islands.specs.Rows.{active_rows}
 use Rattle.pf_islands.specs.Split.{IsIslandOf, active_labels, no_island}
 use Rattle.pf_islands.proofs.ActiveRows.{all_made, row_at, rows_fit}
@@ -67,9 +66,7 @@ deal_row-requires-clause-second c =
     read.0.second
 
 pub deal_row-requires-clause-slots : goal.deal_row-requires-clause-slots
-deal_row-requires-clause-slots c =
-    ap length (c.deref-in-loop-place.ensures.value ∙ c.in_ok-made.ensures.slots)
-    ∙ length-map-range_with_len (slot_of c.labels-labels.result.now c.args.bodies.now) 0 (length c.labels-labels.result.now)
+deal_row-requires-clause-slots c = ap length c.deref-in-loop-place.ensures.value ∙ c.in_ok-made.ensures.as_many
 
 pub deal_row-requires-clause-group : goal.deal_row-requires-clause-group
 deal_row-requires-clause-group c =
@@ -108,8 +105,8 @@ deal_row-requires-clause-slot c =
     (c.as_slice-simulated.ensures.value ∙ c.requires.active) labelled_by in
     let own = group_active labels bodies c.row_of-row.result labelled woken_bodies read.0 in
     let label = group_of_row labels c.row_of-row.result in
-    let slot = ap (λ xs. get_or xs label 0) (c.deref-in-loop-place.ensures.value ∙ c.in_ok-made.ensures.slots)
-    ∙ get_or-map-range_with_len (slot_of labels bodies) 0 (length labels) label label 0 own.0 (omega arith) in
+    let slot = ap (λ xs. get_or xs label 0) c.deref-in-loop-place.ensures.value
+    ∙ c.in_ok-made.ensures.slots label own.0 own.1 in
     let rows : List Row = map (row_at c.args.scene.now c.args.touches.now c.args.contacts.now) (take c.loop-place.place-index items) in
     let within = slot_within labels bodies (full_part labels bodies rows) label own.0 own.1 in
     let lent = ap length (c.deref_mut-in-loop-place.ensures.value ∙ c.loop-place.invariant) in
@@ -133,8 +130,8 @@ loop-place-preserved c =
     (c.as_slice-simulated.ensures.value ∙ c.requires.active) labelled_by in
     let own = group_active labels bodies c.row_of-row.result labelled woken_bodies read.0 in
     let label = group_of_row labels c.row_of-row.result in
-    let slot = ap (λ xs. get_or xs label 0) (c.deref-in-loop-place.ensures.value ∙ c.in_ok-made.ensures.slots)
-    ∙ get_or-map-range_with_len (slot_of labels bodies) 0 (length labels) label label 0 own.0 (omega arith) in
+    let slot = ap (λ xs. get_or xs label 0) c.deref-in-loop-place.ensures.value
+    ∙ c.in_ok-made.ensures.slots label own.0 own.1 in
     let row = c.row_of-row.result in
     let at = row_at c.args.scene.now c.args.touches.now c.args.contacts.now in
     let k = c.loop-place.place-index in

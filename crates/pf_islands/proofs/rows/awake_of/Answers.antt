@@ -1,0 +1,29 @@
+use Rattle.std.proofs.Common.{rules, ◌∙◌, ◌∷◌, ◌++◌, [], ℕ, Global, Vec, true, false, ap, ap₂, append-nil, sym}
+use Rattle.std.proofs.lemmas.List.{get_or_read, map_more}
+use Rattle.pf_shapes.specs.Body.{BodyState, no_state}
+use Rattle.pf_islands.proofs.AwakeNumbers.{numbers_more}
+use Rattle.pf_islands.proofs.rows.awake_of.Goals.{then-body, else-body}
+use Rattle.pf_islands.proofs.rows.awake_of.Goals as goal
+
+pub loop-number-preserved : goal.loop-number-preserved
+loop-number-preserved c =
+    let bodies = c.args.bodies.now in
+    let k = c.loop-number.number in
+    let body = get_or_read bodies k c.index-bodies-number.result c.loop-number-test.true c.index-bodies-number.is no_state in
+    let awake_is = sym (ap (λ (b : BodyState). b.awake) body) ∙ sym (ap (λ (b : BodyState). b.awake) c.body.view_is) in
+    record {
+      flags = c.push_reserved.ensures.items
+          ∙ ap₂ (λ fs f. fs ++ f ∷ []) c.loop-number.invariant.flags (sym awake_is)
+          ∙ sym (map_more (λ (b : BodyState). b.awake) bodies k no_state c.loop-number-test.true);
+      numbers = elim c.if-body.branch [
+        | then-body w ↦ ap (λ (v : Vec ℕ Global). v.items) w.numbers-is ∙ w.push_reserved-then-body.ensures.items
+            ∙ ap (λ ns. ns ++ k ∷ []) c.loop-number.invariant.numbers
+            ∙ sym (numbers_more bodies k true (awake_is ∙ w.if-body.true))
+        | else-body w ↦ ap (λ (v : Vec ℕ Global). v.items) w.numbers-is ∙ c.loop-number.invariant.numbers
+            ∙ sym (append-nil _) ∙ sym (numbers_more bodies k false (awake_is ∙ w.if-body.false))
+      ];
+      count = search rules;
+      few = search rules;
+      room = search rules;
+      other_room = search rules;
+    }
