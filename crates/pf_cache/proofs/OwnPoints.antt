@@ -6,7 +6,8 @@ use Rattle.pf_shapes.specs.Pair.{Pair}
 use Rattle.pf_manifold.specs.Collide.{collide}
 use Rattle.pf_manifold.specs.PlacedShape.{PlacedShape}
 use Rattle.pf_manifold.specs.Touches.{Touch, touch_of, touches_between}
-use Rattle.pf_cache.specs.Manifolds.{kept_touches}
+use Rattle.std.specs.List.{flat_map}
+use Rattle.pf_cache.specs.Manifolds.{points_of_pair}
 use Rattle.pf_cache.specs.Spans.{AreSpans, AreSpansOf, IsSpan, Span, is_of_pair, span_points}
 use Rattle.pf_cache.proofs.Keeping.{are_placed, hold_points}
 use Rattle.pf_cache.proofs.PointsAtOnce.{own}
@@ -23,7 +24,7 @@ between_own p None m = All-nil (λ t. is_of_pair p t ≡ true)
 
 -- the spans that are kept are those of the kept points
 pub spans_of_kept : (shapes : List PlacedShape) (spans : List Span) (touches : List Touch) → AreSpans shapes spans touches
-    → AreSpansOf spans (kept_touches (record { shapes = shapes; pairs = map (λ (s : Span). s.pair) spans }))
+    → AreSpansOf spans (flat_map (points_of_pair shapes) (map (λ (s : Span). s.pair) spans))
 spans_of_kept shapes spans touches are =
     subst (AreSpansOf spans) are.whole
     (record {
