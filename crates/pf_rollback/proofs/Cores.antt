@@ -1,7 +1,9 @@
 -- What the type of peer cores keeps, through each call.
 use Rattle.std.proofs.Common.{◌≡◌, ℕ, zero, suc, ◌+◌, ◌<◌, ◌≤◌, ◌⊎◌, Bool, true, false, max, length, ◌^◌, List, Option, Some, None, Result, Ok, Err, OnErr, OnOk, if◌then◌else◌, refl, ap, sym, ◌∙◌, subst, ⊎_elim, arith}
 use Rattle.std.specs.Prelude.{IfSome}
+use Rattle.std.proofs.lemmas.Bool.{true≢false}
 use Rattle.std.specs.FinMap.{entries, empty}
+use Rattle.pf_shapes.specs.Body.{BodyState}
 use Rattle.pf_shapes.specs.Scene.{Scene}
 use Rattle.pf_shapes.specs.declared.fixture.TheConstants.{PLAYERS}
 use Rattle.pf_commands.specs.declared.payload.Command.{Command}
@@ -14,6 +16,7 @@ use Rattle.pf_commands.proofs.Since.{IsFrom-from, is_from-IsFrom}
 use Rattle.pf_commands.proofs.Ticks.{payloads_at-other, payloads_at-before}
 use Rattle.pf_step.specs.Simulation.{sim}
 use Rattle.pf_step.specs.Step.{step}
+use Rattle.pf_step.specs.Work.{Follows, Work}
 use Rattle.pf_step.specs.World.{World, start_of}
 use Rattle.pf_cache.specs.Meter.{Meter, saturating_sum}
 use Rattle.pf_islands.specs.Split.{Island}
@@ -22,7 +25,7 @@ use Rattle.pf_rollback.specs.Horizon.{sim_at}
 use Rattle.pf_rollback.specs.Kept.{Ticks, no_ticks, settled_tick, ticks_after_more, ticks_after_settling}
 use Rattle.pf_rollback.specs.Peer.{Peer, with_command, with_commands, world_at, world_of}
 use Rattle.pf_rollback.specs.Settling.{AreCalls, islands_at}
-use Rattle.pf_rollback.specs.Snapshots.{Snapshots, IsKept, kept_world, ticks_of}
+use Rattle.pf_rollback.specs.Snapshots.{Snapshots, IsKept, kept_world, settled_world, ticks_of}
 use Rattle.pf_rollback.proofs.Allowed.{allowed_empty, allowed_from, allowed_put, allowed_merge}
 use Rattle.pf_rollback.proofs.KeptWorlds.{horizon_low}
 use Rattle.pf_rollback.proofs.Late.{from_none, from_put, from_merge}
@@ -329,3 +332,14 @@ ok_both (Err fault) f a b = tt
 pub err_both : {A E P Q R : Type 0} (r : Result A E) → (P → Q → R) → OnErr r P → OnErr r Q → OnErr r R
 err_both (Ok value) f a b = tt
 err_both (Err fault) f a b = f a b
+
+-- ---- what a work knows of moved bodies
+
+-- where it is not known which bodies have moved
+pub unknown_follows : (s : Scene) (bodies : List BodyState) (work : Work) → work.is_known ≡ false → Follows s bodies work
+unknown_follows s bodies work unknown known = absurd (true≢false (sym known ∙ unknown))
+
+-- after room is made
+pub follows_reserved : (s : Scene) (work : Work) (kept after : Snapshots) → after ≡ record kept { room = after.room }
+    → Follows s (settled_world kept).bodies work → Follows s (settled_world after).bodies work
+follows_reserved s work kept after same = subst (λ k. Follows s (settled_world k).bodies work) (sym same)

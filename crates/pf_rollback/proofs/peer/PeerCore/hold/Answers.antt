@@ -6,10 +6,10 @@ use Rattle.pf_rollback.proofs.Cores.{core_put}
 use Rattle.pf_rollback.proofs.Late.{put_late}
 use Rattle.pf_rollback.proofs.peer.PeerCore.hold.Goals as goal
 
-tick : (c : goal.After-tick_of_news) → c.tick_of_news.result ≡ news_tick c.self.inside.commands c.args.command.now
+tick : (c : goal.After-drop_after_news-arg-2-1) → c.tick_of_news-least.result ≡ news_tick c.self.inside.commands c.args.command.now
 tick c =
     let command = c.args.command.now in
-    c.tick_of_news.ensures
+    c.tick_of_news-least.ensures
     ∙ ap (λ put. if is_change put then Some c.tick.result else None) c.in_ok-put.ensures.outcome
     ∙ ap (λ t. if is_news c.self.inside.commands (command.name, command.payload) then Some t else None) c.tick.ensures.value
 
@@ -23,6 +23,9 @@ invariant_of-self-2 c =
     let command = c.args.command.now in
     let checked = ap (λ (core : PeerCore). check core.scene command.name command.payload) c.self.view_is ∙ c.requires.allowed in
     let late = rw (← c.self.view_is) at c.requires.horizon in
-    rw c.in_ok-put.ensures.ok
-    (core_put _ _ _ _ _ _ command _ c.self.invariant.0 checked late (tick c.before) c.drop_after_news.ensures.base
-    c.drop_after_news.ensures.worlds c.drop_after_news.ensures.lower)
+    (
+      rw c.in_ok-put.ensures.ok
+          (core_put _ _ _ _ _ _ command _ c.self.invariant.0 checked late (tick c.before) c.drop_after_news.ensures.base
+          c.drop_after_news.ensures.worlds c.drop_after_news.ensures.lower),
+      c.drop_after_news.ensures.follows c.self.inside.scene c.self.invariant.1,
+    )

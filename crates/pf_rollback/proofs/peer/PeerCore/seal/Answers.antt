@@ -1,8 +1,9 @@
 use Rattle.std.proofs.Common.{◌≡◌, ◌≤◌, ◌-◌, refl, ap, sym, ◌∙◌, arith}
 use Rattle.pf_rollback.specs.Core.{count_after}
 use Rattle.pf_rollback.specs.Kept.{nearest_tick}
-use Rattle.pf_rollback.specs.Snapshots.{ticks_of}
-use Rattle.pf_rollback.proofs.Cores.{core_sealed, count_none}
+use Rattle.pf_rollback.specs.Snapshots.{settled_world, ticks_of}
+use Rattle.pf_step.specs.Work.{Work}
+use Rattle.pf_rollback.proofs.Cores.{core_sealed, count_none, unknown_follows}
 use Rattle.pf_rollback.proofs.Seals.{seal_again}
 use Rattle.pf_rollback.proofs.Settling.{nearest-from_horizon}
 use Rattle.pf_rollback.proofs.peer.PeerCore.seal.Goals as goal
@@ -27,5 +28,9 @@ returns-then-tick-horizon-2-clause-counted c =
 pub invariant_of-self-2 : goal.invariant_of-self-2
 invariant_of-self-2 c =
     let later : c.self.inside.snapshots.horizon ≤ c.args.tick = omega (arith, c.horizon-horizon.ensures.value, c.if-tick-horizon.false) in
-    core_sealed _ _ _ _ _ _ _ c.args.tick _ c.self.invariant.0 later c.if-tick-self.false c.in_ok-world.ensures.value c.drop_before.ensures
-    c.seal.ensures.base c.seal.ensures.worlds c.seal.ensures.settled
+    (
+      core_sealed _ _ _ _ _ _ _ c.args.tick _ c.self.invariant.0 later c.if-tick-self.false c.in_ok-world.ensures.value c.drop_before.ensures
+          c.seal.ensures.base c.seal.ensures.worlds c.seal.ensures.settled,
+      unknown_follows c.self.inside.scene (settled_world c.seal.new.self).bodies c.forget_moved.new.self
+          (ap (λ (w : Work). w.is_known) c.forget_moved.ensures),
+    )

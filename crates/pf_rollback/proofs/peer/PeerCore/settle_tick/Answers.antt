@@ -10,19 +10,21 @@ use Rattle.pf_step.specs.Step.{step}
 use Rattle.pf_commands.specs.Merge.{payloads_at}
 use Rattle.pf_rollback.specs.Kept.{settled_tick, ticks_after_settling}
 use Rattle.pf_rollback.specs.Snapshots.{kept_world, settled_world, ticks_of}
-use Rattle.pf_rollback.proofs.Cores.{core_reserved, core_stepped, err_both, kept_reserved, ok_both, ok_map, on_err, peer_reserved, same_peer, settled_none, settled_one, ticks_reserved}
+use Rattle.pf_rollback.proofs.Cores.{core_reserved, core_stepped, err_both, follows_reserved, kept_reserved, ok_both, ok_map, on_err, peer_reserved, same_peer, settled_none, settled_one, ticks_reserved}
 use Rattle.pf_rollback.proofs.Simulation.{sim_at_bodies}
 use Rattle.pf_rollback.proofs.peer.PeerCore.settle_tick.Goals as goal
 
 pub invariant_of-self : goal.invariant_of-self
-invariant_of-self g c = core_reserved _ _ _ _ _ _ c.reserve.ensures.kept c.self.invariant.0
+invariant_of-self g c =
+    (core_reserved _ _ _ _ _ _ c.reserve.ensures.kept c.self.invariant.0, follows_reserved c.self.inside.scene c.self.inside.work c.self.inside.snapshots c.reserve.new.self c.reserve.ensures.kept c.self.invariant.1)
 
 pub returns-in_err-reserve-clause-err : goal.returns-in_err-reserve-clause-err
 returns-in_err-reserve-clause-err g c =
     rw (← c.self.view_is) (on_err _ (settled_none _ _ _ _ (peer_reserved _ _ _ c.self.inside.snapshots c.reserve.new.self c.reserve.ensures.kept) (ticks_reserved c.self.inside.snapshots c.reserve.new.self c.reserve.ensures.kept) refl))
 
 pub invariant_of-self-in_err-payloads : goal.invariant_of-self-in_err-payloads
-invariant_of-self-in_err-payloads g c = core_reserved _ _ _ _ _ _ c.reserve.ensures.kept c.self.invariant.0
+invariant_of-self-in_err-payloads g c =
+    (core_reserved _ _ _ _ _ _ c.reserve.ensures.kept c.self.invariant.0, follows_reserved c.self.inside.scene c.self.inside.work c.self.inside.snapshots c.reserve.new.self c.reserve.ensures.kept c.self.invariant.1)
 
 pub returns-in_err-payloads-clause-err : goal.returns-in_err-payloads-clause-err
 returns-in_err-payloads-clause-err g c =
@@ -32,6 +34,9 @@ pub settle-requires-clause-world : goal.settle-requires-clause-world
 settle-requires-clause-world g c world there =
     let is = core_reserved _ _ _ _ _ _ c.reserve.ensures.kept c.self.invariant.0 in
     ap (λ (w : World). length w.bodies) (is.worlds _ _ there) ∙ sim_at_bodies _ _ _ _ _ is.bodies
+
+pub settle-requires-clause-follows : goal.settle-requires-clause-follows
+settle-requires-clause-follows g c = follows_reserved c.self.inside.scene c.self.inside.work c.self.inside.snapshots c.reserve.new.self c.reserve.ensures.kept c.self.invariant.1
 
 pub settle-requires-clause-limit : goal.settle-requires-clause-limit
 settle-requires-clause-limit g c =
@@ -50,8 +55,11 @@ invariant_of-self-2 g c =
     let made =
     ap (step s (settled_world c.reserve.new.self))
     (c.deref.ensures.value ∙ c.in_ok-payloads.ensures.items ∙ ap (payloads_at c.self.inside.commands) (next ∙ sym same)) in
-    core_stepped c.settle.result _ _ _ _ _ _ _ _ is (omega (arith, same, next, reached)) c.settle.ensures.latest made
-    c.settle.ensures.base c.settle.ensures.worlds c.settle.ensures.settled c.settle.ensures.err
+    (
+      core_stepped c.settle.result _ _ _ _ _ _ _ _ is (omega (arith, same, next, reached)) c.settle.ensures.latest made
+          c.settle.ensures.base c.settle.ensures.worlds c.settle.ensures.settled c.settle.ensures.err,
+      c.settle.ensures.follows,
+    )
 
 pub returns-clause-settled : goal.returns-clause-settled
 returns-clause-settled g c =

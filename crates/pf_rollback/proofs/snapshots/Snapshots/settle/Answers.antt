@@ -1,11 +1,12 @@
-use Rattle.std.proofs.Common.{◌≡◌, ◌+◌, length, subst, ap, refl, ◌∙◌, arith}
+use Rattle.std.proofs.Common.{◌≡◌, ◌+◌, length, subst, ap, ap₂, refl, sym, ◌∙◌, arith}
 use Rattle.pf_step.specs.Activity.{islands_of_tick}
 use Rattle.pf_step.specs.Step.{step}
 use Rattle.pf_step.specs.Stepping.{FailsBy}
+use Rattle.pf_step.specs.Work.{Follows, Work}
 use Rattle.pf_step.specs.World.{World}
 use Rattle.pf_rollback.specs.Snapshots.{IsSnapshots, last_world, settled_world}
 use Rattle.pf_rollback.specs.contracts.snapshots.Snapshots.{the_view}
-use Rattle.pf_rollback.proofs.KeptWorlds.{IsKeeping, settled_is, keeping_is, keeping_recent, keeping_ticks, keeping_settled, keeping_kept, settled_tick_kept}
+use Rattle.pf_rollback.proofs.KeptWorlds.{IsKeeping, settled_is, keeping_is, keeping_recent, keeping_ticks, keeping_settled, keeping_kept, placed_world, settled_tick_kept}
 use Rattle.pf_rollback.proofs.snapshots.Snapshots.settle.Goals as goal
 
 pub step_next-requires-clause-world : goal.step_next-requires-clause-world
@@ -56,6 +57,13 @@ returns-in-Ok-clause-worlds g c =
     let latest = c.in_ok-world.ensures.value ∙ ap (λ ks. last_world s.base ks s.latest) c.deref.ensures.value in
     let next = c.in-Ok.ensures.step.value ∙ ap (λ w. step c.args.scene.now w c.args.payloads.now) latest in
     rw (← c.self.view_is) (keeping_kept _ _ _ _ (keeping g c) c.self.invariant next)
+
+pub returns-in-Ok-clause-follows : goal.returns-in-Ok-clause-follows
+returns-in-Ok-clause-follows g c =
+    let s = c.self.inside in
+    let is : last_world s.base c.place.new.keyframes.items c.place.new.latest ≡ c.step_next.new.world =
+    ap₂ (λ ks o. last_world s.base ks o) c.place.ensures.keyframes c.place.ensures.latest ∙ placed_world s.base _ s.keyframes.items _ in
+    subst (λ (x : World × Work). Follows c.args.scene.now x.0.bodies x.1) (λ i. (sym is i, sym c.lend.ensures i)) c.in-Ok.ensures.step.follows
 
 pub returns-in_err-world-clause-latest : goal.returns-in_err-world-clause-latest
 returns-in_err-world-clause-latest g c = settled_tick_kept c.args.self.now (subst IsSnapshots c.self.view_is c.self.invariant)
