@@ -1,6 +1,6 @@
 -- Enlarged bounds, as the fat AABBs of Box2D's b2DynamicTree: pairs of bodies are searched for by
 -- them, and kept until a body has left its enlarged bounds.
-use Rattle.std.specs.Prelude.{◌≡◌, ℕ, ◌<◌, ◌≤◌, ℤ, Bool, true, false, not, ◌&&◌, ◌||◌, ◌==◌, List, [], ◌∷◌, length, filter, slice_index_or, All, int_le, if◌then◌else◌}
+use Rattle.std.specs.Prelude.{◌≡◌, ℕ, ◌<◌, ◌≤◌, ℤ, Bool, true, false, not, ◌&&◌, ◌||◌, ◌==◌, List, [], ◌∷◌, length, filter, All, int_le, if◌then◌else◌}
 use Rattle.std.specs.List.{range_with_len}
 use Rattle.pf_shapes.specs.Bounds.{Bounds, IsOrdered}
 use Rattle.pf_shapes.specs.Pair.{Pair}

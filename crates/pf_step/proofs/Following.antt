@@ -1,5 +1,5 @@
 -- What a work knows of moved bodies stays true from step to step.
-use Rattle.std.proofs.Common.{◌≡◌, ◌≢◌, ⊎_elim, ℕ, zero, suc, ◌+◌, ◌<◌, ◌==◌, ◌||◌, Bool, true, false, List, [], ◌∷◌, ◌++◌, Option, Some, None, length, map, nat_lt, refl, sym, ap, ap₂, subst, ◌∙◌, arith, slice_get}
+use Rattle.std.proofs.Common.{◌≡◌, ◌≢◌, ℕ, zero, suc, ◌+◌, ◌<◌, ◌==◌, Bool, true, false, List, [], ◌∷◌, ◌++◌, Option, Some, None, length, map, nat_lt, refl, sym, ap, ap₂, subst, ◌∙◌, arith, slice_get}
 use Rattle.std.specs.Prelude.{All, Err, Ok, Result}
 use Rattle.std.specs.List.{flat_map, range_with_len, zip}
 use Rattle.std.proofs.lemmas.Bool.{or_parts, true≢false}
@@ -180,16 +180,16 @@ stayed_after_commands s bodies payloads work m moved notes after follows m_is no
               (All-append (λ (number : ℕ). number < length bodies) work.moved (numbers_of notes) knows.0
               (numbers_within (length bodies) notes there))),
           λ long k below other.
-          let parts = neither work.moved (numbers_of notes) k (sym (ap (λ ns. has_body ns k) list) ∙ other) in
-          let same = unlisted notes after bodies k
-          (ap₂ bodies_before noted after_is ∙ commands_before s.fixtures bodies payloads) parts.1 in
-          let stood = knows.1 (ap (λ (x : Manifolds). length x.shapes) (sym m_is) ∙ long ∙ long_after) k
-          (omega (arith, below, long_after)) parts.0 in (
-            ap (λ (x : Manifolds). slice_get x.shapes k) m_is ∙ stood.0
-                ∙ same_made (λ (b : Fixture × BodyState). shape_of_body b.0 b.1) s.fixtures bodies after k (sym same),
-            ap (λ (x : Manifolds). slice_get x.bounds k) m_is ∙ stood.1
-                ∙ same_made (λ (b : Fixture × BodyState). fixture_bounds b.0 b.1) s.fixtures bodies after k (sym same),
-          ),
+              let parts = neither work.moved (numbers_of notes) k (sym (ap (λ ns. has_body ns k) list) ∙ other) in
+              let same = unlisted notes after bodies k
+              (ap₂ bodies_before noted after_is ∙ commands_before s.fixtures bodies payloads) parts.1 in
+              let stood = knows.1 (ap (λ (x : Manifolds). length x.shapes) (sym m_is) ∙ long ∙ long_after) k
+              (omega (arith, below, long_after)) parts.0 in (
+                ap (λ (x : Manifolds). slice_get x.shapes k) m_is ∙ stood.0
+                    ∙ same_made (λ (b : Fixture × BodyState). shape_of_body b.0 b.1) s.fixtures bodies after k (sym same),
+                ap (λ (x : Manifolds). slice_get x.bounds k) m_is ∙ stood.1
+                    ∙ same_made (λ (b : Fixture × BodyState). fixture_bounds b.0 b.1) s.fixtures bodies after k (sym same),
+              ),
         )
     by false unknown =
         let list : moved ≡ range_with_len 0 (length bodies) =
@@ -197,8 +197,8 @@ stayed_after_commands s bodies payloads work m moved notes after follows m_is no
           subst (λ n. All (λ number. number < n) moved) (sym long_after)
               (subst (All (λ number. number < length bodies)) (sym list) (range_within (length bodies))),
           λ long k below other.
-          absurd (true≢false (sym (listed_below (length bodies) k (omega (arith, below, long_after)))
-          ∙ sym (ap (λ ns. has_body ns k) list) ∙ other)),
+              absurd (true≢false (sym (listed_below (length bodies) k (omega (arith, below, long_after)))
+              ∙ sym (ap (λ ns. has_body ns k) list) ∙ other)),
         )
 
 -- after a step, only bodies that it changed may have moved since the contact points were computed
@@ -214,13 +214,13 @@ stayed_after_step s before commanded after m notes changes long shapes bounds wi
     (All-append (λ (c : BodyChange). c.number < length before) notes more within added.2) in (
       subst (λ n. All (λ number. number < n) (numbers_of changes)) (sym long) (numbers_within (length before) changes there),
       λ as_many k below other.
-      let parts = neither (numbers_of notes) (numbers_of more) k
-      (sym (ap (λ cs. has_body (numbers_of cs) k) added.1 ∙ ap (λ ns. has_body ns k) (numbers_more notes more)) ∙ other) in
-      let same : slice_get commanded k ≡ slice_get after k =
-      unlisted notes commanded before k noted parts.0 ∙ sym (unlisted changes after before k undone other) in (
-        ap (λ xs. slice_get xs k) shapes
-            ∙ same_made (λ (b : Fixture × BodyState). shape_of_body b.0 b.1) s.fixtures commanded after k same,
-        ap (λ xs. slice_get xs k) bounds
-            ∙ same_made (λ (b : Fixture × BodyState). fixture_bounds b.0 b.1) s.fixtures commanded after k same,
-      ),
+          let parts = neither (numbers_of notes) (numbers_of more) k
+          (sym (ap (λ cs. has_body (numbers_of cs) k) added.1 ∙ ap (λ ns. has_body ns k) (numbers_more notes more)) ∙ other) in
+          let same : slice_get commanded k ≡ slice_get after k =
+          unlisted notes commanded before k noted parts.0 ∙ sym (unlisted changes after before k undone other) in (
+            ap (λ xs. slice_get xs k) shapes
+                ∙ same_made (λ (b : Fixture × BodyState). shape_of_body b.0 b.1) s.fixtures commanded after k same,
+            ap (λ xs. slice_get xs k) bounds
+                ∙ same_made (λ (b : Fixture × BodyState). fixture_bounds b.0 b.1) s.fixtures commanded after k same,
+          ),
     )

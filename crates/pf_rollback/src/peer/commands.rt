@@ -117,8 +117,7 @@ impl PeerCore {
             return Err(PeerError::Refused(Refusal::TooOld(horizon)));
         }
         let merged = self.commands.merge(other)?;
-        self.snapshots
-            .drop_after_news(merged.least, &mut self.work);
+        self.snapshots.drop_after_news(merged.least, &mut self.work);
         Ok(merged.count)
     }
 

@@ -1,4 +1,3 @@
-use Rattle.std.proofs.Common.{◌∙◌, ap}
 use Rattle.pf_step.proofs.Following.{numbered_more}
 use Rattle.pf_step.proofs.work.add_all.Goals as goal
 

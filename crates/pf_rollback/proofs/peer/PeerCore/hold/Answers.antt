@@ -22,8 +22,7 @@ pub invariant_of-self-2 : goal.invariant_of-self-2
 invariant_of-self-2 c =
     let command = c.args.command.now in
     let checked = ap (λ (core : PeerCore). check core.scene command.name command.payload) c.self.view_is ∙ c.requires.allowed in
-    let late = rw (← c.self.view_is) at c.requires.horizon in
-    (
+    let late = rw (← c.self.view_is) at c.requires.horizon in (
       rw c.in_ok-put.ensures.ok
           (core_put _ _ _ _ _ _ command _ c.self.invariant.0 checked late (tick c.before) c.drop_after_news.ensures.base
           c.drop_after_news.ensures.worlds c.drop_after_news.ensures.lower),

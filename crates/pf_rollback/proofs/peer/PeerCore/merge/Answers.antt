@@ -11,8 +11,7 @@ drop_after_news-requires c =
 
 pub invariant_of-self-2 : goal.invariant_of-self-2
 invariant_of-self-2 c =
-    let late = ap (λ h. is_from h c.args.other.now) (sym c.horizon-horizon.ensures.value) ∙ sym c.is_from.ensures ∙ c.if-not-is_from.false in
-    (
+    let late = ap (λ h. is_from h c.args.other.now) (sym c.horizon-horizon.ensures.value) ∙ sym c.is_from.ensures ∙ c.if-not-is_from.false in (
       rw c.in_ok-merged.ensures.ok
           (core_merge _ _ _ _ _ _ c.args.other.now _ c.self.invariant.0 (sym c.check_all.ensures ∙ c.in_default.is) late
           c.in_ok-merged.ensures.least c.drop_after_news.ensures.base c.drop_after_news.ensures.worlds c.drop_after_news.ensures.lower),

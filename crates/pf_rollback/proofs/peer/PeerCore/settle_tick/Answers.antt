@@ -54,8 +54,7 @@ invariant_of-self-2 g c =
     let same = ap settled_tick (ticks_reserved c.self.inside.snapshots c.reserve.new.self c.reserve.ensures.kept) in
     let made =
     ap (step s (settled_world c.reserve.new.self))
-    (c.deref.ensures.value ∙ c.in_ok-payloads.ensures.items ∙ ap (payloads_at c.self.inside.commands) (next ∙ sym same)) in
-    (
+    (c.deref.ensures.value ∙ c.in_ok-payloads.ensures.items ∙ ap (payloads_at c.self.inside.commands) (next ∙ sym same)) in (
       core_stepped c.settle.result _ _ _ _ _ _ _ _ is (omega (arith, same, next, reached)) c.settle.ensures.latest made
           c.settle.ensures.base c.settle.ensures.worlds c.settle.ensures.settled c.settle.ensures.err,
       c.settle.ensures.follows,
