@@ -222,7 +222,7 @@ impl Snapshots {
 
     /// Settles the tick after the settled one: steps its world in place, with the payloads of its
     /// commands, and keeps what that changed. What falls out of a full ring lends its memory to the
-    /// next step with `work`. What `work` knows of moved bodies is true of the settled world, before
+    /// next step with `work`. What `work` knows of moved bodies is true of the settled world before
     /// and after. An error leaves all as it was.
     pub(crate) fn settle<P: Collider, C: Crew>(
         &mut self,
@@ -299,7 +299,7 @@ impl Snapshots {
     }
 
     /// Drops each world after a tick that is not before the horizon. If the settled world is one of
-    /// them, `work` forgets which bodies have moved. Takes no memory.
+    /// them, `work` forgets which bodies may have moved. Takes no memory.
     fn drop_after(&mut self, tick: u32, work: &mut Work)
         requires { self.old.horizon ≤ tick }
         ensures base { (self.new.horizon ≡ self.old.horizon) × (self.new.base ≡ self.old.base) }

@@ -29,11 +29,11 @@ unfoldable pub world_before : Changes → World → World
 world_before changes w =
     record { bodies = bodies_before changes.bodies w.bodies; contacts = changes.contacts }
 
--- the bodies that changed
+-- the numbers of the bodies that are noted
 abbrev pub numbers_of : List BodyChange → List ℕ
 numbers_of changes = map (λ c. c.number) changes
 
--- to these changes others are added, of bodies of so many
+-- the new changes are the old ones, and then others of bodies with numbers below a count
 abbrev pub AreAdded : ℕ → List BodyChange → List BodyChange → Type 0
 AreAdded count old new =
     (more : List BodyChange) × (new ≡ old ++ more) × All (λ c. c.number < count) more

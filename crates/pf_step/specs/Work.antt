@@ -7,8 +7,8 @@ use Rattle.pf_cache.specs.Manifolds.{Manifolds, Collisions, no_manifolds}
 use Rattle.pf_cache.specs.Meter.{Meter, saturating_sum}
 use Rattle.pf_cache.specs.PlacedBodies.{HaveStayed, bodies_of}
 
--- how much work was done, and the contact points of the last tick; which bodies may have moved since
--- these points were computed, if that is known
+-- how much work was done, the contact points of the last tick, and which bodies may have moved
+-- since these points were kept, if that is known
 pub record Work : Type 0 where
   pub meter : Meter
   pub manifolds : Manifolds
@@ -35,13 +35,13 @@ work_after_tick found moved w = record {
   is_known = true;
 }
 
--- which bodies may have moved once commands are applied: where it is not known which had before,
--- all of so many
+-- which bodies may have moved once commands are applied: those that may have before, and the
+-- commanded ones; where the former are not known, all of so many
 abbrev pub moved_bodies : Bool → List ℕ → ℕ → List ℕ → List ℕ
 moved_bodies true moved count commanded = moved ++ commanded
 moved_bodies false moved count commanded = range_with_len 0 count
 
--- what a work knows of moved bodies is true of these bodies of a scene
+-- where a work knows which bodies may have moved, all others of this scene stand as it kept them
 abbrev pub Follows : Scene → List BodyState → Work → Type 0
 Follows s bodies w =
     w.is_known ≡ true → All (λ number. number < length bodies) w.moved

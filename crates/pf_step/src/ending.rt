@@ -86,7 +86,7 @@ fn finish_untouched(
     ensures no_memory { world.old.bodies ≡ [] → changes.old.bodies ≡ [] → IsOk result }
 {
     changes.note_awake(&world.bodies)?;
-    work.note_moved(changes.bodies())?;
+    work.set_moved(changes.bodies())?;
     solve_untouched(scene, &mut world.bodies);
     changes.note_contacts(mem::replace(&mut world.contacts, Contacts::new(alloc)));
     Ok(())
@@ -131,7 +131,7 @@ pub(crate) fn finish<C: Crew>(
     };
     let tick = prepare(alloc, scene, world, spare, found)?;
     changes.note_islands(&world.bodies, &tick.islands)?;
-    work.note_moved(changes.bodies())?;
+    work.set_moved(changes.bodies())?;
     let solved = crew.solve(scene, tick.islands)?;
     let mut contacts = tick.contacts;
     join_back(&solved, &mut world.bodies, &mut contacts);

@@ -26,7 +26,7 @@ use std::alloc::{AllocError, Global};
 use std::thread::Threads;
 
 /// The contact points of the bodies of a scene as they stand; kept ones are reused. Only bodies of
-/// `moved` may have moved since these were computed.
+/// `moved` may have moved since these were kept.
 #[tactic(auto, using(pf_cache::proofs::Unmoved::kept_points, pf_manifold::proofs::KeyOrder::touches_of_bodies))]
 fn find_collisions<P: Collider>(
     collider: &P,
@@ -59,9 +59,9 @@ fn find_collisions<P: Collider>(
 /// the bodies that may have moved since. An error leaves the world as it was; then no points are
 /// kept, and nothing is counted. Takes no memory of its own where there are no bodies.
 ///
-/// What `work` knows of moved bodies is true of this world: it is the one that the last step with
-/// `work` left. Then only these bodies, and those that commands are for, are compared with how they
-/// stood. [`step_by`] steps any world.
+/// The world has to be the one that the last step with `work` left, unless `work` knows nothing of
+/// moved bodies. Only bodies that may have moved, and those that commands are for, are compared with
+/// how they stood. [`step_by`] has no such condition.
 pub fn step_next<P: Collider, C: Crew>(
     collider: &P,
     alloc: Global,

@@ -12,7 +12,7 @@ use std::marker::Model;
 use std::mem;
 
 /// What one step of a simulation leaves to the next beside the world: how much work was done, the
-/// contact points of the last tick, which bodies may have moved since these were computed, and spare
+/// contact points of the last tick, which bodies may have moved since these were kept, and spare
 /// memory of changes and islands that are gone.
 ///
 /// Contracts do not see the spare memory, since it changes no result.
@@ -20,7 +20,7 @@ use std::mem;
 pub struct Work {
     meter: Meter,
     manifolds: Manifolds,
-    /// The bodies that may have moved since the contact points were computed, if that is known.
+    /// The bodies that may have moved since the contact points were kept, if that is known.
     moved: Vec<usize>,
     /// Whether it is known which bodies may have moved.
     is_known: bool,
@@ -102,8 +102,8 @@ impl Work {
         &self.manifolds
     }
 
-    /// Forgets which bodies may have moved, so that the next step compares all. Needed where a step
-    /// with this work is followed by one of another world. Takes no memory.
+    /// Forgets which bodies may have moved, so that the next step compares all. Needed before a
+    /// [`step_next`](crate::step_next) of another world than the last step left. Takes no memory.
     pub fn forget_moved(&mut self)
         ensures { self.new ≡ record self.old { is_known = false } }
     {
@@ -111,7 +111,7 @@ impl Work {
     }
 
     /// Takes the contact points of the last tick, so that the next tick can reuse them and their
-    /// memory. None are kept from then on, and nothing is known of moved bodies. Returns also
+    /// memory. None are kept from then on, and nothing is known of moved bodies. Also returns
     /// whether it was known which may have moved. Takes no memory.
     pub(crate) fn take_manifolds(&mut self, alloc: Global) -> (Manifolds, bool)
         ensures taken { (result.0 ≡ self.old.manifolds) × (result.1 ≡ self.old.is_known) }
@@ -122,8 +122,9 @@ impl Work {
         (manifolds, is_known)
     }
 
-    /// Lists the bodies that may have moved once these commanded bodies have changed: where it is
-    /// not known which had before, all of so many. After an error some of them may be listed.
+    /// Lists the bodies that may have moved after commands: those listed before and the commanded
+    /// ones; where the former are not known, all of so many. After an error some of them may be
+    /// listed.
     pub(crate) fn list_moved(
         &mut self,
         is_known: bool,
@@ -149,9 +150,9 @@ impl Work {
         self.moved.as_slice()
     }
 
-    /// Lists the bodies of these changes as those that may have moved. After an error some of them
-    /// may be listed.
-    pub(crate) fn note_moved(&mut self, changes: &[BodyChange]) -> Result<(), AllocError>
+    /// Lists the bodies of these changes, and no others, as those that may have moved. After an
+    /// error some of them may be listed.
+    pub(crate) fn set_moved(&mut self, changes: &[BodyChange]) -> Result<(), AllocError>
         ensures listed { OnOk result (self.new.moved ≡ numbers_of changes.now) }
         ensures rest { self.new ≡ record self.old { moved = self.new.moved } }
         ensures no_memory { changes.now ≡ [] → IsOk result }
