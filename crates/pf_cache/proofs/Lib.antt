@@ -6,6 +6,7 @@ pub mod Runs
 pub mod Kept
 pub mod FoundRows
 pub mod Stored
+pub mod Restoring
 pub mod Found
 pub mod SpanPlaces
 pub mod Spanned

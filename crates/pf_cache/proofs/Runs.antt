@@ -109,6 +109,39 @@ run_done contacts (t ∷ touches) i place r made after rising inside within keys
 pub rest_is : {X : Type 0} (xs : List X) (place : ℕ) → take (length xs - place) (drop place xs) ≡ drop place xs
 rest_is xs place = take_all (length xs - place) (drop place xs) (omega (arith, length-drop place xs))
 
+-- a run that is added behind others: where look-ups go on, and what was made
+pub run_added : (contacts : List Contact) (touches : List Touch) (i place r : ℕ) (front made after : List Contact)
+    → IsRising 0 (map (λ (x : Touch). rank (key_of x)) touches) → place ≤ length contacts → i ≤ length touches
+    → r ≤ length (take (length contacts - place) (drop place contacts))
+    → r ≤ length (take (length touches - i) (drop i touches))
+    → HaveSameKeys (take (length contacts - place) (drop place contacts)) (take (length touches - i) (drop i touches)) r
+    → All (SameFrom contacts place) (drop i touches) → made ≡ front ++ map (kept_contact contacts) (take i touches)
+    → after ≡ made ++ take ((place + r) - place) (drop place contacts)
+    → (place + r ≤ length contacts) × (i + r ≤ length touches)
+    × (after ≡ front ++ map (kept_contact contacts) (take (i + r) touches))
+    × All (SameFrom contacts (place + r)) (drop (i + r) touches)
+run_added contacts touches i place r front made after rising place_in i_in few few_touches keys same done is =
+    let left = rest_is contacts place in
+    let left_touches = rest_is touches i in
+    let size = ap length left in
+    let size_touches = ap length left_touches in
+    let tail = length-drop place contacts in
+    let tail_touches = length-drop i touches in
+    let inside : place + r ≤ length contacts = omega (arith, few, size, tail, place_in) in
+    let within : i + r ≤ length touches = omega (arith, few_touches, size_touches, tail_touches, i_in) in
+    let cut : (place + r) - place ≡ r = omega arith in
+    let so_far = map (kept_contact contacts) (take i touches) in
+    let own : HaveSameKeys (drop place contacts) (drop i touches) r =
+    sym (ap (λ cs. map (λ (x : Contact). x.key) (take r cs)) left) ∙ keys ∙ ap (λ ts. map key_of (take r ts)) left_touches in
+    let steps =
+    run_done contacts touches i place r so_far (so_far ++ take r (drop place contacts)) rising inside within own same refl refl in (
+      inside,
+      within,
+      is ∙ ap₂ (λ xs n. xs ++ take n (drop place contacts)) done cut
+          ∙ append_assoc front so_far (take r (drop place contacts)) ∙ ap (λ xs. front ++ xs) steps.0,
+      steps.1,
+    )
+
 -- one contact more that has the key of its point
 pub keys_more : (contacts : List Contact) (touches : List Touch) (n : ℕ) (c : Contact) (t : Touch) → n < length contacts
     → n < length touches → c ≡ get_or contacts n c → t ≡ get_or touches n t → c.key ≡ key_of t

@@ -4,6 +4,7 @@ pub mod Contact
 pub mod Same
 pub mod SameLaws
 pub mod ContactRows
+pub mod ContactsChange
 pub mod Meter
 pub mod Manifolds
 pub mod PlacedBodies

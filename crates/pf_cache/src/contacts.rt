@@ -1,11 +1,13 @@
 //! The contacts of a world, in the order of their keys.
 
-ghost use Rattle.std.specs.Prelude.{◌≡◌, ◌↔◌, ◌≤◌, ◌<◌, ℕ, IsTrue, drop, length, map, take};
-ghost use Rattle.pf_manifold.specs.Key.{IsKey, key_of, rank};
-ghost use Rattle.pf_cache.specs.Contact.{AreContacts, impulses_at};
-ghost use Rattle.pf_cache.specs.ContactRows.{AreRowsAt, with_rows};
+ghost use Rattle.std.specs.Prelude.{◌≡◌, ◌↔◌, ◌+◌, ◌≤◌, ◌<◌, ◌++◌, ℕ, [], All, IsOk, IsTrue, OnOk, drop, length, map, take, vec_capacity, vec_len};
+ghost use Rattle.pf_manifold.specs.Key.{AreTouches, IsKey, key_of, rank};
+ghost use Rattle.pf_cache.specs.Contact.{AreContacts, impulses_at, next_contacts};
+ghost use Rattle.pf_cache.specs.ContactRows.{AreRowsAt, IsRowAt, with_rows};
+ghost use Rattle.pf_cache.specs.ContactsChange.{contact_of_row};
 
 use crate::contact::Contact;
+use crate::contacts_change::{ContactsChange, NotedContact, leave_first, move_behind};
 use crate::ranked::{Ranked, find_from};
 use pf_manifold::{Key, Touch};
 use pf_rows::{Impulses, Row};
@@ -89,6 +91,67 @@ fn same_keys(contacts: &[Contact], touches: &[Touch]) -> usize
     count
 }
 
+/// Adds these contacts. There is room for them.
+fn add_all(list: &mut Vec<Contact>, contacts: &[Contact])
+    requires { vec_len list.old + length contacts.now ≤ vec_capacity list.old }
+    ensures items { list.new.items ≡ list.old.items ++ contacts.now }
+    ensures len { vec_len list.new ≡ vec_len list.old + length contacts.now }
+    ensures capacity { vec_capacity list.old ≤ vec_capacity list.new }
+{
+    match list.extend_from_slice(contacts) {
+        Ok(()) => {}
+        Err(_) => unreachable!(),
+    }
+}
+
+/// Adds the contacts of these points, as the next ones of the old contacts. There is room for them.
+/// Contacts that follow each other as their points do are copied together.
+fn add_next(list: &mut Vec<Contact>, old: &[Contact], touches: &[Touch])
+    requires old { AreContacts old.now }
+    requires touches { AreTouches touches.now }
+    requires room { vec_len list.old + length touches.now ≤ vec_capacity list.old }
+    ensures { list.new.items ≡ list.old.items ++ next_contacts old.now touches.now }
+{
+    let mut place = 0;
+    let mut done = 0;
+    while done < touches.len() {
+        let run = same_keys(&old[place..], &touches[done..]);
+        add_all(list, &old[place..place + run]);
+        place += run;
+        done += run;
+        if done < touches.len() {
+            let key = Key::of(&touches[done]);
+            let (impulses, behind) = impulses_of(old, place, &key);
+            place = behind;
+            list.push_reserved(Contact { key, impulses });
+            done += 1;
+        }
+    }
+}
+
+/// Notes the contacts at the places of these rows, and after an error those of the first ones.
+fn note_rows(
+    contacts: &[Contact],
+    noted: &mut Vec<NotedContact>,
+    rows: &[Row],
+) -> Result<(), AllocError>
+    requires { All (IsRowAt contacts.now) rows.now }
+    ensures all { OnOk result (noted.new.items
+        ≡ noted.old.items ++ map (contact_of_row contacts.now) rows.now) }
+    ensures first { (count : ℕ) × (noted.new.items
+        ≡ noted.old.items ++ map (contact_of_row contacts.now) (take count rows.now)) }
+    ensures no_memory { rows.now ≡ [] → IsOk result }
+{
+    for row in rows {
+        let place = row.entry.place;
+        noted.push(NotedContact {
+            contact: contacts[place],
+            place,
+        })?;
+    }
+    Ok(())
+}
+
 /// Gives the contact at the place of each row the accumulated impulses of the row.
 #[inline(never)]
 fn store_at(contacts: &mut [Contact], rows: &[Row])
@@ -105,10 +168,11 @@ fn store_at(contacts: &mut [Contact], rows: &[Row])
 }
 
 impl Contacts {
-    ghost use Rattle.std.specs.Prelude.{◌≡◌, [], IfOk, IsOk};
+    ghost use Rattle.std.specs.Prelude.{◌≡◌, ◌++◌, [], IfOk, IsOk, OnErr, OnOk, map};
     ghost use Rattle.pf_manifold.specs.Key.{AreTouches};
     ghost use Rattle.pf_cache.specs.Contact.{next_contacts};
     ghost use Rattle.pf_cache.specs.ContactRows.{AreRowsAt, with_rows};
+    ghost use Rattle.pf_cache.specs.ContactsChange.{contact_of_row, contacts_before};
     ghost use Rattle.pf_cache.specs.Same.{same_contacts};
 
     /// No contacts. Takes no memory.
@@ -128,37 +192,68 @@ impl Contacts {
         self.list.as_slice()
     }
 
-    /// The contacts of these points, as Box2D-Lite's `Arbiter::Update`: a key of the old contacts
-    /// keeps its impulses, a new key has none, and a contact without a point is gone. The
-    /// points are in the order of their keys. Contacts that follow each other as their points do
-    /// are copied together. The list is made in the memory of `spare`, whose contacts are gone, and
-    /// takes more only where that is too little.
+    /// Makes of these contacts those of the points, as Box2D-Lite's `Arbiter::Update`: a key of the
+    /// old contacts keeps its impulses, a new key has none, and a contact without a point is gone.
+    /// The points are in the order of their keys. The first contacts, as long as they have the keys
+    /// of the first points, stay where they are; the contacts behind them go to `change`, which then
+    /// undoes this. An error leaves the contacts as they are.
     #[inline(never)]
-    pub fn update(&self, spare: Contacts, touches: &[Touch]) -> Result<Contacts, AllocError>
+    pub fn update(
+        &mut self,
+        touches: &[Touch],
+        change: &mut ContactsChange,
+    ) -> Result<(), AllocError>
         requires { AreTouches touches.now }
-        ensures value { IfOk result (λ contacts. contacts ≡ next_contacts self.now touches.now) }
+        ensures value { OnOk result (self.new ≡ next_contacts self.old touches.now) }
+        ensures before { OnOk result (contacts_before change.new self.new ≡ self.old) }
+        ensures unchanged { OnErr result (self.new ≡ self.old) }
         ensures no_memory { touches.now ≡ [] → IsOk result }
     {
-        let old = self.list.as_slice();
-        let mut list = spare.list;
-        list.clear();
-        list.reserve(touches.len())?;
-        let mut place = 0;
-        let mut done = 0;
-        while done < touches.len() {
-            let run = same_keys(&old[place..], &touches[done..]);
-            list.extend_from_slice(&old[place..place + run])?;
-            place += run;
-            done += run;
-            if done < touches.len() {
-                let key = Key::of(&touches[done]);
-                let (impulses, behind) = impulses_of(old, place, &key);
-                place = behind;
-                list.push(Contact { key, impulses })?;
-                done += 1;
-            }
-        }
-        Ok(Contacts { list })
+        let same = same_keys(&self.list, touches);
+        move_behind(&mut self.list, &mut change.behind, same, touches.len())?;
+        change.same = same;
+        change.noted.clear();
+        add_next(&mut self.list, &change.behind, &touches[same..]);
+        Ok(())
+    }
+
+    /// Notes in `change` the impulses of the contacts at the places of these rows, before they
+    /// change. After an error some of them may be noted.
+    pub fn note(&self, rows: &[Row], change: &mut ContactsChange) -> Result<(), AllocError>
+        requires { AreRowsAt self.now rows.now }
+        ensures noted { OnOk result (change.new ≡ record change.old {
+          noted = change.old.noted ++ map (contact_of_row self.now) rows.now;
+        }) }
+        ensures same { contacts_before change.new self.now ≡ contacts_before change.old self.now }
+        ensures no_memory { rows.now ≡ [] → IsOk result }
+    {
+        note_rows(&self.list, &mut change.noted, rows)
+    }
+
+    /// Undoes what `change` holds. Takes time for the contacts before, and no memory. Of a change of
+    /// other contacts the first ones are only kept where they stand before those behind.
+    pub fn undo(&mut self, change: ContactsChange)
+        ensures { self.new ≡ contacts_before change self.old }
+    {
+        leave_first(&mut self.list, &change);
+        let mut before = change.behind;
+        let behind = before.len();
+        add_all(&mut before, &self.list);
+        before.rotate_left(behind);
+        self.list = before;
+    }
+
+    /// Undoes what `change` holds as [`Contacts::undo`] does, where it is still needed. Out of
+    /// memory changes nothing.
+    pub fn undo_copied(&mut self, change: &ContactsChange) -> Result<(), AllocError>
+        ensures value { OnOk result (self.new ≡ contacts_before change.now self.old) }
+        ensures unchanged { OnErr result (self.new ≡ self.old) }
+        ensures no_memory { contacts_before change.now self.old ≡ [] → IsOk result }
+    {
+        self.list.reserve(change.behind.len())?;
+        leave_first(&mut self.list, change);
+        add_all(&mut self.list, &change.behind);
+        Ok(())
     }
 
     /// Keeps the accumulated impulses of these rows, as Box2D's `b2ContactSolver::StoreImpulses`:

@@ -5,6 +5,7 @@
 
 mod contact;
 mod contacts;
+mod contacts_change;
 mod gathered;
 mod kept_shape;
 pub mod laws;
@@ -18,6 +19,7 @@ mod spans;
 
 pub use contact::Contact;
 pub use contacts::Contacts;
+pub use contacts_change::ContactsChange;
 pub use manifolds::{Collisions, Manifolds};
 pub use meter::Meter;
 pub use spans::Span;

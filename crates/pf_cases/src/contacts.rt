@@ -2,7 +2,7 @@
 
 use crate::scenes::scene_of;
 use pf_broad::pairs;
-use pf_cache::{Contact, Contacts, Meter};
+use pf_cache::{Contact, Contacts, ContactsChange, Meter};
 use pf_manifold::collide_list;
 use pf_rows::Impulses;
 use std::alloc::Global;
@@ -24,8 +24,16 @@ box - 16777216 0 16777216 16777216 67108864 16777216 16777216 0
 end
 ";
 
-/// The contacts of a scene's bodies at their starts, after these.
-fn next(alloc: Global, contacts: &Contacts, text: &[u8]) -> Result<Contacts, Fail> {
+/// The same with the second of the two in the air.
+const OTHER_STANDS: &[u8] = b"gravity 0 0
+box - 0 0 17179869184 16777216 0 -16777216 16777216 0
+box - 16777216 0 16777216 16777216 -67108864 16777216 16777216 0
+box - 16777216 0 16777216 16777216 67108864 67108864 16777216 0
+end
+";
+
+/// Makes of contacts those of a scene's bodies at their starts, and returns what that changed.
+fn update(alloc: Global, contacts: &mut Contacts, text: &[u8]) -> Result<ContactsChange, Fail> {
     let scene = scene_of(alloc, text)?;
     let starts = scene.starts();
     if scene.fixtures().len() != starts.len() {
@@ -33,7 +41,16 @@ fn next(alloc: Global, contacts: &Contacts, text: &[u8]) -> Result<Contacts, Fai
     }
     let pairs = pairs(alloc, &scene, starts)?;
     let touches = collide_list(alloc, &scene, starts, &pairs)?;
-    Ok(contacts.update(Contacts::new(alloc), &touches)?)
+    let mut change = ContactsChange::new(alloc);
+    contacts.update(&touches, &mut change)?;
+    Ok(change)
+}
+
+/// The contacts of a scene's bodies at their starts, after these.
+fn next(alloc: Global, contacts: &Contacts, text: &[u8]) -> Result<Contacts, Fail> {
+    let mut next = contacts.try_clone()?;
+    update(alloc, &mut next, text)?;
+    Ok(next)
 }
 
 /// Whether a list is that of the two contacts of the box that still stands, which are new.
@@ -57,6 +74,42 @@ fn contacts_are_those_of_the_points(rt: HostRuntime) -> Result<(), Fail> {
     let fewer = next(rt.alloc(), &both, ONE_STANDS)?;
     let again = next(rt.alloc(), &fewer, BOTH_STAND)?;
     assert!(rt; are_of_the_points(&both, &fewer, &again));
+    Ok(())
+}
+
+/// Whether an update with these points is undone, also where its change is still needed.
+fn is_undone(alloc: Global, before: &Contacts, text: &[u8]) -> Result<bool, Fail> {
+    let mut contacts = before.try_clone()?;
+    let change = update(alloc, &mut contacts, text)?;
+    let mut copy = contacts.try_clone()?;
+    copy.undo_copied(&change)?;
+    contacts.undo(change);
+    Ok(&contacts == before && &copy == before)
+}
+
+#[test]
+fn updates_are_undone(rt: HostRuntime) -> Result<(), Fail> {
+    let both = next(rt.alloc(), &Contacts::new(rt.alloc()), BOTH_STAND)?;
+    for text in [BOTH_STAND, ONE_STANDS, OTHER_STANDS] {
+        assert!(rt; is_undone(rt.alloc(), &both, text)?);
+    }
+    Ok(())
+}
+
+/// Whether the change of other contacts, whose first two stayed, leaves the two behind them.
+fn are_left(alloc: Global, both: &Contacts, second: &Contacts) -> Result<bool, Fail> {
+    let mut contacts = both.try_clone()?;
+    let change = update(alloc, &mut contacts, OTHER_STANDS)?;
+    let mut others = second.try_clone()?;
+    others.undo(change);
+    Ok(&others == second)
+}
+
+#[test]
+fn changes_of_other_contacts_leave_those_behind(rt: HostRuntime) -> Result<(), Fail> {
+    let both = next(rt.alloc(), &Contacts::new(rt.alloc()), BOTH_STAND)?;
+    let second = next(rt.alloc(), &both, ONE_STANDS)?;
+    assert!(rt; are_left(rt.alloc(), &both, &second)?);
     Ok(())
 }
 

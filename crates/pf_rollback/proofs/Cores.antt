@@ -16,7 +16,7 @@ use Rattle.pf_commands.proofs.Since.{IsFrom-from, is_from-IsFrom}
 use Rattle.pf_commands.proofs.Ticks.{payloads_at-other, payloads_at-before}
 use Rattle.pf_step.specs.Simulation.{sim}
 use Rattle.pf_step.specs.Step.{step}
-use Rattle.pf_step.specs.Work.{Follows, Work}
+use Rattle.pf_step.specs.Work.{KnowsMoved, Work}
 use Rattle.pf_step.specs.World.{World, start_of}
 use Rattle.pf_cache.specs.Meter.{Meter, saturating_sum}
 use Rattle.pf_islands.specs.Split.{Island}
@@ -336,10 +336,10 @@ err_both (Err fault) f a b = f a b
 -- ---- what a work knows of moved bodies
 
 -- where it is not known which bodies have moved
-pub unknown_follows : (s : Scene) (bodies : List BodyState) (work : Work) → work.is_known ≡ false → Follows s bodies work
+pub unknown_follows : (s : Scene) (bodies : List BodyState) (work : Work) → work.is_known ≡ false → KnowsMoved s bodies work
 unknown_follows s bodies work unknown known = absurd (true≢false (sym known ∙ unknown))
 
 -- after room is made
 pub follows_reserved : (s : Scene) (work : Work) (kept after : Snapshots) → after ≡ record kept { room = after.room }
-    → Follows s (settled_world kept).bodies work → Follows s (settled_world after).bodies work
-follows_reserved s work kept after same = subst (λ k. Follows s (settled_world k).bodies work) (sym same)
+    → KnowsMoved s (settled_world kept).bodies work → KnowsMoved s (settled_world after).bodies work
+follows_reserved s work kept after same = subst (λ k. KnowsMoved s (settled_world k).bodies work) (sym same)

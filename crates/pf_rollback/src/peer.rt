@@ -39,7 +39,7 @@ impl Model for PeerCore {
     ghost use Rattle.pf_commands.specs.contracts.map.CommandMap.{the_row};
     ghost use Rattle.pf_rollback.specs.Core.{IsPeerCore, PeerCore, peer_of};
     ghost use Rattle.pf_rollback.specs.Snapshots.{settled_world, ticks_of};
-    ghost use Rattle.pf_step.specs.Work.{Follows};
+    ghost use Rattle.pf_step.specs.Work.{KnowsMoved};
 
     ghost Value = { PeerCore };
 
@@ -54,7 +54,7 @@ impl Model for PeerCore {
 
     ghost invariant = { λ core. IsPeerCore core.scene
         (peer_of core.player core.commands core.reached core.snapshots) core.snapshots
-        × Follows core.scene (settled_world core.snapshots).bodies core.work };
+        × KnowsMoved core.scene (settled_world core.snapshots).bodies core.work };
 }
 
 impl PeerCore {

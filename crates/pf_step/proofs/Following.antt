@@ -23,7 +23,7 @@ use Rattle.pf_cache.specs.PlacedBodies.{HaveStayed, bodies_of}
 use Rattle.pf_islands.specs.Split.{Island}
 use Rattle.pf_step.specs.Changes.{AreAdded, BodyChange, bodies_before, change_if, change_of, changes_by_commands, changes_of_islands, numbers_of}
 use Rattle.pf_step.specs.Commands.{after_commands}
-use Rattle.pf_step.specs.Work.{Follows, Work, moved_bodies}
+use Rattle.pf_step.specs.Work.{KnowsMoved, Work, moved_bodies}
 use Rattle.pf_step.proofs.Changing.{notes_of_all, unchanged_stays}
 use Rattle.pf_step.proofs.Commanding.{commands_before, commands_length}
 
@@ -159,7 +159,7 @@ listed_below n k below = has_body-below n k ∙ is_below
 
 -- after commands, only the listed bodies may have moved
 pub stayed_after_commands : (s : Scene) (bodies : List BodyState) (payloads : List Payload) (work : Work) (m : Manifolds) (moved : List ℕ)
-    (notes : List BodyChange) (after : List BodyState) → Follows s bodies work → m ≡ work.manifolds
+    (notes : List BodyChange) (after : List BodyState) → KnowsMoved s bodies work → m ≡ work.manifolds
     → notes ≡ changes_by_commands bodies payloads → after ≡ after_commands s.fixtures bodies payloads
     → moved ≡ moved_bodies work.is_known work.moved (length bodies) (numbers_of notes)
     → All (λ number. number < length after) moved × HaveStayed moved (bodies_of m) s.fixtures after

@@ -15,6 +15,7 @@ pub mod KeptImpulses
 pub mod Apart
 pub mod Alone
 pub mod AloneContacts
+pub mod Restored
 pub mod Joined
 pub mod Untouched
 pub mod Following

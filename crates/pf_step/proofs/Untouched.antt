@@ -161,6 +161,11 @@ world_with s before bodies points =
       contacts = with_rows contacts after.rows;
     }
 
+-- no points, no contacts
+pub no_points : (contacts : List Contact) → next_contacts contacts [] ≡ []
+unfolding next_contacts
+no_points contacts = refl
+
 no_contacts : (contacts : List Contact) (rows : List Row) → with_rows (next_contacts contacts []) rows ≡ []
 unfolding next_contacts with_rows
 no_contacts contacts rows = refl

@@ -3,6 +3,7 @@ use Rattle.std.specs.Prelude.{◌≡◌, ℕ, ◌<◌, List, [], ◌∷◌, ◌+
 use Rattle.std.specs.List.{flat_map, range_with_len}
 use Rattle.pf_shapes.specs.Body.{BodyState}
 use Rattle.pf_cache.specs.Contact.{Contact}
+use Rattle.pf_cache.specs.ContactsChange.{ContactsChange, contact_of_row, contacts_before}
 use Rattle.pf_commands.specs.declared.payload.Payload.{Payload}
 use Rattle.pf_commands.specs.Payload.{body_of}
 use Rattle.pf_islands.specs.Rows.{is_awake_at}
@@ -14,10 +15,10 @@ pub record BodyChange : Type 0 where
   pub number : ℕ
   pub before : BodyState
 
--- the changes of bodies, in their order, and the contacts of the world before
+-- the changes of bodies, in their order, and the change of the contacts
 pub record Changes : Type 0 where
   pub bodies : List BodyChange
-  pub contacts : List Contact
+  pub contacts : ContactsChange
 
 -- the bodies before some changes, of those after them: the last change is undone first
 unfoldable pub bodies_before : List BodyChange → List BodyState → List BodyState
@@ -26,8 +27,10 @@ bodies_before (c ∷ changes) bodies = slice_set (bodies_before changes bodies) 
 
 -- the world before a step, of the world after it
 unfoldable pub world_before : Changes → World → World
-world_before changes w =
-    record { bodies = bodies_before changes.bodies w.bodies; contacts = changes.contacts }
+world_before changes w = record {
+  bodies = bodies_before changes.bodies w.bodies;
+  contacts = contacts_before changes.contacts w.contacts;
+}
 
 -- the numbers of the bodies that are noted
 abbrev pub numbers_of : List BodyChange → List ℕ
@@ -64,3 +67,7 @@ changes_of_islands bodies islands = flat_map (λ i. changes_of bodies i.numbers)
 abbrev pub changes_of_awake : List BodyState → List BodyChange
 changes_of_awake bodies =
     changes_of bodies (filter (is_awake_at bodies) (range_with_len 0 (length bodies)))
+
+-- the contacts of islands, as they are before their impulses change
+abbrev pub contacts_of_islands : List Contact → List Island → List Contact
+contacts_of_islands contacts islands = flat_map (λ i. map (contact_of_row contacts) i.rows) islands

@@ -42,7 +42,7 @@ moved_bodies true moved count commanded = moved ++ commanded
 moved_bodies false moved count commanded = range_with_len 0 count
 
 -- where a work knows which bodies may have moved, all others of this scene stand as it kept them
-abbrev pub Follows : Scene → List BodyState → Work → Type 0
-Follows s bodies w =
+abbrev pub KnowsMoved : Scene → List BodyState → Work → Type 0
+KnowsMoved s bodies w =
     w.is_known ≡ true → All (λ number. number < length bodies) w.moved
     × HaveStayed w.moved (bodies_of w.manifolds) s.fixtures bodies

@@ -4,9 +4,10 @@ ghost use Rattle.std.specs.Prelude.{◌≡◌, ◌++◌, [], IsOk, OnErr, OnOk, 
 ghost use Rattle.pf_step.specs.Changes.{bodies_before, change_of, changes_of};
 
 use crate::work::Work;
-use pf_cache::Contacts;
+use pf_cache::{Contacts, ContactsChange};
 use pf_commands::Payload;
 use pf_islands::Island;
+use pf_manifold::Touch;
 use pf_shapes::BodyState;
 use std::alloc::{AllocError, Global};
 use std::marker::Model;
@@ -30,13 +31,13 @@ impl Model for BodyChange {
 }
 
 /// What a step changed in a world: the states that its bodies had, of those that the step may have
-/// changed, and the contacts of the world before. With it [`World::undo`](crate::World::undo)
-/// restores the world before the step. Where most bodies sleep it has few bodies, but all contacts;
-/// no clause says how few.
+/// changed, and what it changed of the contacts. With it [`World::undo`](crate::World::undo)
+/// restores the world before the step. Where most bodies sleep it has few bodies and contacts; no
+/// clause says how few.
 #[derive(Debug, Drop)]
 pub struct Changes {
     bodies: Vec<BodyChange>,
-    contacts: Contacts,
+    contacts: ContactsChange,
 }
 
 impl Model for Changes {
@@ -106,16 +107,23 @@ pub(crate) fn undo_bodies(bodies: &mut [BodyState], changes: &[BodyChange])
 }
 
 impl Changes {
-    ghost use Rattle.std.specs.Prelude.{◌≡◌, ◌++◌, [], IsOk, OnOk};
-    ghost use Rattle.pf_step.specs.Changes.{bodies_before, changes_by_commands, changes_of_awake, changes_of_islands};
+    ghost use Rattle.std.specs.Prelude.{◌≡◌, ◌++◌, [], All, IsOk, OnErr, OnOk};
+    ghost use Rattle.pf_manifold.specs.Key.{AreTouches};
+    ghost use Rattle.pf_cache.specs.Contact.{next_contacts};
+    ghost use Rattle.pf_cache.specs.ContactRows.{AreRowsAt};
+    ghost use Rattle.pf_cache.specs.ContactsChange.{contacts_before};
+    ghost use Rattle.pf_step.specs.Changes.{bodies_before, changes_by_commands, changes_of_awake, changes_of_islands, contacts_of_islands};
 
     /// No changes of a world without contacts. Takes no memory.
     pub(crate) fn new(alloc: Global) -> Changes
-        ensures { result ≡ record { bodies = []; contacts = [] } }
+        ensures { result ≡ record {
+          bodies = [];
+          contacts = record { same = 0; noted = []; behind = [] };
+        } }
     {
         Changes {
             bodies: Vec::new(alloc),
-            contacts: Contacts::new(alloc),
+            contacts: ContactsChange::new(alloc),
         }
     }
 
@@ -158,6 +166,7 @@ impl Changes {
     ) -> Result<(), AllocError>
         ensures noted { OnOk result (self.new.bodies
             ≡ self.old.bodies ++ changes_of_islands bodies.now islands.now) }
+        ensures contacts { self.new.contacts ≡ self.old.contacts }
         ensures same { bodies_before self.new.bodies bodies.now
             ≡ bodies_before self.old.bodies bodies.now }
         ensures no_memory { bodies.now ≡ [] → IsOk result }
@@ -184,24 +193,62 @@ impl Changes {
         Ok(())
     }
 
-    /// Keeps the contacts of the world before the step, and returns the list that stood here, whose
-    /// memory is free.
-    pub(crate) fn note_contacts(&mut self, contacts: Contacts) -> Contacts
-        ensures noted { self.new ≡ record self.old { contacts = contacts } }
-        ensures before { result ≡ self.old.contacts }
+    /// Makes of the contacts of the last tick those of these points, and keeps what that changes. An
+    /// error leaves the contacts as they are.
+    pub(crate) fn update_contacts(
+        &mut self,
+        contacts: &mut Contacts,
+        touches: &[Touch],
+    ) -> Result<(), AllocError>
+        requires { AreTouches touches.now }
+        ensures value { OnOk result (contacts.new ≡ next_contacts contacts.old touches.now) }
+        ensures before { OnOk result
+            (contacts_before self.new.contacts contacts.new ≡ contacts.old) }
+        ensures unchanged { OnErr result (contacts.new ≡ contacts.old) }
+        ensures bodies { self.new.bodies ≡ self.old.bodies }
+        ensures no_memory { touches.now ≡ [] → IsOk result }
     {
-        mem::replace(&mut self.contacts, contacts)
+        contacts.update(touches, &mut self.contacts)
     }
 
-    /// The changes of bodies, and the contacts before.
-    pub(crate) fn into_parts(self) -> (Vec<BodyChange>, Contacts)
+    /// Notes the impulses of the contacts of islands. After an error some of them may be noted.
+    pub(crate) fn note_impulses(
+        &mut self,
+        contacts: &Contacts,
+        islands: &[Island],
+    ) -> Result<(), AllocError>
+        requires { All (λ i. AreRowsAt contacts.now i.rows) islands.now }
+        ensures noted { OnOk result (self.new.contacts.noted
+            ≡ self.old.contacts.noted ++ contacts_of_islands contacts.now islands.now) }
+        ensures same { contacts_before self.new.contacts contacts.now
+            ≡ contacts_before self.old.contacts contacts.now }
+        ensures bodies { self.new.bodies ≡ self.old.bodies }
+        ensures no_memory { islands.now ≡ [] → IsOk result }
+    {
+        for island in islands {
+            contacts.note(&island.rows, &mut self.contacts)?;
+        }
+        Ok(())
+    }
+
+    /// Undoes the change of the contacts. Takes no memory.
+    pub(crate) fn undo_contacts(&mut self, alloc: Global, contacts: &mut Contacts)
+        ensures contacts { contacts.new ≡ contacts_before self.old.contacts contacts.old }
+        ensures bodies { self.new.bodies ≡ self.old.bodies }
+    {
+        let change = mem::replace(&mut self.contacts, ContactsChange::new(alloc));
+        contacts.undo(change);
+    }
+
+    /// The changes of bodies, and that of the contacts.
+    pub(crate) fn into_parts(self) -> (Vec<BodyChange>, ContactsChange)
         ensures { (result.0.items ≡ self.bodies) × (result.1 ≡ self.contacts) }
     {
         (self.bodies, self.contacts)
     }
 
-    /// The contacts before the step.
-    pub(crate) fn contacts(&self) -> &Contacts
+    /// The change of the contacts.
+    pub(crate) fn contacts(&self) -> &ContactsChange
         ensures { result.now ≡ self.now.contacts }
     {
         &self.contacts

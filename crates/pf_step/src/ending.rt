@@ -1,13 +1,14 @@
 //! A tick from its contact points on.
 
-ghost use Rattle.std.specs.Prelude.{◌≡◌, ◌≢◌, [], Err, All, IfErr, IfOk, IsOk, OnOk, length};
-ghost use Rattle.pf_manifold.specs.Key.{AreTouches};
+ghost use Rattle.std.specs.Prelude.{◌≡◌, ◌≢◌, ◌++◌, [], Err, All, IfErr, IfOk, IsOk, OnOk, length, map};
+ghost use Rattle.pf_manifold.specs.Key.{AreTouches, key_of};
 ghost use Rattle.pf_manifold.specs.Touches.{IsTouchOf};
+ghost use Rattle.pf_cache.specs.ContactsChange.{contacts_before};
 ghost use Rattle.pf_cache.specs.Manifolds.{kept_touches};
 ghost use Rattle.pf_islands.specs.Split.{IsIslandOf};
 ghost use Rattle.pf_step.specs.declared.crew.StepError.TheVariants.{OutOfMemory};
-ghost use Rattle.pf_step.specs.Activity.{contacts_of_bodies, islands_of_bodies};
-ghost use Rattle.pf_step.specs.Changes.{numbers_of};
+ghost use Rattle.pf_step.specs.Activity.{islands_of_bodies, updated_islands};
+ghost use Rattle.pf_step.specs.Changes.{bodies_before, changes_of_islands, contacts_of_islands, numbers_of};
 ghost use Rattle.pf_step.specs.Stepping.{FailsBy, IsEnding};
 ghost use Rattle.pf_step.specs.Step.{touches_of_scene};
 
@@ -15,64 +16,66 @@ use crate::changes::Changes;
 use crate::crew::{Crew, StepError};
 use crate::work::Work;
 use crate::world::World;
-use pf_cache::{Collisions, Contacts};
+use pf_cache::Collisions;
 use pf_islands::{Island, join_back, wake_and_split};
 use pf_shapes::Scene;
 use pf_solver::solve_untouched;
 use std::alloc::{AllocError, Global};
-use std::mem;
 
-/// A tick before its islands are solved.
-#[derive(Drop)]
-struct Tick {
-    /// All contacts.
-    contacts: Contacts,
-    /// Copies of the bodies and contacts that are simulated.
-    islands: Vec<Island>,
-}
-
-/// The contacts and islands of a tick after its phases Points and Activity, in the memory of
-/// `spare`. `found` is what the narrow phase found for the bodies of the world; its contacts are
-/// those of the last tick.
-#[tactic(auto, using(crate::proofs::Lengths::updated_length))]
+/// The islands of a tick in the world after its phases Commands and Points, whose contacts are
+/// updated. Notes their bodies and contacts, and lists these bodies as those that may have moved.
+/// After an error some of them may be noted.
+#[tactic(auto, using(crate::proofs::Restored::islands_beside))]
 fn prepare(
     alloc: Global,
     scene: &Scene,
     world: &World,
-    spare: Tick,
     found: &Collisions,
-) -> Result<Tick, AllocError>
+    work: &mut Work,
+    changes: &mut Changes,
+) -> Result<Vec<Island>, AllocError>
     requires bodies { length world.now.bodies ≡ length scene.now.fixtures }
     requires points { kept_touches found.now.manifolds
         ≡ touches_of_scene scene.now world.now.bodies }
     requires touches { All (IsTouchOf (length world.now.bodies))
         (kept_touches found.now.manifolds) }
-    ensures contacts { IfOk result (λ tick. tick.contacts
-        ≡ contacts_of_bodies scene.now world.now.contacts world.now.bodies) }
-    ensures islands { IfOk result (λ tick. tick.islands.items
-        ≡ islands_of_bodies scene.now world.now.contacts world.now.bodies) }
-    ensures fit { IfOk result (λ tick. All (IsIslandOf scene.now) tick.islands.items) }
-    ensures order { IfOk result
-        (λ tick. AreTouches (touches_of_scene scene.now world.now.bodies)) }
-    ensures no_memory { world.now.bodies ≡ [] → IsOk result }
+    requires order { AreTouches (touches_of_scene scene.now world.now.bodies) }
+    requires keys { map (λ c. c.key) world.now.contacts
+        ≡ map key_of (touches_of_scene scene.now world.now.bodies) }
+    ensures islands { IfOk result (λ islands. islands.items
+        ≡ updated_islands scene.now world.now.contacts world.now.bodies) }
+    ensures fit { IfOk result (λ islands. All (IsIslandOf scene.now) islands.items) }
+    ensures noted { OnOk result (changes.new.bodies ≡ changes.old.bodies
+        ++ changes_of_islands world.now.bodies
+        (updated_islands scene.now world.now.contacts world.now.bodies)) }
+    ensures impulses { OnOk result (changes.new.contacts.noted ≡ changes.old.contacts.noted
+        ++ contacts_of_islands world.now.contacts
+        (updated_islands scene.now world.now.contacts world.now.bodies)) }
+    ensures same { bodies_before changes.new.bodies world.now.bodies
+        ≡ bodies_before changes.old.bodies world.now.bodies }
+    ensures same_contacts { contacts_before changes.new.contacts world.now.contacts
+        ≡ contacts_before changes.old.contacts world.now.contacts }
+    ensures moved { OnOk result (work.new.moved ≡ numbers_of changes.new.bodies) }
+    ensures work { work.new ≡ record work.old { moved = work.new.moved } }
+    ensures no_memory { world.now.bodies ≡ [] → changes.old.bodies ≡ [] → IsOk result }
 {
-    let touches = found.manifolds.touches();
-    let contacts = world.contacts.update(spare.contacts, touches)?;
     let islands = wake_and_split(
         alloc,
-        spare.islands,
+        work.take_islands(alloc),
         scene,
         &world.bodies,
-        touches,
+        found.manifolds.touches(),
         found.manifolds.spans(),
-        contacts.as_slice(),
+        world.contacts.as_slice(),
     )?;
-    Ok(Tick { contacts, islands })
+    changes.note_islands(&world.bodies, &islands)?;
+    changes.note_impulses(&world.contacts, &islands)?;
+    work.set_moved(changes.bodies())?;
+    Ok(islands)
 }
 
 /// The end of a tick without contact points: each body is simulated on its own.
 fn finish_untouched(
-    alloc: Global,
     scene: &Scene,
     world: &mut World,
     work: &mut Work,
@@ -87,8 +90,8 @@ fn finish_untouched(
 {
     changes.note_awake(&world.bodies)?;
     work.set_moved(changes.bodies())?;
+    changes.update_contacts(&mut world.contacts, &[])?;
     solve_untouched(scene, &mut world.bodies);
-    changes.note_contacts(mem::replace(&mut world.contacts, Contacts::new(alloc)));
     Ok(())
 }
 
@@ -121,21 +124,27 @@ pub(crate) fn finish<C: Crew>(
     ensures no_memory { world.old.bodies ≡ [] → changes.old.bodies ≡ []
         → result ≢ Err OutOfMemory }
 {
-    if found.manifolds.touches().is_empty() && crew.skips_untouched() {
-        finish_untouched(alloc, scene, world, work, changes)?;
+    let touches = found.manifolds.touches();
+    if touches.is_empty() && crew.skips_untouched() {
+        finish_untouched(scene, world, work, changes)?;
         return Ok(());
     }
-    let spare = Tick {
-        contacts: changes.note_contacts(Contacts::new(alloc)),
-        islands: work.take_islands(alloc),
+    changes.update_contacts(&mut world.contacts, touches)?;
+    let islands = match prepare(alloc, scene, world, found, work, changes) {
+        Ok(islands) => islands,
+        Err(error) => {
+            changes.undo_contacts(alloc, &mut world.contacts);
+            return Err(StepError::from(error));
+        }
     };
-    let tick = prepare(alloc, scene, world, spare, found)?;
-    changes.note_islands(&world.bodies, &tick.islands)?;
-    work.set_moved(changes.bodies())?;
-    let solved = crew.solve(scene, tick.islands)?;
-    let mut contacts = tick.contacts;
-    join_back(&solved, &mut world.bodies, &mut contacts);
-    changes.note_contacts(mem::replace(&mut world.contacts, contacts));
+    let solved = match crew.solve(scene, islands) {
+        Ok(solved) => solved,
+        Err(error) => {
+            changes.undo_contacts(alloc, &mut world.contacts);
+            return Err(StepError::Crew(error));
+        }
+    };
+    join_back(&solved, &mut world.bodies, &mut world.contacts);
     work.keep_islands(solved);
     Ok(())
 }

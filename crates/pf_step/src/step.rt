@@ -7,7 +7,7 @@ ghost use Rattle.pf_cache.specs.Manifolds.{kept_touches};
 ghost use Rattle.pf_step.specs.declared.crew.StepError.TheVariants.{OutOfMemory};
 ghost use Rattle.pf_step.specs.Activity.{islands_of_tick};
 ghost use Rattle.pf_cache.specs.PlacedBodies.{HaveStayed, bodies_of};
-ghost use Rattle.pf_step.specs.Work.{Follows};
+ghost use Rattle.pf_step.specs.Work.{KnowsMoved};
 ghost use Rattle.pf_step.specs.Stepping.{FailsBy, IsStep};
 ghost use Rattle.pf_step.specs.Commands.{after_commands};
 ghost use Rattle.pf_step.specs.Step.{collisions_of_bodies, touches_of_scene};
@@ -20,10 +20,9 @@ use crate::work::Work;
 use crate::world::World;
 use pf_cache::{Collisions, Manifolds};
 use pf_commands::Payload;
-use pf_manifold::{Collider, OneThread, SeveralThreads};
+use pf_manifold::{Collider, OneThread};
 use pf_shapes::{BodyState, Scene};
 use std::alloc::{AllocError, Global};
-use std::thread::Threads;
 
 /// The contact points of the bodies of a scene as they stand; kept ones are reused. Only bodies of
 /// `moved` may have moved since these were kept.
@@ -73,7 +72,7 @@ pub fn step_next<P: Collider, C: Crew>(
 ) -> Result<Changes, StepError>
     requires can { P.can_collide collider.now }
     requires world { length world.old.bodies ≡ length scene.now.fixtures }
-    requires follows { Follows scene.now world.old.bodies work.old }
+    requires follows { KnowsMoved scene.now world.old.bodies work.old }
     ensures step { IsStep scene.now world.old payloads.now work.old work.new world.new result }
     ensures called { let islands = islands_of_tick scene.now world.old payloads.now in
         OnOk result (C.is_called crew.old islands crew.new) }
@@ -155,27 +154,4 @@ pub fn step_on_one_thread(
         Err(StepError::OutOfMemory) => Err(AllocError),
         Err(StepError::Crew(_)) => unreachable!(),
     }
-}
-
-/// [`step_by`] with a crew. If [`pf_manifold::PAIRS_FOR_THREADS`] pairs or more cannot reuse kept
-/// points, several threads compute the points.
-pub fn step_with<R: Threads + Sync, C: Crew>(
-    rt: &R,
-    alloc: Global,
-    scene: &Scene,
-    world: &mut World,
-    payloads: &[Payload],
-    work: &mut Work,
-    crew: &mut C,
-) -> Result<Changes, StepError>
-    requires { length world.old.bodies ≡ length scene.now.fixtures }
-    ensures step { IsStep scene.now world.old payloads.now work.old work.new world.new result }
-    ensures called { let islands = islands_of_tick scene.now world.old payloads.now in
-        OnOk result (C.is_called crew.old islands crew.new) }
-    ensures failed { let islands = islands_of_tick scene.now world.old payloads.now in
-        IfErr result (λ error. FailsBy C.may_fail crew.old islands error crew.new) }
-    ensures no_memory { world.old.bodies ≡ [] → result ≢ Err OutOfMemory }
-{
-    let collider = SeveralThreads { rt };
-    step_by(&collider, alloc, scene, world, payloads, work, crew)
 }

@@ -68,28 +68,28 @@ impl World {
     }
 
     /// Undoes a step: this is the world after it, and `changes` are what it returned. Other changes
-    /// are undone all the same: each noted body gets its noted state. Takes time for what changed,
-    /// and no memory.
+    /// are undone all the same: each noted body gets its noted state, and of the contacts the first
+    /// ones are kept where they stand before those that are noted. Takes time for what changed and
+    /// for the contacts, and no memory.
     #[tactic(auto, unfolding(crate::specs::Changes::world_before))]
     pub fn undo(&mut self, changes: Changes)
         ensures { self.new ≡ world_before changes self.old }
     {
         let (bodies, contacts) = changes.into_parts();
         undo_bodies(&mut self.bodies, &bodies);
-        self.contacts = contacts;
+        self.contacts.undo(contacts);
     }
 
-    /// Undoes a step as [`World::undo`] does, where the changes are still needed. Copies the
-    /// contacts, and takes memory where there are some. Out of memory changes nothing.
+    /// Undoes a step as [`World::undo`] does, where the changes are still needed. May take memory
+    /// for contacts. Out of memory changes nothing.
     #[tactic(auto, unfolding(crate::specs::Changes::world_before))]
     pub fn undo_copied(&mut self, changes: &Changes) -> Result<(), AllocError>
         ensures value { OnOk result (self.new ≡ world_before changes.now self.old) }
         ensures err { OnErr result (self.new ≡ self.old) }
         ensures no_memory { (world_before changes.now self.old).contacts ≡ [] → IsOk result }
     {
-        let contacts = changes.contacts().try_clone()?;
+        self.contacts.undo_copied(changes.contacts())?;
         undo_bodies(&mut self.bodies, changes.bodies());
-        self.contacts = contacts;
         Ok(())
     }
 

@@ -2,11 +2,11 @@ use Rattle.std.proofs.Common.{◌∙◌, ◌++◌, ap, ap₂, map, sym}
 use Rattle.std.proofs.lemmas.List.{with_items_is}
 use Rattle.pf_solver.specs.Alone.{body_after_tick}
 use Rattle.pf_solver.specs.Bodies.{gravity_per_tick}
-use Rattle.pf_step.specs.Changes.{Changes, bodies_before, changes_of_awake, world_before}
+use Rattle.pf_step.specs.Changes.{bodies_before, changes_of_awake, world_before}
 use Rattle.pf_step.specs.World.{World}
 use Rattle.pf_step.proofs.Changing.{before_more}
 use Rattle.pf_step.proofs.Following.{all_within}
-use Rattle.pf_step.proofs.Untouched.{awake_before, untouched_world}
+use Rattle.pf_step.proofs.Untouched.{awake_before, no_points, untouched_world}
 use Rattle.pf_step.proofs.ending.finish_untouched.Goals as goal
 
 pub returns-clause-ending : goal.returns-clause-ending
@@ -19,16 +19,15 @@ returns-clause-ending c =
     let of_world = ap (λ (x : World). x.bodies) c.world.view_is in
     let bodies = with_items_is c.world.inside.bodies c.solve_untouched.new.bodies (c.solve_untouched.auto.bodies ∙ c.deref_mut.ensures.len)
     ∙ c.solve_untouched.ensures ∙ ap (map (body_after_tick pull)) (c.deref_mut.ensures.value ∙ of_world) in
-    let notes = ap (λ (x : Changes). x.bodies) c.note_contacts.ensures.noted ∙ c.in_ok-note_awake.ensures.noted
+    let notes = c.update_contacts.ensures.bodies ∙ c.in_ok-note_awake.ensures.noted
     ∙ ap (λ bs. noted ++ changes_of_awake bs) (c.deref.ensures.value ∙ of_world) in
     record {
-      value = ap₂ (λ bs cs. record { bodies = bs; contacts = cs }) bodies (c.replace.ensures.after ∙ c.new.ensures)
+      value = ap₂ (λ bs cs. record { bodies = bs; contacts = cs }) bodies (c.in_ok-update_contacts.ensures.value ∙ no_points c.world.inside.contacts)
           ∙ sym (untouched_world s w.contacts w.bodies c.requires.bodies c.requires.untouched);
       before = ap₂ (λ bs cs. record { bodies = bs; contacts = cs })
           (ap₂ bodies_before notes bodies ∙ before_more noted (changes_of_awake w.bodies) (map (body_after_tick pull) w.bodies)
           ∙ ap (bodies_before noted) (awake_before pull w.bodies))
-          (ap (λ (x : Changes). x.contacts) c.note_contacts.ensures.noted ∙ c.replace.ensures.value
-          ∙ ap (λ (x : World). x.contacts) c.world.view_is);
+          (c.in_ok-update_contacts.ensures.before ∙ ap (λ (x : World). x.contacts) c.world.view_is);
       added = (changes_of_awake w.bodies, notes, all_within w.bodies (λ n. n) _);
       unchanged = tt;
       undone = tt;

@@ -1,0 +1,49 @@
+use Rattle.std.proofs.Common.{◌∙◌, ◌++◌, All, ap, ap₂, subst, sym}
+use Rattle.pf_cache.specs.ContactRows.{AreRowsAt}
+use Rattle.pf_cache.specs.ContactsChange.{contacts_before}
+use Rattle.pf_cache.specs.Manifolds.{Collisions, kept_touches}
+use Rattle.pf_islands.specs.Split.{Island}
+use Rattle.pf_step.specs.Changes.{contacts_of_islands}
+use Rattle.pf_step.specs.World.{World}
+use Rattle.pf_step.proofs.Restored.{islands_are, islands_beside}
+use Rattle.pf_step.proofs.ending.prepare.Goals as goal
+
+pub note_impulses-requires : goal.note_impulses-requires
+note_impulses-requires c =
+    let found = c.deref-4.ensures.value ∙ islands_are c.args.scene.now c.args.world.now.contacts c.args.world.now.bodies c.touches.result.now c.deref.result.now c.as_slice.result.now
+    c.in_ok-islands.islands.items c.in_ok-islands.ensures.value
+    (c.touches.ensures.value ∙ ap (λ (x : Collisions). kept_touches x.manifolds) c.found.view_is ∙ c.requires.points)
+    (c.deref.ensures.value ∙ ap (λ (w : World). w.bodies) c.world.view_is)
+    (c.as_slice.ensures.value ∙ ap (λ (w : World). w.contacts) c.world.view_is) in
+    let w = c.args.world.now in
+    subst (λ cs. All (λ (x : Island). AreRowsAt cs x.rows) c.deref-4.result.now) (sym (ap (λ (v : World). v.contacts) c.world.view_is))
+    (subst (All (λ (x : Island). AreRowsAt w.contacts x.rows)) (sym found)
+    (islands_beside c.args.scene.now w.contacts w.bodies c.requires.order c.requires.keys))
+
+pub returns-in_err-note_impulses-clause-same_contacts : goal.returns-in_err-note_impulses-clause-same_contacts
+returns-in_err-note_impulses-clause-same_contacts c =
+    let own = ap (λ (w : World). w.contacts) c.world.view_is in
+    ap (contacts_before c.note_impulses.new.self.contacts) (sym own) ∙ c.note_impulses.ensures.same
+    ∙ ap₂ contacts_before c.in_ok-note_islands.ensures.contacts own
+
+pub returns-in_err-set_moved-clause-same_contacts : goal.returns-in_err-set_moved-clause-same_contacts
+returns-in_err-set_moved-clause-same_contacts c =
+    let own = ap (λ (w : World). w.contacts) c.world.view_is in
+    ap (contacts_before c.note_impulses.new.self.contacts) (sym own) ∙ c.note_impulses.ensures.same
+    ∙ ap₂ contacts_before c.in_ok-note_islands.ensures.contacts own
+
+pub returns-clause-impulses : goal.returns-clause-impulses
+returns-clause-impulses c =
+    let found = c.deref-4.ensures.value ∙ islands_are c.args.scene.now c.args.world.now.contacts c.args.world.now.bodies c.touches.result.now c.deref.result.now c.as_slice.result.now
+    c.in_ok-islands.islands.items c.in_ok-islands.ensures.value
+    (c.touches.ensures.value ∙ ap (λ (x : Collisions). kept_touches x.manifolds) c.found.view_is ∙ c.requires.points)
+    (c.deref.ensures.value ∙ ap (λ (w : World). w.bodies) c.world.view_is)
+    (c.as_slice.ensures.value ∙ ap (λ (w : World). w.contacts) c.world.view_is) in
+    c.in_ok-note_impulses.ensures.noted
+    ∙ (λ i. (c.in_ok-note_islands.ensures.contacts i).noted ++ contacts_of_islands (ap (λ (v : World). v.contacts) c.world.view_is i) (found i))
+
+pub returns-clause-same_contacts : goal.returns-clause-same_contacts
+returns-clause-same_contacts c =
+    let own = ap (λ (w : World). w.contacts) c.world.view_is in
+    ap (contacts_before c.note_impulses.new.self.contacts) (sym own) ∙ c.note_impulses.ensures.same
+    ∙ ap₂ contacts_before c.in_ok-note_islands.ensures.contacts own

@@ -1,67 +1,63 @@
-use Rattle.std.proofs.Common.{◌≡◌, ◌∙◌, ◌+◌, ◌-◌, ◌≤◌, ◌++◌, ap, arith, drop, length, length-drop, map, refl, sym, take}
-use Rattle.pf_manifold.specs.Key.{key_of}
-use Rattle.pf_cache.specs.Contact.{Contact, next_contacts}
-use Rattle.pf_cache.proofs.Kept.{finished, finished_are_contacts}
-use Rattle.pf_cache.proofs.Runs.{HaveSameKeys, rest_is, run_done}
-use Rattle.pf_cache.proofs.Walk.{made_step, same_step}
+use Rattle.std.proofs.Common.{◌≡◌, ◌∙◌, ◌++◌, ◌≤◌, All, ap, ap₂, length, subst, sym}
+use Rattle.std.proofs.lemmas.List.Elements.{All-nil}
+use Rattle.pf_manifold.specs.Key.{AreTouches, IsKey}
+use Rattle.pf_cache.specs.Contact.{AreContacts, next_contacts}
+use Rattle.pf_cache.specs.ContactsChange.{contacts_before}
+use Rattle.pf_cache.proofs.Kept.{updated_are_contacts}
+use Rattle.pf_cache.proofs.Restoring.{before_next, next_from, rest_are_contacts, rest_are_touches}
+use Rattle.pf_cache.proofs.Runs.{HaveSameKeys, rest_is}
 use Rattle.pf_cache.proofs.contacts.Contacts.update.Goals as goal
 
-pub invariant_of-result : goal.invariant_of-result
-invariant_of-result c =
-    finished_are_contacts c.as_slice-old.result.now c.args.touches.now _ _ c.loop-done-test.false c.loop-done.invariant.made c.requires
+pub add_next-requires-clause-old : goal.add_next-requires-clause-old
+add_next-requires-clause-old c =
+    subst AreContacts (sym (c.deref-2.ensures.value ∙ c.in_ok-move_behind.ensures.moved))
+    (rest_are_contacts c.same_keys-same.result c.self.inside.list.items c.self.invariant)
+
+pub add_next-requires-clause-touches : goal.add_next-requires-clause-touches
+add_next-requires-clause-touches c =
+    let touches = c.args.touches.now in
+    subst AreTouches (sym (rest_is touches c.same_keys-same.result)) (rest_are_touches c.same_keys-same.result touches c.requires)
+
+inside : (c : goal.After-add_next) → c.same_keys-same.result ≤ length c.self.inside.list.items
+inside c = subst (λ cs. c.same_keys-same.result ≤ length cs) c.deref.ensures.value c.same_keys-same.ensures.contacts
+
+keys : (c : goal.After-add_next) → HaveSameKeys c.self.inside.list.items c.args.touches.now c.same_keys-same.result
+keys c =
+    subst (λ cs. HaveSameKeys cs c.args.touches.now c.same_keys-same.result) c.deref.ensures.value c.same_keys-same.ensures.same
+
+next : (c : goal.After-add_next) → c.add_next.new.list.items ≡ next_contacts c.self.inside.list.items c.args.touches.now
+next c =
+    c.add_next.ensures
+    ∙ ap₂ (λ xs ys. xs ++ ys) c.in_ok-move_behind.ensures.first
+    (ap₂ next_contacts (c.deref-2.ensures.value ∙ c.in_ok-move_behind.ensures.moved)
+    (rest_is c.args.touches.now c.same_keys-same.result))
+    ∙ next_from c.self.inside.list.items c.args.touches.now c.same_keys-same.result c.requires (inside c)
+    c.same_keys-same.ensures.touches (keys c)
 
 pub returns-clause-value : goal.returns-clause-value
-returns-clause-value c =
-    finished c.as_slice-old.result.now c.args.touches.now _ _ c.loop-done-test.false c.loop-done.invariant.made
-    ∙ ap (λ old. next_contacts old c.args.touches.now) (c.as_slice-old.ensures.value ∙ c.self.view_is)
+returns-clause-value c = next c ∙ ap (λ cs. next_contacts cs c.args.touches.now) c.self.view_is
 
-pub loop-done-preserved : goal.loop-done-preserved
-loop-done-preserved c =
-    let old = c.as_slice-old.result.now in
-    let touches = c.args.touches.now in
-    let i = c.loop-done.done in
-    let place = c.loop-done.place in
-    let r = c.same_keys-run.result in
-    let left = rest_is old place in
-    let left_touches = rest_is touches i in
-    let inside : place + r ≤ length old =
-    omega (arith, c.same_keys-run.ensures.contacts, ap length left, length-drop place old, c.loop-done.invariant.within) in
-    let within : i + r ≤ length touches =
-    omega (arith, c.same_keys-run.ensures.touches, ap length left_touches, length-drop i touches, c.loop-done.invariant.points) in
-    let keys : HaveSameKeys (drop place old) (drop i touches) r = sym (ap (λ cs. map (λ (x : Contact). x.key) (take r cs)) left)
-    ∙ c.same_keys-run.ensures.same ∙ ap (λ ts. map key_of (take r ts)) left_touches in
-    let cut : (place + r) - place ≡ r = omega arith in
-    let copied = c.in_ok-extend_from_slice.ensures.items ∙ ap (λ n. c.loop-done.list.items ++ take n (drop place old)) cut in
-    let steps = run_done old touches i place r c.loop-done.list.items c.extend_from_slice.new.self.items c.requires.rising inside within
-    keys c.loop-done.invariant.same c.loop-done.invariant.made copied in
-    record { within = inside; points = within; made = steps.0; same = steps.1 }
+pub invariant_of-self-2 : goal.invariant_of-self-2
+invariant_of-self-2 c =
+    subst AreContacts (sym (next c)) (updated_are_contacts c.self.inside.list.items c.args.touches.now c.requires)
 
-pub loop-done-preserved-then-done-touches : goal.loop-done-preserved-then-done-touches
-loop-done-preserved-then-done-touches c =
-    let old = c.as_slice-old.result.now in
-    let touches = c.args.touches.now in
-    let i = c.loop-done.done in
-    let place = c.loop-done.place in
-    let r = c.same_keys-run.result in
-    let left = rest_is old place in
-    let left_touches = rest_is touches i in
-    let inside : place + r ≤ length old =
-    omega (arith, c.same_keys-run.ensures.contacts, ap length left, length-drop place old, c.loop-done.invariant.within) in
-    let within : i + r ≤ length touches =
-    omega (arith, c.same_keys-run.ensures.touches, ap length left_touches, length-drop i touches, c.loop-done.invariant.points) in
-    let keys : HaveSameKeys (drop place old) (drop i touches) r = sym (ap (λ cs. map (λ (x : Contact). x.key) (take r cs)) left)
-    ∙ c.same_keys-run.ensures.same ∙ ap (λ ts. map key_of (take r ts)) left_touches in
-    let cut : (place + r) - place ≡ r = omega arith in
-    let copied = c.in_ok-extend_from_slice.ensures.items ∙ ap (λ n. c.loop-done.list.items ++ take n (drop place old)) cut in
-    let steps = run_done old touches i place r c.loop-done.list.items c.extend_from_slice.new.self.items c.requires.rising inside within
-    keys c.loop-done.invariant.same c.loop-done.invariant.made copied in
-    let t = c.index-touches-done.result in
-    record {
-      within = c.impulses_of-impulses.ensures.within;
-      points = omega arith;
-      made = made_step old old touches (i + r) (place + r) t t c.of-key.result c.if-done-touches.true c.index-touches-done.is
-          c.of-key.ensures refl steps.1 c.extend_from_slice.new.self.items c.push.new.self.items c.impulses_of-impulses.result.0
-          c.impulses_of-impulses.ensures.impulses steps.0 c.in_ok-push.ensures.items;
-      same = same_step old old touches (i + r) (place + r) t t c.of-key.result c.if-done-touches.true c.index-touches-done.is
-          c.of-key.ensures refl steps.1 c.impulses_of-impulses.result.1 c.impulses_of-impulses.ensures.later c.requires.rising;
-    }
+pub invariant_of-change-2 : goal.invariant_of-change-2
+invariant_of-change-2 c = (
+  subst (All (λ n. IsKey n.key)) (sym c.clear.ensures.items) (All-nil (λ n. IsKey n.key)),
+  subst AreContacts (sym c.in_ok-move_behind.ensures.moved)
+      (rest_are_contacts c.same_keys-same.result c.self.inside.list.items c.self.invariant),
+  c.in_ok-move_behind.ensures.room_behind,
+)
+
+pub returns-clause-before : goal.returns-clause-before
+returns-clause-before c =
+    ap₂ contacts_before
+    (λ i. record {
+      same = c.same_keys-same.result;
+      noted = c.clear.ensures.items i;
+      behind = c.in_ok-move_behind.ensures.moved i;
+    })
+    (next c)
+    ∙ before_next c.self.inside.list.items c.args.touches.now c.same_keys-same.result c.requires (inside c)
+    c.same_keys-same.ensures.touches (keys c) c.self.invariant
+    ∙ c.self.view_is

@@ -7,13 +7,13 @@ pub returns-in_err-note_all-clause-same : goal.returns-in_err-note_all-clause-sa
 returns-in_err-note_all-clause-same c =
     let bodies = c.args.bodies.now in
     c.in_err-note_all.ensures.same
-    ∙ ap (λ cs. bodies_before cs bodies) c.loop-island.invariant
+    ∙ ap (λ cs. bodies_before cs bodies) c.loop-island.invariant.noted
     ∙ island_notes_undo_nothing c.self.inside.bodies.items bodies (take c.loop-island.island-index c.args.islands.now)
     ∙ ap (λ (s : Changes). bodies_before s.bodies bodies) c.self.view_is
 
 pub returns-clause-same : goal.returns-clause-same
 returns-clause-same c =
     let bodies = c.args.bodies.now in
-    ap (λ cs. bodies_before cs bodies) c.loop-island.invariant
+    ap (λ cs. bodies_before cs bodies) c.loop-island.invariant.noted
     ∙ island_notes_undo_nothing c.self.inside.bodies.items bodies (take c.loop-island.island-index c.args.islands.now)
     ∙ ap (λ (s : Changes). bodies_before s.bodies bodies) c.self.view_is

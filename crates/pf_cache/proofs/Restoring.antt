@@ -1,0 +1,358 @@
+-- Contacts with noted impulses, and the contacts before a change.
+use Rattle.std.proofs.Common.{◌≡◌, ◌≢◌, ◌∙◌, ℕ, suc, zero, ◌+◌, ◌≤◌, ◌<◌, ◌==◌, Bool, true, false, ◌&&◌, ◌||◌, List, [], ◌∷◌, ◌++◌, drop, length, length-append, length-take, map, set, take, take-append-drop, refl, sym, ap, ap₂, subst, true≢false, arith}
+use Rattle.std.proofs.lemmas.Bool.{and_parts, lt-ltb, ltb-true}
+use Rattle.std.proofs.lemmas.Bool.Decides.{Decides-eqb}
+use Rattle.std.proofs.lemmas.List.{get_or_default, map-append, map-id, set-get_or}
+use Rattle.std.proofs.Math.Seq.{take-append_seam}
+use Rattle.std.proofs.lemmas.List.Elements.{All-nil, All-cons, All-head, All-tail, All-append, All-drop, All-take}
+use Rattle.std.proofs.lemmas.Simd.{map-map}
+use Rattle.std.specs.List.{list_all, list_any}
+use Rattle.std.specs.Prelude.{All, get_or, nat_lt, if◌then◌else◌}
+use Rattle.pf_manifold.specs.Key.{AreTouches, IsKey, IsRising, Key, key_of, rank}
+use Rattle.pf_manifold.specs.Touches.{Touch}
+use Rattle.pf_manifold.proofs.Rising.{rising-drop, rising-weaken}
+use Rattle.pf_rows.specs.Impulses.{Impulses}
+use Rattle.pf_rows.specs.Row.{Row, impulses_or}
+use Rattle.pf_cache.specs.Contact.{AreContacts, Contact, kept_contact, next_contacts, no_contact}
+use Rattle.pf_cache.specs.ContactRows.{IsRowAt, with_rows}
+use Rattle.pf_cache.specs.ContactsChange.{ContactsChange, contact_of_row, contacts_before, first_before, noted_or, stands_before, with_noted}
+use Rattle.pf_cache.proofs.FoundRows.{row_rank}
+use Rattle.pf_cache.proofs.RankedLists as ranked
+use Rattle.pf_cache.proofs.Runs.{HaveSameKeys, run_done}
+use Rattle.pf_cache.proofs.Walk.{SameFrom}
+
+abbrev rank_of : Contact → ℕ
+rank_of c = rank c.key
+
+-- a contact with the impulses that are noted of it
+abbrev pub before : List Contact → Contact → Contact
+before noted c = record c { impulses = noted_or c.impulses (rank c.key) noted }
+
+-- their ranks ascend as they did
+rising_before : (noted : List Contact) (least : ℕ) (contacts : List Contact) → IsRising least (map rank_of contacts)
+    → IsRising least (map rank_of (map (before noted) contacts))
+rising_before noted least [] h = tt
+rising_before noted least (c ∷ contacts) h = (h.0, rising_before noted (suc (rank c.key)) contacts h.1)
+
+-- and they have their keys
+keys_before : (noted : List Contact) (contacts : List Contact) → All (λ c. IsKey c.key) contacts
+    → All (λ c. IsKey c.key) (map (before noted) contacts)
+keys_before noted [] h = All-nil (λ c. IsKey c.key)
+keys_before noted (c ∷ contacts) h =
+    All-cons (λ x. IsKey x.key) (before noted c) (map (before noted) contacts) (All-head (λ x. IsKey x.key) c contacts h)
+    (keys_before noted contacts (All-tail (λ x. IsKey x.key) c contacts h))
+
+-- so they are still in the order of their keys
+pub noted_are_contacts : (contacts noted : List Contact) → AreContacts contacts → AreContacts (with_noted contacts noted)
+unfolding with_noted
+noted_are_contacts contacts noted order = record {
+  rising = rising_before noted 0 contacts order.rising;
+  keys = keys_before noted contacts order.keys;
+}
+
+-- where nothing is noted, contacts stay as they are
+pub none_noted : (contacts : List Contact) → with_noted contacts [] ≡ contacts
+unfolding with_noted
+none_noted contacts = map-id contacts
+
+-- what is noted twice counts as it is noted first
+pub noted_append : (p : Impulses) (n : ℕ) (noted more : List Contact)
+    → noted_or p n (noted ++ more) ≡ noted_or (noted_or p n more) n noted
+noted_append p n [] more = refl
+noted_append p n (c ∷ noted) more = ap (λ q. if rank c.key == n then c.impulses else q) (noted_append p n noted more)
+
+pub noted_both : (contacts noted more : List Contact)
+    → with_noted (with_noted contacts more) noted ≡ with_noted contacts (noted ++ more)
+unfolding with_noted
+noted_both contacts noted more =
+    map-map (before noted) (before more) contacts
+    ∙ ap (λ (f : Contact → Contact). map f contacts)
+    (λ i c. record c { impulses = sym (noted_append c.impulses (rank c.key) noted more) i })
+
+-- the contact at a place gets what is noted of it
+pub restored_at : (contacts : List Contact) (place : ℕ) (n c : Contact) → AreContacts contacts → place < length contacts
+    → c ≡ get_or contacts place no_contact → rank c.key ≡ rank n.key
+    → set contacts place (record c { impulses = n.impulses }) ≡ with_noted contacts (n ∷ [])
+unfolding with_noted
+restored_at contacts place n c order within c_is same =
+    let here = get_or contacts place no_contact in
+    let own : rank here.key ≡ rank n.key = ap rank_of (sym c_is) ∙ same in
+    ap₂ (λ xs x. set xs place x) (sym (map-id contacts))
+    (ap (λ (x : Contact). record x { impulses = n.impulses }) c_is
+    ∙ ap (λ p. record here { impulses = p })
+    (sym (ranked.first_alone rank_of (λ (x : Contact). x.impulses) here.impulses (rank here.key) n [] (sym own))))
+    ∙ ranked.set_one rank_of (λ x. x) (before (n ∷ [])) 0 contacts place no_contact within order.rising
+    (λ x apart.
+    ap (λ p. record x { impulses = p })
+    (sym (other x.impulses (rank x.key) n (λ e. apart (sym e ∙ sym own)))))
+  where
+    other : (p : Impulses) (m : ℕ) (x : Contact) → rank x.key ≢ m → noted_or p m (x ∷ []) ≡ p
+    other p m x apart = by (rank x.key == m) refl
+      where
+        by : (t : Bool) → (rank x.key == m) ≡ t → (if t then x.impulses else p) ≡ p
+        by true e = absurd (apart ((Decides-eqb (rank x.key) m).0 e))
+        by false e = refl
+
+pub restored_here : (contacts : List Contact) (place : ℕ) (n here : Contact) (key : Key) (p : Impulses) → AreContacts contacts
+    → place < length contacts → here ≡ get_or contacts place here → key ≡ (get_or contacts place here).key → p ≡ n.impulses
+    → rank (get_or contacts place no_contact).key ≡ rank n.key
+    → set contacts place (record { key = key; impulses = p }) ≡ with_noted contacts (n ∷ [])
+restored_here contacts place n here key p order within here_is key_is p_is same =
+    let found : get_or contacts place here ≡ get_or contacts place no_contact = get_or_default contacts place here no_contact within in
+    ap₂ (λ k q. set contacts place (record { key = k; impulses = q })) (key_is ∙ ap (λ (x : Contact). x.key) found) p_is
+    ∙ restored_at contacts place n (get_or contacts place no_contact) order within refl same
+
+-- where there is no such contact, all stay as they are
+pub restored_nowhere : (contacts : List Contact) (n : Contact) → All (λ c. rank c.key ≢ rank n.key) contacts
+    → contacts ≡ with_noted contacts (n ∷ [])
+unfolding with_noted
+restored_nowhere [] n none = refl
+restored_nowhere (c ∷ contacts) n none =
+    ap₂ (λ x xs. x ∷ xs)
+    (ap (λ p. record c { impulses = p })
+    (by (rank n.key == rank c.key) refl))
+    (restored_nowhere contacts n (All-tail (λ x. rank x.key ≢ rank n.key) c contacts none))
+  where
+    by : (t : Bool) → (rank n.key == rank c.key) ≡ t → c.impulses ≡ (if t then n.impulses else c.impulses)
+    by true e =
+        absurd (All-head (λ x. rank x.key ≢ rank n.key) c contacts none (sym ((Decides-eqb (rank n.key) (rank c.key)).0 e)))
+    by false e = refl
+
+-- the first contacts are in the order of their keys
+rising_take : (k least : ℕ) (contacts : List Contact) → IsRising least (map rank_of contacts)
+    → IsRising least (map rank_of (take k contacts))
+rising_take zero least contacts h = tt
+rising_take (suc k) least [] h = tt
+rising_take (suc k) least (c ∷ contacts) h = (h.0, rising_take k (suc (rank c.key)) contacts h.1)
+
+pub first_are_contacts : (k : ℕ) (contacts : List Contact) → AreContacts contacts → AreContacts (take k contacts)
+first_are_contacts k contacts order = record {
+  rising = rising_take k 0 contacts order.rising;
+  keys = All-take (λ c. IsKey c.key) k contacts order.keys;
+}
+
+-- none stand before nothing
+pub before_none : (contacts : List Contact) → list_all (stands_before []) contacts ≡ true
+before_none [] = refl
+before_none (c ∷ contacts) = before_none contacts
+
+-- a contact stands before some where it stands before the first of them
+pub before_first : (behind : List Contact) (d c : Contact) → 0 < length behind
+    → stands_before behind c ≡ nat_lt (rank c.key) (rank (get_or behind 0 d).key)
+before_first [] d c some = absurd (omega (arith, some))
+before_first (b ∷ behind) d c some = refl
+
+-- where there are none, none are in the way
+pub before_nothing : (contacts behind : List Contact) → length behind ≡ 0 → true ≡ list_all (stands_before behind) contacts
+before_nothing contacts [] none = sym (before_none contacts)
+before_nothing contacts (b ∷ behind) none = absurd (omega (arith, none))
+
+-- the last one is restored first
+pub restored_last : (noted rest : List Contact) (n : Contact) (contacts now : List Contact) → noted ≡ rest ++ n ∷ []
+    → now ≡ with_noted contacts (n ∷ []) → with_noted now rest ≡ with_noted contacts noted
+restored_last noted rest n contacts now is restored =
+    ap (λ cs. with_noted cs rest) restored ∙ noted_both contacts rest (n ∷ []) ∙ ap (with_noted contacts) (sym is)
+
+-- the first contacts before a change, where they stand before those behind, and where they do not
+pub first_kept : (change : ContactsChange) (contacts : List Contact)
+    → list_all (stands_before change.behind) (take change.same (with_noted contacts change.noted)) ≡ true
+    → take change.same (with_noted contacts change.noted) ≡ first_before change contacts
+unfolding first_before
+first_kept change contacts stand =
+    ap (λ t. if t then take change.same (with_noted contacts change.noted) else []) (sym stand)
+
+pub first_dropped : (change : ContactsChange) (contacts : List Contact)
+    → list_all (stands_before change.behind) (take change.same (with_noted contacts change.noted)) ≡ false
+    → [] ≡ first_before change contacts
+unfolding first_before
+first_dropped change contacts stand =
+    ap (λ t. if t then take change.same (with_noted contacts change.noted) else []) (sym stand)
+
+-- contacts in front of others in the order of their keys
+joined_rise : (behind : List Contact) (least : ℕ) (first : List Contact) → IsRising least (map rank_of first)
+    → list_all (stands_before behind) first ≡ true → IsRising least (map rank_of behind)
+    → IsRising least (map rank_of (first ++ behind))
+joined_rise behind least [] h stand low = low
+joined_rise behind least (c ∷ first) h stand low =
+    let parts = and_parts (stands_before behind c) (list_all (stands_before behind) first) stand in
+    (h.0, joined_rise behind (suc (rank c.key)) first h.1 parts.1 (after behind parts.0 low))
+  where
+    after : (bs : List Contact) → stands_before bs c ≡ true → IsRising least (map rank_of bs)
+        → IsRising (suc (rank c.key)) (map rank_of bs)
+    after [] stands low = tt
+    after (b ∷ bs) stands low = (ltb-true (rank c.key) (rank b.key) stands, low.1)
+
+pub joined_are_contacts : (first behind : List Contact) → AreContacts first → AreContacts behind
+    → list_all (stands_before behind) first ≡ true → AreContacts (first ++ behind)
+joined_are_contacts first behind one two stand = record {
+  rising = joined_rise behind 0 first one.rising stand two.rising;
+  keys = All-append (λ c. IsKey c.key) first behind one.keys two.keys;
+}
+
+-- nothing follows where all is nothing
+pub none_behind : {X : Type 0} (first behind : List X) → first ++ behind ≡ [] → length behind ≡ 0
+none_behind first behind none =
+    let sizes = length-append first behind in
+    let all = ap length none in
+    omega (arith, sizes, all)
+
+-- ---- contacts of some places that are noted as they are
+
+module _ (contacts : List Contact) (order : AreContacts contacts) where
+  -- they have keys
+  pub rows_have_keys : (rows : List Row) → All (IsRowAt contacts) rows
+      → All (λ c. IsKey c.key) (map (contact_of_row contacts) rows)
+  rows_have_keys [] at = All-nil (λ c. IsKey c.key)
+  rows_have_keys (r ∷ rows) at =
+      All-cons (λ c. IsKey c.key) (contact_of_row contacts r) (map (contact_of_row contacts) rows)
+      (order.keys r.entry.place no_contact (All-head (IsRowAt contacts) r rows at).within)
+      (rows_have_keys rows (All-tail (IsRowAt contacts) r rows at))
+
+  -- contacts that are noted as they are stay as they are
+  rows_stay : (rows : List Row) → All (IsRowAt contacts) rows
+      → with_noted contacts (map (contact_of_row contacts) rows) ≡ contacts
+  rows_stay [] at = none_noted contacts
+  rows_stay (r ∷ rows) at =
+      let n = contact_of_row contacts r in
+      let within = (All-head (IsRowAt contacts) r rows at).within in
+      sym (noted_both contacts (n ∷ []) (map (contact_of_row contacts) rows))
+      ∙ ap (λ cs. with_noted cs (n ∷ [])) (rows_stay rows (All-tail (IsRowAt contacts) r rows at))
+      ∙ sym (restored_at contacts r.entry.place n n order within refl refl)
+      ∙ set-get_or contacts r.entry.place no_contact
+
+  -- to note them changes nothing of the contacts before
+  pub same_before : (same : ℕ) (noted behind : List Contact) (rows : List Row) → All (IsRowAt contacts) rows
+      → contacts_before (record { same = same; noted = noted ++ map (contact_of_row contacts) rows; behind = behind }) contacts
+      ≡ contacts_before (record { same = same; noted = noted; behind = behind }) contacts
+  unfolding first_before
+  same_before same noted behind rows at =
+      let own = sym (noted_both contacts noted (map (contact_of_row contacts) rows))
+      ∙ ap (λ cs. with_noted cs noted) (rows_stay rows at) in
+      ap (λ cs. (if list_all (stands_before behind) (take same cs) then take same cs else []) ++ behind) own
+
+-- ---- impulses that change at noted contacts
+
+-- whether something is noted of this rank
+abbrev pub is_noted : List Contact → ℕ → Bool
+is_noted noted n = list_any (λ (c : Contact). rank c.key == n) noted
+
+-- what is noted counts, whatever a contact has
+whatever : (p q : Impulses) (n : ℕ) (noted : List Contact) → is_noted noted n ≡ true
+    → noted_or p n noted ≡ noted_or q n noted
+whatever p q n [] is = absurd (true≢false (sym is))
+whatever p q n (c ∷ noted) is = by (rank c.key == n) is (whatever p q n noted)
+  where
+    by : (t : Bool) → (t || is_noted noted n) ≡ true
+        → (is_noted noted n ≡ true → noted_or p n noted ≡ noted_or q n noted)
+        → (if t then c.impulses else noted_or p n noted) ≡ (if t then c.impulses else noted_or q n noted)
+    by true is rest = refl
+    by false is rest = rest is
+
+-- and where nothing is noted no row has the rank
+no_row : (p : Impulses) (n : ℕ) (rows : List Row) (noted : List Contact)
+    → All (λ r. is_noted noted (row_rank r) ≡ true) rows → is_noted noted n ≡ false → impulses_or p n rows ≡ p
+no_row p n [] noted all none = refl
+no_row p n (r ∷ rows) noted all none =
+    by (row_rank r == n) refl (no_row p n rows noted (All-tail (λ x. is_noted noted (row_rank x) ≡ true) r rows all) none)
+  where
+    by : (t : Bool) → (row_rank r == n) ≡ t → impulses_or p n rows ≡ p
+        → (if t then r.entry.impulses else impulses_or p n rows) ≡ p
+    by false e rest = rest
+    by true e rest =
+        let same : row_rank r ≡ n = (Decides-eqb (row_rank r) n).0 e in
+        absurd (true≢false (sym (All-head (λ x. is_noted noted (row_rank x) ≡ true) r rows all) ∙ ap (is_noted noted) same ∙ none))
+
+-- so what rows store where the contacts are noted is undone
+pub stored_undone : (contacts : List Contact) (rows : List Row) (noted : List Contact)
+    → All (λ r. is_noted noted (row_rank r) ≡ true) rows
+    → with_noted (with_rows contacts rows) noted ≡ with_noted contacts noted
+unfolding with_noted with_rows
+stored_undone [] rows noted all = refl
+stored_undone (c ∷ contacts) rows noted all =
+    ap₂ (λ x xs. x ∷ xs) (ap (λ p. record c { impulses = p }) (by (is_noted noted (rank c.key)) refl))
+    (stored_undone contacts rows noted all)
+  where
+    by : (t : Bool) → is_noted noted (rank c.key) ≡ t
+        → noted_or (impulses_or c.impulses (rank c.key) rows) (rank c.key) noted ≡ noted_or c.impulses (rank c.key) noted
+    by true is = whatever (impulses_or c.impulses (rank c.key) rows) c.impulses (rank c.key) noted is
+    by false none = ap (λ p. noted_or p (rank c.key) noted) (no_row c.impulses (rank c.key) rows noted all none)
+
+pub before_stored : (change : ContactsChange) (contacts others : List Contact)
+    → with_noted others change.noted ≡ with_noted contacts change.noted
+    → contacts_before change others ≡ contacts_before change contacts
+unfolding first_before
+before_stored change contacts others same =
+    ap (λ cs. (if list_all (stands_before change.behind) (take change.same cs) then take change.same cs else []) ++ change.behind)
+    same
+
+-- ---- an update
+
+-- the contacts from a place on are in the order of their keys
+pub rest_are_contacts : (k : ℕ) (contacts : List Contact) → AreContacts contacts → AreContacts (drop k contacts)
+rest_are_contacts k contacts order = record {
+  rising = rising-drop rank_of k contacts order.rising;
+  keys = All-drop (λ c. IsKey c.key) k contacts order.keys;
+}
+
+pub rest_are_touches : (k : ℕ) (touches : List Touch) → AreTouches touches → AreTouches (drop k touches)
+rest_are_touches k touches order = record {
+  rising = rising-drop (λ (t : Touch). rank (key_of t)) k touches order.rising;
+  keys = All-drop (λ t. IsKey (key_of t)) k touches order.keys;
+}
+
+-- the first of some contacts stand before the rest
+first_stand : (k least : ℕ) (contacts : List Contact) → IsRising least (map rank_of contacts)
+    → list_all (stands_before (drop k contacts)) (take k contacts) ≡ true
+first_stand zero least contacts h = refl
+first_stand (suc k) least [] h = refl
+first_stand (suc k) least (c ∷ contacts) h =
+    ap₂ (λ s t. s && t) (stands (drop k contacts) (rising-from k (suc (rank c.key)) contacts h.1))
+    (first_stand k (suc (rank c.key)) contacts h.1)
+  where
+    rising-from : (n low : ℕ) (cs : List Contact) → IsRising low (map rank_of cs) → IsRising low (map rank_of (drop n cs))
+    rising-from zero low cs h = h
+    rising-from (suc n) low [] h = tt
+    rising-from (suc n) low (x ∷ cs) h =
+        rising-from n low cs (rising-weaken low (suc (rank x.key)) (map rank_of cs) (omega (arith, h.0)) h.1)
+
+    stands : (bs : List Contact) → IsRising (suc (rank c.key)) (map rank_of bs) → stands_before bs c ≡ true
+    stands [] h = refl
+    stands (b ∷ bs) h = lt-ltb (rank c.key) (rank b.key) h.0
+
+-- contacts from a place on that have what all have
+same_kept : (old : List Contact) (place : ℕ) (touches : List Touch) → All (SameFrom old place) touches
+    → map (kept_contact (drop place old)) touches ≡ map (kept_contact old) touches
+same_kept old place [] same = refl
+same_kept old place (t ∷ touches) same =
+    ap₂ (λ x xs. x ∷ xs) (ap (λ p. record { key = key_of t; impulses = p }) (All-head (SameFrom old place) t touches same))
+    (same_kept old place touches (All-tail (SameFrom old place) t touches same))
+
+module _ (old : List Contact) (touches : List Touch) (r : ℕ) (order : AreTouches touches) (inside : r ≤ length old)
+    (within : r ≤ length touches) (keys : HaveSameKeys old touches r) where
+  -- the first contacts stay, and behind them come the next ones of the others
+  pub next_from : take r old ++ next_contacts (drop r old) (drop r touches) ≡ next_contacts old touches
+  unfolding next_contacts
+  next_from =
+      let none : 0 + r ≡ r = omega arith in
+      let run = run_done old touches 0 0 r [] (take r old) order.rising (omega (arith, inside)) (omega (arith, within)) keys
+      (λ k d w. refl) refl refl in
+      let kept = subst (λ n. (take r old ≡ map (kept_contact old) (take n touches)) × All (SameFrom old n) (drop n touches)) none run in
+      ap₂ (λ xs ys. xs ++ ys) kept.0 (same_kept old r (drop r touches) kept.1)
+      ∙ sym (map-append (kept_contact old) (take r touches) (drop r touches))
+      ∙ ap (map (kept_contact old)) (take-append-drop r touches)
+
+  -- and the contacts before are restored
+  pub before_next : AreContacts old
+      → contacts_before (record { same = r; noted = []; behind = drop r old }) (next_contacts old touches) ≡ old
+  unfolding first_before
+  before_next are =
+      let next = next_contacts old touches in
+      let rest = next_contacts (drop r old) (drop r touches) in
+      let size = length-take r old in
+      let long : length (take r old) ≡ r = omega (arith, size, inside) in
+      let first : take r (with_noted next []) ≡ take r old =
+      ap (take r) (none_noted next ∙ sym next_from) ∙ ap (λ n. take n (take r old ++ rest)) (sym long)
+      ∙ take-append_seam (take r old) rest in
+      ap (λ cs. (if list_all (stands_before (drop r old)) cs then cs else []) ++ drop r old) first
+      ∙ ap (λ t. (if t then take r old else []) ++ drop r old) (first_stand r 0 old are.rising)
+      ∙ take-append-drop r old

@@ -1,0 +1,44 @@
+-- What a tick changes in the contacts of a world, so that the contacts before can be restored.
+use Rattle.std.specs.Prelude.{Bool, true, ℕ, ◌==◌, List, [], ◌∷◌, ◌++◌, map, nat_lt, slice_index_or, take, if◌then◌else◌}
+use Rattle.std.specs.List.{list_all}
+use Rattle.pf_manifold.specs.Key.{rank}
+use Rattle.pf_rows.specs.Impulses.{Impulses}
+use Rattle.pf_rows.specs.Row.{Row}
+use Rattle.pf_cache.specs.Contact.{Contact, no_contact}
+
+-- the first `same` contacts kept their keys; of some of them the impulses are noted that they had;
+-- and behind them these contacts stood
+pub record ContactsChange : Type 0 where
+  pub same : ℕ
+  pub noted : List Contact
+  pub behind : List Contact
+
+-- the contact at the place of a row
+abbrev pub contact_of_row : List Contact → Row → Contact
+contact_of_row contacts r = slice_index_or contacts r.entry.place no_contact
+
+-- the impulses that are noted of the contact of this rank, or these where none are
+abbrev pub noted_or : Impulses → ℕ → List Contact → Impulses
+noted_or p n [] = p
+noted_or p n (c ∷ noted) = if rank c.key == n then c.impulses else noted_or p n noted
+
+-- contacts, where each that is noted has the impulses that are noted of it
+unfoldable pub with_noted : List Contact → List Contact → List Contact
+with_noted contacts noted =
+    map (λ (c : Contact). record c { impulses = noted_or c.impulses (rank c.key) noted }) contacts
+
+-- whether a contact stands before these in the order of keys
+abbrev pub stands_before : List Contact → Contact → Bool
+stands_before [] c = true
+stands_before (b ∷ behind) c = nat_lt (rank c.key) (rank b.key)
+
+-- the first contacts before a change, of the contacts after it; none, if they are others, which do
+-- not stand before those behind
+unfoldable pub first_before : ContactsChange → List Contact → List Contact
+first_before change contacts =
+    let first = take change.same (with_noted contacts change.noted) in
+    if list_all (stands_before change.behind) first then first else []
+
+-- the contacts before a change, of those after it
+abbrev pub contacts_before : ContactsChange → List Contact → List Contact
+contacts_before change contacts = first_before change contacts ++ change.behind
