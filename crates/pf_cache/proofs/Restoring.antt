@@ -1,21 +1,22 @@
 -- Contacts with noted impulses, and the contacts before a change.
-use Rattle.std.proofs.Common.{◌≡◌, ◌≢◌, ◌∙◌, ℕ, suc, zero, ◌+◌, ◌≤◌, ◌<◌, ◌==◌, Bool, true, false, ◌&&◌, ◌||◌, List, [], ◌∷◌, ◌++◌, drop, length, length-append, length-take, map, set, take, take-append-drop, refl, sym, ap, ap₂, subst, true≢false, arith}
+use Rattle.std.proofs.Common.{◌≡◌, ◌≢◌, ◌∙◌, ℕ, suc, zero, ◌+◌, ◌≤◌, ◌<◌, ◌==◌, Bool, true, false, ◌&&◌, ◌||◌, List, filter, [], ◌∷◌, ◌++◌, drop, length, length-append, length-take, map, set, take, take-append-drop, refl, sym, ap, ap₂, subst, true≢false, arith}
 use Rattle.std.proofs.lemmas.Bool.{and_parts, lt-ltb, ltb-true}
 use Rattle.std.proofs.lemmas.Bool.Decides.{Decides-eqb}
 use Rattle.std.proofs.lemmas.List.{get_or_default, map-append, map-id, set-get_or}
 use Rattle.std.proofs.Math.Seq.{take-append_seam}
-use Rattle.std.proofs.lemmas.List.Elements.{All-nil, All-cons, All-head, All-tail, All-append, All-drop, All-take}
+use Rattle.std.proofs.lemmas.List.Elements.{All-nil, All-cons, All-head, All-tail, All-append, All-drop, All-filter, All-map, All-take, All-weaker}
+use Rattle.std.proofs.lemmas.List.Folds.{list_any-append}
 use Rattle.std.proofs.lemmas.Simd.{map-map}
-use Rattle.std.specs.List.{list_all, list_any}
-use Rattle.std.specs.Prelude.{All, get_or, nat_lt, if◌then◌else◌}
+use Rattle.std.specs.List.{list_all}
+use Rattle.std.specs.Prelude.{All, get_or, nat_lt, not, if◌then◌else◌}
 use Rattle.pf_manifold.specs.Key.{AreTouches, IsKey, IsRising, Key, key_of, rank}
 use Rattle.pf_manifold.specs.Touches.{Touch}
-use Rattle.pf_manifold.proofs.Rising.{rising-drop, rising-weaken}
+use Rattle.pf_manifold.proofs.Rising.{rising-all, rising-drop, rising-weaken}
 use Rattle.pf_rows.specs.Impulses.{Impulses}
 use Rattle.pf_rows.specs.Row.{Row, impulses_or}
 use Rattle.pf_cache.specs.Contact.{AreContacts, Contact, kept_contact, next_contacts, no_contact}
 use Rattle.pf_cache.specs.ContactRows.{IsRowAt, with_rows}
-use Rattle.pf_cache.specs.ContactsChange.{ContactsChange, contact_of_row, contacts_before, first_before, noted_or, stands_before, with_noted}
+use Rattle.pf_cache.specs.ContactsChange.{ContactsChange, contact_of_row, contacts_before, contacts_below, first_before, has_rank, may_change, noted_or, stands_before, with_noted}
 use Rattle.pf_cache.proofs.FoundRows.{row_rank}
 use Rattle.pf_cache.proofs.RankedLists as ranked
 use Rattle.pf_cache.proofs.Runs.{HaveSameKeys, run_done}
@@ -222,68 +223,217 @@ module _ (contacts : List Contact) (order : AreContacts contacts) where
 
   -- to note them changes nothing of the contacts before
   pub same_before : (same : ℕ) (noted behind : List Contact) (rows : List Row) → All (IsRowAt contacts) rows
-      → contacts_before (record { same = same; noted = noted ++ map (contact_of_row contacts) rows; behind = behind }) contacts
+      → contacts_before (record { same = same; noted = noted ++ contacts_below contacts same rows; behind = behind }) contacts
       ≡ contacts_before (record { same = same; noted = noted; behind = behind }) contacts
   unfolding first_before
   same_before same noted behind rows at =
-      let own = sym (noted_both contacts noted (map (contact_of_row contacts) rows))
-      ∙ ap (λ cs. with_noted cs noted) (rows_stay rows at) in
+      let own = sym (noted_both contacts noted (contacts_below contacts same rows))
+      ∙ ap (λ cs. with_noted cs noted)
+      (rows_stay (filter (λ r. nat_lt r.entry.place same) rows) (All-filter (λ r. nat_lt r.entry.place same) (IsRowAt contacts) rows at)) in
       ap (λ cs. (if list_all (stands_before behind) (take same cs) then take same cs else []) ++ behind) own
 
 -- ---- impulses that change at noted contacts
 
--- whether something is noted of this rank
-abbrev pub is_noted : List Contact → ℕ → Bool
-is_noted noted n = list_any (λ (c : Contact). rank c.key == n) noted
+or_right : (a b : Bool) → b ≡ true → (a || b) ≡ true
+or_right true b is = refl
+or_right false b is = is
+
+widened : (a b c : Bool) → (b || c) ≡ true → ((a || b) || c) ≡ true
+widened true b c is = refl
+widened false b c is = is
+
+beyond : (place same : ℕ) → nat_lt place same ≡ false → same ≤ place
+beyond place same is = grind (arith, is)
+
+take_map : {X Y : Type 0} (k : ℕ) (xs : List X) (f : X → Y) → take k (map f xs) ≡ map f (take k xs)
+take_map zero xs f = refl
+take_map (suc k) [] f = refl
+take_map (suc k) (x ∷ xs) f = ap (λ ys. f x ∷ ys) (take_map k xs f)
 
 -- what is noted counts, whatever a contact has
-whatever : (p q : Impulses) (n : ℕ) (noted : List Contact) → is_noted noted n ≡ true
+whatever : (p q : Impulses) (n : ℕ) (noted : List Contact) → has_rank noted n ≡ true
     → noted_or p n noted ≡ noted_or q n noted
 whatever p q n [] is = absurd (true≢false (sym is))
 whatever p q n (c ∷ noted) is = by (rank c.key == n) is (whatever p q n noted)
   where
-    by : (t : Bool) → (t || is_noted noted n) ≡ true
-        → (is_noted noted n ≡ true → noted_or p n noted ≡ noted_or q n noted)
+    by : (t : Bool) → (t || has_rank noted n) ≡ true
+        → (has_rank noted n ≡ true → noted_or p n noted ≡ noted_or q n noted)
         → (if t then c.impulses else noted_or p n noted) ≡ (if t then c.impulses else noted_or q n noted)
     by true is rest = refl
     by false is rest = rest is
 
--- and where nothing is noted no row has the rank
-no_row : (p : Impulses) (n : ℕ) (rows : List Row) (noted : List Contact)
-    → All (λ r. is_noted noted (row_rank r) ≡ true) rows → is_noted noted n ≡ false → impulses_or p n rows ≡ p
-no_row p n [] noted all none = refl
-no_row p n (r ∷ rows) noted all none =
-    by (row_rank r == n) refl (no_row p n rows noted (All-tail (λ x. is_noted noted (row_rank x) ≡ true) r rows all) none)
+-- where nothing is noted of a rank that contacts have, no row has it
+no_row : (p : Impulses) (n : ℕ) (rows : List Row) (noted first : List Contact)
+    → All (λ r. (has_rank noted (row_rank r) || not (has_rank first (row_rank r))) ≡ true) rows
+    → has_rank noted n ≡ false → has_rank first n ≡ true → impulses_or p n rows ≡ p
+no_row p n [] noted first all none there = refl
+no_row p n (r ∷ rows) noted first all none there =
+    by (row_rank r == n) refl
+    (no_row p n rows noted first
+    (All-tail (λ x. (has_rank noted (row_rank x) || not (has_rank first (row_rank x))) ≡ true) r rows all) none there)
   where
     by : (t : Bool) → (row_rank r == n) ≡ t → impulses_or p n rows ≡ p
         → (if t then r.entry.impulses else impulses_or p n rows) ≡ p
     by false e rest = rest
     by true e rest =
         let same : row_rank r ≡ n = (Decides-eqb (row_rank r) n).0 e in
-        absurd (true≢false (sym (All-head (λ x. is_noted noted (row_rank x) ≡ true) r rows all) ∙ ap (is_noted noted) same ∙ none))
+        absurd (true≢false
+        (sym (All-head (λ x. (has_rank noted (row_rank x) || not (has_rank first (row_rank x))) ≡ true) r rows all)
+        ∙ ap₂ (λ s t. s || not t) (ap (has_rank noted) same ∙ none) (ap (has_rank first) same ∙ there)))
 
--- so what rows store where the contacts are noted is undone
-pub stored_undone : (contacts : List Contact) (rows : List Row) (noted : List Contact)
-    → All (λ r. is_noted noted (row_rank r) ≡ true) rows
-    → with_noted (with_rows contacts rows) noted ≡ with_noted contacts noted
-unfolding with_noted with_rows
-stored_undone [] rows noted all = refl
-stored_undone (c ∷ contacts) rows noted all =
-    ap₂ (λ x xs. x ∷ xs) (ap (λ p. record c { impulses = p }) (by (is_noted noted (rank c.key)) refl))
-    (stored_undone contacts rows noted all)
-  where
-    by : (t : Bool) → is_noted noted (rank c.key) ≡ t
-        → noted_or (impulses_or c.impulses (rank c.key) rows) (rank c.key) noted ≡ noted_or c.impulses (rank c.key) noted
-    by true is = whatever (impulses_or c.impulses (rank c.key) rows) c.impulses (rank c.key) noted is
-    by false none = ap (λ p. noted_or p (rank c.key) noted) (no_row c.impulses (rank c.key) rows noted all none)
+-- so what rows store is undone among first contacts
+module _ (rows : List Row) (noted first : List Contact)
+    (all : All (λ r. (has_rank noted (row_rank r) || not (has_rank first (row_rank r))) ≡ true) rows) where
+  pub stored_undone : (contacts : List Contact) → All (λ c. has_rank first (rank c.key) ≡ true) contacts
+      → with_noted (with_rows contacts rows) noted ≡ with_noted contacts noted
+  unfolding with_noted with_rows
+  stored_undone [] there = refl
+  stored_undone (c ∷ contacts) there =
+      ap₂ (λ x xs. x ∷ xs) (ap (λ p. record c { impulses = p }) (by (has_rank noted (rank c.key)) refl))
+      (stored_undone contacts (All-tail (λ x. has_rank first (rank x.key) ≡ true) c contacts there))
+    where
+      by : (t : Bool) → has_rank noted (rank c.key) ≡ t
+          → noted_or (impulses_or c.impulses (rank c.key) rows) (rank c.key) noted ≡ noted_or c.impulses (rank c.key) noted
+      by true is = whatever (impulses_or c.impulses (rank c.key) rows) c.impulses (rank c.key) noted is
+      by false none =
+          ap (λ p. noted_or p (rank c.key) noted)
+          (no_row c.impulses (rank c.key) rows noted first all none
+          (All-head (λ x. has_rank first (rank x.key) ≡ true) c contacts there))
+
+  -- and the contacts have the ranks that they had
+  pub stored_there : (contacts : List Contact) → All (λ c. has_rank first (rank c.key) ≡ true) contacts
+      → All (λ c. has_rank first (rank c.key) ≡ true) (with_rows contacts rows)
+  unfolding with_rows
+  stored_there contacts there =
+      All-map (λ c. has_rank first (rank c.key) ≡ true)
+      (λ (c : Contact). record c { impulses = impulses_or c.impulses (rank c.key) rows }) contacts there
+
+-- the first of changed contacts
+pub take_noted : (k : ℕ) (contacts noted : List Contact) → take k (with_noted contacts noted) ≡ with_noted (take k contacts) noted
+unfolding with_noted
+take_noted k contacts noted = take_map k contacts (before noted)
+
+pub take_stored : (k : ℕ) (contacts : List Contact) (rows : List Row)
+    → take k (with_rows contacts rows) ≡ with_rows (take k contacts) rows
+unfolding with_rows
+take_stored k contacts rows = take_map k contacts (λ (c : Contact). record c { impulses = impulses_or c.impulses (rank c.key) rows })
+
+-- each contact has its own rank
+pub own_ranks : (contacts : List Contact) → All (λ c. has_rank contacts (rank c.key) ≡ true) contacts
+own_ranks [] = All-nil (λ c. has_rank [] (rank c.key) ≡ true)
+own_ranks (c ∷ contacts) =
+    All-cons (λ x. has_rank (c ∷ contacts) (rank x.key) ≡ true) c contacts
+    (ap (λ t. t || has_rank contacts (rank c.key)) ((Decides-eqb (rank c.key) (rank c.key)).1 refl))
+    (All-weaker (λ x. has_rank contacts (rank x.key) ≡ true) (λ x. has_rank (c ∷ contacts) (rank x.key) ≡ true)
+    (λ x is. or_right (rank c.key == rank x.key) (has_rank contacts (rank x.key)) is) contacts (own_ranks contacts))
 
 pub before_stored : (change : ContactsChange) (contacts others : List Contact)
-    → with_noted others change.noted ≡ with_noted contacts change.noted
+    → take change.same (with_noted others change.noted) ≡ take change.same (with_noted contacts change.noted)
     → contacts_before change others ≡ contacts_before change contacts
 unfolding first_before
 before_stored change contacts others same =
-    ap (λ cs. (if list_all (stands_before change.behind) (take change.same cs) then take change.same cs else []) ++ change.behind)
-    same
+    ap (λ cs. (if list_all (stands_before change.behind) cs then cs else []) ++ change.behind) same
+
+-- ---- rows whose contacts are noted
+
+ranks_front : (noted more : List Contact) (n : ℕ) → has_rank noted n ≡ true → has_rank (noted ++ more) n ≡ true
+ranks_front noted more n is =
+    list_any-append (λ (c : Contact). rank c.key == n) noted more ∙ ap (λ t. t || has_rank more n) is
+
+ranks_back : (noted more : List Contact) (n : ℕ) → has_rank more n ≡ true → has_rank (noted ++ more) n ≡ true
+ranks_back noted more n is =
+    list_any-append (λ (c : Contact). rank c.key == n) noted more ∙ or_right (has_rank noted n) (has_rank more n) is
+
+-- what may change still may, when more is noted
+pub still_may : (same : ℕ) (noted more behind contacts : List Contact) (n : ℕ)
+    → may_change (record { same = same; noted = noted; behind = behind }) contacts n ≡ true
+    → may_change (record { same = same; noted = noted ++ more; behind = behind }) contacts n ≡ true
+still_may same noted more behind contacts n may = by (has_rank noted n) refl may
+  where
+    free : Bool
+    free = not (has_rank (take same contacts) n)
+
+    by : (t : Bool) → has_rank noted n ≡ t → (t || free) ≡ true → (has_rank (noted ++ more) n || free) ≡ true
+    by true is may = ap (λ t. t || free) (ranks_front noted more n is)
+    by false is may = or_right (has_rank (noted ++ more) n) free may
+
+-- contacts from a place on have other ranks than those before it
+lower_ranks : (k : ℕ) (contacts : List Contact) (least place : ℕ) → IsRising least (map rank_of contacts) → k ≤ place
+    → place < length contacts → has_rank (take k contacts) (rank (get_or contacts place no_contact).key) ≡ false
+lower_ranks zero contacts least place h low within = refl
+lower_ranks (suc k) [] least place h low within = refl
+lower_ranks (suc k) (c ∷ contacts) least zero h low within = absurd (omega (arith, low))
+lower_ranks (suc k) (c ∷ contacts) least (suc place) h low within =
+    let here = get_or contacts place no_contact in
+    let inside : place < length contacts = omega (arith, within) in
+    let above = rising-all rank_of (suc (rank c.key)) contacts h.1 place no_contact inside in
+    ap₂ (λ s t. s || t) (other (rank c.key) (rank here.key) (omega (arith, above)))
+    (lower_ranks k contacts (suc (rank c.key)) place h.1 (omega (arith, low)) inside)
+  where
+    other : (m n : ℕ) → m < n → (m == n) ≡ false
+    other m n lower = by (m == n) refl
+      where
+        by : (t : Bool) → (m == n) ≡ t → t ≡ false
+        by false e = refl
+        by true e = let is = (Decides-eqb m n).0 e in absurd (omega (arith, is, lower))
+
+module _ (contacts : List Contact) (order : AreContacts contacts) (same : ℕ) where
+  -- the impulses of contacts whose rows are noted may change
+  rows_may : (rows : List Row) → All (IsRowAt contacts) rows
+      → All (λ r. (has_rank (contacts_below contacts same rows) (row_rank r) || not (has_rank (take same contacts) (row_rank r))) ≡ true)
+      rows
+  rows_may [] at = All-nil (λ r. (has_rank [] (row_rank r) || not (has_rank (take same contacts) (row_rank r))) ≡ true)
+  rows_may (r ∷ rows) at =
+      by (nat_lt r.entry.place same) refl (rows_may rows (All-tail (IsRowAt contacts) r rows at))
+    where
+      n : Contact
+      n = contact_of_row contacts r
+
+      more : List Contact
+      more = contacts_below contacts same rows
+
+      here : IsRowAt contacts r
+      here = All-head (IsRowAt contacts) r rows at
+
+      free : Row → Bool
+      free x = not (has_rank (take same contacts) (row_rank x))
+
+      by : (t : Bool) → nat_lt r.entry.place same ≡ t → All (λ x. (has_rank more (row_rank x) || free x) ≡ true) rows
+          → All (λ x. (has_rank (map (contact_of_row contacts) (if t then r ∷ filter (λ y. nat_lt y.entry.place same) rows
+          else filter (λ y. nat_lt y.entry.place same) rows)) (row_rank x) || free x) ≡ true) (r ∷ rows)
+      by true is rest =
+          All-cons (λ x. (has_rank (n ∷ more) (row_rank x) || free x) ≡ true) r rows
+          (ap (λ t. (t || has_rank more (row_rank r)) || free r) ((Decides-eqb (rank n.key) (row_rank r)).1 (ap rank here.key)))
+          (All-weaker (λ x. (has_rank more (row_rank x) || free x) ≡ true)
+          (λ x. (has_rank (n ∷ more) (row_rank x) || free x) ≡ true)
+          (λ x may. widened (rank n.key == row_rank x) (has_rank more (row_rank x)) (free x) may) rows rest)
+      by false is rest =
+          All-cons (λ x. (has_rank more (row_rank x) || free x) ≡ true) r rows
+          (or_right (has_rank more (row_rank r)) (free r)
+          (ap not (ap (has_rank (take same contacts)) (sym (ap rank here.key))
+          ∙ lower_ranks same contacts 0 r.entry.place order.rising (beyond r.entry.place same is) here.within)))
+          rest
+
+  pub noted_may : (noted behind : List Contact) (rows : List Row) → All (IsRowAt contacts) rows
+      → All (λ r. may_change (record { same = same; noted = noted ++ contacts_below contacts same rows; behind = behind }) contacts (row_rank r) ≡ true) rows
+  noted_may noted behind rows at =
+      All-weaker (λ r. (has_rank (contacts_below contacts same rows) (row_rank r) || not (has_rank (take same contacts) (row_rank r))) ≡ true)
+      (λ r. (has_rank (noted ++ contacts_below contacts same rows) (row_rank r) || not (has_rank (take same contacts) (row_rank r))) ≡ true)
+      (λ r may. prefixed (row_rank r) may) rows (rows_may rows at)
+    where
+      more : List Contact
+      more = contacts_below contacts same rows
+
+      prefixed : (n : ℕ) → (has_rank more n || not (has_rank (take same contacts) n)) ≡ true
+          → (has_rank (noted ++ more) n || not (has_rank (take same contacts) n)) ≡ true
+      prefixed n may = by (has_rank more n) refl may
+        where
+          free : Bool
+          free = not (has_rank (take same contacts) n)
+
+          by : (t : Bool) → has_rank more n ≡ t → (t || free) ≡ true → (has_rank (noted ++ more) n || free) ≡ true
+          by true is may = ap (λ t. t || free) (ranks_back noted more n is)
+          by false is may = or_right (has_rank (noted ++ more) n) free may
 
 -- ---- an update
 

@@ -4,7 +4,7 @@ ghost use Rattle.std.specs.Prelude.{◌≡◌, ◌↔◌, ◌+◌, ◌≤◌, �
 ghost use Rattle.pf_manifold.specs.Key.{AreTouches, IsKey, key_of, rank};
 ghost use Rattle.pf_cache.specs.Contact.{AreContacts, impulses_at, next_contacts};
 ghost use Rattle.pf_cache.specs.ContactRows.{AreRowsAt, IsRowAt, with_rows};
-ghost use Rattle.pf_cache.specs.ContactsChange.{contact_of_row};
+ghost use Rattle.pf_cache.specs.ContactsChange.{contacts_below};
 
 use crate::contact::Contact;
 use crate::contacts_change::{ContactsChange, NotedContact, leave_first, move_behind};
@@ -72,17 +72,18 @@ fn has_key_of(contact: &Contact, touch: &Touch) -> bool
     key.a == touch.a && key.b == touch.b && key.feature == touch.point.feature
 }
 
-/// How many of the first contacts have the keys of the first points, one after the other. No clause
-/// says that it does not stop earlier.
+/// How many of the first contacts, at most so many, have the keys of the first points, one after the
+/// other. No clause says that it does not stop earlier.
 #[inline]
-fn same_keys(contacts: &[Contact], touches: &[Touch]) -> usize
+fn same_keys(contacts: &[Contact], touches: &[Touch], most: usize) -> usize
     ensures contacts { result ≤ length contacts.now }
     ensures touches { result ≤ length touches.now }
     ensures same { map (λ c. c.key) (take result contacts.now)
         ≡ map key_of (take result touches.now) }
 {
     let mut count = 0;
-    while count < contacts.len() && count < touches.len() {
+    let end = most.min(contacts.len()).min(touches.len());
+    while count < end {
         if !has_key_of(&contacts[count], &touches[count]) {
             break;
         }
@@ -115,7 +116,7 @@ fn add_next(list: &mut Vec<Contact>, old: &[Contact], touches: &[Touch])
     let mut place = 0;
     let mut done = 0;
     while done < touches.len() {
-        let run = same_keys(&old[place..], &touches[done..]);
+        let run = same_keys(&old[place..], &touches[done..], usize::MAX);
         add_all(list, &old[place..place + run]);
         place += run;
         done += run;
@@ -129,25 +130,29 @@ fn add_next(list: &mut Vec<Contact>, old: &[Contact], touches: &[Touch])
     }
 }
 
-/// Notes the contacts at the places of these rows, and after an error those of the first ones.
+/// Notes the contacts of rows whose places are below `same`, and after an error those of the first
+/// rows.
 fn note_rows(
     contacts: &[Contact],
     noted: &mut Vec<NotedContact>,
+    same: usize,
     rows: &[Row],
 ) -> Result<(), AllocError>
     requires { All (IsRowAt contacts.now) rows.now }
     ensures all { OnOk result (noted.new.items
-        ≡ noted.old.items ++ map (contact_of_row contacts.now) rows.now) }
+        ≡ noted.old.items ++ contacts_below contacts.now same rows.now) }
     ensures first { (count : ℕ) × (noted.new.items
-        ≡ noted.old.items ++ map (contact_of_row contacts.now) (take count rows.now)) }
+        ≡ noted.old.items ++ contacts_below contacts.now same (take count rows.now)) }
     ensures no_memory { rows.now ≡ [] → IsOk result }
 {
     for row in rows {
         let place = row.entry.place;
-        noted.push(NotedContact {
-            contact: contacts[place],
-            place,
-        })?;
+        if place < same {
+            noted.push(NotedContact {
+                contact: contacts[place],
+                place,
+            })?;
+        }
     }
     Ok(())
 }
@@ -168,11 +173,11 @@ fn store_at(contacts: &mut [Contact], rows: &[Row])
 }
 
 impl Contacts {
-    ghost use Rattle.std.specs.Prelude.{◌≡◌, ◌++◌, [], IfOk, IsOk, OnErr, OnOk, map};
-    ghost use Rattle.pf_manifold.specs.Key.{AreTouches};
+    ghost use Rattle.std.specs.Prelude.{◌≡◌, ℕ, [], All, IfOk, IsOk, OnErr, OnOk, true};
+    ghost use Rattle.pf_manifold.specs.Key.{AreTouches, key_of, rank};
     ghost use Rattle.pf_cache.specs.Contact.{next_contacts};
     ghost use Rattle.pf_cache.specs.ContactRows.{AreRowsAt, with_rows};
-    ghost use Rattle.pf_cache.specs.ContactsChange.{contact_of_row, contacts_before};
+    ghost use Rattle.pf_cache.specs.ContactsChange.{contacts_before, may_change};
     ghost use Rattle.pf_cache.specs.Same.{same_contacts};
 
     /// No contacts. Takes no memory.
@@ -194,13 +199,15 @@ impl Contacts {
 
     /// Makes of these contacts those of the points, as Box2D-Lite's `Arbiter::Update`: a key of the
     /// old contacts keeps its impulses, a new key has none, and a contact without a point is gone.
-    /// The points are in the order of their keys. The first contacts, as long as they have the keys
-    /// of the first points, stay where they are; the contacts behind them go to `change`, which then
-    /// undoes this. An error leaves the contacts as they are.
+    /// The points are in the order of their keys. At most `most` first contacts, as long as they have
+    /// the keys of the first points, stay where they are; the contacts behind them go to `change`,
+    /// which then undoes this. With 0 all contacts are made anew, and none has to be noted. An error
+    /// leaves the contacts as they are.
     #[inline(never)]
     pub fn update(
         &mut self,
         touches: &[Touch],
+        most: usize,
         change: &mut ContactsChange,
     ) -> Result<(), AllocError>
         requires { AreTouches touches.now }
@@ -209,7 +216,7 @@ impl Contacts {
         ensures unchanged { OnErr result (self.new ≡ self.old) }
         ensures no_memory { touches.now ≡ [] → IsOk result }
     {
-        let same = same_keys(&self.list, touches);
+        let same = same_keys(&self.list, touches, most);
         move_behind(&mut self.list, &mut change.behind, same, touches.len())?;
         change.same = same;
         change.noted.clear();
@@ -217,17 +224,18 @@ impl Contacts {
         Ok(())
     }
 
-    /// Notes in `change` the impulses of the contacts at the places of these rows, before they
-    /// change. After an error some of them may be noted.
+    /// Notes in `change` the impulses of the contacts at the places of these rows, so that they may
+    /// change. After an error those of some rows may be noted.
     pub fn note(&self, rows: &[Row], change: &mut ContactsChange) -> Result<(), AllocError>
         requires { AreRowsAt self.now rows.now }
-        ensures noted { OnOk result (change.new ≡ record change.old {
-          noted = change.old.noted ++ map (contact_of_row self.now) rows.now;
-        }) }
+        ensures noted { OnOk result (All (λ r.
+            may_change change.new self.now (rank (key_of r.entry.touch)) ≡ true) rows.now) }
+        ensures others { (n : ℕ) → may_change change.old self.now n ≡ true
+            → may_change change.new self.now n ≡ true }
         ensures same { contacts_before change.new self.now ≡ contacts_before change.old self.now }
         ensures no_memory { rows.now ≡ [] → IsOk result }
     {
-        note_rows(&self.list, &mut change.noted, rows)
+        note_rows(&self.list, &mut change.noted, change.same, rows)
     }
 
     /// Undoes what `change` holds. Takes time for the contacts before, and no memory. Of a change of

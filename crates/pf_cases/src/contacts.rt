@@ -32,8 +32,14 @@ box - 16777216 0 16777216 16777216 67108864 67108864 16777216 0
 end
 ";
 
-/// Makes of contacts those of a scene's bodies at their starts, and returns what that changed.
-fn update(alloc: Global, contacts: &mut Contacts, text: &[u8]) -> Result<ContactsChange, Fail> {
+/// Makes of contacts those of a scene's bodies at their starts, where at most so many stay where they
+/// are, and returns what that changed.
+fn update(
+    alloc: Global,
+    contacts: &mut Contacts,
+    text: &[u8],
+    most: usize,
+) -> Result<ContactsChange, Fail> {
     let scene = scene_of(alloc, text)?;
     let starts = scene.starts();
     if scene.fixtures().len() != starts.len() {
@@ -42,14 +48,14 @@ fn update(alloc: Global, contacts: &mut Contacts, text: &[u8]) -> Result<Contact
     let pairs = pairs(alloc, &scene, starts)?;
     let touches = collide_list(alloc, &scene, starts, &pairs)?;
     let mut change = ContactsChange::new(alloc);
-    contacts.update(&touches, &mut change)?;
+    contacts.update(&touches, most, &mut change)?;
     Ok(change)
 }
 
 /// The contacts of a scene's bodies at their starts, after these.
 fn next(alloc: Global, contacts: &Contacts, text: &[u8]) -> Result<Contacts, Fail> {
     let mut next = contacts.try_clone()?;
-    update(alloc, &mut next, text)?;
+    update(alloc, &mut next, text, 0)?;
     Ok(next)
 }
 
@@ -78,9 +84,9 @@ fn contacts_are_those_of_the_points(rt: HostRuntime) -> Result<(), Fail> {
 }
 
 /// Whether an update with these points is undone, also where its change is still needed.
-fn is_undone(alloc: Global, before: &Contacts, text: &[u8]) -> Result<bool, Fail> {
+fn is_undone(alloc: Global, before: &Contacts, text: &[u8], most: usize) -> Result<bool, Fail> {
     let mut contacts = before.try_clone()?;
-    let change = update(alloc, &mut contacts, text)?;
+    let change = update(alloc, &mut contacts, text, most)?;
     let mut copy = contacts.try_clone()?;
     copy.undo_copied(&change)?;
     contacts.undo(change);
@@ -91,7 +97,9 @@ fn is_undone(alloc: Global, before: &Contacts, text: &[u8]) -> Result<bool, Fail
 fn updates_are_undone(rt: HostRuntime) -> Result<(), Fail> {
     let both = next(rt.alloc(), &Contacts::new(rt.alloc()), BOTH_STAND)?;
     for text in [BOTH_STAND, ONE_STANDS, OTHER_STANDS] {
-        assert!(rt; is_undone(rt.alloc(), &both, text)?);
+        for most in [0, 1, usize::MAX] {
+            assert!(rt; is_undone(rt.alloc(), &both, text, most)?);
+        }
     }
     Ok(())
 }
@@ -99,7 +107,7 @@ fn updates_are_undone(rt: HostRuntime) -> Result<(), Fail> {
 /// Whether the change of other contacts, whose first two stayed, leaves the two behind them.
 fn are_left(alloc: Global, both: &Contacts, second: &Contacts) -> Result<bool, Fail> {
     let mut contacts = both.try_clone()?;
-    let change = update(alloc, &mut contacts, OTHER_STANDS)?;
+    let change = update(alloc, &mut contacts, OTHER_STANDS, usize::MAX)?;
     let mut others = second.try_clone()?;
     others.undo(change);
     Ok(&others == second)

@@ -1,9 +1,11 @@
 -- What a step changed in a world, so that the world before the step can be restored.
-use Rattle.std.specs.Prelude.{◌≡◌, ℕ, ◌<◌, List, [], ◌∷◌, ◌++◌, All, map, Option, Some, None, filter, length, slice_get, slice_set}
+use Rattle.std.specs.Prelude.{◌≡◌, ℕ, ◌<◌, List, [], ◌∷◌, ◌++◌, All, true, map, Option, Some, None, filter, length, slice_get, slice_set}
 use Rattle.std.specs.List.{flat_map, range_with_len}
 use Rattle.pf_shapes.specs.Body.{BodyState}
+use Rattle.pf_manifold.specs.Key.{key_of, rank}
+use Rattle.pf_rows.specs.Row.{Row}
 use Rattle.pf_cache.specs.Contact.{Contact}
-use Rattle.pf_cache.specs.ContactsChange.{ContactsChange, contact_of_row, contacts_before}
+use Rattle.pf_cache.specs.ContactsChange.{ContactsChange, contacts_before, may_change}
 use Rattle.pf_commands.specs.declared.payload.Payload.{Payload}
 use Rattle.pf_commands.specs.Payload.{body_of}
 use Rattle.pf_islands.specs.Rows.{is_awake_at}
@@ -68,6 +70,8 @@ abbrev pub changes_of_awake : List BodyState → List BodyChange
 changes_of_awake bodies =
     changes_of bodies (filter (is_awake_at bodies) (range_with_len 0 (length bodies)))
 
--- the contacts of islands, as they are before their impulses change
-abbrev pub contacts_of_islands : List Contact → List Island → List Contact
-contacts_of_islands contacts islands = flat_map (λ i. map (contact_of_row contacts) i.rows) islands
+-- the impulses of the contacts of these rows may change, so that the contacts before can still be
+-- restored
+abbrev pub MayChange : ContactsChange → List Contact → List Row → Type 0
+MayChange change contacts rows =
+    All (λ r. may_change change contacts (rank (key_of r.entry.touch)) ≡ true) rows

@@ -112,7 +112,7 @@ impl Changes {
     ghost use Rattle.pf_cache.specs.Contact.{next_contacts};
     ghost use Rattle.pf_cache.specs.ContactRows.{AreRowsAt};
     ghost use Rattle.pf_cache.specs.ContactsChange.{contacts_before};
-    ghost use Rattle.pf_step.specs.Changes.{bodies_before, changes_by_commands, changes_of_awake, changes_of_islands, contacts_of_islands};
+    ghost use Rattle.pf_step.specs.Changes.{bodies_before, changes_by_commands, changes_of_awake, changes_of_islands, MayChange};
 
     /// No changes of a world without contacts. Takes no memory.
     pub(crate) fn new(alloc: Global) -> Changes
@@ -193,12 +193,13 @@ impl Changes {
         Ok(())
     }
 
-    /// Makes of the contacts of the last tick those of these points, and keeps what that changes. An
-    /// error leaves the contacts as they are.
+    /// Makes of the contacts of the last tick those of these points, and keeps what that changes. At
+    /// most `most` of them stay where they are. An error leaves the contacts as they are.
     pub(crate) fn update_contacts(
         &mut self,
         contacts: &mut Contacts,
         touches: &[Touch],
+        most: usize,
     ) -> Result<(), AllocError>
         requires { AreTouches touches.now }
         ensures value { OnOk result (contacts.new ≡ next_contacts contacts.old touches.now) }
@@ -208,18 +209,19 @@ impl Changes {
         ensures bodies { self.new.bodies ≡ self.old.bodies }
         ensures no_memory { touches.now ≡ [] → IsOk result }
     {
-        contacts.update(touches, &mut self.contacts)
+        contacts.update(touches, most, &mut self.contacts)
     }
 
-    /// Notes the impulses of the contacts of islands. After an error some of them may be noted.
+    /// Notes the impulses of the contacts of islands, so that they may change. After an error some of
+    /// them may be noted.
     pub(crate) fn note_impulses(
         &mut self,
         contacts: &Contacts,
         islands: &[Island],
     ) -> Result<(), AllocError>
         requires { All (λ i. AreRowsAt contacts.now i.rows) islands.now }
-        ensures noted { OnOk result (self.new.contacts.noted
-            ≡ self.old.contacts.noted ++ contacts_of_islands contacts.now islands.now) }
+        ensures noted { OnOk result
+            (All (λ i. MayChange self.new.contacts contacts.now i.rows) islands.now) }
         ensures same { contacts_before self.new.contacts contacts.now
             ≡ contacts_before self.old.contacts contacts.now }
         ensures bodies { self.new.bodies ≡ self.old.bodies }

@@ -8,7 +8,7 @@ ghost use Rattle.pf_cache.specs.Manifolds.{kept_touches};
 ghost use Rattle.pf_islands.specs.Split.{IsIslandOf};
 ghost use Rattle.pf_step.specs.declared.crew.StepError.TheVariants.{OutOfMemory};
 ghost use Rattle.pf_step.specs.Activity.{islands_of_bodies, updated_islands};
-ghost use Rattle.pf_step.specs.Changes.{bodies_before, changes_of_islands, contacts_of_islands, numbers_of};
+ghost use Rattle.pf_step.specs.Changes.{bodies_before, changes_of_islands, numbers_of, MayChange};
 ghost use Rattle.pf_step.specs.Stepping.{FailsBy, IsEnding};
 ghost use Rattle.pf_step.specs.Step.{touches_of_scene};
 
@@ -21,6 +21,12 @@ use pf_islands::{Island, join_back, wake_and_split};
 use pf_shapes::Scene;
 use pf_solver::solve_untouched;
 use std::alloc::{AllocError, Global};
+
+/// How many contacts stay where they are at most, where so many of the bodies may have moved: none
+/// where most may have, since a copy of all contacts then takes less time than their notes.
+fn most_in_place(moved: usize, bodies: usize) -> usize {
+    if moved < bodies / 2 { usize::MAX } else { 0 }
+}
 
 /// The islands of a tick in the world after its phases Commands and Points, whose contacts are
 /// updated. Notes their bodies and contacts, and lists these bodies as those that may have moved.
@@ -48,8 +54,8 @@ fn prepare(
     ensures noted { OnOk result (changes.new.bodies ≡ changes.old.bodies
         ++ changes_of_islands world.now.bodies
         (updated_islands scene.now world.now.contacts world.now.bodies)) }
-    ensures impulses { OnOk result (changes.new.contacts.noted ≡ changes.old.contacts.noted
-        ++ contacts_of_islands world.now.contacts
+    ensures impulses { OnOk result
+        (All (λ i. MayChange changes.new.contacts world.now.contacts i.rows)
         (updated_islands scene.now world.now.contacts world.now.bodies)) }
     ensures same { bodies_before changes.new.bodies world.now.bodies
         ≡ bodies_before changes.old.bodies world.now.bodies }
@@ -90,7 +96,7 @@ fn finish_untouched(
 {
     changes.note_awake(&world.bodies)?;
     work.set_moved(changes.bodies())?;
-    changes.update_contacts(&mut world.contacts, &[])?;
+    changes.update_contacts(&mut world.contacts, &[], 0)?;
     solve_untouched(scene, &mut world.bodies);
     Ok(())
 }
@@ -129,7 +135,8 @@ pub(crate) fn finish<C: Crew>(
         finish_untouched(scene, world, work, changes)?;
         return Ok(());
     }
-    changes.update_contacts(&mut world.contacts, touches)?;
+    let most = most_in_place(work.moved().len(), world.bodies.as_slice().len());
+    changes.update_contacts(&mut world.contacts, touches, most)?;
     let islands = match prepare(alloc, scene, world, found, work, changes) {
         Ok(islands) => islands,
         Err(error) => {

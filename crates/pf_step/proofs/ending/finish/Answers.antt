@@ -18,7 +18,7 @@ use Rattle.pf_step.specs.World.{World}
 use Rattle.pf_step.proofs.Changing.{before_more}
 use Rattle.pf_step.proofs.Following.{islands_within}
 use Rattle.pf_step.proofs.Joined.{ended_at_contacts, ended_at_home, ended_join, islands_before}
-use Rattle.pf_step.proofs.Restored.{contacts_restored, islands_beside}
+use Rattle.pf_step.proofs.Restored.{contacts_restored}
 use Rattle.pf_step.proofs.ending.finish.Goals as goal
 
 pub prepare-requires-clause-keys : goal.prepare-requires-clause-keys
@@ -89,11 +89,6 @@ returns-clause-ending g c =
     ∙ c.join_back.ensures.bodies ∙ ap₂ joined_bodies ended_are (c.deref_mut.ensures.value ∙ of_world) ∙ joined.0 in
     let notes = c.in-Ok.ensures.noted
     ∙ (λ i. c.update_contacts.ensures.bodies i ++ changes_of_islands (of_world i) (updated_islands s (now_is i) (of_world i))) in
-    let beside = islands_beside s now lent
-    (subst (λ bs. AreTouches (touches_of_scene s bs)) (sym of_world) order)
-    (ap (map (λ (x : Contact). x.key)) c.in_ok-update_contacts.ensures.value
-    ∙ same_keys c.world.inside.contacts c.touches-touches.result.now ∙ ap (map key_of) points_are
-    ∙ ap (λ bs. map key_of (touches_of_scene s bs)) (sym of_world)) in
     record {
       value = ap₂ (λ bs cs. record { bodies = bs; contacts = cs }) bodies
           (c.join_back.ensures.contacts ∙ ap₂ joined_contacts ended_are now_is ∙ joined.1);
@@ -103,8 +98,7 @@ returns-clause-ending g c =
           ∙ ap (bodies_before noted) (islands_before s w.contacts w.bodies c.requires.bodies))
           (ap (contacts_before c.prepare.new.changes.contacts)
           (c.join_back.ensures.contacts ∙ ap (λ is. joined_contacts is now) own)
-          ∙ contacts_restored s now (updated_islands s now lent) c.prepare.new.changes.contacts c.update_contacts.new.self.contacts.noted
-          beside c.in-Ok.ensures.impulses
+          ∙ contacts_restored s now (updated_islands s now lent) c.prepare.new.changes.contacts c.in-Ok.ensures.impulses
           ∙ c.prepare.ensures.same_contacts ∙ c.in_ok-update_contacts.ensures.before ∙ contacts);
       added = (changes_of_islands w.bodies found, notes, islands_within w.bodies found);
       unchanged = tt;

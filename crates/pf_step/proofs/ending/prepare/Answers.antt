@@ -1,9 +1,10 @@
-use Rattle.std.proofs.Common.{◌∙◌, ◌++◌, All, ap, ap₂, subst, sym}
+use Rattle.std.proofs.Common.{◌∙◌, All, ap, ap₂, subst, sym}
 use Rattle.pf_cache.specs.ContactRows.{AreRowsAt}
 use Rattle.pf_cache.specs.ContactsChange.{contacts_before}
 use Rattle.pf_cache.specs.Manifolds.{Collisions, kept_touches}
 use Rattle.pf_islands.specs.Split.{Island}
-use Rattle.pf_step.specs.Changes.{contacts_of_islands}
+use Rattle.pf_step.specs.Activity.{updated_islands}
+use Rattle.pf_step.specs.Changes.{MayChange}
 use Rattle.pf_step.specs.World.{World}
 use Rattle.pf_step.proofs.Restored.{islands_are, islands_beside}
 use Rattle.pf_step.proofs.ending.prepare.Goals as goal
@@ -39,8 +40,10 @@ returns-clause-impulses c =
     (c.touches.ensures.value ∙ ap (λ (x : Collisions). kept_touches x.manifolds) c.found.view_is ∙ c.requires.points)
     (c.deref.ensures.value ∙ ap (λ (w : World). w.bodies) c.world.view_is)
     (c.as_slice.ensures.value ∙ ap (λ (w : World). w.contacts) c.world.view_is) in
-    c.in_ok-note_impulses.ensures.noted
-    ∙ (λ i. (c.in_ok-note_islands.ensures.contacts i).noted ++ contacts_of_islands (ap (λ (v : World). v.contacts) c.world.view_is i) (found i))
+    let change = c.note_impulses.new.self.contacts in
+    subst (λ cs. All (λ (x : Island). MayChange change cs x.rows) (updated_islands c.args.scene.now c.args.world.now.contacts c.args.world.now.bodies))
+    (ap (λ (v : World). v.contacts) c.world.view_is)
+    (subst (All (λ (x : Island). MayChange change c.world.inside.contacts x.rows)) found c.in_ok-note_impulses.ensures.noted)
 
 pub returns-clause-same_contacts : goal.returns-clause-same_contacts
 returns-clause-same_contacts c =
