@@ -16,7 +16,7 @@ use Rattle.pf_rows.specs.Impulses.{Impulses}
 use Rattle.pf_rows.specs.Row.{Row, impulses_or}
 use Rattle.pf_cache.specs.Contact.{AreContacts, Contact, kept_contact, next_contacts, no_contact}
 use Rattle.pf_cache.specs.ContactRows.{IsRowAt, with_rows}
-use Rattle.pf_cache.specs.ContactsChange.{ContactsChange, contact_of_row, contacts_before, contacts_below, first_before, has_rank, may_change, noted_or, stands_before, with_noted}
+use Rattle.pf_cache.specs.ContactsChange.{ContactsChange, contact_of_row, contacts_before, contacts_below, first_before, has_rank, may_change, noted_or, precedes, with_noted}
 use Rattle.pf_cache.proofs.FoundRows.{row_rank}
 use Rattle.pf_cache.proofs.RankedLists as ranked
 use Rattle.pf_cache.proofs.Runs.{HaveSameKeys, run_done}
@@ -133,18 +133,18 @@ first_are_contacts k contacts order = record {
 }
 
 -- none stand before nothing
-pub before_none : (contacts : List Contact) → list_all (stands_before []) contacts ≡ true
+pub before_none : (contacts : List Contact) → list_all (precedes []) contacts ≡ true
 before_none [] = refl
 before_none (c ∷ contacts) = before_none contacts
 
 -- a contact stands before some where it stands before the first of them
 pub before_first : (behind : List Contact) (d c : Contact) → 0 < length behind
-    → stands_before behind c ≡ nat_lt (rank c.key) (rank (get_or behind 0 d).key)
+    → precedes behind c ≡ nat_lt (rank c.key) (rank (get_or behind 0 d).key)
 before_first [] d c some = absurd (omega (arith, some))
 before_first (b ∷ behind) d c some = refl
 
 -- where there are none, none are in the way
-pub before_nothing : (contacts behind : List Contact) → length behind ≡ 0 → true ≡ list_all (stands_before behind) contacts
+pub before_nothing : (contacts behind : List Contact) → length behind ≡ 0 → true ≡ list_all (precedes behind) contacts
 before_nothing contacts [] none = sym (before_none contacts)
 before_nothing contacts (b ∷ behind) none = absurd (omega (arith, none))
 
@@ -156,14 +156,14 @@ restored_last noted rest n contacts now is restored =
 
 -- the first contacts before a change, where they stand before those behind, and where they do not
 pub first_kept : (change : ContactsChange) (contacts : List Contact)
-    → list_all (stands_before change.behind) (take change.same (with_noted contacts change.noted)) ≡ true
+    → list_all (precedes change.behind) (take change.same (with_noted contacts change.noted)) ≡ true
     → take change.same (with_noted contacts change.noted) ≡ first_before change contacts
 unfolding first_before
 first_kept change contacts stand =
     ap (λ t. if t then take change.same (with_noted contacts change.noted) else []) (sym stand)
 
 pub first_dropped : (change : ContactsChange) (contacts : List Contact)
-    → list_all (stands_before change.behind) (take change.same (with_noted contacts change.noted)) ≡ false
+    → list_all (precedes change.behind) (take change.same (with_noted contacts change.noted)) ≡ false
     → [] ≡ first_before change contacts
 unfolding first_before
 first_dropped change contacts stand =
@@ -171,20 +171,20 @@ first_dropped change contacts stand =
 
 -- contacts in front of others in the order of their keys
 joined_rise : (behind : List Contact) (least : ℕ) (first : List Contact) → IsRising least (map rank_of first)
-    → list_all (stands_before behind) first ≡ true → IsRising least (map rank_of behind)
+    → list_all (precedes behind) first ≡ true → IsRising least (map rank_of behind)
     → IsRising least (map rank_of (first ++ behind))
 joined_rise behind least [] h stand low = low
 joined_rise behind least (c ∷ first) h stand low =
-    let parts = and_parts (stands_before behind c) (list_all (stands_before behind) first) stand in
+    let parts = and_parts (precedes behind c) (list_all (precedes behind) first) stand in
     (h.0, joined_rise behind (suc (rank c.key)) first h.1 parts.1 (after behind parts.0 low))
   where
-    after : (bs : List Contact) → stands_before bs c ≡ true → IsRising least (map rank_of bs)
+    after : (bs : List Contact) → precedes bs c ≡ true → IsRising least (map rank_of bs)
         → IsRising (suc (rank c.key)) (map rank_of bs)
     after [] stands low = tt
     after (b ∷ bs) stands low = (ltb-true (rank c.key) (rank b.key) stands, low.1)
 
 pub joined_are_contacts : (first behind : List Contact) → AreContacts first → AreContacts behind
-    → list_all (stands_before behind) first ≡ true → AreContacts (first ++ behind)
+    → list_all (precedes behind) first ≡ true → AreContacts (first ++ behind)
 joined_are_contacts first behind one two stand = record {
   rising = joined_rise behind 0 first one.rising stand two.rising;
   keys = All-append (λ c. IsKey c.key) first behind one.keys two.keys;
@@ -230,7 +230,7 @@ module _ (contacts : List Contact) (order : AreContacts contacts) where
       let own = sym (noted_both contacts noted (contacts_below contacts same rows))
       ∙ ap (λ cs. with_noted cs noted)
       (rows_stay (filter (λ r. nat_lt r.entry.place same) rows) (All-filter (λ r. nat_lt r.entry.place same) (IsRowAt contacts) rows at)) in
-      ap (λ cs. (if list_all (stands_before behind) (take same cs) then take same cs else []) ++ behind) own
+      ap (λ cs. (if list_all (precedes behind) (take same cs) then take same cs else []) ++ behind) own
 
 -- ---- impulses that change at noted contacts
 
@@ -332,7 +332,33 @@ pub before_stored : (change : ContactsChange) (contacts others : List Contact)
     → contacts_before change others ≡ contacts_before change contacts
 unfolding first_before
 before_stored change contacts others same =
-    ap (λ cs. (if list_all (stands_before change.behind) cs then cs else []) ++ change.behind) same
+    ap (λ cs. (if list_all (precedes change.behind) cs then cs else []) ++ change.behind) same
+
+pub before_rows : (change : ContactsChange) (contacts : List Contact) (rows : List Row)
+    → All (λ r. may_change change contacts (row_rank r) ≡ true) rows
+    → contacts_before change (with_rows contacts rows) ≡ contacts_before change contacts
+before_rows change contacts rows all =
+    let first = take change.same contacts in
+    before_stored change contacts (with_rows contacts rows)
+    (take_noted change.same (with_rows contacts rows) change.noted
+    ∙ ap (λ cs. with_noted cs change.noted) (take_stored change.same contacts rows)
+    ∙ stored_undone rows change.noted first all first (own_ranks first)
+    ∙ sym (take_noted change.same contacts change.noted))
+
+-- the first note of a contact counts
+pub first_noted : (own : Impulses) (c : Contact) (noted : List Contact) → noted_or own (rank c.key) (c ∷ noted) ≡ c.impulses
+first_noted own c noted =
+    ranked.first_alone rank_of (λ (x : Contact). x.impulses) own (rank c.key) c noted refl
+
+-- and another contact keeps its own impulses
+pub never_noted : (own : Impulses) (n : ℕ) (noted : List Contact) → has_rank noted n ≡ false → noted_or own n noted ≡ own
+never_noted own n [] none = refl
+never_noted own n (c ∷ noted) none = by (rank c.key == n) none (never_noted own n noted)
+  where
+    by : (t : Bool) → (t || has_rank noted n) ≡ false → (has_rank noted n ≡ false → noted_or own n noted ≡ own)
+        → (if t then c.impulses else noted_or own n noted) ≡ own
+    by true none rest = absurd (true≢false none)
+    by false none rest = rest none
 
 -- ---- rows whose contacts are noted
 
@@ -452,7 +478,7 @@ rest_are_touches k touches order = record {
 
 -- the first of some contacts stand before the rest
 first_stand : (k least : ℕ) (contacts : List Contact) → IsRising least (map rank_of contacts)
-    → list_all (stands_before (drop k contacts)) (take k contacts) ≡ true
+    → list_all (precedes (drop k contacts)) (take k contacts) ≡ true
 first_stand zero least contacts h = refl
 first_stand (suc k) least [] h = refl
 first_stand (suc k) least (c ∷ contacts) h =
@@ -465,7 +491,7 @@ first_stand (suc k) least (c ∷ contacts) h =
     rising-from (suc n) low (x ∷ cs) h =
         rising-from n low cs (rising-weaken low (suc (rank x.key)) (map rank_of cs) (omega (arith, h.0)) h.1)
 
-    stands : (bs : List Contact) → IsRising (suc (rank c.key)) (map rank_of bs) → stands_before bs c ≡ true
+    stands : (bs : List Contact) → IsRising (suc (rank c.key)) (map rank_of bs) → precedes bs c ≡ true
     stands [] h = refl
     stands (b ∷ bs) h = lt-ltb (rank c.key) (rank b.key) h.0
 
@@ -503,6 +529,6 @@ module _ (old : List Contact) (touches : List Touch) (r : ℕ) (order : AreTouch
       let first : take r (with_noted next []) ≡ take r old =
       ap (take r) (none_noted next ∙ sym next_from) ∙ ap (λ n. take n (take r old ++ rest)) (sym long)
       ∙ take-append_seam (take r old) rest in
-      ap (λ cs. (if list_all (stands_before (drop r old)) cs then cs else []) ++ drop r old) first
+      ap (λ cs. (if list_all (precedes (drop r old)) cs then cs else []) ++ drop r old) first
       ∙ ap (λ t. (if t then take r old else []) ++ drop r old) (first_stand r 0 old are.rising)
       ∙ take-append-drop r old

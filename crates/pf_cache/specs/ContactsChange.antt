@@ -7,7 +7,7 @@ use Rattle.pf_rows.specs.Row.{Row}
 use Rattle.pf_cache.specs.Contact.{Contact, no_contact}
 
 -- the first `same` contacts kept their keys; of some of them the impulses are noted that they had;
--- and behind them these contacts stood
+-- and behind them these were the old contacts
 pub record ContactsChange : Type 0 where
   pub same : ℕ
   pub noted : List Contact
@@ -42,17 +42,17 @@ abbrev pub may_change : ContactsChange → List Contact → ℕ → Bool
 may_change change contacts n =
     has_rank change.noted n || not (has_rank (take change.same contacts) n)
 
--- whether a contact stands before these in the order of keys
-abbrev pub stands_before : List Contact → Contact → Bool
-stands_before [] c = true
-stands_before (b ∷ behind) c = nat_lt (rank c.key) (rank b.key)
+-- whether a contact is in front of these in the order of keys
+abbrev pub precedes : List Contact → Contact → Bool
+precedes [] c = true
+precedes (b ∷ behind) c = nat_lt (rank c.key) (rank b.key)
 
--- the first contacts before a change, of the contacts after it; none, if they are others, which do
--- not stand before those behind
+-- the first contacts before a change, of the contacts after it; none, if they are others, which are
+-- not in front of those behind
 unfoldable pub first_before : ContactsChange → List Contact → List Contact
 first_before change contacts =
     let first = take change.same (with_noted contacts change.noted) in
-    if list_all (stands_before change.behind) first then first else []
+    if list_all (precedes change.behind) first then first else []
 
 -- the contacts before a change, of those after it
 abbrev pub contacts_before : ContactsChange → List Contact → List Contact

@@ -7,7 +7,7 @@ ghost use Rattle.pf_cache.specs.ContactRows.{AreRowsAt, IsRowAt, with_rows};
 ghost use Rattle.pf_cache.specs.ContactsChange.{contacts_below};
 
 use crate::contact::Contact;
-use crate::contacts_change::{ContactsChange, NotedContact, leave_first, move_behind};
+use crate::contacts_change::{ContactsChange, NotedContact, restore_first, split_into};
 use crate::ranked::{Ranked, find_from};
 use pf_manifold::{Key, Touch};
 use pf_rows::{Impulses, Row};
@@ -105,8 +105,8 @@ fn add_all(list: &mut Vec<Contact>, contacts: &[Contact])
     }
 }
 
-/// Adds the contacts of these points, as the next ones of the old contacts. There is room for them.
-/// Contacts that follow each other as their points do are copied together.
+/// Adds the next contacts of these points, after these old ones. There is room for them. Contacts
+/// that follow each other as their points do are copied together.
 fn add_next(list: &mut Vec<Contact>, old: &[Contact], touches: &[Touch])
     requires old { AreContacts old.now }
     requires touches { AreTouches touches.now }
@@ -199,10 +199,11 @@ impl Contacts {
 
     /// Makes of these contacts those of the points, as Box2D-Lite's `Arbiter::Update`: a key of the
     /// old contacts keeps its impulses, a new key has none, and a contact without a point is gone.
-    /// The points are in the order of their keys. At most `most` first contacts, as long as they have
-    /// the keys of the first points, stay where they are; the contacts behind them go to `change`,
-    /// which then undoes this. With 0 all contacts are made anew, and none has to be noted. An error
-    /// leaves the contacts as they are.
+    /// The points are in the order of their keys. At most `most` first contacts, as long as they
+    /// have the keys of the first points, stay where they are; no clause says that they do. The
+    /// contacts behind them go to `change`, which then undoes this. With 0 all contacts are made
+    /// anew, and none has to be noted. An error leaves the contacts as they are, and no contacts in
+    /// `change`, which is of no use then.
     #[inline(never)]
     pub fn update(
         &mut self,
@@ -214,10 +215,11 @@ impl Contacts {
         ensures value { OnOk result (self.new ≡ next_contacts self.old touches.now) }
         ensures before { OnOk result (contacts_before change.new self.new ≡ self.old) }
         ensures unchanged { OnErr result (self.new ≡ self.old) }
+        ensures gone { OnErr result (change.new ≡ record change.old { behind = [] }) }
         ensures no_memory { touches.now ≡ [] → IsOk result }
     {
         let same = same_keys(&self.list, touches, most);
-        move_behind(&mut self.list, &mut change.behind, same, touches.len())?;
+        split_into(&mut self.list, &mut change.behind, same, touches.len())?;
         change.same = same;
         change.noted.clear();
         add_next(&mut self.list, &change.behind, &touches[same..]);
@@ -238,20 +240,21 @@ impl Contacts {
         note_rows(&self.list, &mut change.noted, change.same, rows)
     }
 
-    /// Undoes what `change` holds. Takes time for the contacts before, and no memory. Of a change of
-    /// other contacts the first ones are only kept where they stand before those behind.
+    /// Undoes what `change` holds. Takes time for the contacts before, and no memory. If `change` is
+    /// of other contacts, those that are noted get their noted impulses, and the first ones stay
+    /// only if they are in front of those behind; else none stays.
     pub fn undo(&mut self, change: ContactsChange)
         ensures { self.new ≡ contacts_before change self.old }
     {
-        leave_first(&mut self.list, &change);
-        let mut before = change.behind;
-        let behind = before.len();
-        add_all(&mut before, &self.list);
-        before.rotate_left(behind);
-        self.list = before;
+        restore_first(&mut self.list, &change);
+        let mut list = change.behind;
+        let count = list.len();
+        add_all(&mut list, &self.list);
+        list.rotate_left(count);
+        self.list = list;
     }
 
-    /// Undoes what `change` holds as [`Contacts::undo`] does, where it is still needed. Out of
+    /// Undoes what `change` holds as [`Contacts::undo`] does, and leaves the change as it is. Out of
     /// memory changes nothing.
     pub fn undo_copied(&mut self, change: &ContactsChange) -> Result<(), AllocError>
         ensures value { OnOk result (self.new ≡ contacts_before change.now self.old) }
@@ -259,7 +262,7 @@ impl Contacts {
         ensures no_memory { contacts_before change.now self.old ≡ [] → IsOk result }
     {
         self.list.reserve(change.behind.len())?;
-        leave_first(&mut self.list, change);
+        restore_first(&mut self.list, change);
         add_all(&mut self.list, &change.behind);
         Ok(())
     }

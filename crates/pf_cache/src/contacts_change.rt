@@ -1,10 +1,10 @@
 //! What a tick changes in the contacts of a world.
 
-ghost use Rattle.std.specs.Prelude.{◌≡◌, ◌≢◌, ◌+◌, ◌≤◌, ◌<◌, ◌∷◌, ◌++◌, [], All, IfSome, IsOk, None, OnErr, OnOk, drop, length, slice_index_or, take, true, vec_capacity, vec_len};
+ghost use Rattle.std.specs.Prelude.{◌≡◌, ◌≢◌, ◌+◌, ◌≤◌, ◌<◌, ◌∷◌, [], All, IfSome, IsOk, None, OnErr, OnOk, drop, length, slice_index_or, take, true, vec_capacity, vec_len};
 ghost use Rattle.std.specs.List.{list_all};
 ghost use Rattle.pf_manifold.specs.Key.{IsKey, rank};
 ghost use Rattle.pf_cache.specs.Contact.{AreContacts, no_contact};
-ghost use Rattle.pf_cache.specs.ContactsChange.{first_before, stands_before, with_noted};
+ghost use Rattle.pf_cache.specs.ContactsChange.{first_before, precedes, with_noted};
 
 use crate::contact::Contact;
 use crate::ranked::Ranked;
@@ -30,13 +30,13 @@ impl Model for NotedContact {
 
 /// What a tick changed in the contacts of a world, with which
 /// [`Contacts::undo`](crate::Contacts::undo) restores the contacts before: how many of the first
-/// ones kept their keys, impulses that some of these had, and the contacts behind them. Where most
-/// bodies sleep these are few; no clause says how few.
+/// ones kept their keys, impulses that some of these had, and the old contacts behind them. Where
+/// most bodies sleep these are few in most ticks; no clause says how few.
 #[derive(Debug, Drop)]
 pub struct ContactsChange {
     pub(crate) same: usize,
     pub(crate) noted: Vec<NotedContact>,
-    /// The contacts behind the first ones. There is room for all that stood there.
+    /// The old contacts behind the first ones. The capacity is enough for all old contacts.
     pub(crate) behind: Vec<Contact>,
 }
 
@@ -62,7 +62,7 @@ impl Model for ContactsChange {
 impl ContactsChange {
     ghost use Rattle.std.specs.Prelude.{◌≡◌, []};
 
-    /// No change of no contacts. Takes no memory.
+    /// A change that undoes to no contacts. Takes no memory.
     pub fn new(alloc: Global) -> ContactsChange
         ensures { result ≡ record { same = 0; noted = []; behind = [] } }
     {
@@ -107,7 +107,7 @@ fn restore(contacts: &mut [Contact], noted: &NotedContact)
 }
 
 /// Gives each contact that is noted its noted impulses.
-pub(crate) fn restore_all(contacts: &mut [Contact], noted: &[NotedContact])
+fn restore_all(contacts: &mut [Contact], noted: &[NotedContact])
     requires contacts { AreContacts contacts.old }
     requires keys { All (λ n. IsKey n.key) noted.now }
     ensures value { contacts.new ≡ with_noted contacts.old noted.now }
@@ -118,11 +118,11 @@ pub(crate) fn restore_all(contacts: &mut [Contact], noted: &[NotedContact])
     }
 }
 
-/// Whether all contacts stand before these in the order of keys.
-fn stand_before(contacts: &[Contact], behind: &[Contact]) -> bool
+/// Whether each contact has a lower rank than the first of those behind.
+fn all_precede(contacts: &[Contact], behind: &[Contact]) -> bool
     requires contacts { AreContacts contacts.now }
     requires behind { AreContacts behind.now }
-    ensures { result ≡ list_all (stands_before behind.now) contacts.now }
+    ensures { result ≡ list_all (precedes behind.now) contacts.now }
 {
     if behind.is_empty() {
         return true;
@@ -136,8 +136,9 @@ fn stand_before(contacts: &[Contact], behind: &[Contact]) -> bool
     true
 }
 
-/// Of contacts after a change leaves as many first ones as stayed, with their noted impulses.
-fn restore_first(contacts: &mut Vec<Contact>, change: &ContactsChange)
+/// Restores noted impulses, and then keeps as many first contacts as stayed. They are found at their
+/// places only before the cut.
+fn restore_and_cut(contacts: &mut Vec<Contact>, change: &ContactsChange)
     requires { AreContacts contacts.old.items }
     ensures value { contacts.new.items
         ≡ take change.now.same (with_noted contacts.old.items change.now.noted) }
@@ -150,26 +151,27 @@ fn restore_first(contacts: &mut Vec<Contact>, change: &ContactsChange)
     contacts.truncate(change.same);
 }
 
-/// Of contacts after a change leaves the first ones, as they were before it.
-pub(crate) fn leave_first(contacts: &mut Vec<Contact>, change: &ContactsChange)
+/// Restores the first contacts before a change, of those after it. None is left if they do not
+/// precede those behind.
+pub(crate) fn restore_first(contacts: &mut Vec<Contact>, change: &ContactsChange)
     requires { AreContacts contacts.old.items }
     ensures value { contacts.new.items ≡ first_before change.now contacts.old.items }
     ensures contacts { AreContacts contacts.new.items }
-    ensures order { list_all (stands_before change.now.behind) contacts.new.items ≡ true }
+    ensures order { list_all (precedes change.now.behind) contacts.new.items ≡ true }
     ensures few { vec_len contacts.new ≤ change.now.same }
     ensures shorter { vec_len contacts.new ≤ vec_len contacts.old }
     ensures room { vec_capacity contacts.new ≡ vec_capacity contacts.old }
 {
-    restore_first(contacts, change);
-    if !stand_before(contacts, &change.behind) {
+    restore_and_cut(contacts, change);
+    if !all_precede(contacts, &change.behind) {
         contacts.clear();
     }
 }
 
-/// Moves the contacts from place `same` on into `behind`, whose own are gone, and sees that there
-/// is room for `count` contacts in the list, and for all that it had in `behind`. An error leaves
-/// the list as it is. The lists are only exchanged where `same` is 0.
-pub(crate) fn move_behind(
+/// Splits the list at `same`: the contacts from there on replace those of `behind`. Then there is room
+/// for `count` contacts in the list, and in `behind` for as many as the list had. An error leaves the
+/// list as it is, and none in `behind`. Where `same` is 0 the two lists are exchanged.
+pub(crate) fn split_into(
     contacts: &mut Vec<Contact>,
     behind: &mut Vec<Contact>,
     same: usize,

@@ -1,6 +1,6 @@
 //! Laws of contacts. These functions compute nothing: their clauses are the statements.
 
-ghost use Rattle.std.specs.Prelude.{◌≡◌, ◌≢◌, ◌↔◌, All, IsTrue, List, map};
+ghost use Rattle.std.specs.Prelude.{◌≡◌, ◌≢◌, ◌↔◌, ◌∷◌, ℕ, All, IsTrue, List, false, map, true};
 ghost use Rattle.std.specs.List.{Contains};
 ghost use Rattle.pf_shapes.specs.Pair.{Pair};
 ghost use Rattle.pf_manifold.specs.PlacedShape.{PlacedShape};
@@ -8,6 +8,8 @@ ghost use Rattle.pf_manifold.specs.Touches.{Touch};
 ghost use Rattle.pf_manifold.specs.Key.{Key, key_of, rank};
 ghost use Rattle.pf_rows.specs.Impulses.{Impulses, no_impulses};
 ghost use Rattle.pf_cache.specs.Contact.{AreContacts, Contact, impulses_at, next_contacts};
+ghost use Rattle.pf_cache.specs.ContactRows.{with_rows};
+ghost use Rattle.pf_cache.specs.ContactsChange.{ContactsChange, contacts_before, has_rank, may_change, noted_or};
 ghost use Rattle.pf_cache.specs.Laws.{AreFound, IsNew, IsUnmoved};
 ghost use Rattle.pf_cache.specs.Manifolds.{Manifolds, is_reusable, points_of_pair};
 ghost use Rattle.pf_rows.specs.Row.{AreRows, Row, impulses_or, no_mass};
@@ -30,6 +32,22 @@ pub fn rows_are_found()
     ensures none { (own : Impulses) (k : Key) (rows : List Row)
         → All (λ r. rank (key_of r.entry.touch) ≢ rank k) rows
         → impulses_or own (rank k) rows ≡ own }
+{}
+
+/// Of what is noted of a contact the first counts, and another contact keeps its own impulses.
+pub fn first_notes_decide()
+    ensures noted { (own : Impulses) (c : Contact) (noted : List Contact)
+        → noted_or own (rank c.key) (c ∷ noted) ≡ c.impulses }
+    ensures others { (own : Impulses) (n : ℕ) (noted : List Contact)
+        → has_rank noted n ≡ false → noted_or own n noted ≡ own }
+{}
+
+/// Where the impulses of contacts may change, a change restores the contacts before whatever rows
+/// store there.
+pub fn stored_impulses_are_undone()
+    ensures { (change : ContactsChange) (contacts : List Contact) (rows : List Row)
+        → All (λ r. may_change change contacts (rank (key_of r.entry.touch)) ≡ true) rows
+        → contacts_before change (with_rows contacts rows) ≡ contacts_before change contacts }
 {}
 
 /// An update leaves exactly the keys of the points, in their order.

@@ -32,8 +32,8 @@ box - 16777216 0 16777216 16777216 67108864 67108864 16777216 0
 end
 ";
 
-/// Makes of contacts those of a scene's bodies at their starts, where at most so many stay where they
-/// are, and returns what that changed.
+/// Makes of contacts those of a scene's bodies at their starts, where at most `most` of them stay
+/// where they are, and returns what that changed.
 fn update(
     alloc: Global,
     contacts: &mut Contacts,
@@ -83,7 +83,7 @@ fn contacts_are_those_of_the_points(rt: HostRuntime) -> Result<(), Fail> {
     Ok(())
 }
 
-/// Whether an update with these points is undone, also where its change is still needed.
+/// Whether an update is undone, by the change itself and by one that is left as it is.
 fn is_undone(alloc: Global, before: &Contacts, text: &[u8], most: usize) -> Result<bool, Fail> {
     let mut contacts = before.try_clone()?;
     let change = update(alloc, &mut contacts, text, most)?;
@@ -104,7 +104,7 @@ fn updates_are_undone(rt: HostRuntime) -> Result<(), Fail> {
     Ok(())
 }
 
-/// Whether the change of other contacts, whose first two stayed, leaves the two behind them.
+/// Whether a change of other contacts, of which the first two stayed, leaves only those behind them.
 fn are_left(alloc: Global, both: &Contacts, second: &Contacts) -> Result<bool, Fail> {
     let mut contacts = both.try_clone()?;
     let change = update(alloc, &mut contacts, OTHER_STANDS, usize::MAX)?;

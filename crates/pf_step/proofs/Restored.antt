@@ -21,7 +21,7 @@ use Rattle.pf_islands.proofs.ActiveRows.{rows_beside}
 use Rattle.pf_islands.proofs.Whole.{islands_at_contacts}
 use Rattle.pf_solver.specs.Alone.{island_after_tick}
 use Rattle.pf_solver.proofs.Solved.{solved_touches}
-use Rattle.pf_step.specs.Activity.{labels_of_bodies, updated_batch, updated_islands}
+use Rattle.pf_step.specs.Activity.{labels_of_bodies, batch_with, islands_with}
 use Rattle.pf_step.specs.Changes.{MayChange}
 use Rattle.pf_step.specs.Step.{touches_of_scene}
 
@@ -29,10 +29,10 @@ use Rattle.pf_step.specs.Step.{touches_of_scene}
 pub islands_beside : (s : Scene) (contacts : List Contact) (bodies : List BodyState)
     → AreTouches (touches_of_scene s bodies)
     → map (λ (c : Contact). c.key) contacts ≡ map key_of (touches_of_scene s bodies)
-    → All (λ (i : Island). AreRowsAt contacts i.rows) (updated_islands s contacts bodies)
+    → All (λ (i : Island). AreRowsAt contacts i.rows) (islands_with s contacts bodies)
 islands_beside s contacts bodies order keys =
     let points = touches_of_scene s bodies in
-    let batch = updated_batch s contacts bodies in
+    let batch = batch_with s contacts bodies in
     islands_at_contacts (labels_of_bodies s bodies) batch.bodies batch.rows contacts
     (rows_beside s batch.bodies points contacts keys
     (sym (length-map contacts (λ (c : Contact). c.key)) ∙ ap length keys ∙ length-map points key_of) order)
@@ -41,7 +41,7 @@ islands_beside s contacts bodies order keys =
 pub islands_are : (s : Scene) (contacts : List Contact) (bodies : List BodyState) (points : List Touch)
     (lent : List BodyState) (updated : List Contact) (found : List Island)
     → found ≡ (let awake = woken_bodies (groups s points) lent in islands (groups s points) awake (active_rows s awake points updated))
-    → points ≡ touches_of_scene s bodies → lent ≡ bodies → updated ≡ contacts → found ≡ updated_islands s contacts bodies
+    → points ≡ touches_of_scene s bodies → lent ≡ bodies → updated ≡ contacts → found ≡ islands_with s contacts bodies
 islands_are s contacts bodies points lent updated found value points_are lent_are updated_are =
     value
     ∙ (λ i.

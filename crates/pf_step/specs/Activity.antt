@@ -22,28 +22,28 @@ labels_of_bodies s bodies = groups s (touches_of_scene s bodies)
 abbrev pub contacts_of_bodies : Scene → List Contact → List BodyState → List Contact
 contacts_of_bodies s contacts bodies = next_contacts contacts (touches_of_scene s bodies)
 
--- the bodies and contacts that are solved, in one list each, where the contacts are updated
-abbrev pub updated_batch : Scene → List Contact → List BodyState → Batch
-updated_batch s contacts bodies =
+-- the bodies and contacts that are solved, in one list each, with these contacts of the tick
+abbrev pub batch_with : Scene → List Contact → List BodyState → Batch
+batch_with s contacts bodies =
     let points = touches_of_scene s bodies in
     let awake = woken_bodies (groups s points) bodies in
     record { bodies = awake; rows = active_rows s awake points contacts }
 
--- and as islands
-abbrev pub updated_islands : Scene → List Contact → List BodyState → List Island
-updated_islands s contacts bodies =
-    let batch = updated_batch s contacts bodies in
+-- the same as islands
+abbrev pub islands_with : Scene → List Contact → List BodyState → List Island
+islands_with s contacts bodies =
+    let batch = batch_with s contacts bodies in
     islands (labels_of_bodies s bodies) batch.bodies batch.rows
 
--- the same with the contacts of the last tick: the bodies and contacts that are solved
+-- the bodies and contacts that are solved, where these are the contacts of the last tick
 abbrev pub batch_of_bodies : Scene → List Contact → List BodyState → Batch
 batch_of_bodies s contacts bodies =
-    updated_batch s (contacts_of_bodies s contacts bodies) bodies
+    batch_with s (contacts_of_bodies s contacts bodies) bodies
 
--- and as islands
+-- the same as islands
 abbrev pub islands_of_bodies : Scene → List Contact → List BodyState → List Island
 islands_of_bodies s contacts bodies =
-    updated_islands s (contacts_of_bodies s contacts bodies) bodies
+    islands_with s (contacts_of_bodies s contacts bodies) bodies
 
 -- the same of the bodies of a tick, after its commands: the labels of the groups
 abbrev pub labels_of_tick : Scene → World → List Payload → List ℕ

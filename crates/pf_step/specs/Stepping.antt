@@ -31,7 +31,7 @@ pub record IsStep {E : Type 0} (s : Scene) (w : World) (payloads : List Payload)
 -- what the phases after Points do to a world, where some changes of bodies are noted already: they
 -- make the next world of it, note more changes of its bodies, and undoing all of them leaves what
 -- undoing those alone would have left before; or they return an error, and the world, and what
--- undoing makes of it, are as before
+-- undoing makes of its bodies, are as before
 pub record IsEnding {A E : Type 0} (s : Scene) (w : World) (noted : List BodyChange)
     (after : World) (changes : Changes) (result : Result A E) : Type 0 where
   pub value : OnOk result (after ≡ world_after s w.contacts w.bodies)

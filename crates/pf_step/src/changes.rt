@@ -32,8 +32,8 @@ impl Model for BodyChange {
 
 /// What a step changed in a world: the states that its bodies had, of those that the step may have
 /// changed, and what it changed of the contacts. With it [`World::undo`](crate::World::undo)
-/// restores the world before the step. Where most bodies sleep it has few bodies and contacts; no
-/// clause says how few.
+/// restores the world before the step. Where most bodies sleep it has few bodies, and few contacts
+/// in most ticks; no clause says how few.
 #[derive(Debug, Drop)]
 pub struct Changes {
     bodies: Vec<BodyChange>,
@@ -193,8 +193,9 @@ impl Changes {
         Ok(())
     }
 
-    /// Makes of the contacts of the last tick those of these points, and keeps what that changes. At
-    /// most `most` of them stay where they are. An error leaves the contacts as they are.
+    /// Makes of the contacts of the last tick those of these points, and keeps what that changes.
+    /// At most `most` of them stay where they are. An error leaves the contacts as they are, and
+    /// what is kept of them is of no use then.
     pub(crate) fn update_contacts(
         &mut self,
         contacts: &mut Contacts,
@@ -212,8 +213,8 @@ impl Changes {
         contacts.update(touches, most, &mut self.contacts)
     }
 
-    /// Notes the impulses of the contacts of islands, so that they may change. After an error some of
-    /// them may be noted.
+    /// Notes the impulses of the contacts of islands, so that they may change. After an error some
+    /// of them may be noted.
     pub(crate) fn note_impulses(
         &mut self,
         contacts: &Contacts,
@@ -233,10 +234,11 @@ impl Changes {
         Ok(())
     }
 
-    /// Undoes the change of the contacts. Takes no memory.
+    /// Undoes the change of the contacts, and forgets it. Takes no memory.
     pub(crate) fn undo_contacts(&mut self, alloc: Global, contacts: &mut Contacts)
         ensures contacts { contacts.new ≡ contacts_before self.old.contacts contacts.old }
         ensures bodies { self.new.bodies ≡ self.old.bodies }
+        ensures gone { self.new.contacts ≡ record { same = 0; noted = []; behind = [] } }
     {
         let change = mem::replace(&mut self.contacts, ContactsChange::new(alloc));
         contacts.undo(change);

@@ -7,7 +7,7 @@ ghost use Rattle.pf_cache.specs.ContactsChange.{contacts_before};
 ghost use Rattle.pf_cache.specs.Manifolds.{kept_touches};
 ghost use Rattle.pf_islands.specs.Split.{IsIslandOf};
 ghost use Rattle.pf_step.specs.declared.crew.StepError.TheVariants.{OutOfMemory};
-ghost use Rattle.pf_step.specs.Activity.{islands_of_bodies, updated_islands};
+ghost use Rattle.pf_step.specs.Activity.{islands_of_bodies, islands_with};
 ghost use Rattle.pf_step.specs.Changes.{bodies_before, changes_of_islands, numbers_of, MayChange};
 ghost use Rattle.pf_step.specs.Stepping.{FailsBy, IsEnding};
 ghost use Rattle.pf_step.specs.Step.{touches_of_scene};
@@ -29,8 +29,8 @@ fn most_in_place(moved: usize, bodies: usize) -> usize {
 }
 
 /// The islands of a tick in the world after its phases Commands and Points, whose contacts are
-/// updated. Notes their bodies and contacts, and lists these bodies as those that may have moved.
-/// After an error some of them may be noted.
+/// already those of the tick. Notes their bodies and impulses, and lists all noted bodies as those
+/// that may have moved. After an error some of them may be noted.
 #[tactic(auto, using(crate::proofs::Restored::islands_beside))]
 fn prepare(
     alloc: Global,
@@ -49,14 +49,14 @@ fn prepare(
     requires keys { map (λ c. c.key) world.now.contacts
         ≡ map key_of (touches_of_scene scene.now world.now.bodies) }
     ensures islands { IfOk result (λ islands. islands.items
-        ≡ updated_islands scene.now world.now.contacts world.now.bodies) }
+        ≡ islands_with scene.now world.now.contacts world.now.bodies) }
     ensures fit { IfOk result (λ islands. All (IsIslandOf scene.now) islands.items) }
     ensures noted { OnOk result (changes.new.bodies ≡ changes.old.bodies
         ++ changes_of_islands world.now.bodies
-        (updated_islands scene.now world.now.contacts world.now.bodies)) }
+        (islands_with scene.now world.now.contacts world.now.bodies)) }
     ensures impulses { OnOk result
         (All (λ i. MayChange changes.new.contacts world.now.contacts i.rows)
-        (updated_islands scene.now world.now.contacts world.now.bodies)) }
+        (islands_with scene.now world.now.contacts world.now.bodies)) }
     ensures same { bodies_before changes.new.bodies world.now.bodies
         ≡ bodies_before changes.old.bodies world.now.bodies }
     ensures same_contacts { contacts_before changes.new.contacts world.now.contacts

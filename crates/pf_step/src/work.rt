@@ -175,8 +175,8 @@ impl Work {
         self.spare_islands = islands;
     }
 
-    /// Takes the memory that is kept for changes: without bodies, and the contacts are of no use.
-    /// Takes no memory.
+    /// Takes the memory that is kept for changes: without bodies, and what it holds of contacts is
+    /// of no use. Takes no memory.
     pub(crate) fn take_changes(&mut self, alloc: Global) -> Changes
         ensures changes { result.bodies ≡ [] }
         ensures work { self.new ≡ self.old }

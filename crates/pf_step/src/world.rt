@@ -68,9 +68,9 @@ impl World {
     }
 
     /// Undoes a step: this is the world after it, and `changes` are what it returned. Other changes
-    /// are undone all the same: each noted body gets its noted state, and of the contacts the first
-    /// ones are kept where they stand before those that are noted. Takes time for what changed and
-    /// for the contacts, and no memory.
+    /// are undone all the same: each noted body gets its noted state, and contacts are undone as
+    /// [`pf_cache::Contacts::undo`] says. Takes time for what changed and for the contacts, and no
+    /// memory.
     #[tactic(auto, unfolding(crate::specs::Changes::world_before))]
     pub fn undo(&mut self, changes: Changes)
         ensures { self.new ≡ world_before changes self.old }
@@ -80,7 +80,7 @@ impl World {
         self.contacts.undo(contacts);
     }
 
-    /// Undoes a step as [`World::undo`] does, where the changes are still needed. May take memory
+    /// Undoes a step as [`World::undo`] does, and leaves the changes as they are. May take memory
     /// for contacts. Out of memory changes nothing.
     #[tactic(auto, unfolding(crate::specs::Changes::world_before))]
     pub fn undo_copied(&mut self, changes: &Changes) -> Result<(), AllocError>

@@ -11,7 +11,7 @@ use Rattle.pf_cache.proofs.Kept.{same_keys}
 use Rattle.pf_islands.specs.Join.{IsAtHome, joined_bodies, joined_contacts}
 use Rattle.pf_islands.specs.Split.{Island}
 use Rattle.pf_solver.specs.Alone.{island_after_tick}
-use Rattle.pf_step.specs.Activity.{contacts_of_bodies, islands_of_bodies, updated_islands}
+use Rattle.pf_step.specs.Activity.{contacts_of_bodies, islands_of_bodies, islands_with}
 use Rattle.pf_step.specs.Changes.{bodies_before, changes_of_islands, world_before}
 use Rattle.pf_step.specs.Step.{touches_of_scene, world_after}
 use Rattle.pf_step.specs.World.{World}
@@ -48,7 +48,7 @@ ended g c =
     let s = c.args.scene.now in
     c.deref.ensures.value ∙ c.in-Ok-solve.ensures.solved
     ∙ ap (map (island_after_tick s))
-    (c.in-Ok.ensures.islands ∙ ap₂ (updated_islands s) (updated g c) (ap (λ (v : World). v.bodies) c.world.view_is))
+    (c.in-Ok.ensures.islands ∙ ap₂ (islands_with s) (updated g c) (ap (λ (v : World). v.bodies) c.world.view_is))
 
 pub join_back-requires-clause-bodies : goal.join_back-requires-clause-bodies
 join_back-requires-clause-bodies g c =
@@ -81,14 +81,14 @@ returns-clause-ending g c =
     let points_are = c.touches-touches.ensures.value ∙ ap (λ (x : Collisions). kept_touches x.manifolds) c.found.view_is ∙ c.requires.points in
     let now_is = c.in_ok-update_contacts.ensures.value ∙ ap₂ next_contacts contacts points_are in
     let order = subst AreTouches points_are c.touches-touches.ensures.order in
-    let own : c.deref.result.now ≡ map (island_after_tick s) (updated_islands s now lent) =
+    let own : c.deref.result.now ≡ map (island_after_tick s) (islands_with s now lent) =
     c.deref.ensures.value ∙ c.in-Ok-solve.ensures.solved ∙ ap (map (island_after_tick s)) c.in-Ok.ensures.islands in
-    let ended_are = own ∙ ap₂ (λ cs bs. map (island_after_tick s) (updated_islands s cs bs)) now_is of_world in
+    let ended_are = own ∙ ap₂ (λ cs bs. map (island_after_tick s) (islands_with s cs bs)) now_is of_world in
     let joined = ended_join s w.contacts w.bodies c.requires.bodies order in
     let bodies = with_items_is c.world.inside.bodies c.join_back.new.bodies (c.join_back.auto.bodies ∙ c.deref_mut.ensures.len)
     ∙ c.join_back.ensures.bodies ∙ ap₂ joined_bodies ended_are (c.deref_mut.ensures.value ∙ of_world) ∙ joined.0 in
     let notes = c.in-Ok.ensures.noted
-    ∙ (λ i. c.update_contacts.ensures.bodies i ++ changes_of_islands (of_world i) (updated_islands s (now_is i) (of_world i))) in
+    ∙ (λ i. c.update_contacts.ensures.bodies i ++ changes_of_islands (of_world i) (islands_with s (now_is i) (of_world i))) in
     record {
       value = ap₂ (λ bs cs. record { bodies = bs; contacts = cs }) bodies
           (c.join_back.ensures.contacts ∙ ap₂ joined_contacts ended_are now_is ∙ joined.1);
@@ -98,7 +98,7 @@ returns-clause-ending g c =
           ∙ ap (bodies_before noted) (islands_before s w.contacts w.bodies c.requires.bodies))
           (ap (contacts_before c.prepare.new.changes.contacts)
           (c.join_back.ensures.contacts ∙ ap (λ is. joined_contacts is now) own)
-          ∙ contacts_restored s now (updated_islands s now lent) c.prepare.new.changes.contacts c.in-Ok.ensures.impulses
+          ∙ contacts_restored s now (islands_with s now lent) c.prepare.new.changes.contacts c.in-Ok.ensures.impulses
           ∙ c.prepare.ensures.same_contacts ∙ c.in_ok-update_contacts.ensures.before ∙ contacts);
       added = (changes_of_islands w.bodies found, notes, islands_within w.bodies found);
       unchanged = tt;

@@ -3,7 +3,7 @@ use Rattle.pf_cache.specs.ContactRows.{AreRowsAt}
 use Rattle.pf_cache.specs.ContactsChange.{contacts_before}
 use Rattle.pf_cache.specs.Manifolds.{Collisions, kept_touches}
 use Rattle.pf_islands.specs.Split.{Island}
-use Rattle.pf_step.specs.Activity.{updated_islands}
+use Rattle.pf_step.specs.Activity.{islands_with}
 use Rattle.pf_step.specs.Changes.{MayChange}
 use Rattle.pf_step.specs.World.{World}
 use Rattle.pf_step.proofs.Restored.{islands_are, islands_beside}
@@ -41,7 +41,7 @@ returns-clause-impulses c =
     (c.deref.ensures.value ∙ ap (λ (w : World). w.bodies) c.world.view_is)
     (c.as_slice.ensures.value ∙ ap (λ (w : World). w.contacts) c.world.view_is) in
     let change = c.note_impulses.new.self.contacts in
-    subst (λ cs. All (λ (x : Island). MayChange change cs x.rows) (updated_islands c.args.scene.now c.args.world.now.contacts c.args.world.now.bodies))
+    subst (λ cs. All (λ (x : Island). MayChange change cs x.rows) (islands_with c.args.scene.now c.args.world.now.contacts c.args.world.now.bodies))
     (ap (λ (v : World). v.contacts) c.world.view_is)
     (subst (All (λ (x : Island). MayChange change c.world.inside.contacts x.rows)) found c.in_ok-note_impulses.ensures.noted)
 

@@ -1,7 +1,7 @@
 use Rattle.std.proofs.Common.{◌≡◌, ◌∙◌, ◌++◌, ap, arith, length, subst, sym, true}
 use Rattle.std.specs.List.{list_all}
 use Rattle.pf_cache.specs.Contact.{AreContacts}
-use Rattle.pf_cache.specs.ContactsChange.{ContactsChange, first_before, stands_before}
+use Rattle.pf_cache.specs.ContactsChange.{ContactsChange, first_before, precedes}
 use Rattle.pf_cache.proofs.Restoring.{joined_are_contacts, none_behind}
 use Rattle.pf_cache.proofs.contacts.Contacts.undo_copied.Goals as goal
 
@@ -14,8 +14,8 @@ returns-in_err-reserve-clause-no_memory c = λ none.
 
 pub invariant_of-self-2 : goal.invariant_of-self-2
 invariant_of-self-2 c =
-    let first = c.leave_first.new.contacts.items in
+    let first = c.restore_first.new.contacts.items in
     let behind = c.change.inside.behind.items in
     let whole : c.add_all.new.list.items ≡ first ++ behind = c.add_all.ensures.items ∙ ap (λ xs. first ++ xs) c.deref.ensures.value in
-    subst AreContacts (sym whole) (joined_are_contacts first behind c.leave_first.ensures.contacts c.change.invariant.1
-    (subst (λ (ch : ContactsChange). list_all (stands_before ch.behind) first ≡ true) (sym c.change.view_is) c.leave_first.ensures.order))
+    subst AreContacts (sym whole) (joined_are_contacts first behind c.restore_first.ensures.contacts c.change.invariant.1
+    (subst (λ (ch : ContactsChange). list_all (precedes ch.behind) first ≡ true) (sym c.change.view_is) c.restore_first.ensures.order))

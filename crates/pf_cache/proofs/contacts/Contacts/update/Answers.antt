@@ -10,7 +10,7 @@ use Rattle.pf_cache.proofs.contacts.Contacts.update.Goals as goal
 
 pub add_next-requires-clause-old : goal.add_next-requires-clause-old
 add_next-requires-clause-old c =
-    subst AreContacts (sym (c.deref-2.ensures.value ∙ c.in_ok-move_behind.ensures.moved))
+    subst AreContacts (sym (c.deref-2.ensures.value ∙ c.in_ok-split_into.ensures.moved))
     (rest_are_contacts c.same_keys-same.result c.self.inside.list.items c.self.invariant)
 
 pub add_next-requires-clause-touches : goal.add_next-requires-clause-touches
@@ -28,8 +28,8 @@ keys c =
 next : (c : goal.After-add_next) → c.add_next.new.list.items ≡ next_contacts c.self.inside.list.items c.args.touches.now
 next c =
     c.add_next.ensures
-    ∙ ap₂ (λ xs ys. xs ++ ys) c.in_ok-move_behind.ensures.first
-    (ap₂ next_contacts (c.deref-2.ensures.value ∙ c.in_ok-move_behind.ensures.moved)
+    ∙ ap₂ (λ xs ys. xs ++ ys) c.in_ok-split_into.ensures.first
+    (ap₂ next_contacts (c.deref-2.ensures.value ∙ c.in_ok-split_into.ensures.moved)
     (rest_is c.args.touches.now c.same_keys-same.result))
     ∙ next_from c.self.inside.list.items c.args.touches.now c.same_keys-same.result c.requires (inside c)
     c.same_keys-same.ensures.touches (keys c)
@@ -44,9 +44,9 @@ invariant_of-self-2 c =
 pub invariant_of-change-2 : goal.invariant_of-change-2
 invariant_of-change-2 c = (
   subst (All (λ n. IsKey n.key)) (sym c.clear.ensures.items) (All-nil (λ n. IsKey n.key)),
-  subst AreContacts (sym c.in_ok-move_behind.ensures.moved)
+  subst AreContacts (sym c.in_ok-split_into.ensures.moved)
       (rest_are_contacts c.same_keys-same.result c.self.inside.list.items c.self.invariant),
-  c.in_ok-move_behind.ensures.room_behind,
+  c.in_ok-split_into.ensures.room_behind,
 )
 
 pub returns-clause-before : goal.returns-clause-before
@@ -55,7 +55,7 @@ returns-clause-before c =
     (λ i. record {
       same = c.same_keys-same.result;
       noted = c.clear.ensures.items i;
-      behind = c.in_ok-move_behind.ensures.moved i;
+      behind = c.in_ok-split_into.ensures.moved i;
     })
     (next c)
     ∙ before_next c.self.inside.list.items c.args.touches.now c.same_keys-same.result c.requires (inside c)
