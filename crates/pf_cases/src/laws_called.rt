@@ -65,6 +65,8 @@ fn laws_of_contacts(rt: HostRuntime) {
     use pf_solver::laws;
     contacts::contacts_are_found();
     contacts::updates_have_the_keys_of_points();
+    contacts::first_notes_decide();
+    contacts::stored_impulses_are_undone();
     contacts::no_work();
     rows::named_values();
     rows::named_limits();
