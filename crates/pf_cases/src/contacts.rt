@@ -104,7 +104,7 @@ fn updates_are_undone(rt: HostRuntime) -> Result<(), Fail> {
     Ok(())
 }
 
-/// Whether a change of other contacts, of which the first two stayed, leaves only those behind them.
+/// Whether a change of other contacts, of which the first two stayed, leaves only those behind.
 fn are_left(alloc: Global, both: &Contacts, second: &Contacts) -> Result<bool, Fail> {
     let mut contacts = both.try_clone()?;
     let change = update(alloc, &mut contacts, OTHER_STANDS, usize::MAX)?;
