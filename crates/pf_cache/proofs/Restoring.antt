@@ -20,6 +20,7 @@ use Rattle.pf_cache.specs.ContactsChange.{ContactsChange, contact_of_row, contac
 use Rattle.pf_cache.proofs.FoundRows.{row_rank}
 use Rattle.pf_cache.proofs.RankedLists as ranked
 use Rattle.pf_cache.proofs.Runs.{HaveSameKeys, run_done}
+use Rattle.pf_cache.proofs.Stored.{with_impulses_are_contacts}
 use Rattle.pf_cache.proofs.Walk.{SameFrom}
 
 abbrev rank_of : Contact → ℕ
@@ -29,27 +30,11 @@ rank_of c = rank c.key
 abbrev pub before : List Contact → Contact → Contact
 before noted c = record c { impulses = noted_or c.impulses (rank c.key) noted }
 
--- their ranks ascend as they did
-rising_before : (noted : List Contact) (least : ℕ) (contacts : List Contact) → IsRising least (map rank_of contacts)
-    → IsRising least (map rank_of (map (before noted) contacts))
-rising_before noted least [] h = tt
-rising_before noted least (c ∷ contacts) h = (h.0, rising_before noted (suc (rank c.key)) contacts h.1)
-
--- and they have their keys
-keys_before : (noted : List Contact) (contacts : List Contact) → All (λ c. IsKey c.key) contacts
-    → All (λ c. IsKey c.key) (map (before noted) contacts)
-keys_before noted [] h = All-nil (λ c. IsKey c.key)
-keys_before noted (c ∷ contacts) h =
-    All-cons (λ x. IsKey x.key) (before noted c) (map (before noted) contacts) (All-head (λ x. IsKey x.key) c contacts h)
-    (keys_before noted contacts (All-tail (λ x. IsKey x.key) c contacts h))
-
--- so they are still in the order of their keys
+-- they are still in the order of their keys
 pub noted_are_contacts : (contacts noted : List Contact) → AreContacts contacts → AreContacts (with_noted contacts noted)
 unfolding with_noted
-noted_are_contacts contacts noted order = record {
-  rising = rising_before noted 0 contacts order.rising;
-  keys = keys_before noted contacts order.keys;
-}
+noted_are_contacts contacts noted order =
+    with_impulses_are_contacts (λ (c : Contact). noted_or c.impulses (rank c.key) noted) contacts order
 
 -- where nothing is noted, contacts stay as they are
 pub none_noted : (contacts : List Contact) → with_noted contacts [] ≡ contacts

@@ -20,28 +20,34 @@ rank_of c = rank c.key
 abbrev stored : List Row → Contact → Contact
 stored rows c = record c { impulses = impulses_or c.impulses (rank c.key) rows }
 
--- their ranks ascend as before
-rising_stored : (rows : List Row) (least : ℕ) (contacts : List Contact) → IsRising least (map rank_of contacts)
-    → IsRising least (map rank_of (map (stored rows) contacts))
-rising_stored rows least [] h = tt
-rising_stored rows least (c ∷ contacts) h = (h.0, rising_stored rows (suc (rank c.key)) contacts h.1)
+-- contacts with other impulses: their ranks ascend as before
+rising_with : (p : Contact → Impulses) (least : ℕ) (contacts : List Contact) → IsRising least (map rank_of contacts)
+    → IsRising least (map rank_of (map (λ (c : Contact). record c { impulses = p c }) contacts))
+rising_with p least [] h = tt
+rising_with p least (c ∷ contacts) h = (h.0, rising_with p (suc (rank c.key)) contacts h.1)
 
--- and they have their keys
-keys_stored : (rows : List Row) (contacts : List Contact) → All (λ c. IsKey c.key) contacts
-    → All (λ c. IsKey c.key) (map (stored rows) contacts)
-keys_stored rows [] h = All-nil (λ c. IsKey c.key)
-keys_stored rows (c ∷ contacts) h =
-    All-cons (λ x. IsKey x.key) (stored rows c) (map (stored rows) contacts) (All-head (λ x. IsKey x.key) c contacts h)
-    (keys_stored rows contacts (All-tail (λ x. IsKey x.key) c contacts h))
+-- they have their keys
+keys_with : (p : Contact → Impulses) (contacts : List Contact) → All (λ c. IsKey c.key) contacts
+    → All (λ c. IsKey c.key) (map (λ (c : Contact). record c { impulses = p c }) contacts)
+keys_with p [] h = All-nil (λ c. IsKey c.key)
+keys_with p (c ∷ contacts) h =
+    All-cons (λ x. IsKey x.key) (record c { impulses = p c }) (map (λ (x : Contact). record x { impulses = p x }) contacts)
+    (All-head (λ x. IsKey x.key) c contacts h) (keys_with p contacts (All-tail (λ x. IsKey x.key) c contacts h))
+
+-- so they are still in the order of their keys
+pub with_impulses_are_contacts : (p : Contact → Impulses) (contacts : List Contact) → AreContacts contacts
+    → AreContacts (map (λ (c : Contact). record c { impulses = p c }) contacts)
+with_impulses_are_contacts p contacts order = record {
+  rising = rising_with p 0 contacts order.rising;
+  keys = keys_with p contacts order.keys;
+}
 
 -- stored contacts are in the order of their keys
 pub stored_are_contacts : (contacts : List Contact) (rows : List Row) → AreContacts contacts
     → AreContacts (with_rows contacts rows)
 unfolding with_rows
-stored_are_contacts contacts rows order = record {
-  rising = rising_stored rows 0 contacts order.rising;
-  keys = keys_stored rows contacts order.keys;
-}
+stored_are_contacts contacts rows order =
+    with_impulses_are_contacts (λ (c : Contact). impulses_or c.impulses (rank c.key) rows) contacts order
 
 -- with no rows, contacts stay as they are
 pub none_stored : (contacts : List Contact) → with_rows contacts [] ≡ contacts

@@ -36,8 +36,8 @@ with_noted contacts noted =
 abbrev pub has_rank : List Contact → ℕ → Bool
 has_rank contacts n = list_any (λ c. rank c.key == n) contacts
 
--- whether the impulses of the contact of this rank may change, so that the contacts before can still
--- be restored: they are noted, or it is none of the first contacts
+-- whether the impulses of the contact of this rank may change, so that the contacts before can
+-- still be restored: they are noted, or it is none of the first contacts
 abbrev pub may_change : ContactsChange → List Contact → ℕ → Bool
 may_change change contacts n =
     has_rank change.noted n || not (has_rank (take change.same contacts) n)

@@ -72,8 +72,8 @@ fn has_key_of(contact: &Contact, touch: &Touch) -> bool
     key.a == touch.a && key.b == touch.b && key.feature == touch.point.feature
 }
 
-/// How many of the first contacts, at most so many, have the keys of the first points, one after the
-/// other. No clause says that it does not stop earlier.
+/// How many of the first contacts, at most `most`, have the keys of the first points, one after
+/// the other. No clause says that it does not stop earlier.
 #[inline]
 fn same_keys(contacts: &[Contact], touches: &[Touch], most: usize) -> usize
     ensures contacts { result ≤ length contacts.now }
@@ -240,9 +240,9 @@ impl Contacts {
         note_rows(&self.list, &mut change.noted, change.same, rows)
     }
 
-    /// Undoes what `change` holds. Takes time for the contacts before, and no memory. If `change` is
-    /// of other contacts, those that are noted get their noted impulses, and the first ones stay
-    /// only if they are in front of those behind; else none stays.
+    /// Undoes what `change` holds. Takes time for the contacts before, and no memory. If `change`
+    /// is of other contacts, those that are noted get their noted impulses, and the first ones
+    /// stay only if they are in front of those behind; else none stays.
     pub fn undo(&mut self, change: ContactsChange)
         ensures { self.new ≡ contacts_before change self.old }
     {
@@ -254,8 +254,8 @@ impl Contacts {
         self.list = list;
     }
 
-    /// Undoes what `change` holds as [`Contacts::undo`] does, and leaves the change as it is. Out of
-    /// memory changes nothing.
+    /// Undoes what `change` holds as [`Contacts::undo`] does, and leaves the change as it is. Out
+    /// of memory changes nothing.
     pub fn undo_copied(&mut self, change: &ContactsChange) -> Result<(), AllocError>
         ensures value { OnOk result (self.new ≡ contacts_before change.now self.old) }
         ensures unchanged { OnErr result (self.new ≡ self.old) }

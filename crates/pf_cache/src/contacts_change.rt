@@ -136,8 +136,8 @@ fn all_precede(contacts: &[Contact], behind: &[Contact]) -> bool
     true
 }
 
-/// Restores noted impulses, and then keeps as many first contacts as stayed. They are found at their
-/// places only before the cut.
+/// Restores noted impulses, and then keeps as many first contacts as stayed. They are found at
+/// their places only before the cut.
 fn restore_and_cut(contacts: &mut Vec<Contact>, change: &ContactsChange)
     requires { AreContacts contacts.old.items }
     ensures value { contacts.new.items
@@ -168,9 +168,9 @@ pub(crate) fn restore_first(contacts: &mut Vec<Contact>, change: &ContactsChange
     }
 }
 
-/// Splits the list at `same`: the contacts from there on replace those of `behind`. Then there is room
-/// for `count` contacts in the list, and in `behind` for as many as the list had. An error leaves the
-/// list as it is, and none in `behind`. Where `same` is 0 the two lists are exchanged.
+/// Splits the list at `same`: the contacts from there on replace those of `behind`. Then there is
+/// room for `count` contacts in the list, and in `behind` for as many as the list had. An error
+/// leaves the list as it is, and none in `behind`. Where `same` is 0 the two lists are exchanged.
 pub(crate) fn split_into(
     contacts: &mut Vec<Contact>,
     behind: &mut Vec<Contact>,

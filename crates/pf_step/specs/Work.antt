@@ -41,8 +41,8 @@ abbrev pub moved_bodies : Bool → List ℕ → ℕ → List ℕ → List ℕ
 moved_bodies true moved count commanded = moved ++ commanded
 moved_bodies false moved count commanded = range_with_len 0 count
 
--- where a work knows which bodies may have moved, these are bodies of the scene, and all others stand
--- as it kept them
+-- where a work knows which bodies may have moved, these are bodies of the scene, and all others
+-- stand as it kept them
 abbrev pub KnowsMoved : Scene → List BodyState → Work → Type 0
 KnowsMoved s bodies w =
     w.is_known ≡ true → All (λ number. number < length bodies) w.moved

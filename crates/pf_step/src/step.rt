@@ -59,8 +59,8 @@ fn find_collisions<P: Collider>(
 /// kept, and nothing is counted. Takes no memory of its own where there are no bodies.
 ///
 /// The world has to be the one that the last step with `work` left, unless `work` knows nothing of
-/// moved bodies. Only bodies that may have moved, and those that commands are for, are compared with
-/// how they stood. [`step_by`] has no such condition.
+/// moved bodies. Only bodies that may have moved, and those that commands are for, are compared
+/// with how they stood. [`step_by`] has no such condition.
 pub fn step_next<P: Collider, C: Crew>(
     collider: &P,
     alloc: Global,
