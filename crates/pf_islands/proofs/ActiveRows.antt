@@ -1,9 +1,9 @@
 -- The rows of a tick.
-use Rattle.std.proofs.Common.{◌≡◌, ℕ, suc, ◌+◌, ◌<◌, ◌≤◌, Bool, true, false, not, ◌&&◌, ◌||◌, List, [], ◌∷◌, ◌++◌, Some, length, map, filter, take, take_all, get_or, cond, refl, ap, ap₂, sym, ◌∙◌, subst, arith, eqb-true, slice_get, if◌then◌else◌}
-use Rattle.std.proofs.lemmas.Bool.{and_parts}
+use Rattle.std.proofs.Common.{◌≡◌, ⊎_elim, ℕ, suc, ◌+◌, ◌<◌, ◌≤◌, Bool, true, false, not, ◌&&◌, ◌||◌, List, [], ◌∷◌, ◌++◌, Some, length, map, filter, take, take_all, get_or, cond, refl, ap, ap₂, sym, ◌∙◌, subst, arith, eqb-true, slice_get, if◌then◌else◌}
+use Rattle.std.proofs.lemmas.Bool.{and_parts, cases_lt}
 use Rattle.std.proofs.lemmas.List.{get_or_read, length-map, map_more}
-use Rattle.std.proofs.lemmas.List.FromFn.{get_or-enumerate_from, length-enumerate_from}
-use Rattle.std.proofs.Math.ListN.{get_or-map}
+use Rattle.std.proofs.lemmas.List.FromFn.{get_or-enumerate_from, get_or-map-range_with_len, length-enumerate_from, length-map-range_with_len}
+use Rattle.std.proofs.Math.ListN.{get_or-eq_default, get_or-map}
 use Rattle.std.proofs.lemmas.Simd.{map-map}
 use Rattle.std.proofs.lemmas.Option.{get_or_from_slice_get, slice_get-get_or, slice_get_within}
 use Rattle.std.proofs.lemmas.List.Elements.{All-nil, All-cons, All-filter, All-head, All-tail, All-map, All-weaker}
@@ -20,7 +20,7 @@ use Rattle.pf_cache.specs.Contact.{Contact, no_contact}
 use Rattle.pf_cache.specs.Spans.{is_of_pair}
 use Rattle.pf_rows.specs.Row.{AreApart, AreRows, IsSide, Row}
 use Rattle.pf_cache.specs.ContactRows.{AreRowsAt, IsRowAt}
-use Rattle.pf_islands.specs.Flags.{awake_flags, is_active_by, is_simulated_by}
+use Rattle.pf_islands.specs.Flags.{is_active_by, simulated_flags}
 use Rattle.pf_islands.specs.Rows.{IsRowOf, active_points, active_rows, is_active_contact, is_awake_at, is_simulated_at, row_of, side_of}
 use Rattle.pf_islands.specs.Settled.{no_touch, touches_at}
 
@@ -283,21 +283,43 @@ module _ (s : Scene) (bodies : List BodyState) (touches : List Touch) (contacts 
 
 -- ---- flags
 
+-- a body that is not awake is not simulated
+pub asleep_not_simulated : (s : Scene) (bodies : List BodyState) (k : ℕ) → is_awake_at bodies k ≡ false
+    → is_simulated_at s bodies k ≡ false
+asleep_not_simulated s bodies k asleep = ap (λ t. not (is_static_at s k) && t) asleep ∙ and_false (not (is_static_at s k))
+  where
+    and_false : (t : Bool) → (t && false) ≡ false
+    and_false true = refl
+    and_false false = refl
+
+-- an awake body is simulated where it is dynamic
+pub awake_simulated : (s : Scene) (bodies : List BodyState) (k : ℕ) → is_awake_at bodies k ≡ true
+    → is_simulated_at s bodies k ≡ not (is_static_at s k)
+awake_simulated s bodies k awake = ap (λ t. not (is_static_at s k) && t) awake ∙ and_true (not (is_static_at s k))
+  where
+    and_true : (t : Bool) → (t && true) ≡ t
+    and_true true = refl
+    and_true false = refl
+
 -- the flag of a body
-pub flag_at : (bodies : List BodyState) (awake : List Bool) (k : ℕ) → awake ≡ awake_flags bodies
-    → get_or awake k false ≡ is_awake_at bodies k
-flag_at bodies awake k are =
-    ap (λ fs. get_or fs k false) are ∙ get_or-map (λ (b : BodyState). b.awake) bodies k no_state
+pub flag_at : (s : Scene) (bodies : List BodyState) (k : ℕ)
+    → get_or (simulated_flags s bodies) k false ≡ is_simulated_at s bodies k
+flag_at s bodies k =
+    ⊎_elim
+    (λ within. get_or-map-range_with_len (is_simulated_at s bodies) 0 (length bodies) k k false within (omega arith))
+    (λ beyond.
+    get_or-eq_default (simulated_flags s bodies) false
+    (let long = length-map-range_with_len (is_simulated_at s bodies) 0 (length bodies) in omega (arith, long, beyond))
+    ∙ sym (asleep_not_simulated s bodies k (ap (λ (b : BodyState). b.awake) (get_or-eq_default bodies no_state beyond))))
+    (cases_lt k (length bodies))
 
 -- a contact is simulated as the flags say of its pair
 pub active_as_pair : (s : Scene) (bodies : List BodyState) (t : Touch) (p : Pair) → is_of_pair p t ≡ true
-    → is_active_contact s bodies t ≡ is_active_by s (awake_flags bodies) p
+    → is_active_contact s bodies t ≡ is_active_by (simulated_flags s bodies) p
 unfolding is_active_contact
 active_as_pair s bodies t p own =
     let same = and_parts _ _ own in
     ap₂ (λ x y. x || y) (simulated t.a p.a (eqb-true t.a p.a same.0)) (simulated t.b p.b (eqb-true t.b p.b same.1))
   where
-    simulated : (i j : ℕ) → i ≡ j → is_simulated_at s bodies i ≡ is_simulated_by s (awake_flags bodies) j
-    simulated i j e =
-        ap (is_simulated_at s bodies) e
-        ∙ ap (λ x. not (is_static_at s j) && x) (sym (flag_at bodies (awake_flags bodies) j refl))
+    simulated : (i j : ℕ) → i ≡ j → is_simulated_at s bodies i ≡ get_or (simulated_flags s bodies) j false
+    simulated i j e = ap (is_simulated_at s bodies) e ∙ sym (flag_at s bodies j)

@@ -12,7 +12,7 @@ use Rattle.pf_shapes.specs.Scene.{Scene}
 use Rattle.pf_manifold.specs.Touches.{IsTouchOf, Touch}
 use Rattle.pf_cache.specs.Spans.{ArePlaced, AreSpansOf, Span, is_of_pair, span_points}
 use Rattle.pf_cache.proofs.Refreshing.{placed_end}
-use Rattle.pf_islands.specs.Flags.{awake_flags, is_active_by}
+use Rattle.pf_islands.specs.Flags.{is_active_by, simulated_flags}
 use Rattle.pf_islands.specs.Rows.{active_points, is_active_contact}
 use Rattle.pf_islands.specs.Settled.{active_places, no_touch}
 use Rattle.pf_islands.proofs.ActiveRows.{active_as_pair, one_point, points_cons, points_from}
@@ -69,11 +69,11 @@ range_one start place low =
         ap (λ ns. a ∷ ns) (more (a + 1) n ∙ ap (λ m. range_with_len (a + 1) n ++ m ∷ []) same)
 
 -- the places of a span's points, where its pair is simulated
-abbrev pub span_places : Scene → List Bool → Span → List ℕ
-span_places s awake x = if is_active_by s awake x.pair then range_with_len x.start x.len else []
+abbrev pub span_places : List Bool → Span → List ℕ
+span_places simulated x = if is_active_by simulated x.pair then range_with_len x.start x.len else []
 
-abbrev pub places_of_spans : Scene → List Bool → List Span → List ℕ
-places_of_spans s awake spans = flat_map (span_places s awake) spans
+abbrev pub places_of_spans : List Bool → List Span → List ℕ
+places_of_spans simulated spans = flat_map (span_places simulated) spans
 
 module _ (s : Scene) (bodies : List BodyState) where
   abbrev place_of_point : ℕ × Touch → ℕ
@@ -115,17 +115,17 @@ module _ (s : Scene) (bodies : List BodyState) where
 
   -- the points of a span are simulated as its pair is
   span_alike : (touches : List Touch) (x : Span) → IsOwn touches x
-      → All (λ t. is_active_contact s bodies t ≡ is_active_by s (awake_flags bodies) x.pair) (span_points touches x)
+      → All (λ t. is_active_contact s bodies t ≡ is_active_by (simulated_flags s bodies) x.pair) (span_points touches x)
   span_alike touches x own = λ i d within. active_as_pair s bodies _ x.pair (own i d within)
 
   -- spans have the places of the points that are simulated
   places_from : (touches : List Touch) (k : ℕ) (spans : List Span) → ArePlaced k spans (length touches)
       → All (IsOwn touches) spans
-      → places_of_spans s (awake_flags bodies) spans ≡ map place_of_point (points_from s bodies k (drop k touches))
+      → places_of_spans (simulated_flags s bodies) spans ≡ map place_of_point (points_from s bodies k (drop k touches))
   places_from touches k [] placed own =
       ap (λ ts. map place_of_point (points_from s bodies k ts)) (sym (drop_all k touches (omega (arith, placed))))
   places_from touches k (x ∷ spans) placed own =
-      let awake = awake_flags bodies in
+      let simulated = simulated_flags s bodies in
       let start_is = placed.0 in
       let further = placed_end (k + x.len) (length touches) spans placed.1 in
       let here = take x.len (drop k touches) in
@@ -133,11 +133,11 @@ module _ (s : Scene) (bodies : List BodyState) where
       let taken = length-take x.len (drop k touches) in
       let left = length-drop k touches in
       let long : length here ≡ x.len = omega (arith, taken, left, further) in
-      let alike = subst (λ n. All (λ t. is_active_contact s bodies t ≡ is_active_by s awake x.pair) (take x.len (drop n touches)))
+      let alike = subst (λ n. All (λ t. is_active_contact s bodies t ≡ is_active_by simulated x.pair) (take x.len (drop n touches)))
       start_is (span_alike touches x (All-head (IsOwn touches) x spans own)) in
-      let first : map place_of_point (points_from s bodies k here) ≡ span_places s awake x =
-      places_alike (is_active_by s awake x.pair) k here alike
-      ∙ ap₂ (λ n m. if is_active_by s awake x.pair then range_with_len n m else []) (sym start_is) long in
+      let first : map place_of_point (points_from s bodies k here) ≡ span_places simulated x =
+      places_alike (is_active_by simulated x.pair) k here alike
+      ∙ ap₂ (λ n m. if is_active_by simulated x.pair then range_with_len n m else []) (sym start_is) long in
       ap₂ (λ ms ns. ms ++ ns) (sym first)
       (places_from touches (k + x.len) spans placed.1 (All-tail (IsOwn touches) x spans own)
       ∙ ap (λ n. map place_of_point (points_from s bodies n rest)) (ap (λ n. k + n) (sym long)))
@@ -148,7 +148,7 @@ module _ (s : Scene) (bodies : List BodyState) where
       (ap (λ ts. here ++ ts) (sym (drop-drop x.len k touches)) ∙ take-append-drop x.len (drop k touches)))
 
   pub spans_have_places : (touches : List Touch) (spans : List Span) → AreSpansOf spans touches
-      → places_of_spans s (awake_flags bodies) spans ≡ active_places s bodies touches
+      → places_of_spans (simulated_flags s bodies) spans ≡ active_places s bodies touches
   spans_have_places touches spans are = places_from touches 0 spans are.placed are.own
 
 -- ---- one span of a list
@@ -167,28 +167,28 @@ module _ (touches : List Touch) (spans : List Span) (are : AreSpansOf spans touc
 
 -- ---- one span more
 
-module _ (s : Scene) (awake : List Bool) (spans : List Span) (i : ℕ) (x : Span) (within : i < length spans)
+module _ (simulated : List Bool) (spans : List Span) (i : ℕ) (x : Span) (within : i < length spans)
     (is : x ≡ get_or spans i x) (made all : List ℕ)
-    (before : made ++ places_of_spans s awake (drop i spans) ≡ all) where
-  whole : made ++ (span_places s awake x ++ places_of_spans s awake (drop (i + 1) spans)) ≡ all
+    (before : made ++ places_of_spans simulated (drop i spans) ≡ all) where
+  whole : made ++ (span_places simulated x ++ places_of_spans simulated (drop (i + 1) spans)) ≡ all
   whole =
-      ap (λ xs. made ++ places_of_spans s awake xs)
+      ap (λ xs. made ++ places_of_spans simulated xs)
       (ap (λ y. y ∷ drop (i + 1) spans) is ∙ sym (drop_more spans i x within))
       ∙ before
 
   -- its places, where it is simulated
-  pub places_added : (now : List ℕ) → now ≡ made ++ range_with_len x.start x.len → is_active_by s awake x.pair ≡ true
-      → now ++ places_of_spans s awake (drop (i + 1) spans) ≡ all
+  pub places_added : (now : List ℕ) → now ≡ made ++ range_with_len x.start x.len → is_active_by simulated x.pair ≡ true
+      → now ++ places_of_spans simulated (drop (i + 1) spans) ≡ all
   places_added now now_is active =
-      let rest = places_of_spans s awake (drop (i + 1) spans) in
+      let rest = places_of_spans simulated (drop (i + 1) spans) in
       ap (λ ns. ns ++ rest) now_is ∙ append_assoc made (range_with_len x.start x.len) rest
       ∙ ap (λ e. made ++ ((if e then range_with_len x.start x.len else []) ++ rest)) (sym active)
       ∙ whole
 
   -- for which there is room
-  pub has_room : is_active_by s awake x.pair ≡ true → length made + x.len ≤ length all
+  pub has_room : is_active_by simulated x.pair ≡ true → length made + x.len ≤ length all
   has_room active =
-      let rest = places_of_spans s awake (drop (i + 1) spans) in
+      let rest = places_of_spans simulated (drop (i + 1) spans) in
       let here = range_with_len x.start x.len in
       let long = ap length
       (ap (λ e. made ++ ((if e then here else []) ++ rest)) (sym active) ∙ whole) in
@@ -198,15 +198,15 @@ module _ (s : Scene) (awake : List Bool) (spans : List Span) (i : ℕ) (x : Span
       omega (arith, long, first, second, count)
 
   -- and none, where it has no points or is not simulated
-  pub places_same : (now : List ℕ) → now ≡ made → span_places s awake x ≡ []
-      → now ++ places_of_spans s awake (drop (i + 1) spans) ≡ all
+  pub places_same : (now : List ℕ) → now ≡ made → span_places simulated x ≡ []
+      → now ++ places_of_spans simulated (drop (i + 1) spans) ≡ all
   places_same now now_is none =
-      let rest = places_of_spans s awake (drop (i + 1) spans) in
+      let rest = places_of_spans simulated (drop (i + 1) spans) in
       ap (λ ns. ns ++ rest) now_is ∙ ap (λ ns. made ++ (ns ++ rest)) (sym none) ∙ whole
 
 -- a span without points has no places
-pub no_points : (s : Scene) (awake : List Bool) (x : Span) → x.len ≤ 0 → span_places s awake x ≡ []
-no_points s awake x none = by (is_active_by s awake x.pair)
+pub no_points : (simulated : List Bool) (x : Span) → x.len ≤ 0 → span_places simulated x ≡ []
+no_points simulated x none = by (is_active_by simulated x.pair)
   where
     len_is : x.len ≡ 0
     len_is = omega (arith, none)
@@ -216,9 +216,9 @@ no_points s awake x none = by (is_active_by s awake x.pair)
     by false = refl
 
 -- nor has one that is not simulated
-pub not_active : (s : Scene) (awake : List Bool) (x : Span) → is_active_by s awake x.pair ≡ false
-    → span_places s awake x ≡ []
-not_active s awake x e = ap (λ d. if d then range_with_len x.start x.len else []) e
+pub not_active : (simulated : List Bool) (x : Span) → is_active_by simulated x.pair ≡ false
+    → span_places simulated x ≡ []
+not_active simulated x e = ap (λ d. if d then range_with_len x.start x.len else []) e
 
 -- ---- all places
 

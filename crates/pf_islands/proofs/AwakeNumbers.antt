@@ -1,92 +1,15 @@
 -- Loops over the awake bodies alone: what the other bodies change nothing of.
 use borrow.Author.Count.{below_more}
-use Rattle.std.proofs.Common.{◌≡◌, ◌∙◌, ℕ, zero, suc, ◌+◌, ◌<◌, ◌==◌, ◌&&◌, Bool, true, false, cond, List, [], ◌∷◌, ◌++◌, Some, length, filter, map, set, take, get_or, refl, sym, ap, ap₂, subst, arith, slice_get}
+use Rattle.std.proofs.Common.{◌≡◌, ◌∙◌, ℕ, ◌+◌, ◌<◌, ◌==◌, ◌&&◌, Bool, true, false, cond, List, [], ◌∷◌, ◌++◌, length, filter, map, set, take, get_or, refl, sym, ap, ap₂, arith}
 use Rattle.std.proofs.lemmas.Bool.{true≢false}
-use Rattle.std.proofs.lemmas.List.{append-nil, get_or-set_other, get_or-set_same, get_or_default}
-use Rattle.std.proofs.lemmas.List.Elements.{All-filter}
-use Rattle.std.proofs.lemmas.Option.{none-some, same_Some, slice_get-get_or}
+use Rattle.std.proofs.lemmas.List.{append-nil, get_or-set_other, get_or-set_same}
 use Rattle.std.specs.List.{range_with_len}
-use Rattle.std.specs.Prelude.{All}
 use Rattle.pf_shapes.specs.Body.{BodyState}
 use Rattle.pf_islands.specs.Dealing.{slot_of}
-use Rattle.pf_islands.specs.Flags.{awake_numbers}
 use Rattle.pf_islands.specs.Rows.{is_awake_at}
 use Rattle.pf_islands.specs.Split.{AreWoken, Island, active_labels, is_active_label, no_island}
 use Rattle.pf_islands.proofs.Dealing.{HasPlace, dealt_same, first_part, made_more, placed_same, slot_more}
-use Rattle.pf_islands.proofs.Members.{chosen_pass, range_more, range_within}
-
--- ---- from one chosen number to the next
-
--- a fact of each number below a limit, which numbers that are not chosen keep
-module _ (p : ℕ → Bool) (limit : ℕ) (P : ℕ → Type 0)
-    (same : (j : ℕ) → j < limit → p j ≡ false → P j → P (j + 1)) where
-  first_gap : (start count : ℕ) → start + count ≡ limit → P start
-      → P (get_or (filter p (range_with_len start count)) 0 limit)
-  first_gap start zero e h = let end : start ≡ limit = omega (arith, e) in subst P end h
-  first_gap start (suc count) e h =
-      by (p start) refl (λ behind. first_gap (start + 1) count (omega (arith, e)) behind)
-    where
-      rest : List ℕ
-      rest = filter p (range_with_len (start + 1) count)
-
-      by : (t : Bool) → p start ≡ t → (P (start + 1) → P (get_or rest 0 limit))
-          → P (get_or (cond t (start ∷ rest) rest) 0 limit)
-      by true chosen further = h
-      by false other further = further (same start (omega (arith, e)) other h)
-
-  next_gap : (start count k m : ℕ) → start + count ≡ limit
-      → slice_get (filter p (range_with_len start count)) k ≡ Some m → P (m + 1)
-      → P (get_or (filter p (range_with_len start count)) (suc k) limit)
-  next_gap start zero k m e is h = absurd (none-some m is)
-  next_gap start (suc count) k m e is h =
-      by (p start) k is (λ behind. first_gap (start + 1) count (omega (arith, e)) behind)
-      (λ i there. next_gap (start + 1) count i m (omega (arith, e)) there h)
-    where
-      rest : List ℕ
-      rest = filter p (range_with_len (start + 1) count)
-
-      by : (t : Bool) (i : ℕ) → slice_get (cond t (start ∷ rest) rest) i ≡ Some m
-          → (P (start + 1) → P (get_or rest 0 limit))
-          → ((j : ℕ) → slice_get rest j ≡ Some m → P (get_or rest (suc j) limit))
-          → P (get_or (cond t (start ∷ rest) rest) (suc i) limit)
-      by true zero here first further = first (subst (λ n. P (n + 1)) (sym (same_Some start m here)) h)
-      by true (suc i) there first further = further i there
-      by false i there first further = further i there
-
--- ---- the numbers of the awake bodies
-
-module _ (bodies : List BodyState) (numbers : List ℕ) (are : numbers ≡ awake_numbers bodies) where
-  -- each is a body
-  pub number_low : All (λ n. n < length bodies) numbers
-  number_low =
-      subst (All (λ n. n < length bodies)) (sym are)
-      (All-filter (is_awake_at bodies) (λ n. n < length bodies) (range_with_len 0 (length bodies))
-      (range_within 0 (length bodies) (length bodies) (omega arith)))
-
-  -- which is awake
-  pub number_awake : All (λ n. is_awake_at bodies n ≡ true) numbers
-  number_awake =
-      subst (All (λ n. is_awake_at bodies n ≡ true)) (sym are)
-      (chosen_pass (is_awake_at bodies) (range_with_len 0 (length bodies)))
-
-  -- what sleeping bodies keep
-  module _ (P : ℕ → Type 0) (same : (j : ℕ) → j < length bodies → is_awake_at bodies j ≡ false → P j → P (j + 1)) where
-    pub at_first : P 0 → P (get_or numbers 0 (length bodies))
-    at_first h =
-        subst (λ ns. P (get_or ns 0 (length bodies))) (sym are)
-        (first_gap (is_awake_at bodies) (length bodies) P same 0 (length bodies) (omega arith) h)
-
-    pub at_next : (k : ℕ) → k < length numbers → P (get_or numbers k 0 + 1) → P (get_or numbers (k + 1) (length bodies))
-    at_next k within h =
-        let next : suc k ≡ k + 1 = omega arith in
-        subst (λ i. P (get_or numbers i (length bodies))) next
-        (subst (λ ns. P (get_or ns (suc k) (length bodies))) (sym are)
-        (next_gap (is_awake_at bodies) (length bodies) P same 0 (length bodies) k (get_or numbers k 0) (omega arith)
-        (sym (ap (λ ns. slice_get ns k) are) ∙ slice_get-get_or numbers k 0 within) h))
-
-  -- what holds up to the next awake body
-  pub at_number : (P : ℕ → Type 0) (k : ℕ) → k < length numbers → P (get_or numbers k (length bodies)) → P (get_or numbers k 0)
-  at_number P k within h = subst P (get_or_default numbers k (length bodies) 0 within) h
+use Rattle.pf_islands.proofs.Members.{range_more}
 
 -- one body more
 pub numbers_more : (bodies : List BodyState) (k : ℕ) (e : Bool) → is_awake_at bodies k ≡ e

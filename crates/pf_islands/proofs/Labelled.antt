@@ -1,6 +1,6 @@
 -- Changes of bodies that each have the label of a group.
 use Rattle.std.proofs.Common.{◌≡◌, ◌∙◌, ℕ, ◌+◌, ◌<◌, ◌≤◌, Bool, false, List, [], ◌∷◌, ◌++◌, length, map, take, drop, get_or, set, length-take, append_assoc, append-nil, take_all, refl, sym, ap, ap₂, arith}
-use Rattle.std.proofs.lemmas.List.{drop_all, drop_more, get_or_at, length-map, map_more, set_at, take_at}
+use Rattle.std.proofs.lemmas.List.{drop_all, drop_more, get_or_at, length-map, map_more, set_at}
 use Rattle.std.proofs.lemmas.List.Elements.{All-head, All-tail}
 use Rattle.std.proofs.lemmas.List.FromFn.{get_or-map-range_with_len}
 use Rattle.std.proofs.lemmas.Slice.Zip.{get_or-zip, length-zip}
@@ -84,14 +84,14 @@ module _ (labels : List ℕ) (marks : List Bool) (bodies : List BodyState) (labe
       (λ label b small. ap (λ mark. record b { awake = mark }) (mark_is (is_active labels bodies) are label small))
       labels bodies labelled
 
--- a change of bodies by the marks that were noted of their groups; the code lends marks and labels
--- twice, so these stand here under more than one label
+-- a change of bodies by the marks that were noted of their groups; the code lends labels twice, so
+-- they stand here under more than one name
 pub changed_through : (change : List Bool → ℕ × BodyState → BodyState) (noted : List ℕ → ℕ → Bool)
-    (labels first second : List ℕ) (marks lent behind : List Bool) (len : ℕ) (bodies after : List BodyState)
+    (labels first second : List ℕ) (marks : List Bool) (bodies after : List BodyState)
     → first ≡ labels → second ≡ labels → marks ≡ map (noted first) (range_with_len 0 (length first))
-    → length marks ≡ len → lent ≡ take len (marks ++ behind) → after ≡ each_labelled (change lent) second bodies
+    → after ≡ each_labelled (change marks) second bodies
     → (after ≡ each_labelled (change marks) labels bodies) × (marks ≡ map (noted labels) (range_with_len 0 (length labels)))
-changed_through change noted labels first second marks lent behind len bodies after one two are long back changed = (
-  changed ∙ ap₂ (λ ms ns. each_labelled (change ms) ns bodies) (back ∙ take_at marks behind len long) two,
+changed_through change noted labels first second marks bodies after one two are changed = (
+  changed ∙ ap (λ ns. each_labelled (change marks) ns bodies) two,
   are ∙ ap (λ ns. map (noted ns) (range_with_len 0 (length ns))) one,
 )

@@ -3,6 +3,8 @@ use Rattle.std.proofs.Common.{◌≡◌, ◌≢◌, ◌∙◌, ℕ, zero, suc, �
 use Rattle.std.proofs.lemmas.Bool.{ne_eqb, true≢false}
 use Rattle.std.proofs.lemmas.Bool.Decides.{Decides-eqb}
 use Rattle.std.proofs.lemmas.List.Elements.{All-cons, All-nil}
+use Rattle.std.proofs.lemmas.List.FromFn.{length-range_with_len}
+use Rattle.std.proofs.lemmas.List.Sums.{count_by-le-length, length-filter}
 use Rattle.std.specs.List.{range_with_len}
 use Rattle.std.specs.Prelude.{All, ◌&&◌, ◌||◌, if◌then◌else◌}
 use Rattle.pf_manifold.specs.Key.{IsRising}
@@ -159,6 +161,14 @@ range_more p start (suc count) =
         ≡ cond e (start ∷ filter p (range_with_len (start + 1) count)) (filter p (range_with_len (start + 1) count)) ++ last
     by true rest = ap (λ ns. start ∷ ns) rest
     by false rest = rest
+
+-- at most as many are chosen as there are
+pub few_chosen : (p : ℕ → Bool) (count : ℕ) → length (filter p (range_with_len 0 count)) ≤ count
+few_chosen p count =
+    let many = length-filter p (range_with_len 0 count) in
+    let few = count_by-le-length p (range_with_len 0 count) in
+    let long = length-range_with_len 0 count in
+    omega (arith, many, few, long)
 
 -- ---- mapped numbers
 

@@ -15,7 +15,8 @@ use Rattle.pf_rows.specs.declared.row.Side.{Side}
 use Rattle.pf_rows.specs.declared.row.Side.TheVariants.{Static, Dynamic}
 use Rattle.pf_rows.specs.Row.{IsSide, Row}
 use Rattle.pf_cache.specs.Contact.{Contact}
-use Rattle.pf_islands.specs.Group.{group, groups, merged_label}
+use Rattle.pf_islands.specs.Flags.{awake_numbers}
+use Rattle.pf_islands.specs.Group.{HaveOthersAlone, group, groups, merged_label}
 use Rattle.pf_islands.specs.Island.{members}
 use Rattle.pf_islands.specs.Reach.{connects}
 use Rattle.pf_islands.specs.Rows.{active_points, active_rows, is_active_contact, is_awake_at}
@@ -220,6 +221,10 @@ module _ (s : Scene) (bodies : List BodyState) (touches : List Touch) (count : l
 
   likeness : AreAlike s bodies touches
   likeness = are_alike s bodies touches settled
+
+  -- a sleeping body is alone in its group
+  pub chosen_alone : (i : ℕ) → up i ≡ false → group s chosen i ≡ i
+  chosen_alone i asleep = likeness.alone i asleep
 
   -- the group of a body has an awake body exactly where the body is awake
   active_at : (i : ℕ) → i < length s.fixtures → is_active (groups s touches) bodies (group s touches i) ≡ up i
@@ -473,6 +478,32 @@ settled_from s bodies touches places are all =
             let parts = and_parts (wakes_none s bodies t) (list_all (wakes_none s bodies) (filter (is_active_contact s bodies) ts)) h in
             All-cons holds t ts (λ active. parts.0) (rest parts.1)
         by false is h rest = All-cons holds t ts (λ active. absurd (true≢false (sym active ∙ is))) (rest h)
+
+-- the contacts that are simulated leave each sleeping body alone in its group
+pub others_alone : (s : Scene) (bodies : List BodyState) (touches : List Touch) → length bodies ≡ length s.fixtures
+    → AreSettled s bodies touches → (places numbers : List ℕ)
+    → places ≡ map (λ (m : ℕ × Touch). m.0) (active_points s bodies touches) → numbers ≡ awake_numbers bodies
+    → HaveOthersAlone s (touches_at touches places) numbers
+others_alone s bodies touches count settled places numbers are awake = record {
+  is_listed = is_awake_at bodies;
+  listed = awake ∙ ap (λ n. filter (is_awake_at bodies) (range_with_len 0 n)) count;
+  others = λ i within asleep.
+      ap (λ ts. group s ts i) (ap (touches_at touches) are ∙ touches_at_places s bodies touches)
+      ∙ chosen_alone s bodies touches count settled i asleep;
+}
+
+-- all bodies are listed
+pub all_listed : (s : Scene) (touches : List Touch) (numbers : List ℕ) → numbers ≡ range_with_len 0 (length s.fixtures)
+    → HaveOthersAlone s touches numbers
+all_listed s touches numbers are = record {
+  is_listed = λ i. true;
+  listed = are ∙ sym (every (range_with_len 0 (length s.fixtures)));
+  others = λ i within other. absurd (true≢false other);
+}
+  where
+    every : (xs : List ℕ) → filter (λ (i : ℕ). true) xs ≡ xs
+    every [] = refl
+    every (x ∷ xs) = ap (λ ys. x ∷ ys) (every xs)
 
 -- the labels by the contacts at the places of those that are simulated
 module _ (s : Scene) (bodies : List BodyState) (touches : List Touch) (count : length bodies ≡ length s.fixtures)

@@ -1,11 +1,12 @@
 -- Bodies that are each alone, and the labels that a union-find leaves.
-use Rattle.std.proofs.Common.{◌≡◌, ◌∙◌, ℕ, ◌<◌, ◌≤◌, ◌==◌, Bool, List, [], ◌∷◌, ◌++◌, length, map, take, get_or, max, min, refl, sym, ap, subst, arith}
+use Rattle.std.proofs.Common.{◌≡◌, ◌∙◌, ℕ, ◌<◌, ◌≤◌, ◌==◌, List, [], ◌∷◌, ◌++◌, length, map, take, get_or, max, min, refl, sym, ap, subst, arith}
 use Rattle.std.proofs.lemmas.Bool.{cond_both, eqb-true}
 use Rattle.std.proofs.lemmas.List.{take_at}
 use Rattle.std.proofs.lemmas.List.FromFn.{get_or-map-range_with_len, get_or-range_with_len, length-map-range_with_len, length-range_with_len}
 use Rattle.std.specs.List.{range_with_len}
 use Rattle.std.specs.Prelude.{All}
 use Rattle.pf_shapes.specs.Scene.{Scene}
+use Rattle.pf_shapes.specs.declared.scene.TheConstants.{MAX_BODIES}
 use Rattle.pf_manifold.specs.Touches.{Touch}
 use Rattle.pf_islands.specs.Forest.{IsDownward, IsForest}
 use Rattle.pf_islands.specs.Group.{IsGroups, group, groups, merged_label}
@@ -71,10 +72,10 @@ names_found s touches len linked lent flat behind rest count long back forest fl
     take_at flat rest len flat_long ∙ flat_is
     ∙ ap (λ n. map (group s touches) (range_with_len 0 n)) (lent_long ∙ count)
 
--- these labels, and as many marks as bodies, are groups
-pub found_are_groups : (s : Scene) (touches : List Touch) (labels : List ℕ) (marks : List Bool)
-    → length marks ≡ length s.fixtures → labels ≡ groups s touches → IsGroups labels marks
-found_are_groups s touches labels marks long are = record {
-  paired = long ∙ sym (ap length are ∙ groups_long s touches);
+-- these labels are groups of the scene
+pub found_are_groups : (s : Scene) (touches : List Touch) (labels : List ℕ) → length s.fixtures ≤ MAX_BODIES
+    → labels ≡ groups s touches → IsGroups labels
+found_are_groups s touches labels few are = record {
+  few = let long = ap length are ∙ groups_long s touches in omega (arith, long, few);
   labelled = subst (λ ns. All (λ label. label < length ns) ns) (sym are) (groups_named s touches);
 }

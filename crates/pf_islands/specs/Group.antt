@@ -1,9 +1,11 @@
 -- Groups of bodies that contacts connect, each labelled by its least body, as a union-find keeps
 -- them. A law says that two bodies are in one group exactly where one reaches the other.
-use Rattle.std.specs.Prelude.{◌≡◌, ◌<◌, ℕ, ◌==◌, min, max, Bool, List, [], ◌∷◌, length, map, All, if◌then◌else◌}
+use Rattle.std.specs.Prelude.{◌≡◌, ◌<◌, ◌≤◌, ℕ, ◌==◌, min, max, List, [], ◌∷◌, length, map, All, if◌then◌else◌}
 use Rattle.std.specs.List.{range_with_len}
 use Rattle.pf_shapes.specs.Scene.{Scene}
+use Rattle.pf_shapes.specs.declared.scene.TheConstants.{MAX_BODIES}
 use Rattle.pf_manifold.specs.Touches.{Touch}
+use Rattle.pf_islands.specs.Forest.{HaveOthers}
 use Rattle.pf_islands.specs.Reach.{connects}
 
 -- the label of a group after the groups of two labels became one: the greater became the lesser
@@ -23,7 +25,12 @@ group s (t ∷ touches) i =
 abbrev pub groups : Scene → List Touch → List ℕ
 groups s touches = map (group s touches) (range_with_len 0 (length s.fixtures))
 
--- the labels of groups, with as many marks: each label is the number of a body
-pub record IsGroups (labels : List ℕ) (marks : List Bool) : Type 0 where
-  pub paired : length marks ≡ length labels
+-- some bodies; each other one is alone in its group
+abbrev pub HaveOthersAlone : Scene → List Touch → List ℕ → Type 0
+HaveOthersAlone s touches numbers =
+    HaveOthers (length s.fixtures) (λ i. group s touches i ≡ i) numbers
+
+-- the labels of the groups of a scene's bodies: each is the number of a body
+pub record IsGroups (labels : List ℕ) : Type 0 where
+  pub few : length labels ≤ MAX_BODIES
   pub labelled : All (λ label. label < length labels) labels

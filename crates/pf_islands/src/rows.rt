@@ -5,7 +5,7 @@ ghost use Rattle.std.specs.List.{list_all, range_with_len};
 ghost use Rattle.pf_shapes.specs.Pair.{IsPairOf};
 ghost use Rattle.pf_manifold.specs.Touches.{IsTouchOf};
 ghost use Rattle.pf_cache.specs.Spans.{AreSpansOf};
-ghost use Rattle.pf_islands.specs.Flags.{awake_flags, awake_numbers, is_active_by, is_simulated_by};
+ghost use Rattle.pf_islands.specs.Flags.{awake_numbers, is_active_by, simulated_flags};
 ghost use Rattle.pf_islands.specs.Rows.{row_of, side_of};
 ghost use Rattle.pf_islands.specs.Settled.{active_places, touches_at, wakes_none};
 
@@ -43,47 +43,46 @@ pub(crate) fn row_of(scene: &Scene, place: usize, touch: &Touch, contact: &Conta
     })
 }
 
-/// For each body whether it is awake, and the numbers of those that are, in ascending order. Both
-/// lists are short, so that they can be read again and again. Takes no memory where there are no
-/// bodies.
-fn awake_of(alloc: Global, bodies: &[BodyState]) -> Result<(Vec<bool>, Vec<usize>), AllocError>
-    ensures flags { IfOk result (λ found. found.0.items ≡ awake_flags bodies.now) }
+/// For each body whether it is dynamic and awake, and the numbers of the awake ones, in ascending
+/// order. Both lists are short, so that they can be read again and again. Takes no memory where
+/// there are no bodies.
+fn awake_of(
+    alloc: Global,
+    scene: &Scene,
+    bodies: &[BodyState],
+) -> Result<(Vec<bool>, Vec<usize>), AllocError>
+    requires { length bodies.now ≡ length scene.now.fixtures }
+    ensures flags { IfOk result (λ found. found.0.items ≡ simulated_flags scene.now bodies.now) }
     ensures numbers { IfOk result (λ found. found.1.items ≡ awake_numbers bodies.now) }
     ensures no_memory { bodies.now ≡ [] → IsOk result }
 {
-    let mut awake = Vec::with_capacity(alloc, bodies.len())?;
+    let fixtures = scene.fixtures();
+    let mut simulated = Vec::with_capacity(alloc, bodies.len())?;
     let mut numbers = Vec::with_capacity(alloc, bodies.len())?;
     for (number, body) in bodies.iter().enumerate() {
-        awake.push_reserved(body.awake);
         if body.awake {
+            simulated.push_reserved(!fixtures[number].is_static());
             numbers.push_reserved(number);
+        } else {
+            simulated.push_reserved(false);
         }
     }
-    Ok((awake, numbers))
+    Ok((simulated, numbers))
 }
 
-/// Whether the body of a number is dynamic, and awake by these flags.
+/// Whether one of a pair's bodies is simulated, by these flags. Both are read, so that one branch
+/// decides.
 #[inline]
-fn is_simulated_by(scene: &Scene, awake: &[bool], number: usize) -> bool
-    requires awake { length awake.now ≡ length scene.now.fixtures }
-    requires number { number < length awake.now }
-    ensures { result ≡ is_simulated_by scene.now awake.now number }
+fn is_active_by(simulated: &[bool], pair: &Pair) -> bool
+    requires { IsPairOf (length simulated.now) pair.now }
+    ensures { result ≡ is_active_by simulated.now pair.now }
 {
-    awake[number] && !scene.fixtures()[number].is_static()
+    simulated[pair.a] | simulated[pair.b]
 }
 
-/// Whether one of a pair's bodies is dynamic, and awake by these flags.
-#[inline]
-fn is_active_by(scene: &Scene, awake: &[bool], pair: &Pair) -> bool
-    requires awake { length awake.now ≡ length scene.now.fixtures }
-    requires pair { IsPairOf (length awake.now) pair.now }
-    ensures { result ≡ is_active_by scene.now awake.now pair.now }
-{
-    is_simulated_by(scene, awake, pair.a) || is_simulated_by(scene, awake, pair.b)
-}
-
-/// Adds the places of a span's points, for which there is room.
-#[inline]
+/// Adds the places of a span's points, for which there is room. Few spans have points that are
+/// simulated, and the loop over all spans is shorter without this one in it.
+#[inline(never)]
 fn push_places(places: &mut Vec<usize>, span: &Span)
     requires number { span.now.start + span.now.len < 2 ^ 64 }
     requires room { vec_len places.old + span.now.len ≤ vec_capacity places.old }
@@ -99,15 +98,15 @@ fn push_places(places: &mut Vec<usize>, span: &Span)
 /// What is simulated in a tick.
 #[derive(Drop)]
 pub(crate) struct Active {
-    /// For each body, whether it is awake.
-    pub awake: Vec<bool>,
+    /// For each body, whether it is dynamic and awake.
+    pub simulated: Vec<bool>,
     /// The numbers of the awake bodies, in ascending order.
     pub numbers: Vec<usize>,
     /// The places of the contacts that are simulated.
     pub places: Vec<usize>,
 }
 
-/// Which bodies are awake, and the places of the contacts that are simulated. `spans` are the pairs
+/// Which bodies and contacts are simulated. `spans` are the pairs
 /// with their points, so that the points of a pair that sleeps are not looked at. Takes no memory
 /// where there are no bodies and no contact points.
 pub(crate) fn active_of(
@@ -120,7 +119,8 @@ pub(crate) fn active_of(
     requires bodies { length bodies.now ≡ length scene.now.fixtures }
     requires touches { All (IsTouchOf (length bodies.now)) touches.now }
     requires spans { AreSpansOf spans.now touches.now }
-    ensures awake { IfOk result (λ found. found.awake.items ≡ awake_flags bodies.now) }
+    ensures simulated { IfOk result
+        (λ found. found.simulated.items ≡ simulated_flags scene.now bodies.now) }
     ensures numbers { IfOk result (λ found. found.numbers.items ≡ awake_numbers bodies.now) }
     ensures places { IfOk result
         (λ found. found.places.items ≡ active_places scene.now bodies.now touches.now) }
@@ -128,15 +128,15 @@ pub(crate) fn active_of(
         (λ found. All (λ place. place < length touches.now) found.places.items) }
     ensures no_memory { bodies.now ≡ [] → touches.now ≡ [] → IsOk result }
 {
-    let (awake, numbers) = awake_of(alloc, bodies)?;
+    let (simulated, numbers) = awake_of(alloc, scene, bodies)?;
     let mut places = Vec::with_capacity(alloc, touches.len())?;
     for span in spans {
-        if span.len > 0 && is_active_by(scene, &awake, &span.pair) {
+        if span.len > 0 && is_active_by(&simulated, &span.pair) {
             push_places(&mut places, span);
         }
     }
     Ok(Active {
-        awake,
+        simulated,
         numbers,
         places,
     })

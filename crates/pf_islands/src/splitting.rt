@@ -2,13 +2,14 @@
 
 ghost use Rattle.std.specs.Prelude.{◌≡◌, ◌<◌, ◌≤◌, ◌==◌, ◌+◌, ◌++◌, ◌∷◌, ◌&&◌, [], false, All, IfOk, IsOk, OnOk, length, map, slice_index_or, slice_set, take};
 ghost use Rattle.std.specs.List.{range_with_len};
+ghost use Rattle.pf_shapes.specs.declared.scene.TheConstants.{MAX_BODIES};
 ghost use Rattle.pf_rows.specs.Row.{IsSide};
 ghost use Rattle.pf_manifold.specs.Touches.{IsTouchOf};
 ghost use Rattle.pf_cache.specs.Spans.{AreSpansOf};
 ghost use Rattle.pf_islands.specs.Group.{groups as groups_of};
 ghost use Rattle.pf_islands.specs.Island.{members};
 ghost use Rattle.pf_islands.specs.Rows.{active_rows};
-ghost use Rattle.pf_islands.specs.Flags.{awake_flags, awake_numbers};
+ghost use Rattle.pf_islands.specs.Flags.{awake_numbers, simulated_flags};
 ghost use Rattle.pf_islands.specs.Settled.{AreSettled, active_places};
 ghost use Rattle.pf_islands.specs.Sleep.{woken_bodies};
 ghost use Rattle.pf_islands.specs.Split.{AreWoken, IsIslandOf, active_labels, is_active_label, island_of, islands, no_island};
@@ -17,8 +18,9 @@ ghost use Rattle.pf_islands.specs.Dealing.{ArePlaces, AreSlots, group_of_row, gr
 use crate::forest::singles;
 use crate::groups::Groups;
 use crate::island::Island;
+use crate::marks::unmarked;
 use crate::rows::{Active, active_of, row_of, wake_none};
-use crate::sizes::row_counts;
+use crate::sizes::{row_counts, zeros};
 use pf_cache::{Contact, Span};
 use pf_manifold::Touch;
 use pf_rows::{Row, Side};
@@ -46,19 +48,20 @@ fn clear_at(
 }
 
 /// An island without bodies for each group that is simulated, in the order of their labels, made in
-/// the memory of the spare islands; and at each of these labels the place of its island. `numbers`
-/// are those of the awake bodies.
+/// the memory of the spare islands; and at each of these labels the place of its island, in place
+/// of the number of its contacts. `numbers` are those of the awake bodies.
 fn empty_islands(
     alloc: Global,
     spare: Vec<Island>,
     labels: &[usize],
     bodies: &[BodyState],
     numbers: &[usize],
-    rows: &[usize],
-) -> Result<(Vec<Island>, Vec<usize>), AllocError>
+    rows: Vec<u16>,
+) -> Result<(Vec<Island>, Vec<u16>), AllocError>
+    requires few { length labels.now ≤ MAX_BODIES }
     requires bodies { length bodies.now ≡ length labels.now }
     requires numbers { numbers.now ≡ awake_numbers bodies.now }
-    requires rows { length rows.now ≡ length labels.now }
+    requires rows { length rows.items ≡ length labels.now }
     ensures islands { IfOk result
         (λ made. made.0.items ≡ map (λ label. no_island) (active_labels labels.now bodies.now)) }
     ensures slots { IfOk result (λ made. AreSlots labels.now bodies.now made.1.items) }
@@ -66,14 +69,13 @@ fn empty_islands(
     ensures no_memory { length labels.now ≡ 0 → IsOk result }
 {
     let mut islands = spare;
-    let mut slots = Vec::with_capacity(alloc, bodies.len())?;
-    slots.resize(bodies.len(), 0)?;
+    let mut slots = rows;
     let mut count = 0;
     for number in numbers {
         let number = *number;
         if labels[number] == number {
-            clear_at(alloc, &mut islands, count, rows[number])?;
-            slots[number] = count;
+            clear_at(alloc, &mut islands, count, usize::from(slots[number]))?;
+            slots[number] = count as u16;
             count += 1;
         }
     }
@@ -116,12 +118,13 @@ fn add_row(islands: &mut [Island], slot: usize, row: Row) -> Result<(), AllocErr
 /// of the awake bodies.
 fn deal_bodies(
     islands: &mut [Island],
-    places: &mut [usize],
-    slots: &[usize],
+    places: &mut [u16],
+    slots: &[u16],
     labels: &[usize],
     numbers: &[usize],
     bodies: &[BodyState],
 ) -> Result<(), AllocError>
+    requires few { length labels.now ≤ MAX_BODIES }
     requires bodies { length bodies.now ≡ length labels.now }
     requires numbers { numbers.now ≡ awake_numbers bodies.now }
     requires places { length places.old ≡ length labels.now }
@@ -138,21 +141,21 @@ fn deal_bodies(
 {
     for number in numbers {
         let number = *number;
-        let slot = slots[labels[number]];
-        places[number] = add_body(islands, slot, number, &bodies[number])?;
+        let slot = usize::from(slots[labels[number]]);
+        places[number] = add_body(islands, slot, number, &bodies[number])? as u16;
     }
     Ok(())
 }
 
 /// The side of a body, by its place in its island.
 #[inline]
-fn placed_side(places: &[usize], side: Side) -> Side
+fn placed_side(places: &[u16], side: Side) -> Side
     requires { IsSide (length places.now) side }
     ensures { result ≡ placed_side places.now side }
 {
     match side {
         Side::Static => Side::Static,
-        Side::Dynamic(number) => Side::Dynamic(places[number]),
+        Side::Dynamic(number) => Side::Dynamic(usize::from(places[number])),
     }
 }
 
@@ -173,8 +176,8 @@ fn group_of_sides(labels: &[usize], first: Side, second: Side) -> usize
 #[inline]
 fn deal_row(
     islands: &mut [Island],
-    slots: &[usize],
-    places: &[usize],
+    slots: &[u16],
+    places: &[u16],
     labels: &[usize],
     row: Row,
 ) -> Result<(), AllocError>
@@ -190,7 +193,7 @@ fn deal_row(
         (with_row (placed_row places.now row) (slice_index_or islands.old slot no_island))) }
 {
     let entry = row.entry;
-    let slot = slots[group_of_sides(labels, entry.first, entry.second)];
+    let slot = usize::from(slots[group_of_sides(labels, entry.first, entry.second)]);
     let mut row = row;
     row.entry.first = placed_side(places, entry.first);
     row.entry.second = placed_side(places, entry.second);
@@ -212,7 +215,7 @@ fn split(
     requires touches { All (IsTouchOf (length bodies.now)) touches.now }
     requires contacts { length contacts.now ≡ length touches.now }
     requires settled { AreSettled scene.now bodies.now touches.now }
-    requires awake { active.now.awake.items ≡ awake_flags bodies.now }
+    requires simulated { active.now.simulated.items ≡ simulated_flags scene.now bodies.now }
     requires numbers { active.now.numbers.items ≡ awake_numbers bodies.now }
     requires active { active.now.places.items ≡ active_places scene.now bodies.now touches.now }
     requires within { All (λ place. place < length touches.now) active.now.places.items }
@@ -222,17 +225,15 @@ fn split(
     ensures fit { IfOk result (λ found. All (IsIslandOf scene.now) found.items) }
     ensures no_memory { bodies.now ≡ [] → touches.now ≡ [] → IsOk result }
 {
-    let awake = active.awake.as_slice();
     let numbers = active.numbers.as_slice();
-    let simulated = active.places.as_slice();
-    let groups = Groups::new(alloc, scene, touches, simulated)?;
+    let active_places = active.places.as_slice();
+    let groups = Groups::new(alloc, scene, touches, active_places, numbers)?;
     let labels = groups.labels();
-    let rows = row_counts(alloc, labels, awake, touches, simulated)?;
-    let (mut made, slots) = empty_islands(alloc, spare, labels, bodies, numbers, &rows)?;
-    let mut places = Vec::with_capacity(alloc, labels.len())?;
-    places.resize(labels.len(), 0)?;
+    let rows = row_counts(alloc, labels, &active.simulated, touches, active_places)?;
+    let (mut made, slots) = empty_islands(alloc, spare, labels, bodies, numbers, rows)?;
+    let mut places = zeros(alloc, labels.len())?;
     deal_bodies(&mut made, &mut places, &slots, labels, numbers, bodies)?;
-    for place in simulated {
+    for place in active_places {
         let place = *place;
         let row = row_of(scene, place, &touches[place], &contacts[place]);
         deal_row(&mut made, &slots, &places, labels, row)?;
@@ -260,8 +261,10 @@ fn woken_bodies(
     let mut woken = Vec::with_capacity(alloc, bodies.len())?;
     woken.extend_from_slice(bodies)?;
     let all = singles(alloc, touches.len())?;
-    let mut groups = Groups::new(alloc, scene, touches, &all)?;
-    groups.wake(&mut woken);
+    let numbers = singles(alloc, bodies.len())?;
+    let groups = Groups::new(alloc, scene, touches, &all, &numbers)?;
+    let mut marks = unmarked(alloc, bodies.len())?;
+    groups.wake(&mut marks, &mut woken);
     Ok(woken)
 }
 

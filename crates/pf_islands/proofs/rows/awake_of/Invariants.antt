@@ -1,15 +1,14 @@
-use Rattle.std.proofs.Common.{◌≡◌, ◌≤◌, filter, length, take, vec_capacity, vec_len}
+use Rattle.std.proofs.Common.{◌≡◌, ◌≤◌, filter, length, map, vec_capacity, vec_len}
 use Rattle.std.specs.List.{range_with_len}
-use Rattle.pf_islands.specs.Flags.{awake_flags}
-use Rattle.pf_islands.specs.Rows.{is_awake_at}
+use Rattle.pf_islands.specs.Rows.{is_awake_at, is_simulated_at}
 use Rattle.pf_islands.proofs.rows.awake_of.Given as goal
 
 abbrev pub invariant-loop-number : goal.invariant-loop-number
 invariant-loop-number l = record {
-  flags : l.awake.items ≡ awake_flags (take l.number l.bodies);
+  flags : l.simulated.items ≡ map (is_simulated_at l.scene l.bodies) (range_with_len 0 l.number);
   numbers : l.numbers.items ≡ filter (is_awake_at l.bodies) (range_with_len 0 l.number);
-  count : vec_len l.awake ≡ l.number;
+  count : vec_len l.simulated ≡ l.number;
   few : vec_len l.numbers ≤ l.number;
-  room : length l.bodies ≤ vec_capacity l.awake;
+  room : length l.bodies ≤ vec_capacity l.simulated;
   other_room : length l.bodies ≤ vec_capacity l.numbers;
 }

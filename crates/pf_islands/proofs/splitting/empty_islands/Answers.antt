@@ -1,6 +1,10 @@
-use Rattle.std.proofs.Common.{rules, ◌∙◌, ◌+◌, get_or, set, length-set, arith, true, false}
+use Rattle.std.proofs.Common.{rules, ◌∙◌, ◌+◌, get_or, length, set, length-set, arith, true, false}
 use Rattle.std.proofs.lemmas.Bool.{eq-eqb, ne_eqb}
-use Rattle.pf_islands.proofs.AwakeNumbers.{AreEmptied, asleep_inactive, at_first, at_next, at_number, awake_active, emptied_more, emptied_same, none_emptied, number_awake, number_low}
+use Rattle.pf_islands.specs.Rows.{is_awake_at}
+use Rattle.pf_islands.proofs.AwakeNumbers.{AreEmptied, asleep_inactive, awake_active, emptied_more, emptied_same, none_emptied}
+use Rattle.pf_islands.specs.Split.{is_active_label}
+use Rattle.pf_islands.proofs.ChosenNumbers.{at_first, at_next, at_number, number_chosen, number_low}
+use Rattle.pf_islands.proofs.Members.{few_chosen}
 use Rattle.pf_islands.proofs.splitting.empty_islands.Goals.{then-labels-number+in_ok-clear_at, else-labels-number}
 use Rattle.pf_islands.proofs.splitting.empty_islands.Goals as goal
 
@@ -9,24 +13,39 @@ loop-number-init c =
     let labels = c.args.labels.now in
     let bodies = c.args.bodies.now in
     let islands = c.args.spare.items in
-    let slots = c.resize.new.self.items in
+    let slots = c.args.rows.items in
     record {
-      emptied = at_first bodies c.args.numbers.now c.requires.numbers (AreEmptied labels bodies islands 0 slots)
+      emptied = at_first (is_awake_at bodies) (length bodies) c.args.numbers.now c.requires.numbers (AreEmptied labels bodies islands 0 slots)
           (λ j below asleep h. emptied_same labels bodies islands 0 slots j (asleep_inactive labels bodies j asleep) h)
           (none_emptied labels bodies islands slots);
       within = search rules;
-      long = search rules;
+      long = c.requires.rows;
     }
 
 pub offset_bounds-labels-number : goal.offset_bounds-labels-number
 offset_bounds-labels-number c =
-    let low = number_low c.args.bodies.now c.args.numbers.now c.requires.numbers c.loop-number.number-index 0 c.loop-number-test.true in
+    let low = number_low (is_awake_at c.args.bodies.now) (length c.args.bodies.now) c.args.numbers.now c.requires.numbers c.loop-number.number-index 0 c.loop-number-test.true in
     search (rules, low, c.requires.bodies)
 
 pub bounds-labels-number : goal.bounds-labels-number
 bounds-labels-number c =
-    let low = number_low c.args.bodies.now c.args.numbers.now c.requires.numbers c.loop-number.number-index 0 c.loop-number-test.true in
+    let low = number_low (is_awake_at c.args.bodies.now) (length c.args.bodies.now) c.args.numbers.now c.requires.numbers c.loop-number.number-index 0 c.loop-number-test.true in
     omega (arith, low, c.requires.bodies)
+
+pub overflow_cast-count : goal.overflow_cast-count
+overflow_cast-count c =
+    let labels = c.args.labels.now in
+    let bodies = c.args.bodies.now in
+    let numbers = c.args.numbers.now in
+    let i = c.loop-number.number-index in
+    let test = c.loop-number-test.true in
+    let low = number_low (is_awake_at bodies) (length bodies) numbers c.requires.numbers i 0 test in
+    let before = at_number (is_awake_at bodies) (length bodies) numbers c.requires.numbers
+    (AreEmptied labels bodies c.loop-number.islands.items c.loop-number.count c.loop-number.slots.items) i test
+    c.loop-number.invariant.emptied in
+    let number = before.number in
+    let few = few_chosen (is_active_label labels bodies) (get_or numbers i 0) in
+    search (rules, number, few, low, c.requires.bodies, c.requires.few)
 
 pub loop-number-preserved : goal.loop-number-preserved
 loop-number-preserved c =
@@ -36,15 +55,15 @@ loop-number-preserved c =
     let i = c.loop-number.number-index in
     let k = get_or numbers i 0 in
     let test = c.loop-number-test.true in
-    let low = number_low bodies numbers c.requires.numbers i 0 test in
-    let awake = number_awake bodies numbers c.requires.numbers i 0 test in
-    let before = at_number bodies numbers c.requires.numbers
+    let low = number_low (is_awake_at bodies) (length bodies) numbers c.requires.numbers i 0 test in
+    let awake = number_chosen (is_awake_at bodies) (length bodies) numbers c.requires.numbers i 0 test in
+    let before = at_number (is_awake_at bodies) (length bodies) numbers c.requires.numbers
     (AreEmptied labels bodies c.loop-number.islands.items c.loop-number.count c.loop-number.slots.items) i test
     c.loop-number.invariant.emptied in
     record {
       emptied = elim c.if-labels-number.branch [
         | then-labels-number+in_ok-clear_at w ↦ rw w.islands-is (rw w.slots-is (rw w.count-is
-            (at_next bodies numbers c.requires.numbers
+            (at_next (is_awake_at bodies) (length bodies) numbers c.requires.numbers
             (AreEmptied labels bodies w.clear_at.new.islands.items (c.loop-number.count + 1)
             (set c.loop-number.slots.items k c.loop-number.count))
             (λ j below asleep h. emptied_same labels bodies _ _ _ j (asleep_inactive labels bodies j asleep) h) i test
@@ -53,7 +72,7 @@ loop-number-preserved c =
             (awake_active labels bodies k true awake (eq-eqb (get_or labels k 0) k w.if-labels-number.true))
             w.in_ok-clear_at.ensures.cleared before))))
         | else-labels-number w ↦ rw w.islands-is (rw w.slots-is (rw w.count-is
-            (at_next bodies numbers c.requires.numbers
+            (at_next (is_awake_at bodies) (length bodies) numbers c.requires.numbers
             (AreEmptied labels bodies c.loop-number.islands.items c.loop-number.count c.loop-number.slots.items)
             (λ j below asleep h. emptied_same labels bodies _ _ _ j (asleep_inactive labels bodies j asleep) h) i test
             (emptied_same labels bodies _ _ _ k (awake_active labels bodies k false awake (ne_eqb (get_or labels k 0) k w.if-labels-number.false)) before))))

@@ -1,36 +1,52 @@
 use Rattle.std.proofs.Common.{◌≡◌, ◌∙◌, refl, [], ◌∷◌, ◌++◌, List, ap, arith, get_or, length, map, set, subst, sym, take}
 use Rattle.std.specs.Prelude.{All}
-use Rattle.std.proofs.lemmas.List.{length-map, map_more, with_items_is}
+use Rattle.std.proofs.lemmas.List.{map_more, with_items_is}
+use Rattle.std.proofs.lemmas.List.FromFn.{length-map-range_with_len}
+use Rattle.pf_manifold.specs.Touches.{IsTouchOf}
 use Rattle.pf_rows.specs.Row.{Row}
 use Rattle.pf_islands.specs.Dealing.{ArePlaces, group_of_row, placed_row, with_row}
-use Rattle.pf_islands.specs.Rows.{active_rows}
+use Rattle.pf_islands.specs.Rows.{active_rows, is_simulated_at}
 use Rattle.pf_islands.specs.Split.{IsIslandOf, active_labels, no_island}
 use Rattle.pf_islands.proofs.ActiveRows.{all_made, row_at, rows_fit}
 use Rattle.pf_islands.proofs.Dealing.{full_part, group_active, row_dealt, slot_within}
-use Rattle.pf_islands.proofs.SettledGroups.{labels_islands, labels_long, labels_low, labels_rows, labels_woken}
+use Rattle.pf_islands.proofs.SettledGroups.{labels_islands, labels_long, labels_low, labels_rows, labels_woken, others_alone}
 use Rattle.pf_islands.proofs.Together.{read_row_is_active}
 use Rattle.pf_islands.proofs.Whole.{islands_fit}
 use Rattle.pf_islands.proofs.splitting.split.Goals as goal
 
-pub row_counts-requires-clause-awake : goal.row_counts-requires-clause-awake
-row_counts-requires-clause-awake c =
-    ap length (c.as_slice-awake.ensures.value ∙ c.requires.awake) ∙ length-map c.args.bodies.now _
+pub new-requires-clause-numbers : goal.new-requires-clause-numbers
+new-requires-clause-numbers c =
+    others_alone c.args.scene.now c.args.bodies.now c.args.touches.now c.requires.bodies c.requires.settled
+    c.as_slice-active_places.result.now c.as_slice-numbers.result.now (c.as_slice-active_places.ensures.value ∙ c.requires.active)
+    (c.as_slice-numbers.ensures.value ∙ c.requires.numbers)
+
+pub row_counts-requires-clause-touches : goal.row_counts-requires-clause-touches
+row_counts-requires-clause-touches c =
+    let bodies = c.args.bodies.now in
+    let flags : length c.deref.result.now ≡ length bodies = ap length (c.deref.ensures.value ∙ c.requires.simulated)
+    ∙ length-map-range_with_len (is_simulated_at c.args.scene.now bodies) 0 (length bodies) in
+    subst (λ n. All (IsTouchOf n) c.args.touches.now) (sym flags) c.requires.touches
+
+pub row_counts-requires-clause-simulated : goal.row_counts-requires-clause-simulated
+row_counts-requires-clause-simulated c =
+    ap length (c.deref.ensures.value ∙ c.requires.simulated)
+    ∙ length-map-range_with_len (is_simulated_at c.args.scene.now c.args.bodies.now) 0 (length c.args.bodies.now)
     ∙ sym
     (labels_long c.args.scene.now c.args.bodies.now c.args.touches.now c.requires.bodies c.requires.settled
-    c.labels-labels.result.now c.as_slice-simulated.result.now (c.as_slice-simulated.ensures.value ∙ c.requires.active)
+    c.labels-labels.result.now c.as_slice-active_places.result.now (c.as_slice-active_places.ensures.value ∙ c.requires.active)
     (c.labels-labels.ensures.value ∙ c.in_ok-groups.ensures.value))
 
 pub empty_islands-requires-clause-bodies : goal.empty_islands-requires-clause-bodies
 empty_islands-requires-clause-bodies c =
     sym
     (labels_long c.args.scene.now c.args.bodies.now c.args.touches.now c.requires.bodies c.requires.settled
-    c.labels-labels.result.now c.as_slice-simulated.result.now (c.as_slice-simulated.ensures.value ∙ c.requires.active) (c.labels-labels.ensures.value ∙ c.in_ok-groups.ensures.value))
+    c.labels-labels.result.now c.as_slice-active_places.result.now (c.as_slice-active_places.ensures.value ∙ c.requires.active) (c.labels-labels.ensures.value ∙ c.in_ok-groups.ensures.value))
 
 pub deal_bodies-requires-clause-bodies : goal.deal_bodies-requires-clause-bodies
 deal_bodies-requires-clause-bodies c =
     sym
     (labels_long c.args.scene.now c.args.bodies.now c.args.touches.now c.requires.bodies c.requires.settled
-    c.labels-labels.result.now c.as_slice-simulated.result.now (c.as_slice-simulated.ensures.value ∙ c.requires.active) (c.labels-labels.ensures.value ∙ c.in_ok-groups.ensures.value))
+    c.labels-labels.result.now c.as_slice-active_places.result.now (c.as_slice-active_places.ensures.value ∙ c.requires.active) (c.labels-labels.ensures.value ∙ c.in_ok-groups.ensures.value))
 
 pub loop-place-init : goal.loop-place-init
 loop-place-init c =
@@ -41,13 +57,13 @@ pub deal_row-requires-clause-first : goal.deal_row-requires-clause-first
 deal_row-requires-clause-first c =
     let labels = c.labels-labels.result.now in
     let bodies = c.args.bodies.now in
-    let items = c.as_slice-simulated.result.now in
+    let items = c.as_slice-active_places.result.now in
     let labelled_by = c.labels-labels.ensures.value ∙ c.in_ok-groups.ensures.value in
     let active = labels_rows c.args.scene.now bodies c.args.touches.now c.requires.bodies c.requires.settled labels items
-    (c.as_slice-simulated.ensures.value ∙ c.requires.active) labelled_by c.args.contacts.now c.requires.touches in
+    (c.as_slice-active_places.ensures.value ∙ c.requires.active) labelled_by c.args.contacts.now c.requires.touches in
     let read = read_row_is_active c.args.scene.now c.args.touches.now bodies c.args.contacts.now labels items
     c.loop-place.place-index c.index-touches-place.result c.index-contacts-place.result c.row_of-row.result
-    active c.requires.contacts (c.as_slice-simulated.ensures.value ∙ c.requires.active) c.loop-place-test.true c.index-touches-place.is c.index-contacts-place.is
+    active c.requires.contacts (c.as_slice-active_places.ensures.value ∙ c.requires.active) c.loop-place-test.true c.index-touches-place.is c.index-contacts-place.is
     c.row_of-row.ensures in
     read.0.first
 
@@ -55,13 +71,13 @@ pub deal_row-requires-clause-second : goal.deal_row-requires-clause-second
 deal_row-requires-clause-second c =
     let labels = c.labels-labels.result.now in
     let bodies = c.args.bodies.now in
-    let items = c.as_slice-simulated.result.now in
+    let items = c.as_slice-active_places.result.now in
     let labelled_by = c.labels-labels.ensures.value ∙ c.in_ok-groups.ensures.value in
     let active = labels_rows c.args.scene.now bodies c.args.touches.now c.requires.bodies c.requires.settled labels items
-    (c.as_slice-simulated.ensures.value ∙ c.requires.active) labelled_by c.args.contacts.now c.requires.touches in
+    (c.as_slice-active_places.ensures.value ∙ c.requires.active) labelled_by c.args.contacts.now c.requires.touches in
     let read = read_row_is_active c.args.scene.now c.args.touches.now bodies c.args.contacts.now labels items
     c.loop-place.place-index c.index-touches-place.result c.index-contacts-place.result c.row_of-row.result
-    active c.requires.contacts (c.as_slice-simulated.ensures.value ∙ c.requires.active) c.loop-place-test.true c.index-touches-place.is c.index-contacts-place.is
+    active c.requires.contacts (c.as_slice-active_places.ensures.value ∙ c.requires.active) c.loop-place-test.true c.index-touches-place.is c.index-contacts-place.is
     c.row_of-row.ensures in
     read.0.second
 
@@ -72,18 +88,18 @@ pub deal_row-requires-clause-group : goal.deal_row-requires-clause-group
 deal_row-requires-clause-group c =
     let labels = c.labels-labels.result.now in
     let bodies = c.args.bodies.now in
-    let items = c.as_slice-simulated.result.now in
+    let items = c.as_slice-active_places.result.now in
     let labelled_by = c.labels-labels.ensures.value ∙ c.in_ok-groups.ensures.value in
     let active = labels_rows c.args.scene.now bodies c.args.touches.now c.requires.bodies c.requires.settled labels items
-    (c.as_slice-simulated.ensures.value ∙ c.requires.active) labelled_by c.args.contacts.now c.requires.touches in
+    (c.as_slice-active_places.ensures.value ∙ c.requires.active) labelled_by c.args.contacts.now c.requires.touches in
     let read = read_row_is_active c.args.scene.now c.args.touches.now bodies c.args.contacts.now labels items
     c.loop-place.place-index c.index-touches-place.result c.index-contacts-place.result c.row_of-row.result
-    active c.requires.contacts (c.as_slice-simulated.ensures.value ∙ c.requires.active) c.loop-place-test.true c.index-touches-place.is c.index-contacts-place.is
+    active c.requires.contacts (c.as_slice-active_places.ensures.value ∙ c.requires.active) c.loop-place-test.true c.index-touches-place.is c.index-contacts-place.is
     c.row_of-row.ensures in
     let labelled = labels_low c.args.scene.now bodies c.args.touches.now c.requires.bodies c.requires.settled labels items
-    (c.as_slice-simulated.ensures.value ∙ c.requires.active) labelled_by in
+    (c.as_slice-active_places.ensures.value ∙ c.requires.active) labelled_by in
     let woken_bodies = labels_woken c.args.scene.now bodies c.args.touches.now c.requires.bodies c.requires.settled labels items
-    (c.as_slice-simulated.ensures.value ∙ c.requires.active) labelled_by in
+    (c.as_slice-active_places.ensures.value ∙ c.requires.active) labelled_by in
     let own = group_active labels bodies c.row_of-row.result labelled woken_bodies read.0 in
     own.0
 
@@ -91,18 +107,18 @@ pub deal_row-requires-clause-slot : goal.deal_row-requires-clause-slot
 deal_row-requires-clause-slot c =
     let labels = c.labels-labels.result.now in
     let bodies = c.args.bodies.now in
-    let items = c.as_slice-simulated.result.now in
+    let items = c.as_slice-active_places.result.now in
     let labelled_by = c.labels-labels.ensures.value ∙ c.in_ok-groups.ensures.value in
     let active = labels_rows c.args.scene.now bodies c.args.touches.now c.requires.bodies c.requires.settled labels items
-    (c.as_slice-simulated.ensures.value ∙ c.requires.active) labelled_by c.args.contacts.now c.requires.touches in
+    (c.as_slice-active_places.ensures.value ∙ c.requires.active) labelled_by c.args.contacts.now c.requires.touches in
     let read = read_row_is_active c.args.scene.now c.args.touches.now bodies c.args.contacts.now labels items
     c.loop-place.place-index c.index-touches-place.result c.index-contacts-place.result c.row_of-row.result
-    active c.requires.contacts (c.as_slice-simulated.ensures.value ∙ c.requires.active) c.loop-place-test.true c.index-touches-place.is c.index-contacts-place.is
+    active c.requires.contacts (c.as_slice-active_places.ensures.value ∙ c.requires.active) c.loop-place-test.true c.index-touches-place.is c.index-contacts-place.is
     c.row_of-row.ensures in
     let labelled = labels_low c.args.scene.now bodies c.args.touches.now c.requires.bodies c.requires.settled labels items
-    (c.as_slice-simulated.ensures.value ∙ c.requires.active) labelled_by in
+    (c.as_slice-active_places.ensures.value ∙ c.requires.active) labelled_by in
     let woken_bodies = labels_woken c.args.scene.now bodies c.args.touches.now c.requires.bodies c.requires.settled labels items
-    (c.as_slice-simulated.ensures.value ∙ c.requires.active) labelled_by in
+    (c.as_slice-active_places.ensures.value ∙ c.requires.active) labelled_by in
     let own = group_active labels bodies c.row_of-row.result labelled woken_bodies read.0 in
     let label = group_of_row labels c.row_of-row.result in
     let slot = ap (λ xs. get_or xs label 0) c.deref-in-loop-place.ensures.value
@@ -116,18 +132,18 @@ pub loop-place-preserved : goal.loop-place-preserved
 loop-place-preserved c =
     let labels = c.labels-labels.result.now in
     let bodies = c.args.bodies.now in
-    let items = c.as_slice-simulated.result.now in
+    let items = c.as_slice-active_places.result.now in
     let labelled_by = c.labels-labels.ensures.value ∙ c.in_ok-groups.ensures.value in
     let active = labels_rows c.args.scene.now bodies c.args.touches.now c.requires.bodies c.requires.settled labels items
-    (c.as_slice-simulated.ensures.value ∙ c.requires.active) labelled_by c.args.contacts.now c.requires.touches in
+    (c.as_slice-active_places.ensures.value ∙ c.requires.active) labelled_by c.args.contacts.now c.requires.touches in
     let read = read_row_is_active c.args.scene.now c.args.touches.now bodies c.args.contacts.now labels items
     c.loop-place.place-index c.index-touches-place.result c.index-contacts-place.result c.row_of-row.result
-    active c.requires.contacts (c.as_slice-simulated.ensures.value ∙ c.requires.active) c.loop-place-test.true c.index-touches-place.is c.index-contacts-place.is
+    active c.requires.contacts (c.as_slice-active_places.ensures.value ∙ c.requires.active) c.loop-place-test.true c.index-touches-place.is c.index-contacts-place.is
     c.row_of-row.ensures in
     let labelled = labels_low c.args.scene.now bodies c.args.touches.now c.requires.bodies c.requires.settled labels items
-    (c.as_slice-simulated.ensures.value ∙ c.requires.active) labelled_by in
+    (c.as_slice-active_places.ensures.value ∙ c.requires.active) labelled_by in
     let woken_bodies = labels_woken c.args.scene.now bodies c.args.touches.now c.requires.bodies c.requires.settled labels items
-    (c.as_slice-simulated.ensures.value ∙ c.requires.active) labelled_by in
+    (c.as_slice-active_places.ensures.value ∙ c.requires.active) labelled_by in
     let own = group_active labels bodies c.row_of-row.result labelled woken_bodies read.0 in
     let label = group_of_row labels c.row_of-row.result in
     let slot = ap (λ xs. get_or xs label 0) c.deref-in-loop-place.ensures.value
@@ -139,7 +155,7 @@ loop-place-preserved c =
     let places = c.deref-in-loop-place-2.result.now in
     let noted = subst (ArePlaces labels bodies)
     (sym (c.deref-in-loop-place-2.ensures.value
-    ∙ with_items_is c.resize.new.self c.deal_bodies.new.places (c.deal_bodies.auto.places ∙ c.deref_mut-2.ensures.len)))
+    ∙ with_items_is c.in_ok-places.places c.deal_bodies.new.places (c.deal_bodies.auto.places ∙ c.deref_mut-2.ensures.len)))
     c.in_ok-deal_bodies.ensures.places in
     with_items_is c.loop-place.made c.deal_row.new.islands (c.deal_row.auto.islands ∙ c.deref_mut-in-loop-place.ensures.len)
     ∙ row_dealt labels bodies (map at (take k items)) row places now c.deal_row.new.islands labelled woken_bodies noted read.0
@@ -152,7 +168,7 @@ loop-place-preserved c =
 pub deal_bodies-requires-clause-woken_bodies : goal.deal_bodies-requires-clause-woken_bodies
 deal_bodies-requires-clause-woken_bodies c =
     labels_woken c.args.scene.now c.args.bodies.now c.args.touches.now c.requires.bodies c.requires.settled
-    c.labels-labels.result.now c.as_slice-simulated.result.now (c.as_slice-simulated.ensures.value ∙ c.requires.active) (c.labels-labels.ensures.value ∙ c.in_ok-groups.ensures.value)
+    c.labels-labels.result.now c.as_slice-active_places.result.now (c.as_slice-active_places.ensures.value ∙ c.requires.active) (c.labels-labels.ensures.value ∙ c.in_ok-groups.ensures.value)
 
 pub returns-clause-value : goal.returns-clause-value
 returns-clause-value c =
@@ -160,15 +176,15 @@ returns-clause-value c =
     let touches = c.args.touches.now in
     let contacts = c.args.contacts.now in
     let bodies = c.args.bodies.now in
-    let items = c.as_slice-simulated.result.now in
+    let items = c.as_slice-active_places.result.now in
     let labels = c.labels-labels.result.now in
     let k = c.loop-place.place-index in
     let rows : List Row = map (row_at s touches contacts) (take k items) in
     let all : rows ≡ active_rows s bodies touches contacts =
-    all_made s bodies touches contacts items k rows c.loop-place-test.false (c.as_slice-simulated.ensures.value ∙ c.requires.active) refl in
+    all_made s bodies touches contacts items k rows c.loop-place-test.false (c.as_slice-active_places.ensures.value ∙ c.requires.active) refl in
     c.loop-place.invariant
     ∙ ap (λ (rs : List Row). map (full_part labels bodies rs) (active_labels labels bodies)) all
-    ∙ labels_islands s bodies touches c.requires.bodies c.requires.settled labels items (c.as_slice-simulated.ensures.value ∙ c.requires.active)
+    ∙ labels_islands s bodies touches c.requires.bodies c.requires.settled labels items (c.as_slice-active_places.ensures.value ∙ c.requires.active)
     (c.labels-labels.ensures.value ∙ c.in_ok-groups.ensures.value) (active_rows s bodies touches contacts)
 
 pub returns-clause-fit : goal.returns-clause-fit
@@ -178,13 +194,13 @@ returns-clause-fit c =
     let contacts = c.args.contacts.now in
     let bodies = c.args.bodies.now in
     let labels = c.labels-labels.result.now in
-    let items = c.as_slice-simulated.result.now in
+    let items = c.as_slice-active_places.result.now in
     let labelled_by = c.labels-labels.ensures.value ∙ c.in_ok-groups.ensures.value in
     let rows = active_rows s bodies touches contacts in
-    let active = labels_rows s bodies touches c.requires.bodies c.requires.settled labels items (c.as_slice-simulated.ensures.value ∙ c.requires.active) labelled_by
+    let active = labels_rows s bodies touches c.requires.bodies c.requires.settled labels items (c.as_slice-active_places.ensures.value ∙ c.requires.active) labelled_by
     contacts c.requires.touches in
     subst (All (IsIslandOf s))
     (sym
     (returns-clause-value c
-    ∙ sym (labels_islands s bodies touches c.requires.bodies c.requires.settled labels items (c.as_slice-simulated.ensures.value ∙ c.requires.active) labelled_by rows)))
+    ∙ sym (labels_islands s bodies touches c.requires.bodies c.requires.settled labels items (c.as_slice-active_places.ensures.value ∙ c.requires.active) labelled_by rows)))
     (islands_fit labels bodies rows s active (rows_fit s bodies touches contacts c.requires.bodies c.requires.touches))

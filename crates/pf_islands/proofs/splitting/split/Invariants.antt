@@ -7,5 +7,5 @@ use Rattle.pf_islands.proofs.splitting.split.Given as goal
 abbrev pub invariant-loop-place : goal.invariant-loop-place
 invariant-loop-place l =
     l.made.items
-    ≡ map (full_part l.labels l.bodies (map (row_at l.scene l.touches l.contacts) (take l.place-index l.simulated)))
+    ≡ map (full_part l.labels l.bodies (map (row_at l.scene l.touches l.contacts) (take l.place-index l.active_places)))
     (active_labels l.labels l.bodies)
