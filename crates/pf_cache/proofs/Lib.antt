@@ -2,6 +2,7 @@
 pub mod RankedLists
 pub mod Places
 pub mod Walk
+pub mod FirstKeys
 pub mod Runs
 pub mod Kept
 pub mod FoundRows

@@ -2,7 +2,7 @@
 use Rattle.std.proofs.Common.{◌≡◌, ℕ, zero, suc, ◌+◌, ◌≤◌, ◌<◌, ◌==◌, Bool, true, false, ◌&&◌, ◌||◌, List, [], ◌∷◌, ◌++◌, length, map, take, refl, sym, ap, ap₂, subst, ◌∙◌, arith}
 use Rattle.std.specs.List.{flat_map}
 use Rattle.std.specs.Prelude.{All, drop, get_or, not}
-use Rattle.std.proofs.lemmas.List.{append-nil, append_assoc, drop-drop, drop_more, length-append, length-drop, length-take, take-append-drop, take_more}
+use Rattle.std.proofs.lemmas.List.{append-nil, append_assoc, drop-drop, drop_more, length-append, length-drop, length-map, length-take, take-append-drop, take_more}
 use Rattle.std.proofs.Math.Seq.{drop-append_seam, take-append_seam}
 use Rattle.std.proofs.lemmas.Slice.{drop-append-drop}
 use Rattle.std.proofs.lemmas.List.Concat.{flat_map-append}
@@ -10,10 +10,13 @@ use Rattle.std.proofs.lemmas.List.Elements.{All-append, All-cons, All-drop, All-
 use Rattle.std.proofs.lemmas.List.Sums.{count_by_more_no, count_by_more_yes}
 use Rattle.pf_shapes.specs.Pair.{IsPairOf, Pair}
 use Rattle.pf_shapes.specs.declared.scene.TheConstants.{MAX_BODIES}
+use Rattle.pf_manifold.specs.Key.{key_of}
 use Rattle.pf_manifold.specs.PlacedShape.{PlacedShape}
 use Rattle.pf_manifold.specs.Touches.{Touch}
+use Rattle.pf_cache.specs.Contact.{HaveSameFirst}
 use Rattle.pf_cache.specs.Manifolds.{has_pair, points_of_pair}
 use Rattle.pf_cache.specs.Spans.{ArePlaced, AreRefreshed, IsKeptSpan, IsSpan, Span, are_unmoved, computed_count_by_flags, span_points, spans_from}
+use Rattle.pf_cache.proofs.FirstKeys.{fewer_same}
 use Rattle.pf_cache.proofs.Reusable.{Decides-pair}
 
 -- ---- spans of points that stand one after the other
@@ -246,6 +249,20 @@ module _ (shapes : List PlacedShape) (spans : List Span) (pairs : List Pair) (st
       stored = ap₂ take done.count done.stored ∙ take-append_seam (points_of shapes (take i pairs)) (drop n start);
       rest = subst (ArePlaced n (drop i spans)) (sym as_long) done.rest;
     }
+
+    -- some of the points that still have their keys
+    pub keys_after : (count same : ℕ) → count ≤ same → count ≤ n → take same (map key_of touches) ≡ take same (map key_of start)
+        → HaveSameFirst count (map key_of start) (map key_of touches)
+    keys_after count same few inside keys =
+        let end = placed_end n (length start) (drop i spans) done.rest in
+        let long = as_long in
+        let old = length-map start key_of in
+        let new = length-map touches key_of in
+        record {
+          within = omega (arith, inside, end, old);
+          within_others = omega (arith, inside, end, long, new);
+          same = sym (fewer_same count same (map key_of touches) (map key_of start) few keys);
+        }
 
     pub kept_after : (unmoved : List Bool) → All (IsKeptSpan shapes unmoved start) spans
         → All (IsKeptSpan shapes unmoved touches) spans

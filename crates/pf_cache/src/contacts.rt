@@ -2,7 +2,7 @@
 
 ghost use Rattle.std.specs.Prelude.{◌≡◌, ◌↔◌, ◌+◌, ◌≤◌, ◌<◌, ◌++◌, ℕ, [], All, IsOk, IsTrue, OnOk, drop, length, map, take, vec_capacity, vec_len};
 ghost use Rattle.pf_manifold.specs.Key.{AreTouches, IsKey, key_of, rank};
-ghost use Rattle.pf_cache.specs.Contact.{AreContacts, impulses_at, next_contacts};
+ghost use Rattle.pf_cache.specs.Contact.{AreContacts, HaveSameFirst, impulses_at, next_contacts};
 ghost use Rattle.pf_cache.specs.ContactRows.{AreRowsAt, IsRowAt, with_rows};
 ghost use Rattle.pf_cache.specs.ContactsChange.{contacts_below};
 
@@ -73,16 +73,18 @@ fn has_key_of(contact: &Contact, touch: &Touch) -> bool
 }
 
 /// How many of the first contacts, at most `most`, have the keys of the first points, one after
-/// the other. No clause says that it does not stop earlier.
+/// the other. The first `known` are known to have them, and are not compared. No clause says that
+/// it does not stop earlier.
 #[inline]
-fn same_keys(contacts: &[Contact], touches: &[Touch], most: usize) -> usize
+fn same_keys(contacts: &[Contact], touches: &[Touch], known: usize, most: usize) -> usize
+    requires { HaveSameFirst known (map (λ c. c.key) contacts.now) (map key_of touches.now) }
     ensures contacts { result ≤ length contacts.now }
     ensures touches { result ≤ length touches.now }
     ensures same { map (λ c. c.key) (take result contacts.now)
         ≡ map key_of (take result touches.now) }
 {
-    let mut count = 0;
     let end = most.min(contacts.len()).min(touches.len());
+    let mut count = known.min(end);
     while count < end {
         if !has_key_of(&contacts[count], &touches[count]) {
             break;
@@ -116,7 +118,7 @@ fn add_next(list: &mut Vec<Contact>, old: &[Contact], touches: &[Touch])
     let mut place = 0;
     let mut done = 0;
     while done < touches.len() {
-        let run = same_keys(&old[place..], &touches[done..], usize::MAX);
+        let run = same_keys(&old[place..], &touches[done..], 0, usize::MAX);
         add_all(list, &old[place..place + run]);
         place += run;
         done += run;
@@ -173,9 +175,9 @@ fn store_at(contacts: &mut [Contact], rows: &[Row])
 }
 
 impl Contacts {
-    ghost use Rattle.std.specs.Prelude.{◌≡◌, ℕ, [], All, IfOk, IsOk, OnErr, OnOk, true};
+    ghost use Rattle.std.specs.Prelude.{◌≡◌, ℕ, [], All, IfOk, IsOk, OnErr, OnOk, map, true};
     ghost use Rattle.pf_manifold.specs.Key.{AreTouches, key_of, rank};
-    ghost use Rattle.pf_cache.specs.Contact.{next_contacts};
+    ghost use Rattle.pf_cache.specs.Contact.{HaveSameFirst, next_contacts};
     ghost use Rattle.pf_cache.specs.ContactRows.{AreRowsAt, with_rows};
     ghost use Rattle.pf_cache.specs.ContactsChange.{contacts_before, may_change};
     ghost use Rattle.pf_cache.specs.Same.{same_contacts};
@@ -201,24 +203,27 @@ impl Contacts {
     /// old contacts keeps its impulses, a new key has none, and a contact without a point is gone.
     /// The points are in the order of their keys. At most `most` first contacts, as long as they
     /// have the keys of the first points, stay where they are; no clause says that they do. The
-    /// contacts behind them go to `change`, which then undoes this. With 0 all contacts are made
-    /// anew, and none has to be noted. An error leaves the contacts as they are, and no contacts in
-    /// `change`, which is of no use then.
+    /// first `known` have these keys, and are not compared. The contacts behind those that stay go
+    /// to `change`, which then undoes this. With `most` 0 all contacts are made anew, and none has
+    /// to be noted. An error leaves the contacts as they are, and no contacts in `change`, which is
+    /// of no use then.
     #[inline(never)]
     pub fn update(
         &mut self,
         touches: &[Touch],
+        known: usize,
         most: usize,
         change: &mut ContactsChange,
     ) -> Result<(), AllocError>
-        requires { AreTouches touches.now }
+        requires touches { AreTouches touches.now }
+        requires known { HaveSameFirst known (map (λ c. c.key) self.old) (map key_of touches.now) }
         ensures value { OnOk result (self.new ≡ next_contacts self.old touches.now) }
         ensures before { OnOk result (contacts_before change.new self.new ≡ self.old) }
         ensures unchanged { OnErr result (self.new ≡ self.old) }
         ensures gone { OnErr result (change.new ≡ record change.old { behind = [] }) }
         ensures no_memory { touches.now ≡ [] → IsOk result }
     {
-        let same = same_keys(&self.list, touches, most);
+        let same = same_keys(&self.list, touches, known, most);
         split_into(&mut self.list, &mut change.behind, same, touches.len())?;
         change.same = same;
         change.noted.clear();

@@ -20,6 +20,6 @@ mod spans;
 pub use contact::Contact;
 pub use contacts::Contacts;
 pub use contacts_change::ContactsChange;
-pub use manifolds::{Collisions, Manifolds};
+pub use manifolds::{Collisions, FoundCollisions, Manifolds};
 pub use meter::Meter;
 pub use spans::Span;

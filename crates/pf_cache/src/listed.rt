@@ -60,7 +60,7 @@ pub fn computed_if_many(
 
 /// Whether a contact point is of this pair.
 #[inline]
-fn is_of_pair(touch: &Touch, pair: &Pair) -> bool
+pub fn is_of_pair(touch: &Touch, pair: &Pair) -> bool
     ensures { result ≡ is_of_pair pair.now touch.now }
 {
     touch.a as usize == pair.a && touch.b as usize == pair.b

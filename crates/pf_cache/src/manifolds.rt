@@ -4,7 +4,8 @@ ghost use Rattle.std.specs.Prelude.{◌≡◌, ◌≢◌, ◌≤◌, [], All, If
 ghost use Rattle.std.specs.List.{flat_map};
 ghost use Rattle.pf_shapes.specs.Pair.{IsAscending, IsPairOf};
 ghost use Rattle.pf_shapes.specs.declared.scene.TheConstants.{MAX_BODIES};
-ghost use Rattle.pf_manifold.specs.Key.{IsRising};
+ghost use Rattle.pf_manifold.specs.Key.{IsRising, key_of};
+ghost use Rattle.pf_cache.specs.Contact.{HaveSameFirst};
 ghost use Rattle.pf_cache.specs.Manifolds.{placed_shapes, points_of_pair};
 ghost use Rattle.pf_cache.specs.Spans.{ArePlaced, IsKeptSpan, computed_count_by_flags, pair_rank, spans_from};
 
@@ -69,6 +70,15 @@ impl Model for Collisions {
     ghost view = { λ n. record { manifolds = n.manifolds; computed = n.computed } };
 }
 
+/// What an update of kept contact points found.
+#[derive(Debug, Drop)]
+pub struct FoundCollisions {
+    /// What the narrow phase of the tick found.
+    pub collisions: Collisions,
+    /// How many of the first contact points are known to have the keys of the first kept ones.
+    pub same: usize,
+}
+
 /// What the broad phase keeps of so many bodies, if they are as many as now; else nothing.
 fn kept_for(alloc: Global, kept: BroadPhase, count: usize, bodies: usize) -> BroadPhase
     ensures same { count ≡ bodies → result ≡ kept }
@@ -103,6 +113,8 @@ fn updated_points(
         (λ found. found.touches.items ≡ flat_map (points_of_pair shapes.now) pairs.now) }
     ensures computed { IfOk result (λ found. found.computed
         ≡ computed_count_by_flags (map (λ s. s.pair) kept_spans.items) unmoved.now pairs.now) }
+    ensures same { IfOk result (λ found. HaveSameFirst found.same (map key_of kept_touches.items)
+        (map key_of found.touches.items)) }
 {
     let mut spans = kept_spans;
     let mut touches = kept_touches;
@@ -121,6 +133,7 @@ fn updated_points(
     Ok(PairPoints {
         spans,
         touches,
+        same: done.same,
         computed,
     })
 }
@@ -144,20 +157,23 @@ fn points_at_once<C: Collider>(
     ensures touches { IfOk result (λ found. found.touches.items
         ≡ flat_map (points_of_pair (placed_shapes scene.now.fixtures bodies.now)) pairs.now) }
     ensures computed { IfOk result (λ found. found.computed ≡ computed) }
+    ensures same { IfOk result (λ found. found.same ≡ 0) }
 {
     let touches = collider.collide(alloc, scene, bodies, pairs)?;
     let spans = spans_of_points(alloc, pairs, &touches)?;
     Ok(PairPoints {
         spans,
         touches,
+        same: 0,
         computed,
     })
 }
 
 impl Manifolds {
-    ghost use Rattle.std.specs.Prelude.{◌≡◌, ◌<◌, [], length, All, IfOk, IsOk};
+    ghost use Rattle.std.specs.Prelude.{◌≡◌, ◌<◌, [], length, map, All, IfOk, IsOk};
     ghost use Rattle.pf_broad.specs.Pairs.{all_bounds, pairs};
-    ghost use Rattle.pf_manifold.specs.Key.{AreTouches};
+    ghost use Rattle.pf_manifold.specs.Key.{AreTouches, key_of};
+    ghost use Rattle.pf_cache.specs.Contact.{HaveSameFirst};
     ghost use Rattle.pf_cache.specs.PlacedBodies.{HaveStayed, bodies_of};
     ghost use Rattle.pf_cache.specs.Manifolds.{computed_count, kept_touches, manifolds_of, no_manifolds, placed_shapes};
     ghost use Rattle.pf_cache.specs.Spans.{AreSpansOf};
@@ -198,6 +214,9 @@ impl Manifolds {
     /// pairs at once. Only bodies of `moved` are compared with how they stood: where as many bodies
     /// are kept, all others stand as they stood. An error drops what is kept. Takes no memory where
     /// there are no bodies.
+    ///
+    /// Also finds how many of the first points have the keys of the first kept ones. No clause says
+    /// that they are not more.
     pub fn update<C: Collider>(
         self,
         collider: &C,
@@ -205,23 +224,30 @@ impl Manifolds {
         scene: &Scene,
         bodies: &[BodyState],
         moved: &[usize],
-    ) -> Result<Collisions, AllocError>
+    ) -> Result<FoundCollisions, AllocError>
         requires can { C.can_collide collider.now }
         requires bodies { length bodies.now ≡ length scene.now.fixtures }
         requires moved { All (λ number. number < length bodies.now) moved.now }
         requires others { HaveStayed moved.now (bodies_of self) scene.now.fixtures bodies.now }
-        ensures manifolds { IfOk result (λ found. found.manifolds
+        ensures manifolds { IfOk result (λ found. found.collisions.manifolds
             ≡ manifolds_of scene.now.fixtures bodies.now
             (pairs (all_bounds scene.now.fixtures bodies.now))) }
-        ensures computed { IfOk result (λ found. found.computed
+        ensures computed { IfOk result (λ found. found.collisions.computed
             ≡ computed_count self (placed_shapes scene.now.fixtures bodies.now)
             (pairs (all_bounds scene.now.fixtures bodies.now))) }
+        ensures same { IfOk result (λ found. HaveSameFirst found.same
+            (map key_of (kept_touches self))
+            (map key_of (kept_touches found.collisions.manifolds))) }
         ensures no_memory { bodies.now ≡ [] → IsOk result }
     {
         if bodies.is_empty() {
-            return Ok(Collisions {
+            let collisions = Collisions {
                 manifolds: Manifolds::new(alloc),
                 computed: 0,
+            };
+            return Ok(FoundCollisions {
+                collisions,
+                same: 0,
             });
         }
         let count = self.placed.shapes().len();
@@ -237,6 +263,7 @@ impl Manifolds {
                 updated_points(alloc, kept_spans, kept_touches, &pairs, &unmoved, shapes)?
             }
         };
+        let same = points.same;
         let computed = points.computed;
         let manifolds = Manifolds {
             placed,
@@ -244,9 +271,10 @@ impl Manifolds {
             spans: points.spans,
             touches: points.touches,
         };
-        Ok(Collisions {
+        let collisions = Collisions {
             manifolds,
             computed,
-        })
+        };
+        Ok(FoundCollisions { collisions, same })
     }
 }

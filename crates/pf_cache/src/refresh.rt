@@ -1,14 +1,19 @@
 //! Contact points that are updated in place.
 
-ghost use Rattle.std.specs.Prelude.{◌≡◌, ◌+◌, ◌≤◌, ◌++◌, All, IsTrue, drop, false, length, map, take};
+ghost use Rattle.std.specs.Prelude.{◌≡◌, ◌↔◌, ◌+◌, ◌≤◌, ◌++◌, All, IfSome, IsTrue, None, drop, length, map, take};
 ghost use Rattle.pf_shapes.specs.Pair.{IsPairOf};
 ghost use Rattle.pf_shapes.specs.declared.scene.TheConstants.{MAX_BODIES};
+ghost use Rattle.pf_manifold.specs.Key.{key_of};
+ghost use Rattle.pf_manifold.specs.Manifold.{points_of};
+ghost use Rattle.pf_manifold.specs.Touches.{touch_of};
+ghost use Rattle.pf_cache.specs.Contact.{HaveSameFirst};
 ghost use Rattle.pf_cache.specs.Manifolds.{points_of_pair};
 ghost use Rattle.pf_cache.specs.Spans.{ArePlaced, AreRefreshed, IsKeptSpan, computed_count_by_flags};
 
 use crate::kept_shape::{KeptShape, are_unmoved, manifold_of_pair};
+use crate::listed::is_of_pair;
 use crate::spans::Span;
-use pf_manifold::{Touch, replace_points};
+use pf_manifold::{ContactPoint, Manifold, Touch, replace_points};
 use pf_shapes::Pair;
 
 /// How far contact points could be updated in place.
@@ -18,35 +23,75 @@ pub struct Progress {
     pub pairs: usize,
     /// How many points these pairs have.
     pub points: usize,
+    /// How many of the first points are known to have the keys that they had.
+    pub same: usize,
     /// For how many of these pairs the points were computed.
     pub computed: usize,
 }
 
+/// Whether a kept point has the key of this point of a pair.
+#[inline]
+fn has_key_of(touch: &Touch, pair: &Pair, point: &ContactPoint) -> bool
+    ensures { IsTrue result ↔ (key_of touch.now ≡ key_of (touch_of pair.now point.now)) }
+{
+    is_of_pair(touch, pair) && touch.point.feature == point.feature
+}
+
+/// Whether the kept points from `start` on have the keys of these points of a pair.
+#[inline]
+fn have_keys_of(touches: &[Touch], start: usize, pair: &Pair, points: &Manifold) -> bool
+    requires { start + length (points_of points.now) ≤ length touches.now }
+    ensures { IsTrue result → map key_of (take (length (points_of points.now))
+        (drop start touches.now)) ≡ map key_of (map (touch_of pair.now) (points_of points.now)) }
+{
+    match points {
+        Manifold::Apart => true,
+        Manifold::One(point) => has_key_of(&touches[start], pair, point),
+        Manifold::Two(first, second) => {
+            has_key_of(&touches[start], pair, first)
+                && has_key_of(&touches[start + 1], pair, second)
+        }
+    }
+}
+
 /// Computes the contact points of a span's pair. If there are as many as before, it writes them
-/// over the old ones and returns true.
+/// over the old ones, and returns how many of the first `same` points still have their keys: all
+/// of them, or those in front of the span. No clause says that they are not more.
 #[inline(never)]
-fn refresh_span(touches: &mut [Touch], span: &Span, shapes: &[KeptShape]) -> bool
+fn refresh_span(
+    touches: &mut [Touch],
+    span: &Span,
+    shapes: &[KeptShape],
+    same: usize,
+) -> Option<usize>
     requires few { length shapes.now ≤ MAX_BODIES }
     requires pair { IsPairOf (length shapes.now) span.now.pair }
     requires within { span.now.start + span.now.len ≤ length touches.old }
-    ensures as_many { IsTrue result
-        → length (points_of_pair shapes.now span.now.pair) ≡ span.now.len }
-    ensures written { IsTrue result → touches.new
+    ensures as_many { IfSome result
+        (λ _. length (points_of_pair shapes.now span.now.pair) ≡ span.now.len) }
+    ensures written { IfSome result (λ _. touches.new
         ≡ take span.now.start touches.old ++ (points_of_pair shapes.now span.now.pair
-        ++ drop (span.now.start + span.now.len) touches.old) }
-    ensures others { result ≡ false → touches.new ≡ touches.old }
+        ++ drop (span.now.start + span.now.len) touches.old)) }
+    ensures fewer { IfSome result (λ still. still ≤ same) }
+    ensures same { IfSome result (λ still.
+        take still (map key_of touches.new) ≡ take still (map key_of touches.old)) }
+    ensures others { result ≡ None → touches.new ≡ touches.old }
 {
     let manifold = manifold_of_pair(shapes, &span.pair);
     if manifold.count() != span.len {
-        return false;
+        return None;
     }
-    replace_points(touches, span.start, &span.pair, &manifold);
-    true
+    let start = span.start;
+    let is_same = same <= start || have_keys_of(touches, start, &span.pair, &manifold);
+    replace_points(touches, start, &span.pair, &manifold);
+    Some(if is_same { same } else { start })
 }
 
 /// Updates the contact points of pairs in place. Those of unmoved bodies stay; the others are
 /// computed and written over the old ones. It stops at the first pair that has no span at its
 /// place, or another number of points than before. No clause says that it does not stop earlier.
+/// The first points have the keys that they had up to the first pair whose features changed; no
+/// clause says that they are so many.
 #[inline(never)]
 #[tactic(auto, using(crate::proofs::Refreshing::kept_after))]
 pub fn refresh(
@@ -63,12 +108,15 @@ pub fn refresh(
     ensures refreshed { AreRefreshed shapes.now spans.now touches.new pairs.now
         result.pairs result.points }
     ensures kept { All (IsKeptSpan shapes.now unmoved.now touches.new) spans.now }
+    ensures same { HaveSameFirst result.same (map key_of touches.old) (map key_of touches.new) }
+    ensures same_points { result.same ≤ result.points }
     ensures computed { result.computed
         ≡ computed_count_by_flags (map (λ s. s.pair) spans.now) unmoved.now
         (take result.pairs pairs.now) }
 {
     let mut place = 0;
     let mut points = 0;
+    let mut same = touches.len();
     let mut computed = 0;
     while place < pairs.len() && place < spans.len() {
         let pair = &pairs[place];
@@ -77,8 +125,9 @@ pub fn refresh(
             break;
         }
         if !are_unmoved(unmoved, pair) {
-            if !refresh_span(touches, span, shapes) {
-                break;
+            match refresh_span(touches, span, shapes, same) {
+                Some(still) => same = still,
+                None => break,
             }
             computed += 1;
         }
@@ -88,6 +137,7 @@ pub fn refresh(
     Progress {
         pairs: place,
         points,
+        same: same.min(points),
         computed,
     }
 }

@@ -48,7 +48,7 @@ fn update(
     let pairs = pairs(alloc, &scene, starts)?;
     let touches = collide_list(alloc, &scene, starts, &pairs)?;
     let mut change = ContactsChange::new(alloc);
-    contacts.update(&touches, most, &mut change)?;
+    contacts.update(&touches, 0, most, &mut change)?;
     Ok(change)
 }
 
@@ -101,6 +101,43 @@ fn updates_are_undone(rt: HostRuntime) -> Result<(), Fail> {
             assert!(rt; is_undone(rt.alloc(), &both, text, most)?);
         }
     }
+    Ok(())
+}
+
+/// The contacts of the two boxes that stand, updated again with the same points: of the first three
+/// it is known that they have the keys of the points. And these contacts after the second update is
+/// undone.
+fn updated_again(alloc: Global) -> Result<(Contacts, Contacts), Fail> {
+    let scene = scene_of(alloc, BOTH_STAND)?;
+    let starts = scene.starts();
+    if scene.fixtures().len() != starts.len() {
+        return Err(Fail::from("each body has a start"));
+    }
+    let pairs = pairs(alloc, &scene, starts)?;
+    let touches = collide_list(alloc, &scene, starts, &pairs)?;
+    let mut contacts = Contacts::new(alloc);
+    let mut change = ContactsChange::new(alloc);
+    contacts.update(&touches, 0, 0, &mut change)?;
+    let known = touches.len().min(3);
+    contacts.update(&touches, known, usize::MAX, &mut change)?;
+    let updated = contacts.try_clone()?;
+    contacts.undo(change);
+    Ok((updated, contacts))
+}
+
+/// Whether a list is that of the four contacts of both boxes, which are new.
+fn are_of_both_boxes(contacts: &[Contact]) -> bool {
+    let keys = contacts
+        .iter()
+        .map(|c| (c.key.a, c.key.b, c.key.feature))
+        .eq([(0, 1, 28), (0, 1, 29), (0, 2, 28), (0, 2, 29)]);
+    keys && contacts.iter().all(|c| c.impulses == Impulses::NONE)
+}
+
+#[test]
+fn known_contacts_stay(rt: HostRuntime) -> Result<(), Fail> {
+    let (updated, undone) = updated_again(rt.alloc())?;
+    assert!(rt; are_of_both_boxes(updated.as_slice()) && undone == updated);
     Ok(())
 }
 

@@ -3,7 +3,6 @@ use Rattle.std.proofs.Common.{◌≡◌, ℕ, zero, suc, ◌+◌, ◌<◌, ◌�
 use Rattle.std.specs.Prelude.{IfSome}
 use Rattle.std.proofs.lemmas.Bool.{true≢false}
 use Rattle.std.specs.FinMap.{entries, empty}
-use Rattle.pf_shapes.specs.Body.{BodyState}
 use Rattle.pf_shapes.specs.Scene.{Scene}
 use Rattle.pf_shapes.specs.declared.fixture.TheConstants.{PLAYERS}
 use Rattle.pf_commands.specs.declared.payload.Command.{Command}
@@ -336,10 +335,10 @@ err_both (Err fault) f a b = f a b
 -- ---- what a work knows of moved bodies
 
 -- where it is not known which bodies have moved
-pub unknown_follows : (s : Scene) (bodies : List BodyState) (work : Work) → work.is_known ≡ false → KnowsMoved s bodies work
-unknown_follows s bodies work unknown known = absurd (true≢false (sym known ∙ unknown))
+pub unknown_follows : (s : Scene) (world : World) (work : Work) → work.is_known ≡ false → KnowsMoved s world work
+unknown_follows s world work unknown known = absurd (true≢false (sym known ∙ unknown))
 
 -- after room is made
 pub follows_reserved : (s : Scene) (work : Work) (kept after : Snapshots) → after ≡ record kept { room = after.room }
-    → KnowsMoved s (settled_world kept).bodies work → KnowsMoved s (settled_world after).bodies work
-follows_reserved s work kept after same = subst (λ k. KnowsMoved s (settled_world k).bodies work) (sym same)
+    → KnowsMoved s (settled_world kept) work → KnowsMoved s (settled_world after) work
+follows_reserved s work kept after same = subst (λ k. KnowsMoved s (settled_world k) work) (sym same)

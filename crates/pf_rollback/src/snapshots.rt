@@ -238,7 +238,7 @@ impl Snapshots {
         requires limit { settled_tick (ticks_of self.old) < MAX_TICK }
         requires world { (world : World) → IsKept self.old (settled_tick (ticks_of self.old)) world
             → length world.bodies ≡ length scene.now.fixtures }
-        requires follows { KnowsMoved scene.now (settled_world self.old).bodies work.old }
+        requires follows { KnowsMoved scene.now (settled_world self.old) work.old }
         ensures latest { let tick = settled_tick (ticks_of self.old) in
             IsKept self.old tick (settled_world self.old) }
         ensures ticks { OnOk result (ticks_of self.new
@@ -254,7 +254,7 @@ impl Snapshots {
             let found = collisions_of_tick scene.now world payloads.now work.old.manifolds in
             OnOk result (work.new ≡ work_after_tick found work.new.moved work.old) }
         ensures not_counted { OnErr result (work.new.meter ≡ work.old.meter) }
-        ensures follows { KnowsMoved scene.now (settled_world self.new).bodies work.new }
+        ensures follows { KnowsMoved scene.now (settled_world self.new) work.new }
         ensures called { let world = settled_world self.old in
             let islands = islands_of_tick scene.now world payloads.now in
             OnOk result (C.is_called crew.old islands crew.new) }
@@ -290,8 +290,8 @@ impl Snapshots {
         ensures near { IfSome least (λ tick. tick ≤ settled_tick (ticks_of self.old)
             → tick < settled_tick (ticks_of self.new) + KEYFRAME_INTERVAL) }
         ensures meter { work.new.meter ≡ work.old.meter }
-        ensures follows { (s : Scene) → KnowsMoved s (settled_world self.old).bodies work.old
-            → KnowsMoved s (settled_world self.new).bodies work.new }
+        ensures follows { (s : Scene) → KnowsMoved s (settled_world self.old) work.old
+            → KnowsMoved s (settled_world self.new) work.new }
     {
         if let Some(tick) = least {
             self.drop_after(tick, work);
@@ -310,8 +310,8 @@ impl Snapshots {
         ensures near { tick ≤ settled_tick (ticks_of self.old)
             → tick < settled_tick (ticks_of self.new) + KEYFRAME_INTERVAL }
         ensures meter { work.new.meter ≡ work.old.meter }
-        ensures follows { (s : Scene) → KnowsMoved s (settled_world self.old).bodies work.old
-            → KnowsMoved s (settled_world self.new).bodies work.new }
+        ensures follows { (s : Scene) → KnowsMoved s (settled_world self.old) work.old
+            → KnowsMoved s (settled_world self.new) work.new }
     {
         if self.settled <= tick {
             return;

@@ -18,12 +18,15 @@ use Rattle.pf_broad.specs.Partners.{has_body}
 use Rattle.pf_broad.proofs.Ranges.{has_body-below}
 use Rattle.pf_commands.specs.declared.payload.Payload.{Payload}
 use Rattle.pf_commands.specs.Payload.{body_of}
-use Rattle.pf_cache.specs.Manifolds.{Manifolds, placed_shapes, shape_of_body}
+use Rattle.pf_manifold.specs.Key.{key_of}
+use Rattle.pf_cache.specs.Contact.{HaveSameFirst}
+use Rattle.pf_cache.specs.Manifolds.{Manifolds, kept_touches, placed_shapes, shape_of_body}
 use Rattle.pf_cache.specs.PlacedBodies.{HaveStayed, bodies_of}
 use Rattle.pf_islands.specs.Split.{Island}
 use Rattle.pf_step.specs.Changes.{AreAdded, BodyChange, bodies_before, change_if, change_of, changes_by_commands, changes_of_islands, numbers_of}
 use Rattle.pf_step.specs.Commands.{after_commands}
 use Rattle.pf_step.specs.Work.{KnowsMoved, Work, moved_bodies}
+use Rattle.pf_step.specs.World.{World}
 use Rattle.pf_step.proofs.Changing.{notes_of_all, unchanged_stays}
 use Rattle.pf_step.proofs.Commanding.{commands_before, commands_length}
 
@@ -158,48 +161,57 @@ listed_below n k below = has_body-below n k ∙ is_below
 -- ---- the next step
 
 -- after commands, only the listed bodies may have moved
-pub stayed_after_commands : (s : Scene) (bodies : List BodyState) (payloads : List Payload) (work : Work) (m : Manifolds) (moved : List ℕ)
-    (notes : List BodyChange) (after : List BodyState) → KnowsMoved s bodies work → m ≡ work.manifolds
-    → notes ≡ changes_by_commands bodies payloads → after ≡ after_commands s.fixtures bodies payloads
-    → moved ≡ moved_bodies work.is_known work.moved (length bodies) (numbers_of notes)
+pub stayed_after_commands : (s : Scene) (w : World) (payloads : List Payload) (work : Work) (m : Manifolds) (moved : List ℕ)
+    (notes : List BodyChange) (after : List BodyState) → KnowsMoved s w work → m ≡ work.manifolds
+    → notes ≡ changes_by_commands w.bodies payloads → after ≡ after_commands s.fixtures w.bodies payloads
+    → moved ≡ moved_bodies work.is_known work.moved (length w.bodies) (numbers_of notes)
     → All (λ number. number < length after) moved × HaveStayed moved (bodies_of m) s.fixtures after
-stayed_after_commands s bodies payloads work m moved notes after follows m_is noted after_is listed = by work.is_known refl
+stayed_after_commands s w payloads work m moved notes after follows m_is noted after_is listed = by work.is_known refl
   where
-    long_after : length after ≡ length bodies
-    long_after = ap length after_is ∙ commands_length s.fixtures bodies payloads
+    long_after : length after ≡ length w.bodies
+    long_after = ap length after_is ∙ commands_length s.fixtures w.bodies payloads
 
     by : (known : Bool) → work.is_known ≡ known
         → All (λ number. number < length after) moved × HaveStayed moved (bodies_of m) s.fixtures after
     by true known =
         let knows = follows known in
         let list : moved ≡ work.moved ++ numbers_of notes =
-        listed ∙ ap (λ b. moved_bodies b work.moved (length bodies) (numbers_of notes)) known in
-        let there = subst (All (λ c. c.number < length bodies)) (sym noted) (all_within bodies body_of payloads) in (
+        listed ∙ ap (λ b. moved_bodies b work.moved (length w.bodies) (numbers_of notes)) known in
+        let there = subst (All (λ c. c.number < length w.bodies)) (sym noted) (all_within w.bodies body_of payloads) in (
           subst (λ n. All (λ number. number < n) moved) (sym long_after)
-              (subst (All (λ number. number < length bodies)) (sym list)
-              (All-append (λ (number : ℕ). number < length bodies) work.moved (numbers_of notes) knows.0
-              (numbers_within (length bodies) notes there))),
+              (subst (All (λ number. number < length w.bodies)) (sym list)
+              (All-append (λ (number : ℕ). number < length w.bodies) work.moved (numbers_of notes) knows.0
+              (numbers_within (length w.bodies) notes there))),
           λ long k below other.
               let parts = neither work.moved (numbers_of notes) k (sym (ap (λ ns. has_body ns k) list) ∙ other) in
-              let same = unlisted notes after bodies k
-              (ap₂ bodies_before noted after_is ∙ commands_before s.fixtures bodies payloads) parts.1 in
+              let same = unlisted notes after w.bodies k
+              (ap₂ bodies_before noted after_is ∙ commands_before s.fixtures w.bodies payloads) parts.1 in
               let stood = knows.1 (ap (λ (x : Manifolds). length x.shapes) (sym m_is) ∙ long ∙ long_after) k
               (omega (arith, below, long_after)) parts.0 in (
                 ap (λ (x : Manifolds). slice_get x.shapes k) m_is ∙ stood.0
-                    ∙ same_made (λ (b : Fixture × BodyState). shape_of_body b.0 b.1) s.fixtures bodies after k (sym same),
+                    ∙ same_made (λ (b : Fixture × BodyState). shape_of_body b.0 b.1) s.fixtures w.bodies after k (sym same),
                 ap (λ (x : Manifolds). slice_get x.bounds k) m_is ∙ stood.1
-                    ∙ same_made (λ (b : Fixture × BodyState). fixture_bounds b.0 b.1) s.fixtures bodies after k (sym same),
+                    ∙ same_made (λ (b : Fixture × BodyState). fixture_bounds b.0 b.1) s.fixtures w.bodies after k (sym same),
               ),
         )
     by false unknown =
-        let list : moved ≡ range_with_len 0 (length bodies) =
-        listed ∙ ap (λ b. moved_bodies b work.moved (length bodies) (numbers_of notes)) unknown in (
+        let list : moved ≡ range_with_len 0 (length w.bodies) =
+        listed ∙ ap (λ b. moved_bodies b work.moved (length w.bodies) (numbers_of notes)) unknown in (
           subst (λ n. All (λ number. number < n) moved) (sym long_after)
-              (subst (All (λ number. number < length bodies)) (sym list) (range_within (length bodies))),
+              (subst (All (λ number. number < length w.bodies)) (sym list) (range_within (length w.bodies))),
           λ long k below other.
-              absurd (true≢false (sym (listed_below (length bodies) k (omega (arith, below, long_after)))
+              absurd (true≢false (sym (listed_below (length w.bodies) k (omega (arith, below, long_after)))
               ∙ sym (ap (λ ns. has_body ns k) list) ∙ other)),
         )
+
+-- the first contacts have the keys of the first new points, as many as have those of kept ones
+pub keys_after_commands : (s : Scene) (w : World) (work : Work) (kept found : Manifolds) (same : ℕ) → KnowsMoved s w work
+    → work.is_known ≡ true → kept ≡ work.manifolds
+    → HaveSameFirst same (map key_of (kept_touches kept)) (map key_of (kept_touches found))
+    → HaveSameFirst same (map (λ c. c.key) w.contacts) (map key_of (kept_touches found))
+keys_after_commands s w work kept found same follows known kept_is first =
+    subst (λ keys. HaveSameFirst same keys (map key_of (kept_touches found)))
+    (ap (λ m. map key_of (kept_touches m)) kept_is ∙ sym (follows known).2) first
 
 -- after a step, only bodies that it changed may have moved since the contact points were computed
 pub stayed_after_step : (s : Scene) (before commanded after : List BodyState) (m : Manifolds) (notes changes : List BodyChange)

@@ -1,14 +1,15 @@
 -- What steps of one simulation leave to the next one beside the world.
-use Rattle.std.specs.Prelude.{◌≡◌, ◌<◌, ◌++◌, ℕ, Bool, true, false, List, [], All, length}
+use Rattle.std.specs.Prelude.{◌≡◌, ◌<◌, ◌++◌, ℕ, Bool, true, false, List, [], All, length, map}
 use Rattle.std.specs.List.{range_with_len}
-use Rattle.pf_shapes.specs.Body.{BodyState}
 use Rattle.pf_shapes.specs.Scene.{Scene}
-use Rattle.pf_cache.specs.Manifolds.{Manifolds, Collisions, no_manifolds}
+use Rattle.pf_manifold.specs.Key.{key_of}
+use Rattle.pf_cache.specs.Manifolds.{Manifolds, Collisions, kept_touches, no_manifolds}
 use Rattle.pf_cache.specs.Meter.{Meter, saturating_sum}
 use Rattle.pf_cache.specs.PlacedBodies.{HaveStayed, bodies_of}
+use Rattle.pf_step.specs.World.{World}
 
--- how much work was done, the contact points of the last tick, and which bodies may have moved
--- since these points were kept, if that is known
+-- how much work was done, the contact points of the last tick, and, if that is known, which bodies
+-- may have moved since these points were kept; then the contacts have the keys of the points
 pub record Work : Type 0 where
   pub meter : Meter
   pub manifolds : Manifolds
@@ -41,9 +42,10 @@ abbrev pub moved_bodies : Bool → List ℕ → ℕ → List ℕ → List ℕ
 moved_bodies true moved count commanded = moved ++ commanded
 moved_bodies false moved count commanded = range_with_len 0 count
 
--- where a work knows which bodies may have moved, these are bodies of the scene, and all others
--- stand as it kept them
-abbrev pub KnowsMoved : Scene → List BodyState → Work → Type 0
-KnowsMoved s bodies w =
-    w.is_known ≡ true → All (λ number. number < length bodies) w.moved
-    × HaveStayed w.moved (bodies_of w.manifolds) s.fixtures bodies
+-- where a work knows which bodies of a world may have moved, these are bodies of the scene, all
+-- others stand as it kept them, and the contacts have the keys of the kept contact points
+abbrev pub KnowsMoved : Scene → World → Work → Type 0
+KnowsMoved s world w =
+    w.is_known ≡ true → All (λ number. number < length world.bodies) w.moved
+    × HaveStayed w.moved (bodies_of w.manifolds) s.fixtures world.bodies
+    × (map (λ c. c.key) world.contacts ≡ map key_of (kept_touches w.manifolds))

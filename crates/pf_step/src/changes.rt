@@ -107,9 +107,9 @@ pub(crate) fn undo_bodies(bodies: &mut [BodyState], changes: &[BodyChange])
 }
 
 impl Changes {
-    ghost use Rattle.std.specs.Prelude.{◌≡◌, ◌++◌, [], All, IsOk, OnErr, OnOk};
-    ghost use Rattle.pf_manifold.specs.Key.{AreTouches};
-    ghost use Rattle.pf_cache.specs.Contact.{next_contacts};
+    ghost use Rattle.std.specs.Prelude.{◌≡◌, ◌++◌, [], All, IsOk, OnErr, OnOk, map};
+    ghost use Rattle.pf_manifold.specs.Key.{AreTouches, key_of};
+    ghost use Rattle.pf_cache.specs.Contact.{HaveSameFirst, next_contacts};
     ghost use Rattle.pf_cache.specs.ContactRows.{AreRowsAt};
     ghost use Rattle.pf_cache.specs.ContactsChange.{contacts_before};
     ghost use Rattle.pf_step.specs.Changes.{bodies_before, changes_by_commands, changes_of_awake, changes_of_islands, MayChange};
@@ -194,15 +194,19 @@ impl Changes {
     }
 
     /// Makes of the contacts of the last tick those of these points, and keeps what that changes.
-    /// At most `most` of them stay where they are. An error leaves the contacts as they are, and
-    /// what is kept of them is of no use then.
+    /// At most `most` of them stay where they are; the first `known` have the keys of the first
+    /// points. An error leaves the contacts as they are, and what is kept of them is of no use
+    /// then.
     pub(crate) fn update_contacts(
         &mut self,
         contacts: &mut Contacts,
         touches: &[Touch],
+        known: usize,
         most: usize,
     ) -> Result<(), AllocError>
-        requires { AreTouches touches.now }
+        requires touches { AreTouches touches.now }
+        requires known { HaveSameFirst known (map (λ c. c.key) contacts.old)
+            (map key_of touches.now) }
         ensures value { OnOk result (contacts.new ≡ next_contacts contacts.old touches.now) }
         ensures before { OnOk result
             (contacts_before self.new.contacts contacts.new ≡ contacts.old) }
@@ -210,7 +214,7 @@ impl Changes {
         ensures bodies { self.new.bodies ≡ self.old.bodies }
         ensures no_memory { touches.now ≡ [] → IsOk result }
     {
-        contacts.update(touches, most, &mut self.contacts)
+        contacts.update(touches, known, most, &mut self.contacts)
     }
 
     /// Notes the impulses of the contacts of islands, so that they may change. After an error some

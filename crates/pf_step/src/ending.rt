@@ -3,6 +3,7 @@
 ghost use Rattle.std.specs.Prelude.{◌≡◌, ◌≢◌, ◌++◌, [], Err, All, IfErr, IfOk, IsOk, OnOk, length, map};
 ghost use Rattle.pf_manifold.specs.Key.{AreTouches, key_of};
 ghost use Rattle.pf_manifold.specs.Touches.{IsTouchOf};
+ghost use Rattle.pf_cache.specs.Contact.{HaveSameFirst};
 ghost use Rattle.pf_cache.specs.ContactsChange.{contacts_before};
 ghost use Rattle.pf_cache.specs.Manifolds.{kept_touches};
 ghost use Rattle.pf_islands.specs.Split.{IsIslandOf};
@@ -96,21 +97,23 @@ fn finish_untouched(
 {
     changes.note_awake(&world.bodies)?;
     work.set_moved(changes.bodies())?;
-    changes.update_contacts(&mut world.contacts, &[], 0)?;
+    changes.update_contacts(&mut world.contacts, &[], 0, 0)?;
     solve_untouched(scene, &mut world.bodies);
     Ok(())
 }
 
 /// A tick from its contact points on, in the world after its commands. `found` is what the narrow
-/// phase found for its bodies. Makes its islands, has them solved by one call of the crew, and puts
-/// them back; where nothing touches, a crew that allows it is not called. Notes what changes, and
-/// lists these bodies as those that may have moved. An error leaves the world as it is. Takes no
-/// memory of its own where there are no bodies.
+/// phase found for its bodies, and the first `known` contacts have the keys of the first points
+/// found. Makes its islands, has them solved by one call of the crew, and puts them back; where
+/// nothing touches, a crew that allows it is not called. Notes what changes, and lists these bodies
+/// as those that may have moved. An error leaves the world as it is. Takes no memory of its own
+/// where there are no bodies.
 pub(crate) fn finish<C: Crew>(
     alloc: Global,
     scene: &Scene,
     world: &mut World,
     found: &Collisions,
+    known: usize,
     work: &mut Work,
     crew: &mut C,
     changes: &mut Changes,
@@ -120,6 +123,8 @@ pub(crate) fn finish<C: Crew>(
         ≡ touches_of_scene scene.now world.old.bodies }
     requires touches { All (IsTouchOf (length world.old.bodies))
         (kept_touches found.now.manifolds) }
+    requires known { HaveSameFirst known (map (λ c. c.key) world.old.contacts)
+        (map key_of (kept_touches found.now.manifolds)) }
     ensures ending { IsEnding scene.now world.old changes.old.bodies world.new changes.new result }
     ensures called { let islands = islands_of_bodies scene.now world.old.contacts world.old.bodies
         in OnOk result (C.is_called crew.old islands crew.new) }
@@ -136,7 +141,7 @@ pub(crate) fn finish<C: Crew>(
         return Ok(());
     }
     let most = most_in_place(work.moved().len(), world.bodies.as_slice().len());
-    changes.update_contacts(&mut world.contacts, touches, most)?;
+    changes.update_contacts(&mut world.contacts, touches, known, most)?;
     let islands = match prepare(alloc, scene, world, found, work, changes) {
         Ok(islands) => islands,
         Err(error) => {

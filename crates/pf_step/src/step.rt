@@ -1,8 +1,10 @@
 //! A tick: from a world to the world one tick later. Its definition is on one screen,
 //! `specs/Step.antt`.
 
-ghost use Rattle.std.specs.Prelude.{◌≡◌, ◌≢◌, ◌<◌, [], Err, All, length, IfErr, IfOk, IsOk, OnOk};
+ghost use Rattle.std.specs.Prelude.{◌≡◌, ◌≢◌, ◌<◌, [], Err, All, length, map, IfErr, IfOk, IsOk, OnOk};
+ghost use Rattle.pf_manifold.specs.Key.{key_of};
 ghost use Rattle.pf_manifold.specs.Touches.{IsTouchOf};
+ghost use Rattle.pf_cache.specs.Contact.{HaveSameFirst};
 ghost use Rattle.pf_cache.specs.Manifolds.{kept_touches};
 ghost use Rattle.pf_step.specs.declared.crew.StepError.TheVariants.{OutOfMemory};
 ghost use Rattle.pf_step.specs.Activity.{islands_of_tick};
@@ -18,14 +20,15 @@ use crate::crew::{Crew, StepError};
 use crate::ending::finish;
 use crate::work::Work;
 use crate::world::World;
-use pf_cache::{Collisions, Manifolds};
+use pf_cache::{FoundCollisions, Manifolds};
 use pf_commands::Payload;
 use pf_manifold::{Collider, OneThread};
 use pf_shapes::{BodyState, Scene};
 use std::alloc::{AllocError, Global};
 
 /// The contact points of the bodies of a scene as they stand; kept ones are reused. Only bodies of
-/// `moved` may have moved since these were kept.
+/// `moved` may have moved since these were kept. Also finds how many of the first points have the
+/// keys of the first kept ones.
 #[tactic(auto, using(pf_cache::proofs::Unmoved::kept_points, pf_manifold::proofs::KeyOrder::touches_of_bodies))]
 fn find_collisions<P: Collider>(
     collider: &P,
@@ -34,17 +37,19 @@ fn find_collisions<P: Collider>(
     bodies: &[BodyState],
     kept: Manifolds,
     moved: &[usize],
-) -> Result<Collisions, AllocError>
+) -> Result<FoundCollisions, AllocError>
     requires can { P.can_collide collider.now }
     requires bodies { length bodies.now ≡ length scene.now.fixtures }
     requires moved { All (λ number. number < length bodies.now) moved.now }
     requires others { HaveStayed moved.now (bodies_of kept) scene.now.fixtures bodies.now }
     ensures value { IfOk result
-        (λ found. found ≡ collisions_of_bodies scene.now.fixtures bodies.now kept) }
-    ensures touches { IfOk result
-        (λ found. kept_touches found.manifolds ≡ touches_of_scene scene.now bodies.now) }
-    ensures bodies { IfOk result
-        (λ found. All (IsTouchOf (length bodies.now)) (kept_touches found.manifolds)) }
+        (λ found. found.collisions ≡ collisions_of_bodies scene.now.fixtures bodies.now kept) }
+    ensures touches { IfOk result (λ found. kept_touches found.collisions.manifolds
+        ≡ touches_of_scene scene.now bodies.now) }
+    ensures bodies { IfOk result (λ found. All (IsTouchOf (length bodies.now))
+        (kept_touches found.collisions.manifolds)) }
+    ensures same { IfOk result (λ found. HaveSameFirst found.same (map key_of (kept_touches kept))
+        (map key_of (kept_touches found.collisions.manifolds))) }
     ensures no_memory { bodies.now ≡ [] → IsOk result }
 {
     kept.update(collider, alloc, scene, bodies, moved)
@@ -60,7 +65,8 @@ fn find_collisions<P: Collider>(
 ///
 /// The world has to be the one that the last step with `work` left, unless `work` knows nothing of
 /// moved bodies. Only bodies that may have moved, and those that commands are for, are compared
-/// with how they stood. [`step_by`] has no such condition.
+/// with how they stood, and of the contacts' keys only those from the first pair on that has other
+/// features. [`step_by`] has no such condition.
 pub fn step_next<P: Collider, C: Crew>(
     collider: &P,
     alloc: Global,
@@ -72,7 +78,7 @@ pub fn step_next<P: Collider, C: Crew>(
 ) -> Result<Changes, StepError>
     requires can { P.can_collide collider.now }
     requires world { length world.old.bodies ≡ length scene.now.fixtures }
-    requires follows { KnowsMoved scene.now world.old.bodies work.old }
+    requires follows { KnowsMoved scene.now world.old work.old }
     ensures step { IsStep scene.now world.old payloads.now work.old work.new world.new result }
     ensures called { let islands = islands_of_tick scene.now world.old payloads.now in
         OnOk result (C.is_called crew.old islands crew.new) }
@@ -93,9 +99,20 @@ pub fn step_next<P: Collider, C: Crew>(
             return Err(StepError::from(error));
         }
     };
-    match finish(alloc, scene, world, &found, work, crew, &mut changes) {
+    let known = if is_known { found.same } else { 0 };
+    let collisions = found.collisions;
+    match finish(
+        alloc,
+        scene,
+        world,
+        &collisions,
+        known,
+        work,
+        crew,
+        &mut changes,
+    ) {
         Ok(()) => {
-            work.end_tick(found);
+            work.end_tick(collisions);
             Ok(changes)
         }
         Err(error) => {
@@ -106,7 +123,7 @@ pub fn step_next<P: Collider, C: Crew>(
 }
 
 /// [`step_next`] of any world: which of its bodies may have moved since contact points were kept in
-/// `work` is not known, so that all are compared.
+/// `work` is not known, so that all bodies, and the keys of all contacts, are compared.
 pub fn step_by<P: Collider, C: Crew>(
     collider: &P,
     alloc: Global,

@@ -22,7 +22,8 @@ pub struct Work {
     manifolds: Manifolds,
     /// The bodies that may have moved since the contact points were kept, if that is known.
     moved: Vec<usize>,
-    /// Whether it is known which bodies may have moved.
+    /// Whether it is known which bodies may have moved, and that the contacts of the world have the
+    /// keys of the kept points.
     is_known: bool,
     /// The memory for what the next step changes.
     spare_changes: Changes,
@@ -102,8 +103,9 @@ impl Work {
         &self.manifolds
     }
 
-    /// Forgets which bodies may have moved, so that the next step compares all. Needed before a
-    /// [`step_next`](crate::step_next) of another world than the last step left. Takes no memory.
+    /// Forgets which bodies may have moved, so that the next step compares all bodies, and the keys
+    /// of all contacts. Needed before a [`step_next`](crate::step_next) of another world than the
+    /// last step left. Takes no memory.
     pub fn forget_moved(&mut self)
         ensures { self.new ≡ record self.old { is_known = false } }
     {

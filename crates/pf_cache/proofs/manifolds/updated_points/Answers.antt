@@ -1,7 +1,10 @@
-use Rattle.std.proofs.Common.{◌≡◌, ◌++◌, ◌∙◌, ap, ap₂, map, take, arith}
+use Rattle.std.proofs.Common.{◌≡◌, ◌++◌, ◌∙◌, ap, ap₂, map, subst, take, arith}
 use Rattle.std.specs.Prelude.{drop}
 use Rattle.std.proofs.lemmas.List.{with_items_is}
+use Rattle.pf_manifold.specs.Key.{key_of}
+use Rattle.pf_cache.specs.Contact.{HaveSameFirst}
 use Rattle.pf_cache.specs.Spans.{Span, computed_count_by_flags}
+use Rattle.pf_cache.proofs.FirstKeys.{same_longer}
 use Rattle.pf_cache.proofs.Keeping.{ascend_behind, counts_add, others, whole_points, whole_spans}
 use Rattle.pf_cache.proofs.Refreshing.{placed_end}
 use Rattle.pf_cache.proofs.Updating.{pairs_of_scene, same_behind}
@@ -66,3 +69,14 @@ returns-clause-computed c =
     rw (others pairs i, c.deref-2.ensures.value) at c.in_ok-rest.ensures.computed in
     let sum = counts_add kept flags pairs i in
     omega (arith, first, second, sum)
+
+pub returns-clause-same : goal.returns-clause-same
+returns-clause-same c =
+    let done = c.refresh-done.result in
+    let touches = c.refresh-done.new.touches in
+    let touches_are =
+    with_items_is c.args.kept_touches touches (c.refresh-done.auto.touches ∙ c.deref_mut.ensures.len) in
+    same_longer done.same done.points (map key_of c.args.kept_touches.items) touches c.deref-5.result.now _ c.refresh-done.ensures.same_points
+    (subst (λ ts. HaveSameFirst done.same (map key_of ts) (map key_of touches)) c.deref_mut.ensures.value c.refresh-done.ensures.same)
+    (c.in_ok-extend_from_slice-2.ensures.items
+    ∙ ap (λ xs. xs ++ c.deref-5.result.now) (c.truncate-2.ensures.items ∙ ap (take done.points) touches_are))

@@ -1,25 +1,29 @@
-use Rattle.std.proofs.Common.{◌≡◌, ◌<◌, ◌∙◌, ◌++◌, ℕ, List, ap, ap₂, false, length, subst, sym}
+use Rattle.std.proofs.Common.{◌≡◌, ◌<◌, ◌∙◌, ◌++◌, ℕ, List, ap, ap₂, false, length, map, subst, sym}
 use Rattle.std.specs.Prelude.{All}
 use Rattle.std.proofs.lemmas.Bool.{true≢false}
 use Rattle.std.proofs.lemmas.List.{with_items_is}
 use Rattle.std.specs.Vec.{with_items}
 use Rattle.pf_shapes.specs.Body.{BodyState}
-use Rattle.pf_cache.specs.Contact.{Contact}
+use Rattle.pf_manifold.specs.Key.{key_of}
+use Rattle.pf_cache.specs.Contact.{Contact, HaveSameFirst}
 use Rattle.pf_broad.specs.Pairs.{all_bounds}
 use Rattle.pf_commands.specs.Payload.{body_of}
-use Rattle.pf_cache.specs.Manifolds.{Collisions, Manifolds, no_manifolds, placed_shapes}
+use Rattle.pf_cache.specs.Manifolds.{Collisions, Manifolds, kept_touches, no_manifolds, placed_shapes}
 use Rattle.pf_cache.specs.PlacedBodies.{HaveStayed, bodies_of}
 use Rattle.pf_islands.specs.Split.{Island}
 use Rattle.pf_step.specs.Activity.{islands_of_bodies}
 use Rattle.pf_step.specs.Changes.{AreAdded, BodyChange, bodies_before, changes_by_commands, numbers_of, world_before}
 use Rattle.pf_step.specs.Commands.{after_commands}
-use Rattle.pf_step.specs.Step.{collisions_of_bodies, step, world_after}
+use Rattle.pf_step.specs.Step.{collisions_of_bodies, step, touches_of_scene, world_after}
 use Rattle.pf_step.specs.Stepping.{FailsBy}
 use Rattle.pf_step.specs.Work.{Work, moved_bodies, work_after_tick}
 use Rattle.pf_step.specs.World.{World}
 use Rattle.pf_step.proofs.Commanding.{commands_length, commands_undone}
-use Rattle.pf_step.proofs.Following.{all_within, none_noted, none_there, other_error, stayed_after_commands, stayed_after_step}
+use Rattle.pf_cache.proofs.FirstKeys.{none_same}
+use Rattle.pf_step.proofs.Contacts.{step_keys}
+use Rattle.pf_step.proofs.Following.{all_within, keys_after_commands, none_noted, none_there, other_error, stayed_after_commands, stayed_after_step}
 use Rattle.pf_step.proofs.Lengths.{step_length}
+use Rattle.pf_step.proofs.step.step_next.Goals.{then-is_known, else-is_known}
 use Rattle.pf_step.proofs.step.step_next.Goals as goal
 
 pub returns-in-Ok-finish-clause-step : goal.returns-in-Ok-finish-clause-step
@@ -49,6 +53,24 @@ returns-in-Ok-finish-clause-step g c =
     } =
     c.list_moved.ensures.rest
     ∙ (λ i. record ((c.take_changes-changes.ensures.work ∙ c.take_manifolds-kept.ensures.rest) i) { moved = c.list_moved.new.self.moved }) in
+    let stand =
+    subst (λ (x : List ℕ × Manifolds). All (λ number. number < length c.finish.new.world.bodies) x.0
+    × HaveStayed x.0 (bodies_of x.1) s.fixtures c.finish.new.world.bodies)
+    (λ i. (sym moved_is i, sym manifolds_is i))
+    (stayed_after_step s w.bodies b c.finish.new.world.bodies c.in-Ok.found.collisions.manifolds c.note_commanded.new.self.bodies
+    c.finish.new.changes.bodies (ap (λ (x : World). length x.bodies) value ∙ step_length s w payloads c.requires.world ∙ sym c.requires.world)
+    (ap (λ (x : Collisions). x.manifolds.shapes) c.in-Ok.ensures.value ∙ ap (placed_shapes s.fixtures) c.deref-2.ensures.value)
+    (ap (λ (x : Collisions). x.manifolds.bounds) c.in-Ok.ensures.value ∙ ap (all_bounds s.fixtures) c.deref-2.ensures.value)
+    (subst (All (λ (x : BodyChange). x.number < length w.bodies)) (sym notes) (all_within w.bodies body_of payloads))
+    (subst (λ n. AreAdded n c.note_commanded.new.self.bodies c.finish.new.changes.bodies)
+    (ap length commanded ∙ commands_length s.fixtures w.bodies payloads) c.in-Ok-finish.ensures.ending.added)
+    (commands_undone s.fixtures w.bodies _ payloads _ notes commanded)
+    (ap (λ (x : World). x.bodies) c.in-Ok-finish.ensures.ending.before
+    ∙ commands_undone s.fixtures w.bodies _ payloads _ notes commanded)) in
+    let keys : map (λ c. c.key) c.finish.new.world.contacts ≡ map key_of (kept_touches c.end_tick.new.self.manifolds) =
+    ap (λ (x : World). map (λ (y : Contact). y.key) x.contacts) value ∙ step_keys s w payloads
+    ∙ ap (λ bs. map key_of (touches_of_scene s bs)) (sym (c.deref-2.ensures.value ∙ commanded))
+    ∙ ap (map key_of) (sym c.in-Ok.ensures.touches) ∙ ap (λ m. map key_of (kept_touches m)) (sym manifolds_is) in
     record {
       value = value;
       before = c.in-Ok-finish.ensures.ending.before
@@ -60,20 +82,7 @@ returns-in-Ok-finish-clause-step g c =
           ∙ (λ i. work_after_tick ((c.in-Ok.ensures.value ∙ found) i) (sym (ap (λ (x : Work). x.moved) c.end_tick.ensures) i)
           ((c.finish.ensures.work ∙ (λ j. record (work_before j) { moved = c.finish.new.work.moved })) i));
       not_counted = tt;
-      follows = λ known.
-          subst (λ (x : List ℕ × Manifolds). All (λ number. number < length c.finish.new.world.bodies) x.0
-          × HaveStayed x.0 (bodies_of x.1) s.fixtures c.finish.new.world.bodies)
-          (λ i. (sym moved_is i, sym manifolds_is i))
-          (stayed_after_step s w.bodies b c.finish.new.world.bodies c.in-Ok.found.manifolds c.note_commanded.new.self.bodies
-          c.finish.new.changes.bodies (ap (λ (x : World). length x.bodies) value ∙ step_length s w payloads c.requires.world ∙ sym c.requires.world)
-          (ap (λ (x : Collisions). x.manifolds.shapes) c.in-Ok.ensures.value ∙ ap (placed_shapes s.fixtures) c.deref-2.ensures.value)
-          (ap (λ (x : Collisions). x.manifolds.bounds) c.in-Ok.ensures.value ∙ ap (all_bounds s.fixtures) c.deref-2.ensures.value)
-          (subst (All (λ (x : BodyChange). x.number < length w.bodies)) (sym notes) (all_within w.bodies body_of payloads))
-          (subst (λ n. AreAdded n c.note_commanded.new.self.bodies c.finish.new.changes.bodies)
-          (ap length commanded ∙ commands_length s.fixtures w.bodies payloads) c.in-Ok-finish.ensures.ending.added)
-          (commands_undone s.fixtures w.bodies _ payloads _ notes commanded)
-          (ap (λ (x : World). x.bodies) c.in-Ok-finish.ensures.ending.before
-          ∙ commands_undone s.fixtures w.bodies _ payloads _ notes commanded));
+      follows = λ known. (stand.0, stand.1, keys);
     }
 
 pub returns-in-Ok-finish-clause-called : goal.returns-in-Ok-finish-clause-called
@@ -105,7 +114,7 @@ stayed g c =
     c.take_changes-changes.ensures.changes (c.deref.ensures.value ∙ of_world) in
     let work = c.args.work.now in
     let listed_before = ap (λ (x : Work). x.moved) (c.take_changes-changes.ensures.work ∙ c.take_manifolds-kept.ensures.rest) in
-    stayed_after_commands s w.bodies payloads work c.take_manifolds-kept.result.0 c.moved.result.now c.bodies.result.now c.deref-2.result.now
+    stayed_after_commands s w payloads work c.take_manifolds-kept.result.0 c.moved.result.now c.bodies.result.now c.deref-2.result.now
     c.requires.follows c.take_manifolds-kept.ensures.taken.0 (c.bodies.ensures ∙ notes) (c.deref-2.ensures.value ∙ commanded)
     (c.moved.ensures ∙ c.in_ok-list_moved.ensures.listed
     ∙ (λ i. moved_bodies (c.take_manifolds-kept.ensures.taken.1 i) (listed_before i) ((ap length (c.as_slice-count.ensures.value ∙ of_world)) i)
@@ -116,6 +125,24 @@ find_collisions-requires-clause-moved g c = (stayed g c).0
 
 pub find_collisions-requires-clause-others : goal.find_collisions-requires-clause-others
 find_collisions-requires-clause-others g c = (stayed g c).1
+
+-- the first contacts have the keys of the first points
+pub finish-requires-clause-known : goal.finish-requires-clause-known
+finish-requires-clause-known g c =
+    let s = c.args.scene.now in
+    let w = c.args.world.now in
+    let found = c.in-Ok.found in
+    let points = map key_of (kept_touches found.collisions.manifolds) in
+    let contacts = ap (λ (x : World). x.contacts) c.world.view_is in
+    subst (λ (cs : List Contact). HaveSameFirst c.if-is_known.known (map (λ x. x.key) cs) points) (sym contacts)
+    (elim c.if-is_known.branch [
+      | then-is_known x ↦
+          rw x.known-is
+          (keys_after_commands s w c.args.work.now c.take_manifolds-kept.result.0 found.collisions.manifolds found.same
+          c.requires.follows (sym c.take_manifolds-kept.ensures.taken.1 ∙ x.if-is_known.true) c.take_manifolds-kept.ensures.taken.0
+          c.in-Ok.ensures.same)
+      | else-is_known x ↦ none_same _ (map (λ (y : Contact). y.key) w.contacts) points x.known-is
+    ])
 
 pub returns-in_err-list_moved-clause-no_memory : goal.returns-in_err-list_moved-clause-no_memory
 returns-in_err-list_moved-clause-no_memory g c none _ =

@@ -16,7 +16,7 @@ add_next-requires-clause-old c =
 pub add_next-requires-clause-touches : goal.add_next-requires-clause-touches
 add_next-requires-clause-touches c =
     let touches = c.args.touches.now in
-    subst AreTouches (sym (rest_is touches c.same_keys-same.result)) (rest_are_touches c.same_keys-same.result touches c.requires)
+    subst AreTouches (sym (rest_is touches c.same_keys-same.result)) (rest_are_touches c.same_keys-same.result touches c.requires.touches)
 
 inside : (c : goal.After-add_next) → c.same_keys-same.result ≤ length c.self.inside.list.items
 inside c = subst (λ cs. c.same_keys-same.result ≤ length cs) c.deref.ensures.value c.same_keys-same.ensures.contacts
@@ -31,7 +31,7 @@ next c =
     ∙ ap₂ (λ xs ys. xs ++ ys) c.in_ok-split_into.ensures.first
     (ap₂ next_contacts (c.deref-2.ensures.value ∙ c.in_ok-split_into.ensures.moved)
     (rest_is c.args.touches.now c.same_keys-same.result))
-    ∙ next_from c.self.inside.list.items c.args.touches.now c.same_keys-same.result c.requires (inside c)
+    ∙ next_from c.self.inside.list.items c.args.touches.now c.same_keys-same.result c.requires.touches (inside c)
     c.same_keys-same.ensures.touches (keys c)
 
 pub returns-clause-value : goal.returns-clause-value
@@ -39,7 +39,7 @@ returns-clause-value c = next c ∙ ap (λ cs. next_contacts cs c.args.touches.n
 
 pub invariant_of-self-2 : goal.invariant_of-self-2
 invariant_of-self-2 c =
-    subst AreContacts (sym (next c)) (updated_are_contacts c.self.inside.list.items c.args.touches.now c.requires)
+    subst AreContacts (sym (next c)) (updated_are_contacts c.self.inside.list.items c.args.touches.now c.requires.touches)
 
 pub invariant_of-change-2 : goal.invariant_of-change-2
 invariant_of-change-2 c = (
@@ -58,6 +58,6 @@ returns-clause-before c =
       behind = c.in_ok-split_into.ensures.moved i;
     })
     (next c)
-    ∙ before_next c.self.inside.list.items c.args.touches.now c.same_keys-same.result c.requires (inside c)
+    ∙ before_next c.self.inside.list.items c.args.touches.now c.same_keys-same.result c.requires.touches (inside c)
     c.same_keys-same.ensures.touches (keys c) c.self.invariant
     ∙ c.self.view_is

@@ -1,13 +1,17 @@
-use Rattle.std.proofs.Common.{◌≡◌, ⊎_elim, ◌∙◌, ◌<◌, true, All, ap, arith, length, map, subst, sym}
+use Rattle.std.proofs.Common.{◌≡◌, ⊎_elim, ◌∙◌, ◌<◌, true, All, List, ap, arith, length, map, subst, sym}
 use Rattle.std.proofs.lemmas.Bool.{cases_eq}
 use Rattle.std.specs.List.{flat_map}
 use Rattle.pf_shapes.specs.Pair.{IsPairOf}
 use Rattle.pf_broad.specs.Loose.{AreLoosened, contains}
 use Rattle.pf_broad.specs.Pairs.{all_bounds, bounds_at, no_bounds, pairs}
-use Rattle.pf_cache.specs.Manifolds.{computed_count, placed_shapes, points_of_pair}
+use Rattle.pf_manifold.specs.Key.{key_of}
+use Rattle.pf_manifold.specs.Touches.{Touch}
+use Rattle.pf_cache.specs.Contact.{HaveSameFirst}
+use Rattle.pf_cache.specs.Manifolds.{computed_count, kept_touches, placed_shapes, points_of_pair}
 use Rattle.pf_cache.specs.PlacedBodies.{HaveStayed, PlacedBodies, bodies_of}
 use Rattle.pf_cache.specs.Spans.{Span, computed_count_by_flags, spans_from, unmoved_flags}
 use Rattle.pf_cache.proofs.Bounded.{as_many_bounds}
+use Rattle.pf_cache.proofs.FirstKeys.{none_same}
 use Rattle.pf_cache.proofs.Keeping.{are_kept, are_placed, counted, kept_spans}
 use Rattle.pf_cache.proofs.Refreshing.{pairs_of_spans}
 use Rattle.pf_cache.proofs.Standing.{same_at}
@@ -155,3 +159,34 @@ returns-clause-computed g c =
     ] in
     count ∙ (λ i. computed_count_by_flags (c.self.view_is i).pairs (unmoved_flags (c.self.view_is i).shapes shapes) found)
     ∙ counted c.args.self shapes found ∙ ap (computed_count c.args.self shapes) found_are
+
+pub returns-clause-same : goal.returns-clause-same
+returns-clause-same g c =
+    let kept = c.self.inside.touches.items in
+    let points = c.match-computed_if_many.points in
+    let old = c.self.invariant.0.whole ∙ ap kept_touches c.self.view_is in
+    let shapes = placed_shapes c.args.scene.now.fixtures c.args.bodies.now in
+    let shapes_are = ap (λ (p : PlacedBodies). p.shapes) c.in_ok-placed.ensures.placed in
+    let found = c.in_ok-pairs.pairs.items in
+    let found_are : found ≡ pairs (all_bounds c.args.scene.now.fixtures c.args.bodies.now) =
+    c.in_ok-pairs.ensures.pairs
+    ∙ ap pairs (c.bounds.ensures.value ∙ ap (λ (p : PlacedBodies). p.bounds) c.in_ok-placed.ensures.placed) in
+    let touches_are : points.touches.items ≡ flat_map (points_of_pair shapes) found =
+    elim c.match-computed_if_many.branch [
+      | in-Some+in_ok-points-in-Some w ↦
+          rw w.points-is
+          (w.in_ok-points-in-Some.ensures.touches ∙ ap (flat_map (points_of_pair shapes)) w.deref-in-Some.ensures.value)
+      | in-None+in_ok-points-in-None w ↦
+          rw w.points-is
+          (w.in_ok-points-in-None.ensures.touches
+          ∙ (λ i. flat_map (points_of_pair ((w.shapes-shapes.ensures.value ∙ shapes_are) i)) (w.deref-in-None.ensures.value i)))
+    ] in
+    let new = touches_are ∙ ap (flat_map (points_of_pair shapes)) found_are ∙ sym (ap kept_touches (returns-clause-manifolds g c)) in
+    let keys : HaveSameFirst points.same (map key_of kept) (map key_of points.touches.items) =
+    elim c.match-computed_if_many.branch [
+      | in-Some+in_ok-points-in-Some w ↦
+          none_same points.same (map key_of kept) (map key_of points.touches.items)
+          (rw w.points-is w.in_ok-points-in-Some.ensures.same)
+      | in-None+in_ok-points-in-None w ↦ rw w.points-is w.in_ok-points-in-None.ensures.same
+    ] in
+    subst (λ (ts : List Touch × List Touch). HaveSameFirst points.same (map key_of ts.0) (map key_of ts.1)) (λ i. (old i, new i)) keys

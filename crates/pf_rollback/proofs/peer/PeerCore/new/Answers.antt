@@ -9,6 +9,6 @@ invariant_of-result c = (
   core_new _ _ _ _ c.in_ok-start.start c.requires.player c.new-2.ensures
       c.in_ok-start.ensures.value c.in_ok-start.ensures.bodies c.in_ok-snapshots.ensures.base
       c.in_ok-snapshots.ensures.worlds _ c.in_ok-snapshots.ensures.ticks,
-  unknown_follows c.args.scene (settled_world c.in_ok-snapshots.snapshots).bodies c.new-3.result
+  unknown_follows c.args.scene (settled_world c.in_ok-snapshots.snapshots) c.new-3.result
       (ap (λ (w : Work). w.is_known) c.new-3.ensures),
 )
