@@ -1,22 +1,18 @@
 -- Passes level by level, each level by its bundle.
-use Rattle.std.proofs.Common.{◌≡◌, ◌∙◌, ℕ, ◌+◌, ◌<◌, Some, List, [], length, sym, ap, subst, arith}
+use Rattle.std.proofs.Common.{◌≡◌, ◌∙◌, ℕ, zero, suc, ◌+◌, ◌<◌, ◌≤◌, Some, List, [], ◌∷◌, drop, length, take, sym, ap, subst, arith}
 use Rattle.std.proofs.lemmas.List.Elements.{All-get_or, All-weaker}
-use Rattle.std.proofs.lemmas.List.{get_or_default}
-use Rattle.std.proofs.lemmas.Option.{slice_get-get_or}
+use Rattle.std.proofs.lemmas.List.{length-drop, length-take, take_all}
+use Rattle.std.proofs.lemmas.Option.{none-some, slice_get-get_or}
 use Rattle.std.specs.Prelude.{All, slice_get, slice_index_or}
 use Rattle.pf_bundles.specs.Bundle.{Bundle}
 use Rattle.pf_bundles.specs.LaneRow.{LaneRow}
 use Rattle.pf_bundles.specs.Numbers.{Numbers}
-use Rattle.pf_solver.specs.Beside.{velocities_of}
-use Rattle.pf_solver.specs.declared.velocities.TheConstants.{ROUNDS}
-use Rattle.pf_solver.specs.Impulse.{after_round, after_warm_start}
-use Rattle.pf_solver.specs.Order.{AreLevelsOf}
+use Rattle.pf_solver.specs.Order.{solved_by_levels}
 use Rattle.pf_solver.specs.Velocities.{Batch, Step}
-use Rattle.pf_batches.specs.Numbers.{AreAfter, AreBundlesFor, AreNumbersOf, AreSeatsOf, HoldEach, IsBundleOn, batch_with, numbers_at_once, numbers_of}
+use Rattle.pf_batches.specs.Numbers.{AreBundlesFor, AreNumbersAfter, AreNumbersOf, AreSeatsOf, HoldEach, IsBundleOn, numbers_at_once}
 use Rattle.pf_bundles.specs.Seats.{AreAsMany}
 use Rattle.pf_batches.proofs.Bundles.{seats_stay}
-use Rattle.pf_batches.proofs.Levels.{before_passes, level_at_once_more, pass_more, velocities_by_levels}
-use Rattle.pf_batches.proofs.Numbers.{numbers_fit}
+use Rattle.pf_batches.proofs.Levels.{level_more}
 
 -- a bundle of a list, on numbers that are as many as before
 bundle_stays : (rows : List LaneRow) (before now : Numbers) (bundle : Bundle) → AreAsMany before now
@@ -46,38 +42,66 @@ many_after before now after a b = record {
 module _ (step : Step) (rows : List LaneRow) (bundles : List Bundle) (before : Numbers) where
   abbrev pub AreSolvedTo : ℕ → Numbers → Type 0
   AreSolvedTo i now =
-      (b : Batch) (levels : List (List ℕ)) (n : Numbers) (k : ℕ)
-      → AreBundlesFor b levels rows bundles → AreAfter step b levels n k 0 before
-      → AreAfter step b levels n k i now
+      (b after : Batch) (levels : List (List ℕ))
+      → AreBundlesFor b levels rows bundles → AreNumbersAfter b after before
+      → AreNumbersAfter b (solved_by_levels (take i levels) step after) now
 
   pub bundle_more : (i : ℕ) (bundle : Bundle) (now after : Numbers) → i < length bundles → bundle ≡ slice_index_or bundles i bundle
       → ((b : Batch) (level : List ℕ) → AreNumbersOf b now → AreSeatsOf b.rows level bundle.seats → HoldEach rows b.rows
       → after ≡ numbers_at_once level step b.rows now)
       → AreSolvedTo i now → AreSolvedTo (i + 1) after
-  bundle_more i bundle now after within is solved up b levels n k for start =
-      let done = up b levels n k for start in
+  bundle_more i bundle now after within is solved up b x levels for start =
+      let done = up b x levels for start in
       let level = slice_index_or levels i [] in
       let in_levels : i < length levels = omega (arith, within, for.count) in
       let here : slice_get levels i ≡ Some level = slice_get-get_or levels i [] in_levels in
       let own : slice_get bundles i ≡ Some bundle = slice_get-get_or bundles i bundle within ∙ ap (λ x. Some x) (sym is) in
-      subst (AreAfter step b levels n k (i + 1)) (sym (solved b level done.numbers (for.seats i level bundle here own) for.hold))
-      (level_at_once_more step b levels n k i now done level in_levels (get_or_default levels i [] level in_levels))
+      subst (AreNumbersAfter b (solved_by_levels (take (i + 1) levels) step x))
+      (sym (solved b level done.numbers (for.seats i level bundle here own) for.hold))
+      (level_more step b levels x i [] now in_levels done)
 
   -- after all bundles a pass is done
   pub pass_done : (i : ℕ) (now : Numbers) → length bundles < i + 1 → AreSolvedTo i now
-      → (b : Batch) (levels : List (List ℕ)) (n : Numbers) (k : ℕ)
-      → AreBundlesFor b levels rows bundles → AreAfter step b levels n k 0 before
-      → AreAfter step b levels n (k + 1) 0 now
-  pass_done i now over up b levels n k for start =
-      pass_more step b levels n k i now (up b levels n k for start) (omega (arith, over, for.count))
+      → (b after : Batch) (levels : List (List ℕ))
+      → AreBundlesFor b levels rows bundles → AreNumbersAfter b after before
+      → AreNumbersAfter b (solved_by_levels levels step after) now
+  pass_done i now over up b after levels for start =
+      subst (λ some. AreNumbersAfter b (solved_by_levels some step after) now) (take_all i levels (omega (arith, over, for.count)))
+      (up b after levels for start)
 
--- warm starting and the rounds
-pub velocity_phase : (b : Batch) (levels : List (List ℕ)) (before warm now : Numbers) → before ≡ numbers_of b
-    → (AreAfter after_warm_start b levels (numbers_of b) 0 0 before → AreAfter after_warm_start b levels (numbers_of b) 1 0 warm)
-    → (AreNumbersOf b warm → AreAfter after_round b levels warm ROUNDS 0 now)
-    → (AreLevelsOf b levels → batch_with now b ≡ velocities_of b) × AreNumbersOf b now
-velocity_phase b levels before warm now same start rest =
-    let begun = before_passes after_warm_start b levels (numbers_of b) (numbers_fit b) in
-    let started = start (subst (AreAfter after_warm_start b levels (numbers_of b) 0 0) (sym same) begun) in
-    let done = rest started.numbers in
-    (λ of. velocities_by_levels b levels warm now of started done, done.numbers)
+-- what stands in the first part of a list stands at the same place in the list
+in_first : {X : Type 0} (xs : List X) (n i : ℕ) (x : X) → slice_get (take n xs) i ≡ Some x → slice_get xs i ≡ Some x
+in_first [] zero i x at = at
+in_first [] (suc n) i x at = at
+in_first (y ∷ xs) zero i x at = absurd (none-some x at)
+in_first (y ∷ xs) (suc n) zero x at = at
+in_first (y ∷ xs) (suc n) (suc i) x at = in_first xs n i x at
+
+-- what stands in the rest stands behind the first part
+in_rest : {X : Type 0} (xs : List X) (n i : ℕ) (x : X) → slice_get (drop n xs) i ≡ Some x → slice_get xs (n + i) ≡ Some x
+in_rest [] zero i x at = absurd (none-some x at)
+in_rest [] (suc n) i x at = absurd (none-some x at)
+in_rest (y ∷ xs) zero i x at =
+    let same : i ≡ 0 + i = omega arith in subst (λ k. slice_get (y ∷ xs) k ≡ Some x) same at
+in_rest (y ∷ xs) (suc n) i x at =
+    let same : suc (n + i) ≡ suc n + i = omega arith in
+    subst (λ k. slice_get (y ∷ xs) k ≡ Some x) same (in_rest xs n i x at)
+
+-- the first bundles and the others are those of the first levels and of the others
+module _ (b : Batch) (levels : List (List ℕ)) (rows : List LaneRow) (bundles : List Bundle) (early : ℕ)
+    (within : early ≤ length bundles) (for : AreBundlesFor b levels rows bundles) where
+  pub early_for : AreBundlesFor b (take early levels) rows (take early bundles)
+  early_for = record {
+    count = omega (arith, length-take early bundles, length-take early levels, for.count);
+    seats = λ i level bundle here own.
+        for.seats i level bundle (in_first levels early i level here) (in_first bundles early i bundle own);
+    hold = for.hold;
+  }
+
+  pub late_for : AreBundlesFor b (drop early levels) rows (drop early bundles)
+  late_for = record {
+    count = omega (arith, length-drop early bundles, length-drop early levels, for.count);
+    seats = λ i level bundle here own.
+        for.seats (early + i) level bundle (in_rest levels early i level here) (in_rest bundles early i bundle own);
+    hold = for.hold;
+  }

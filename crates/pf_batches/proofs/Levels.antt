@@ -1,25 +1,25 @@
 -- Levels that are solved on the numbers of a batch are solved as those of the batch.
-use Rattle.std.proofs.Common.{◌≡◌, ◌∙◌, ℕ, zero, suc, ◌+◌, ◌<◌, ◌≤◌, None, Option, Some, List, [], ◌∷◌, get_or, length, map, take, refl, sym, ap, subst, arith}
-use Rattle.std.proofs.lemmas.List.{length-map, take_all, take_more}
-use Rattle.std.proofs.lemmas.List.Elements.{All-cons, All-head, All-nil, All-tail}
+use Rattle.std.proofs.Common.{◌≡◌, ◌∙◌, ℕ, zero, suc, ◌+◌, ◌-◌, ◌<◌, None, Option, Some, List, [], ◌∷◌, drop, length, map, take, refl, sym, ap, subst, arith}
+use Rattle.std.proofs.lemmas.List.{take_more}
+use Rattle.std.proofs.lemmas.List.Elements.{All-head, All-tail}
 use Rattle.std.proofs.lemmas.List.Sums.{fold-append}
 use Rattle.std.proofs.lemmas.Option.{slice_get-get_or}
-use Rattle.std.specs.List.{concat, fold, range_with_len}
+use Rattle.std.specs.List.{fold}
 use Rattle.std.specs.Prelude.{All, slice_get, slice_index_or, slice_set}
 use Rattle.pf_rows.specs.Row.{Row}
-use Rattle.pf_levels.proofs.Places.{All-left, All-reordering, All-right}
 use Rattle.pf_levels.specs.Levels.{AreLevels, pair_of}
 use Rattle.pf_solver.specs.declared.velocities.TheConstants.{ROUNDS}
 use Rattle.pf_solver.specs.Beside.{velocities_of}
 use Rattle.pf_solver.specs.Impulse.{ContactState, after_round, after_warm_start}
-use Rattle.pf_solver.specs.Order.{AreLevelsOf, passes_in_levels, solved_at_once, stored_where}
+use Rattle.pf_solver.specs.Order.{AreLevelsOf, DoLateAndEarly, after_overlapping_passes, passes_in_levels, solved_at_once, solved_by_levels, stored_where}
 use Rattle.pf_solver.specs.Velocities.{Batch, Step, bodies_with, pass, passes, row_with}
-use Rattle.pf_solver.proofs.Levels.{passes_by_levels}
+use Rattle.pf_solver.proofs.Levels.{pairs_passed, passes_by_levels}
+use Rattle.pf_solver.proofs.Overlap.{passes_by_overlap}
 use Rattle.pf_solver.proofs.Passes.{passes_more, passes_none}
-use Rattle.pf_batches.specs.Numbers.{AreAfter, AreNumbersOf, AreResults, AreRowsAt, batch_with, numbers_after, numbers_after_all, numbers_at_once, numbers_in_levels, numbers_of, numbers_where, result_at, seat_of, seats_of, solved_by_levels}
+use Rattle.pf_batches.specs.Numbers.{AreNumbersAfter, AreNumbersOf, AreResults, AreRowsAt, batch_with, numbers_after, numbers_after_all, numbers_at_once, numbers_in_levels, numbers_of, numbers_where, result_at, seat_of, seats_of}
 use Rattle.pf_bundles.specs.Numbers.{Numbers}
 use Rattle.pf_bundles.specs.Bundle.{Seat}
-use Rattle.pf_batches.proofs.Numbers.{fit_after, impulses_none, numbers_back, own_numbers, pairs_loaded, row_read, row_stored, state_read}
+use Rattle.pf_batches.proofs.Numbers.{fit_after, impulses_none, numbers_fit, own_numbers, pairs_loaded, row_read, row_stored, state_read}
 
 -- ---- rows and results by their places in the level
 
@@ -59,33 +59,6 @@ rows_at_places rows (p ∷ places) d within = (
   slice_get-get_or rows p d (All-head (λ x. x < length rows) p places within),
   rows_at_places rows places d (All-tail (λ x. x < length rows) p places within),
 )
-
--- places of a range are below its end
-below_end : (n k : ℕ) → All (λ p. p < k + n) (range_with_len k n)
-below_end zero k = All-nil (λ p. p < k + zero)
-below_end (suc n) k =
-    let same : k + 1 + n ≡ k + suc n = omega arith in
-    All-cons (λ p. p < k + suc n) k (range_with_len (k + 1) n) (omega arith)
-    (subst (λ end. All (λ p. p < end) (range_with_len (k + 1) n)) same (below_end n (k + 1)))
-
--- what holds of all places of some levels holds of those of each level
-all_of_levels : (P : ℕ → Type 0) (levels : List (List ℕ)) → All P (concat levels) → All (All P) levels
-all_of_levels P [] all = All-nil (All P)
-all_of_levels P (g ∷ levels) all =
-    All-cons (All P) g levels (All-left P g (concat levels) all)
-    (all_of_levels P levels (All-right P g (concat levels) all))
-
--- the places of a level of a batch are below the number of its rows
-pub places_within : (b : Batch) (levels : List (List ℕ)) (i : ℕ) (level : List ℕ) → AreLevelsOf b levels
-    → i < length levels → level ≡ slice_index_or levels i level → All (λ p. p < length b.rows) level
-places_within b levels i level of within at =
-    let P : ℕ → Type 0 = λ p. p < length b.rows in
-    let n = length (map pair_of b.rows) in
-    let long : n ≡ length b.rows = length-map b.rows pair_of in
-    let below : All P (range_with_len 0 n) =
-    subst (λ end. All (λ p. p < end) (range_with_len 0 n)) (omega (arith, long)) (below_end n 0) in
-    subst (All P) (sym at)
-    (all_of_levels P levels (All-reordering P (range_with_len 0 n) (concat levels) of.order.all below) i level within)
 
 -- after one more row is stored
 stored_next : (seats : List Seat) (states : List ContactState) (n : Numbers) (k : ℕ) (seat : Seat) (m : ContactState)
@@ -197,7 +170,7 @@ module _ (step : Step) (b : Batch) where
 
 -- ---- levels one after the other
 
-module _ (step : Step) (b : Batch) (levels : List (List ℕ)) where
+module _ (step : Step) (b : Batch) where
   -- levels one after the other on the numbers are those of the batch
   levels_on_numbers : (some : List (List ℕ)) (n : Numbers) → AreNumbersOf b n
       → batch_with (fold (λ now level. numbers_at_once level step b.rows now) n some) b
@@ -213,93 +186,63 @@ module _ (step : Step) (b : Batch) (levels : List (List ℕ)) where
   fit_by_levels [] n fit = fit
   fit_by_levels (g ∷ some) n fit = fit_by_levels some (numbers_at_once g step b.rows n) (fit_at_once step b n fit g)
 
-  -- one level more
-  solved_more : (x : Batch) (i : ℕ) (d : List ℕ) → i < length levels
-      → solved_by_levels (take (i + 1) levels) step x
-      ≡ solved_at_once (slice_index_or levels i d) step (solved_by_levels (take i levels) step x)
-  solved_more x i d within =
-      let f = λ (now : Batch) (level : List ℕ). solved_at_once level step now in
-      ap (fold f x) (take_more levels i d within) ∙ fold-append f x (take i levels) (get_or levels i d ∷ [])
+  -- after one level more
+  pub level_more : (levels : List (List ℕ)) (after : Batch) (i : ℕ) (d : List ℕ) (now : Numbers) → i < length levels
+      → AreNumbersAfter b (solved_by_levels (take i levels) step after) now
+      → AreNumbersAfter b (solved_by_levels (take (i + 1) levels) step after) (numbers_at_once (slice_index_or levels i d) step b.rows now)
+  level_more levels after i d now within done =
+      let f = λ (x : Batch) (level : List ℕ). solved_at_once level step x in
+      let level = slice_index_or levels i d in
+      record {
+        numbers = fit_at_once step b now done.numbers level;
+        batch =
+            level_on_numbers step b now done.numbers level
+            ∙ ap (solved_at_once level step) done.batch
+            ∙ sym (ap (fold f after) (take_more levels i d within) ∙ fold-append f after (take i levels) (level ∷ []));
+      }
 
-  -- with other numbers the levels of a batch are its levels
-  levels_still : (n : Numbers) → AreLevelsOf b levels → AreLevelsOf (batch_with n b) levels
-  levels_still n of = subst (λ pairs. AreLevels pairs levels) (sym (pairs_loaded n.impulses b.rows)) of
+  -- so many passes on the numbers
+  passes_on_numbers : (k : ℕ) (levels : List (List ℕ)) (n : Numbers) → AreNumbersOf b n
+      → AreNumbersAfter b (passes_in_levels k levels step (batch_with n b)) (numbers_in_levels k levels step b.rows n)
+  passes_on_numbers zero levels n fit = record { numbers = fit; batch = refl }
+  passes_on_numbers (suc k) levels n fit =
+      let before = numbers_in_levels k levels step b.rows n in
+      let done = passes_on_numbers k levels n fit in
+      record {
+        numbers = fit_by_levels levels before done.numbers;
+        batch = levels_on_numbers levels before done.numbers ∙ ap (solved_by_levels levels step) done.batch;
+      }
 
-  module _ (n : Numbers) where
-    -- before the first level
-    pub before_passes : AreNumbersOf b n → AreAfter step b levels n 0 0 n
-    before_passes fit = record { numbers = fit; batch = refl }
-
-    module _ (k i : ℕ) (now : Numbers) (done : AreAfter step b levels n k i now) where
-      -- one level more, by its rows
-      pub level_at_once_more : (level : List ℕ) → i < length levels → level ≡ slice_index_or levels i level
-          → AreAfter step b levels n k (i + 1) (numbers_at_once level step b.rows now)
-      level_at_once_more level within at =
-          let before = passes_in_levels k levels step (batch_with n b) in
-          let then = solved_by_levels (take i levels) step before in
-          record {
-            numbers = fit_at_once step b now done.numbers level;
-            batch =
-                level_on_numbers step b now done.numbers level
-                ∙ ap (solved_at_once level step) done.batch
-                ∙ ap (λ g. solved_at_once g step then) at
-                ∙ sym (solved_more before i level within);
-          }
-
-      -- one level more, by the results of its rows
-      pub level_more : (level : List ℕ) (found : List Row) (states : List ContactState) → i < length levels
-          → level ≡ slice_index_or levels i level → AreRowsAt b.rows level found → AreResults step now level found states
-          → AreAfter step b levels n k (i + 1) (numbers_after_all (seats_of level found) states now)
-      level_more level found states within at rows results =
-          subst (AreAfter step b levels n k (i + 1)) (sym (results_at_once step b now done.numbers level found states rows results))
-          (level_at_once_more level within at)
-
-      -- after the last level of a pass, one pass more
-      pub pass_more : length levels ≤ i → AreAfter step b levels n (k + 1) 0 now
-      pass_more over =
-          let before = passes_in_levels k levels step (batch_with n b) in
-          let more : k + 1 ≡ suc k = omega arith in
-          record {
-            numbers = done.numbers;
-            batch =
-                done.batch ∙ ap (λ some. solved_by_levels some step before) (take_all i levels over)
-                ∙ ap (λ m. passes_in_levels m levels step (batch_with n b)) (sym more);
-          }
-
-    -- so many passes level by level are as many along the list of rows
-    pub after_passes : (k : ℕ) (now : Numbers) → AreLevelsOf b levels → AreAfter step b levels n k 0 now
-        → batch_with now b ≡ passes k step (batch_with n b)
-    after_passes k now of done = done.batch ∙ passes_by_levels step k (batch_with n b) levels (levels_still n of)
-
-    -- and the numbers are those of the batch after them
-    pub numbers_after_passes : (k : ℕ) (now : Numbers) → AreLevelsOf b levels → AreAfter step b levels n k 0 now
-        → now ≡ numbers_of (passes k step (batch_with n b))
-    numbers_after_passes k now of done =
-        sym (numbers_back b now done.numbers) ∙ ap numbers_of (after_passes k now of done)
-
-    -- so many passes on the numbers
-    pub passes_on_numbers : (k : ℕ) → AreNumbersOf b n → AreAfter step b levels n k 0 (numbers_in_levels k levels step b.rows n)
-    passes_on_numbers zero fit = before_passes fit
-    passes_on_numbers (suc k) fit =
-        let before = numbers_in_levels k levels step b.rows n in
-        let done = passes_on_numbers k fit in
-        record {
-          numbers = fit_by_levels levels before done.numbers;
-          batch = levels_on_numbers levels before done.numbers ∙ ap (solved_by_levels levels step) done.batch;
-        }
+  -- so many passes level by level are as many along the list of rows
+  pub passes_of_numbers : (k : ℕ) (levels : List (List ℕ)) (n : Numbers) → AreNumbersOf b n → AreLevelsOf b levels
+      → batch_with (numbers_in_levels k levels step b.rows n) b ≡ passes k step (batch_with n b)
+  passes_of_numbers k levels n fit of =
+      (passes_on_numbers k levels n fit).batch
+      ∙ passes_by_levels step k (batch_with n b) levels
+      (subst (λ pairs. AreLevels pairs levels) (sym (pairs_loaded n.impulses b.rows)) of)
 
 -- ---- the velocity phase
 
--- warm starting and the rounds, level by level on the numbers of a batch, are its velocity phase
-pub velocities_by_levels : (b : Batch) (levels : List (List ℕ)) (warm now : Numbers) → AreLevelsOf b levels
-    → AreAfter after_warm_start b levels (numbers_of b) 1 0 warm → AreAfter after_round b levels warm ROUNDS 0 now
-    → batch_with now b ≡ velocities_of b
-velocities_by_levels b levels warm now of started done =
-    after_passes after_round b levels warm ROUNDS now of done
-    ∙ ap (passes ROUNDS after_round)
-    (after_passes after_warm_start b levels (numbers_of b) 1 warm of started
-    ∙ ap (passes 1 after_warm_start) (own_numbers b)
-    ∙ one_pass b)
+-- the numbers of a batch before its velocity phase
+pub own_start : (b : Batch) (now : Numbers) → now ≡ numbers_of b → AreNumbersAfter b b now
+own_start b now same = record {
+  numbers = subst (AreNumbersOf b) (sym same) (numbers_fit b);
+  batch = ap (λ n. batch_with n b) same ∙ own_numbers b;
+}
+
+-- a warm start level by level, and rounds that overlap, are the velocity phase
+pub velocities_by_overlap : (b : Batch) (levels across : List (List ℕ)) (early : ℕ) → AreLevelsOf b levels
+    → DoLateAndEarly (map pair_of b.rows) (take early levels) (drop early levels) across
+    → after_overlapping_passes (ROUNDS - 1) (take early levels) across (drop early levels) after_round
+    (solved_by_levels levels after_warm_start b) ≡ velocities_of b
+velocities_by_overlap b levels across early of done =
+    let warm = passes 1 after_warm_start b in
+    let started : solved_by_levels levels after_warm_start b ≡ warm = passes_by_levels after_warm_start 1 b levels of in
+    let pairs : map pair_of warm.rows ≡ map pair_of b.rows = pairs_passed after_warm_start 1 b in
+    ap (after_overlapping_passes (ROUNDS - 1) (take early levels) across (drop early levels) after_round) started
+    ∙ sym (passes_by_overlap after_round warm levels across early (subst (λ ps. AreLevels ps levels) (sym pairs) of)
+    (subst (λ ps. DoLateAndEarly ps (take early levels) (drop early levels) across) (sym pairs) done) (ROUNDS - 1))
+    ∙ ap (passes ROUNDS after_round) (one_pass b)
   where
     -- one pass is the pass along the rows
     one_pass : (x : Batch) → passes 1 after_warm_start x ≡ pass after_warm_start x.bodies x.rows

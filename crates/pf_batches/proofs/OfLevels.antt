@@ -2,7 +2,7 @@
 use Rattle.std.proofs.Common.{◌≡◌, ◌∙◌, ℕ, zero, suc, ◌<◌, ◌≤◌, ◌∷◌, Some, List, [], length, map, refl, sym, ap, ap₂, subst, arith}
 use Rattle.std.proofs.lemmas.List.{get_or_default, length-map}
 use Rattle.std.proofs.lemmas.List.Elements.{All-cons, All-get_or, All-head, All-nil, All-tail, All-weaker}
-use Rattle.std.proofs.lemmas.Option.{none-some, same_Some, slice_get-get_or}
+use Rattle.std.proofs.lemmas.Option.{get_or_from_slice_get, none-some, same_Some, slice_get-get_or, slice_get_within}
 use Rattle.std.proofs.Math.ListN.{get_or-map}
 use Rattle.std.specs.Prelude.{All, slice_get, slice_index_or}
 use Rattle.pf_islands.proofs.Elements.{all_from}
@@ -10,6 +10,7 @@ use Rattle.pf_rows.specs.declared.row.Side.{Side}
 use Rattle.pf_rows.specs.declared.row.Side.TheVariants.{Dynamic, Static}
 use Rattle.pf_rows.specs.Row.{IsEntryOf, IsSide, Row}
 use Rattle.pf_levels.specs.Levels.{ArePairsOf, IsPairOf, Pair, pair_of}
+use Rattle.pf_levels.proofs.InOrder.{numbers_within}
 use Rattle.pf_bundles.proofs.Bundles.{as_many}
 use Rattle.pf_bundles.specs.Bundle.{AreBundlesOf, Bundle, IsBundleOf, Seat, lane_number, lane_row_or, seat_at}
 use Rattle.pf_bundles.specs.LaneRow.{IsHeldBy, LaneRow}
@@ -17,10 +18,10 @@ use Rattle.pf_bundles.specs.Numbers.{Numbers}
 use Rattle.pf_solver.specs.Beside.{IsBatch}
 use Rattle.pf_solver.specs.Order.{AreLevelsOf}
 use Rattle.pf_solver.specs.Velocities.{Batch}
-use Rattle.pf_batches.specs.Islands.{AreHeldBy, IsLoaded}
+use Rattle.pf_batches.specs.Islands.{AreHeldBy, IsLoaded, IsOverlapLoaded}
 use Rattle.pf_batches.specs.Numbers.{AreBundlesFor, AreNumbersOf, AreSeatsOf, HoldEach, IsBundleOn, seat_of, seats_of}
 use Rattle.pf_bundles.specs.Seats.{IsSeatIn}
-use Rattle.pf_batches.proofs.Levels.{places_within, rows_at_places}
+use Rattle.pf_batches.proofs.Levels.{rows_at_places}
 use Rattle.pf_batches.proofs.Numbers.{numbers_fit}
 
 -- ---- rows that lanes hold
@@ -126,45 +127,6 @@ EachIsBundle pairs lanes levels bundles =
     (i : ℕ) (level : List ℕ) (bundle : Bundle) → slice_get levels i ≡ Some level → slice_get bundles i ≡ Some bundle
     → IsBundleOf pairs lanes level bundle
 
-module _ (b : Batch) (lanes : List LaneRow) (levels : List (List ℕ)) (bundles : List Bundle)
-    (held : AreHeldBy lanes b.rows) (of : AreLevelsOf b levels)
-    (count : length bundles ≡ length levels) (each : EachIsBundle (map pair_of b.rows) lanes levels bundles) where
-  -- the places of a level are those of rows
-  level_within : (i : ℕ) (level : List ℕ) → slice_get levels i ≡ Some level → All (λ p. p < length b.rows) level
-  level_within i level at =
-      places_within b levels i level of (within levels i level at) (read levels i level at)
-    where
-      within : (xs : List (List ℕ)) (j : ℕ) (x : List ℕ) → slice_get xs j ≡ Some x → j < length xs
-      within [] j x here = absurd (none-some x here)
-      within (y ∷ xs) zero x here = omega arith
-      within (y ∷ xs) (suc j) x here = let h = within xs j x here in omega (arith, h)
-
-      read : (xs : List (List ℕ)) (j : ℕ) (x : List ℕ) → slice_get xs j ≡ Some x → x ≡ slice_index_or xs j x
-      read [] j x here = absurd (none-some x here)
-      read (y ∷ xs) zero x here = sym (same_Some y x here)
-      read (y ∷ xs) (suc j) x here = read xs j x here
-
-  pub bundles_for : AreBundlesFor b levels lanes bundles
-  bundles_for = record {
-    count = count;
-    seats = λ i level bundle here own.
-        seats_at b.rows level bundle.seats (level_within i level here) (each i level bundle here own).seats;
-    hold = hold_each lanes b.rows held;
-  }
-
-  pub bundles_on : (n : Numbers) → AreNumbersOf b n → IsBatch b → All (IsBundleOn lanes n) bundles
-  bundles_on n fit batch = all_from (IsBundleOn lanes n) bundles (λ i bundle own.
-      let in_bundles = here_within bundles i bundle own in
-      let in_levels : i < length levels = omega (arith, in_bundles, count) in
-      let level = slice_index_or levels i [] in
-      let here : slice_get levels i ≡ Some level = slice_get-get_or levels i [] in_levels in
-      bundle_on b n lanes fit held level bundle batch (level_within i level here) (each i level bundle here own))
-    where
-      here_within : (xs : List Bundle) (j : ℕ) (x : Bundle) → slice_get xs j ≡ Some x → j < length xs
-      here_within [] j x here = absurd (none-some x here)
-      here_within (y ∷ xs) zero x here = omega arith
-      here_within (y ∷ xs) (suc j) x here = let h = here_within xs j x here in omega (arith, h)
-
 -- bundles that are one for each level
 pub each_bundle : (pairs : List Pair) (lanes : List LaneRow) (levels : List (List ℕ)) (bundles : List Bundle)
     → AreBundlesOf pairs lanes levels bundles → EachIsBundle pairs lanes levels bundles
@@ -176,37 +138,77 @@ each_bundle pairs lanes (l ∷ levels) (x ∷ bundles) are zero level bundle her
 each_bundle pairs lanes (l ∷ levels) (x ∷ bundles) are (suc i) level bundle here own =
     each_bundle pairs lanes levels bundles are.1 i level bundle here own
 
--- ---- a batch that is loaded
-
-module _ (b : Batch) (levels : List (List ℕ)) (lanes : List LaneRow) (n : Numbers) (bundles : List Bundle)
-    (loaded : IsLoaded b levels lanes n bundles) where
+-- bundles of levels whose places are those of rows
+module _ (b : Batch) (lanes : List LaneRow) (levels : List (List ℕ)) (bundles : List Bundle)
+    (held : AreHeldBy lanes b.rows) (within : All (All (λ p. p < length b.rows)) levels)
+    (are : AreBundlesOf (map pair_of b.rows) lanes levels bundles) where
   many : length bundles ≡ length levels
-  many = as_many (map pair_of b.rows) lanes levels bundles loaded.each
+  many = as_many (map pair_of b.rows) lanes levels bundles are
 
   each : EachIsBundle (map pair_of b.rows) lanes levels bundles
-  each = each_bundle (map pair_of b.rows) lanes levels bundles loaded.each
+  each = each_bundle (map pair_of b.rows) lanes levels bundles are
+
+  -- the places of a level are those of rows
+  level_within : (i : ℕ) (level : List ℕ) → slice_get levels i ≡ Some level → All (λ p. p < length b.rows) level
+  level_within i level at =
+      subst (All (λ p. p < length b.rows)) (get_or_from_slice_get levels i level level at)
+      (All-get_or (All (λ p. p < length b.rows)) levels i level (slice_get_within levels i level at) within)
+
+  pub bundles_for : AreBundlesFor b levels lanes bundles
+  bundles_for = record {
+    count = many;
+    seats = λ i level bundle here own.
+        seats_at b.rows level bundle.seats (level_within i level here) (each i level bundle here own).seats;
+    hold = hold_each lanes b.rows held;
+  }
+
+  pub bundles_on : (n : Numbers) → AreNumbersOf b n → IsBatch b → All (IsBundleOn lanes n) bundles
+  bundles_on n fit batch = all_from (IsBundleOn lanes n) bundles (λ i bundle own.
+      let in_bundles = slice_get_within bundles i bundle own in
+      let in_levels : i < length levels = omega (arith, in_bundles, many) in
+      let level = slice_index_or levels i [] in
+      let here : slice_get levels i ≡ Some level = slice_get-get_or levels i [] in_levels in
+      bundle_on b n lanes fit held level bundle batch (level_within i level here) (each i level bundle here own))
+
+-- the places of the levels of a batch are those of rows
+pub levels_within : (b : Batch) (levels : List (List ℕ)) → AreLevelsOf b levels → All (All (λ p. p < length b.rows)) levels
+levels_within b levels of =
+    subst (λ n. All (All (λ p. p < n)) levels) (length-map b.rows pair_of) (numbers_within (map pair_of b.rows) levels of)
+
+-- where rounds do not overlap, no level is early, and all levels stand for those across two rounds
+pub no_overlap : (b : Batch) (levels : List (List ℕ)) (lanes : List LaneRow) (n : Numbers) (bundles : List Bundle)
+    → IsLoaded b levels lanes n bundles → IsOverlapLoaded (map pair_of b.rows) lanes 0 levels levels bundles
+no_overlap b levels lanes n bundles loaded = record {
+  few = omega arith;
+  done = λ step x is. refl;
+  within = numbers_within (map pair_of b.rows) levels loaded.order;
+  each = loaded.each;
+}
+
+-- a batch that is loaded, with levels across two rounds
+module _ (b : Batch) (levels across : List (List ℕ)) (early : ℕ) (lanes : List LaneRow) (n : Numbers) (bundles overlap : List Bundle)
+    (loaded : IsLoaded b levels lanes n bundles)
+    (joint : IsOverlapLoaded (map pair_of b.rows) lanes early levels across overlap) where
+  fit : AreNumbersOf b n
+  fit = subst (AreNumbersOf b) (sym loaded.numbers) (numbers_fit b)
+
+  across_within : All (All (λ p. p < length b.rows)) across
+  across_within = subst (λ m. All (All (λ p. p < m)) across) (length-map b.rows pair_of) joint.within
+
+  pub early_in : early ≤ length bundles
+  early_in = omega (arith, joint.few, as_many (map pair_of b.rows) lanes levels bundles loaded.each)
 
   pub loaded_for : AreBundlesFor b levels lanes bundles
-  loaded_for = bundles_for b lanes levels bundles loaded.rows loaded.order many each
+  loaded_for = bundles_for b lanes levels bundles loaded.rows (levels_within b levels loaded.order) loaded.each
 
   pub loaded_on : IsBatch b → All (IsBundleOn lanes n) bundles
-  loaded_on batch =
-      bundles_on b lanes levels bundles loaded.rows loaded.order many each n
-      (subst (AreNumbersOf b) (sym loaded.numbers) (numbers_fit b)) batch
+  loaded_on = bundles_on b lanes levels bundles loaded.rows (levels_within b levels loaded.order) loaded.each n fit
 
--- the places of all levels are below the number of rows, and of lanes that hold them
-pub levels_within : (b : Batch) (levels : List (List ℕ)) → AreLevelsOf b levels → All (All (λ p. p < length b.rows)) levels
-levels_within b levels of = all_from (All (λ p. p < length b.rows)) levels (λ i level at. places_within b levels i level of (within levels i level at) (read levels i level at))
-  where
-    within : (xs : List (List ℕ)) (j : ℕ) (x : List ℕ) → slice_get xs j ≡ Some x → j < length xs
-    within [] j x here = absurd (none-some x here)
-    within (y ∷ xs) zero x here = omega arith
-    within (y ∷ xs) (suc j) x here = let h = within xs j x here in omega (arith, h)
+  pub overlap_for : AreBundlesFor b across lanes overlap
+  overlap_for = bundles_for b lanes across overlap loaded.rows across_within joint.each
 
-    read : (xs : List (List ℕ)) (j : ℕ) (x : List ℕ) → slice_get xs j ≡ Some x → x ≡ slice_index_or xs j x
-    read [] j x here = absurd (none-some x here)
-    read (y ∷ xs) zero x here = sym (same_Some y x here)
-    read (y ∷ xs) (suc j) x here = read xs j x here
+  pub overlap_on : IsBatch b → All (IsBundleOn lanes n) overlap
+  overlap_on = bundles_on b lanes across overlap loaded.rows across_within joint.each n fit
 
 -- ---- sides of more bodies
 

@@ -1,5 +1,5 @@
 -- The parts of a tick of islands.
-use Rattle.std.proofs.Common.{◌≡◌, ◌∙◌, ℕ, ◌≤◌, ◌∷◌, ◌++◌, List, [], drop, length, map, take, refl, sym, ap₂, subst}
+use Rattle.std.proofs.Common.{◌≡◌, ◌∙◌, ℕ, zero, suc, ◌<◌, ◌≤◌, ◌∷◌, ◌++◌, List, [], drop, get_or, length, map, set, take, refl, sym, ap, ap₂, subst, arith}
 use Rattle.std.proofs.lemmas.List.{append-nil, drop_all, length-map, take_all}
 use Rattle.std.proofs.lemmas.List.Elements.{All-map, All-weaker}
 use Rattle.std.specs.Prelude.{All}
@@ -40,3 +40,9 @@ pub ticks_in_parts : (s : Scene) (islands : List Island)
     → map island_at_end (map island_after_rounds (map (prepared_island s) islands)) ≡ map (island_after_tick s) islands
 ticks_in_parts s [] = refl
 ticks_in_parts s (i ∷ islands) = ap₂ (λ x xs. x ∷ xs) (tick_in_parts s i) (ticks_in_parts s islands)
+
+-- what is read from a place and stored there again changes nothing
+pub stored_again : {X : Type 0} (xs : List X) (i : ℕ) (d : X) → i < length xs → set xs i (get_or xs i d) ≡ xs
+stored_again [] i d within = absurd (omega (arith, within))
+stored_again (x ∷ xs) zero d within = refl
+stored_again (x ∷ xs) (suc i) d within = ap (λ rest. x ∷ rest) (stored_again xs i d (omega (arith, within)))

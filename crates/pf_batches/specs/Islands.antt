@@ -1,6 +1,6 @@
 -- Several islands side by side as one batch: what the solver holds of them in its lists, and the
 -- islands with the numbers that it leaves.
-use Rattle.std.specs.Prelude.{◌≡◌, ℕ, ⊤, All, List, [], ◌∷◌, drop, length, map, take}
+use Rattle.std.specs.Prelude.{◌≡◌, ◌<◌, ◌≤◌, ℕ, ⊤, All, List, [], ◌∷◌, drop, length, map, take}
 use Rattle.pf_rows.specs.Row.{Row}
 use Rattle.pf_bundles.specs.LaneRow.{IsHeldBy, LaneRow}
 use Rattle.pf_bundles.specs.Numbers.{Numbers}
@@ -10,7 +10,7 @@ use Rattle.pf_solver.specs.Alone.{batch_in, island_with}
 use Rattle.pf_solver.specs.Beside.{IsBatch, shifted_row, side_by_side}
 use Rattle.pf_solver.specs.Velocities.{Batch}
 use Rattle.pf_bundles.specs.Bundle.{AreBundlesOf, Bundle}
-use Rattle.pf_solver.specs.Order.{AreLevelsOf}
+use Rattle.pf_solver.specs.Order.{AreLevelsOf, DoLateAndEarly}
 use Rattle.pf_batches.specs.declared.together.TheConstants.{START_LIMIT}
 use Rattle.pf_batches.specs.Numbers.{AreAllWithin, batch_with, numbers_of}
 
@@ -72,3 +72,13 @@ pub record IsLoaded
   pub numbers : n ≡ numbers_of b
   pub within : AreAllWithin START_LIMIT n
   pub each : AreBundlesOf (map pair_of b.rows) lanes levels bundles
+
+-- what the solver holds of levels across two rounds, where so many levels are early ones
+pub record IsOverlapLoaded
+    (pairs : List Pair) (lanes : List LaneRow) (early : ℕ) (levels across : List (List ℕ))
+    (bundles : List Bundle)
+    : Type 0 where
+  pub few : early ≤ length levels
+  pub done : DoLateAndEarly pairs (take early levels) (drop early levels) across
+  pub within : All (All (λ p. p < length pairs)) across
+  pub each : AreBundlesOf pairs lanes across bundles

@@ -1,7 +1,7 @@
 -- The numbers that the velocity phase changes, held apart from the bodies and rows of a batch: the
 -- velocity and the spin of each body, and the accumulated impulses of each row.
 use Rattle.std.specs.Prelude.{All, ◌≡◌, ◌<◌, ◌≤◌, ℕ, zero, suc, None, Option, Some, List, [], ◌∷◌}
-use Rattle.std.specs.Prelude.{fold, length, map, slice_get, slice_index_or, slice_set, take}
+use Rattle.std.specs.Prelude.{fold, length, map, slice_get, slice_index_or, slice_set}
 use Rattle.pf_shapes.specs.Body.{BodyState}
 use Rattle.pf_rows.specs.declared.row.Side.{Side}
 use Rattle.pf_rows.specs.declared.row.Side.TheVariants.{Static, Dynamic}
@@ -17,7 +17,6 @@ use Rattle.pf_bundles.specs.Numbers.{Numbers, Velocity, no_velocity}
 use Rattle.pf_batches.specs.Contact.{state_of}
 use Rattle.pf_bundles.specs.Seats.{IsSeatIn, SeatState, with_velocity}
 use Rattle.pf_solver.specs.Impulse.{ContactState, Motion}
-use Rattle.pf_solver.specs.Order.{passes_in_levels, solved_at_once}
 use Rattle.pf_solver.specs.Velocities.{Batch, Step, static_motion}
 
 -- as many numbers as a batch has bodies and rows
@@ -177,18 +176,10 @@ numbers_in_levels (suc k) levels step rows n =
     fold (λ now level. numbers_at_once level step rows now)
     (numbers_in_levels k levels step rows n) levels
 
--- a batch after these levels, one after the other
-abbrev pub solved_by_levels : List (List ℕ) → Step → Batch → Batch
-solved_by_levels levels step b = fold (λ now level. solved_at_once level step now) b levels
-
--- the numbers of a batch after so many passes level by level, and so many levels of the next one;
--- before the first pass they were `n`
-pub record AreAfter (step : Step) (b : Batch) (levels : List (List ℕ)) (n : Numbers)
-    (passes_done levels_done : ℕ) (now : Numbers) : Type 0 where
-  pub numbers : AreNumbersOf b now
-  pub batch : batch_with now b
-      ≡ solved_by_levels (take levels_done levels) step
-      (passes_in_levels passes_done levels step (batch_with n b))
+-- these are the numbers of what became of a batch
+pub record AreNumbersAfter (b after : Batch) (n : Numbers) : Type 0 where
+  pub numbers : AreNumbersOf b n
+  pub batch : batch_with n b ≡ after
 
 -- these are the seats of the rows of a level
 abbrev pub AreSeatsOf : List Row → List ℕ → List Seat → Type 0

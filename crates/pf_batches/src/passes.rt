@@ -1,12 +1,13 @@
 //! Warm starting and the rounds, level by level.
 
-ghost use Rattle.std.specs.Prelude.{◌≡◌, ℕ, ◌+◌, All, IfSome, IsTrue, List};
+ghost use Rattle.std.specs.Prelude.{◌≡◌, ◌≤◌, ◌-◌, ℕ, All, IfSome, IsTrue, List, drop, length, map, take};
 ghost use Rattle.pf_bundles.specs.Numbers.{Numbers};
 ghost use Rattle.pf_solver.specs.Beside.{velocities_of};
 ghost use Rattle.pf_solver.specs.Impulse.{after_round};
-ghost use Rattle.pf_solver.specs.Order.{AreLevelsOf};
+ghost use Rattle.pf_solver.specs.Order.{AreLevelsOf, DoLateAndEarly, after_overlapping_passes, solved_by_levels};
 ghost use Rattle.pf_solver.specs.Velocities.{Batch};
-ghost use Rattle.pf_batches.specs.Numbers.{AreAfter, AreAllWithin, AreBundlesFor, AreNumbersOf, IsBundleOn, batch_with, numbers_of};
+ghost use Rattle.pf_levels.specs.Levels.{pair_of};
+ghost use Rattle.pf_batches.specs.Numbers.{AreAllWithin, AreBundlesFor, AreNumbersAfter, AreNumbersOf, IsBundleOn, batch_with, numbers_of};
 ghost use Rattle.pf_bundles.specs.Seats.{AreAsMany};
 
 use crate::bundle_step::{GROWTH, LaneStep, solve_bundle};
@@ -14,9 +15,10 @@ use pf_bundles::limits::NUMBER_LIMIT;
 use pf_bundles::{Bundle, LaneRow, Numbers};
 use pf_solver::{ROUNDS, Round, WarmStart};
 
-/// One pass: the step of each bundle, one after the other. Before it no number is above `most`.
-/// Returns what no number is above after it, or `None` where that is too great, as after 2^19 steps
-/// of bundles in all, or where a number becomes too great.
+/// The step of each bundle, one after the other. Before it no number is above `most`. Returns what
+/// no number is above after it, or `None` where that is too great, as after 2^19 steps of bundles
+/// in all, or where a number becomes too great.
+#[inline(never)]
 fn pass<L: LaneStep>(
     bundles: &[Bundle],
     rows: &[LaneRow],
@@ -25,10 +27,9 @@ fn pass<L: LaneStep>(
 ) -> Option<u64>
     requires bundles { All (IsBundleOn rows.now numbers.old) bundles.now }
     requires within { AreAllWithin most numbers.old }
-    ensures value { IfSome result (λ more.
-        (b : Batch) (levels : List (List ℕ)) (n : Numbers) (k : ℕ)
-        → AreBundlesFor b levels rows.now bundles.now → AreAfter L.step b levels n k 0 numbers.old
-        → AreAfter L.step b levels n (k + 1) 0 numbers.new) }
+    ensures value { IfSome result (λ more. (b after : Batch) (levels : List (List ℕ))
+        → AreBundlesFor b levels rows.now bundles.now → AreNumbersAfter b after numbers.old
+        → AreNumbersAfter b (solved_by_levels levels L.step after) numbers.new) }
     ensures within { IfSome result (λ more. AreAllWithin more numbers.new) }
     ensures many { AreAsMany numbers.old numbers.new }
 {
@@ -42,45 +43,77 @@ fn pass<L: LaneStep>(
     Some(most)
 }
 
-/// All rounds, after a warm start that left the numbers at most `most`; `false` where they become
-/// too great.
-fn rounds(bundles: &[Bundle], rows: &[LaneRow], numbers: &mut Numbers, most: u64) -> bool
-    requires bundles { All (IsBundleOn rows.now numbers.old) bundles.now }
+/// All rounds, after a warm start that left the numbers at most `most`: the early levels of the
+/// first one, then nine times the levels across two rounds, and the late levels of the last one.
+/// `false` where numbers become too great.
+fn rounds(
+    early: &[Bundle],
+    overlap: &[Bundle],
+    late: &[Bundle],
+    rows: &[LaneRow],
+    numbers: &mut Numbers,
+    most: u64,
+) -> bool
+    requires early { All (IsBundleOn rows.now numbers.old) early.now }
+    requires overlap { All (IsBundleOn rows.now numbers.old) overlap.now }
+    requires late { All (IsBundleOn rows.now numbers.old) late.now }
     requires within { AreAllWithin most numbers.old }
-    ensures { IsTrue result → (b : Batch) (levels : List (List ℕ))
-        → AreNumbersOf b numbers.old → AreBundlesFor b levels rows.now bundles.now
-        → AreAfter after_round b levels numbers.old ROUNDS 0 numbers.new }
+    ensures { IsTrue result → (b after : Batch) (first across last : List (List ℕ))
+        → AreBundlesFor b first rows.now early.now → AreBundlesFor b across rows.now overlap.now
+        → AreBundlesFor b last rows.now late.now → AreNumbersAfter b after numbers.old
+        → AreNumbersAfter b
+        (after_overlapping_passes (ROUNDS - 1) first across last after_round after) numbers.new }
 {
-    let mut most = most;
-    for _round in 0..ROUNDS {
-        match pass::<Round>(bundles, rows, numbers, most) {
+    let mut most = match pass::<Round>(early, rows, numbers, most) {
+        Some(more) => more,
+        None => return false,
+    };
+    for _round in 0..ROUNDS - 1 {
+        match pass::<Round>(overlap, rows, numbers, most) {
             Some(more) => most = more,
             None => return false,
         }
     }
-    true
+    match pass::<Round>(late, rows, numbers, most) {
+        Some(_) => true,
+        None => false,
+    }
 }
 
 /// Warm starting and all rounds, level by level; `false` where a number becomes too great for
-/// doubles, and then the numbers are of no use.
+/// doubles, and then the numbers are of no use. The first `early` levels are early ones; `overlap`
+/// are the bundles of the levels across two rounds.
 #[inline(never)]
 pub(crate) fn solve_numbers(
     bundles: &[Bundle],
+    early: usize,
+    overlap: &[Bundle],
     rows: &[LaneRow],
     numbers: &mut Numbers,
     most: u64,
 ) -> bool
     requires bundles { All (IsBundleOn rows.now numbers.old) bundles.now }
+    requires early { early ≤ length bundles.now }
+    requires overlap { All (IsBundleOn rows.now numbers.old) overlap.now }
     requires within { AreAllWithin most numbers.old }
-    ensures value { IsTrue result → (b : Batch) (levels : List (List ℕ)) → AreLevelsOf b levels
-        → AreBundlesFor b levels rows.now bundles.now → numbers.old ≡ numbers_of b
-        → batch_with numbers.new b ≡ velocities_of b }
-    ensures fit { IsTrue result → (b : Batch) (levels : List (List ℕ))
-        → AreBundlesFor b levels rows.now bundles.now → numbers.old ≡ numbers_of b
-        → AreNumbersOf b numbers.new }
+    ensures value { IsTrue result → (b : Batch) (levels across : List (List ℕ))
+        → AreLevelsOf b levels
+        → DoLateAndEarly (map pair_of b.rows) (take early levels) (drop early levels) across
+        → AreBundlesFor b levels rows.now bundles.now → AreBundlesFor b across rows.now overlap.now
+        → numbers.old ≡ numbers_of b → batch_with numbers.new b ≡ velocities_of b }
+    ensures fit { IsTrue result → (b : Batch) (levels across : List (List ℕ))
+        → AreBundlesFor b levels rows.now bundles.now → AreBundlesFor b across rows.now overlap.now
+        → numbers.old ≡ numbers_of b → AreNumbersOf b numbers.new }
 {
     match pass::<WarmStart>(bundles, rows, numbers, most) {
-        Some(more) => rounds(bundles, rows, numbers, more),
+        Some(more) => rounds(
+            &bundles[..early],
+            overlap,
+            &bundles[early..],
+            rows,
+            numbers,
+            more,
+        ),
         None => false,
     }
 }

@@ -1,17 +1,17 @@
 //! Islands solved together: as one batch, level by level, four rows at a time.
 
-ghost use Rattle.std.specs.Prelude.{◌≡◌, ◌<◌, ◌-◌, ◌^◌, ℕ, All, IfOk, IsTrue, List, OnErr, OnOk, false, length, map};
+ghost use Rattle.std.specs.Prelude.{◌≡◌, ◌<◌, ◌-◌, ◌^◌, ℕ, All, IfOk, IfSome, IsTrue, List, OnErr, OnOk, false, length, map};
 ghost use Rattle.pf_islands.specs.Split.{IsIslandOf};
 ghost use Rattle.pf_solver.specs.Alone.{island_after_rounds, island_after_tick, island_at_end, prepared_island};
-ghost use Rattle.pf_levels.specs.Levels.{ArePairsOf, pair_of};
+ghost use Rattle.pf_levels.specs.Levels.{AreLevels, ArePairsOf, pair_of};
 ghost use Rattle.pf_solver.specs.Order.{AreLevelsOf};
-ghost use Rattle.pf_batches.specs.Islands.{AreBatches, IsLoaded, batch_of};
+ghost use Rattle.pf_batches.specs.Islands.{AreBatches, IsLoaded, IsOverlapLoaded, batch_of};
 
 use crate::islands::{load_numbers, load_pairs, load_rows, store_numbers};
 use crate::passes::solve_numbers;
 use pf_bundles::{Bundle, LaneRow, Numbers, Workspace, load_bundles};
 use pf_islands::Island;
-use pf_levels::{Levels, Pair};
+use pf_levels::{Level, Levels, Overlap, Pair, WIDTH};
 use pf_shapes::Scene;
 use pf_solver::{finish_island, prepare_island, solve_rounds};
 use std::alloc::{AllocError, Global};
@@ -24,21 +24,31 @@ pub const START_LIMIT: u64 = 1 << 49;
 /// How many rows a level has to have on average, so that lanes pay.
 const ROWS_A_LEVEL: usize = 2;
 
-/// Finds the levels of the rows of islands; `false` where they have too few rows for lanes to pay.
+/// Rounds overlap only where each is shorter by more than one level for so many rows, since all
+/// rows are loaded once more for it.
+const ROWS_A_LEVEL_LESS: usize = 16;
+
+/// Whether so many rows in so many levels fill lanes well enough.
+fn lanes_pay(rows: usize, levels: usize) -> bool {
+    rows > 0 && rows / ROWS_A_LEVEL >= levels
+}
+
+/// Finds the levels of the rows of islands, and returns how many bodies there are.
 #[tactic(auto, using(crate::proofs::OfLevels::more_bodies))]
 fn load_levels(
     islands: &[Island],
     pairs: &mut Vec<Pair>,
     levels: &mut Levels,
-) -> Result<bool, AllocError>
+) -> Result<usize, AllocError>
     requires { AreBatches islands.now }
     ensures pairs { OnOk result (pairs.new.items ≡ map pair_of (batch_of islands.now).rows) }
-    ensures levels { IfOk result (λ pays. AreLevelsOf (batch_of islands.now) levels.new.levels) }
+    ensures levels { OnOk result (AreLevelsOf (batch_of islands.now) levels.new.levels) }
+    ensures bodies { IfOk result (λ bodies. ArePairsOf bodies pairs.new.items) }
     ensures sides { OnOk result (ArePairsOf (2 ^ 64 - 1) pairs.new.items) }
 {
     let bodies = load_pairs(islands, pairs)?;
     levels.update(pairs, bodies)?;
-    Ok(!pairs.is_empty() && pairs.len() / ROWS_A_LEVEL >= levels.levels().len())
+    Ok(bodies)
 }
 
 /// Loads the rows and the numbers of islands, and makes the bundles of their levels; `false` where
@@ -64,21 +74,62 @@ fn load_bundles_of(
     Ok(true)
 }
 
+/// Whether so many levels across two rounds are so many fewer than those of one round that it pays
+/// to load the rows once more.
+fn overlap_pays(rows: usize, levels: usize, across: usize) -> bool {
+    across < levels && levels - across > rows / ROWS_A_LEVEL_LESS
+}
+
+/// Finds the levels across two rounds, and makes their bundles. Returns how many levels are early
+/// ones; `None` where the levels have so little room that it does not pay.
+fn load_overlap(
+    pairs: &[Pair],
+    bodies: usize,
+    levels: &[Level],
+    rows: &[LaneRow],
+    overlap: &mut Overlap,
+    bundles: &mut Vec<Bundle>,
+) -> Result<Option<usize>, AllocError>
+    requires bodies { ArePairsOf bodies pairs.now }
+    requires sides { ArePairsOf (2 ^ 64 - 1) pairs.now }
+    requires levels { AreLevels pairs.now levels.now }
+    requires rows { length rows.now ≡ length pairs.now }
+    ensures { IfOk result (λ found. IfSome found (λ early. IsOverlapLoaded pairs.now rows.now early
+        levels.now overlap.new bundles.new.items)) }
+{
+    let count = levels.len();
+    if !overlap_pays(pairs.len(), count, pairs.len() / WIDTH) {
+        return Ok(None);
+    }
+    // Two fifths of the levels: `docs/SPEED.md` says why.
+    let early = count / 2 - count / 10;
+    overlap.update(pairs, bodies, levels, early)?;
+    if !overlap_pays(pairs.len(), count, overlap.levels().len()) {
+        return Ok(None);
+    }
+    load_bundles(bundles, overlap.levels(), pairs, rows)?;
+    Ok(Some(early))
+}
+
 /// The rounds of islands whose rows and numbers are loaded; `false`, and the islands as they were,
 /// where a number becomes too great.
 fn solve_loaded(
     rows: &[LaneRow],
     bundles: &[Bundle],
+    early: usize,
+    overlap: &[Bundle],
     numbers: &mut Numbers,
     islands: &mut [Island],
 ) -> bool
     requires batches { AreBatches islands.old }
-    requires loaded { (levels : List (List ℕ)) × IsLoaded (batch_of islands.old) levels rows.now
-        numbers.old bundles.now }
+    requires loaded { (levels across : List (List ℕ))
+        × IsLoaded (batch_of islands.old) levels rows.now numbers.old bundles.now
+        × IsOverlapLoaded (map pair_of (batch_of islands.old).rows) rows.now early levels across
+        overlap.now }
     ensures solved { IsTrue result → islands.new ≡ map island_after_rounds islands.old }
     ensures left { result ≡ false → islands.new ≡ islands.old }
 {
-    let done = solve_numbers(bundles, rows, numbers, START_LIMIT);
+    let done = solve_numbers(bundles, early, overlap, rows, numbers, START_LIMIT);
     if done {
         store_numbers(islands, numbers);
     }
@@ -105,17 +156,30 @@ fn solve_in_lanes(workspace: &mut Workspace, islands: &mut [Island]) -> Result<b
     let Workspace {
         pairs,
         levels,
+        overlap,
         rows,
         bundles,
+        overlap_bundles,
         numbers,
     } = workspace;
     let numbers = numbers_in(numbers, *pairs.allocator())?;
-    if !load_levels(islands, pairs, levels)?
+    let bodies = load_levels(islands, pairs, levels)?;
+    if !lanes_pay(pairs.len(), levels.levels().len())
         || !load_bundles_of(islands, pairs, levels, rows, numbers, bundles)?
     {
         return Ok(false);
     }
-    Ok(solve_loaded(rows, bundles, numbers, islands))
+    match load_overlap(
+        pairs,
+        bodies,
+        levels.levels(),
+        rows,
+        overlap,
+        overlap_bundles,
+    )? {
+        Some(early) => Ok(solve_loaded(rows, bundles, early, overlap_bundles, numbers, islands)),
+        None => Ok(solve_loaded(rows, bundles, 0, bundles, numbers, islands)),
+    }
 }
 
 /// Takes the workspace of an island, which has an empty one from then on.

@@ -25,15 +25,35 @@ box - 16777216 8388608 8388608 8388608 67108864 24998052 1 0\n\
 box - 16777216 1677721 8388608 8388608 134217728 8304722 1 0\n\
 box - 8388608 8388608 8388608 8388608 132540006 24998052 1 0\nend\n";
 
+/// A floor, and on it a pyramid of fifteen boxes: its last levels have few rows.
+const PYRAMID: &[u8] = b"gravity 0 -167772160\n\
+box - 0 8388608 1677721600 16777216 0 -16777216 1 0\n\
+box - 16777216 8388608 8388608 8388608 -33554432 8304721 1 0\n\
+box - 16777216 8388608 8388608 8388608 -16777216 8304721 1 0\n\
+box - 16777216 8388608 8388608 8388608 0 8304721 1 0\n\
+box - 16777216 8388608 8388608 8388608 16777216 8304721 1 0\n\
+box - 16777216 8388608 8388608 8388608 33554432 8304721 1 0\n\
+box - 16777216 8388608 8388608 8388608 -25165824 24914165 1 0\n\
+box - 16777216 8388608 8388608 8388608 -8388608 24914165 1 0\n\
+box - 16777216 8388608 8388608 8388608 8388608 24914165 1 0\n\
+box - 16777216 8388608 8388608 8388608 25165824 24914165 1 0\n\
+box - 16777216 8388608 8388608 8388608 -16777216 41523609 1 0\n\
+box - 16777216 8388608 8388608 8388608 0 41523609 1 0\n\
+box - 16777216 8388608 8388608 8388608 16777216 41523609 1 0\n\
+box - 16777216 8388608 8388608 8388608 -8388608 58133053 1 0\n\
+box - 16777216 8388608 8388608 8388608 8388608 58133053 1 0\n\
+box - 16777216 8388608 8388608 8388608 0 74742497 1 0\nend\n";
+
 /// A circle on a floor.
 const CIRCLE: &[u8] = b"gravity 0 -167772160\n\
 box - 0 8388608 1677721600 16777216 0 -16777216 1 0\n\
 circle - 16777216 8388608 8388608 0 8304722\nend\n";
 
-/// Solves islands together, and notes whether it did so in lanes.
+/// Solves islands together, and notes whether it did so in lanes, and with rounds that overlap.
 #[derive(Drop)]
 struct Together {
     in_lanes: bool,
+    overlap: bool,
 }
 
 /// Whether the first island has the velocity that was calculated for it in lanes.
@@ -52,11 +72,20 @@ fn are_from_lanes(islands: &[Island]) -> bool {
     }
 }
 
+/// Whether levels across two rounds were loaded.
+fn have_overlap(islands: &[Island]) -> bool {
+    match islands.first() {
+        Some(island) => !island.workspace.overlap_bundles.is_empty(),
+        None => false,
+    }
+}
+
 impl Crew for Together {
     fn solve(&mut self, scene: &Scene, islands: Vec<Island>) -> Result<Vec<Island>, CrewError> {
         let mut islands = islands;
         solve_islands(scene, &mut islands);
         self.in_lanes = are_from_lanes(&islands);
+        self.overlap = have_overlap(&islands);
         Ok(islands)
     }
 }
@@ -106,26 +135,38 @@ fn world_after<C: Crew>(
     Ok(world)
 }
 
-/// Whether both crews make the same world of a scene, and whether the rounds of its last tick were
-/// in lanes where islands are solved together.
+/// Whether both crews make the same world of a scene; and, where islands are solved together,
+/// whether the rounds of its last tick were in lanes, and whether rounds of a tick overlapped.
 fn compare(
     alloc: Global,
     text: &[u8],
     payloads: &[Payload],
     ticks: u32,
-) -> Result<[bool; 2], Fail> {
+) -> Result<[bool; 3], Fail> {
     let scene = Scene::read(alloc, text)?;
-    let mut together = Together { in_lanes: false };
+    let mut together = Together {
+        in_lanes: false,
+        overlap: false,
+    };
     let one = world_after(alloc, &scene, payloads, ticks, &mut together)?;
     let other = world_after(alloc, &scene, payloads, ticks, &mut Alone)?;
-    Ok([one == other, together.in_lanes])
+    Ok([one == other, together.in_lanes, together.overlap])
 }
 
 #[test]
 fn stacks_are_solved_in_lanes(rt: HostRuntime) -> Result<(), Fail> {
     for ticks in 1..5 {
         let found = compare(rt.alloc(), STACKS, &[], ticks)?;
-        assert_eq!(rt; found, [true, true], "after {ticks} ticks");
+        assert_eq!(rt; found, [true, true, false], "after {ticks} ticks");
+    }
+    Ok(())
+}
+
+#[test]
+fn rounds_of_a_pyramid_overlap(rt: HostRuntime) -> Result<(), Fail> {
+    for ticks in 2..5 {
+        let found = compare(rt.alloc(), PYRAMID, &[], ticks)?;
+        assert_eq!(rt; found, [true, true, true], "after {ticks} ticks");
     }
     Ok(())
 }
@@ -157,7 +198,7 @@ fn fast_bodies_are_solved_by_scalars(rt: HostRuntime) -> Result<(), Fail> {
             y: impulse(y),
         };
         let found = compare(rt.alloc(), STACKS, &[push], 1)?;
-        assert_eq!(rt; found, [true, in_lanes], "a push by {x} {y}");
+        assert_eq!(rt; found, [true, in_lanes, false], "a push by {x} {y}");
     }
     Ok(())
 }
@@ -165,6 +206,6 @@ fn fast_bodies_are_solved_by_scalars(rt: HostRuntime) -> Result<(), Fail> {
 #[test]
 fn one_contact_is_solved_alone(rt: HostRuntime) -> Result<(), Fail> {
     let found = compare(rt.alloc(), CIRCLE, &[], 3)?;
-    assert_eq!(rt; found, [true, false]);
+    assert_eq!(rt; found, [true, false, false]);
     Ok(())
 }

@@ -6,7 +6,7 @@ ghost use Rattle.pf_levels.specs.Levels.{no_levels};
 use crate::bundle::Bundle;
 use crate::lane_row::LaneRow;
 use crate::numbers::Numbers;
-use pf_levels::{Levels, Pair};
+use pf_levels::{Levels, Overlap, Pair};
 use std::alloc::Global;
 use std::fmt::{Debug, Error, Formatter, Write};
 
@@ -19,10 +19,14 @@ pub struct Workspace {
     pub pairs: Vec<Pair>,
     /// The levels of the rows.
     pub levels: Levels,
+    /// The levels across two rounds.
+    pub overlap: Overlap,
     /// The rows, each as a lane holds it.
     pub rows: Vec<LaneRow>,
     /// The rows of each level side by side.
     pub bundles: Vec<Bundle>,
+    /// The rows of each level across two rounds side by side.
+    pub overlap_bundles: Vec<Bundle>,
     /// The velocities of all bodies, and the accumulated impulses of all rows, once they were
     /// needed.
     pub numbers: Option<Numbers>,
@@ -39,15 +43,19 @@ impl Workspace {
     pub fn new(alloc: Global) -> Workspace
         ensures pairs { result.pairs.items ≡ [] }
         ensures levels { result.levels ≡ no_levels }
+        ensures overlap { result.overlap ≡ [] }
         ensures rows { result.rows.items ≡ [] }
         ensures bundles { result.bundles.items ≡ [] }
+        ensures overlap_bundles { result.overlap_bundles.items ≡ [] }
         ensures numbers { result.numbers ≡ None }
     {
         Workspace {
             pairs: Vec::new(alloc),
             levels: Levels::new(alloc),
+            overlap: Overlap::new(alloc),
             rows: Vec::new(alloc),
             bundles: Vec::new(alloc),
+            overlap_bundles: Vec::new(alloc),
             numbers: None,
         }
     }

@@ -92,7 +92,7 @@ reordering_with (p ∷ places) front back k (f, b, is, rest) =
         )
 
 -- the places of a range are below its end
-range_below : (n a : ℕ) → All (λ q. q < a + n) (range_with_len a n)
+pub range_below : (n a : ℕ) → All (λ q. q < a + n) (range_with_len a n)
 range_below zero a = All-nil (λ q. q < a + 0)
 range_below (suc n) a =
     All-cons (λ q. q < a + suc n) a (range_with_len (a + 1) n) (omega arith)

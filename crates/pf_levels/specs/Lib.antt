@@ -1,4 +1,5 @@
 -- What the contracts of this crate cite.
 pub mod Levels
 pub mod Links
+pub mod Overlap
 pub mod SoFar

@@ -7,8 +7,10 @@ pub mod laws;
 mod level;
 mod levels;
 mod links;
+mod overlap;
 mod pair;
 
 pub use level::{Level, WIDTH};
 pub use levels::Levels;
+pub use overlap::Overlap;
 pub use pair::Pair;

@@ -3,7 +3,7 @@
 ghost use Rattle.std.specs.Prelude.{◌≡◌, ◌≤◌, IfOk};
 ghost use Rattle.pf_levels.specs.Levels.{ArePairsOf};
 
-use pf_levels::{Level, Levels, Pair, WIDTH, laws};
+use pf_levels::{Level, Levels, Overlap, Pair, WIDTH, laws};
 use pf_rows::Side;
 use std::alloc::AllocError;
 use std::test::Fail;
@@ -42,6 +42,17 @@ fn a_chain_has_a_level_for_each_row(rt: HostRuntime) -> Result<(), Fail> {
     let mut levels = Levels::new(rt.alloc());
     levels.update(&pairs, 4)?;
     assert!(rt; are(levels.levels(), &[&[0], &[1], &[2]]));
+    Ok(())
+}
+
+#[test]
+fn the_last_row_of_a_round_goes_with_the_first_of_the_next(rt: HostRuntime) -> Result<(), Fail> {
+    let pairs = [pair(0, 1), pair(1, 2), pair(2, 3)];
+    let mut levels = Levels::new(rt.alloc());
+    levels.update(&pairs, 4)?;
+    let mut overlap = Overlap::new(rt.alloc());
+    overlap.update(&pairs, 4, levels.levels(), 1)?;
+    assert!(rt; are(overlap.levels(), &[&[1], &[2, 0]]));
     Ok(())
 }
 

@@ -6,7 +6,7 @@ use Rattle.std.specs.List.{concat, fold, range_with_len}
 use Rattle.std.specs.Prelude.{All}
 use Rattle.pf_solver.specs.Laws.{solved_at}
 use Rattle.pf_levels.specs.Levels.{AreLevels, IsLevel, pair_of}
-use Rattle.pf_solver.specs.Order.{AreLevelsOf, passes_in_levels, solved_at_once}
+use Rattle.pf_solver.specs.Order.{AreLevelsOf, passes_in_levels, solved_by_levels}
 use Rattle.pf_solver.specs.Velocities.{Batch, Step, passes}
 use Rattle.pf_solver.proofs.AtOnce.{level_at_once}
 use Rattle.pf_solver.proofs.Commute.{pairs_kept}
@@ -15,11 +15,11 @@ use Rattle.pf_solver.proofs.Reorder.{pass_in_order}
 
 module _ (step : Step) where
   -- the pairs stay
-  pairs_after : (order : List ℕ) (b : Batch) → map pair_of (fold (solved_at step) b order).rows ≡ map pair_of b.rows
+  pub pairs_after : (order : List ℕ) (b : Batch) → map pair_of (fold (solved_at step) b order).rows ≡ map pair_of b.rows
   pairs_after [] b = refl
   pairs_after (p ∷ order) b = pairs_after order (solved_at step b p) ∙ pairs_kept step b p
 
-  pairs_passed : (n : ℕ) (b : Batch) → map pair_of (passes n step b).rows ≡ map pair_of b.rows
+  pub pairs_passed : (n : ℕ) (b : Batch) → map pair_of (passes n step b).rows ≡ map pair_of b.rows
   unfolding passes
   pairs_passed zero b = refl
   pairs_passed (suc n) b =
@@ -28,13 +28,13 @@ module _ (step : Step) where
       ∙ pairs_after (range_with_len 0 (length before.rows)) before ∙ pairs_passed n b
 
   -- level by level is row by row
-  by_levels : (levels : List (List ℕ)) (b : Batch) → All (IsLevel (map pair_of b.rows)) levels
-      → fold (λ now level. solved_at_once level step now) b levels ≡ fold (solved_at step) b (concat levels)
+  pub by_levels : (levels : List (List ℕ)) (b : Batch) → All (IsLevel (map pair_of b.rows)) levels
+      → solved_by_levels levels step b ≡ fold (solved_at step) b (concat levels)
   by_levels [] b apart = refl
   by_levels (g ∷ levels) b apart =
       let pairs = map pair_of b.rows in
       let next = fold (solved_at step) b g in
-      ap (λ x. fold (λ now level. solved_at_once level step now) x levels) (level_at_once step b g (All-head (IsLevel pairs) g levels apart))
+      ap (solved_by_levels levels step) (level_at_once step b g (All-head (IsLevel pairs) g levels apart))
       ∙ by_levels levels next
       (subst (λ ps. All (IsLevel ps) levels) (sym (pairs_after g b)) (All-tail (IsLevel pairs) g levels apart))
       ∙ sym (fold-append (solved_at step) b g (concat levels))
@@ -46,5 +46,5 @@ module _ (step : Step) where
   passes_by_levels (suc n) b levels of =
       let before = passes n step b in
       let still : AreLevelsOf before levels = subst (λ ps. AreLevels ps levels) (sym (pairs_passed n b)) of in
-      ap (λ x. fold (λ now level. solved_at_once level step now) x levels) (passes_by_levels n b levels of)
+      ap (solved_by_levels levels step) (passes_by_levels n b levels of)
       ∙ by_levels levels before still.apart ∙ pass_in_order step before (concat levels) still.order

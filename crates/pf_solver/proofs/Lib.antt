@@ -1,4 +1,5 @@
 -- The lemmas of this crate.
+pub mod Overlap
 pub mod Passes
 pub mod Free
 pub mod Prepared

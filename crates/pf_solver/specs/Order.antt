@@ -1,8 +1,8 @@
 -- Rows that are solved in another order than that of their list.
-use Rattle.std.specs.Prelude.{ℕ, suc, zero, List, None, Option, Some, fold, map, slice_get, slice_set}
+use Rattle.std.specs.Prelude.{◌≡◌, ℕ, suc, zero, List, None, Option, Some, fold, map, slice_get, slice_set}
 use Rattle.pf_shapes.specs.Body.{BodyState}
 use Rattle.pf_rows.specs.Row.{Row}
-use Rattle.pf_levels.specs.Levels.{AreLevels, IsOrder, pair_of}
+use Rattle.pf_levels.specs.Levels.{AreLevels, IsOrder, Pair, pair_of}
 use Rattle.pf_solver.specs.Laws.{solved_at}
 use Rattle.pf_solver.specs.Velocities.{Batch, Step, bodies_with, contact_state, row_with}
 
@@ -30,8 +30,28 @@ solved_at_once level step b =
 abbrev pub AreLevelsOf : Batch → List (List ℕ) → Type 0
 AreLevelsOf b levels = AreLevels (map pair_of b.rows) levels
 
+-- a batch after these levels, one after the other
+abbrev pub solved_by_levels : List (List ℕ) → Step → Batch → Batch
+solved_by_levels levels step b = fold (λ now level. solved_at_once level step now) b levels
+
 -- so many passes, each level by level
 abbrev pub passes_in_levels : ℕ → List (List ℕ) → Step → Batch → Batch
 passes_in_levels zero levels step b = b
 passes_in_levels (suc n) levels step b =
-    fold (λ now level. solved_at_once level step now) (passes_in_levels n levels step b) levels
+    solved_by_levels levels step (passes_in_levels n levels step b)
+
+-- levels across two passes: they do to a batch what the late levels of one pass, and then the early
+-- levels of the next one, do
+abbrev pub DoLateAndEarly :
+    List Pair → List (List ℕ) → List (List ℕ) → List (List ℕ) → Type 0
+DoLateAndEarly pairs early late across =
+    (step : Step) (b : Batch) → map pair_of b.rows ≡ pairs
+    → solved_by_levels across step b
+    ≡ solved_by_levels early step (solved_by_levels late step b)
+
+-- passes that overlap: the early levels of the first one, so many times the levels across two
+-- passes, and the late levels of the last one
+abbrev pub after_overlapping_passes :
+    ℕ → List (List ℕ) → List (List ℕ) → List (List ℕ) → Step → Batch → Batch
+after_overlapping_passes n early across late step b =
+    solved_by_levels late step (passes_in_levels n across step (solved_by_levels early step b))

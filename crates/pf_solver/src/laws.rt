@@ -1,6 +1,6 @@
 //! Laws of the solver. These functions compute nothing: their clauses are the statements.
 
-ghost use Rattle.std.specs.Prelude.{◌≡◌, ℕ, ◌*◌, ◌^◌, ◌<◌, ◌≤ℤ◌, pos, neg_ℤ, fold, map, All, List, length};
+ghost use Rattle.std.specs.Prelude.{◌≡◌, ℕ, ◌+◌, ◌*◌, ◌^◌, ◌<◌, ◌≤ℤ◌, pos, neg_ℤ, drop, fold, map, take, All, List, length};
 ghost use Rattle.pf_shapes.specs.Body.{BodyState};
 ghost use Rattle.pf_shapes.specs.Scene.{Scene};
 ghost use Rattle.pf_manifold.specs.Key.{IsRising};
@@ -10,8 +10,9 @@ ghost use Rattle.pf_solver.specs.Alone.{seen_from};
 ghost use Rattle.pf_solver.specs.Beside.{IsBatch, side_by_side, velocities_of};
 ghost use Rattle.pf_islands.specs.Island.{states_of, rows_among, IsOwnOrOther};
 ghost use Rattle.pf_solver.specs.Laws.{places_written, solved_at};
-ghost use Rattle.pf_levels.specs.Levels.{IsLevel, pair_of};
-ghost use Rattle.pf_solver.specs.Order.{AreLevelsOf, IsOrderOf, passes_in_levels, solved_at_once, solved_in};
+ghost use Rattle.pf_levels.specs.Levels.{AreLevels, IsLevel, Pair, pair_of};
+ghost use Rattle.pf_levels.specs.Overlap.{AreLevelsInOrder, late_then_early};
+ghost use Rattle.pf_solver.specs.Order.{AreLevelsOf, DoLateAndEarly, IsOrderOf, after_overlapping_passes, passes_in_levels, solved_at_once, solved_in};
 ghost use Rattle.pf_solver.specs.Solve.{solved_batch};
 ghost use Rattle.pf_solver.specs.Velocities.{Batch, Step, pass, passes};
 
@@ -58,6 +59,21 @@ pub fn levels_are_solved_at_once()
 pub fn levels_are_solved_as_the_list()
     ensures { (n : ℕ) (step : Step) (b : Batch) (levels : List (List ℕ)) → AreLevelsOf b levels
         → passes_in_levels n levels step b ≡ passes n step b }
+{}
+
+/// The late levels of a pass and the early ones of the next may be solved together, as levels of
+/// their rows in this order: where late levels have room, passes so take fewer levels (software
+/// pipelining). Passes that overlap are passes along the list, bit for bit.
+pub fn passes_may_overlap()
+    ensures levels { (pairs : List Pair) (levels across : List (List ℕ)) (early : ℕ)
+        → AreLevels pairs levels
+        → AreLevelsInOrder pairs (late_then_early early levels) across
+        → DoLateAndEarly pairs (take early levels) (drop early levels) across }
+    ensures passes { (n : ℕ) (step : Step) (b : Batch) (levels across : List (List ℕ)) (early : ℕ)
+        → AreLevelsOf b levels
+        → DoLateAndEarly (map pair_of b.rows) (take early levels) (drop early levels) across
+        → passes (n + 1) step b
+        ≡ after_overlapping_passes n (take early levels) across (drop early levels) step b }
 {}
 
 /// An island is solved alone as it is in the whole list, bit for bit: where no contact leads from

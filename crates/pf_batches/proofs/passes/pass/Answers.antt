@@ -1,5 +1,5 @@
 use Rattle.std.proofs.Common.{arith, refl}
-use Rattle.pf_batches.proofs.InBundles.{bundle_at, bundle_more, many_after}
+use Rattle.pf_batches.proofs.InBundles.{bundle_at, bundle_more, many_after, pass_done}
 use Rattle.pf_batches.proofs.passes.pass.Goals as goal
 
 pub solve_bundle-requires-clause-seats : goal.solve_bundle-requires-clause-seats
@@ -26,3 +26,8 @@ loop-bundle-preserved g c = record {
   within = c.if-not-solve_bundle.ensures.within refl;
   many = many_after c.args.numbers.now c.loop-bundle.numbers c.solve_bundle.new.numbers c.loop-bundle.invariant.many c.solve_bundle.ensures.many;
 }
+
+pub returns-clause-value : goal.returns-clause-value
+returns-clause-value g c =
+    pass_done g.L.ContactStep.step c.args.rows.now c.args.bundles.now c.args.numbers.now c.loop-bundle.bundle-index c.loop-bundle.numbers
+    (omega arith) c.loop-bundle.invariant.value

@@ -1,27 +1,22 @@
 use Rattle.std.proofs.Common.{◌≡◌, arith, subst}
-use Rattle.pf_solver.specs.declared.velocities.TheConstants.{ROUNDS}
 use Rattle.pf_solver.specs.Impulse.{after_round}
-use Rattle.pf_batches.specs.Numbers.{AreAfter}
+use Rattle.pf_solver.specs.Order.{passes_in_levels, solved_by_levels}
+use Rattle.pf_batches.specs.Numbers.{AreNumbersAfter}
 use Rattle.pf_batches.proofs.InBundles.{bundles_stay}
-use Rattle.pf_batches.proofs.Levels.{before_passes}
 use Rattle.pf_batches.proofs.passes.rounds.Goals as goal
 
-pub loop-round-init : goal.loop-round-init
-loop-round-init c = record {
-  value = λ b levels fit for. before_passes after_round b levels c.args.numbers.now fit;
-  within = c.requires.within;
-  on = c.requires.bundles;
-}
+pub pass-requires-in-loop-round-clause-bundles : goal.pass-requires-in-loop-round-clause-bundles
+pass-requires-in-loop-round-clause-bundles c =
+    bundles_stay c.args.rows.now c.args.numbers.now c.loop-round.numbers c.args.overlap.now c.loop-round.invariant.many c.requires.overlap
 
-pub loop-round-preserved : goal.loop-round-preserved
-loop-round-preserved c = record {
-  value = λ b levels fit for.
-      c.in-Some.ensures.value b levels c.args.numbers.now c.loop-round._round for (c.loop-round.invariant.value b levels fit for);
-  within = c.in-Some.ensures.within;
-  on = bundles_stay c.args.rows.now c.loop-round.numbers c.pass.new.numbers c.args.bundles.now c.in-Some.ensures.many c.loop-round.invariant.on;
-}
+pub pass-requires-2-clause-bundles : goal.pass-requires-2-clause-bundles
+pass-requires-2-clause-bundles c =
+    bundles_stay c.args.rows.now c.args.numbers.now c.loop-round.numbers c.args.late.now c.loop-round.invariant.many c.requires.late
 
-pub returns : goal.returns
-returns c = λ done b levels fit for.
-    let all : c.loop-round._round ≡ ROUNDS = omega arith in
-    subst (λ k. AreAfter after_round b levels c.args.numbers.now k 0 c.loop-round.numbers) all (c.loop-round.invariant.value b levels fit for)
+pub returns-in-Some-pass-2 : goal.returns-in-Some-pass-2
+returns-in-Some-pass-2 c = λ done b after first across last for_first for_across for_last start.
+    let all : c.loop-round._round ≡ 9 = omega arith in
+    let begun = solved_by_levels first after_round after in
+    c.in-Some-pass-2.ensures.value b (passes_in_levels 9 across after_round begun) last for_last
+    (subst (λ k. AreNumbersAfter b (passes_in_levels k across after_round begun) c.loop-round.numbers) all
+    (c.loop-round.invariant.value b after first across for_first for_across start))

@@ -1,0 +1,26 @@
+-- Levels across two rounds: the late levels of one round have room for rows of the next.
+use Rattle.std.specs.Prelude.{◌≡◌, ℕ, ◌++◌, List, drop, map, slice_index_or, take}
+use Rattle.std.specs.List.{concat}
+use Rattle.pf_rows.specs.declared.row.Side.TheVariants.{Static}
+use Rattle.pf_levels.specs.Levels.{AreLevels, Pair}
+
+-- the pair of the row at a place
+abbrev pub pair_at : List Pair → ℕ → Pair
+pair_at pairs p = slice_index_or pairs p (record { first = Static; second = Static })
+
+-- the place of the row that has this number in an order
+abbrev pub place_at : List ℕ → ℕ → ℕ
+place_at order number = slice_index_or order number 0
+
+-- levels of the rows as they are listed in this order, by their places in the list: of two rows of
+-- one body the one that comes first in the order is in the level that comes first
+pub record AreLevelsInOrder
+    (pairs : List Pair) (order : List ℕ) (levels : List (List ℕ))
+    : Type 0 where
+  pub numbered : List (List ℕ)
+  pub are : AreLevels (map (pair_at pairs) order) numbered
+  pub places : levels ≡ map (map (place_at order)) numbered
+
+-- the rows of the levels from one on, and behind them those of the levels before it
+abbrev pub late_then_early : ℕ → List (List ℕ) → List ℕ
+late_then_early early levels = concat (drop early levels) ++ concat (take early levels)

@@ -1,0 +1,133 @@
+//! Levels across two rounds.
+
+ghost use Rattle.std.specs.Prelude.{◌≡◌, ◌≤◌, ◌<◌, ◌++◌, ◌∷◌, [], All, IfOk, IsOk, List, OnOk, drop, length, map, take};
+ghost use Rattle.std.specs.List.{concat};
+ghost use Rattle.pf_levels.specs.Levels.{AreLevels, ArePairsOf};
+ghost use Rattle.pf_levels.specs.Overlap.{AreLevelsInOrder, late_then_early, pair_at, place_at};
+ghost use Rattle.pf_levels.specs.declared.level.TheConstants.{WIDTH};
+
+use crate::level::Level;
+use crate::levels::Levels;
+use crate::pair::Pair;
+use std::alloc::{AllocError, Global};
+use std::marker::Model;
+
+/// Adds the places of the rows of levels, one level after the other.
+fn add_places(order: &mut Vec<usize>, levels: &[Level]) -> Result<(), AllocError>
+    ensures { OnOk result (order.new.items ≡ order.old.items ++ concat levels.now) }
+{
+    for level in levels {
+        order.extend_from_slice(level.places())?;
+    }
+    Ok(())
+}
+
+/// Lists the rows of the late levels, and behind them those of the early ones.
+fn list_rows(order: &mut Vec<usize>, levels: &[Level], early: usize) -> Result<(), AllocError>
+    requires { early ≤ length levels.now }
+    ensures { OnOk result (order.new.items ≡ late_then_early early levels.now) }
+{
+    order.clear();
+    add_places(order, &levels[early..])?;
+    add_places(order, &levels[..early])
+}
+
+/// Lists the pairs of the rows at these places.
+fn list_pairs(found: &mut Vec<Pair>, pairs: &[Pair], order: &[usize]) -> Result<(), AllocError>
+    requires { All (λ place. place < length pairs.now) order.now }
+    ensures { OnOk result (found.new.items ≡ map (pair_at pairs.now) order.now) }
+{
+    found.clear();
+    for place in order {
+        found.push(pairs[*place])?;
+    }
+    Ok(())
+}
+
+/// The rows that a level has in this order, by their places in the list.
+fn level_in_order(order: &[usize], level: &Level) -> Level
+    requires { All (λ number. number < length order.now) level.now }
+    ensures { result ≡ map (place_at order.now) level.now }
+{
+    let mut found = Level::new();
+    for number in level.places() {
+        found.push(order[*number]);
+    }
+    found
+}
+
+/// Lists the rows that each level has in this order, by their places in the list.
+fn list_levels(found: &mut Vec<Level>, order: &[usize], levels: &[Level]) -> Result<(), AllocError>
+    requires { All (All (λ number. number < length order.now)) levels.now }
+    ensures { OnOk result (found.new.items ≡ map (map (place_at order.now)) levels.now) }
+{
+    found.clear();
+    for level in levels {
+        found.push(level_in_order(order, level))?;
+    }
+    Ok(())
+}
+
+/// Levels across two rounds: of the rows of the late levels of one round, and behind them those of
+/// the early levels of the next one. Where late levels have few rows, they have room for rows of
+/// the next round (software pipelining of the rounds).
+///
+/// Contracts see the levels as lists of places.
+#[derive(Debug, Drop)]
+pub struct Overlap {
+    order: Vec<usize>,
+    pairs: Vec<Pair>,
+    numbered: Levels,
+    levels: Vec<Level>,
+}
+
+impl Model for Overlap {
+    ghost use Rattle.std.specs.Prelude.{List, ℕ};
+
+    ghost Value = { List (List ℕ) };
+
+    ghost view = { λ o. o.levels.items };
+}
+
+impl Overlap {
+    /// No levels. Takes no memory.
+    pub fn new(alloc: Global) -> Overlap
+        ensures { result ≡ [] }
+    {
+        Overlap {
+            order: Vec::new(alloc),
+            pairs: Vec::new(alloc),
+            numbered: Levels::new(alloc),
+            levels: Vec::new(alloc),
+        }
+    }
+
+    /// Finds the levels across two rounds of the rows of these pairs of so many bodies, where the
+    /// first `early` of their levels are early ones. Out of memory the levels are of no use.
+    #[tactic(auto, using(crate::proofs::InOrder::late_early_within, crate::proofs::InOrder::pairs_in_order, crate::proofs::InOrder::within_order))]
+    pub fn update(
+        &mut self,
+        pairs: &[Pair],
+        bodies: usize,
+        levels: &[Level],
+        early: usize,
+    ) -> Result<(), AllocError>
+        requires pairs { ArePairsOf bodies pairs.now }
+        requires levels { AreLevels pairs.now levels.now }
+        requires early { early ≤ length levels.now }
+        ensures { OnOk result (AreLevelsInOrder pairs.now
+            (late_then_early early levels.now) self.new) }
+    {
+        list_rows(&mut self.order, levels, early)?;
+        list_pairs(&mut self.pairs, pairs, &self.order)?;
+        self.numbered.update(&self.pairs, bodies)?;
+        list_levels(&mut self.levels, &self.order, self.numbered.levels())
+    }
+
+    /// The levels, one after the other.
+    pub fn levels(&self) -> &[Level]
+        ensures { result.now ≡ self.now }
+    {
+        self.levels.as_slice()
+    }
+}
