@@ -50,8 +50,10 @@ fn the_last_row_of_a_round_goes_with_the_first_of_the_next(rt: HostRuntime) -> R
     let pairs = [pair(0, 1), pair(1, 2), pair(2, 3)];
     let mut levels = Levels::new(rt.alloc());
     levels.update(&pairs, 4)?;
+    let found = levels.levels();
+    let early = found.len() / 3;
     let mut overlap = Overlap::new(rt.alloc());
-    overlap.update(&pairs, 4, levels.levels(), 1)?;
+    overlap.update(&pairs, 4, found, early)?;
     assert!(rt; are(overlap.levels(), &[&[1], &[2, 0]]));
     Ok(())
 }
