@@ -7,6 +7,7 @@ pub mod Exact
 pub mod Ascending
 pub mod Within
 pub mod Few
+pub mod Flagging
 pub mod Zipped
 pub mod Intervals
 pub mod CellNumbers

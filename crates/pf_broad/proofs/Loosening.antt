@@ -9,7 +9,7 @@ use Rattle.std.proofs.lemmas.List.Elements.{All-get_or, All-from_get_or, filter-
 use Rattle.std.specs.List.{range_with_len, filter, flat_map}
 use Rattle.pf_shapes.specs.Bounds.{Bounds, IsOrdered, overlaps, ranges_overlap}
 use Rattle.pf_shapes.specs.Pair.{Pair}
-use Rattle.pf_broad.specs.Pairs.{no_bounds, bounds_at, may_touch, is_pair, pair, partners_of, pairs_of, pairs}
+use Rattle.pf_broad.specs.Pairs.{no_bounds, bounds_at, may_touch, is_pair, pair, pair_may_touch, partners_of, pairs_of, pairs}
 use Rattle.pf_shapes.specs.declared.scene.TheConstants.{MAX_BODIES}
 use Rattle.pf_broad.specs.Loose.{contains, is_within, AreCandidates, AreLoosened}
 
@@ -106,9 +106,9 @@ flat_map-same f g a (suc n) h =
 
 -- the candidates that may touch are the pairs
 pub overlapping-pairs : (loose bounds : List Bounds) → AreLoosened loose bounds
-    → filter (λ p. may_touch (bounds_at bounds p.a) (bounds_at bounds p.b)) (pairs loose) ≡ pairs bounds
+    → filter (pair_may_touch bounds) (pairs loose) ≡ pairs bounds
 overlapping-pairs loose bounds is =
-    let t : Pair → Bool = λ p. may_touch (bounds_at bounds p.a) (bounds_at bounds p.b) in
+    let t = pair_may_touch bounds in
     filter-flat_map t (pairs_of loose) (range_with_len 0 (length loose))
     ∙ flat_map-same (λ i. filter t (pairs_of loose i)) (pairs_of bounds) 0 (length loose) (λ i below.
     filter-map t i (partners_of loose i)

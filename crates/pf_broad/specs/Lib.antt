@@ -6,4 +6,5 @@ pub mod Grid
 pub mod Stored
 pub mod Partners
 pub mod Loose
+pub mod Kept
 pub mod Laws

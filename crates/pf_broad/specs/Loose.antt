@@ -23,14 +23,6 @@ pub record AreLoosened (loose bounds : List Bounds) : Type 0 where
   pub as_many : length loose ≡ length bounds
   pub each : (k : ℕ) → k < length bounds → contains (bounds_at loose k) (bounds_at bounds k) ≡ true
 
--- for two bodies or more, where as many enlarged bounds are kept: these still contain the bounds of
--- each body that is not listed
-abbrev pub HaveStayed : List ℕ → List Bounds → List Bounds → Type 0
-HaveStayed moved loose bounds =
-    2 ≤ length bounds → length loose ≡ length bounds → (k : ℕ) → k < length bounds
-    → has_body moved k ≡ false
-    → contains (bounds_at loose k) (bounds_at bounds k) ≡ true
-
 -- the bodies that left their enlarged bounds
 abbrev pub left_bodies : List Bounds → List Bounds → List ℕ
 left_bodies loose bounds =

@@ -24,12 +24,20 @@ bounds_at bs i = slice_index_or bs i no_bounds
 unfoldable pub may_touch : Bounds → Bounds → Bool
 may_touch a b = not (a.is_static && b.is_static) && overlaps a b
 
+-- the bodies of a pair may touch
+abbrev pub pair_may_touch : List Bounds → Pair → Bool
+pair_may_touch bs p = may_touch (bounds_at bs p.a) (bounds_at bs p.b)
+
 -- the second body has the greater number, and the two may touch
 abbrev pub is_pair : List Bounds → ℕ → ℕ → Bool
 is_pair bs i j = nat_lt i j && may_touch (bounds_at bs i) (bounds_at bs j)
 
 abbrev pub pair : ℕ → ℕ → Pair
 pair i j = record { a = i; b = j }
+
+-- the pair at this place of a list
+abbrev pub pair_at : List Pair → ℕ → Pair
+pair_at ps i = slice_index_or ps i (pair 0 0)
 
 -- the bodies of greater numbers that a body may touch, in ascending order
 abbrev pub partners_of : List Bounds → ℕ → List ℕ

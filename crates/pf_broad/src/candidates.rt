@@ -1,30 +1,63 @@
 //! Pairs of bodies whose enlarged bounds overlap, from tick to tick.
 
-ghost use Rattle.std.specs.Prelude.{◌≡◌, ℕ, ◌<◌, ◌≤◌, ◌&&◌, ◌||◌, ◌++◌, drop, false, filter, length, nat_lt, All, IfOk, OnOk};
+ghost use Rattle.std.specs.Prelude.{◌≡◌, ℕ, ◌<◌, ◌≤◌, ◌&&◌, ◌||◌, ◌++◌, drop, false, filter, get_or, length, map, nat_lt, All, IfOk, OnOk};
 ghost use Rattle.pf_shapes.specs.Pair.{IsPairOf};
-ghost use Rattle.pf_broad.specs.Pairs.{bounds_at, is_pair, may_touch, partners_of};
+ghost use Rattle.pf_broad.specs.Pairs.{bounds_at, is_pair, may_touch, pair_may_touch, partners_of};
 ghost use Rattle.pf_broad.specs.Partners.{has_body, AreBodies};
 ghost use Rattle.pf_broad.specs.Loose.{behind, seconds};
+ghost use Rattle.pf_broad.specs.Kept.{AreFlagged};
 
 use crate::partners::{add_later, add_overlapping, may_touch};
 use pf_shapes::{Bounds, MAX_BODIES, Pair};
 use std::alloc::{AllocError, Global};
 
-/// Of candidates those whose bodies may touch.
+/// For each body whether it may have moved: those that are listed may, or with `all` every body.
+pub(crate) fn moving_flags(
+    alloc: Global,
+    count: usize,
+    all: bool,
+    moved: &[usize],
+) -> Result<Vec<bool>, AllocError>
+    requires { All (λ number. number < count) moved.now }
+    ensures count { IfOk result (λ flags. length flags.items ≡ count) }
+    ensures each { IfOk result (λ flags. (k : ℕ) → k < count
+        → get_or flags.items k false ≡ (all || has_body moved.now k)) }
+{
+    let mut flags = Vec::with_capacity(alloc, count)?;
+    flags.resize(count, all)?;
+    for number in moved {
+        flags[*number] = true;
+    }
+    Ok(flags)
+}
+
+/// Of candidates those whose bodies may touch. Each has a flag that says so; a candidate is tested,
+/// and its flag written, only where one of its bodies may have moved.
 #[inline(never)]
 pub(crate) fn overlapping(
     alloc: Global,
     candidates: &[Pair],
+    flags: &mut [bool],
+    moving: &[bool],
     bounds: &[Bounds],
 ) -> Result<Vec<Pair>, AllocError>
-    requires { All (IsPairOf (length bounds.now)) candidates.now }
-    ensures { IfOk result (λ found. found.items
-        ≡ filter (λ p. may_touch (bounds_at bounds.now p.a) (bounds_at bounds.now p.b))
-        candidates.now) }
+    requires candidates { All (IsPairOf (length bounds.now)) candidates.now }
+    requires flags { length flags.old ≡ length candidates.now }
+    requires moving { length moving.now ≡ length bounds.now }
+    requires others { AreFlagged (λ k. get_or moving.now k false) bounds.now candidates.now
+        flags.old }
+    ensures found { IfOk result
+        (λ found. found.items ≡ filter (pair_may_touch bounds.now) candidates.now) }
+    ensures flags { IfOk result
+        (λ _. flags.new ≡ map (pair_may_touch bounds.now) candidates.now) }
 {
     let mut found = Vec::with_capacity(alloc, candidates.len())?;
-    for pair in candidates {
-        if may_touch(&bounds[pair.a], &bounds[pair.b]) {
+    for i in 0..candidates.len() {
+        let pair = &candidates[i];
+        if moving[pair.a] | moving[pair.b] {
+            flags[i] = may_touch(&bounds[pair.a], &bounds[pair.b]);
+        }
+        if flags[i] {
             found.push_reserved(*pair);
         }
     }

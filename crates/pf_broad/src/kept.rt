@@ -1,7 +1,7 @@
 //! The broad phase that is kept from tick to tick.
 
 use crate::broad_phase::{add_pairs, all_pairs};
-use crate::candidates::{add_candidates, complete, overlapping};
+use crate::candidates::{add_candidates, complete, moving_flags, overlapping};
 use crate::grid::Grid;
 use crate::loose::{all_enlarged_bounds, has_left, left_bodies, refit};
 use pf_shapes::{BodyState, Bounds, Pair};
@@ -13,24 +13,26 @@ use std::mem;
 const MAX_LEFT: usize = 16;
 
 /// What the broad phase keeps from tick to tick, as Box2D's `b2BroadPhase` does: enlarged bounds of
-/// all bodies, and as candidates the pairs of bodies whose enlarged bounds overlap. It is sound for
-/// every scene and world: what is kept changes no result, only time.
+/// all bodies, and as candidates the pairs of bodies whose enlarged bounds overlap. Each candidate
+/// has a flag that says whether its bodies may touch. It is sound for every scene and world: what
+/// is kept changes no result, only time.
 ///
-/// Contracts see the enlarged bounds.
+/// Contracts see the enlarged bounds and the flags.
 #[derive(Debug, Drop)]
 pub struct BroadPhase {
     loose: Vec<Bounds>,
     candidates: Vec<Pair>,
+    /// One for each candidate; none where the candidates are new.
+    flags: Vec<bool>,
 }
 
 impl Model for BroadPhase {
-    ghost use Rattle.std.specs.Prelude.{List};
-    ghost use Rattle.pf_shapes.specs.Bounds.{Bounds};
+    ghost use Rattle.pf_broad.specs.Kept.{BroadPhase};
     ghost use Rattle.pf_broad.specs.Loose.{AreCandidates};
 
-    ghost Value = { List Bounds };
+    ghost Value = { BroadPhase };
 
-    ghost view = { λ b. b.loose.items };
+    ghost view = { λ b. record { loose = b.loose.items; flags = b.flags.items } };
 
     ghost invariant = { λ b. AreCandidates b.loose.items b.candidates.items };
 }
@@ -41,24 +43,26 @@ impl BroadPhase {
     ghost use Rattle.pf_shapes.specs.Pair.{IsAscending, IsPairOf};
     ghost use Rattle.pf_shapes.specs.declared.scene.TheConstants.{MAX_BODIES};
     ghost use Rattle.pf_broad.specs.Pairs.{pairs};
-    ghost use Rattle.pf_broad.specs.Loose.{AreLoosened, AreSameBut, HaveStayed};
+    ghost use Rattle.pf_broad.specs.Loose.{AreLoosened, AreSameBut};
+    ghost use Rattle.pf_broad.specs.Kept.{HasFlags, IsKeptOf, StillHolds, nothing_kept};
     ghost use Rattle.pf_broad.specs.Partners.{AreBodies};
 
     /// Nothing kept. Takes no memory.
     pub fn new(alloc: Global) -> BroadPhase
-        ensures { result ≡ [] }
+        ensures { result ≡ nothing_kept }
     {
         BroadPhase {
             loose: Vec::new(alloc),
             candidates: Vec::new(alloc),
+            flags: Vec::new(alloc),
         }
     }
 
     /// The pairs of bodies, at most one of them static, whose bounds overlap: in ascending order,
     /// each once, whatever is kept. `bodies` decides only how far bounds are enlarged, by how fast
     /// each body moves. Bodies that are not in `moved` have the bounds that they had in the last
-    /// call, and are not looked at. For fewer than two bodies it takes no memory, and can't fail. An
-    /// error drops what is kept.
+    /// call: two of these are not tested again. For fewer than two bodies it takes no memory, and
+    /// can't fail. An error drops what is kept.
     pub fn pairs(
         &mut self,
         alloc: Global,
@@ -68,32 +72,45 @@ impl BroadPhase {
     ) -> Result<Vec<Pair>, AllocError>
         requires bodies { length bodies.now ≡ length bounds.now }
         requires moved { AreBodies bounds.now moved.now }
-        requires others { HaveStayed moved.now self.old bounds.now }
+        requires others { 2 ≤ length bounds.now → length self.old.loose ≡ length bounds.now
+            → StillHolds moved.now self.old bounds.now }
         requires few { length bounds.now ≤ MAX_BODIES }
         requires ordered { All IsOrdered bounds.now }
         ensures pairs { IfOk result (λ found. found.items ≡ pairs bounds.now) }
         ensures ascending { IfOk result (λ found. IsAscending found.items) }
         ensures bodies { IfOk result (λ found. All (IsPairOf (length bounds.now)) found.items) }
-        ensures kept { OnOk result (2 ≤ length bounds.now → AreLoosened self.new bounds.now) }
-        ensures dropped { OnErr result (self.new ≡ []) }
+        ensures kept { OnOk result (2 ≤ length bounds.now → IsKeptOf self.new bounds.now) }
+        ensures dropped { OnErr result (self.new ≡ nothing_kept) }
         ensures no_memory { length bounds.now < 2 → IsOk result }
     {
         if bounds.len() < 2 {
             return Ok(Vec::new(alloc));
         }
         let kept = mem::replace(self, BroadPhase::new(alloc));
-        let next = kept.refresh(alloc, bounds, bodies, moved)?;
-        let found = next.overlapping(alloc, bounds)?;
+        let mut next = kept.refresh(alloc, bounds, bodies, moved)?;
+        let found = next.overlapping(alloc, bounds, moved)?;
         *self = next;
         Ok(found)
     }
 
-    /// Of the candidates those whose bodies may touch.
-    fn overlapping(&self, alloc: Global, bounds: &[Bounds]) -> Result<Vec<Pair>, AllocError>
-        requires { AreLoosened self.now bounds.now }
-        ensures { IfOk result (λ found. found.items ≡ pairs bounds.now) }
+    /// Of the candidates those whose bodies may touch. New candidates are all tested.
+    fn overlapping(
+        &mut self,
+        alloc: Global,
+        bounds: &[Bounds],
+        moved: &[usize],
+    ) -> Result<Vec<Pair>, AllocError>
+        requires loosened { AreLoosened self.old.loose bounds.now }
+        requires moved { AreBodies bounds.now moved.now }
+        requires flags { HasFlags moved.now self.old bounds.now }
+        ensures found { IfOk result (λ found. found.items ≡ pairs bounds.now) }
+        ensures kept { OnOk result (IsKeptOf self.new bounds.now) }
     {
-        overlapping(alloc, &self.candidates, bounds)
+        let count = self.candidates.len();
+        let are_new = self.flags.len() != count;
+        let moving = moving_flags(alloc, bounds.len(), are_new, moved)?;
+        self.flags.resize(count, false)?;
+        overlapping(alloc, &self.candidates, &mut self.flags, &moving, bounds)
     }
 
     /// Enlarged bounds that contain these, and their pairs. Where few bodies have left their
@@ -108,10 +125,12 @@ impl BroadPhase {
         requires many { 2 ≤ length bounds.now }
         requires bodies { length bodies.now ≡ length bounds.now }
         requires moved { AreBodies bounds.now moved.now }
-        requires others { HaveStayed moved.now self bounds.now }
+        requires others { length self.loose ≡ length bounds.now
+            → StillHolds moved.now self bounds.now }
         requires few { length bounds.now ≤ MAX_BODIES }
         requires ordered { All IsOrdered bounds.now }
-        ensures { IfOk result (λ kept. AreLoosened kept bounds.now) }
+        ensures loosened { IfOk result (λ kept. AreLoosened kept.loose bounds.now) }
+        ensures flags { IfOk result (λ kept. HasFlags moved.now kept bounds.now) }
     {
         if self.loose.len() != bounds.len() {
             return BroadPhase::of(alloc, bounds, bodies);
@@ -125,7 +144,11 @@ impl BroadPhase {
         }
         let loose = refit(alloc, &self.loose, bounds, bodies)?;
         let candidates = self.update_candidates(alloc, &loose, &left)?;
-        Ok(BroadPhase { loose, candidates })
+        Ok(BroadPhase {
+            loose,
+            candidates,
+            flags: Vec::new(alloc),
+        })
     }
 
     /// The pairs by new enlarged bounds, which differ from the old ones only for the bodies of
@@ -138,9 +161,9 @@ impl BroadPhase {
         left: &[u16],
     ) -> Result<Vec<Pair>, AllocError>
         requires few { length loose.now ≤ MAX_BODIES }
-        requires as_many { length self.now ≡ length loose.now }
+        requires as_many { length self.now.loose ≡ length loose.now }
         requires left { AreBodies loose.now left.now }
-        requires same { AreSameBut left.now self.now loose.now }
+        requires same { AreSameBut left.now self.now.loose loose.now }
         ensures { IfOk result (λ found. found.items ≡ pairs loose.now) }
     {
         let candidates = self.candidates.as_slice();
@@ -161,11 +184,16 @@ impl BroadPhase {
         requires bodies { length bodies.now ≡ length bounds.now }
         requires few { length bounds.now ≤ MAX_BODIES }
         requires ordered { All IsOrdered bounds.now }
-        ensures { IfOk result (λ kept. AreLoosened kept bounds.now) }
+        ensures loosened { IfOk result (λ kept. AreLoosened kept.loose bounds.now) }
+        ensures flags { IfOk result (λ kept. kept.flags ≡ []) }
     {
         let loose = all_enlarged_bounds(alloc, bounds, bodies)?;
         let grid = Grid::of_bounds(alloc, &loose)?;
         let candidates = all_pairs(alloc, &grid, &loose)?;
-        Ok(BroadPhase { loose, candidates })
+        Ok(BroadPhase {
+            loose,
+            candidates,
+            flags: Vec::new(alloc),
+        })
     }
 }

@@ -4,7 +4,7 @@ use Rattle.std.specs.List.{zip}
 use Rattle.pf_shapes.specs.Fixture.{Fixture}
 use Rattle.pf_shapes.specs.Body.{BodyState}
 use Rattle.pf_shapes.specs.Bounds.{Bounds, IsOrdered, shape_bounds}
-use Rattle.pf_broad.specs.Loose.{AreLoosened}
+use Rattle.pf_broad.specs.Kept.{BroadPhase, IsKeptOf}
 use Rattle.pf_broad.specs.Pairs.{all_bounds}
 use Rattle.pf_broad.specs.Partners.{has_body}
 use Rattle.pf_manifold.specs.PlacedShape.{PlacedShape}
@@ -45,6 +45,6 @@ HaveStayed moved placed fixtures bodies =
     → (slice_get placed.shapes k ≡ slice_get (placed_shapes fixtures bodies) k)
     × (slice_get placed.bounds k ≡ slice_get (all_bounds fixtures bodies) k)
 
--- for two bodies or more: the broad phase keeps enlarged bounds of these
-abbrev pub IsLoosened : List Bounds → List Bounds → Type 0
-IsLoosened loose bounds = 2 ≤ length bounds → AreLoosened loose bounds
+-- for two bodies or more: the broad phase keeps enlarged bounds and flags of these
+abbrev pub KeepsBounds : BroadPhase → List Bounds → Type 0
+KeepsBounds kept bounds = 2 ≤ length bounds → IsKeptOf kept bounds

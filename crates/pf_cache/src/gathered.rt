@@ -174,8 +174,6 @@ pub struct PairPoints {
     pub spans: Vec<Span>,
     /// The points.
     pub touches: Vec<Touch>,
-    /// How many of the first points are known to have the keys of the first kept ones.
-    pub same: usize,
     /// For how many pairs they were computed.
     pub computed: usize,
 }
@@ -229,7 +227,6 @@ pub fn gather(
     Ok(PairPoints {
         spans,
         touches,
-        same: 0,
         computed,
     })
 }

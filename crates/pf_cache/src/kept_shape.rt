@@ -150,3 +150,12 @@ pub fn are_unmoved(unmoved: &[bool], pair: &Pair) -> bool
 {
     is_unmoved(unmoved, pair.a) && is_unmoved(unmoved, pair.b)
 }
+
+/// Whether the flags of both bodies of a pair are set. Both bodies have a flag.
+#[inline]
+pub fn are_flags_set(unmoved: &[bool], pair: &Pair) -> bool
+    requires { IsPairOf (length unmoved.now) pair.now }
+    ensures { result ≡ are_unmoved unmoved.now pair.now }
+{
+    unmoved[pair.a] & unmoved[pair.b]
+}

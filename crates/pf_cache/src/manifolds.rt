@@ -1,9 +1,10 @@
 //! Contact points that are kept from tick to tick.
 
-ghost use Rattle.std.specs.Prelude.{◌≡◌, ◌≢◌, ◌≤◌, [], All, IfOk, length, map};
+ghost use Rattle.std.specs.Prelude.{◌≡◌, ◌≢◌, ◌≤◌, All, IfOk, length, map};
 ghost use Rattle.std.specs.List.{flat_map};
 ghost use Rattle.pf_shapes.specs.Pair.{IsAscending, IsPairOf};
 ghost use Rattle.pf_shapes.specs.declared.scene.TheConstants.{MAX_BODIES};
+ghost use Rattle.pf_broad.specs.Kept.{nothing_kept};
 ghost use Rattle.pf_manifold.specs.Key.{IsRising, key_of};
 ghost use Rattle.pf_cache.specs.Contact.{HaveSameFirst};
 ghost use Rattle.pf_cache.specs.Manifolds.{placed_shapes, points_of_pair};
@@ -38,7 +39,7 @@ pub struct Manifolds {
 impl Model for Manifolds {
     ghost use Rattle.std.specs.Prelude.{map};
     ghost use Rattle.pf_cache.specs.Manifolds.{Manifolds};
-    ghost use Rattle.pf_cache.specs.PlacedBodies.{IsLoosened};
+    ghost use Rattle.pf_cache.specs.PlacedBodies.{KeepsBounds};
     ghost use Rattle.pf_cache.specs.Spans.{AreSpans};
 
     ghost Value = { Manifolds };
@@ -50,7 +51,7 @@ impl Model for Manifolds {
     } };
 
     ghost invariant = { λ m. AreSpans m.placed.shapes m.spans.items m.touches.items
-        × IsLoosened m.broad_phase m.placed.bounds };
+        × KeepsBounds m.broad_phase m.placed.bounds };
 }
 
 /// What the narrow phase of a tick found.
@@ -79,10 +80,19 @@ pub struct FoundCollisions {
     pub same: usize,
 }
 
+/// The contact points of a tick's pairs.
+#[derive(Drop)]
+struct FoundPoints {
+    /// The points.
+    points: PairPoints,
+    /// How many of the first points are known to have the keys of the first kept ones.
+    same: usize,
+}
+
 /// What the broad phase keeps of so many bodies, if they are as many as now; else nothing.
 fn kept_for(alloc: Global, kept: BroadPhase, count: usize, bodies: usize) -> BroadPhase
     ensures same { count ≡ bodies → result ≡ kept }
-    ensures other { count ≢ bodies → result ≡ [] }
+    ensures other { count ≢ bodies → result ≡ nothing_kept }
 {
     if count == bodies {
         kept
@@ -101,20 +111,21 @@ fn updated_points(
     pairs: &[Pair],
     unmoved: &[bool],
     shapes: &[KeptShape],
-) -> Result<PairPoints, AllocError>
+) -> Result<FoundPoints, AllocError>
     requires few { length shapes.now ≤ MAX_BODIES }
     requires pairs { All (IsPairOf (length shapes.now)) pairs.now }
     requires ascending { IsAscending pairs.now }
     requires rising { IsRising 0 (map (λ s. pair_rank s.pair) kept_spans.items) }
     requires placed { ArePlaced 0 kept_spans.items (length kept_touches.items) }
     requires kept { All (IsKeptSpan shapes.now unmoved.now kept_touches.items) kept_spans.items }
-    ensures spans { IfOk result (λ found. found.spans.items ≡ spans_from 0 shapes.now pairs.now) }
+    ensures spans { IfOk result (λ found. found.points.spans.items
+        ≡ spans_from 0 shapes.now pairs.now) }
     ensures touches { IfOk result
-        (λ found. found.touches.items ≡ flat_map (points_of_pair shapes.now) pairs.now) }
-    ensures computed { IfOk result (λ found. found.computed
+        (λ found. found.points.touches.items ≡ flat_map (points_of_pair shapes.now) pairs.now) }
+    ensures computed { IfOk result (λ found. found.points.computed
         ≡ computed_count_by_flags (map (λ s. s.pair) kept_spans.items) unmoved.now pairs.now) }
     ensures same { IfOk result (λ found. HaveSameFirst found.same (map key_of kept_touches.items)
-        (map key_of found.touches.items)) }
+        (map key_of found.points.touches.items)) }
 {
     let mut spans = kept_spans;
     let mut touches = kept_touches;
@@ -130,11 +141,14 @@ fn updated_points(
     touches.truncate(done.points);
     touches.extend_from_slice(&rest.touches)?;
     let computed = done.computed + rest.computed;
-    Ok(PairPoints {
+    let points = PairPoints {
         spans,
         touches,
-        same: done.same,
         computed,
+    };
+    Ok(FoundPoints {
+        points,
+        same: done.same,
     })
 }
 
@@ -147,26 +161,26 @@ fn points_at_once<C: Collider>(
     bodies: &[BodyState],
     pairs: &[Pair],
     computed: usize,
-) -> Result<PairPoints, AllocError>
+) -> Result<FoundPoints, AllocError>
     requires can { C.can_collide collider.now }
     requires bodies { length bodies.now ≡ length scene.now.fixtures }
     requires pairs { All (IsPairOf (length bodies.now)) pairs.now }
     requires ascending { IsAscending pairs.now }
-    ensures spans { IfOk result (λ found. found.spans.items
+    ensures spans { IfOk result (λ found. found.points.spans.items
         ≡ spans_from 0 (placed_shapes scene.now.fixtures bodies.now) pairs.now) }
-    ensures touches { IfOk result (λ found. found.touches.items
+    ensures touches { IfOk result (λ found. found.points.touches.items
         ≡ flat_map (points_of_pair (placed_shapes scene.now.fixtures bodies.now)) pairs.now) }
-    ensures computed { IfOk result (λ found. found.computed ≡ computed) }
+    ensures computed { IfOk result (λ found. found.points.computed ≡ computed) }
     ensures same { IfOk result (λ found. found.same ≡ 0) }
 {
     let touches = collider.collide(alloc, scene, bodies, pairs)?;
     let spans = spans_of_points(alloc, pairs, &touches)?;
-    Ok(PairPoints {
+    let points = PairPoints {
         spans,
         touches,
-        same: 0,
         computed,
-    })
+    };
+    Ok(FoundPoints { points, same: 0 })
 }
 
 impl Manifolds {
@@ -256,20 +270,20 @@ impl Manifolds {
         let kept_spans = self.spans;
         let kept_touches = self.touches;
         let pairs = broad_phase.pairs(alloc, placed.bounds(), bodies, moved)?;
-        let points = match computed_if_many(&kept_spans, &unmoved, &pairs, C::MANY) {
+        let found = match computed_if_many(&kept_spans, &unmoved, &pairs, C::MANY) {
             Some(computed) => points_at_once(collider, alloc, scene, bodies, &pairs, computed)?,
             None => {
                 let shapes = placed.shapes();
                 updated_points(alloc, kept_spans, kept_touches, &pairs, &unmoved, shapes)?
             }
         };
-        let same = points.same;
-        let computed = points.computed;
+        let same = found.same;
+        let computed = found.points.computed;
         let manifolds = Manifolds {
             placed,
             broad_phase,
-            spans: points.spans,
-            touches: points.touches,
+            spans: found.points.spans,
+            touches: found.points.touches,
         };
         let collisions = Collisions {
             manifolds,

@@ -10,7 +10,7 @@ ghost use Rattle.pf_cache.specs.Contact.{HaveSameFirst};
 ghost use Rattle.pf_cache.specs.Manifolds.{points_of_pair};
 ghost use Rattle.pf_cache.specs.Spans.{ArePlaced, AreRefreshed, IsKeptSpan, computed_count_by_flags};
 
-use crate::kept_shape::{KeptShape, are_unmoved, manifold_of_pair};
+use crate::kept_shape::{KeptShape, are_flags_set, manifold_of_pair};
 use crate::listed::is_of_pair;
 use crate::spans::Span;
 use pf_manifold::{ContactPoint, Manifold, Touch, replace_points};
@@ -87,11 +87,13 @@ fn refresh_span(
     Some(if is_same { same } else { start })
 }
 
-/// Updates the contact points of pairs in place. Those of unmoved bodies stay; the others are
-/// computed and written over the old ones. It stops at the first pair that has no span at its
-/// place, or another number of points than before. No clause says that it does not stop earlier.
-/// The first points have the keys that they had up to the first pair whose features changed; no
-/// clause says that they are so many.
+/// Updates the contact points of pairs in place, from the first pair on. Points of two unmoved
+/// bodies stay. All others are computed and written over the old ones. It stops at a pair that has
+/// no span at its place, or another number of points than before. Where there are not as many flags
+/// as bodies, it does nothing. No clause says how far it comes.
+///
+/// Also finds how many of the first points have the keys that they had: those in front of the first
+/// pair whose features changed. No clause says that they are not more.
 #[inline(never)]
 #[tactic(auto, using(crate::proofs::Refreshing::kept_after))]
 pub fn refresh(
@@ -114,6 +116,14 @@ pub fn refresh(
         ≡ computed_count_by_flags (map (λ s. s.pair) spans.now) unmoved.now
         (take result.pairs pairs.now) }
 {
+    if unmoved.len() != shapes.len() {
+        return Progress {
+            pairs: 0,
+            points: 0,
+            same: 0,
+            computed: 0,
+        };
+    }
     let mut place = 0;
     let mut points = 0;
     let mut same = touches.len();
@@ -124,7 +134,7 @@ pub fn refresh(
         if !span.is_of(pair) {
             break;
         }
-        if !are_unmoved(unmoved, pair) {
+        if !are_flags_set(unmoved, pair) {
             match refresh_span(touches, span, shapes, same) {
                 Some(still) => same = still,
                 None => break,

@@ -5,7 +5,7 @@ use Rattle.pf_cache.specs.Spans.{IsKeptSpan, Span, are_unmoved}
 use Rattle.pf_manifold.specs.Key.{key_of}
 use Rattle.pf_cache.proofs.FirstKeys.{fewer_same}
 use Rattle.pf_cache.proofs.Refreshing.{AreDone, keys_after, left, moved_more, unmoved_same, written}
-use Rattle.pf_cache.proofs.refresh.refresh.Goals.{then-not-are_unmoved+in-Some, else-not-are_unmoved, else-loop-place-test, then-loop-place-test+else-place-spans, then-loop-place-test+then-place-spans+then-not-is_of, then-loop-place-test+then-place-spans+else-not-is_of+then-not-are_unmoved+in-None}
+use Rattle.pf_cache.proofs.refresh.refresh.Goals.{then-not-are_flags_set+in-Some, else-not-are_flags_set, else-loop-place-test, then-loop-place-test+else-place-spans, then-loop-place-test+then-place-spans+then-not-is_of, then-loop-place-test+then-place-spans+else-not-is_of+then-not-are_flags_set+in-None}
 use Rattle.pf_cache.proofs.refresh.refresh.Goals as goal
 
 pub loop-place-preserved : goal.loop-place-preserved
@@ -25,9 +25,9 @@ loop-place-preserved c =
     let kept = subst (IsKeptSpan shapes c.args.unmoved.now start) (sym s_is) (c.requires.kept i s c.if-place-spans.true) in
     record {
       within = omega (arith, within);
-      same_length = c.if-not-are_unmoved.auto.touches ∙ c.loop-place.invariant.same_length;
-      done = elim c.if-not-are_unmoved.branch [
-        | then-not-are_unmoved+in-Some w ↦
+      same_length = c.if-not-are_flags_set.auto.touches ∙ c.loop-place.invariant.same_length;
+      done = elim c.if-not-are_flags_set.branch [
+        | then-not-are_flags_set+in-Some w ↦
             subst (λ ts. AreDone shapes spans pairs start (i + 1) (s.start + s.len) ts) (sym w.touches-is)
             (written shapes spans pairs start i c.loop-place.points touches s p c.if-place-spans.true c.loop-place-test.true
             s_is c.index-pairs-place.is same done w.refresh_span.new.touches
@@ -36,26 +36,26 @@ loop-place-preserved c =
             (w.in-Some.ensures.written
             ∙ ap (λ (x : Span). take x.start touches ++ (points_of_pair shapes x.pair ++ drop (x.start + x.len) touches)) (sym c.span.view_is)
             ∙ ap (λ q. take s.start touches ++ (points_of_pair shapes q ++ drop (s.start + s.len) touches)) same))
-        | else-not-are_unmoved w ↦
+        | else-not-are_flags_set w ↦
             subst (λ ts. AreDone shapes spans pairs start (i + 1) (s.start + s.len) ts) (sym w.touches-is)
             (left shapes spans pairs start i c.loop-place.points touches s p c.if-place-spans.true c.loop-place-test.true
             s_is c.index-pairs-place.is same done kept.within
-            (kept.points (ap (are_unmoved c.args.unmoved.now) same ∙ sym w.if-not-are_unmoved.ensures)))
+            (kept.points (ap (are_unmoved c.args.unmoved.now) same ∙ sym w.if-not-are_flags_set.ensures)))
       ];
-      same = elim c.if-not-are_unmoved.branch [
-        | then-not-are_unmoved+in-Some w ↦
+      same = elim c.if-not-are_flags_set.branch [
+        | then-not-are_flags_set+in-Some w ↦
             rw (w.touches-is, w.same-is)
             (w.in-Some.ensures.same
             ∙ fewer_same w.in-Some.still c.loop-place.same (map key_of touches) (map key_of start) w.in-Some.ensures.fewer c.loop-place.invariant.same)
-        | else-not-are_unmoved w ↦ rw (w.touches-is, w.same-is) c.loop-place.invariant.same
+        | else-not-are_flags_set w ↦ rw (w.touches-is, w.same-is) c.loop-place.invariant.same
       ];
-      computed = elim c.if-not-are_unmoved.branch [
-        | then-not-are_unmoved+in-Some w ↦ w.computed-is
+      computed = elim c.if-not-are_flags_set.branch [
+        | then-not-are_flags_set+in-Some w ↦ w.computed-is
             ∙ moved_more (map (λ (x : Span). x.pair) spans) c.args.unmoved.now pairs i p c.loop-place-test.true c.index-pairs-place.is
-            c.loop-place.computed c.loop-place.invariant.computed (sym w.if-not-are_unmoved.ensures)
-        | else-not-are_unmoved w ↦ w.computed-is
+            c.loop-place.computed c.loop-place.invariant.computed (sym w.if-not-are_flags_set.ensures)
+        | else-not-are_flags_set w ↦ w.computed-is
             ∙ unmoved_same (map (λ (x : Span). x.pair) spans) c.args.unmoved.now pairs i p c.loop-place-test.true c.index-pairs-place.is
-            spans i s c.if-place-spans.true s_is same refl c.loop-place.computed c.loop-place.invariant.computed (sym w.if-not-are_unmoved.ensures)
+            spans i s c.if-place-spans.true s_is same refl c.loop-place.computed c.loop-place.invariant.computed (sym w.if-not-are_flags_set.ensures)
       ];
     }
 
@@ -67,7 +67,7 @@ returns-clause-same c =
       | else-loop-place-test w ↦ w.touches-is
       | then-loop-place-test+else-place-spans w ↦ w.touches-is
       | then-loop-place-test+then-place-spans+then-not-is_of w ↦ w.touches-is
-      | then-loop-place-test+then-place-spans+else-not-is_of+then-not-are_unmoved+in-None w ↦ w.touches-is ∙ w.in-None.ensures.others refl
+      | then-loop-place-test+then-place-spans+else-not-is_of+then-not-are_flags_set+in-None w ↦ w.touches-is ∙ w.in-None.ensures.others refl
     ] in
     rw touches_are
     (keys_after c.args.shapes.now c.args.spans.now c.args.pairs.now start c.loop-place.place c.loop-place.points c.loop-place.touches

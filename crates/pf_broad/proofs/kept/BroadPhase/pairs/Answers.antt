@@ -10,7 +10,7 @@ returns-then-bounds-lt2-clause-pairs c =
     let none = few_bounds c.args.bounds.now (omega arith) in cc
 
 pub returns-clause-ascending : goal.returns-clause-ascending
-returns-clause-ascending c = subst IsAscending (sym c.in_ok-found.ensures) (ascending c.args.bounds.now)
+returns-clause-ascending c = subst IsAscending (sym c.in_ok-found.ensures.found) (ascending c.args.bounds.now)
 
 pub returns-clause-bodies : goal.returns-clause-bodies
-returns-clause-bodies c = pairs-IsPairOf c.args.bounds.now c.in_ok-found.found.items _ c.in_ok-found.ensures refl
+returns-clause-bodies c = pairs-IsPairOf c.args.bounds.now c.in_ok-found.found.items _ c.in_ok-found.ensures.found refl

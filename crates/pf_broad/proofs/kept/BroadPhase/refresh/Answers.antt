@@ -3,6 +3,7 @@ use Rattle.std.proofs.lemmas.Bool.{cases_Bool}
 use Rattle.std.proofs.lemmas.Bool.Decides.{nat_tests}
 use Rattle.std.specs.List.{filter, range_with_len}
 use Rattle.pf_broad.specs.Pairs.{bounds_at, pairs}
+use Rattle.pf_broad.specs.Kept.{BroadPhase}
 use Rattle.pf_broad.specs.Loose.{contains}
 use Rattle.pf_broad.specs.Partners.{has_body}
 use Rattle.pf_broad.proofs.Leaving.{none_listed}
@@ -10,11 +11,11 @@ use Rattle.pf_broad.proofs.Loosening.{candidates_of}
 use Rattle.pf_broad.proofs.Partnering.{filter-AreBodies}
 use Rattle.pf_broad.proofs.kept.BroadPhase.refresh.Goals as goal
 
-pub returns-then-not-has_left : goal.returns-then-not-has_left
-returns-then-not-has_left c =
+pub returns-then-not-has_left-clause-loosened : goal.returns-then-not-has_left-clause-loosened
+returns-then-not-has_left-clause-loosened c =
     let bs = c.args.bounds.now in
-    let shown : c.deref.result.now ≡ c.args.self = c.deref.ensures.value ∙ c.self.view_is in
-    let as_many : length c.args.self ≡ length bs = grind (arith, nat_tests, ap length shown) in
+    let shown : c.deref.result.now ≡ c.args.self.loose = c.deref.ensures.value ∙ ap (λ (b : BroadPhase). b.loose) c.self.view_is in
+    let as_many : length c.args.self.loose ≡ length bs = grind (arith, nat_tests, ap length shown) in
     record {
       as_many = as_many;
       each = λ k below.
@@ -23,7 +24,7 @@ returns-then-not-has_left c =
           (holds (contains (bounds_at c.deref.result.now k) (bounds_at bs k))
           (none_listed (λ j. not (contains (bounds_at c.deref.result.now j) (bounds_at bs j))) c.args.moved.now k
           (sym c.has_left.ensures ∙ c.if-not-has_left.true) listed)))
-          (λ other. c.requires.others c.requires.many as_many k below other)
+          (λ other. (c.requires.others as_many).contained k below other)
           (cases_Bool (has_body c.args.moved.now k));
     }
   where

@@ -3,6 +3,7 @@ use Rattle.std.specs.List.{filter, flat_map, range_with_len}
 use Rattle.pf_shapes.specs.Pair.{Pair}
 use Rattle.pf_broad.specs.Pairs.{bounds_at, is_pair, may_touch, pair, pairs, pairs_of}
 use Rattle.pf_broad.specs.Partners.{has_body}
+use Rattle.pf_broad.specs.Kept.{BroadPhase}
 use Rattle.pf_broad.specs.Loose.{behind, seconds}
 use Rattle.pf_broad.proofs.Finding.{pairs-more}
 use Rattle.pf_broad.proofs.Leaving.{first_seconds, first_behind, kept_partners, AreBodies-within}
@@ -11,12 +12,12 @@ use Rattle.pf_broad.proofs.kept.BroadPhase.update_candidates.Goals as goal
 
 pub add_candidates-requires-clause-pairs : goal.add_candidates-requires-clause-pairs
 add_candidates-requires-clause-pairs c =
-    let all : c.as_slice-candidates.result.now ≡ pairs c.args.self.now = c.as_slice-candidates.ensures.value ∙ c.self.invariant.pairs ∙ ap pairs c.self.view_is in
-    pairs-IsPairOf c.args.self.now c.as_slice-candidates.result.now (length c.args.loose.now) all c.requires.as_many
+    let all : c.as_slice-candidates.result.now ≡ pairs c.args.self.now.loose = c.as_slice-candidates.ensures.value ∙ c.self.invariant.pairs ∙ ap (λ (b : BroadPhase). pairs b.loose) c.self.view_is in
+    pairs-IsPairOf c.args.self.now.loose c.as_slice-candidates.result.now (length c.args.loose.now) all c.requires.as_many
 
 pub complete-requires-clause-kept : goal.complete-requires-clause-kept
 complete-requires-clause-kept c =
-    let before = c.args.self.now in
+    let before = c.args.self.now.loose in
     let loose = c.args.loose.now in
     let left = c.args.left.now in
     let i = c.loop-i.i in
@@ -32,7 +33,7 @@ complete-requires-clause-kept c =
 
 pub loop-i-preserved : goal.loop-i-preserved
 loop-i-preserved c =
-    let before = c.args.self.now in
+    let before = c.args.self.now.loose in
     let loose = c.args.loose.now in
     let i = c.loop-i.i in
     let behind_it = length loose - (i + 1) in

@@ -2,7 +2,8 @@ use Rattle.std.proofs.Common.{◌≡◌, ⊎_elim, ◌∙◌, ◌<◌, true, All
 use Rattle.std.proofs.lemmas.Bool.{cases_eq}
 use Rattle.std.specs.List.{flat_map}
 use Rattle.pf_shapes.specs.Pair.{IsPairOf}
-use Rattle.pf_broad.specs.Loose.{AreLoosened, contains}
+use Rattle.pf_broad.specs.Kept.{BroadPhase, IsKeptOf, StillHolds}
+use Rattle.pf_broad.proofs.Flagging.{still_holds}
 use Rattle.pf_broad.specs.Pairs.{all_bounds, bounds_at, no_bounds, pairs}
 use Rattle.pf_manifold.specs.Key.{key_of}
 use Rattle.pf_manifold.specs.Touches.{Touch}
@@ -16,7 +17,7 @@ use Rattle.pf_cache.proofs.Keeping.{are_kept, are_placed, counted, kept_spans}
 use Rattle.pf_cache.proofs.Refreshing.{pairs_of_spans}
 use Rattle.pf_cache.proofs.Standing.{same_at}
 use Rattle.pf_cache.proofs.Updating.{count_is}
-use Rattle.pf_cache.proofs.manifolds.Manifolds.update.Goals.{in-Some+in_ok-points-in-Some, in-None+in_ok-points-in-None}
+use Rattle.pf_cache.proofs.manifolds.Manifolds.update.Goals.{in-Some+in_ok-found-in-Some, in-None+in_ok-found-in-None}
 use Rattle.pf_cache.proofs.manifolds.Manifolds.update.Goals as goal
 
 pub pairs-requires-clause-bodies : goal.pairs-requires-clause-bodies
@@ -31,28 +32,30 @@ pairs-requires-clause-moved g c =
     subst (λ n. All (λ number. number < n) c.args.moved.now) (sym long) c.requires.moved
 
 pub pairs-requires-clause-others : goal.pairs-requires-clause-others
-pairs-requires-clause-others g c = λ many as_many k below other.
+pairs-requires-clause-others g c = λ many as_many.
     let fixtures = c.args.scene.now.fixtures in
     let bodies = c.args.bodies.now in
+    let moved = c.args.moved.now in
+    let bounds = c.bounds.result.now in
     let old = c.self.inside.placed in
     let new = all_bounds fixtures bodies in
     let counted = ap length c.shapes-count.ensures.value in
-    let now_are : c.bounds.result.now ≡ new =
-    c.bounds.ensures.value ∙ ap (λ (p : PlacedBodies). p.bounds) c.in_ok-placed.ensures.placed in
-    let long = as_many_bounds fixtures bodies c.in_ok-placed.placed c.bounds.result.now c.requires.bodies c.in_ok-placed.ensures.placed
+    let now_are : bounds ≡ new = c.bounds.ensures.value ∙ ap (λ (p : PlacedBodies). p.bounds) c.in_ok-placed.ensures.placed in
+    let long = as_many_bounds fixtures bodies c.in_ok-placed.placed bounds c.requires.bodies c.in_ok-placed.ensures.placed
     c.bounds.ensures.value in
-    let stood = subst (λ m. HaveStayed c.args.moved.now (bodies_of m) fixtures bodies) (sym c.self.view_is) c.requires.others in
+    let stood = subst (λ m. HaveStayed moved (bodies_of m) fixtures bodies) (sym c.self.view_is) c.requires.others in
     ⊎_elim
     (λ same.
     let placed_long : length old.shapes ≡ length bodies = sym counted ∙ same in
     let as_long : length old.bounds ≡ length bodies = c.shapes-count.ensures.bounds ∙ placed_long in
-    let bound = (stood placed_long k (omega (arith, below, long)) other).1 in
-    let kept = (c.self.invariant.1 (omega (arith, many, long, as_long))).each k (omega (arith, below, long, as_long)) in
-    subst (λ l. contains (bounds_at l k) (bounds_at c.bounds.result.now k) ≡ true) (sym (c.kept_for-broad_phase.ensures.same same))
-    (subst (λ b. contains (bounds_at c.self.inside.broad_phase k) b ≡ true)
-    (same_at old.bounds new k bound no_bounds ∙ ap (λ bs. bounds_at bs k) (sym now_are)) kept))
+    subst (λ b. StillHolds moved b bounds) (sym (c.kept_for-broad_phase.ensures.same same))
+    (still_holds c.self.inside.broad_phase old.bounds bounds moved
+    (c.self.invariant.1 (omega (arith, many, long, as_long))) (as_long ∙ sym long)
+    (λ k below other.
+    same_at old.bounds new k (stood placed_long k (omega (arith, below, long)) other).1 no_bounds
+    ∙ ap (λ bs. bounds_at bs k) (sym now_are))))
     (λ differ.
-    absurd (omega (arith, many, as_many, ap length (c.kept_for-broad_phase.ensures.other differ))))
+    absurd (omega (arith, many, as_many, ap (λ (b : BroadPhase). length b.loose) (c.kept_for-broad_phase.ensures.other differ))))
     (cases_eq (length c.shapes-count.result.now) (length bodies))
 
 pub pairs-requires-clause-few : goal.pairs-requires-clause-few
@@ -90,27 +93,27 @@ invariant_of-manifolds g c =
     c.in_ok-placed.ensures.placed c.bounds.ensures.value in (
       kept_spans fixtures bodies shapes found shapes_are c.requires.bodies c.update.ensures.few
           (subst (λ n. All (IsPairOf n) found) long c.in_ok-pairs.ensures.bodies) c.in_ok-pairs.ensures.ascending
-          c.match-computed_if_many.points.spans.items c.match-computed_if_many.points.touches.items
+          c.match-computed_if_many.found.points.spans.items c.match-computed_if_many.found.points.touches.items
           (elim c.match-computed_if_many.branch [
-            | in-Some+in_ok-points-in-Some w ↦
-                rw w.points-is
-                (w.in_ok-points-in-Some.ensures.spans ∙ (λ i. spans_from 0 (sym shapes_are i) (w.deref-in-Some.ensures.value i)))
-            | in-None+in_ok-points-in-None w ↦
-                rw w.points-is
-                (w.in_ok-points-in-None.ensures.spans
+            | in-Some+in_ok-found-in-Some w ↦
+                rw w.found-is
+                (w.in_ok-found-in-Some.ensures.spans ∙ (λ i. spans_from 0 (sym shapes_are i) (w.deref-in-Some.ensures.value i)))
+            | in-None+in_ok-found-in-None w ↦
+                rw w.found-is
+                (w.in_ok-found-in-None.ensures.spans
                 ∙ (λ i. spans_from 0 (w.shapes-shapes.ensures.value i) (w.deref-in-None.ensures.value i)))
           ])
           (elim c.match-computed_if_many.branch [
-            | in-Some+in_ok-points-in-Some w ↦
-                rw w.points-is
-                (w.in_ok-points-in-Some.ensures.touches
+            | in-Some+in_ok-found-in-Some w ↦
+                rw w.found-is
+                (w.in_ok-found-in-Some.ensures.touches
                 ∙ (λ i. flat_map (points_of_pair (sym shapes_are i)) (w.deref-in-Some.ensures.value i)))
-            | in-None+in_ok-points-in-None w ↦
-                rw w.points-is
-                (w.in_ok-points-in-None.ensures.touches
+            | in-None+in_ok-found-in-None w ↦
+                rw w.found-is
+                (w.in_ok-found-in-None.ensures.touches
                 ∙ (λ i. flat_map (points_of_pair (w.shapes-shapes.ensures.value i)) (w.deref-in-None.ensures.value i)))
           ]),
-      λ many. subst (AreLoosened c.pairs.new.self) c.bounds.ensures.value (c.in_ok-pairs.ensures.kept (omega (arith, many, ap length c.bounds.ensures.value))),
+      λ many. subst (IsKeptOf c.pairs.new.self) c.bounds.ensures.value (c.in_ok-pairs.ensures.kept (omega (arith, many, ap length c.bounds.ensures.value))),
     )
 
 pub returns-clause-manifolds : goal.returns-clause-manifolds
@@ -121,14 +124,14 @@ returns-clause-manifolds g c =
     let found_are : found ≡ pairs (all_bounds c.args.scene.now.fixtures c.args.bodies.now) =
     c.in_ok-pairs.ensures.pairs
     ∙ ap pairs (c.bounds.ensures.value ∙ ap (λ (p : PlacedBodies). p.bounds) c.in_ok-placed.ensures.placed) in
-    let spans_are : c.match-computed_if_many.points.spans.items ≡ spans_from 0 shapes found =
+    let spans_are : c.match-computed_if_many.found.points.spans.items ≡ spans_from 0 shapes found =
     elim c.match-computed_if_many.branch [
-      | in-Some+in_ok-points-in-Some w ↦
-          rw w.points-is
-          (w.in_ok-points-in-Some.ensures.spans ∙ ap (spans_from 0 shapes) w.deref-in-Some.ensures.value)
-      | in-None+in_ok-points-in-None w ↦
-          rw w.points-is
-          (w.in_ok-points-in-None.ensures.spans
+      | in-Some+in_ok-found-in-Some w ↦
+          rw w.found-is
+          (w.in_ok-found-in-Some.ensures.spans ∙ ap (spans_from 0 shapes) w.deref-in-Some.ensures.value)
+      | in-None+in_ok-found-in-None w ↦
+          rw w.found-is
+          (w.in_ok-found-in-None.ensures.spans
           ∙ (λ i. spans_from 0 ((w.shapes-shapes.ensures.value ∙ shapes_are) i) (w.deref-in-None.ensures.value i)))
     ] in
     let bounds_are = ap (λ (p : PlacedBodies). p.bounds) c.in_ok-placed.ensures.placed in
@@ -144,16 +147,16 @@ returns-clause-computed g c =
     let found_are : found ≡ pairs (all_bounds c.args.scene.now.fixtures c.args.bodies.now) =
     c.in_ok-pairs.ensures.pairs
     ∙ ap pairs (c.bounds.ensures.value ∙ ap (λ (p : PlacedBodies). p.bounds) c.in_ok-placed.ensures.placed) in
-    let count : c.match-computed_if_many.points.computed ≡ computed_count_by_flags kept (unmoved_flags old shapes) found =
+    let count : c.match-computed_if_many.found.points.computed ≡ computed_count_by_flags kept (unmoved_flags old shapes) found =
     elim c.match-computed_if_many.branch [
-      | in-Some+in_ok-points-in-Some w ↦
-          rw w.points-is
-          (w.in_ok-points-in-Some.ensures.computed ∙ count_is _ _ _ w.in-Some.ensures
+      | in-Some+in_ok-found-in-Some w ↦
+          rw w.found-is
+          (w.in_ok-found-in-Some.ensures.computed ∙ count_is _ _ _ w.in-Some.ensures
           ∙ (λ i. computed_count_by_flags (map (λ (s : Span). s.pair) (c.deref.ensures.value i))
           ((c.deref-2.ensures.value ∙ c.in_ok-placed.ensures.unmoved) i) (c.deref-3.ensures.value i)))
-      | in-None+in_ok-points-in-None w ↦
-          rw w.points-is
-          (w.in_ok-points-in-None.ensures.computed
+      | in-None+in_ok-found-in-None w ↦
+          rw w.found-is
+          (w.in_ok-found-in-None.ensures.computed
           ∙ (λ i. computed_count_by_flags kept ((w.deref-in-None-2.ensures.value ∙ c.in_ok-placed.ensures.unmoved) i)
           (w.deref-in-None.ensures.value i)))
     ] in
@@ -163,7 +166,7 @@ returns-clause-computed g c =
 pub returns-clause-same : goal.returns-clause-same
 returns-clause-same g c =
     let kept = c.self.inside.touches.items in
-    let points = c.match-computed_if_many.points in
+    let tick = c.match-computed_if_many.found in
     let old = c.self.invariant.0.whole ∙ ap kept_touches c.self.view_is in
     let shapes = placed_shapes c.args.scene.now.fixtures c.args.bodies.now in
     let shapes_are = ap (λ (p : PlacedBodies). p.shapes) c.in_ok-placed.ensures.placed in
@@ -171,22 +174,22 @@ returns-clause-same g c =
     let found_are : found ≡ pairs (all_bounds c.args.scene.now.fixtures c.args.bodies.now) =
     c.in_ok-pairs.ensures.pairs
     ∙ ap pairs (c.bounds.ensures.value ∙ ap (λ (p : PlacedBodies). p.bounds) c.in_ok-placed.ensures.placed) in
-    let touches_are : points.touches.items ≡ flat_map (points_of_pair shapes) found =
+    let touches_are : tick.points.touches.items ≡ flat_map (points_of_pair shapes) found =
     elim c.match-computed_if_many.branch [
-      | in-Some+in_ok-points-in-Some w ↦
-          rw w.points-is
-          (w.in_ok-points-in-Some.ensures.touches ∙ ap (flat_map (points_of_pair shapes)) w.deref-in-Some.ensures.value)
-      | in-None+in_ok-points-in-None w ↦
-          rw w.points-is
-          (w.in_ok-points-in-None.ensures.touches
+      | in-Some+in_ok-found-in-Some w ↦
+          rw w.found-is
+          (w.in_ok-found-in-Some.ensures.touches ∙ ap (flat_map (points_of_pair shapes)) w.deref-in-Some.ensures.value)
+      | in-None+in_ok-found-in-None w ↦
+          rw w.found-is
+          (w.in_ok-found-in-None.ensures.touches
           ∙ (λ i. flat_map (points_of_pair ((w.shapes-shapes.ensures.value ∙ shapes_are) i)) (w.deref-in-None.ensures.value i)))
     ] in
     let new = touches_are ∙ ap (flat_map (points_of_pair shapes)) found_are ∙ sym (ap kept_touches (returns-clause-manifolds g c)) in
-    let keys : HaveSameFirst points.same (map key_of kept) (map key_of points.touches.items) =
+    let keys : HaveSameFirst tick.same (map key_of kept) (map key_of tick.points.touches.items) =
     elim c.match-computed_if_many.branch [
-      | in-Some+in_ok-points-in-Some w ↦
-          none_same points.same (map key_of kept) (map key_of points.touches.items)
-          (rw w.points-is w.in_ok-points-in-Some.ensures.same)
-      | in-None+in_ok-points-in-None w ↦ rw w.points-is w.in_ok-points-in-None.ensures.same
+      | in-Some+in_ok-found-in-Some w ↦
+          none_same tick.same (map key_of kept) (map key_of tick.points.touches.items)
+          (rw w.found-is w.in_ok-found-in-Some.ensures.same)
+      | in-None+in_ok-found-in-None w ↦ rw w.found-is w.in_ok-found-in-None.ensures.same
     ] in
-    subst (λ (ts : List Touch × List Touch). HaveSameFirst points.same (map key_of ts.0) (map key_of ts.1)) (λ i. (old i, new i)) keys
+    subst (λ (ts : List Touch × List Touch). HaveSameFirst tick.same (map key_of ts.0) (map key_of ts.1)) (λ i. (old i, new i)) keys

@@ -1,0 +1,118 @@
+-- Candidates have flags, which are brought up to date one after the other.
+use Rattle.std.proofs.Common.{◌≡◌, ℕ, zero, suc, ◌+◌, ◌<◌, Bool, true, false, cond, ◌||◌, All, List, [], ◌∷◌, ◌++◌, length, map, take, drop, filter, get_or, slice_set, refl, sym, subst, ap, ◌∙◌, arith, add-one}
+use Rattle.std.proofs.lemmas.List.{get_or-map}
+use Rattle.std.proofs.lemmas.List.Elements.{All-get_or}
+use Rattle.pf_shapes.specs.Bounds.{Bounds}
+use Rattle.pf_shapes.specs.Pair.{IsPairOf, Pair}
+use Rattle.pf_broad.specs.Pairs.{bounds_at, may_touch, pair, pair_at, pair_may_touch, pairs}
+use Rattle.pf_broad.specs.Partners.{has_body}
+use Rattle.pf_broad.specs.Loose.{contains}
+use Rattle.pf_broad.specs.Kept.{AreFlagged, BroadPhase, IsKeptOf, StillHolds}
+use Rattle.pf_broad.proofs.Within.{pairs-IsPairOf}
+
+-- the first flags are up to date, the others as before
+abbrev pub flags_after : (Pair → Bool) → List Pair → List Bool → ℕ → List Bool
+flags_after t candidates old i = map t (take i candidates) ++ drop i old
+
+-- the next one is written
+set_next : (t : Pair → Bool) (cs : List Pair) (old : List Bool) (i : ℕ) → i < length cs → length old ≡ length cs
+    → slice_set (flags_after t cs old i) i (t (pair_at cs i)) ≡ flags_after t cs old (suc i)
+set_next t [] old i below long = absurd (omega arith)
+set_next t (c ∷ cs) [] i below long = absurd (omega arith)
+set_next t (c ∷ cs) (b ∷ old) zero below long = refl
+set_next t (c ∷ cs) (b ∷ old) (suc i) below long = ap (λ l. t c ∷ l) (set_next t cs old i (omega arith) (omega arith))
+
+-- the next one is right already
+keep_next : (t : Pair → Bool) (cs : List Pair) (old : List Bool) (i : ℕ) → i < length cs → length old ≡ length cs
+    → get_or old i false ≡ t (pair_at cs i) → flags_after t cs old i ≡ flags_after t cs old (suc i)
+keep_next t [] old i below long same = absurd (omega arith)
+keep_next t (c ∷ cs) [] i below long same = absurd (omega arith)
+keep_next t (c ∷ cs) (b ∷ old) zero below long same = ap (λ v. v ∷ old) same
+keep_next t (c ∷ cs) (b ∷ old) (suc i) below long same = ap (λ l. t c ∷ l) (keep_next t cs old i (omega arith) (omega arith) same)
+
+-- so it is read
+read_next : (t : Pair → Bool) (cs : List Pair) (old : List Bool) (i : ℕ) → i < length cs
+    → get_or (flags_after t cs old (suc i)) i false ≡ t (pair_at cs i)
+read_next t [] old i below = absurd (omega arith)
+read_next t (c ∷ cs) old zero below = refl
+read_next t (c ∷ cs) [] (suc i) below = read_next t cs [] i (omega arith)
+read_next t (c ∷ cs) (b ∷ old) (suc i) below = read_next t cs old i (omega arith)
+
+filter_next : (t : Pair → Bool) (cs : List Pair) (i : ℕ) → i < length cs
+    → filter t (take (suc i) cs) ≡ filter t (take i cs) ++ cond (t (pair_at cs i)) (pair_at cs i ∷ []) []
+filter_next t [] i below = absurd (omega arith)
+filter_next t (c ∷ cs) zero below = refl
+filter_next t (c ∷ cs) (suc i) below =
+    ap (λ l. cond (t c) (c ∷ l) l) (filter_next t cs i (omega arith)) ∙ put_in (t c)
+  where
+    put_in : (b : Bool) → let rest = filter t (take i cs) in let last = cond (t (pair_at cs i)) (pair_at cs i ∷ []) [] in
+        cond b (c ∷ (rest ++ last)) (rest ++ last) ≡ cond b (c ∷ rest) rest ++ last
+    put_in true = refl
+    put_in false = refl
+
+-- the flags after a candidate was tested
+pub tested : (t : Pair → Bool) (cs : List Pair) (old flags new : List Bool) (i : ℕ) (v : Bool) → i < length cs → length old ≡ length cs
+    → flags ≡ map t (take i cs) ++ drop i old → v ≡ t (pair_at cs i) → new ≡ slice_set flags i v
+    → new ≡ map t (take (i + 1) cs) ++ drop (i + 1) old
+tested t cs old flags new i v below long before value set =
+    rw add-one (set ∙ (λ k. slice_set (before k) i (value k)) ∙ set_next t cs old i below long)
+
+-- and after one whose flag was right
+pub kept : (t : Pair → Bool) (cs : List Pair) (old flags new : List Bool) (i : ℕ) → i < length cs → length old ≡ length cs
+    → flags ≡ map t (take i cs) ++ drop i old → get_or old i false ≡ t (pair_at cs i) → new ≡ flags
+    → new ≡ map t (take (i + 1) cs) ++ drop (i + 1) old
+kept t cs old flags new i below long before value same =
+    rw add-one (same ∙ before ∙ keep_next t cs old i below long value)
+
+-- a candidate is found by its flag
+pub flag_read : (t : Pair → Bool) (cs : List Pair) (old flags : List Bool) (i : ℕ) → i < length cs
+    → flags ≡ map t (take (i + 1) cs) ++ drop (i + 1) old → get_or flags i false ≡ t (pair_at cs i)
+flag_read t cs old flags i below are =
+    let more : i + 1 ≡ suc i = add-one i in
+    ap (λ l. get_or l i false) (are ∙ ap (λ n. map t (take n cs) ++ drop n old) more) ∙ read_next t cs old i below
+
+pub found_next : (t : Pair → Bool) (cs : List Pair) (i : ℕ) (b : Bool) → i < length cs → t (pair_at cs i) ≡ b
+    → filter t (take (i + 1) cs) ≡ filter t (take i cs) ++ cond b (pair_at cs i ∷ []) []
+found_next t cs i b below value =
+    rw add-one (filter_next t cs i below ∙ ap (λ c. filter t (take i cs) ++ cond c (pair_at cs i ∷ []) []) value)
+
+pub neither : (a b : Bool) → (a || b) ≡ false → (a ≡ false) × (b ≡ false)
+neither false b e = (refl, e)
+neither true false e = (e, refl)
+neither true true e = (e, e)
+
+-- where all move, or the flags of two bodies that are not listed are right
+pub flagged : (bs : List Bounds) (moved : List ℕ) (moving : List Bool) (all : Bool) (cs : List Pair) (flags : List Bool)
+    → All (IsPairOf (length bs)) cs → ((k : ℕ) → k < length bs → get_or moving k false ≡ (all || has_body moved k))
+    → (all ≡ false → AreFlagged (has_body moved) bs cs flags) → AreFlagged (λ k. get_or moving k false) bs cs flags
+flagged bs moved moving all cs flags of each right i below none =
+    let p = pair_at cs i in
+    let bodies : IsPairOf (length bs) p = All-get_or (IsPairOf (length bs)) cs i (pair 0 0) below of in
+    let first = each p.a (omega (arith, bodies.0, bodies.1)) in
+    let second = each p.b bodies.1 in
+    let both = (λ k. sym first k || sym second k) ∙ none in
+    right (some_not all (has_body moved p.a) (has_body moved p.b) both).0 i below (some_not all (has_body moved p.a) (has_body moved p.b) both).1
+  where
+    some_not : (all a b : Bool) → ((all || a) || (all || b)) ≡ false → (all ≡ false) × ((a || b) ≡ false)
+    some_not false a b e = (refl, e)
+    some_not true a b e = absurd (no e)
+      where
+        no : true ≡ false → ⊥
+        no e = cc
+
+-- what is kept of bounds still holds for the bodies that are not listed, if their bounds are the same
+pub still_holds : (kept : BroadPhase) (old bounds : List Bounds) (moved : List ℕ) → IsKeptOf kept old → length old ≡ length bounds
+    → ((k : ℕ) → k < length bounds → has_body moved k ≡ false → bounds_at old k ≡ bounds_at bounds k) → StillHolds moved kept bounds
+still_holds kept old bounds moved is as_many same = record {
+  contained = λ k below other.
+      subst (λ b. contains (bounds_at kept.loose k) b ≡ true) (same k below other) (is.loose.each k (omega (arith, as_many, below)));
+  flags = λ long i below none.
+      let ps = pairs kept.loose in
+      let p = pair_at ps i in
+      let as_many_loose : length kept.loose ≡ length bounds = is.loose.as_many ∙ as_many in
+      let of : IsPairOf (length bounds) p =
+      All-get_or (IsPairOf (length bounds)) ps i (pair 0 0) below (pairs-IsPairOf kept.loose ps (length bounds) refl as_many_loose) in
+      let others = neither (has_body moved p.a) (has_body moved p.b) none in
+      ap (λ l. get_or l i false) is.flags ∙ get_or-map (pair_may_touch old) ps i (pair 0 0) false below
+      ∙ (λ k. may_touch (same p.a (omega (arith, of.0, of.1)) others.0 k) (same p.b of.1 others.1 k));
+}
