@@ -72,7 +72,7 @@ places_behind front (x ∷ order) =
 pub all_places : (order : List ℕ) → map (place_at order) (range_with_len 0 (length order)) ≡ order
 all_places order = places_behind [] order
 
--- ---- the rows of late levels, and behind them those of early ones
+-- ---- the rows of late levels, and then those of early ones
 
 early_then_late : (early : ℕ) (levels : List (List ℕ)) → concat levels ≡ concat (take early levels) ++ concat (drop early levels)
 early_then_late early levels =

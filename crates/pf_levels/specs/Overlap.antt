@@ -12,8 +12,8 @@ pair_at pairs p = slice_index_or pairs p (record { first = Static; second = Stat
 abbrev pub place_at : List ℕ → ℕ → ℕ
 place_at order number = slice_index_or order number 0
 
--- levels of the rows as they are listed in this order, by their places in the list: of two rows of
--- one body the one that comes first in the order is in the level that comes first
+-- levels of rows that come in this order: each row is given by its place in the list, and of two
+-- rows with a body in common the one that comes first in the order is in an earlier level
 pub record AreLevelsInOrder
     (pairs : List Pair) (order : List ℕ) (levels : List (List ℕ))
     : Type 0 where
@@ -21,6 +21,6 @@ pub record AreLevelsInOrder
   pub are : AreLevels (map (pair_at pairs) order) numbered
   pub places : levels ≡ map (map (place_at order)) numbered
 
--- the rows of the levels from one on, and behind them those of the levels before it
+-- the rows of all levels but the first so many, and then those of these first ones
 abbrev pub late_then_early : ℕ → List (List ℕ) → List ℕ
 late_then_early early levels = concat (drop early levels) ++ concat (take early levels)

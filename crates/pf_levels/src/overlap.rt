@@ -22,7 +22,7 @@ fn add_places(order: &mut Vec<usize>, levels: &[Level]) -> Result<(), AllocError
     Ok(())
 }
 
-/// Lists the rows of the late levels, and behind them those of the early ones.
+/// Lists the rows of the late levels, and then those of the early ones.
 fn list_rows(order: &mut Vec<usize>, levels: &[Level], early: usize) -> Result<(), AllocError>
     requires { early ≤ length levels.now }
     ensures { OnOk result (order.new.items ≡ late_then_early early levels.now) }
@@ -68,9 +68,9 @@ fn list_levels(found: &mut Vec<Level>, order: &[usize], levels: &[Level]) -> Res
     Ok(())
 }
 
-/// Levels across two rounds: of the rows of the late levels of one round, and behind them those of
-/// the early levels of the next one. Where late levels have few rows, they have room for rows of
-/// the next round (software pipelining of the rounds).
+/// Levels of the rows of two rounds: those of the late levels of one are listed first, then those
+/// of the early levels of the next. Where late levels have few rows, early rows stand beside them
+/// (software pipelining of the rounds).
 ///
 /// Contracts see the levels as lists of places.
 #[derive(Debug, Drop)]
@@ -102,9 +102,10 @@ impl Overlap {
         }
     }
 
-    /// Finds the levels across two rounds of the rows of these pairs of so many bodies, where the
-    /// first `early` of their levels are early ones. Out of memory the levels are of no use.
-    #[tactic(auto, using(crate::proofs::InOrder::late_early_within, crate::proofs::InOrder::pairs_in_order, crate::proofs::InOrder::within_order))]
+    /// Finds levels of the rows of two rounds. `levels` are those of one round, for rows with these
+    /// pairs of so many bodies; the first `early` of them are the early ones. Out of memory the
+    /// levels are of no use.
+    #[tactic(auto, using(crate::proofs::InOrder::late_early_within, crate::proofs::InOrder::within_order))]
     pub fn update(
         &mut self,
         pairs: &[Pair],
