@@ -60,12 +60,12 @@ module _ (step : Step) (rows : List LaneRow) (bundles : List Bundle) (before : N
       (sym (solved b level done.numbers (for.seats i level bundle here own) for.hold))
       (level_more step b levels x i [] now in_levels done)
 
-  -- after all bundles a pass is done
-  pub pass_done : (i : ℕ) (now : Numbers) → length bundles < i + 1 → AreSolvedTo i now
+  -- after all bundles all levels are solved
+  pub all_solved : (i : ℕ) (now : Numbers) → length bundles < i + 1 → AreSolvedTo i now
       → (b after : Batch) (levels : List (List ℕ))
       → AreBundlesFor b levels rows bundles → AreNumbersAfter b after before
       → AreNumbersAfter b (solved_by_levels levels step after) now
-  pass_done i now over up b after levels for start =
+  all_solved i now over up b after levels for start =
       subst (λ some. AreNumbersAfter b (solved_by_levels some step after) now) (take_all i levels (omega (arith, over, for.count)))
       (up b after levels for start)
 
@@ -88,20 +88,20 @@ in_rest (y ∷ xs) (suc n) i x at =
     subst (λ k. slice_get (y ∷ xs) k ≡ Some x) same (in_rest xs n i x at)
 
 -- the first bundles and the others are those of the first levels and of the others
-module _ (b : Batch) (levels : List (List ℕ)) (rows : List LaneRow) (bundles : List Bundle) (early : ℕ)
-    (within : early ≤ length bundles) (for : AreBundlesFor b levels rows bundles) where
-  pub early_for : AreBundlesFor b (take early levels) rows (take early bundles)
+module _ (b : Batch) (levels : List (List ℕ)) (rows : List LaneRow) (bundles : List Bundle) (early_levels : ℕ)
+    (within : early_levels ≤ length bundles) (for : AreBundlesFor b levels rows bundles) where
+  pub early_for : AreBundlesFor b (take early_levels levels) rows (take early_levels bundles)
   early_for = record {
-    count = omega (arith, length-take early bundles, length-take early levels, for.count);
+    count = omega (arith, length-take early_levels bundles, length-take early_levels levels, for.count);
     seats = λ i level bundle here own.
-        for.seats i level bundle (in_first levels early i level here) (in_first bundles early i bundle own);
+        for.seats i level bundle (in_first levels early_levels i level here) (in_first bundles early_levels i bundle own);
     hold = for.hold;
   }
 
-  pub late_for : AreBundlesFor b (drop early levels) rows (drop early bundles)
+  pub late_for : AreBundlesFor b (drop early_levels levels) rows (drop early_levels bundles)
   late_for = record {
-    count = omega (arith, length-drop early bundles, length-drop early levels, for.count);
+    count = omega (arith, length-drop early_levels bundles, length-drop early_levels levels, for.count);
     seats = λ i level bundle here own.
-        for.seats (early + i) level bundle (in_rest levels early i level here) (in_rest bundles early i bundle own);
+        for.seats (early_levels + i) level bundle (in_rest levels early_levels i level here) (in_rest bundles early_levels i bundle own);
     hold = for.hold;
   }

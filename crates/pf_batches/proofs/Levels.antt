@@ -231,17 +231,17 @@ own_start b now same = record {
 }
 
 -- a warm start level by level, and rounds that overlap, are the velocity phase
-pub velocities_by_overlap : (b : Batch) (levels across : List (List ℕ)) (early : ℕ) → AreLevelsOf b levels
-    → DoLateAndEarly (map pair_of b.rows) (take early levels) (drop early levels) across
-    → after_overlapping_passes (ROUNDS - 1) (take early levels) across (drop early levels) after_round
+pub velocities_by_overlap : (b : Batch) (levels across : List (List ℕ)) (early_levels : ℕ) → AreLevelsOf b levels
+    → DoLateAndEarly (map pair_of b.rows) (take early_levels levels) (drop early_levels levels) across
+    → after_overlapping_passes (ROUNDS - 1) (take early_levels levels) across (drop early_levels levels) after_round
     (solved_by_levels levels after_warm_start b) ≡ velocities_of b
-velocities_by_overlap b levels across early of done =
+velocities_by_overlap b levels across early_levels of done =
     let warm = passes 1 after_warm_start b in
     let started : solved_by_levels levels after_warm_start b ≡ warm = passes_by_levels after_warm_start 1 b levels of in
     let pairs : map pair_of warm.rows ≡ map pair_of b.rows = pairs_passed after_warm_start 1 b in
-    ap (after_overlapping_passes (ROUNDS - 1) (take early levels) across (drop early levels) after_round) started
-    ∙ sym (passes_by_overlap after_round warm levels across early (subst (λ ps. AreLevels ps levels) (sym pairs) of)
-    (subst (λ ps. DoLateAndEarly ps (take early levels) (drop early levels) across) (sym pairs) done) (ROUNDS - 1))
+    ap (after_overlapping_passes (ROUNDS - 1) (take early_levels levels) across (drop early_levels levels) after_round) started
+    ∙ sym (passes_by_overlap after_round warm levels across early_levels (subst (λ ps. AreLevels ps levels) (sym pairs) of)
+    (subst (λ ps. DoLateAndEarly ps (take early_levels levels) (drop early_levels levels) across) (sym pairs) done) (ROUNDS - 1))
     ∙ ap (passes ROUNDS after_round) (one_pass b)
   where
     -- one pass is the pass along the rows

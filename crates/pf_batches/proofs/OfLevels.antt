@@ -179,24 +179,24 @@ levels_within b levels of =
 pub no_overlap : (b : Batch) (levels : List (List ℕ)) (lanes : List LaneRow) (n : Numbers) (bundles : List Bundle)
     → IsLoaded b levels lanes n bundles → IsOverlapLoaded (map pair_of b.rows) lanes 0 levels levels bundles
 no_overlap b levels lanes n bundles loaded = record {
-  few = omega arith;
-  done = λ step x is. refl;
+  early_in_levels = omega arith;
+  does_late_and_early = λ step x is. refl;
   within = numbers_within (map pair_of b.rows) levels loaded.order;
   each = loaded.each;
 }
 
 -- a batch that is loaded, with levels across two rounds
-module _ (b : Batch) (levels across : List (List ℕ)) (early : ℕ) (lanes : List LaneRow) (n : Numbers) (bundles overlap : List Bundle)
+module _ (b : Batch) (levels across : List (List ℕ)) (early_levels : ℕ) (lanes : List LaneRow) (n : Numbers) (bundles overlap_bundles : List Bundle)
     (loaded : IsLoaded b levels lanes n bundles)
-    (joint : IsOverlapLoaded (map pair_of b.rows) lanes early levels across overlap) where
+    (joint : IsOverlapLoaded (map pair_of b.rows) lanes early_levels levels across overlap_bundles) where
   fit : AreNumbersOf b n
   fit = subst (AreNumbersOf b) (sym loaded.numbers) (numbers_fit b)
 
   across_within : All (All (λ p. p < length b.rows)) across
   across_within = subst (λ m. All (All (λ p. p < m)) across) (length-map b.rows pair_of) joint.within
 
-  pub early_in : early ≤ length bundles
-  early_in = omega (arith, joint.few, as_many (map pair_of b.rows) lanes levels bundles loaded.each)
+  pub early_in : early_levels ≤ length bundles
+  early_in = omega (arith, joint.early_in_levels, as_many (map pair_of b.rows) lanes levels bundles loaded.each)
 
   pub loaded_for : AreBundlesFor b levels lanes bundles
   loaded_for = bundles_for b lanes levels bundles loaded.rows (levels_within b levels loaded.order) loaded.each
@@ -204,11 +204,11 @@ module _ (b : Batch) (levels across : List (List ℕ)) (early : ℕ) (lanes : Li
   pub loaded_on : IsBatch b → All (IsBundleOn lanes n) bundles
   loaded_on = bundles_on b lanes levels bundles loaded.rows (levels_within b levels loaded.order) loaded.each n fit
 
-  pub overlap_for : AreBundlesFor b across lanes overlap
-  overlap_for = bundles_for b lanes across overlap loaded.rows across_within joint.each
+  pub overlap_for : AreBundlesFor b across lanes overlap_bundles
+  overlap_for = bundles_for b lanes across overlap_bundles loaded.rows across_within joint.each
 
-  pub overlap_on : IsBatch b → All (IsBundleOn lanes n) overlap
-  overlap_on = bundles_on b lanes across overlap loaded.rows across_within joint.each n fit
+  pub overlap_on : IsBatch b → All (IsBundleOn lanes n) overlap_bundles
+  overlap_on = bundles_on b lanes across overlap_bundles loaded.rows across_within joint.each n fit
 
 -- ---- sides of more bodies
 

@@ -75,10 +75,11 @@ pub record IsLoaded
 
 -- what the solver holds of levels across two rounds, where so many levels are early ones
 pub record IsOverlapLoaded
-    (pairs : List Pair) (lanes : List LaneRow) (early : ℕ) (levels across : List (List ℕ))
+    (pairs : List Pair) (lanes : List LaneRow) (early_levels : ℕ) (levels across : List (List ℕ))
     (bundles : List Bundle)
     : Type 0 where
-  pub few : early ≤ length levels
-  pub done : DoLateAndEarly pairs (take early levels) (drop early levels) across
+  pub early_in_levels : early_levels ≤ length levels
+  pub does_late_and_early :
+      DoLateAndEarly pairs (take early_levels levels) (drop early_levels levels) across
   pub within : All (All (λ p. p < length pairs)) across
   pub each : AreBundlesOf pairs lanes across bundles

@@ -19,7 +19,7 @@ use pf_solver::{ROUNDS, Round, WarmStart};
 /// no number is above after it, or `None` where that is too great, as after 2^19 steps of bundles
 /// in all, or where a number becomes too great.
 #[inline(never)]
-fn pass<L: LaneStep>(
+fn solve_bundles<L: LaneStep>(
     bundles: &[Bundle],
     rows: &[LaneRow],
     numbers: &mut Numbers,
@@ -44,72 +44,77 @@ fn pass<L: LaneStep>(
 }
 
 /// All rounds, after a warm start that left the numbers at most `most`: the early levels of the
-/// first one, then nine times the levels across two rounds, and the late levels of the last one.
-/// `false` where numbers become too great.
+/// first round, then nine times the levels across two rounds, and the late levels of the last
+/// round. `false` where numbers become too great.
 fn rounds(
-    early: &[Bundle],
-    overlap: &[Bundle],
-    late: &[Bundle],
+    early_bundles: &[Bundle],
+    overlap_bundles: &[Bundle],
+    late_bundles: &[Bundle],
     rows: &[LaneRow],
     numbers: &mut Numbers,
     most: u64,
 ) -> bool
-    requires early { All (IsBundleOn rows.now numbers.old) early.now }
-    requires overlap { All (IsBundleOn rows.now numbers.old) overlap.now }
-    requires late { All (IsBundleOn rows.now numbers.old) late.now }
+    requires first { All (IsBundleOn rows.now numbers.old) early_bundles.now }
+    requires across { All (IsBundleOn rows.now numbers.old) overlap_bundles.now }
+    requires last { All (IsBundleOn rows.now numbers.old) late_bundles.now }
     requires within { AreAllWithin most numbers.old }
     ensures { IsTrue result → (b after : Batch) (first across last : List (List ℕ))
-        → AreBundlesFor b first rows.now early.now → AreBundlesFor b across rows.now overlap.now
-        → AreBundlesFor b last rows.now late.now → AreNumbersAfter b after numbers.old
+        → AreBundlesFor b first rows.now early_bundles.now
+        → AreBundlesFor b across rows.now overlap_bundles.now
+        → AreBundlesFor b last rows.now late_bundles.now
+        → AreNumbersAfter b after numbers.old
         → AreNumbersAfter b
         (after_overlapping_passes (ROUNDS - 1) first across last after_round after) numbers.new }
 {
-    let mut most = match pass::<Round>(early, rows, numbers, most) {
+    let mut most = match solve_bundles::<Round>(early_bundles, rows, numbers, most) {
         Some(more) => more,
         None => return false,
     };
     for _round in 0..ROUNDS - 1 {
-        match pass::<Round>(overlap, rows, numbers, most) {
+        match solve_bundles::<Round>(overlap_bundles, rows, numbers, most) {
             Some(more) => most = more,
             None => return false,
         }
     }
-    match pass::<Round>(late, rows, numbers, most) {
+    match solve_bundles::<Round>(late_bundles, rows, numbers, most) {
         Some(_) => true,
         None => false,
     }
 }
 
 /// Warm starting and all rounds, level by level; `false` where a number becomes too great for
-/// doubles, and then the numbers are of no use. The first `early` levels are early ones; `overlap`
-/// are the bundles of the levels across two rounds.
+/// doubles, and then the numbers are of no use. The first `early_levels` of the levels are the
+/// early ones; `overlap_bundles` are the bundles of the levels across two rounds.
 #[inline(never)]
 pub(crate) fn solve_numbers(
     bundles: &[Bundle],
-    early: usize,
-    overlap: &[Bundle],
+    early_levels: usize,
+    overlap_bundles: &[Bundle],
     rows: &[LaneRow],
     numbers: &mut Numbers,
     most: u64,
 ) -> bool
     requires bundles { All (IsBundleOn rows.now numbers.old) bundles.now }
-    requires early { early ≤ length bundles.now }
-    requires overlap { All (IsBundleOn rows.now numbers.old) overlap.now }
+    requires early_levels { early_levels ≤ length bundles.now }
+    requires overlap_bundles { All (IsBundleOn rows.now numbers.old) overlap_bundles.now }
     requires within { AreAllWithin most numbers.old }
     ensures value { IsTrue result → (b : Batch) (levels across : List (List ℕ))
         → AreLevelsOf b levels
-        → DoLateAndEarly (map pair_of b.rows) (take early levels) (drop early levels) across
-        → AreBundlesFor b levels rows.now bundles.now → AreBundlesFor b across rows.now overlap.now
+        → DoLateAndEarly (map pair_of b.rows) (take early_levels levels)
+        (drop early_levels levels) across
+        → AreBundlesFor b levels rows.now bundles.now
+        → AreBundlesFor b across rows.now overlap_bundles.now
         → numbers.old ≡ numbers_of b → batch_with numbers.new b ≡ velocities_of b }
     ensures fit { IsTrue result → (b : Batch) (levels across : List (List ℕ))
-        → AreBundlesFor b levels rows.now bundles.now → AreBundlesFor b across rows.now overlap.now
+        → AreBundlesFor b levels rows.now bundles.now
+        → AreBundlesFor b across rows.now overlap_bundles.now
         → numbers.old ≡ numbers_of b → AreNumbersOf b numbers.new }
 {
-    match pass::<WarmStart>(bundles, rows, numbers, most) {
+    match solve_bundles::<WarmStart>(bundles, rows, numbers, most) {
         Some(more) => rounds(
-            &bundles[..early],
-            overlap,
-            &bundles[early..],
+            &bundles[..early_levels],
+            overlap_bundles,
+            &bundles[early_levels..],
             rows,
             numbers,
             more,

@@ -94,21 +94,21 @@ fn load_overlap(
     requires sides { ArePairsOf (2 ^ 64 - 1) pairs.now }
     requires levels { AreLevels pairs.now levels.now }
     requires rows { length rows.now ≡ length pairs.now }
-    ensures { IfOk result (λ found. IfSome found (λ early. IsOverlapLoaded pairs.now rows.now early
-        levels.now overlap.new bundles.new.items)) }
+    ensures { IfOk result (λ found. IfSome found (λ early_levels. IsOverlapLoaded pairs.now rows.now
+        early_levels levels.now overlap.new bundles.new.items)) }
 {
     let count = levels.len();
     if !overlap_pays(pairs.len(), count, pairs.len() / WIDTH) {
         return Ok(None);
     }
     // Two fifths of the levels: `docs/SPEED.md` says why.
-    let early = count / 2 - count / 10;
-    overlap.update(pairs, bodies, levels, early)?;
+    let early_levels = count / 2 - count / 10;
+    overlap.update(pairs, bodies, levels, early_levels)?;
     if !overlap_pays(pairs.len(), count, overlap.levels().len()) {
         return Ok(None);
     }
     load_bundles(bundles, overlap.levels(), pairs, rows)?;
-    Ok(Some(early))
+    Ok(Some(early_levels))
 }
 
 /// The rounds of islands whose rows and numbers are loaded; `false`, and the islands as they were,
@@ -116,20 +116,27 @@ fn load_overlap(
 fn solve_loaded(
     rows: &[LaneRow],
     bundles: &[Bundle],
-    early: usize,
-    overlap: &[Bundle],
+    early_levels: usize,
+    overlap_bundles: &[Bundle],
     numbers: &mut Numbers,
     islands: &mut [Island],
 ) -> bool
     requires batches { AreBatches islands.old }
     requires loaded { (levels across : List (List ℕ))
         × IsLoaded (batch_of islands.old) levels rows.now numbers.old bundles.now
-        × IsOverlapLoaded (map pair_of (batch_of islands.old).rows) rows.now early levels across
-        overlap.now }
+        × IsOverlapLoaded (map pair_of (batch_of islands.old).rows) rows.now early_levels levels
+        across overlap_bundles.now }
     ensures solved { IsTrue result → islands.new ≡ map island_after_rounds islands.old }
     ensures left { result ≡ false → islands.new ≡ islands.old }
 {
-    let done = solve_numbers(bundles, early, overlap, rows, numbers, START_LIMIT);
+    let done = solve_numbers(
+        bundles,
+        early_levels,
+        overlap_bundles,
+        rows,
+        numbers,
+        START_LIMIT,
+    );
     if done {
         store_numbers(islands, numbers);
     }
@@ -177,7 +184,14 @@ fn solve_in_lanes(workspace: &mut Workspace, islands: &mut [Island]) -> Result<b
         overlap,
         overlap_bundles,
     )? {
-        Some(early) => Ok(solve_loaded(rows, bundles, early, overlap_bundles, numbers, islands)),
+        Some(early_levels) => Ok(solve_loaded(
+            rows,
+            bundles,
+            early_levels,
+            overlap_bundles,
+            numbers,
+            islands,
+        )),
         None => Ok(solve_loaded(rows, bundles, 0, bundles, numbers, islands)),
     }
 }

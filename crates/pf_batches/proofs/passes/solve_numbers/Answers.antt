@@ -8,45 +8,45 @@ use Rattle.pf_batches.proofs.InBundles.{bundles_stay, early_for, late_for}
 use Rattle.pf_batches.proofs.Levels.{own_start, velocities_by_overlap}
 use Rattle.pf_batches.proofs.passes.solve_numbers.Goals as goal
 
-pub rounds-requires-clause-early : goal.rounds-requires-clause-early
-rounds-requires-clause-early c =
+pub rounds-requires-clause-first : goal.rounds-requires-clause-first
+rounds-requires-clause-first c =
     let rows = c.args.rows.now in
     let bundles = c.args.bundles.now in
-    bundles_stay rows c.args.numbers.now c.pass.new.numbers (take c.args.early bundles) c.in-Some.ensures.many
-    (All-take (IsBundleOn rows c.args.numbers.now) c.args.early bundles c.requires.bundles)
+    bundles_stay rows c.args.numbers.now c.solve_bundles.new.numbers (take c.args.early_levels bundles) c.in-Some.ensures.many
+    (All-take (IsBundleOn rows c.args.numbers.now) c.args.early_levels bundles c.requires.bundles)
 
-pub rounds-requires-clause-overlap : goal.rounds-requires-clause-overlap
-rounds-requires-clause-overlap c =
-    bundles_stay c.args.rows.now c.args.numbers.now c.pass.new.numbers c.args.overlap.now c.in-Some.ensures.many c.requires.overlap
+pub rounds-requires-clause-across : goal.rounds-requires-clause-across
+rounds-requires-clause-across c =
+    bundles_stay c.args.rows.now c.args.numbers.now c.solve_bundles.new.numbers c.args.overlap_bundles.now c.in-Some.ensures.many c.requires.overlap_bundles
 
-pub rounds-requires-clause-late : goal.rounds-requires-clause-late
-rounds-requires-clause-late c =
+pub rounds-requires-clause-last : goal.rounds-requires-clause-last
+rounds-requires-clause-last c =
     let rows = c.args.rows.now in
     let bundles = c.args.bundles.now in
     let on = IsBundleOn rows c.args.numbers.now in
-    let count = length bundles - c.args.early in
-    bundles_stay rows c.args.numbers.now c.pass.new.numbers (take count (drop c.args.early bundles)) c.in-Some.ensures.many
-    (All-take on count (drop c.args.early bundles) (All-drop on c.args.early bundles c.requires.bundles))
+    let count = length bundles - c.args.early_levels in
+    bundles_stay rows c.args.numbers.now c.solve_bundles.new.numbers (take count (drop c.args.early_levels bundles)) c.in-Some.ensures.many
+    (All-take on count (drop c.args.early_levels bundles) (All-drop on c.args.early_levels bundles c.requires.bundles))
 
 pub returns-in-Some-clause-value : goal.returns-in-Some-clause-value
 returns-in-Some-clause-value c = λ done b levels across of over for across_for same.
     let rows = c.args.rows.now in
     let bundles = c.args.bundles.now in
-    let early = c.args.early in
-    let all = take_all (length bundles - early) (drop early bundles) (omega (arith, length-drop early bundles)) in
-    let last = subst (AreBundlesFor b (drop early levels) rows) (sym all) (late_for b levels rows bundles early c.requires.early for) in
-    (c.rounds.ensures done b (solved_by_levels levels after_warm_start b) (take early levels) across (drop early levels)
-    (early_for b levels rows bundles early c.requires.early for) across_for last
+    let early_levels = c.args.early_levels in
+    let all = take_all (length bundles - early_levels) (drop early_levels bundles) (omega (arith, length-drop early_levels bundles)) in
+    let last = subst (AreBundlesFor b (drop early_levels levels) rows) (sym all) (late_for b levels rows bundles early_levels c.requires.early_levels for) in
+    (c.rounds.ensures done b (solved_by_levels levels after_warm_start b) (take early_levels levels) across (drop early_levels levels)
+    (early_for b levels rows bundles early_levels c.requires.early_levels for) across_for last
     (c.in-Some.ensures.value b b levels for (own_start b c.args.numbers.now same))).batch
-    ∙ velocities_by_overlap b levels across early of over
+    ∙ velocities_by_overlap b levels across early_levels of over
 
 pub returns-in-Some-clause-fit : goal.returns-in-Some-clause-fit
 returns-in-Some-clause-fit c = λ done b levels across for across_for same.
     let rows = c.args.rows.now in
     let bundles = c.args.bundles.now in
-    let early = c.args.early in
-    let all = take_all (length bundles - early) (drop early bundles) (omega (arith, length-drop early bundles)) in
-    let last = subst (AreBundlesFor b (drop early levels) rows) (sym all) (late_for b levels rows bundles early c.requires.early for) in
-    (c.rounds.ensures done b (solved_by_levels levels after_warm_start b) (take early levels) across (drop early levels)
-    (early_for b levels rows bundles early c.requires.early for) across_for last
+    let early_levels = c.args.early_levels in
+    let all = take_all (length bundles - early_levels) (drop early_levels bundles) (omega (arith, length-drop early_levels bundles)) in
+    let last = subst (AreBundlesFor b (drop early_levels levels) rows) (sym all) (late_for b levels rows bundles early_levels c.requires.early_levels for) in
+    (c.rounds.ensures done b (solved_by_levels levels after_warm_start b) (take early_levels levels) across (drop early_levels levels)
+    (early_for b levels rows bundles early_levels c.requires.early_levels for) across_for last
     (c.in-Some.ensures.value b b levels for (own_start b c.args.numbers.now same))).numbers

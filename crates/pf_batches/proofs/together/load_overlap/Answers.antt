@@ -10,10 +10,10 @@ pub load_bundles-requires-clause-pairs : goal.load_bundles-requires-clause-pairs
 load_bundles-requires-clause-pairs c =
     let pairs = c.args.pairs.now in
     let levels = c.args.levels.now in
-    let early = length levels / 2 - length levels / 10 in
-    let of : AreLevelsInOrder pairs (late_then_early early levels) c.update.new.self = search rules in
+    let early_levels = length levels / 2 - length levels / 10 in
+    let of : AreLevelsInOrder pairs (late_then_early early_levels levels) c.update.new.self = search rules in
     subst (All (All (λ p. p < length pairs))) (sym c.levels-2.ensures)
-    (in_order_within pairs (late_then_early early levels) c.update.new.self (late_early_within pairs levels c.requires.levels early) of)
+    (in_order_within pairs (late_then_early early_levels levels) c.update.new.self (late_early_within pairs levels c.requires.levels early_levels) of)
 
 pub load_bundles-requires-clause-rows : goal.load_bundles-requires-clause-rows
 load_bundles-requires-clause-rows c =
@@ -23,11 +23,11 @@ pub returns : goal.returns
 returns c =
     let pairs = c.args.pairs.now in
     let levels = c.args.levels.now in
-    let early = length levels / 2 - length levels / 10 in
-    let of : AreLevelsInOrder pairs (late_then_early early levels) c.update.new.self = search rules in
+    let early_levels = length levels / 2 - length levels / 10 in
+    let of : AreLevelsInOrder pairs (late_then_early early_levels levels) c.update.new.self = search rules in
     record {
-      few = omega arith;
-      done = λ step b is. late_and_early step pairs levels c.update.new.self early b c.requires.levels of is;
-      within = in_order_within pairs (late_then_early early levels) c.update.new.self (late_early_within pairs levels c.requires.levels early) of;
+      early_in_levels = omega arith;
+      does_late_and_early = λ step b is. late_and_early step pairs levels c.update.new.self early_levels b c.requires.levels of is;
+      within = in_order_within pairs (late_then_early early_levels levels) c.update.new.self (late_early_within pairs levels c.requires.levels early_levels) of;
       each = subst (λ across. AreBundlesOf pairs c.args.rows.now across c.load_bundles.new.bundles.items) c.levels-2.ensures (search rules);
     }

@@ -7,19 +7,19 @@ use Rattle.pf_batches.proofs.together.solve_loaded.Goals as goal
 pub solve_numbers-done-requires-clause-bundles : goal.solve_numbers-done-requires-clause-bundles
 solve_numbers-done-requires-clause-bundles c =
     let h = c.requires.loaded in
-    loaded_on (batch_of c.args.islands.now) h.0 h.1 c.args.early c.args.rows.now c.args.numbers.now c.args.bundles.now c.args.overlap.now
+    loaded_on (batch_of c.args.islands.now) h.0 h.1 c.args.early_levels c.args.rows.now c.args.numbers.now c.args.bundles.now c.args.overlap_bundles.now
     h.2 h.3 (batch_of_batches c.args.islands.now c.requires.batches)
 
-pub solve_numbers-done-requires-clause-early : goal.solve_numbers-done-requires-clause-early
-solve_numbers-done-requires-clause-early c =
+pub solve_numbers-done-requires-clause-early_levels : goal.solve_numbers-done-requires-clause-early_levels
+solve_numbers-done-requires-clause-early_levels c =
     let h = c.requires.loaded in
-    early_in (batch_of c.args.islands.now) h.0 h.1 c.args.early c.args.rows.now c.args.numbers.now c.args.bundles.now c.args.overlap.now
+    early_in (batch_of c.args.islands.now) h.0 h.1 c.args.early_levels c.args.rows.now c.args.numbers.now c.args.bundles.now c.args.overlap_bundles.now
     h.2 h.3
 
-pub solve_numbers-done-requires-clause-overlap : goal.solve_numbers-done-requires-clause-overlap
-solve_numbers-done-requires-clause-overlap c =
+pub solve_numbers-done-requires-clause-overlap_bundles : goal.solve_numbers-done-requires-clause-overlap_bundles
+solve_numbers-done-requires-clause-overlap_bundles c =
     let h = c.requires.loaded in
-    overlap_on (batch_of c.args.islands.now) h.0 h.1 c.args.early c.args.rows.now c.args.numbers.now c.args.bundles.now c.args.overlap.now
+    overlap_on (batch_of c.args.islands.now) h.0 h.1 c.args.early_levels c.args.rows.now c.args.numbers.now c.args.bundles.now c.args.overlap_bundles.now
     h.2 h.3 (batch_of_batches c.args.islands.now c.requires.batches)
 
 pub store_numbers-requires : goal.store_numbers-requires
@@ -28,17 +28,17 @@ store_numbers-requires c =
     let h = c.requires.loaded in
     let n = c.args.numbers.now in
     c.if-done.ensures.fit refl b h.0 h.1
-    (loaded_for b h.0 h.1 c.args.early c.args.rows.now n c.args.bundles.now c.args.overlap.now h.2 h.3)
-    (overlap_for b h.0 h.1 c.args.early c.args.rows.now n c.args.bundles.now c.args.overlap.now h.2 h.3) h.2.numbers
+    (loaded_for b h.0 h.1 c.args.early_levels c.args.rows.now n c.args.bundles.now c.args.overlap_bundles.now h.2 h.3)
+    (overlap_for b h.0 h.1 c.args.early_levels c.args.rows.now n c.args.bundles.now c.args.overlap_bundles.now h.2 h.3) h.2.numbers
 
 pub returns-then-done-clause-solved : goal.returns-then-done-clause-solved
 returns-then-done-clause-solved c = λ done.
     let b = batch_of c.args.islands.now in
     let h = c.requires.loaded in
     let n = c.args.numbers.now in
-    let own = loaded_for b h.0 h.1 c.args.early c.args.rows.now n c.args.bundles.now c.args.overlap.now h.2 h.3 in
-    let over = overlap_for b h.0 h.1 c.args.early c.args.rows.now n c.args.bundles.now c.args.overlap.now h.2 h.3 in
+    let own = loaded_for b h.0 h.1 c.args.early_levels c.args.rows.now n c.args.bundles.now c.args.overlap_bundles.now h.2 h.3 in
+    let over = overlap_for b h.0 h.1 c.args.early_levels c.args.rows.now n c.args.bundles.now c.args.overlap_bundles.now h.2 h.3 in
     c.store_numbers.ensures
     ∙ islands_after_rounds c.args.islands.now c.solve_numbers-done.new.numbers c.requires.batches
     (c.if-done.ensures.fit refl b h.0 h.1 own over h.2.numbers)
-    (c.if-done.ensures.value refl b h.0 h.1 h.2.order h.3.done own over h.2.numbers)
+    (c.if-done.ensures.value refl b h.0 h.1 h.2.order h.3.does_late_and_early own over h.2.numbers)

@@ -6,7 +6,7 @@ use Rattle.pf_solver.specs.Velocities.{Step}
 use Rattle.pf_batches.specs.Numbers.{AreAllWithin}
 use Rattle.pf_bundles.specs.Seats.{AreAsMany}
 use Rattle.pf_batches.proofs.InBundles.{AreSolvedTo}
-use Rattle.pf_batches.proofs.passes.pass.Given as goal
+use Rattle.pf_batches.proofs.passes.solve_bundles.Given as goal
 
 -- the bundles before this one are solved
 pub record AreSolved (step : Step) (rows : List LaneRow) (bundles : List Bundle) (before now : Numbers) (most done : ℕ) : Type 0 where

@@ -1,6 +1,6 @@
 use Rattle.std.proofs.Common.{arith, refl}
-use Rattle.pf_batches.proofs.InBundles.{bundle_at, bundle_more, many_after, pass_done}
-use Rattle.pf_batches.proofs.passes.pass.Goals as goal
+use Rattle.pf_batches.proofs.InBundles.{all_solved, bundle_at, bundle_more, many_after}
+use Rattle.pf_batches.proofs.passes.solve_bundles.Goals as goal
 
 pub solve_bundle-requires-clause-seats : goal.solve_bundle-requires-clause-seats
 solve_bundle-requires-clause-seats g c =
@@ -29,5 +29,5 @@ loop-bundle-preserved g c = record {
 
 pub returns-clause-value : goal.returns-clause-value
 returns-clause-value g c =
-    pass_done g.L.ContactStep.step c.args.rows.now c.args.bundles.now c.args.numbers.now c.loop-bundle.bundle-index c.loop-bundle.numbers
+    all_solved g.L.ContactStep.step c.args.rows.now c.args.bundles.now c.args.numbers.now c.loop-bundle.bundle-index c.loop-bundle.numbers
     (omega arith) c.loop-bundle.invariant.value
