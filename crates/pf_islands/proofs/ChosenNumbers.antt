@@ -1,4 +1,4 @@
--- Loops over chosen numbers alone: what the other numbers change nothing of.
+-- Loops over chosen numbers alone keep what a step at any other number would keep.
 use Rattle.std.proofs.Common.{◌≡◌, ◌∙◌, ℕ, zero, suc, ◌+◌, ◌<◌, Bool, true, false, cond, List, ◌∷◌, Some, length, filter, get_or, refl, sym, ap, subst, arith, slice_get}
 use Rattle.std.proofs.lemmas.List.{get_or_default}
 use Rattle.std.proofs.lemmas.List.Elements.{All-filter}

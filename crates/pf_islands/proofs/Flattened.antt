@@ -5,8 +5,8 @@ use Rattle.std.proofs.lemmas.List.{get_or-set_other, length-set, take_at}
 use Rattle.std.specs.List.{range_with_len}
 use Rattle.pf_shapes.specs.Scene.{Scene}
 use Rattle.pf_manifold.specs.Touches.{Touch}
-use Rattle.pf_islands.specs.Forest.{HaveOthersOwn, IsDownward, IsForest}
-use Rattle.pf_islands.specs.Group.{HaveOthersAlone, group}
+use Rattle.pf_islands.specs.Forest.{OthersAreRoots, IsDownward, IsForest}
+use Rattle.pf_islands.specs.Group.{OthersAreAlone, group}
 use Rattle.pf_islands.proofs.Roots.{flat_more}
 use Rattle.pf_islands.proofs.Starting.{group_low}
 
@@ -52,8 +52,8 @@ module _ (is_listed : ℕ → Bool) (root : ℕ → ℕ) where
 -- where bodies are alone in their groups, they are their own parents
 pub others_own : (s : Scene) (touches : List Touch) (len : ℕ) (linked lent behind numbers : List ℕ)
     → len ≡ length s.fixtures → length linked ≡ len → lent ≡ take len (linked ++ behind)
-    → IsForest (group s touches) linked → IsDownward linked → HaveOthersAlone s touches numbers
-    → HaveOthersOwn lent numbers
+    → IsForest (group s touches) linked → IsDownward linked → OthersAreAlone s touches numbers
+    → OthersAreRoots lent numbers
 others_own s touches len linked lent behind numbers count long back forest down others =
     let lent_is = back ∙ take_at linked behind len long in
     let many : length s.fixtures ≡ length lent = sym count ∙ sym long ∙ sym (ap length lent_is) in

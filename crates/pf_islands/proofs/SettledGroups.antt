@@ -16,7 +16,7 @@ use Rattle.pf_rows.specs.declared.row.Side.TheVariants.{Static, Dynamic}
 use Rattle.pf_rows.specs.Row.{IsSide, Row}
 use Rattle.pf_cache.specs.Contact.{Contact}
 use Rattle.pf_islands.specs.Flags.{awake_numbers}
-use Rattle.pf_islands.specs.Group.{HaveOthersAlone, group, groups, merged_label}
+use Rattle.pf_islands.specs.Group.{OthersAreAlone, group, groups, merged_label}
 use Rattle.pf_islands.specs.Island.{members}
 use Rattle.pf_islands.specs.Reach.{connects}
 use Rattle.pf_islands.specs.Rows.{active_points, active_rows, is_active_contact, is_awake_at}
@@ -483,7 +483,7 @@ settled_from s bodies touches places are all =
 pub others_alone : (s : Scene) (bodies : List BodyState) (touches : List Touch) → length bodies ≡ length s.fixtures
     → AreSettled s bodies touches → (places numbers : List ℕ)
     → places ≡ map (λ (m : ℕ × Touch). m.0) (active_points s bodies touches) → numbers ≡ awake_numbers bodies
-    → HaveOthersAlone s (touches_at touches places) numbers
+    → OthersAreAlone s (touches_at touches places) numbers
 others_alone s bodies touches count settled places numbers are awake = record {
   is_listed = is_awake_at bodies;
   listed = awake ∙ ap (λ n. filter (is_awake_at bodies) (range_with_len 0 n)) count;
@@ -494,7 +494,7 @@ others_alone s bodies touches count settled places numbers are awake = record {
 
 -- all bodies are listed
 pub all_listed : (s : Scene) (touches : List Touch) (numbers : List ℕ) → numbers ≡ range_with_len 0 (length s.fixtures)
-    → HaveOthersAlone s touches numbers
+    → OthersAreAlone s touches numbers
 all_listed s touches numbers are = record {
   is_listed = λ i. true;
   listed = are ∙ sym (every (range_with_len 0 (length s.fixtures)));

@@ -7,15 +7,15 @@ abbrev pub IsDownward : List ℕ → Type 0
 IsDownward parents = (i : ℕ) → i < length parents → slice_index parents i ≤ i
 
 -- some of so many bodies, by their numbers in ascending order; P holds of each other body
-pub record HaveOthers (count : ℕ) (P : ℕ → Type 0) (numbers : List ℕ) : Type 0 where
+pub record OthersAre (count : ℕ) (P : ℕ → Type 0) (numbers : List ℕ) : Type 0 where
   pub is_listed : ℕ → Bool
   pub listed : numbers ≡ filter is_listed (range_with_len 0 count)
   pub others : (i : ℕ) → i < count → is_listed i ≡ false → P i
 
 -- some bodies; each other one is its own parent
-abbrev pub HaveOthersOwn : List ℕ → List ℕ → Type 0
-HaveOthersOwn parents numbers =
-    HaveOthers (length parents) (λ i. slice_index parents i ≡ i) numbers
+abbrev pub OthersAreRoots : List ℕ → List ℕ → Type 0
+OthersAreRoots parents numbers =
+    OthersAre (length parents) (λ i. slice_index parents i ≡ i) numbers
 
 -- these are the roots of the bodies: a body has the root of its parent, and a root is its own
 pub record IsForest (root : ℕ → ℕ) (parents : List ℕ) : Type 0 where

@@ -5,7 +5,7 @@ use Rattle.std.specs.List.{range_with_len}
 use Rattle.pf_shapes.specs.Scene.{Scene}
 use Rattle.pf_shapes.specs.declared.scene.TheConstants.{MAX_BODIES}
 use Rattle.pf_manifold.specs.Touches.{Touch}
-use Rattle.pf_islands.specs.Forest.{HaveOthers}
+use Rattle.pf_islands.specs.Forest.{OthersAre}
 use Rattle.pf_islands.specs.Reach.{connects}
 
 -- the label of a group after the groups of two labels became one: the greater became the lesser
@@ -26,9 +26,9 @@ abbrev pub groups : Scene → List Touch → List ℕ
 groups s touches = map (group s touches) (range_with_len 0 (length s.fixtures))
 
 -- some bodies; each other one is alone in its group
-abbrev pub HaveOthersAlone : Scene → List Touch → List ℕ → Type 0
-HaveOthersAlone s touches numbers =
-    HaveOthers (length s.fixtures) (λ i. group s touches i ≡ i) numbers
+abbrev pub OthersAreAlone : Scene → List Touch → List ℕ → Type 0
+OthersAreAlone s touches numbers =
+    OthersAre (length s.fixtures) (λ i. group s touches i ≡ i) numbers
 
 -- the labels of the groups of a scene's bodies: each is the number of a body
 pub record IsGroups (labels : List ℕ) : Type 0 where

@@ -4,7 +4,7 @@
 ghost use Rattle.std.specs.Prelude.{◌≡◌, ◌≤◌, ◌<◌, ◌∷◌, ℕ, All, IfOk, IsOk, List, length, map};
 ghost use Rattle.std.specs.List.{range_with_len};
 ghost use Rattle.pf_manifold.specs.Touches.{IsTouchOf, Touch};
-ghost use Rattle.pf_islands.specs.Forest.{HaveOthersOwn, IsDownward, IsForest};
+ghost use Rattle.pf_islands.specs.Forest.{OthersAreRoots, IsDownward, IsForest};
 ghost use Rattle.pf_islands.specs.Group.{group, merged_label};
 ghost use Rattle.pf_islands.specs.Reach.{connects};
 ghost use Rattle.pf_islands.specs.Settled.{touches_at};
@@ -112,7 +112,7 @@ pub fn link_all(parents: &mut [usize], scene: &Scene, touches: &[Touch], places:
 /// numbers are looked at: each other body is its own parent.
 pub fn flatten(parents: &mut [usize], numbers: &[usize])
     requires down { IsDownward parents.old }
-    requires others { HaveOthersOwn parents.old numbers.now }
+    requires others { OthersAreRoots parents.old numbers.now }
     ensures { (root : ℕ → ℕ) → IsForest root parents.old
         → parents.new ≡ map root (range_with_len 0 (length parents.old)) }
 {

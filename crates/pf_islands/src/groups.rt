@@ -30,7 +30,7 @@ impl Groups {
     ghost use Rattle.pf_shapes.specs.Scene.{Scene};
     ghost use Rattle.pf_shapes.specs.declared.scene.TheConstants.{MAX_BODIES};
     ghost use Rattle.pf_manifold.specs.Touches.{IsTouchOf, Touch};
-    ghost use Rattle.pf_islands.specs.Group.{HaveOthersAlone, groups};
+    ghost use Rattle.pf_islands.specs.Group.{OthersAreAlone, groups};
     ghost use Rattle.pf_islands.specs.Settled.{touches_at};
     ghost use Rattle.pf_islands.specs.Sleep.{woken_bodies};
     ghost use Rattle.pf_islands.specs.Split.{AreWoken};
@@ -48,7 +48,7 @@ impl Groups {
     ) -> Result<Groups, AllocError>
         requires touches { All (IsTouchOf (length scene.now.fixtures)) touches.now }
         requires places { All (λ place. place < length touches.now) places.now }
-        requires numbers { HaveOthersAlone scene.now (touches_at touches.now places.now)
+        requires numbers { OthersAreAlone scene.now (touches_at touches.now places.now)
             numbers.now }
         ensures value { IfOk result
             (λ found. found ≡ groups scene.now (touches_at touches.now places.now)) }

@@ -46,7 +46,7 @@ pub(crate) fn row_of(scene: &Scene, place: usize, touch: &Touch, contact: &Conta
 /// For each body whether it is dynamic and awake, and the numbers of the awake ones, in ascending
 /// order. Both lists are short, so that they can be read again and again. Takes no memory where
 /// there are no bodies.
-fn awake_of(
+fn simulated_and_awake(
     alloc: Global,
     scene: &Scene,
     bodies: &[BodyState],
@@ -80,8 +80,8 @@ fn is_active_by(simulated: &[bool], pair: &Pair) -> bool
     simulated[pair.a] | simulated[pair.b]
 }
 
-/// Adds the places of a span's points, for which there is room. Few spans have points that are
-/// simulated, and the loop over all spans is shorter without this one in it.
+/// Adds the places of a span's points, for which there is room. A function of its own, since few
+/// spans have points that are simulated: the loop over all spans runs faster without this one.
 #[inline(never)]
 fn push_places(places: &mut Vec<usize>, span: &Span)
     requires number { span.now.start + span.now.len < 2 ^ 64 }
@@ -106,9 +106,9 @@ pub(crate) struct Active {
     pub places: Vec<usize>,
 }
 
-/// Which bodies and contacts are simulated. `spans` are the pairs
-/// with their points, so that the points of a pair that sleeps are not looked at. Takes no memory
-/// where there are no bodies and no contact points.
+/// Which bodies and contacts are simulated. `spans` says which pair has which points, so that the
+/// points of a pair that sleeps are not looked at. Takes no memory where there are no bodies and no
+/// contact points.
 pub(crate) fn active_of(
     alloc: Global,
     scene: &Scene,
@@ -128,7 +128,7 @@ pub(crate) fn active_of(
         (λ found. All (λ place. place < length touches.now) found.places.items) }
     ensures no_memory { bodies.now ≡ [] → touches.now ≡ [] → IsOk result }
 {
-    let (simulated, numbers) = awake_of(alloc, scene, bodies)?;
+    let (simulated, numbers) = simulated_and_awake(alloc, scene, bodies)?;
     let mut places = Vec::with_capacity(alloc, touches.len())?;
     for span in spans {
         if span.len > 0 && is_active_by(&simulated, &span.pair) {

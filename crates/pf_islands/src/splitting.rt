@@ -47,9 +47,9 @@ fn clear_at(
     island.clear(rows)
 }
 
-/// An island without bodies for each group that is simulated, in the order of their labels, made in
-/// the memory of the spare islands; and at each of these labels the place of its island, in place
-/// of the number of its contacts. `numbers` are those of the awake bodies.
+/// An empty island for each group that is simulated, in the order of their labels, made in the
+/// memory of the spare islands. `rows` holds at each label the number of its contacts; it is
+/// returned with the place of its island there instead. `numbers` are those of the awake bodies.
 fn empty_islands(
     alloc: Global,
     spare: Vec<Island>,

@@ -15,7 +15,7 @@ use Rattle.pf_commands.proofs.Since.{IsFrom-from, is_from-IsFrom}
 use Rattle.pf_commands.proofs.Ticks.{payloads_at-other, payloads_at-before}
 use Rattle.pf_step.specs.Simulation.{sim}
 use Rattle.pf_step.specs.Step.{step}
-use Rattle.pf_step.specs.Work.{KnowsMoved, Work}
+use Rattle.pf_step.specs.Work.{KnowsWorld, Work}
 use Rattle.pf_step.specs.World.{World, start_of}
 use Rattle.pf_cache.specs.Meter.{Meter, saturating_sum}
 use Rattle.pf_islands.specs.Split.{Island}
@@ -335,10 +335,10 @@ err_both (Err fault) f a b = f a b
 -- ---- what a work knows of moved bodies
 
 -- where it is not known which bodies have moved
-pub unknown_follows : (s : Scene) (world : World) (work : Work) → work.is_known ≡ false → KnowsMoved s world work
+pub unknown_follows : (s : Scene) (world : World) (work : Work) → work.is_known ≡ false → KnowsWorld s world work
 unknown_follows s world work unknown known = absurd (true≢false (sym known ∙ unknown))
 
 -- after room is made
 pub follows_reserved : (s : Scene) (work : Work) (kept after : Snapshots) → after ≡ record kept { room = after.room }
-    → KnowsMoved s (settled_world kept) work → KnowsMoved s (settled_world after) work
-follows_reserved s work kept after same = subst (λ k. KnowsMoved s (settled_world k) work) (sym same)
+    → KnowsWorld s (settled_world kept) work → KnowsWorld s (settled_world after) work
+follows_reserved s work kept after same = subst (λ k. KnowsWorld s (settled_world k) work) (sym same)

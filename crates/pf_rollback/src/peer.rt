@@ -39,7 +39,7 @@ impl Model for PeerCore {
     ghost use Rattle.pf_commands.specs.contracts.map.CommandMap.{the_row};
     ghost use Rattle.pf_rollback.specs.Core.{IsPeerCore, PeerCore, peer_of};
     ghost use Rattle.pf_rollback.specs.Snapshots.{settled_world, ticks_of};
-    ghost use Rattle.pf_step.specs.Work.{KnowsMoved};
+    ghost use Rattle.pf_step.specs.Work.{KnowsWorld};
 
     ghost Value = { PeerCore };
 
@@ -54,7 +54,7 @@ impl Model for PeerCore {
 
     ghost invariant = { λ core. IsPeerCore core.scene
         (peer_of core.player core.commands core.reached core.snapshots) core.snapshots
-        × KnowsMoved core.scene (settled_world core.snapshots) core.work };
+        × KnowsWorld core.scene (settled_world core.snapshots) core.work };
 }
 
 impl PeerCore {

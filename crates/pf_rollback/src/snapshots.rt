@@ -161,7 +161,7 @@ impl Snapshots {
     ghost use Rattle.pf_step.specs.Step.{collisions_of_tick, step};
     ghost use Rattle.pf_step.specs.Stepping.{FailsBy};
     ghost use Rattle.pf_shapes.specs.Scene.{Scene};
-    ghost use Rattle.pf_step.specs.Work.{KnowsMoved, work_after_tick};
+    ghost use Rattle.pf_step.specs.Work.{KnowsWorld, work_after_tick};
     ghost use Rattle.pf_step.specs.World.{World};
     ghost use Rattle.pf_cache.specs.Manifolds.{no_manifolds};
     ghost use Rattle.pf_rollback.specs.Kept.{AreRising, no_ticks, settled_tick, nearest_tick, ticks_after_news, ticks_after_seal, ticks_after_settling, ticks_up_to};
@@ -238,7 +238,7 @@ impl Snapshots {
         requires limit { settled_tick (ticks_of self.old) < MAX_TICK }
         requires world { (world : World) → IsKept self.old (settled_tick (ticks_of self.old)) world
             → length world.bodies ≡ length scene.now.fixtures }
-        requires follows { KnowsMoved scene.now (settled_world self.old) work.old }
+        requires follows { KnowsWorld scene.now (settled_world self.old) work.old }
         ensures latest { let tick = settled_tick (ticks_of self.old) in
             IsKept self.old tick (settled_world self.old) }
         ensures ticks { OnOk result (ticks_of self.new
@@ -254,7 +254,7 @@ impl Snapshots {
             let found = collisions_of_tick scene.now world payloads.now work.old.manifolds in
             OnOk result (work.new ≡ work_after_tick found work.new.moved work.old) }
         ensures not_counted { OnErr result (work.new.meter ≡ work.old.meter) }
-        ensures follows { KnowsMoved scene.now (settled_world self.new) work.new }
+        ensures follows { KnowsWorld scene.now (settled_world self.new) work.new }
         ensures called { let world = settled_world self.old in
             let islands = islands_of_tick scene.now world payloads.now in
             OnOk result (C.is_called crew.old islands crew.new) }
@@ -290,8 +290,8 @@ impl Snapshots {
         ensures near { IfSome least (λ tick. tick ≤ settled_tick (ticks_of self.old)
             → tick < settled_tick (ticks_of self.new) + KEYFRAME_INTERVAL) }
         ensures meter { work.new.meter ≡ work.old.meter }
-        ensures follows { (s : Scene) → KnowsMoved s (settled_world self.old) work.old
-            → KnowsMoved s (settled_world self.new) work.new }
+        ensures follows { (s : Scene) → KnowsWorld s (settled_world self.old) work.old
+            → KnowsWorld s (settled_world self.new) work.new }
     {
         if let Some(tick) = least {
             self.drop_after(tick, work);
@@ -310,8 +310,8 @@ impl Snapshots {
         ensures near { tick ≤ settled_tick (ticks_of self.old)
             → tick < settled_tick (ticks_of self.new) + KEYFRAME_INTERVAL }
         ensures meter { work.new.meter ≡ work.old.meter }
-        ensures follows { (s : Scene) → KnowsMoved s (settled_world self.old) work.old
-            → KnowsMoved s (settled_world self.new) work.new }
+        ensures follows { (s : Scene) → KnowsWorld s (settled_world self.old) work.old
+            → KnowsWorld s (settled_world self.new) work.new }
     {
         if self.settled <= tick {
             return;

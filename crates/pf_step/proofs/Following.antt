@@ -25,7 +25,7 @@ use Rattle.pf_cache.specs.PlacedBodies.{HaveStayed, bodies_of}
 use Rattle.pf_islands.specs.Split.{Island}
 use Rattle.pf_step.specs.Changes.{AreAdded, BodyChange, bodies_before, change_if, change_of, changes_by_commands, changes_of_islands, numbers_of}
 use Rattle.pf_step.specs.Commands.{after_commands}
-use Rattle.pf_step.specs.Work.{KnowsMoved, Work, moved_bodies}
+use Rattle.pf_step.specs.Work.{KnowsWorld, Work, moved_bodies}
 use Rattle.pf_step.specs.World.{World}
 use Rattle.pf_step.proofs.Changing.{notes_of_all, unchanged_stays}
 use Rattle.pf_step.proofs.Commanding.{commands_before, commands_length}
@@ -162,7 +162,7 @@ listed_below n k below = has_body-below n k ∙ is_below
 
 -- after commands, only the listed bodies may have moved
 pub stayed_after_commands : (s : Scene) (w : World) (payloads : List Payload) (work : Work) (m : Manifolds) (moved : List ℕ)
-    (notes : List BodyChange) (after : List BodyState) → KnowsMoved s w work → m ≡ work.manifolds
+    (notes : List BodyChange) (after : List BodyState) → KnowsWorld s w work → m ≡ work.manifolds
     → notes ≡ changes_by_commands w.bodies payloads → after ≡ after_commands s.fixtures w.bodies payloads
     → moved ≡ moved_bodies work.is_known work.moved (length w.bodies) (numbers_of notes)
     → All (λ number. number < length after) moved × HaveStayed moved (bodies_of m) s.fixtures after
@@ -205,7 +205,7 @@ stayed_after_commands s w payloads work m moved notes after follows m_is noted a
         )
 
 -- the first contacts have the keys of the first new points, as many as have those of kept ones
-pub keys_after_commands : (s : Scene) (w : World) (work : Work) (kept found : Manifolds) (same : ℕ) → KnowsMoved s w work
+pub keys_after_commands : (s : Scene) (w : World) (work : Work) (kept found : Manifolds) (same : ℕ) → KnowsWorld s w work
     → work.is_known ≡ true → kept ≡ work.manifolds
     → HaveSameFirst same (map key_of (kept_touches kept)) (map key_of (kept_touches found))
     → HaveSameFirst same (map (λ c. c.key) w.contacts) (map key_of (kept_touches found))

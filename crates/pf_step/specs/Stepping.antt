@@ -3,7 +3,7 @@ use Rattle.std.specs.Prelude.{◌≡◌, false, List, Result, IfOk, OnErr, OnOk,
 use Rattle.pf_shapes.specs.Scene.{Scene}
 use Rattle.pf_commands.specs.declared.payload.Payload.{Payload}
 use Rattle.pf_cache.specs.Manifolds.{no_manifolds}
-use Rattle.pf_step.specs.Work.{KnowsMoved, Work, work_after_tick}
+use Rattle.pf_step.specs.Work.{KnowsWorld, Work, work_after_tick}
 use Rattle.pf_step.specs.Changes.{AreAdded, BodyChange, Changes, bodies_before, world_before}
 use Rattle.pf_islands.specs.Split.{Island}
 use Rattle.pf_step.specs.declared.crew.CrewError.{CrewError}
@@ -26,7 +26,7 @@ pub record IsStep {E : Type 0} (s : Scene) (w : World) (payloads : List Payload)
       (new ≡ work_after_tick (collisions_of_tick s w payloads old.manifolds) new.moved old)
   pub not_counted : OnErr result
       (new ≡ record old { manifolds = no_manifolds; moved = new.moved; is_known = false })
-  pub follows : KnowsMoved s after new
+  pub follows : KnowsWorld s after new
 
 -- what the phases after Points do to a world, where some changes of bodies are noted already: they
 -- make the next world of it, note more changes of its bodies, and undoing all of them leaves what

@@ -44,8 +44,8 @@ moved_bodies false moved count commanded = range_with_len 0 count
 
 -- where a work knows which bodies of a world may have moved, these are bodies of the scene, all
 -- others stand as it kept them, and the contacts have the keys of the kept contact points
-abbrev pub KnowsMoved : Scene → World → Work → Type 0
-KnowsMoved s world w =
+abbrev pub KnowsWorld : Scene → World → Work → Type 0
+KnowsWorld s world w =
     w.is_known ≡ true → All (λ number. number < length world.bodies) w.moved
     × HaveStayed w.moved (bodies_of w.manifolds) s.fixtures world.bodies
     × (map (λ c. c.key) world.contacts ≡ map key_of (kept_touches w.manifolds))

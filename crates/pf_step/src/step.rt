@@ -9,7 +9,7 @@ ghost use Rattle.pf_cache.specs.Manifolds.{kept_touches};
 ghost use Rattle.pf_step.specs.declared.crew.StepError.TheVariants.{OutOfMemory};
 ghost use Rattle.pf_step.specs.Activity.{islands_of_tick};
 ghost use Rattle.pf_cache.specs.PlacedBodies.{HaveStayed, bodies_of};
-ghost use Rattle.pf_step.specs.Work.{KnowsMoved};
+ghost use Rattle.pf_step.specs.Work.{KnowsWorld};
 ghost use Rattle.pf_step.specs.Stepping.{FailsBy, IsStep};
 ghost use Rattle.pf_step.specs.Commands.{after_commands};
 ghost use Rattle.pf_step.specs.Step.{collisions_of_bodies, touches_of_scene};
@@ -78,7 +78,7 @@ pub fn step_next<P: Collider, C: Crew>(
 ) -> Result<Changes, StepError>
     requires can { P.can_collide collider.now }
     requires world { length world.old.bodies ≡ length scene.now.fixtures }
-    requires follows { KnowsMoved scene.now world.old work.old }
+    requires follows { KnowsWorld scene.now world.old work.old }
     ensures step { IsStep scene.now world.old payloads.now work.old work.new world.new result }
     ensures called { let islands = islands_of_tick scene.now world.old payloads.now in
         OnOk result (C.is_called crew.old islands crew.new) }

@@ -2,7 +2,7 @@ use Rattle.std.proofs.Common.{◌≡◌, ◌+◌, length, subst, ap, ap₂, refl
 use Rattle.pf_step.specs.Activity.{islands_of_tick}
 use Rattle.pf_step.specs.Step.{step}
 use Rattle.pf_step.specs.Stepping.{FailsBy}
-use Rattle.pf_step.specs.Work.{KnowsMoved, Work}
+use Rattle.pf_step.specs.Work.{KnowsWorld, Work}
 use Rattle.pf_step.specs.World.{World}
 use Rattle.pf_rollback.specs.Snapshots.{IsSnapshots, last_world, settled_world}
 use Rattle.pf_rollback.specs.contracts.snapshots.Snapshots.{the_view}
@@ -63,7 +63,7 @@ returns-in-Ok-clause-follows g c =
     let s = c.self.inside in
     let is : last_world s.base c.place.new.keyframes.items c.place.new.latest ≡ c.step_next.new.world =
     ap₂ (λ ks o. last_world s.base ks o) c.place.ensures.keyframes c.place.ensures.latest ∙ placed_world s.base _ s.keyframes.items _ in
-    subst (λ (x : World × Work). KnowsMoved c.args.scene.now x.0 x.1) (λ i. (sym is i, sym c.lend.ensures i)) c.in-Ok.ensures.step.follows
+    subst (λ (x : World × Work). KnowsWorld c.args.scene.now x.0 x.1) (λ i. (sym is i, sym c.lend.ensures i)) c.in-Ok.ensures.step.follows
 
 pub returns-in_err-world-clause-latest : goal.returns-in_err-world-clause-latest
 returns-in_err-world-clause-latest g c = settled_tick_kept c.args.self.now (subst IsSnapshots c.self.view_is c.self.invariant)

@@ -7,8 +7,8 @@ use Rattle.pf_shapes.specs.Scene.{no_fixture}
 use Rattle.pf_islands.specs.Rows.{is_simulated_at}
 use Rattle.pf_islands.proofs.ActiveRows.{asleep_not_simulated, awake_simulated}
 use Rattle.pf_islands.proofs.AwakeNumbers.{numbers_more}
-use Rattle.pf_islands.proofs.rows.awake_of.Goals.{then-body, else-body}
-use Rattle.pf_islands.proofs.rows.awake_of.Goals as goal
+use Rattle.pf_islands.proofs.rows.simulated_and_awake.Goals.{then-body, else-body}
+use Rattle.pf_islands.proofs.rows.simulated_and_awake.Goals as goal
 
 pub loop-number-preserved : goal.loop-number-preserved
 loop-number-preserved c =

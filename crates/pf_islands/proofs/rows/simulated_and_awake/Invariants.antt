@@ -1,7 +1,7 @@
 use Rattle.std.proofs.Common.{◌≡◌, ◌≤◌, filter, length, map, vec_capacity, vec_len}
 use Rattle.std.specs.List.{range_with_len}
 use Rattle.pf_islands.specs.Rows.{is_awake_at, is_simulated_at}
-use Rattle.pf_islands.proofs.rows.awake_of.Given as goal
+use Rattle.pf_islands.proofs.rows.simulated_and_awake.Given as goal
 
 abbrev pub invariant-loop-number : goal.invariant-loop-number
 invariant-loop-number l = record {
