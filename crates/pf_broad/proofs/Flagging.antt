@@ -30,7 +30,7 @@ keep_next t (c ∷ cs) [] i below long same = absurd (omega arith)
 keep_next t (c ∷ cs) (b ∷ old) zero below long same = ap (λ v. v ∷ old) same
 keep_next t (c ∷ cs) (b ∷ old) (suc i) below long same = ap (λ l. t c ∷ l) (keep_next t cs old i (omega arith) (omega arith) same)
 
--- so it is read
+-- the next flag is then that of its candidate
 read_next : (t : Pair → Bool) (cs : List Pair) (old : List Bool) (i : ℕ) → i < length cs
     → get_or (flags_after t cs old (suc i)) i false ≡ t (pair_at cs i)
 read_next t [] old i below = absurd (omega arith)
@@ -38,6 +38,7 @@ read_next t (c ∷ cs) old zero below = refl
 read_next t (c ∷ cs) [] (suc i) below = read_next t cs [] i (omega arith)
 read_next t (c ∷ cs) (b ∷ old) (suc i) below = read_next t cs old i (omega arith)
 
+-- the candidates that are found, with the next one
 filter_next : (t : Pair → Bool) (cs : List Pair) (i : ℕ) → i < length cs
     → filter t (take (suc i) cs) ≡ filter t (take i cs) ++ cond (t (pair_at cs i)) (pair_at cs i ∷ []) []
 filter_next t [] i below = absurd (omega arith)
@@ -71,21 +72,24 @@ flag_read t cs old flags i below are =
     let more : i + 1 ≡ suc i = add-one i in
     ap (λ l. get_or l i false) (are ∙ ap (λ n. map t (take n cs) ++ drop n old) more) ∙ read_next t cs old i below
 
+-- by the value of its test
 pub found_next : (t : Pair → Bool) (cs : List Pair) (i : ℕ) (b : Bool) → i < length cs → t (pair_at cs i) ≡ b
     → filter t (take (i + 1) cs) ≡ filter t (take i cs) ++ cond b (pair_at cs i ∷ []) []
 found_next t cs i b below value =
     rw add-one (filter_next t cs i below ∙ ap (λ c. filter t (take i cs) ++ cond c (pair_at cs i ∷ []) []) value)
 
+-- none of two tests holds
 pub neither : (a b : Bool) → (a || b) ≡ false → (a ≡ false) × (b ≡ false)
 neither false b e = (refl, e)
 neither true false e = (e, refl)
 neither true true e = (e, e)
 
--- where all move, or the flags of two bodies that are not listed are right
-pub flagged : (bs : List Bounds) (moved : List ℕ) (moving : List Bool) (all : Bool) (cs : List Pair) (flags : List Bool)
-    → All (IsPairOf (length bs)) cs → ((k : ℕ) → k < length bs → get_or moving k false ≡ (all || has_body moved k))
-    → (all ≡ false → AreFlagged (has_body moved) bs cs flags) → AreFlagged (λ k. get_or moving k false) bs cs flags
-flagged bs moved moving all cs flags of each right i below none =
+-- flags are right for a list of flags of bodies, if these say that all may have moved, or the flags of
+-- two bodies that are not listed are right
+pub flagged : (bs : List Bounds) (moved : List ℕ) (may_move : List Bool) (all : Bool) (cs : List Pair) (flags : List Bool)
+    → All (IsPairOf (length bs)) cs → ((k : ℕ) → k < length bs → get_or may_move k false ≡ (all || has_body moved k))
+    → (all ≡ false → AreFlagged (has_body moved) bs cs flags) → AreFlagged (λ k. get_or may_move k false) bs cs flags
+flagged bs moved may_move all cs flags of each right i below none =
     let p = pair_at cs i in
     let bodies : IsPairOf (length bs) p = All-get_or (IsPairOf (length bs)) cs i (pair 0 0) below of in
     let first = each p.a (omega (arith, bodies.0, bodies.1)) in
@@ -100,13 +104,14 @@ flagged bs moved moving all cs flags of each right i below none =
         no : true ≡ false → ⊥
         no e = cc
 
--- what is kept of bounds still holds for the bodies that are not listed, if their bounds are the same
+-- what is kept of bounds still holds for the bodies that are not listed, if their bounds are the
+-- same
 pub still_holds : (kept : BroadPhase) (old bounds : List Bounds) (moved : List ℕ) → IsKeptOf kept old → length old ≡ length bounds
     → ((k : ℕ) → k < length bounds → has_body moved k ≡ false → bounds_at old k ≡ bounds_at bounds k) → StillHolds moved kept bounds
 still_holds kept old bounds moved is as_many same = record {
   contained = λ k below other.
       subst (λ b. contains (bounds_at kept.loose k) b ≡ true) (same k below other) (is.loose.each k (omega (arith, as_many, below)));
-  flags = λ long i below none.
+  flags = λ i below none.
       let ps = pairs kept.loose in
       let p = pair_at ps i in
       let as_many_loose : length kept.loose ≡ length bounds = is.loose.as_many ∙ as_many in

@@ -11,8 +11,8 @@ use crate::partners::{add_later, add_overlapping, may_touch};
 use pf_shapes::{Bounds, MAX_BODIES, Pair};
 use std::alloc::{AllocError, Global};
 
-/// For each body whether it may have moved: those that are listed may, or with `all` every body.
-pub(crate) fn moving_flags(
+/// For each body whether it may have moved: those of `moved`, or all of them if `all` is set.
+pub(crate) fn moved_flags(
     alloc: Global,
     count: usize,
     all: bool,
@@ -25,26 +25,29 @@ pub(crate) fn moving_flags(
 {
     let mut flags = Vec::with_capacity(alloc, count)?;
     flags.resize(count, all)?;
+    if all {
+        return Ok(flags);
+    }
     for number in moved {
         flags[*number] = true;
     }
     Ok(flags)
 }
 
-/// Of candidates those whose bodies may touch. Each has a flag that says so; a candidate is tested,
-/// and its flag written, only where one of its bodies may have moved.
+/// The candidates whose bodies may touch. Each has a flag that says whether they may. A candidate
+/// is tested, and its flag written, only where one of its bodies may have moved.
 #[inline(never)]
 pub(crate) fn overlapping(
     alloc: Global,
     candidates: &[Pair],
     flags: &mut [bool],
-    moving: &[bool],
+    moved: &[bool],
     bounds: &[Bounds],
 ) -> Result<Vec<Pair>, AllocError>
     requires candidates { All (IsPairOf (length bounds.now)) candidates.now }
     requires flags { length flags.old ≡ length candidates.now }
-    requires moving { length moving.now ≡ length bounds.now }
-    requires others { AreFlagged (λ k. get_or moving.now k false) bounds.now candidates.now
+    requires moved { length moved.now ≡ length bounds.now }
+    requires others { AreFlagged (λ k. get_or moved.now k false) bounds.now candidates.now
         flags.old }
     ensures found { IfOk result
         (λ found. found.items ≡ filter (pair_may_touch bounds.now) candidates.now) }
@@ -54,7 +57,7 @@ pub(crate) fn overlapping(
     let mut found = Vec::with_capacity(alloc, candidates.len())?;
     for i in 0..candidates.len() {
         let pair = &candidates[i];
-        if moving[pair.a] | moving[pair.b] {
+        if moved[pair.a] | moved[pair.b] {
             flags[i] = may_touch(&bounds[pair.a], &bounds[pair.b]);
         }
         if flags[i] {

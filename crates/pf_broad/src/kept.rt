@@ -1,7 +1,7 @@
 //! The broad phase that is kept from tick to tick.
 
 use crate::broad_phase::{add_pairs, all_pairs};
-use crate::candidates::{add_candidates, complete, moving_flags, overlapping};
+use crate::candidates::{add_candidates, complete, moved_flags, overlapping};
 use crate::grid::Grid;
 use crate::loose::{all_enlarged_bounds, has_left, left_bodies, refit};
 use pf_shapes::{BodyState, Bounds, Pair};
@@ -12,10 +12,10 @@ use std::mem;
 /// How many bodies may leave their enlarged bounds at once before all get new ones.
 const MAX_LEFT: usize = 16;
 
-/// What the broad phase keeps from tick to tick, as Box2D's `b2BroadPhase` does: enlarged bounds of
-/// all bodies, and as candidates the pairs of bodies whose enlarged bounds overlap. Each candidate
-/// has a flag that says whether its bodies may touch. It is sound for every scene and world: what
-/// is kept changes no result, only time.
+/// What the broad phase keeps from tick to tick: enlarged bounds of all bodies, and as candidates
+/// the pairs of bodies whose enlarged bounds overlap, as Box2D's `b2BroadPhase` does; and for each
+/// candidate a flag that says whether its bodies may touch. It is sound for every scene and world:
+/// what is kept changes no result, only time.
 ///
 /// Contracts see the enlarged bounds and the flags.
 #[derive(Debug, Drop)]
@@ -44,7 +44,7 @@ impl BroadPhase {
     ghost use Rattle.pf_shapes.specs.declared.scene.TheConstants.{MAX_BODIES};
     ghost use Rattle.pf_broad.specs.Pairs.{pairs};
     ghost use Rattle.pf_broad.specs.Loose.{AreLoosened, AreSameBut};
-    ghost use Rattle.pf_broad.specs.Kept.{HasFlags, IsKeptOf, StillHolds, nothing_kept};
+    ghost use Rattle.pf_broad.specs.Kept.{FlagsHold, IsKeptOf, StillHolds, nothing_kept};
     ghost use Rattle.pf_broad.specs.Partners.{AreBodies};
 
     /// Nothing kept. Takes no memory.
@@ -60,9 +60,10 @@ impl BroadPhase {
 
     /// The pairs of bodies, at most one of them static, whose bounds overlap: in ascending order,
     /// each once, whatever is kept. `bodies` decides only how far bounds are enlarged, by how fast
-    /// each body moves. Bodies that are not in `moved` have the bounds that they had in the last
-    /// call: two of these are not tested again. For fewer than two bodies it takes no memory, and
-    /// can't fail. An error drops what is kept.
+    /// each body moves. Bodies that are not in `moved` must have the bounds of the last call. A
+    /// pair of two of them is tested again only where a body has left its enlarged bounds. For
+    /// fewer than two bodies it takes no memory, can't fail, and leaves what is kept as it is. An
+    /// error drops what is kept.
     pub fn pairs(
         &mut self,
         alloc: Global,
@@ -80,6 +81,7 @@ impl BroadPhase {
         ensures ascending { IfOk result (λ found. IsAscending found.items) }
         ensures bodies { IfOk result (λ found. All (IsPairOf (length bounds.now)) found.items) }
         ensures kept { OnOk result (2 ≤ length bounds.now → IsKeptOf self.new bounds.now) }
+        ensures few_kept { length bounds.now < 2 → self.new ≡ self.old }
         ensures dropped { OnErr result (self.new ≡ nothing_kept) }
         ensures no_memory { length bounds.now < 2 → IsOk result }
     {
@@ -93,7 +95,8 @@ impl BroadPhase {
         Ok(found)
     }
 
-    /// Of the candidates those whose bodies may touch. New candidates are all tested.
+    /// The candidates whose bodies may touch. All are tested where they are new, or as many bodies
+    /// as there are may have moved.
     fn overlapping(
         &mut self,
         alloc: Global,
@@ -102,19 +105,26 @@ impl BroadPhase {
     ) -> Result<Vec<Pair>, AllocError>
         requires loosened { AreLoosened self.old.loose bounds.now }
         requires moved { AreBodies bounds.now moved.now }
-        requires flags { HasFlags moved.now self.old bounds.now }
+        requires flags { FlagsHold moved.now self.old bounds.now }
         ensures found { IfOk result (λ found. found.items ≡ pairs bounds.now) }
         ensures kept { OnOk result (IsKeptOf self.new bounds.now) }
     {
         let count = self.candidates.len();
         let are_new = self.flags.len() != count;
-        let moving = moving_flags(alloc, bounds.len(), are_new, moved)?;
+        let all = are_new | (moved.len() >= bounds.len());
+        let may_have_moved = moved_flags(alloc, bounds.len(), all, moved)?;
         self.flags.resize(count, false)?;
-        overlapping(alloc, &self.candidates, &mut self.flags, &moving, bounds)
+        overlapping(
+            alloc,
+            &self.candidates,
+            &mut self.flags,
+            &may_have_moved,
+            bounds,
+        )
     }
 
     /// Enlarged bounds that contain these, and their pairs. Where few bodies have left their
-    /// enlarged bounds, only these are searched for.
+    /// enlarged bounds, only these are searched for. Flags are kept only where no body has.
     fn refresh(
         self,
         alloc: Global,
@@ -130,7 +140,7 @@ impl BroadPhase {
         requires few { length bounds.now ≤ MAX_BODIES }
         requires ordered { All IsOrdered bounds.now }
         ensures loosened { IfOk result (λ kept. AreLoosened kept.loose bounds.now) }
-        ensures flags { IfOk result (λ kept. HasFlags moved.now kept bounds.now) }
+        ensures flags { IfOk result (λ kept. FlagsHold moved.now kept bounds.now) }
     {
         if self.loose.len() != bounds.len() {
             return BroadPhase::of(alloc, bounds, bodies);
@@ -179,7 +189,7 @@ impl BroadPhase {
         Ok(found)
     }
 
-    /// New enlarged bounds of all bodies, and their pairs by a grid.
+    /// New enlarged bounds of all bodies, and their pairs by a grid, without flags.
     fn of(alloc: Global, bounds: &[Bounds], bodies: &[BodyState]) -> Result<BroadPhase, AllocError>
         requires bodies { length bodies.now ≡ length bounds.now }
         requires few { length bounds.now ≤ MAX_BODIES }

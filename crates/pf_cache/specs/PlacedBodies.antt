@@ -45,6 +45,6 @@ HaveStayed moved placed fixtures bodies =
     → (slice_get placed.shapes k ≡ slice_get (placed_shapes fixtures bodies) k)
     × (slice_get placed.bounds k ≡ slice_get (all_bounds fixtures bodies) k)
 
--- for two bodies or more: the broad phase keeps enlarged bounds and flags of these
-abbrev pub KeepsBounds : BroadPhase → List Bounds → Type 0
-KeepsBounds kept bounds = 2 ≤ length bounds → IsKeptOf kept bounds
+-- for two bodies or more: what the broad phase keeps is of these bounds
+abbrev pub IsBroadPhaseOf : BroadPhase → List Bounds → Type 0
+IsBroadPhaseOf kept bounds = 2 ≤ length bounds → IsKeptOf kept bounds

@@ -151,7 +151,7 @@ pub fn are_unmoved(unmoved: &[bool], pair: &Pair) -> bool
     is_unmoved(unmoved, pair.a) && is_unmoved(unmoved, pair.b)
 }
 
-/// Whether the flags of both bodies of a pair are set. Both bodies have a flag.
+/// As `are_unmoved`, without a test of the numbers: both bodies must have a flag.
 #[inline]
 pub fn are_flags_set(unmoved: &[bool], pair: &Pair) -> bool
     requires { IsPairOf (length unmoved.now) pair.now }

@@ -39,7 +39,7 @@ pub struct Manifolds {
 impl Model for Manifolds {
     ghost use Rattle.std.specs.Prelude.{map};
     ghost use Rattle.pf_cache.specs.Manifolds.{Manifolds};
-    ghost use Rattle.pf_cache.specs.PlacedBodies.{KeepsBounds};
+    ghost use Rattle.pf_cache.specs.PlacedBodies.{IsBroadPhaseOf};
     ghost use Rattle.pf_cache.specs.Spans.{AreSpans};
 
     ghost Value = { Manifolds };
@@ -51,7 +51,7 @@ impl Model for Manifolds {
     } };
 
     ghost invariant = { λ m. AreSpans m.placed.shapes m.spans.items m.touches.items
-        × KeepsBounds m.broad_phase m.placed.bounds };
+        × IsBroadPhaseOf m.broad_phase m.placed.bounds };
 }
 
 /// What the narrow phase of a tick found.
@@ -83,7 +83,7 @@ pub struct FoundCollisions {
 /// The contact points of a tick's pairs.
 #[derive(Drop)]
 struct FoundPoints {
-    /// The points.
+    /// The points, their spans, and for how many pairs they were computed.
     points: PairPoints,
     /// How many of the first points are known to have the keys of the first kept ones.
     same: usize,

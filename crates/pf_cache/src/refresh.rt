@@ -89,11 +89,11 @@ fn refresh_span(
 
 /// Updates the contact points of pairs in place, from the first pair on. Points of two unmoved
 /// bodies stay. All others are computed and written over the old ones. It stops at a pair that has
-/// no span at its place, or another number of points than before. Where there are not as many flags
-/// as bodies, it does nothing. No clause says how far it comes.
+/// no span at its place, or another number of points than before. Where `unmoved` is not as long as
+/// `shapes`, it does nothing. No clause says how far it comes.
 ///
 /// Also finds how many of the first points have the keys that they had: those in front of the first
-/// pair whose features changed. No clause says that they are not more.
+/// pair whose features changed. It may be that more of them have; no clause says how many are found.
 #[inline(never)]
 #[tactic(auto, using(crate::proofs::Refreshing::kept_after))]
 pub fn refresh(

@@ -1,8 +1,7 @@
-use Rattle.std.proofs.Common.{◌≡◌, ◌<◌, ℕ, false, true, length, get_or, ap, refl, sym, subst, arith, ◌∙◌}
+use Rattle.std.proofs.Common.{◌≡◌, ℕ, Bool, false, true, not, ◌||◌, nat_eq, length, get_or, ap, refl, sym, subst, arith, ◌∙◌}
 use Rattle.std.proofs.lemmas.Bool.Decides.{nat_tests}
 use Rattle.std.proofs.lemmas.Result.{IfOk-weaker}
 use Rattle.std.specs.List.{filter}
-use Rattle.pf_shapes.specs.Pair.{Pair}
 use Rattle.pf_broad.specs.Pairs.{pair_may_touch, pairs}
 use Rattle.pf_broad.specs.Partners.{has_body}
 use Rattle.pf_broad.specs.Kept.{AreFlagged, BroadPhase}
@@ -18,6 +17,17 @@ all_candidates c = c.deref.ensures.value ∙ c.self.invariant.pairs ∙ ap (λ (
 pub overlapping-requires-clause-candidates : goal.overlapping-requires-clause-candidates
 overlapping-requires-clause-candidates c = pairs-IsPairOf c.args.self.now.loose c.deref.result.now _ (all_candidates c) c.requires.loosened.as_many
 
+-- candidates are not new where not all are tested
+same_count : (m n : ℕ) (b : Bool) → (not (nat_eq m n) || b) ≡ false → m ≡ n
+same_count m n b e = equal m n (nat_eq m n) refl e
+  where
+    equal : (m n : ℕ) (t : Bool) → nat_eq m n ≡ t → (not t || b) ≡ false → m ≡ n
+    equal m n true is e = grind (arith, nat_tests, is)
+    equal m n false is e = absurd (no e)
+      where
+        no : true ≡ false → ⊥
+        no x = cc
+
 pub overlapping-requires-clause-others : goal.overlapping-requires-clause-others
 overlapping-requires-clause-others c =
     let bs = c.args.bounds.now in
@@ -26,9 +36,9 @@ overlapping-requires-clause-others c =
     let flags_are : c.self.inside.flags.items ≡ c.args.self.now.flags = ap (λ (b : BroadPhase). b.flags) c.self.view_is in
     flagged bs moved c.deref-2.result.now _ cs c.deref_mut.result.now
     (pairs-IsPairOf c.args.self.now.loose cs _ (all_candidates c) c.requires.loosened.as_many)
-    (λ k below. ap (λ l. get_or l k false) c.deref-2.ensures.value ∙ c.in_ok-moving.ensures.each k below)
+    (λ k below. ap (λ l. get_or l k false) c.deref-2.ensures.value ∙ c.in_ok-may_have_moved.ensures.each k below)
     (λ old.
-    let same : c.len.result ≡ c.len-count.result = grind (arith, nat_tests, old) in
+    let same : c.len.result ≡ c.len-count.result = same_count c.len.result c.len-count.result _ old in
     let long : length c.args.self.now.flags ≡ length (pairs c.args.self.now.loose) =
     omega (arith, same, c.len.ensures, c.len-count.ensures, ap length flags_are, ap length c.deref.ensures.value, ap length (all_candidates c)) in
     λ i below none.
