@@ -97,8 +97,8 @@ pub(crate) fn all_enlarged_bounds(
 pub(crate) fn has_left(loose: &[Bounds], bounds: &[Bounds], moved: &[usize]) -> bool
     requires loose { length loose.now ≡ length bounds.now }
     requires moved { AreBodies bounds.now moved.now }
-    ensures { result
-        ≡ list_any (λ k. not (contains (bounds_at loose.now k) (bounds_at bounds.now k))) moved.now }
+    ensures { result ≡ list_any
+        (λ k. not (contains (bounds_at loose.now k) (bounds_at bounds.now k))) moved.now }
 {
     for number in moved {
         if !contains(&loose[*number], &bounds[*number]) {

@@ -93,7 +93,7 @@ fn refresh_span(
 /// `shapes`, it does nothing. No clause says how far it comes.
 ///
 /// Also finds how many of the first points have the keys that they had: those in front of the first
-/// pair whose features changed. It may be that more of them have; no clause says how many are found.
+/// pair whose features changed. More of them may have; no clause says how many are found.
 #[inline(never)]
 #[tactic(auto, using(crate::proofs::Refreshing::kept_after))]
 pub fn refresh(
