@@ -415,7 +415,7 @@ impl LaneRow {
         LaneRow::of_contact(&first_mass, &second_mass, &constraint)
     }
 
-    /// What the rounds need of it by scalars.
+    /// What the rounds need of it by scalars, which ask how great its numbers are.
     #[inline]
     pub fn prepared(&self) -> Prepared
         ensures first { result.first_mass ≡ self.now.first_mass }
@@ -423,6 +423,12 @@ impl LaneRow {
         ensures constraint { result.constraint ≡ self.now.constraint }
     {
         let constraint = self.constraint.constraint();
-        Prepared::new(self.first_mass.mass(), self.second_mass.mass(), constraint)
+        let mut prepared = Prepared::new(
+            self.first_mass.mass(),
+            self.second_mass.mass(),
+            constraint,
+        );
+        prepared.measure();
+        prepared
     }
 }

@@ -50,8 +50,14 @@ pub record HasSmallSecondArm (p : Prepared) : Type 0 where
   pub rest : IsSmall p
   pub arm : IsSmallArm p.second_mass p.constraint.second_arm
 
--- what is known of it: whether all but the arms is small, and whether each arm is too
-pub record IsKnown (small first second : Bool) (p : Prepared) : Type 0 where
-  pub rest : IsTrue small ↔ IsSmall p
-  pub first_arm : IsTrue first ↔ HasSmallFirstArm p
-  pub second_arm : IsTrue second ↔ HasSmallSecondArm p
+-- which numbers of a row are small: all but the arms, all but the second, all but the first
+pub record Sizes : Type 0 where
+  pub is_small : Bool
+  pub has_small_first_arm : Bool
+  pub has_small_second_arm : Bool
+
+-- the sizes of what a pre-step leaves
+pub record AreSizesOf (p : Prepared) (sizes : Sizes) : Type 0 where
+  pub rest : IsTrue sizes.is_small ↔ IsSmall p
+  pub first_arm : IsTrue sizes.has_small_first_arm ↔ HasSmallFirstArm p
+  pub second_arm : IsTrue sizes.has_small_second_arm ↔ HasSmallSecondArm p

@@ -109,21 +109,50 @@ impl Constraint {
     };
 }
 
+/// Which numbers of a row are small enough for the fast path.
+#[derive(Clone, Copy, Debug)]
+struct Sizes {
+    /// Whether all but the arms are.
+    is_small: bool,
+    /// Whether all but the second arm are.
+    has_small_first_arm: bool,
+    /// Whether all but the first arm are.
+    has_small_second_arm: bool,
+}
+
+impl Model for Sizes {
+    ghost use Rattle.pf_rows.specs.Small.{Sizes};
+
+    ghost Value = { Sizes };
+
+    ghost view = { λ s. record {
+      is_small = s.is_small;
+      has_small_first_arm = s.has_small_first_arm;
+      has_small_second_arm = s.has_small_second_arm;
+    } };
+
+    ghost inverse = { λ s. record {
+      is_small = s.is_small;
+      has_small_first_arm = s.has_small_first_arm;
+      has_small_second_arm = s.has_small_second_arm;
+    } };
+}
+
 /// What the rounds need of a contact beside its impulses: the inverse masses of its bodies, and its
-/// constraint. With it stands whether all of that is small enough for the fast path.
+/// constraint.
 #[derive(Debug, Drop)]
 pub struct Prepared {
     first_mass: InverseMass,
     second_mass: InverseMass,
     constraint: Constraint,
-    is_small: bool,
-    has_small_first_arm: bool,
-    has_small_second_arm: bool,
+    /// Found by `measure`.
+    sizes: Option<Sizes>,
 }
 
 impl Model for Prepared {
+    ghost use Rattle.std.specs.Prelude.{IfSome};
     ghost use Rattle.pf_rows.specs.Row.{Prepared};
-    ghost use Rattle.pf_rows.specs.Small.{IsKnown};
+    ghost use Rattle.pf_rows.specs.Small.{AreSizesOf};
 
     ghost Value = { Prepared };
 
@@ -133,12 +162,11 @@ impl Model for Prepared {
       constraint = p.constraint;
     } };
 
-    ghost invariant = { λ p. IsKnown p.is_small p.has_small_first_arm p.has_small_second_arm
-        (record {
-          first_mass = p.first_mass;
-          second_mass = p.second_mass;
-          constraint = p.constraint;
-        }) };
+    ghost invariant = { λ p. IfSome p.sizes (AreSizesOf (record {
+      first_mass = p.first_mass;
+      second_mass = p.second_mass;
+      constraint = p.constraint;
+    })) };
 }
 
 /// Whether a number is at most this in magnitude.
@@ -206,11 +234,37 @@ fn has_small_numbers(c: &Constraint) -> bool
         && is_within(c.friction, CONSTRAINT_LIMIT)
 }
 
-impl Prepared {
-    ghost use Rattle.std.specs.Prelude.{◌≡◌, ◌↔◌, IsTrue};
-    ghost use Rattle.pf_rows.specs.Small.{HasSmallFirstArm, HasSmallSecondArm, IsSmall};
+impl Sizes {
+    ghost use Rattle.pf_rows.specs.Row.{Prepared};
+    ghost use Rattle.pf_rows.specs.Small.{AreSizesOf};
 
     /// Of bodies of these masses, and this constraint.
+    fn of(first_mass: &InverseMass, second_mass: &InverseMass, constraint: &Constraint) -> Sizes
+        ensures { let prepared : Prepared = record {
+          first_mass = first_mass.now;
+          second_mass = second_mass.now;
+          constraint = constraint.now;
+        } in AreSizesOf prepared result }
+    {
+        let is_small = is_heavy(first_mass)
+            && is_heavy(second_mass)
+            && has_short_directions(constraint)
+            && has_small_numbers(constraint);
+        Sizes {
+            is_small,
+            has_small_first_arm: is_small && is_small_arm(first_mass, constraint.first_arm),
+            has_small_second_arm: is_small && is_small_arm(second_mass, constraint.second_arm),
+        }
+    }
+}
+
+impl Prepared {
+    ghost use Rattle.std.specs.Prelude.{◌≡◌, ◌↔◌, IsTrue};
+    ghost use Rattle.pf_rows.specs.Small.{AreSizesOf, HasSmallFirstArm, HasSmallSecondArm, IsSmall};
+
+    /// Of bodies of these masses, and this constraint. Which of its numbers are small is not found
+    /// yet, since lanes do not ask for it.
+    #[inline]
     pub fn new(
         first_mass: InverseMass,
         second_mass: InverseMass,
@@ -222,17 +276,40 @@ impl Prepared {
           constraint = constraint;
         } }
     {
-        let is_small = is_heavy(&first_mass)
-            && is_heavy(&second_mass)
-            && has_short_directions(&constraint)
-            && has_small_numbers(&constraint);
         Prepared {
             first_mass,
             second_mass,
             constraint,
-            is_small,
-            has_small_first_arm: is_small && is_small_arm(&first_mass, constraint.first_arm),
-            has_small_second_arm: is_small && is_small_arm(&second_mass, constraint.second_arm),
+            sizes: None,
+        }
+    }
+
+    /// Finds which of its numbers are small, and keeps that, so that each round finds it here. No
+    /// clause says that it is kept: it changes no result, only time.
+    #[inline]
+    pub fn measure(&mut self)
+        ensures { self.new ≡ self.old }
+    {
+        self.sizes = Some(Sizes::of(&self.first_mass, &self.second_mass, &self.constraint));
+    }
+
+    /// Which of its numbers are small.
+    #[cold]
+    #[inline(never)]
+    fn find_sizes(&self) -> Sizes
+        ensures { AreSizesOf self.now result }
+    {
+        Sizes::of(&self.first_mass, &self.second_mass, &self.constraint)
+    }
+
+    /// Which of its numbers are small: as `measure` found it, or found now.
+    #[inline]
+    fn sizes(&self) -> Sizes
+        ensures { AreSizesOf self.now result }
+    {
+        match self.sizes {
+            Some(sizes) => sizes,
+            None => self.find_sizes(),
         }
     }
 
@@ -265,7 +342,7 @@ impl Prepared {
     pub fn is_small(&self) -> bool
         ensures { IsTrue result ↔ IsSmall self.now }
     {
-        self.is_small
+        self.sizes().is_small
     }
 
     /// Whether all of it but the second arm is small.
@@ -273,7 +350,7 @@ impl Prepared {
     pub fn has_small_first_arm(&self) -> bool
         ensures { IsTrue result ↔ HasSmallFirstArm self.now }
     {
-        self.has_small_first_arm
+        self.sizes().has_small_first_arm
     }
 
     /// Whether all of it but the first arm is small.
@@ -281,6 +358,6 @@ impl Prepared {
     pub fn has_small_second_arm(&self) -> bool
         ensures { IsTrue result ↔ HasSmallSecondArm self.now }
     {
-        self.has_small_second_arm
+        self.sizes().has_small_second_arm
     }
 }

@@ -174,6 +174,23 @@ pub(crate) fn prepare_list(scene: &Scene, bodies: &mut [BodyState], rows: &mut [
     prepare_all(scene, bodies, rows);
 }
 
+/// Finds which numbers of a row are small.
+#[inline]
+fn measure(row: &mut Row)
+    ensures { row.new ≡ row.old }
+{
+    row.prepared.measure();
+}
+
+/// Finds which numbers of each row are small, once for warm starting and all rounds.
+fn measure_all(rows: &mut [Row])
+    ensures { rows.new ≡ rows.old }
+{
+    for row in rows.iter_mut() {
+        measure(row);
+    }
+}
+
 /// Velocities of all bodies that rows name, in the order of the rows: warm starting, and the rounds.
 /// Takes no memory.
 #[inline(never)]
@@ -182,6 +199,7 @@ pub(crate) fn solve_list(bodies: &mut [BodyState], rows: &mut [Row])
     ensures { record { bodies = bodies.new; rows = rows.new }
         ≡ velocities_of (record { bodies = bodies.old; rows = rows.old }) }
 {
+    measure_all(rows);
     warm_start(bodies, rows);
     rounds(bodies, rows);
 }
