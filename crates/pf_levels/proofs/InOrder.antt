@@ -9,7 +9,8 @@ use Rattle.std.specs.List.{concat, range_with_len}
 use Rattle.std.specs.Prelude.{⊤, All, slice_get}
 use Rattle.pf_rows.specs.declared.row.Side.TheVariants.{Static}
 use Rattle.pf_levels.specs.Levels.{AreLevels, ArePairsOf, IsLevel, IsPairOf, IsReordering, Pair, ShareNoBodyAt}
-use Rattle.pf_levels.specs.Overlap.{AreLevelsInOrder, late_then_early, pair_at, place_at}
+use Rattle.pf_levels.specs.Order.{pair_at, place_at}
+use Rattle.pf_levels.specs.Overlap.{AreLevelsInOrder, late_then_early}
 use Rattle.pf_levels.proofs.Insert.{range_below}
 use Rattle.pf_levels.proofs.Places.{All-left, All-levels, All-reordering, All-right, All-swapped}
 
@@ -37,7 +38,7 @@ below_range (suc n) k p less =
     All-cons (λ q. p ≢ q) k (range_with_len (k + 1) n) (omega (arith, less)) (below_range n (k + 1) p (omega (arith, less)))
 
 -- the numbers of a range, in any order
-reordering_distinct : (n k : ℕ) (order : List ℕ) → IsReordering (range_with_len k n) order → AreDistinct order
+pub reordering_distinct : (n k : ℕ) (order : List ℕ) → IsReordering (range_with_len k n) order → AreDistinct order
 reordering_distinct zero k order is = subst AreDistinct (sym is) tt
 reordering_distinct (suc n) k order (front, back, is, rest) =
     let far = All-reordering (λ q. k ≢ q) (range_with_len (k + 1) n) (front ++ back) rest (below_range n (k + 1) k (omega arith)) in
@@ -79,7 +80,7 @@ early_then_late early levels =
     ap concat (sym (take-append-drop early levels)) ∙ concat-append (take early levels) (drop early levels)
 
 -- the numbers of so many rows are below that
-below_end : (n : ℕ) → All (λ p. p < n) (range_with_len 0 n)
+pub below_end : (n : ℕ) → All (λ p. p < n) (range_with_len 0 n)
 below_end n =
     let same : 0 + n ≡ n = omega arith in subst (λ end. All (λ p. p < end) (range_with_len 0 n)) same (range_below n 0)
 

@@ -44,7 +44,7 @@ concat_with (level ∷ levels) (suc number) k within =
 -- ---- all rows
 
 -- an element of two lists is in the first or in the second
-found : (front back f b : List ℕ) (p : ℕ) → front ++ back ≡ f ++ p ∷ b
+pub found : (front back f b : List ℕ) (p : ℕ) → front ++ back ≡ f ++ p ∷ b
     → ((m : List ℕ) × (f ≡ front ++ m) × (back ≡ m ++ p ∷ b)) ⊎ ((m : List ℕ) × (front ≡ f ++ p ∷ m) × (b ≡ m ++ back))
 found [] back f b p is = inl (f, refl, is)
 found (x ∷ front) back [] b p is =
@@ -98,7 +98,7 @@ range_below (suc n) a =
     All-cons (λ q. q < a + suc n) a (range_with_len (a + 1) n) (omega arith)
     (subst (λ e. All (λ q. q < e) (range_with_len (a + 1) n)) (omega arith) (range_below n (a + 1)))
 
-range_more : (n a : ℕ) → range_with_len a (suc n) ≡ range_with_len a n ++ (a + n) ∷ []
+pub range_more : (n a : ℕ) → range_with_len a (suc n) ≡ range_with_len a n ++ (a + n) ∷ []
 range_more zero a = ap (λ x. x ∷ []) (omega arith)
 range_more (suc n) a =
     ap (λ rest. a ∷ rest) (range_more n (a + 1) ∙ ap (λ x. range_with_len (a + 1) n ++ x ∷ []) (omega arith))

@@ -1,16 +1,8 @@
 -- Levels across two rounds: the late levels of one round have room for rows of the next.
-use Rattle.std.specs.Prelude.{◌≡◌, ℕ, ◌++◌, List, drop, map, slice_index_or, take}
+use Rattle.std.specs.Prelude.{◌≡◌, ℕ, ◌++◌, List, drop, map, take}
 use Rattle.std.specs.List.{concat}
-use Rattle.pf_rows.specs.declared.row.Side.TheVariants.{Static}
 use Rattle.pf_levels.specs.Levels.{AreLevels, Pair}
-
--- the pair of the row at a place
-abbrev pub pair_at : List Pair → ℕ → Pair
-pair_at pairs p = slice_index_or pairs p (record { first = Static; second = Static })
-
--- the place of the row that has this number in an order
-abbrev pub place_at : List ℕ → ℕ → ℕ
-place_at order number = slice_index_or order number 0
+use Rattle.pf_levels.specs.Order.{pair_at, place_at}
 
 -- levels of rows that come in this order: each row is given by its place in the list, and of two
 -- rows with a body in common the one that comes first in the order is in an earlier level

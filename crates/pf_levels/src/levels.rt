@@ -1,91 +1,80 @@
 //! All levels.
 
-ghost use Rattle.std.specs.Prelude.{◌≡◌, ◌≤◌, ◌+◌, [], All, IfOk, IsOk, List, OnErr, OnOk, Some, length, slice_get};
-ghost use Rattle.pf_rows.specs.Row.{IsSide};
-ghost use Rattle.pf_levels.specs.Levels.{ArePairsOf, AreLevels, IsPairOf, Leveling, Pair, no_levels};
-ghost use Rattle.pf_levels.specs.Links.{AreLinks};
-ghost use Rattle.pf_levels.specs.SoFar.{AreLevelsUpTo, next_level, with_next};
+ghost use Rattle.std.specs.Prelude.{◌≡◌, ◌≢◌, ◌≤◌, IfOk, IsOk, OnErr, OnOk, false, length, true};
+ghost use Rattle.pf_levels.specs.Levels.{ArePairsOf, AreLevels, IsOrder, Leveling, no_levels};
 
-use crate::level::Level;
-use crate::links::level_with_room;
+use crate::level::{Level, WIDTH};
+use crate::listing::{add_places, list_levels, list_pairs, number_from_end};
+use crate::packing::Packing;
 use crate::pair::{Pair, are_same};
-use pf_rows::Side;
 use std::alloc::{AllocError, Global};
 use std::marker::Model;
+use std::mem;
 
-/// The first level that the next row of the body on a side may go to.
-fn next_level(next: &[usize], side: Side) -> usize
-    requires { IsSide (length next.now) side }
-    ensures { result ≡ next_level next.now side }
-{
-    match side {
-        Side::Static => 0,
-        Side::Dynamic(place) => next[place],
-    }
-}
-
-/// The next row of the body on a side goes to this level at least.
-fn set_next(next: &mut [usize], side: Side, level: usize)
-    requires { IsSide (length next.old) side }
-    ensures { next.new ≡ with_next next.old side level }
-{
-    if let Side::Dynamic(place) = side {
-        next[place] = level;
-    }
-}
-
-/// Puts the row at a place, the next one, into the first level with room that both its bodies may
-/// go to.
-fn add_row(
-    levels: &mut Vec<Level>,
-    links: &mut Vec<usize>,
-    next: &mut [usize],
-    place: usize,
-    pair: Pair,
-) -> Result<(), AllocError>
-    requires pair { IsPairOf (length next.old) pair }
-    requires within { All (λ n. n ≤ length levels.old.items) next.old }
-    requires links { AreLinks (length levels.old.items) links.old.items }
-    ensures length { length next.new ≡ length next.old }
-    ensures links { IfOk result (λ done. AreLinks (length levels.new.items) links.new.items) }
-    ensures levels { IfOk result (λ done. (pairs : List Pair)
-        → slice_get pairs place ≡ Some pair
-        → AreLevelsUpTo pairs place next.old levels.old.items
-        → AreLevelsUpTo pairs (place + 1) next.new levels.new.items) }
-{
-    let from = next_level(next, pair.first).max(next_level(next, pair.second));
-    let number = level_with_room(levels, links, from)?;
-    levels[number].push(place);
-    set_next(next, pair.first, number + 1);
-    set_next(next, pair.second, number + 1);
-    Ok(())
-}
-
-/// Puts rows into levels.
-fn add_rows(
-    levels: &mut Vec<Level>,
-    links: &mut Vec<usize>,
-    next: &mut [usize],
+/// Lists all rows by levels that are found from the last row to the first, those of the last such
+/// level first: then a row comes early that many others wait for.
+fn list_from_end(
+    order: &mut Vec<usize>,
+    listed: &mut Vec<Pair>,
+    packing: &mut Packing,
     pairs: &[Pair],
+    bodies: usize,
 ) -> Result<(), AllocError>
-    requires pairs { ArePairsOf (length next.old) pairs.now }
-    requires levels { levels.old.items ≡ [] }
-    requires links { links.old.items ≡ [] }
-    requires next { All (λ n. n ≤ 0) next.old }
-    ensures { IfOk result (λ done. AreLevels pairs.now levels.new.items) }
+    requires { ArePairsOf bodies pairs.now }
+    ensures { OnOk result (IsOrder pairs.now order.new.items) }
 {
-    for place in 0..pairs.len() {
-        add_row(levels, links, next, place, pairs[place])?;
+    listed.clear();
+    listed.extend_from_slice(pairs)?;
+    listed.reverse();
+    packing.pack(listed, bodies)?;
+    order.clear();
+    add_places(order, packing.levels())?;
+    order.reverse();
+    number_from_end(order, pairs.len());
+    Ok(())
+}
+
+/// How many rows there are at least for each level that better levels would spare, so that they
+/// are searched for.
+const ROWS_A_SPARE_LEVEL: usize = 32;
+
+/// Whether so many rows might do with so much fewer levels that it pays to search for them.
+fn may_be_fewer(rows: usize, levels: usize) -> bool {
+    levels > rows / WIDTH + rows / ROWS_A_SPARE_LEVEL
+}
+
+/// Finds levels of the same rows in two passes: from the last row to the first, and then, in the
+/// order that this gives, from the first to the last (forward-backward scheduling). If they are
+/// fewer, they take the place of the old ones.
+fn improve_levels(
+    levels: &mut Vec<Level>,
+    others: &mut Vec<Level>,
+    order: &mut Vec<usize>,
+    listed: &mut Vec<Pair>,
+    packing: &mut Packing,
+    pairs: &[Pair],
+    bodies: usize,
+) -> Result<(), AllocError>
+    requires pairs { ArePairsOf bodies pairs.now }
+    requires levels { AreLevels pairs.now levels.old.items }
+    ensures levels { AreLevels pairs.now levels.new.items }
+    ensures fewer { length levels.new.items ≤ length levels.old.items }
+{
+    list_from_end(order, listed, packing, pairs, bodies)?;
+    list_pairs(listed, pairs, order)?;
+    packing.pack(listed, bodies)?;
+    if packing.levels().len() < levels.len() {
+        list_levels(others, order, packing.levels())?;
+        mem::swap(levels, others);
     }
     Ok(())
 }
 
-/// Keeps these pairs, and puts their rows into levels.
+/// Keeps these pairs, and finds levels of their rows in one pass.
 fn find_levels(
     kept: &mut Vec<Pair>,
     levels: &mut Vec<Level>,
-    links: &mut Vec<usize>,
-    next: &mut Vec<usize>,
+    packing: &mut Packing,
     pairs: &[Pair],
     bodies: usize,
 ) -> Result<(), AllocError>
@@ -94,24 +83,27 @@ fn find_levels(
     ensures levels { IfOk result (λ done. AreLevels pairs.now levels.new.items) }
 {
     kept.clear();
-    levels.clear();
-    links.clear();
-    next.clear();
     kept.extend_from_slice(pairs)?;
-    next.resize(bodies, 0)?;
-    add_rows(levels, links, next, pairs)
+    packing.pack(pairs, bodies)?;
+    packing.swap(levels);
+    Ok(())
 }
 
 /// The levels of some rows, with the pairs of bodies that they were made of, and what is lent to
-/// find them.
+/// find them. Where the pairs stay the same from one call to the next, better levels are searched
+/// for once.
 ///
-/// Contracts see the pairs, and the levels as lists of places.
+/// Contracts see the pairs, the levels as lists of places, and whether these are final.
 #[derive(Debug, Drop)]
 pub struct Levels {
     pairs: Vec<Pair>,
     levels: Vec<Level>,
-    links: Vec<usize>,
-    next: Vec<usize>,
+    /// Whether better levels were searched for.
+    are_final: bool,
+    others: Vec<Level>,
+    order: Vec<usize>,
+    listed: Vec<Pair>,
+    packing: Packing,
 }
 
 impl Model for Levels {
@@ -119,7 +111,11 @@ impl Model for Levels {
 
     ghost Value = { Leveling };
 
-    ghost view = { λ l. record { pairs = l.pairs.items; levels = l.levels.items } };
+    ghost view = { λ l. record {
+      pairs = l.pairs.items;
+      levels = l.levels.items;
+      are_final = l.are_final;
+    } };
 
     ghost invariant = { λ l. AreLevels l.pairs.items l.levels.items };
 }
@@ -132,28 +128,38 @@ impl Levels {
         Levels {
             pairs: Vec::new(alloc),
             levels: Vec::new(alloc),
-            links: Vec::new(alloc),
-            next: Vec::new(alloc),
+            are_final: false,
+            others: Vec::new(alloc),
+            order: Vec::new(alloc),
+            listed: Vec::new(alloc),
+            packing: Packing::new(alloc),
         }
     }
 
     /// The levels of the rows of these pairs of so many bodies. Where the pairs are those of the
-    /// last call, its levels are kept, and no memory is taken. Out of memory there are no levels.
+    /// last call, fewer levels are searched for, once, and then the levels are kept; it can't fail
+    /// then. Out of memory there are no levels.
     pub fn update(&mut self, pairs: &[Pair], bodies: usize) -> Result<(), AllocError>
         requires { ArePairsOf bodies pairs.now }
         ensures pairs { OnOk result (self.new.pairs ≡ pairs.now) }
         ensures levels { IfOk result (λ done. AreLevels pairs.now self.new.levels) }
         ensures none { OnErr result (self.new ≡ no_levels) }
-        ensures kept { self.old.pairs ≡ pairs.now → IsOk result × (self.new ≡ self.old) }
+        ensures other { OnOk result
+            (self.old.pairs ≢ pairs.now → self.new.are_final ≡ false) }
+        ensures same { self.old.pairs ≡ pairs.now → IsOk result × (self.new.are_final ≡ true)
+            × (length self.new.levels ≤ length self.old.levels) }
+        ensures kept { self.old.pairs ≡ pairs.now → self.old.are_final ≡ true
+            → self.new ≡ self.old }
     {
         if are_same(&self.pairs, pairs) {
+            self.improve(bodies);
             return Ok(());
         }
+        self.are_final = false;
         let found = find_levels(
             &mut self.pairs,
             &mut self.levels,
-            &mut self.links,
-            &mut self.next,
+            &mut self.packing,
             pairs,
             bodies,
         );
@@ -165,6 +171,33 @@ impl Levels {
                 Err(error)
             }
         }
+    }
+
+    /// Searches for fewer levels, if it was not done yet. Out of memory the levels stay.
+    fn improve(&mut self, bodies: usize)
+        requires { ArePairsOf bodies self.old.pairs }
+        ensures pairs { self.new.pairs ≡ self.old.pairs }
+        ensures levels { AreLevels self.new.pairs self.new.levels }
+        ensures searched { self.new.are_final ≡ true }
+        ensures fewer { length self.new.levels ≤ length self.old.levels }
+        ensures kept { self.old.are_final ≡ true → self.new ≡ self.old }
+    {
+        if self.are_final {
+            return;
+        }
+        self.are_final = true;
+        if !may_be_fewer(self.pairs.len(), self.levels.len()) {
+            return;
+        }
+        let _ = improve_levels(
+            &mut self.levels,
+            &mut self.others,
+            &mut self.order,
+            &mut self.listed,
+            &mut self.packing,
+            &self.pairs,
+            bodies,
+        );
     }
 
     /// The levels, one after the other.

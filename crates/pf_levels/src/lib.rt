@@ -7,7 +7,9 @@ pub mod laws;
 mod level;
 mod levels;
 mod links;
+mod listing;
 mod overlap;
+mod packing;
 mod pair;
 
 pub use level::{Level, WIDTH};

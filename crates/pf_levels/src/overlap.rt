@@ -3,24 +3,15 @@
 ghost use Rattle.std.specs.Prelude.{◌≡◌, ◌≤◌, ◌<◌, ◌++◌, ◌∷◌, [], All, IfOk, IsOk, List, OnOk, drop, length, map, take};
 ghost use Rattle.std.specs.List.{concat};
 ghost use Rattle.pf_levels.specs.Levels.{AreLevels, ArePairsOf};
-ghost use Rattle.pf_levels.specs.Overlap.{AreLevelsInOrder, late_then_early, pair_at, place_at};
+ghost use Rattle.pf_levels.specs.Overlap.{AreLevelsInOrder, late_then_early};
 ghost use Rattle.pf_levels.specs.declared.level.TheConstants.{WIDTH};
 
 use crate::level::Level;
 use crate::levels::Levels;
+use crate::listing::{add_places, list_levels, list_pairs};
 use crate::pair::Pair;
 use std::alloc::{AllocError, Global};
 use std::marker::Model;
-
-/// Adds the places of the rows of levels, one level after the other.
-fn add_places(order: &mut Vec<usize>, levels: &[Level]) -> Result<(), AllocError>
-    ensures { OnOk result (order.new.items ≡ order.old.items ++ concat levels.now) }
-{
-    for level in levels {
-        order.extend_from_slice(level.places())?;
-    }
-    Ok(())
-}
 
 /// Lists the rows of the late levels, and then those of the early ones.
 fn list_rows(order: &mut Vec<usize>, levels: &[Level], early: usize) -> Result<(), AllocError>
@@ -30,42 +21,6 @@ fn list_rows(order: &mut Vec<usize>, levels: &[Level], early: usize) -> Result<(
     order.clear();
     add_places(order, &levels[early..])?;
     add_places(order, &levels[..early])
-}
-
-/// Lists the pairs of the rows at these places.
-fn list_pairs(found: &mut Vec<Pair>, pairs: &[Pair], order: &[usize]) -> Result<(), AllocError>
-    requires { All (λ place. place < length pairs.now) order.now }
-    ensures { OnOk result (found.new.items ≡ map (pair_at pairs.now) order.now) }
-{
-    found.clear();
-    for place in order {
-        found.push(pairs[*place])?;
-    }
-    Ok(())
-}
-
-/// The rows that a level has in this order, by their places in the list.
-fn level_in_order(order: &[usize], level: &Level) -> Level
-    requires { All (λ number. number < length order.now) level.now }
-    ensures { result ≡ map (place_at order.now) level.now }
-{
-    let mut found = Level::new();
-    for number in level.places() {
-        found.push(order[*number]);
-    }
-    found
-}
-
-/// Lists the rows that each level has in this order, by their places in the list.
-fn list_levels(found: &mut Vec<Level>, order: &[usize], levels: &[Level]) -> Result<(), AllocError>
-    requires { All (All (λ number. number < length order.now)) levels.now }
-    ensures { OnOk result (found.new.items ≡ map (map (place_at order.now)) levels.now) }
-{
-    found.clear();
-    for level in levels {
-        found.push(level_in_order(order, level))?;
-    }
-    Ok(())
 }
 
 /// Levels of the rows of two rounds: those of the late levels of one are listed first, then those

@@ -122,3 +122,24 @@ fn levels_follow_the_pairs(rt: HostRuntime) -> Result<(), Fail> {
     assert!(rt; levels.levels().is_empty());
     Ok(())
 }
+
+#[test]
+fn fewer_levels_are_found_where_pairs_stay_the_same(rt: HostRuntime) -> Result<(), Fail> {
+    let pairs = [
+        ground(0),
+        ground(1),
+        ground(2),
+        ground(3),
+        pair(4, 5),
+        pair(5, 6),
+        pair(6, 7),
+    ];
+    let mut levels = Levels::new(rt.alloc());
+    levels.update(&pairs, 8)?;
+    assert!(rt; are(levels.levels(), &[&[0, 1, 2, 3], &[4], &[5], &[6]]));
+    for _ in 0..2 {
+        levels.update(&pairs, 8)?;
+        assert!(rt; are(levels.levels(), &[&[4, 0, 1, 2], &[5, 3], &[6]]));
+    }
+    Ok(())
+}

@@ -7,7 +7,8 @@ use Rattle.std.proofs.lemmas.List.Sums.{fold-append}
 use Rattle.std.specs.List.{concat, fold, range_with_len}
 use Rattle.std.specs.Prelude.{All}
 use Rattle.pf_levels.specs.Levels.{AreLevels, IsLevel, IsOrder, IsReordering, Pair, ShareNoBodyAt, pair_of}
-use Rattle.pf_levels.specs.Overlap.{AreLevelsInOrder, late_then_early, pair_at, place_at}
+use Rattle.pf_levels.specs.Order.{pair_at, place_at}
+use Rattle.pf_levels.specs.Overlap.{AreLevelsInOrder, late_then_early}
 use Rattle.pf_levels.proofs.InOrder.{AreDistinct, all_places, apart_by_places, concat_places, late_early_distinct, levels_by_places, places_apart, within_order}
 use Rattle.pf_solver.specs.Laws.{solved_at}
 use Rattle.pf_solver.specs.Order.{AreLevelsOf, DoLateAndEarly, after_overlapping_passes, passes_in_levels, solved_at_once, solved_by_levels}

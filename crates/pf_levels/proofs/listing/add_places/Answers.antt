@@ -1,7 +1,7 @@
 use Rattle.std.proofs.Common.{rules, ◌≡◌, ◌∙◌, ◌++◌, take, append_assoc, ap, sym}
 use Rattle.std.specs.List.{concat}
 use Rattle.pf_levels.proofs.InOrder.{concat_more}
-use Rattle.pf_levels.proofs.overlap.add_places.Goals as goal
+use Rattle.pf_levels.proofs.listing.add_places.Goals as goal
 
 pub loop-level-preserved : goal.loop-level-preserved
 loop-level-preserved c =

@@ -1,6 +1,6 @@
 use Rattle.std.proofs.Common.{◌≡◌, map, take}
-use Rattle.pf_levels.specs.Overlap.{place_at}
-use Rattle.pf_levels.proofs.overlap.list_levels.Given as goal
+use Rattle.pf_levels.specs.Order.{place_at}
+use Rattle.pf_levels.proofs.listing.list_levels.Given as goal
 
 abbrev pub invariant-loop-level : goal.invariant-loop-level
 invariant-loop-level l =
