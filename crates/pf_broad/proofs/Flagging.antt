@@ -1,13 +1,15 @@
 -- Candidates have flags, which are brought up to date one after the other.
 use Rattle.std.proofs.Common.{◌≡◌, ℕ, zero, suc, ◌+◌, ◌<◌, Bool, true, false, cond, ◌||◌, All, List, [], ◌∷◌, ◌++◌, length, map, take, drop, filter, get_or, slice_set, refl, sym, subst, ap, ◌∙◌, arith, add-one}
-use Rattle.std.proofs.lemmas.List.{get_or-map}
+use Rattle.std.proofs.Math.Bool.{beq}
+use Rattle.std.specs.Cmp.{booleans_Decides}
+use Rattle.std.proofs.lemmas.List.{get_or-map, get_or_default, set-get_or}
 use Rattle.std.proofs.lemmas.List.Elements.{All-get_or}
 use Rattle.pf_shapes.specs.Bounds.{Bounds}
 use Rattle.pf_shapes.specs.Pair.{IsPairOf, Pair}
-use Rattle.pf_broad.specs.Pairs.{bounds_at, may_touch, pair, pair_at, pair_may_touch, pairs}
+use Rattle.pf_broad.specs.Pairs.{bounds_at, may_touch, no_bounds, pair, pair_at, pair_may_touch, pairs}
 use Rattle.pf_broad.specs.Partners.{has_body}
 use Rattle.pf_broad.specs.Loose.{contains}
-use Rattle.pf_broad.specs.Kept.{AreFlagged, BroadPhase, IsKeptOf, StillHolds}
+use Rattle.pf_broad.specs.Kept.{flagged, AreFlagged, BroadPhase, IsKeptOf, StillHolds}
 use Rattle.pf_broad.proofs.Within.{pairs-IsPairOf}
 
 -- the first flags are up to date, the others as before
@@ -38,19 +40,6 @@ read_next t (c ∷ cs) old zero below = refl
 read_next t (c ∷ cs) [] (suc i) below = read_next t cs [] i (omega arith)
 read_next t (c ∷ cs) (b ∷ old) (suc i) below = read_next t cs old i (omega arith)
 
--- the candidates that are found, with the next one
-filter_next : (t : Pair → Bool) (cs : List Pair) (i : ℕ) → i < length cs
-    → filter t (take (suc i) cs) ≡ filter t (take i cs) ++ cond (t (pair_at cs i)) (pair_at cs i ∷ []) []
-filter_next t [] i below = absurd (omega arith)
-filter_next t (c ∷ cs) zero below = refl
-filter_next t (c ∷ cs) (suc i) below =
-    ap (λ l. cond (t c) (c ∷ l) l) (filter_next t cs i (omega arith)) ∙ put_in (t c)
-  where
-    put_in : (b : Bool) → let rest = filter t (take i cs) in let last = cond (t (pair_at cs i)) (pair_at cs i ∷ []) [] in
-        cond b (c ∷ (rest ++ last)) (rest ++ last) ≡ cond b (c ∷ rest) rest ++ last
-    put_in true = refl
-    put_in false = refl
-
 -- the flags after a candidate was tested
 pub tested : (t : Pair → Bool) (cs : List Pair) (old flags new : List Bool) (i : ℕ) (v : Bool) → i < length cs → length old ≡ length cs
     → flags ≡ map t (take i cs) ++ drop i old → v ≡ t (pair_at cs i) → new ≡ slice_set flags i v
@@ -72,11 +61,45 @@ flag_read t cs old flags i below are =
     let more : i + 1 ≡ suc i = add-one i in
     ap (λ l. get_or l i false) (are ∙ ap (λ n. map t (take n cs) ++ drop n old) more) ∙ read_next t cs old i below
 
--- by the value of its test
-pub found_next : (t : Pair → Bool) (cs : List Pair) (i : ℕ) (b : Bool) → i < length cs → t (pair_at cs i) ≡ b
-    → filter t (take (i + 1) cs) ≡ filter t (take i cs) ++ cond b (pair_at cs i ∷ []) []
-found_next t cs i b below value =
-    rw add-one (filter_next t cs i below ∙ ap (λ c. filter t (take i cs) ++ cond c (pair_at cs i ∷ []) []) value)
+-- a flag that is written as it was
+pub unchanged : (flags : List Bool) (i : ℕ) (v : Bool) → beq (get_or flags i false) v ≡ true → slice_set flags i v ≡ flags
+unchanged flags i v same =
+    ap (slice_set flags i) (sym ((booleans_Decides (get_or flags i false) v).0 same)) ∙ set-get_or flags i false
+
+-- the test of the bodies of a candidate
+pub touch_is : (bs : List Bounds) (cs : List Pair) (i : ℕ) (p : Pair) (first second : Bounds) (v : Bool) → All (IsPairOf (length bs)) cs → i < length cs
+    → p ≡ pair_at cs i → first ≡ get_or bs p.a first → second ≡ get_or bs p.b second → v ≡ may_touch first second
+    → v ≡ pair_may_touch bs (pair_at cs i)
+touch_is bs cs i p first second v of below is at_a at_b value =
+    let in_range : IsPairOf (length bs) (pair_at cs i) = All-get_or (IsPairOf (length bs)) cs i (pair 0 0) below of in
+    let a_is : p.a ≡ (pair_at cs i).a = ap (λ (q : Pair). q.a) is in
+    let b_is : p.b ≡ (pair_at cs i).b = ap (λ (q : Pair). q.b) is in
+    let bounds_a = at_a ∙ get_or_default bs p.a first no_bounds (omega (arith, a_is, in_range.0, in_range.1)) ∙ ap (bounds_at bs) a_is in
+    let bounds_b = at_b ∙ get_or_default bs p.b second no_bounds (omega (arith, b_is, in_range.1)) ∙ ap (bounds_at bs) b_is in
+    value ∙ (λ k. may_touch (bounds_a k) (bounds_b k))
+
+-- the pairs whose flags are set, with the next one
+pub flagged_next : (flags : List Bool) (ps : List Pair) (i : ℕ) → i < length ps → length flags ≡ length ps
+    → flagged (take (i + 1) flags) (take (i + 1) ps) ≡ flagged (take i flags) (take i ps) ++ cond (get_or flags i false) (pair_at ps i ∷ []) []
+flagged_next flags ps i below long = rw add-one (next flags ps i below long)
+  where
+    next : (flags : List Bool) (ps : List Pair) (i : ℕ) → i < length ps → length flags ≡ length ps
+        → flagged (take (suc i) flags) (take (suc i) ps) ≡ flagged (take i flags) (take i ps) ++ cond (get_or flags i false) (pair_at ps i ∷ []) []
+    next flags [] i below long = absurd (omega arith)
+    next [] (p ∷ ps) i below long = absurd (omega arith)
+    next (true ∷ flags) (p ∷ ps) zero below long = refl
+    next (false ∷ flags) (p ∷ ps) zero below long = refl
+    next (true ∷ flags) (p ∷ ps) (suc i) below long = ap (λ l. p ∷ l) (next flags ps i (omega arith) (omega arith))
+    next (false ∷ flags) (p ∷ ps) (suc i) below long = next flags ps i (omega arith) (omega arith)
+
+-- where the flags are those of a test, these pairs are those that pass it
+pub flagged-map : (t : Pair → Bool) (ps : List Pair) → flagged (map t ps) ps ≡ filter t ps
+flagged-map t [] = refl
+flagged-map t (p ∷ ps) = put_in (t p) (flagged-map t ps)
+  where
+    put_in : (b : Bool) → flagged (map t ps) ps ≡ filter t ps → flagged (b ∷ map t ps) (p ∷ ps) ≡ cond b (p ∷ filter t ps) (filter t ps)
+    put_in true e = ap (λ l. p ∷ l) e
+    put_in false e = e
 
 -- none of two tests holds
 pub neither : (a b : Bool) → (a || b) ≡ false → (a ≡ false) × (b ≡ false)
@@ -84,25 +107,17 @@ neither false b e = (refl, e)
 neither true false e = (e, refl)
 neither true true e = (e, e)
 
--- flags are right for a list of flags of bodies, if these say that all may have moved, or the flags of
--- two bodies that are not listed are right
-pub flagged : (bs : List Bounds) (moved : List ℕ) (may_move : List Bool) (all : Bool) (cs : List Pair) (flags : List Bool)
-    → All (IsPairOf (length bs)) cs → ((k : ℕ) → k < length bs → get_or may_move k false ≡ (all || has_body moved k))
-    → (all ≡ false → AreFlagged (has_body moved) bs cs flags) → AreFlagged (λ k. get_or may_move k false) bs cs flags
-flagged bs moved may_move all cs flags of each right i below none =
+-- flags that are right but for the bodies of a list are right but for those whose flags are set, if
+-- these are of the list
+pub are_flagged : (bs : List Bounds) (moved : List ℕ) (may_move : List Bool) (cs : List Pair) (flags : List Bool)
+    → All (IsPairOf (length bs)) cs → ((k : ℕ) → k < length bs → get_or may_move k false ≡ has_body moved k)
+    → AreFlagged (has_body moved) bs cs flags → AreFlagged (λ k. get_or may_move k false) bs cs flags
+are_flagged bs moved may_move cs flags of each right i below none =
     let p = pair_at cs i in
     let bodies : IsPairOf (length bs) p = All-get_or (IsPairOf (length bs)) cs i (pair 0 0) below of in
     let first = each p.a (omega (arith, bodies.0, bodies.1)) in
     let second = each p.b bodies.1 in
-    let both = (λ k. sym first k || sym second k) ∙ none in
-    right (some_not all (has_body moved p.a) (has_body moved p.b) both).0 i below (some_not all (has_body moved p.a) (has_body moved p.b) both).1
-  where
-    some_not : (all a b : Bool) → ((all || a) || (all || b)) ≡ false → (all ≡ false) × ((a || b) ≡ false)
-    some_not false a b e = (refl, e)
-    some_not true a b e = absurd (no e)
-      where
-        no : true ≡ false → ⊥
-        no e = cc
+    right i below ((λ k. sym first k || sym second k) ∙ none)
 
 -- what is kept of bounds still holds for the bodies that are not listed, if their bounds are the
 -- same

@@ -8,6 +8,7 @@ pub mod Ascending
 pub mod Within
 pub mod Few
 pub mod Flagging
+pub mod Placing
 pub mod Zipped
 pub mod Intervals
 pub mod CellNumbers

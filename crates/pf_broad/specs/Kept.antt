@@ -1,6 +1,7 @@
--- What the broad phase keeps from tick to tick: enlarged bounds, as Box2D's b2BroadPhase does, and
--- a flag for each pair whose enlarged bounds overlap.
-use Rattle.std.specs.Prelude.{◌≡◌, ℕ, ◌<◌, Bool, true, false, ◌||◌, List, [], length, map, get_or}
+-- What the broad phase keeps from tick to tick: enlarged bounds, as Box2D's b2BroadPhase does, a
+-- flag for each pair whose enlarged bounds overlap, and the pairs that it found.
+use Rattle.std.specs.Prelude.{◌≡◌, ℕ, ◌<◌, Bool, true, false, ◌||◌, List, [], filter, length, map, get_or}
+use Rattle.std.specs.List.{range_with_len, zip}
 use Rattle.pf_shapes.specs.Bounds.{Bounds}
 use Rattle.pf_shapes.specs.Pair.{Pair}
 use Rattle.pf_broad.specs.Pairs.{bounds_at, pair_at, pair_may_touch, pairs}
@@ -14,20 +15,36 @@ AreFlagged moved bounds candidates flags =
     → (moved (pair_at candidates i).a || moved (pair_at candidates i).b) ≡ false
     → get_or flags i false ≡ pair_may_touch bounds (pair_at candidates i)
 
--- what the broad phase keeps: enlarged bounds, and the flags of the pairs whose enlarged bounds
--- overlap
+-- what the broad phase keeps: enlarged bounds, the flags of the pairs whose enlarged bounds
+-- overlap, and the pairs that it found
 pub record BroadPhase : Type 0 where
   pub loose : List Bounds
   pub flags : List Bool
+  pub pairs : List Pair
 
 abbrev pub nothing_kept : BroadPhase
-nothing_kept = record { loose = []; flags = [] }
+nothing_kept = record { loose = []; flags = []; pairs = [] }
 
--- the enlarged bounds contain the bounds of each body, and each flag says whether the bodies of its
--- pair may touch
+-- the enlarged bounds contain the bounds of each body, each flag says whether the bodies of its
+-- pair may touch, and the pairs are those of the bounds
 pub record IsKeptOf (kept : BroadPhase) (bounds : List Bounds) : Type 0 where
   pub loose : AreLoosened kept.loose bounds
   pub flags : kept.flags ≡ map (pair_may_touch bounds) (pairs kept.loose)
+  pub pairs : kept.pairs ≡ pairs bounds
+
+-- the pairs whose flags are set
+abbrev pub flagged : List Bool → List Pair → List Pair
+flagged flags ps = map (λ both. both.1) (filter (λ both. both.0) (zip flags ps))
+
+-- where each candidate has a flag, the pairs that were found are those whose flags are set
+abbrev pub AreFound : List Bool → List Pair → List Pair → Type 0
+AreFound flags candidates found =
+    length flags ≡ length candidates → found ≡ flagged flags candidates
+
+-- the places of the pairs with a body that may have moved, in ascending order
+abbrev pub moved_places : (ℕ → Bool) → List Pair → List ℕ
+moved_places moved ps =
+    filter (λ k. moved (pair_at ps k).a || moved (pair_at ps k).b) (range_with_len 0 (length ps))
 
 -- where there are as many flags as pairs: the flag of two bodies that are not listed says whether
 -- they may touch

@@ -1,7 +1,10 @@
 //! The broad phase that is kept from tick to tick.
 
 use crate::broad_phase::{add_pairs, all_pairs};
-use crate::candidates::{add_candidates, complete, moved_flags, overlapping};
+use crate::candidates::{
+    PairsUpdate, add_candidates, all_places, complete, load_flagged, moved_flags, test_all,
+    test_moved,
+};
 use crate::grid::Grid;
 use crate::loose::{all_enlarged_bounds, has_left, left_bodies, refit};
 use pf_shapes::{BodyState, Bounds, Pair};
@@ -13,39 +16,48 @@ use std::mem;
 const MAX_LEFT: usize = 16;
 
 /// What the broad phase keeps from tick to tick: enlarged bounds of all bodies, and as candidates
-/// the pairs of bodies whose enlarged bounds overlap, as Box2D's `b2BroadPhase` does; and for each
-/// candidate a flag that says whether its bodies may touch. It is sound for every scene and world:
-/// what is kept changes no result, only time.
+/// the pairs of bodies whose enlarged bounds overlap, as Box2D's `b2BroadPhase` does; for each
+/// candidate a flag that says whether its bodies may touch; and the pairs that it found, which are
+/// the candidates whose flags are set. It is sound for every scene and world: what is kept changes
+/// no result, only time.
 ///
-/// Contracts see the enlarged bounds and the flags.
+/// Contracts see the enlarged bounds, the flags and the pairs.
 #[derive(Debug, Drop)]
 pub struct BroadPhase {
     loose: Vec<Bounds>,
     candidates: Vec<Pair>,
     /// One for each candidate; none where the candidates are new.
     flags: Vec<bool>,
+    /// The candidates whose flags are set.
+    found: Vec<Pair>,
 }
 
 impl Model for BroadPhase {
-    ghost use Rattle.pf_broad.specs.Kept.{BroadPhase};
+    ghost use Rattle.pf_broad.specs.Kept.{AreFound, BroadPhase};
     ghost use Rattle.pf_broad.specs.Loose.{AreCandidates};
 
     ghost Value = { BroadPhase };
 
-    ghost view = { λ b. record { loose = b.loose.items; flags = b.flags.items } };
+    ghost view = { λ b. record {
+      loose = b.loose.items;
+      flags = b.flags.items;
+      pairs = b.found.items;
+    } };
 
-    ghost invariant = { λ b. AreCandidates b.loose.items b.candidates.items };
+    ghost invariant = { λ b. AreCandidates b.loose.items b.candidates.items
+        × AreFound b.flags.items b.candidates.items b.found.items };
 }
 
 impl BroadPhase {
-    ghost use Rattle.std.specs.Prelude.{◌≡◌, ◌<◌, ◌≤◌, [], length, All, IfOk, IsOk, OnErr, OnOk};
+    ghost use Rattle.std.specs.Prelude.{◌≡◌, ◌≢◌, ◌<◌, ◌≤◌, ◌||◌, [], Bool, false, true, length, All, IfOk, IsOk, IsTrue, OnErr, OnOk};
+    ghost use Rattle.std.specs.List.{range_with_len};
     ghost use Rattle.pf_shapes.specs.Bounds.{IsOrdered};
     ghost use Rattle.pf_shapes.specs.Pair.{IsAscending, IsPairOf};
     ghost use Rattle.pf_shapes.specs.declared.scene.TheConstants.{MAX_BODIES};
     ghost use Rattle.pf_broad.specs.Pairs.{pairs};
     ghost use Rattle.pf_broad.specs.Loose.{AreLoosened, AreSameBut};
-    ghost use Rattle.pf_broad.specs.Kept.{FlagsHold, IsKeptOf, StillHolds, nothing_kept};
-    ghost use Rattle.pf_broad.specs.Partners.{AreBodies};
+    ghost use Rattle.pf_broad.specs.Kept.{AreFlagged, FlagsHold, IsKeptOf, StillHolds, moved_places, nothing_kept};
+    ghost use Rattle.pf_broad.specs.Partners.{AreBodies, has_body};
 
     /// Nothing kept. Takes no memory.
     pub fn new(alloc: Global) -> BroadPhase
@@ -55,72 +67,164 @@ impl BroadPhase {
             loose: Vec::new(alloc),
             candidates: Vec::new(alloc),
             flags: Vec::new(alloc),
+            found: Vec::new(alloc),
         }
     }
 
-    /// The pairs of bodies, at most one of them static, whose bounds overlap: in ascending order,
-    /// each once, whatever is kept. `bodies` decides only how far bounds are enlarged, by how fast
-    /// each body moves. Bodies that are not in `moved` must have the bounds of the last call. A
-    /// pair of two of them is tested again only where a body has left its enlarged bounds. For
-    /// fewer than two bodies it takes no memory, can't fail, and leaves what is kept as it is. An
-    /// error drops what is kept.
-    pub fn pairs(
+    /// The pairs that the last update found.
+    #[inline]
+    pub fn pairs(&self) -> &[Pair]
+        ensures { result.now ≡ self.now.pairs }
+    {
+        self.found.as_slice()
+    }
+
+    /// Finds the pairs of bodies, at most one of them static, whose bounds overlap: in ascending
+    /// order, each once, whatever is kept. `bodies` decides only how far bounds are enlarged, by
+    /// how fast each body moves. Bodies that are not in `moved` must have the bounds of the last
+    /// update. A pair of two of them is tested again only where a body has left its enlarged
+    /// bounds, or `moved` has half as many bodies as there are. For fewer than two bodies it takes
+    /// no memory and can't fail, and nothing is kept. An error drops what is kept.
+    ///
+    /// Also finds at which places the pairs stand that have a body of `moved`: these places, or, as
+    /// if all bodies had moved, all places. Where no flags are kept these are all places; else no
+    /// clause says which. Nor does one say that `same` is set wherever the pairs are the same.
+    pub fn update(
         &mut self,
         alloc: Global,
         bounds: &[Bounds],
         bodies: &[BodyState],
         moved: &[usize],
-    ) -> Result<Vec<Pair>, AllocError>
+    ) -> Result<PairsUpdate, AllocError>
         requires bodies { length bodies.now ≡ length bounds.now }
         requires moved { AreBodies bounds.now moved.now }
         requires others { 2 ≤ length bounds.now → length self.old.loose ≡ length bounds.now
             → StillHolds moved.now self.old bounds.now }
         requires few { length bounds.now ≤ MAX_BODIES }
         requires ordered { All IsOrdered bounds.now }
-        ensures pairs { IfOk result (λ found. found.items ≡ pairs bounds.now) }
-        ensures ascending { IfOk result (λ found. IsAscending found.items) }
-        ensures bodies { IfOk result (λ found. All (IsPairOf (length bounds.now)) found.items) }
+        ensures pairs { OnOk result (self.new.pairs ≡ pairs bounds.now) }
+        ensures ascending { OnOk result (IsAscending self.new.pairs) }
+        ensures bodies { OnOk result (All (IsPairOf (length bounds.now)) self.new.pairs) }
+        ensures same { IfOk result
+            (λ update. IsTrue update.same → self.new.pairs ≡ self.old.pairs) }
+        ensures places { IfOk result (λ update. (all : Bool)
+            × (self.old.flags ≡ [] → all ≡ true) × (update.moved_places.items
+            ≡ moved_places (λ k. all || has_body moved.now k) self.new.pairs)) }
         ensures kept { OnOk result (2 ≤ length bounds.now → IsKeptOf self.new bounds.now) }
-        ensures few_kept { length bounds.now < 2 → self.new ≡ self.old }
+        ensures few_kept { length bounds.now < 2 → self.new ≡ nothing_kept }
         ensures dropped { OnErr result (self.new ≡ nothing_kept) }
         ensures no_memory { length bounds.now < 2 → IsOk result }
     {
-        if bounds.len() < 2 {
-            return Ok(Vec::new(alloc));
-        }
         let kept = mem::replace(self, BroadPhase::new(alloc));
-        let mut next = kept.refresh(alloc, bounds, bodies, moved)?;
-        let found = next.overlapping(alloc, bounds, moved)?;
+        if bounds.len() < 2 {
+            return Ok(PairsUpdate {
+                same: false,
+                moved_places: Vec::new(alloc),
+            });
+        }
+        let next = kept.refresh(alloc, bounds, bodies, moved)?;
+        let (next, update) = next.test(alloc, bounds, moved)?;
         *self = next;
-        Ok(found)
+        Ok(update)
     }
 
-    /// The candidates whose bodies may touch. All are tested where they are new, or as many bodies
-    /// as there are may have moved.
-    fn overlapping(
-        &mut self,
+    /// The same with the candidates tested whose bodies may have moved. All are tested where they
+    /// are new, or where at least half of the bodies, rounded down, may have moved: then that takes
+    /// less time than to pick those to be tested.
+    fn test(
+        self,
         alloc: Global,
         bounds: &[Bounds],
         moved: &[usize],
-    ) -> Result<Vec<Pair>, AllocError>
-        requires loosened { AreLoosened self.old.loose bounds.now }
+    ) -> Result<(BroadPhase, PairsUpdate), AllocError>
+        requires loosened { AreLoosened self.loose bounds.now }
         requires moved { AreBodies bounds.now moved.now }
-        requires flags { FlagsHold moved.now self.old bounds.now }
-        ensures found { IfOk result (λ found. found.items ≡ pairs bounds.now) }
-        ensures kept { OnOk result (IsKeptOf self.new bounds.now) }
+        requires flags { FlagsHold moved.now self bounds.now }
+        ensures kept { IfOk result (λ tested. IsKeptOf tested.0 bounds.now) }
+        ensures same { IfOk result (λ tested. IsTrue tested.1.same
+            → self.flags ≢ [] × tested.0.pairs ≡ self.pairs) }
+        ensures places { IfOk result (λ tested. (all : Bool)
+            × (self.flags ≡ [] → all ≡ true) × (tested.1.moved_places.items
+            ≡ moved_places (λ k. all || has_body moved.now k) tested.0.pairs)) }
     {
-        let count = self.candidates.len();
-        let are_new = self.flags.len() != count;
-        let all = are_new | (moved.len() >= bounds.len());
-        let may_have_moved = moved_flags(alloc, bounds.len(), all, moved)?;
-        self.flags.resize(count, false)?;
-        overlapping(
-            alloc,
-            &self.candidates,
-            &mut self.flags,
-            &may_have_moved,
-            bounds,
-        )
+        let are_new = self.flags.is_empty() | (self.flags.len() != self.candidates.len());
+        if are_new | (moved.len() >= bounds.len() / 2) {
+            self.test_anew(alloc, bounds)
+        } else {
+            self.test_some(alloc, bounds, moved)
+        }
+    }
+
+    /// The same with all candidates tested, whatever their flags were. All bodies count as moved.
+    fn test_anew(
+        self,
+        alloc: Global,
+        bounds: &[Bounds],
+    ) -> Result<(BroadPhase, PairsUpdate), AllocError>
+        requires { AreLoosened self.loose bounds.now }
+        ensures kept { IfOk result (λ tested. IsKeptOf tested.0 bounds.now) }
+        ensures same { IfOk result (λ tested. tested.1.same ≡ false) }
+        ensures places { IfOk result (λ tested. tested.1.moved_places.items
+            ≡ range_with_len 0 (length tested.0.pairs)) }
+    {
+        let BroadPhase {
+            loose,
+            candidates,
+            mut flags,
+            mut found,
+        } = self;
+        flags.resize(candidates.len(), false)?;
+        test_all(&mut found, &mut flags, &candidates, bounds)?;
+        let update = PairsUpdate {
+            same: false,
+            moved_places: all_places(alloc, found.len())?,
+        };
+        let next = BroadPhase {
+            loose,
+            candidates,
+            flags,
+            found,
+        };
+        Ok((next, update))
+    }
+
+    /// The same with only those candidates tested that have a body of `moved`. Each candidate must
+    /// have a flag, and those of the others must be right.
+    fn test_some(
+        self,
+        alloc: Global,
+        bounds: &[Bounds],
+        moved: &[usize],
+    ) -> Result<(BroadPhase, PairsUpdate), AllocError>
+        requires loosened { AreLoosened self.loose bounds.now }
+        requires moved { AreBodies bounds.now moved.now }
+        requires as_many { length self.flags ≡ length (pairs self.loose) }
+        requires flags { AreFlagged (has_body moved.now) bounds.now (pairs self.loose)
+            self.flags }
+        ensures kept { IfOk result (λ tested. IsKeptOf tested.0 bounds.now) }
+        ensures same { IfOk result
+            (λ tested. IsTrue tested.1.same → tested.0.pairs ≡ self.pairs) }
+        ensures places { IfOk result (λ tested. tested.1.moved_places.items
+            ≡ moved_places (has_body moved.now) tested.0.pairs) }
+    {
+        let BroadPhase {
+            loose,
+            candidates,
+            mut flags,
+            mut found,
+        } = self;
+        let may_have_moved = moved_flags(alloc, bounds.len(), moved)?;
+        let update = test_moved(alloc, &candidates, &mut flags, &may_have_moved, bounds)?;
+        if !update.same {
+            load_flagged(&mut found, &candidates, &flags)?;
+        }
+        let next = BroadPhase {
+            loose,
+            candidates,
+            flags,
+            found,
+        };
+        Ok((next, update))
     }
 
     /// Enlarged bounds that contain these, and their pairs. Where few bodies have left their
@@ -141,6 +245,8 @@ impl BroadPhase {
         requires ordered { All IsOrdered bounds.now }
         ensures loosened { IfOk result (λ kept. AreLoosened kept.loose bounds.now) }
         ensures flags { IfOk result (λ kept. FlagsHold moved.now kept bounds.now) }
+        ensures pairs { IfOk result (λ kept. kept.flags ≢ [] → kept.pairs ≡ self.pairs) }
+        ensures none { IfOk result (λ kept. self.flags ≡ [] → kept.flags ≡ []) }
     {
         if self.loose.len() != bounds.len() {
             return BroadPhase::of(alloc, bounds, bodies);
@@ -154,10 +260,13 @@ impl BroadPhase {
         }
         let loose = refit(alloc, &self.loose, bounds, bodies)?;
         let candidates = self.update_candidates(alloc, &loose, &left)?;
+        let mut found = self.found;
+        found.clear();
         Ok(BroadPhase {
             loose,
             candidates,
             flags: Vec::new(alloc),
+            found,
         })
     }
 
@@ -204,6 +313,7 @@ impl BroadPhase {
             loose,
             candidates,
             flags: Vec::new(alloc),
+            found: Vec::new(alloc),
         })
     }
 }

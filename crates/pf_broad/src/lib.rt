@@ -15,6 +15,7 @@ mod partners;
 
 pub use bodies::all_bounds;
 pub use broad_phase::pairs;
+pub use candidates::PairsUpdate;
 pub use cell::{CELL_SIDE, Cell, MAX_CELLS};
 pub use grid::Grid;
 pub use kept::BroadPhase;

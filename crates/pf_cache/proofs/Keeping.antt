@@ -125,3 +125,9 @@ pub ascend_behind : (i : ℕ) (pairs : List Pair) → IsAscending pairs → IsAs
 ascend_behind zero pairs up = up
 ascend_behind (suc i) [] up = tt
 ascend_behind (suc i) (p ∷ pairs) up = ascend_behind i pairs up.1
+
+-- where there are no pairs, and as many spans
+pub none_spanned : (spans : List Span) (found : List Pair) → found ≡ [] → length spans ≡ length found
+    → map (λ s. s.pair) spans ≡ found
+none_spanned [] found none long = sym none
+none_spanned (s ∷ spans) found none long = absurd (omega (arith, long, ap length none))

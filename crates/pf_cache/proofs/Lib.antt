@@ -4,6 +4,7 @@ pub mod Places
 pub mod Walk
 pub mod FirstKeys
 pub mod Runs
+pub mod ChosenNumbers
 pub mod Kept
 pub mod FoundRows
 pub mod Stored
@@ -17,6 +18,7 @@ pub mod Placing
 pub mod Bounded
 pub mod Standing
 pub mod Refreshing
+pub mod Reaching
 pub mod Updating
 pub mod Keeping
 pub mod Gathering

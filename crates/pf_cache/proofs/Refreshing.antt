@@ -134,6 +134,20 @@ placed_between start end (s ∷ spans) h =
     (λ x b. let low = b.behind in record { behind = omega (arith, low); before = b.before })
     spans (placed_between (start + s.len) end spans h.1))
 
+-- where they start is known from where they end
+pub same_start : (first second end : ℕ) (spans : List Span) → ArePlaced first spans end → ArePlaced second spans end
+    → first ≡ second
+same_start first second end [] h k = h ∙ sym k
+same_start first second end (s ∷ spans) h k = sym h.0 ∙ k.0
+
+-- the first of the spans from a place on starts where these start
+pub placed_at : (start end place : ℕ) (spans : List Span) (d : Span) → place < length spans → ArePlaced start spans end
+    → ArePlaced (get_or spans place d).start (drop place spans) end
+placed_at start end place [] d within h = absurd (omega (arith, within))
+placed_at start end zero (s ∷ spans) d within h = (refl, subst (λ n. ArePlaced (n + s.len) spans end) (sym h.0) h.1)
+placed_at start end (suc place) (s ∷ spans) d within h =
+    placed_at (start + s.len) end place spans d (omega (arith, within)) h.1
+
 -- ---- the walk along the spans
 
 -- the first pairs are done: their points stand first, and behind them the points that stood there
@@ -232,7 +246,7 @@ module _ (shapes : List PlacedShape) (spans : List Span) (pairs : List Pair) (st
 
   -- after the walk
   module _ (i n : ℕ) (touches : List Touch) (done : AreDone shapes spans pairs start i n touches) where
-    as_long : length touches ≡ length start
+    pub as_long : length touches ≡ length start
     as_long =
         let before = points_of shapes (take i pairs) in
         let long = ap length done.stored ∙ length-append before (drop n start) in

@@ -1,8 +1,8 @@
 -- Bodies that stand as they stood have the contact points that they had.
-use Rattle.std.proofs.Common.{◌≡◌, ℕ, zero, suc, true, false, ◌&&◌, ◌++◌, Option, Some, None, List, [], ◌∷◌, ◌<◌, length, map, refl, sym, ap, ap₂, ◌∙◌, true≢false}
+use Rattle.std.proofs.Common.{◌≡◌, ℕ, zero, suc, true, false, ◌&&◌, ◌++◌, Option, Some, None, List, [], ◌∷◌, ◌<◌, length, map, refl, sym, ap, ap₂, ◌∙◌, ⊎_elim, true≢false, arith}
 use Rattle.std.specs.Bool.{Decides}
 use Rattle.std.specs.Prelude.{get_or, slice_get}
-use Rattle.std.proofs.lemmas.Option.{slice_get_read}
+use Rattle.std.proofs.lemmas.Option.{slice_get_cases, slice_get_read}
 use Rattle.std.proofs.lemmas.Bool.{and_parts}
 use Rattle.std.proofs.lemmas.Bool.Decides.{Decides-and, Decides-like}
 use Rattle.pf_shapes.specs.Fixture.{Fixture}
@@ -63,6 +63,16 @@ flag_at [] shapes i = refl
 flag_at (a ∷ old) [] i = no_shape (slice_get (a ∷ old) i)
 flag_at (a ∷ old) (b ∷ shapes) zero = refl
 flag_at (a ∷ old) (b ∷ shapes) (suc i) = flag_at old shapes i
+
+-- a body that stands as it stood is unmoved
+pub flag_stays : (old shapes : List PlacedShape) (i : ℕ) → i < length old → slice_get old i ≡ slice_get shapes i
+    → get_or (unmoved_flags old shapes) i false ≡ true
+flag_stays old shapes i below same =
+    flag_at old shapes i ∙ ap (are_same_shapes (slice_get old i)) (sym same)
+    ∙ ⊎_elim
+    (λ there. ap (λ o. are_same_shapes o o) there.2 ∙ (Decides-placed there.0 there.0).1 refl)
+    (λ past. absurd (omega (arith, below, past.0)))
+    (slice_get_cases old i).1
 
 -- the shapes of the bodies, number by number
 no_body : (o : Option Fixture) → None ≡ placed_shape o None

@@ -4,6 +4,7 @@ use Rattle.std.specs.List.{zip}
 use Rattle.pf_shapes.specs.Fixture.{Fixture}
 use Rattle.pf_shapes.specs.Body.{BodyState}
 use Rattle.pf_shapes.specs.Bounds.{Bounds, IsOrdered, shape_bounds}
+use Rattle.pf_shapes.specs.Pair.{Pair}
 use Rattle.pf_broad.specs.Kept.{BroadPhase, IsKeptOf}
 use Rattle.pf_broad.specs.Pairs.{all_bounds}
 use Rattle.pf_broad.specs.Partners.{has_body}
@@ -45,6 +46,6 @@ HaveStayed moved placed fixtures bodies =
     → (slice_get placed.shapes k ≡ slice_get (placed_shapes fixtures bodies) k)
     × (slice_get placed.bounds k ≡ slice_get (all_bounds fixtures bodies) k)
 
--- for two bodies or more: what the broad phase keeps is of these bounds
-abbrev pub IsBroadPhaseOf : BroadPhase → List Bounds → Type 0
-IsBroadPhaseOf kept bounds = 2 ≤ length bounds → IsKeptOf kept bounds
+-- for two bodies or more: what the broad phase keeps is of these bounds, and it found these pairs
+abbrev pub IsBroadPhaseOf : BroadPhase → List Bounds → List Pair → Type 0
+IsBroadPhaseOf kept bounds pairs = 2 ≤ length bounds → IsKeptOf kept bounds × (kept.pairs ≡ pairs)

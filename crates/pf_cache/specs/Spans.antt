@@ -1,9 +1,10 @@
 -- How kept contact points are stored: those of all pairs in one list, and for each pair where its
 -- points stand in that list.
-use Rattle.std.specs.Prelude.{◌≡◌, ℕ, ◌+◌, ◌≤◌, ◌==◌, Bool, true, false, not, ◌&&◌, Option, None, List, [], ◌∷◌, length, map, All, count_by, get_or, take, drop, if◌then◌else◌}
+use Rattle.std.specs.Prelude.{◌≡◌, ℕ, ◌+◌, ◌<◌, ◌≤◌, ◌==◌, Bool, true, false, not, ◌&&◌, Option, None, List, [], ◌∷◌, length, map, All, count_by, get_or, take, drop, if◌then◌else◌}
 use Rattle.std.specs.List.{flat_map, zip}
 use Rattle.pf_shapes.specs.Pair.{IsPairOf, Pair}
 use Rattle.pf_shapes.specs.declared.scene.TheConstants.{MAX_BODIES}
+use Rattle.pf_broad.specs.Kept.{moved_places}
 use Rattle.pf_manifold.specs.Key.{AreTouches, IsRising, rank}
 use Rattle.pf_manifold.specs.PlacedShape.{PlacedShape}
 use Rattle.pf_manifold.specs.Touches.{Touch}
@@ -104,3 +105,15 @@ pub record AreRefreshed (shapes : List PlacedShape) (spans : List Span) (touches
   pub listed : take count spans ≡ spans_from 0 shapes (take count pairs)
   pub stored : take points touches ≡ flat_map (points_of_pair shapes) (take count pairs)
   pub rest : ArePlaced points (drop count spans) (length touches)
+
+-- the first pairs are those of the first spans, so many
+pub record HaveSamePairs (count : ℕ) (spans : List Span) (pairs : List Pair) : Type 0 where
+  pub within : count ≤ length pairs
+  pub spanned : count ≤ length spans
+  pub same : map (λ s. s.pair) (take count spans) ≡ take count pairs
+
+-- these are the places of the pairs with a body that may have moved, where all others are unmoved
+abbrev pub AreMovedPlaces : List Bool → List Pair → List ℕ → Type 0
+AreMovedPlaces unmoved pairs places =
+    (may_have_moved : ℕ → Bool) × (places ≡ moved_places may_have_moved pairs)
+    × ((k : ℕ) → k < length unmoved → may_have_moved k ≡ false → get_or unmoved k false ≡ true)

@@ -1,6 +1,6 @@
 //! Contact points that are kept from tick to tick.
 
-ghost use Rattle.std.specs.Prelude.{◌≡◌, ◌≢◌, ◌≤◌, All, IfOk, length, map};
+ghost use Rattle.std.specs.Prelude.{◌≡◌, ◌≢◌, ◌≤◌, All, IfOk, IsTrue, length, map};
 ghost use Rattle.std.specs.List.{flat_map};
 ghost use Rattle.pf_shapes.specs.Pair.{IsAscending, IsPairOf};
 ghost use Rattle.pf_shapes.specs.declared.scene.TheConstants.{MAX_BODIES};
@@ -8,15 +8,15 @@ ghost use Rattle.pf_broad.specs.Kept.{nothing_kept};
 ghost use Rattle.pf_manifold.specs.Key.{IsRising, key_of};
 ghost use Rattle.pf_cache.specs.Contact.{HaveSameFirst};
 ghost use Rattle.pf_cache.specs.Manifolds.{placed_shapes, points_of_pair};
-ghost use Rattle.pf_cache.specs.Spans.{ArePlaced, IsKeptSpan, computed_count_by_flags, pair_rank, spans_from};
+ghost use Rattle.pf_cache.specs.Spans.{AreMovedPlaces, ArePlaced, IsKeptSpan, computed_count_by_flags, pair_rank, spans_from};
 
 use crate::gathered::{KeptPoints, PairPoints, gather};
 use crate::kept_shape::KeptShape;
 use crate::listed::{computed_if_many, spans_of_points};
 use crate::placed_bodies::PlacedBodies;
-use crate::refresh::refresh;
+use crate::refresh::{refresh, same_pairs};
 use crate::spans::Span;
-use pf_broad::BroadPhase;
+use pf_broad::{BroadPhase, PairsUpdate};
 use pf_manifold::{Collider, Touch};
 use pf_shapes::{BodyState, Pair, Scene};
 use std::alloc::{AllocError, Global};
@@ -51,7 +51,7 @@ impl Model for Manifolds {
     } };
 
     ghost invariant = { λ m. AreSpans m.placed.shapes m.spans.items m.touches.items
-        × IsBroadPhaseOf m.broad_phase m.placed.bounds };
+        × IsBroadPhaseOf m.broad_phase m.placed.bounds (map (λ s. s.pair) m.spans.items) };
 }
 
 /// What the narrow phase of a tick found.
@@ -102,13 +102,15 @@ fn kept_for(alloc: Global, kept: BroadPhase, count: usize, bodies: usize) -> Bro
 }
 
 /// The contact points of these pairs. Those that are kept are updated where they stand, and those
-/// of the pairs that follow are gathered.
+/// of the pairs that follow are gathered. `update` says whether the pairs are those that are kept,
+/// if they are as many, and at which places they have a body that may have moved.
 #[inline(never)]
 fn updated_points(
     alloc: Global,
     kept_spans: Vec<Span>,
     kept_touches: Vec<Touch>,
     pairs: &[Pair],
+    update: &PairsUpdate,
     unmoved: &[bool],
     shapes: &[KeptShape],
 ) -> Result<FoundPoints, AllocError>
@@ -118,6 +120,9 @@ fn updated_points(
     requires rising { IsRising 0 (map (λ s. pair_rank s.pair) kept_spans.items) }
     requires placed { ArePlaced 0 kept_spans.items (length kept_touches.items) }
     requires kept { All (IsKeptSpan shapes.now unmoved.now kept_touches.items) kept_spans.items }
+    requires same { IsTrue update.now.same → length kept_spans.items ≡ length pairs.now
+        → map (λ s. s.pair) kept_spans.items ≡ pairs.now }
+    requires places { AreMovedPlaces unmoved.now pairs.now update.now.moved_places.items }
     ensures spans { IfOk result (λ found. found.points.spans.items
         ≡ spans_from 0 shapes.now pairs.now) }
     ensures touches { IfOk result
@@ -129,7 +134,20 @@ fn updated_points(
 {
     let mut spans = kept_spans;
     let mut touches = kept_touches;
-    let done = refresh(&mut touches, &spans, pairs, unmoved, shapes);
+    let count = if update.same && spans.len() == pairs.len() {
+        pairs.len()
+    } else {
+        same_pairs(&spans, pairs)
+    };
+    let done = refresh(
+        &mut touches,
+        &spans,
+        pairs,
+        count,
+        &update.moved_places,
+        unmoved,
+        shapes,
+    );
     let kept = KeptPoints {
         spans: &spans,
         touches: &touches,
@@ -267,14 +285,15 @@ impl Manifolds {
         let count = self.placed.shapes().len();
         let mut broad_phase = kept_for(alloc, self.broad_phase, count, bodies.len());
         let (placed, unmoved) = self.placed.update(alloc, scene, bodies, moved)?;
-        let kept_spans = self.spans;
-        let kept_touches = self.touches;
-        let pairs = broad_phase.pairs(alloc, placed.bounds(), bodies, moved)?;
-        let found = match computed_if_many(&kept_spans, &unmoved, &pairs, C::MANY) {
-            Some(computed) => points_at_once(collider, alloc, scene, bodies, &pairs, computed)?,
+        let spans = self.spans;
+        let touches = self.touches;
+        let update = broad_phase.update(alloc, placed.bounds(), bodies, moved)?;
+        let pairs = broad_phase.pairs();
+        let found = match computed_if_many(&spans, &unmoved, pairs, C::MANY) {
+            Some(computed) => points_at_once(collider, alloc, scene, bodies, pairs, computed)?,
             None => {
                 let shapes = placed.shapes();
-                updated_points(alloc, kept_spans, kept_touches, &pairs, &unmoved, shapes)?
+                updated_points(alloc, spans, touches, pairs, &update, &unmoved, shapes)?
             }
         };
         let same = found.same;

@@ -8,7 +8,7 @@ ghost use Rattle.pf_manifold.specs.Manifold.{points_of};
 ghost use Rattle.pf_manifold.specs.Touches.{touch_of};
 ghost use Rattle.pf_cache.specs.Contact.{HaveSameFirst};
 ghost use Rattle.pf_cache.specs.Manifolds.{points_of_pair};
-ghost use Rattle.pf_cache.specs.Spans.{ArePlaced, AreRefreshed, IsKeptSpan, computed_count_by_flags};
+ghost use Rattle.pf_cache.specs.Spans.{AreMovedPlaces, ArePlaced, AreRefreshed, HaveSamePairs, IsKeptSpan, computed_count_by_flags};
 
 use crate::kept_shape::{KeptShape, are_flags_set, manifold_of_pair};
 use crate::listed::is_of_pair;
@@ -87,10 +87,40 @@ fn refresh_span(
     Some(if is_same { same } else { start })
 }
 
-/// Updates the contact points of pairs in place, from the first pair on. Points of two unmoved
-/// bodies stay. All others are computed and written over the old ones. It stops at a pair that has
-/// no span at its place, or another number of points than before. Where `unmoved` is not as long as
-/// `shapes`, it does nothing. No clause says how far it comes.
+/// Where the points of the spans from this place on begin. Those of all spans end at `end`.
+#[inline]
+fn start_of(spans: &[Span], place: usize, end: usize) -> usize
+    requires within { place ≤ length spans.now }
+    requires placed { ArePlaced 0 spans.now end }
+    ensures { ArePlaced result (drop place spans.now) end }
+{
+    if place == spans.len() {
+        return end;
+    }
+    let span = &spans[place];
+    span.start
+}
+
+/// How many of the first pairs are those of the first spans. No clause says that they are not more.
+#[inline(never)]
+pub fn same_pairs(spans: &[Span], pairs: &[Pair]) -> usize
+    ensures { HaveSamePairs result spans.now pairs.now }
+{
+    let mut count = 0;
+    while count < pairs.len() && count < spans.len() {
+        if !spans[count].is_of(&pairs[count]) {
+            break;
+        }
+        count += 1;
+    }
+    count
+}
+
+/// Updates the contact points of the first pairs in place, as many as have their spans: `count`.
+/// Points of two unmoved bodies stay, so only the pairs at `moved_places` are looked at. The others
+/// are computed and written over the old ones. It stops at a pair that has another number of points
+/// than before. Where `unmoved` is not as long as `shapes`, it does nothing. No clause says how far
+/// it comes.
 ///
 /// Also finds how many of the first points have the keys that they had: those in front of the first
 /// pair whose features changed. More of them may have; no clause says how many are found.
@@ -100,6 +130,8 @@ pub fn refresh(
     touches: &mut [Touch],
     spans: &[Span],
     pairs: &[Pair],
+    count: usize,
+    moved_places: &[usize],
     unmoved: &[bool],
     shapes: &[KeptShape],
 ) -> Progress
@@ -107,6 +139,8 @@ pub fn refresh(
     requires pairs { All (IsPairOf (length shapes.now)) pairs.now }
     requires placed { ArePlaced 0 spans.now (length touches.old) }
     requires kept { All (IsKeptSpan shapes.now unmoved.now touches.old) spans.now }
+    requires first { HaveSamePairs count spans.now pairs.now }
+    requires places { AreMovedPlaces unmoved.now pairs.now moved_places.now }
     ensures refreshed { AreRefreshed shapes.now spans.now touches.new pairs.now
         result.pairs result.points }
     ensures kept { All (IsKeptSpan shapes.now unmoved.now touches.new) spans.now }
@@ -124,28 +158,29 @@ pub fn refresh(
             computed: 0,
         };
     }
-    let mut place = 0;
-    let mut points = 0;
     let mut same = touches.len();
     let mut computed = 0;
-    while place < pairs.len() && place < spans.len() {
-        let pair = &pairs[place];
-        let span = &spans[place];
-        if !span.is_of(pair) {
+    let mut done = count;
+    for place in moved_places {
+        let place = *place;
+        if place >= count {
             break;
         }
-        if !are_flags_set(unmoved, pair) {
-            match refresh_span(touches, span, shapes, same) {
-                Some(still) => same = still,
-                None => break,
-            }
-            computed += 1;
+        if are_flags_set(unmoved, &pairs[place]) {
+            continue;
         }
-        points = span.start + span.len;
-        place += 1;
+        match refresh_span(touches, &spans[place], shapes, same) {
+            Some(still) => same = still,
+            None => {
+                done = place;
+                break;
+            }
+        }
+        computed += 1;
     }
+    let points = start_of(spans, done, touches.len());
     Progress {
-        pairs: place,
+        pairs: done,
         points,
         same: same.min(points),
         computed,

@@ -17,7 +17,8 @@ use Rattle.pf_islands.specs.Island.{has_number, is_among, members, place_of, row
 use Rattle.pf_islands.specs.Rows.{is_awake_at}
 use Rattle.pf_islands.specs.Split.{AreTogether, AreWoken, IsActiveRow, Island, active_labels, is_active_label, is_awake_side, island_of, no_island}
 use Rattle.pf_islands.proofs.ActiveRows.{map_where}
-use Rattle.pf_islands.proofs.Members.{chosen_at, chosen_pass, chosen_place, filter_rises, has_filter, has_range, range_more, range_rises, set_mapped}
+use Rattle.pf_cache.proofs.ChosenNumbers.{chosen_pass}
+use Rattle.pf_islands.proofs.Members.{chosen_at, chosen_place, filter_rises, has_filter, has_range, range_more, range_rises, set_mapped}
 
 module _ (labels : List ℕ) (bodies : List BodyState) where
   -- ---- empty islands

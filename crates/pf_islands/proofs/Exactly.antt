@@ -26,7 +26,8 @@ use Rattle.pf_islands.proofs.ActiveRows.{map_where, rows_in_order}
 use Rattle.pf_islands.proofs.Chains.{one_name, reaches_one}
 use Rattle.pf_islands.proofs.Dealing.{group_active, name_at, touches_group}
 use Rattle.pf_islands.proofs.Elements.{all_at, mapped}
-use Rattle.pf_islands.proofs.Members.{chosen_at, chosen_pass, filter_rises, range_rises, range_within}
+use Rattle.pf_cache.proofs.ChosenNumbers.{chosen_pass, range_within}
+use Rattle.pf_islands.proofs.Members.{chosen_at, filter_rises, range_rises}
 use Rattle.pf_islands.proofs.Starting.{group_low, groups_long, groups_named}
 use Rattle.pf_islands.proofs.Together.{groups_woken, name_of, rows_are_active}
 use Rattle.pf_islands.proofs.Whole.{rows_in_order_among}

@@ -12,7 +12,6 @@ pub mod ActiveSpans
 pub mod Members
 pub mod Dealing
 pub mod AwakeNumbers
-pub mod ChosenNumbers
 pub mod Flattened
 pub mod Elements
 pub mod Together

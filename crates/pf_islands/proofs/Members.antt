@@ -13,16 +13,6 @@ use Rattle.pf_islands.specs.Island.{has_number, place_of}
 
 -- ---- chosen elements
 
--- they pass the test
-pub chosen_pass : {X : Type 0} (p : X → Bool) (xs : List X) → All (λ x. p x ≡ true) (filter p xs)
-chosen_pass p [] = All-nil (λ x. p x ≡ true)
-chosen_pass p (x ∷ xs) = by (p x) refl (chosen_pass p xs)
-  where
-    by : (e : Bool) → p x ≡ e → All (λ y. p y ≡ true) (filter p xs)
-        → All (λ y. p y ≡ true) (cond e (x ∷ filter p xs) (filter p xs))
-    by true e rest = All-cons (λ y. p y ≡ true) x (filter p xs) e rest
-    by false e rest = rest
-
 -- a chosen number is one of the list, and passes
 pub has_filter : (p : ℕ → Bool) (xs : List ℕ) (i : ℕ)
     → has_number (filter p xs) i ≡ (has_number xs i && p i)
@@ -75,13 +65,6 @@ pub range_rises : (start count : ℕ) → IsRising start (range_with_len start c
 range_rises start zero = tt
 range_rises start (suc count) =
     (omega arith, rising-weaken (suc start) (start + 1) (range_with_len (start + 1) count) (omega arith) (range_rises (start + 1) count))
-
-pub range_within : (start count limit : ℕ) → start + count ≤ limit
-    → All (λ n. n < limit) (range_with_len start count)
-range_within start zero limit low = All-nil (λ n. n < limit)
-range_within start (suc count) limit low =
-    All-cons (λ n. n < limit) start (range_with_len (start + 1) count) (omega (arith, low))
-    (range_within (start + 1) count limit (omega (arith, low)))
 
 -- a chosen number stands behind as many as are chosen of those before it
 pub chosen_at : (p : ℕ → Bool) (start count k : ℕ) → k < count → p (start + k) ≡ true

@@ -26,7 +26,7 @@ use Rattle.pf_islands.specs.Split.{AreTogether, AreWoken, IsActiveRow, active_la
 use Rattle.pf_islands.proofs.ActiveRows.{map_where, touches_at_places}
 use Rattle.pf_islands.proofs.Elements.{zip_at, zip_length}
 use Rattle.pf_islands.proofs.Looked.{any_found, any_from}
-use Rattle.pf_islands.proofs.Members.{chosen_pass, range_within}
+use Rattle.pf_cache.proofs.ChosenNumbers.{chosen_pass, range_within}
 use Rattle.pf_islands.proofs.Sleeping.{name_at, name_is}
 use Rattle.pf_islands.proofs.Starting.{group_low, groups_long, groups_named}
 use Rattle.pf_islands.proofs.Together.{groups_woken, name_of, one_group, rows_are_active, woken_at}

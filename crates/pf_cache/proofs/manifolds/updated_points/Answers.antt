@@ -18,27 +18,27 @@ gather-requires-clause-ascending c =
 
 pub gather-requires-clause-points : goal.gather-requires-clause-points
 gather-requires-clause-points c =
-    let touches_are : c.deref-3.result.now ≡ c.refresh-done.new.touches =
-    c.deref-3.ensures.value
+    let touches_are : c.deref-5.result.now ≡ c.refresh-done.new.touches =
+    c.deref-5.ensures.value
     ∙ with_items_is c.args.kept_touches c.refresh-done.new.touches (c.refresh-done.auto.touches ∙ c.deref_mut.ensures.len) in
     rw touches_are (placed_end _ _ _ c.refresh-done.ensures.refreshed.rest)
 
 pub gather-requires-clause-behind : goal.gather-requires-clause-behind
 gather-requires-clause-behind c =
     let pairs = c.args.pairs.now in
-    rw (others pairs c.refresh-done.result.pairs, c.deref-2.ensures.value)
+    rw (others pairs c.refresh-done.result.pairs, c.deref-4.ensures.value)
     (same_behind c.args.shapes.now c.args.kept_spans.items pairs c.refresh-done.result.pairs
-    (rw c.deref.ensures.value at c.refresh-done.ensures.refreshed.listed) c.requires.ascending
+    (rw c.deref-2.ensures.value at c.refresh-done.ensures.refreshed.listed) c.requires.ascending
     (pairs_of_scene (length c.args.shapes.now) pairs c.requires.few c.requires.pairs))
 
 pub returns-clause-spans : goal.returns-clause-spans
 returns-clause-spans c =
     let pairs = c.args.pairs.now in
     let i = c.refresh-done.result.pairs in
-    c.in_ok-extend_from_slice.ensures.items ∙ ap₂ (λ xs ys. xs ++ ys) c.truncate.ensures.items c.deref-4.ensures.value
+    c.in_ok-extend_from_slice.ensures.items ∙ ap₂ (λ xs ys. xs ++ ys) c.truncate.ensures.items c.deref-6.ensures.value
     ∙ whole_spans c.args.shapes.now c.args.kept_spans.items c.in_ok-rest.rest.spans.items c.refresh-done.new.touches
     c.in_ok-rest.rest.touches.items pairs i c.refresh-done.result.points
-    (rw c.deref.ensures.value at c.refresh-done.ensures.refreshed)
+    (rw c.deref-2.ensures.value at c.refresh-done.ensures.refreshed)
     (rw (others pairs i) at c.in_ok-rest.ensures.spans)
     (rw (others pairs i) at c.in_ok-rest.ensures.touches)
 
@@ -50,10 +50,10 @@ returns-clause-touches c =
     let touches_are =
     with_items_is c.args.kept_touches c.refresh-done.new.touches (c.refresh-done.auto.touches ∙ c.deref_mut.ensures.len) in
     c.in_ok-extend_from_slice-2.ensures.items
-    ∙ ap₂ (λ xs ys. xs ++ ys) (c.truncate-2.ensures.items ∙ ap (take n) touches_are) c.deref-5.ensures.value
+    ∙ ap₂ (λ xs ys. xs ++ ys) (c.truncate-2.ensures.items ∙ ap (take n) touches_are) c.deref-7.ensures.value
     ∙ whole_points c.args.shapes.now c.args.kept_spans.items c.in_ok-rest.rest.spans.items c.refresh-done.new.touches
     c.in_ok-rest.rest.touches.items pairs i n
-    (rw c.deref.ensures.value at c.refresh-done.ensures.refreshed)
+    (rw c.deref-2.ensures.value at c.refresh-done.ensures.refreshed)
     (rw (others pairs i) at c.in_ok-rest.ensures.spans)
     (rw (others pairs i) at c.in_ok-rest.ensures.touches)
 
@@ -64,9 +64,9 @@ returns-clause-computed c =
     let flags = c.args.unmoved.now in
     let i = c.refresh-done.result.pairs in
     let first : c.refresh-done.result.computed ≡ computed_count_by_flags kept flags (take i pairs) =
-    rw c.deref.ensures.value at c.refresh-done.ensures.computed in
+    rw c.deref-2.ensures.value at c.refresh-done.ensures.computed in
     let second : c.in_ok-rest.rest.computed ≡ computed_count_by_flags kept flags (drop i pairs) =
-    rw (others pairs i, c.deref-2.ensures.value) at c.in_ok-rest.ensures.computed in
+    rw (others pairs i, c.deref-4.ensures.value) at c.in_ok-rest.ensures.computed in
     let sum = counts_add kept flags pairs i in
     omega (arith, first, second, sum)
 
@@ -76,7 +76,7 @@ returns-clause-same c =
     let touches = c.refresh-done.new.touches in
     let touches_are =
     with_items_is c.args.kept_touches touches (c.refresh-done.auto.touches ∙ c.deref_mut.ensures.len) in
-    same_longer done.same done.points (map key_of c.args.kept_touches.items) touches c.deref-5.result.now _ c.refresh-done.ensures.same_points
+    same_longer done.same done.points (map key_of c.args.kept_touches.items) touches c.deref-7.result.now _ c.refresh-done.ensures.same_points
     (subst (λ ts. HaveSameFirst done.same (map key_of ts) (map key_of touches)) c.deref_mut.ensures.value c.refresh-done.ensures.same)
     (c.in_ok-extend_from_slice-2.ensures.items
-    ∙ ap (λ xs. xs ++ c.deref-5.result.now) (c.truncate-2.ensures.items ∙ ap (take done.points) touches_are))
+    ∙ ap (λ xs. xs ++ c.deref-7.result.now) (c.truncate-2.ensures.items ∙ ap (take done.points) touches_are))

@@ -1,17 +1,14 @@
-use Rattle.std.proofs.Common.{length, map, take, ◌-◌, ◌≡◌, ◌≤◌}
+use Rattle.std.proofs.Common.{get_or, length, map, take, ◌≡◌, ◌≤◌}
 use Rattle.pf_manifold.specs.Key.{key_of}
-use Rattle.pf_cache.specs.Spans.{computed_count_by_flags}
-use Rattle.pf_cache.proofs.Refreshing.{AreDone}
+use Rattle.pf_cache.proofs.Reaching.{ReachedBy}
 use Rattle.pf_cache.proofs.refresh.refresh.Given as goal
 
 abbrev pub invariant-loop-place : goal.invariant-loop-place
 invariant-loop-place l = record {
-  within : l.place ≤ length l.pairs;
+  all : l.done ≡ l.count;
   same_length : length l.touches ≡ length l.initial.touches;
-  done : AreDone l.shapes l.spans l.pairs l.initial.touches l.place l.points l.touches;
+  few : l.computed ≤ l.place-index;
   same : take l.same (map key_of l.touches) ≡ take l.same (map key_of l.initial.touches);
-  computed : l.computed ≡ computed_count_by_flags (map (λ s. s.pair) l.spans) l.unmoved (take l.place l.pairs);
+  reached : ReachedBy l.shapes l.spans l.pairs l.unmoved l.initial.touches l.count
+      (get_or l.moved_places l.place-index (length l.pairs)) l.touches l.computed;
 }
-
-abbrev pub decreases-loop-place : goal.decreases-loop-place
-decreases-loop-place l = length l.pairs - l.place

@@ -1,7 +1,7 @@
 use Rattle.std.proofs.Common.{rules, ◌<◌, inl, get_or, length, set, arith}
 use Rattle.std.proofs.lemmas.List.FromFn.{fill_by_all}
 use Rattle.std.proofs.Math.ListN.{get_or-eq_default}
-use Rattle.pf_islands.proofs.ChosenNumbers.{at_first, at_next, at_number, number_low}
+use Rattle.pf_cache.proofs.ChosenNumbers.{at_first, at_next, at_number, number_low}
 use Rattle.pf_islands.proofs.Flattened.{AreFlat, flat_next, flat_other, none_flat}
 use Rattle.pf_islands.proofs.Roots.{downward_halved, forest_halved}
 use Rattle.pf_islands.proofs.forest.flatten.Goals as goal

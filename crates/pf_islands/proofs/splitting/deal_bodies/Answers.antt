@@ -6,7 +6,7 @@ use Rattle.pf_islands.specs.Split.{Island, no_island}
 use Rattle.pf_islands.specs.Rows.{is_awake_at}
 use Rattle.pf_islands.proofs.AwakeNumbers.{AreDealt, dealt_asleep}
 use Rattle.pf_islands.proofs.Dealing.{dealt_more, first_part, island_at, placed_more, slot_within}
-use Rattle.pf_islands.proofs.ChosenNumbers.{at_first, at_next, at_number, number_chosen, number_low}
+use Rattle.pf_cache.proofs.ChosenNumbers.{at_first, at_next, at_number, number_chosen, number_low}
 use Rattle.pf_islands.proofs.Members.{few_chosen}
 use Rattle.pf_islands.proofs.splitting.deal_bodies.Goals as goal
 

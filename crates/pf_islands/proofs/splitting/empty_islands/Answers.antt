@@ -3,7 +3,7 @@ use Rattle.std.proofs.lemmas.Bool.{eq-eqb, ne_eqb}
 use Rattle.pf_islands.specs.Rows.{is_awake_at}
 use Rattle.pf_islands.proofs.AwakeNumbers.{AreEmptied, asleep_inactive, awake_active, emptied_more, emptied_same, none_emptied}
 use Rattle.pf_islands.specs.Split.{is_active_label}
-use Rattle.pf_islands.proofs.ChosenNumbers.{at_first, at_next, at_number, number_chosen, number_low}
+use Rattle.pf_cache.proofs.ChosenNumbers.{at_first, at_next, at_number, number_chosen, number_low}
 use Rattle.pf_islands.proofs.Members.{few_chosen}
 use Rattle.pf_islands.proofs.splitting.empty_islands.Goals.{then-labels-number+in_ok-clear_at, else-labels-number}
 use Rattle.pf_islands.proofs.splitting.empty_islands.Goals as goal

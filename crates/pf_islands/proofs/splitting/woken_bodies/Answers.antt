@@ -5,7 +5,7 @@ use Rattle.std.specs.Prelude.{All}
 use Rattle.pf_islands.specs.Group.{groups}
 use Rattle.pf_islands.specs.Settled.{touches_at}
 use Rattle.pf_islands.specs.Sleep.{woken_bodies}
-use Rattle.pf_islands.proofs.Members.{range_within}
+use Rattle.pf_cache.proofs.ChosenNumbers.{range_within}
 use Rattle.pf_islands.proofs.SettledGroups.{all_listed, none_woken, touches_at_all, woken_long}
 use Rattle.pf_islands.proofs.Starting.{groups_long}
 use Rattle.pf_islands.proofs.splitting.woken_bodies.Goals as goal

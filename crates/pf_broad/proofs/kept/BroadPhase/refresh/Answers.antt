@@ -3,7 +3,7 @@ use Rattle.std.proofs.lemmas.Bool.{cases_Bool}
 use Rattle.std.proofs.lemmas.Bool.Decides.{nat_tests}
 use Rattle.std.specs.List.{filter, range_with_len}
 use Rattle.pf_broad.specs.Pairs.{bounds_at, pairs}
-use Rattle.pf_broad.specs.Kept.{BroadPhase}
+use Rattle.pf_broad.specs.Kept.{flagged, BroadPhase}
 use Rattle.pf_broad.specs.Loose.{contains}
 use Rattle.pf_broad.specs.Partners.{has_body}
 use Rattle.pf_broad.proofs.Leaving.{none_listed}
@@ -42,6 +42,8 @@ update_candidates-requires-clause-left c =
     (c.deref-5.ensures.value ∙ c.in_ok-left.ensures ∙ ap (λ n. filter test (range_with_len 0 n)) (sym as_many))
 
 pub invariant_of-result : goal.invariant_of-result
-invariant_of-result c =
-    candidates_of c.in_ok-loose.loose.items c.args.bounds.now c.in_ok-candidates.candidates.items c.in_ok-loose.ensures.enlarged_bounds c.requires.ordered c.requires.few
-    (c.in_ok-candidates.ensures ∙ ap pairs c.deref-4.ensures.value)
+invariant_of-result c = (
+  candidates_of c.in_ok-loose.loose.items c.args.bounds.now c.in_ok-candidates.candidates.items c.in_ok-loose.ensures.enlarged_bounds c.requires.ordered c.requires.few
+      (c.in_ok-candidates.ensures ∙ ap pairs c.deref-4.ensures.value),
+  λ long. c.clear.ensures.items ∙ ap (λ l. flagged l c.in_ok-candidates.candidates.items) (sym c.new.ensures.items),
+)

@@ -12,7 +12,7 @@ use Rattle.pf_broad.proofs.kept.BroadPhase.update_candidates.Goals as goal
 
 pub add_candidates-requires-clause-pairs : goal.add_candidates-requires-clause-pairs
 add_candidates-requires-clause-pairs c =
-    let all : c.as_slice-candidates.result.now ≡ pairs c.args.self.now.loose = c.as_slice-candidates.ensures.value ∙ c.self.invariant.pairs ∙ ap (λ (b : BroadPhase). pairs b.loose) c.self.view_is in
+    let all : c.as_slice-candidates.result.now ≡ pairs c.args.self.now.loose = c.as_slice-candidates.ensures.value ∙ c.self.invariant.0.pairs ∙ ap (λ (b : BroadPhase). pairs b.loose) c.self.view_is in
     pairs-IsPairOf c.args.self.now.loose c.as_slice-candidates.result.now (length c.args.loose.now) all c.requires.as_many
 
 pub complete-requires-clause-kept : goal.complete-requires-clause-kept

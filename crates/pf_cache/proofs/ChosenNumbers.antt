@@ -1,11 +1,30 @@
 -- Loops over chosen numbers alone keep what a step at any other number would keep.
-use Rattle.std.proofs.Common.{◌≡◌, ◌∙◌, ℕ, zero, suc, ◌+◌, ◌<◌, Bool, true, false, cond, List, ◌∷◌, Some, length, filter, get_or, refl, sym, ap, subst, arith, slice_get}
+use Rattle.std.proofs.Common.{◌≡◌, ◌∙◌, ℕ, zero, suc, ◌+◌, ◌<◌, ◌≤◌, Bool, true, false, cond, List, [], ◌∷◌, Some, length, filter, get_or, refl, sym, ap, subst, arith, slice_get}
 use Rattle.std.proofs.lemmas.List.{get_or_default}
-use Rattle.std.proofs.lemmas.List.Elements.{All-filter}
+use Rattle.std.proofs.lemmas.List.Elements.{All-cons, All-filter, All-nil}
 use Rattle.std.proofs.lemmas.Option.{none-some, same_Some, slice_get-get_or}
 use Rattle.std.specs.List.{range_with_len}
 use Rattle.std.specs.Prelude.{All}
-use Rattle.pf_islands.proofs.Members.{chosen_pass, range_within}
+
+-- ---- chosen elements, and a range
+
+-- they pass the test
+pub chosen_pass : {X : Type 0} (p : X → Bool) (xs : List X) → All (λ x. p x ≡ true) (filter p xs)
+chosen_pass p [] = All-nil (λ x. p x ≡ true)
+chosen_pass p (x ∷ xs) = by (p x) refl (chosen_pass p xs)
+  where
+    by : (e : Bool) → p x ≡ e → All (λ y. p y ≡ true) (filter p xs)
+        → All (λ y. p y ≡ true) (cond e (x ∷ filter p xs) (filter p xs))
+    by true e rest = All-cons (λ y. p y ≡ true) x (filter p xs) e rest
+    by false e rest = rest
+
+-- a range is below its end
+pub range_within : (start count limit : ℕ) → start + count ≤ limit
+    → All (λ n. n < limit) (range_with_len start count)
+range_within start zero limit low = All-nil (λ n. n < limit)
+range_within start (suc count) limit low =
+    All-cons (λ n. n < limit) start (range_with_len (start + 1) count) (omega (arith, low))
+    (range_within (start + 1) count limit (omega (arith, low)))
 
 -- ---- from one chosen number to the next
 

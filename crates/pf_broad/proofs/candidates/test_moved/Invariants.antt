@@ -1,0 +1,16 @@
+use Rattle.std.proofs.Common.{◌≡◌, ◌≤◌, ◌++◌, length, drop, take, filter, false, get_or, map, vec_capacity, vec_len, IsTrue}
+use Rattle.pf_broad.specs.Pairs.{pair_may_touch}
+use Rattle.pf_broad.specs.Kept.{moved_places}
+use Rattle.pf_broad.proofs.candidates.test_moved.Given as goal
+
+abbrev pub invariant-loop-i : goal.invariant-loop-i
+invariant-loop-i l = record {
+  flags : l.flags ≡ map (pair_may_touch l.bounds) (take l.i l.candidates) ++ drop l.i l.initial.flags;
+  same : IsTrue l.same → l.flags ≡ l.initial.flags;
+  place : l.place ≡ length (filter (pair_may_touch l.bounds) (take l.i l.candidates));
+  few : l.place ≤ l.i;
+  places : l.moved_places.items
+      ≡ moved_places (λ k. get_or l.moved k false) (filter (pair_may_touch l.bounds) (take l.i l.candidates));
+  count : vec_len l.moved_places ≤ l.i;
+  room : length l.candidates ≤ vec_capacity l.moved_places;
+}
