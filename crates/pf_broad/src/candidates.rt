@@ -42,8 +42,8 @@ pub struct PairsUpdate {
 }
 
 /// Writes the flag of each candidate, which says whether its bodies may touch. A candidate is
-/// tested only where one of its bodies may have moved; the flags of the others are right. The
-/// places are those in the list of the candidates whose flags are set.
+/// tested only where one of its bodies may have moved; the flags of the others must be right.
+/// `same` says that no flag changed; `moved_places` counts only candidates whose flags are set.
 #[inline(never)]
 pub(crate) fn test_moved(
     alloc: Global,

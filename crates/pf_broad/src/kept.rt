@@ -82,13 +82,14 @@ impl BroadPhase {
     /// Finds the pairs of bodies, at most one of them static, whose bounds overlap: in ascending
     /// order, each once, whatever is kept. `bodies` decides only how far bounds are enlarged, by
     /// how fast each body moves. Bodies that are not in `moved` must have the bounds of the last
-    /// update. A pair of two of them is tested again only where a body has left its enlarged
-    /// bounds, or `moved` has half as many bodies as there are. For fewer than two bodies it takes
-    /// no memory and can't fail, and nothing is kept. An error drops what is kept.
+    /// update. Pairs of two of them are not tested again where flags are kept, no body has left its
+    /// enlarged bounds, and `moved` has fewer than half as many bodies as there are, rounded down.
+    /// For fewer than two bodies it takes no memory and can't fail, and nothing is kept. An error
+    /// drops what is kept.
     ///
-    /// Also finds at which places the pairs stand that have a body of `moved`: these places, or, as
-    /// if all bodies had moved, all places. Where no flags are kept these are all places; else no
-    /// clause says which. Nor does one say that `same` is set wherever the pairs are the same.
+    /// Also lists places of pairs, in ascending order: of those with a body of `moved`, or of all.
+    /// Where no flags were kept it is all; else no clause says which of the two. `same` may be
+    /// unset though the pairs are the same.
     pub fn update(
         &mut self,
         alloc: Global,

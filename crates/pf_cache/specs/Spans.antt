@@ -106,13 +106,13 @@ pub record AreRefreshed (shapes : List PlacedShape) (spans : List Span) (touches
   pub stored : take points touches ≡ flat_map (points_of_pair shapes) (take count pairs)
   pub rest : ArePlaced points (drop count spans) (length touches)
 
--- the first pairs are those of the first spans, so many
+-- the first `count` pairs are those of the first spans
 pub record HaveSamePairs (count : ℕ) (spans : List Span) (pairs : List Pair) : Type 0 where
   pub within : count ≤ length pairs
   pub spanned : count ≤ length spans
   pub same : map (λ s. s.pair) (take count spans) ≡ take count pairs
 
--- these are the places of the pairs with a body that may have moved, where all others are unmoved
+-- the places of the pairs with a body that may have moved; each body that may not is unmoved
 abbrev pub AreMovedPlaces : List Bool → List Pair → List ℕ → Type 0
 AreMovedPlaces unmoved pairs places =
     (may_have_moved : ℕ → Bool) × (places ≡ moved_places may_have_moved pairs)

@@ -102,8 +102,9 @@ fn kept_for(alloc: Global, kept: BroadPhase, count: usize, bodies: usize) -> Bro
 }
 
 /// The contact points of these pairs. Those that are kept are updated where they stand, and those
-/// of the pairs that follow are gathered. `update` says whether the pairs are those that are kept,
-/// if they are as many, and at which places they have a body that may have moved.
+/// of the pairs that follow are gathered. If `update.same` is set, and the pairs are as many as
+/// those that are kept, they are these; `moved_places` are the places of those with a body that may
+/// have moved.
 #[inline(never)]
 fn updated_points(
     alloc: Global,

@@ -116,11 +116,11 @@ pub fn same_pairs(spans: &[Span], pairs: &[Pair]) -> usize
     count
 }
 
-/// Updates the contact points of the first pairs in place, as many as have their spans: `count`.
-/// Points of two unmoved bodies stay, so only the pairs at `moved_places` are looked at. The others
-/// are computed and written over the old ones. It stops at a pair that has another number of points
-/// than before. Where `unmoved` is not as long as `shapes`, it does nothing. No clause says how far
-/// it comes.
+/// Updates in place the points of the first `count` pairs, which are those of the first spans. Only
+/// the pairs at `moved_places` are looked at: where both bodies are unmoved the points stay, else
+/// they are computed and written over the old ones. It stops at a pair that has another number of
+/// points than before. Where `unmoved` is not as long as `shapes`, it does nothing. No clause says
+/// how far it comes.
 ///
 /// Also finds how many of the first points have the keys that they had: those in front of the first
 /// pair whose features changed. More of them may have; no clause says how many are found.

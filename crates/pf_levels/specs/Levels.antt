@@ -61,7 +61,8 @@ pub record AreLevels (pairs : List Pair) (levels : List (List ℕ)) : Type 0 whe
   pub order : IsOrder pairs (concat levels)
   pub apart : All (IsLevel pairs) levels
 
--- levels, the pairs of the rows that they were made of, and whether better ones were searched for
+-- levels, the pairs of the rows that they were made of, and whether no fewer ones are searched for
+-- any more
 pub record Leveling : Type 0 where
   pub pairs : List Pair
   pub levels : List (List ℕ)

@@ -11,8 +11,8 @@ use std::alloc::{AllocError, Global};
 use std::marker::Model;
 use std::mem;
 
-/// Lists all rows by levels that are found from the last row to the first, those of the last such
-/// level first: then a row comes early that many others wait for.
+/// Puts all rows into an order: levels are found from the last row to the first, and read backward.
+/// So a row that many others wait for comes early.
 fn list_from_end(
     order: &mut Vec<usize>,
     listed: &mut Vec<Pair>,
@@ -34,8 +34,7 @@ fn list_from_end(
     Ok(())
 }
 
-/// How many rows there are at least for each level that better levels would spare, so that they
-/// are searched for.
+/// Fewer levels are searched for only where more than one level for so many rows might be spared.
 const ROWS_A_SPARE_LEVEL: usize = 32;
 
 /// Whether so many rows might do with so much fewer levels that it pays to search for them.
@@ -90,15 +89,15 @@ fn find_levels(
 }
 
 /// The levels of some rows, with the pairs of bodies that they were made of, and what is lent to
-/// find them. Where the pairs stay the same from one call to the next, better levels are searched
-/// for once.
+/// find them. Where the pairs stay the same from one call to the next, fewer levels are searched
+/// for once, if the levels have room for it.
 ///
 /// Contracts see the pairs, the levels as lists of places, and whether these are final.
 #[derive(Debug, Drop)]
 pub struct Levels {
     pairs: Vec<Pair>,
     levels: Vec<Level>,
-    /// Whether better levels were searched for.
+    /// Whether no fewer levels are searched for any more.
     are_final: bool,
     others: Vec<Level>,
     order: Vec<usize>,
@@ -136,9 +135,9 @@ impl Levels {
         }
     }
 
-    /// The levels of the rows of these pairs of so many bodies. Where the pairs are those of the
-    /// last call, fewer levels are searched for, once, and then the levels are kept; it can't fail
-    /// then. Out of memory there are no levels.
+    /// The levels of the rows of these pairs of so many bodies. Where the pairs are those that are
+    /// kept, fewer levels are searched for once, if that may pay, and then the levels are kept; it
+    /// can't fail then. Where they are others, out of memory there are no levels.
     pub fn update(&mut self, pairs: &[Pair], bodies: usize) -> Result<(), AllocError>
         requires { ArePairsOf bodies pairs.now }
         ensures pairs { OnOk result (self.new.pairs ≡ pairs.now) }
@@ -173,7 +172,8 @@ impl Levels {
         }
     }
 
-    /// Searches for fewer levels, if it was not done yet. Out of memory the levels stay.
+    /// Searches for fewer levels, if it was not tried yet and may pay. Out of memory the levels
+    /// stay, and it is not tried again.
     fn improve(&mut self, bodies: usize)
         requires { ArePairsOf bodies self.old.pairs }
         ensures pairs { self.new.pairs ≡ self.old.pairs }

@@ -50,7 +50,7 @@ pub record HasSmallSecondArm (p : Prepared) : Type 0 where
   pub rest : IsSmall p
   pub arm : IsSmallArm p.second_mass p.constraint.second_arm
 
--- which numbers of a row are small: all but the arms, all but the second, all but the first
+-- which numbers of a row are small: all but the arms, all but the second arm, all but the first arm
 pub record Sizes : Type 0 where
   pub is_small : Bool
   pub has_small_first_arm : Bool

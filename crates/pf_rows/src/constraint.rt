@@ -284,7 +284,7 @@ impl Prepared {
         }
     }
 
-    /// Finds which of its numbers are small, and keeps that, so that each round finds it here. No
+    /// Finds which of its numbers are small, and keeps that, so that no round has to find it. No
     /// clause says that it is kept: it changes no result, only time.
     #[inline]
     pub fn measure(&mut self)
