@@ -12,7 +12,7 @@ use Rattle.pf_shapes.specs.Scene.{Scene}
 use Rattle.pf_commands.specs.declared.payload.Payload.{Payload}
 use Rattle.pf_islands.specs.Sleep.{at_sleep, is_active, is_resting, bodies_after_sleep, woken_bodies, island_after_sleep}
 use Rattle.pf_islands.proofs.ActiveRows.{map_where}
-use Rattle.pf_islands.proofs.Members.{chosen_pass, range_within}
+use Rattle.pf_cache.proofs.ChosenNumbers.{chosen_pass, range_within}
 use Rattle.pf_islands.proofs.Starting.{groups_long}
 use Rattle.pf_solver.specs.declared.bodies.TheConstants.{STILL_TICKS}
 use Rattle.pf_solver.specs.Bodies.{after_motion, after_timer}

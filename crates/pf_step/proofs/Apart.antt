@@ -13,7 +13,8 @@ use Rattle.pf_islands.proofs.Together.{rows_are_active}
 use Rattle.pf_islands.proofs.Whole.{own_or_other}
 use Rattle.pf_islands.specs.Group.{groups}
 use Rattle.pf_islands.specs.Sleep.{woken_bodies}
-use Rattle.pf_islands.proofs.Members.{filter_rises, range_rises, range_within}
+use Rattle.pf_cache.proofs.ChosenNumbers.{range_within}
+use Rattle.pf_islands.proofs.Members.{filter_rises, range_rises}
 use Rattle.pf_islands.proofs.Starting.{groups_long}
 use Rattle.pf_solver.specs.Alone.{seen_from}
 use Rattle.pf_islands.specs.Island.{states_of, rows_among, IsOwnOrOther, members}

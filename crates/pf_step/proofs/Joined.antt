@@ -21,7 +21,7 @@ use Rattle.pf_islands.specs.Split.{AreWoken, IsActiveRow, Island, active_labels,
 use Rattle.pf_islands.proofs.ActiveRows.{rows_beside, rows_in_order}
 use Rattle.pf_islands.proofs.Elements.{zip_at}
 use Rattle.pf_islands.proofs.HomeAgain.{joined_contacts_are, joined_is}
-use Rattle.pf_islands.proofs.Members.{chosen_pass, range_within}
+use Rattle.pf_cache.proofs.ChosenNumbers.{chosen_pass, range_within}
 use Rattle.pf_islands.proofs.Starting.{groups_long, groups_named}
 use Rattle.pf_islands.proofs.Together.{groups_woken, name_of, rows_are_active, woken_at}
 use Rattle.pf_islands.proofs.Whole.{body_has_island, islands_at_contacts, islands_at_home, row_has_island, sides_awake}
