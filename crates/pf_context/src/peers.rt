@@ -1,11 +1,21 @@
 //! Peers that are made and freed.
 
+ghost use Rattle.std.specs.Prelude.{◌≡◌};
+ghost use Rattle.pf_context.specs.Errors.{table_error};
+
 use crate::context::Context;
 use crate::error::ContextError;
 use pf_rollback::{MAX_RING, PeerCore};
 use pf_shapes::PLAYERS;
-use pf_table::Key;
+use pf_table::{Key, Rejection};
 use std::alloc::Global;
+
+/// Why a table did not take a peer, which is dropped.
+fn error_of(rejection: Rejection<PeerCore>) -> ContextError
+    ensures { result ≡ table_error rejection.error }
+{
+    ContextError::from(rejection.error)
+}
 
 impl Context {
     ghost use Rattle.std.specs.Prelude.{◌≡◌, ◌↔◌, IsErrOf, None, Ok};
@@ -45,7 +55,7 @@ impl Context {
     {
         match self.peers.insert(core) {
             Ok(key) => Ok(key),
-            Err(rejection) => Err(ContextError::from(rejection.error)),
+            Err(rejection) => Err(error_of(rejection)),
         }
     }
 
