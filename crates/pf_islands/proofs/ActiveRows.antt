@@ -1,7 +1,7 @@
 -- The rows of a tick.
 use Rattle.std.proofs.Common.{◌≡◌, ⊎_elim, ℕ, suc, ◌+◌, ◌<◌, ◌≤◌, Bool, true, false, not, ◌&&◌, ◌||◌, List, [], ◌∷◌, ◌++◌, Some, length, map, filter, take, take_all, get_or, cond, refl, ap, ap₂, sym, ◌∙◌, subst, arith, eqb-true, slice_get, if◌then◌else◌}
 use Rattle.std.proofs.lemmas.Bool.{and_parts, cases_lt}
-use Rattle.std.proofs.lemmas.List.{get_or_read, length-map, map_more}
+use Rattle.std.proofs.lemmas.List.{get_or_read, length-map}
 use Rattle.std.proofs.lemmas.List.FromFn.{get_or-enumerate_from, get_or-map-range_with_len, length-enumerate_from, length-map-range_with_len}
 use Rattle.std.proofs.Math.ListN.{get_or-eq_default, get_or-map}
 use Rattle.std.proofs.lemmas.Simd.{map-map}
@@ -114,19 +114,6 @@ row_read s touches contacts place t c r same within t_is c_is r_is =
     let touch = get_or_read touches place t within t_is no_touch in
     let contact = get_or_read contacts place c (omega (arith, same, within)) c_is no_contact in
     r_is ∙ ap₂ (row_of s place) touch contact
-
--- the row of one place more
-pub row_more : (s : Scene) (touches : List Touch) (contacts : List Contact) (places : List ℕ) (k : ℕ) (t : Touch) (c : Contact)
-    (r : Row) (made now : List Row) → length contacts ≡ length touches → k < length places
-    → get_or places k 0 < length touches → t ≡ get_or touches (get_or places k 0) t
-    → c ≡ get_or contacts (get_or places k 0) c → r ≡ row_of s (get_or places k 0) t c
-    → made ≡ map (row_at s touches contacts) (take k places) → now ≡ made ++ r ∷ []
-    → now ≡ map (row_at s touches contacts) (take (k + 1) places)
-row_more s touches contacts places k t c r made now same inside within t_is c_is r_is made_is now_is =
-    now_is
-    ∙ ap₂ (λ rows x. rows ++ x ∷ []) made_is
-    (row_read s touches contacts (get_or places k 0) t c r same within t_is c_is r_is)
-    ∙ sym (map_more (row_at s touches contacts) places k 0 inside)
 
 module _ (s : Scene) (bodies : List BodyState) where
   -- what holds of the row of each contact point that is simulated holds of all rows

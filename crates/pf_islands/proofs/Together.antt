@@ -11,7 +11,7 @@ use Rattle.pf_shapes.specs.Scene.{Scene, is_static_at}
 use Rattle.pf_manifold.specs.Touches.{IsTouchOf, Touch}
 use Rattle.pf_rows.specs.declared.row.Side.TheVariants.{Static, Dynamic}
 use Rattle.pf_cache.specs.Contact.{Contact}
-use Rattle.pf_rows.specs.Row.{IsSide, Row}
+use Rattle.pf_rows.specs.Row.{IsSide}
 use Rattle.pf_islands.specs.Group.{group, groups}
 use Rattle.pf_islands.specs.Reach.{AreNeighbours, IsBetween, connects}
 use Rattle.pf_islands.specs.Rows.{active_points, active_rows, is_active_contact, is_awake_at, is_simulated_at, row_of, side_of}
@@ -151,14 +151,15 @@ module _ (s : Scene) (touches : List Touch) where
 
   -- the row that is read at a place of a contact that is simulated, where all rows are of these labels
   pub read_row_is_active : (bodies : List BodyState) (contacts : List Contact) (labels places : List ℕ) (k : ℕ)
-      (t : Touch) (c : Contact) (r : Row) → All (IsActiveRow labels bodies) (active_rows s bodies touches contacts)
+      (t : Touch) (c : Contact) → All (IsActiveRow labels bodies) (active_rows s bodies touches contacts)
       → length contacts ≡ length touches
       → places ≡ map (λ (m : ℕ × Touch). m.0) (active_points s bodies touches)
       → k < length places → t ≡ get_or touches (get_or places k 0) t → c ≡ get_or contacts (get_or places k 0) c
-      → r ≡ row_of s (get_or places k 0) t c
-      → IsActiveRow labels bodies r × (r ≡ row_at s touches contacts (get_or places k 0))
-  read_row_is_active bodies contacts labels places k t c r active same are within t_is c_is r_is =
+      → IsActiveRow labels bodies (row_of s (get_or places k 0) t c)
+      × (row_of s (get_or places k 0) t c ≡ row_at s touches contacts (get_or places k 0))
+  read_row_is_active bodies contacts labels places k t c active same are within t_is c_is =
       let inside = subst (All (λ place. place < length touches)) (sym are) (places_within s bodies touches contacts) in
-      let at = row_read s touches contacts (get_or places k 0) t c r same (inside k 0 within) t_is c_is r_is in
+      let r = row_of s (get_or places k 0) t c in
+      let at = row_read s touches contacts (get_or places k 0) t c r same (inside k 0 within) t_is c_is refl in
       let holds = row_holds s bodies touches contacts (IsActiveRow labels bodies) places k active are within in
       (subst (IsActiveRow labels bodies) (sym at) holds, at)

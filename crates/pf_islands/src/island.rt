@@ -3,7 +3,7 @@
 ghost use Rattle.std.specs.Prelude.{◌≡◌};
 
 use pf_bundles::Workspace;
-use pf_rows::Row;
+use pf_rows::{Entry, Row};
 use pf_shapes::BodyState;
 use smallvec::SmallVec;
 use std::alloc::{AllocError, Global};
@@ -42,6 +42,7 @@ impl Model for Island {
 
 impl Island {
     ghost use Rattle.std.specs.Prelude.{◌≡◌, ◌++◌, ◌∷◌, [], IsOk, OnOk};
+    ghost use Rattle.pf_rows.specs.Row.{new_row};
     ghost use Rattle.pf_islands.specs.Split.{no_island};
 
     /// Without bodies. Takes no memory.
@@ -95,12 +96,13 @@ impl Island {
         Ok(())
     }
 
-    /// Adds a contact. An error loses the contact.
+    /// Adds the row of an entry. An error loses the entry.
     #[inline]
-    pub(crate) fn add_row(&mut self, row: Row) -> Result<(), AllocError>
-        ensures { OnOk result (self.new ≡ record self.old { rows = self.old.rows ++ row ∷ [] }) }
+    pub(crate) fn add_row(&mut self, entry: Entry) -> Result<(), AllocError>
+        ensures { OnOk result (self.new
+            ≡ record self.old { rows = self.old.rows ++ new_row entry ∷ [] }) }
     {
-        self.rows.push(row)?;
+        self.rows.push(Row::new(entry))?;
         Ok(())
     }
 }

@@ -1,4 +1,4 @@
-//! The rows of a tick: the contacts that are simulated, as the solver takes them.
+//! Which bodies and contacts are simulated in a tick, and where bodies stand for the solver.
 
 ghost use Rattle.std.specs.Prelude.{◌≡◌, ◌+◌, ◌^◌, ◌<◌, ◌≤◌, ◌++◌, [], true, All, length, vec_capacity, vec_len, IfOk, IsOk, IsTrue};
 ghost use Rattle.std.specs.List.{list_all, range_with_len};
@@ -6,17 +6,18 @@ ghost use Rattle.pf_shapes.specs.Pair.{IsPairOf};
 ghost use Rattle.pf_manifold.specs.Touches.{IsTouchOf};
 ghost use Rattle.pf_cache.specs.Spans.{AreSpansOf};
 ghost use Rattle.pf_islands.specs.Flags.{awake_numbers, is_active_by, simulated_flags};
-ghost use Rattle.pf_islands.specs.Rows.{row_of, side_of};
+ghost use Rattle.pf_islands.specs.Rows.{side_of};
 ghost use Rattle.pf_islands.specs.Settled.{active_places, touches_at, wakes_none};
 
-use pf_cache::{Contact, Span};
+use pf_cache::Span;
 use pf_manifold::Touch;
-use pf_rows::{Entry, Row, Side};
+use pf_rows::Side;
 use pf_shapes::{BodyState, Pair, Scene};
 use std::alloc::{AllocError, Global};
 
 /// Where the body of a number stands for the solver.
-fn side_of(scene: &Scene, number: usize) -> Side
+#[inline]
+pub(crate) fn side_of(scene: &Scene, number: usize) -> Side
     requires { number < length scene.now.fixtures }
     ensures { result ≡ side_of scene.now number }
 {
@@ -26,21 +27,6 @@ fn side_of(scene: &Scene, number: usize) -> Side
     } else {
         Side::Dynamic(number)
     }
-}
-
-/// The row of a contact point and its contact, which stands at this place.
-#[tactic(auto, unfolding(crate::specs::Rows::row_of))]
-pub(crate) fn row_of(scene: &Scene, place: usize, touch: &Touch, contact: &Contact) -> Row
-    requires { IsTouchOf (length scene.now.fixtures) touch.now }
-    ensures { result ≡ row_of scene.now place touch.now contact.now }
-{
-    Row::new(Entry {
-        touch: *touch,
-        impulses: contact.impulses,
-        place,
-        first: side_of(scene, usize::from(touch.a)),
-        second: side_of(scene, usize::from(touch.b)),
-    })
 }
 
 /// For each body whether it is dynamic and awake, and the numbers of the awake ones, in ascending

@@ -3,12 +3,12 @@
 ghost use Rattle.std.specs.Prelude.{◌≡◌, ◌<◌, ◌≤◌, ◌==◌, ◌+◌, ◌++◌, ◌∷◌, ◌&&◌, [], false, All, IfOk, IsOk, OnOk, length, map, slice_index_or, slice_set, take};
 ghost use Rattle.std.specs.List.{range_with_len};
 ghost use Rattle.pf_shapes.specs.declared.scene.TheConstants.{MAX_BODIES};
-ghost use Rattle.pf_rows.specs.Row.{IsSide};
+ghost use Rattle.pf_rows.specs.Row.{IsSide, new_row};
 ghost use Rattle.pf_manifold.specs.Touches.{IsTouchOf};
 ghost use Rattle.pf_cache.specs.Spans.{AreSpansOf};
 ghost use Rattle.pf_islands.specs.Group.{groups as groups_of};
 ghost use Rattle.pf_islands.specs.Island.{members};
-ghost use Rattle.pf_islands.specs.Rows.{active_rows};
+ghost use Rattle.pf_islands.specs.Rows.{active_rows, row_of};
 ghost use Rattle.pf_islands.specs.Flags.{awake_numbers, simulated_flags};
 ghost use Rattle.pf_islands.specs.Settled.{AreSettled, active_places};
 ghost use Rattle.pf_islands.specs.Sleep.{woken_bodies};
@@ -19,11 +19,11 @@ use crate::forest::singles;
 use crate::groups::Groups;
 use crate::island::Island;
 use crate::marks::unmarked;
-use crate::rows::{Active, active_of, row_of, wake_none};
+use crate::rows::{Active, active_of, side_of, wake_none};
 use crate::sizes::{row_counts, zeros};
 use pf_cache::{Contact, Span};
 use pf_manifold::Touch;
-use pf_rows::{Row, Side};
+use pf_rows::{Entry, Impulses, Side};
 use pf_shapes::{BodyState, Scene};
 use std::alloc::{AllocError, Global};
 
@@ -103,15 +103,15 @@ fn add_body(
     Ok(place)
 }
 
-/// Adds a contact to the island at a place.
+/// Adds the row of an entry to the island at a place.
 #[inline]
-fn add_row(islands: &mut [Island], slot: usize, row: Row) -> Result<(), AllocError>
+fn add_row(islands: &mut [Island], slot: usize, entry: Entry) -> Result<(), AllocError>
     requires { slot < length islands.old }
     ensures { OnOk result (islands.new ≡ slice_set islands.old slot
-        (with_row row (slice_index_or islands.old slot no_island))) }
+        (with_row (new_row entry) (slice_index_or islands.old slot no_island))) }
 {
     let island = &mut islands[slot];
-    island.add_row(row)
+    island.add_row(entry)
 }
 
 /// Adds each awake body to the island of its group, and notes its place there. `numbers` are those
@@ -172,32 +172,52 @@ fn group_of_sides(labels: &[usize], first: Side, second: Side) -> usize
     }
 }
 
-/// Adds a contact to the island of its group.
+/// Adds the row of a contact point and its contact, which stands at this place, to the island of its
+/// group.
 #[inline]
+#[tactic(auto, unfolding(crate::specs::Rows::row_of))]
 fn deal_row(
     islands: &mut [Island],
     slots: &[u16],
     places: &[u16],
     labels: &[usize],
-    row: Row,
+    scene: &Scene,
+    place: usize,
+    touch: &Touch,
+    contact: &Contact,
 ) -> Result<(), AllocError>
-    requires first { IsSide (length labels.now) row.entry.first }
-    requires second { IsSide (length labels.now) row.entry.second }
+    requires touch { IsTouchOf (length scene.now.fixtures) touch.now }
+    requires first { let row = row_of scene.now place touch.now contact.now in
+        IsSide (length labels.now) row.entry.first }
+    requires second { let row = row_of scene.now place touch.now contact.now in
+        IsSide (length labels.now) row.entry.second }
     requires slots { length slots.now ≡ length labels.now }
     requires places { length places.now ≡ length labels.now }
-    requires group { group_of_row labels.now row < length labels.now }
-    requires slot { slice_index_or slots.now (group_of_row labels.now row) 0 < length islands.old }
+    requires group { let row = row_of scene.now place touch.now contact.now in
+        group_of_row labels.now row < length labels.now }
+    requires slot { let row = row_of scene.now place touch.now contact.now in
+        slice_index_or slots.now (group_of_row labels.now row) 0 < length islands.old }
     ensures { OnOk result (
+        let row = row_of scene.now place touch.now contact.now in
         let slot = slice_index_or slots.now (group_of_row labels.now row) 0 in
         islands.new ≡ slice_set islands.old slot
         (with_row (placed_row places.now row) (slice_index_or islands.old slot no_island))) }
 {
-    let entry = row.entry;
-    let slot = usize::from(slots[group_of_sides(labels, entry.first, entry.second)]);
-    let mut row = row;
-    row.entry.first = placed_side(places, entry.first);
-    row.entry.second = placed_side(places, entry.second);
-    add_row(islands, slot, row)
+    let first = side_of(scene, usize::from(touch.a));
+    let second = side_of(scene, usize::from(touch.b));
+    let slot = usize::from(slots[group_of_sides(labels, first, second)]);
+    let entry = Entry {
+        touch: *touch,
+        // Field by field: the compiler then makes the entry where the row is stored.
+        impulses: Impulses {
+            normal: contact.impulses.normal,
+            tangent: contact.impulses.tangent,
+        },
+        place,
+        first: placed_side(places, first),
+        second: placed_side(places, second),
+    };
+    add_row(islands, slot, entry)
 }
 
 /// The islands of groups that are awake as wholes, made in the memory of the spare ones.
@@ -235,8 +255,16 @@ fn split(
     deal_bodies(&mut made, &mut places, &slots, labels, numbers, bodies)?;
     for place in active_places {
         let place = *place;
-        let row = row_of(scene, place, &touches[place], &contacts[place]);
-        deal_row(&mut made, &slots, &places, labels, row)?;
+        deal_row(
+            &mut made,
+            &slots,
+            &places,
+            labels,
+            scene,
+            place,
+            &touches[place],
+            &contacts[place],
+        )?;
     }
     Ok(made)
 }

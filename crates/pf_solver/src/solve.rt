@@ -89,7 +89,7 @@ fn fall_if_awake(pull: V2, body: &mut BodyState)
     ensures { body.new ≡ (if body.old.awake then after_gravity pull body.old else body.old) }
 {
     if body.awake {
-        *body = after_gravity(pull, *body);
+        body.velocity = body.velocity.add(pull);
     }
 }
 

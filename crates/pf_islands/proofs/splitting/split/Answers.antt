@@ -5,7 +5,7 @@ use Rattle.std.proofs.lemmas.List.FromFn.{length-map-range_with_len}
 use Rattle.pf_manifold.specs.Touches.{IsTouchOf}
 use Rattle.pf_rows.specs.Row.{Row}
 use Rattle.pf_islands.specs.Dealing.{ArePlaces, group_of_row, placed_row, with_row}
-use Rattle.pf_islands.specs.Rows.{active_rows, is_simulated_at}
+use Rattle.pf_islands.specs.Rows.{active_rows, is_simulated_at, row_of}
 use Rattle.pf_islands.specs.Split.{IsIslandOf, active_labels, no_island}
 use Rattle.pf_islands.proofs.ActiveRows.{all_made, row_at, rows_fit}
 use Rattle.pf_islands.proofs.Dealing.{full_part, group_active, row_dealt, slot_within}
@@ -62,9 +62,8 @@ deal_row-requires-clause-first c =
     let active = labels_rows c.args.scene.now bodies c.args.touches.now c.requires.bodies c.requires.settled labels items
     (c.as_slice-active_places.ensures.value ∙ c.requires.active) labelled_by c.args.contacts.now c.requires.touches in
     let read = read_row_is_active c.args.scene.now c.args.touches.now bodies c.args.contacts.now labels items
-    c.loop-place.place-index c.index-touches-place.result c.index-contacts-place.result c.row_of-row.result
-    active c.requires.contacts (c.as_slice-active_places.ensures.value ∙ c.requires.active) c.loop-place-test.true c.index-touches-place.is c.index-contacts-place.is
-    c.row_of-row.ensures in
+    c.loop-place.place-index c.index-touches-place.result c.index-contacts-place.result
+    active c.requires.contacts (c.as_slice-active_places.ensures.value ∙ c.requires.active) c.loop-place-test.true c.index-touches-place.is c.index-contacts-place.is in
     read.0.first
 
 pub deal_row-requires-clause-second : goal.deal_row-requires-clause-second
@@ -76,9 +75,8 @@ deal_row-requires-clause-second c =
     let active = labels_rows c.args.scene.now bodies c.args.touches.now c.requires.bodies c.requires.settled labels items
     (c.as_slice-active_places.ensures.value ∙ c.requires.active) labelled_by c.args.contacts.now c.requires.touches in
     let read = read_row_is_active c.args.scene.now c.args.touches.now bodies c.args.contacts.now labels items
-    c.loop-place.place-index c.index-touches-place.result c.index-contacts-place.result c.row_of-row.result
-    active c.requires.contacts (c.as_slice-active_places.ensures.value ∙ c.requires.active) c.loop-place-test.true c.index-touches-place.is c.index-contacts-place.is
-    c.row_of-row.ensures in
+    c.loop-place.place-index c.index-touches-place.result c.index-contacts-place.result
+    active c.requires.contacts (c.as_slice-active_places.ensures.value ∙ c.requires.active) c.loop-place-test.true c.index-touches-place.is c.index-contacts-place.is in
     read.0.second
 
 pub deal_row-requires-clause-slots : goal.deal_row-requires-clause-slots
@@ -93,14 +91,14 @@ deal_row-requires-clause-group c =
     let active = labels_rows c.args.scene.now bodies c.args.touches.now c.requires.bodies c.requires.settled labels items
     (c.as_slice-active_places.ensures.value ∙ c.requires.active) labelled_by c.args.contacts.now c.requires.touches in
     let read = read_row_is_active c.args.scene.now c.args.touches.now bodies c.args.contacts.now labels items
-    c.loop-place.place-index c.index-touches-place.result c.index-contacts-place.result c.row_of-row.result
-    active c.requires.contacts (c.as_slice-active_places.ensures.value ∙ c.requires.active) c.loop-place-test.true c.index-touches-place.is c.index-contacts-place.is
-    c.row_of-row.ensures in
+    c.loop-place.place-index c.index-touches-place.result c.index-contacts-place.result
+    active c.requires.contacts (c.as_slice-active_places.ensures.value ∙ c.requires.active) c.loop-place-test.true c.index-touches-place.is c.index-contacts-place.is in
     let labelled = labels_low c.args.scene.now bodies c.args.touches.now c.requires.bodies c.requires.settled labels items
     (c.as_slice-active_places.ensures.value ∙ c.requires.active) labelled_by in
     let woken_bodies = labels_woken c.args.scene.now bodies c.args.touches.now c.requires.bodies c.requires.settled labels items
     (c.as_slice-active_places.ensures.value ∙ c.requires.active) labelled_by in
-    let own = group_active labels bodies c.row_of-row.result labelled woken_bodies read.0 in
+    let row = row_of c.args.scene.now (get_or items c.loop-place.place-index 0) c.index-touches-place.result c.index-contacts-place.result in
+    let own = group_active labels bodies row labelled woken_bodies read.0 in
     own.0
 
 pub deal_row-requires-clause-slot : goal.deal_row-requires-clause-slot
@@ -112,15 +110,15 @@ deal_row-requires-clause-slot c =
     let active = labels_rows c.args.scene.now bodies c.args.touches.now c.requires.bodies c.requires.settled labels items
     (c.as_slice-active_places.ensures.value ∙ c.requires.active) labelled_by c.args.contacts.now c.requires.touches in
     let read = read_row_is_active c.args.scene.now c.args.touches.now bodies c.args.contacts.now labels items
-    c.loop-place.place-index c.index-touches-place.result c.index-contacts-place.result c.row_of-row.result
-    active c.requires.contacts (c.as_slice-active_places.ensures.value ∙ c.requires.active) c.loop-place-test.true c.index-touches-place.is c.index-contacts-place.is
-    c.row_of-row.ensures in
+    c.loop-place.place-index c.index-touches-place.result c.index-contacts-place.result
+    active c.requires.contacts (c.as_slice-active_places.ensures.value ∙ c.requires.active) c.loop-place-test.true c.index-touches-place.is c.index-contacts-place.is in
     let labelled = labels_low c.args.scene.now bodies c.args.touches.now c.requires.bodies c.requires.settled labels items
     (c.as_slice-active_places.ensures.value ∙ c.requires.active) labelled_by in
     let woken_bodies = labels_woken c.args.scene.now bodies c.args.touches.now c.requires.bodies c.requires.settled labels items
     (c.as_slice-active_places.ensures.value ∙ c.requires.active) labelled_by in
-    let own = group_active labels bodies c.row_of-row.result labelled woken_bodies read.0 in
-    let label = group_of_row labels c.row_of-row.result in
+    let row = row_of c.args.scene.now (get_or items c.loop-place.place-index 0) c.index-touches-place.result c.index-contacts-place.result in
+    let own = group_active labels bodies row labelled woken_bodies read.0 in
+    let label = group_of_row labels row in
     let slot = ap (λ xs. get_or xs label 0) c.deref-in-loop-place.ensures.value
     ∙ c.in_ok-made.ensures.slots label own.0 own.1 in
     let rows : List Row = map (row_at c.args.scene.now c.args.touches.now c.args.contacts.now) (take c.loop-place.place-index items) in
@@ -137,18 +135,17 @@ loop-place-preserved c =
     let active = labels_rows c.args.scene.now bodies c.args.touches.now c.requires.bodies c.requires.settled labels items
     (c.as_slice-active_places.ensures.value ∙ c.requires.active) labelled_by c.args.contacts.now c.requires.touches in
     let read = read_row_is_active c.args.scene.now c.args.touches.now bodies c.args.contacts.now labels items
-    c.loop-place.place-index c.index-touches-place.result c.index-contacts-place.result c.row_of-row.result
-    active c.requires.contacts (c.as_slice-active_places.ensures.value ∙ c.requires.active) c.loop-place-test.true c.index-touches-place.is c.index-contacts-place.is
-    c.row_of-row.ensures in
+    c.loop-place.place-index c.index-touches-place.result c.index-contacts-place.result
+    active c.requires.contacts (c.as_slice-active_places.ensures.value ∙ c.requires.active) c.loop-place-test.true c.index-touches-place.is c.index-contacts-place.is in
     let labelled = labels_low c.args.scene.now bodies c.args.touches.now c.requires.bodies c.requires.settled labels items
     (c.as_slice-active_places.ensures.value ∙ c.requires.active) labelled_by in
     let woken_bodies = labels_woken c.args.scene.now bodies c.args.touches.now c.requires.bodies c.requires.settled labels items
     (c.as_slice-active_places.ensures.value ∙ c.requires.active) labelled_by in
-    let own = group_active labels bodies c.row_of-row.result labelled woken_bodies read.0 in
-    let label = group_of_row labels c.row_of-row.result in
+    let row = row_of c.args.scene.now (get_or items c.loop-place.place-index 0) c.index-touches-place.result c.index-contacts-place.result in
+    let own = group_active labels bodies row labelled woken_bodies read.0 in
+    let label = group_of_row labels row in
     let slot = ap (λ xs. get_or xs label 0) c.deref-in-loop-place.ensures.value
     ∙ c.in_ok-made.ensures.slots label own.0 own.1 in
-    let row = c.row_of-row.result in
     let at = row_at c.args.scene.now c.args.touches.now c.args.contacts.now in
     let k = c.loop-place.place-index in
     let now = c.deref_mut-in-loop-place.result.now in
