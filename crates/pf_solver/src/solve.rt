@@ -85,6 +85,7 @@ fn prepare_all(scene: &Scene, bodies: &[BodyState], rows: &mut [Row])
 
 /// Gravity on a body, if it is awake.
 #[inline]
+#[tactic(auto, unfolding(crate::specs::Bodies::after_gravity))]
 fn fall_if_awake(pull: V2, body: &mut BodyState)
     ensures { body.new ≡ (if body.old.awake then after_gravity pull body.old else body.old) }
 {
