@@ -4,7 +4,7 @@ use Rattle.std.specs.List.{range_with_len}
 use Rattle.pf_shapes.specs.Body.{BodyState}
 use Rattle.pf_rows.specs.declared.row.Side.{Side}
 use Rattle.pf_rows.specs.declared.row.Side.TheVariants.{Static, Dynamic}
-use Rattle.pf_rows.specs.Row.{Row}
+use Rattle.pf_rows.specs.Row.{IsSide, Row}
 use Rattle.pf_islands.specs.Island.{members, place_of}
 use Rattle.pf_islands.specs.Rows.{is_awake_at}
 use Rattle.pf_islands.specs.Split.{Island, is_active_label}
@@ -39,6 +39,13 @@ group_of_sides labels Static Static = 0
 
 abbrev pub group_of_row : List ℕ → Row → ℕ
 group_of_row labels r = group_of_sides labels r.entry.first r.entry.second
+
+-- a contact of bodies that have labels, whose group has its island at a place below `islands`
+pub record HasIsland (labels slots : List ℕ) (islands : ℕ) (r : Row) : Type 0 where
+  pub first : IsSide (length labels) r.entry.first
+  pub second : IsSide (length labels) r.entry.second
+  pub group : group_of_row labels r < length labels
+  pub slot : slice_index_or slots (group_of_row labels r) 0 < islands
 
 -- the side of a body, by its place in place of its number
 abbrev pub placed_side : List ℕ → Side → Side

@@ -13,7 +13,7 @@ ghost use Rattle.pf_islands.specs.Flags.{awake_numbers, simulated_flags};
 ghost use Rattle.pf_islands.specs.Settled.{AreSettled, active_places};
 ghost use Rattle.pf_islands.specs.Sleep.{woken_bodies};
 ghost use Rattle.pf_islands.specs.Split.{AreWoken, IsIslandOf, active_labels, is_active_label, island_of, islands, no_island};
-ghost use Rattle.pf_islands.specs.Dealing.{ArePlaces, AreSlots, group_of_row, group_of_sides, placed_row, placed_side, slot_of, with_body, with_row};
+ghost use Rattle.pf_islands.specs.Dealing.{ArePlaces, AreSlots, HasIsland, group_of_row, group_of_sides, placed_row, placed_side, slot_of, with_body, with_row};
 
 use crate::forest::singles;
 use crate::groups::Groups;
@@ -187,16 +187,10 @@ fn deal_row(
     contact: &Contact,
 ) -> Result<(), AllocError>
     requires touch { IsTouchOf (length scene.now.fixtures) touch.now }
-    requires first { let row = row_of scene.now place touch.now contact.now in
-        IsSide (length labels.now) row.entry.first }
-    requires second { let row = row_of scene.now place touch.now contact.now in
-        IsSide (length labels.now) row.entry.second }
     requires slots { length slots.now ≡ length labels.now }
     requires places { length places.now ≡ length labels.now }
-    requires group { let row = row_of scene.now place touch.now contact.now in
-        group_of_row labels.now row < length labels.now }
-    requires slot { let row = row_of scene.now place touch.now contact.now in
-        slice_index_or slots.now (group_of_row labels.now row) 0 < length islands.old }
+    requires island { HasIsland labels.now slots.now (length islands.old)
+        (row_of scene.now place touch.now contact.now) }
     ensures { OnOk result (
         let row = row_of scene.now place touch.now contact.now in
         let slot = slice_index_or slots.now (group_of_row labels.now row) 0 in

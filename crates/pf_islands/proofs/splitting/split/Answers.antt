@@ -53,56 +53,11 @@ loop-place-init c =
     with_items_is c.in_ok-made.made c.deal_bodies.new.islands (c.deal_bodies.auto.islands ∙ c.deref_mut.ensures.len)
     ∙ c.in_ok-deal_bodies.ensures.islands
 
-pub deal_row-requires-clause-first : goal.deal_row-requires-clause-first
-deal_row-requires-clause-first c =
-    let labels = c.labels-labels.result.now in
-    let bodies = c.args.bodies.now in
-    let items = c.as_slice-active_places.result.now in
-    let labelled_by = c.labels-labels.ensures.value ∙ c.in_ok-groups.ensures.value in
-    let active = labels_rows c.args.scene.now bodies c.args.touches.now c.requires.bodies c.requires.settled labels items
-    (c.as_slice-active_places.ensures.value ∙ c.requires.active) labelled_by c.args.contacts.now c.requires.touches in
-    let read = read_row_is_active c.args.scene.now c.args.touches.now bodies c.args.contacts.now labels items
-    c.loop-place.place-index c.index-touches-place.result c.index-contacts-place.result
-    active c.requires.contacts (c.as_slice-active_places.ensures.value ∙ c.requires.active) c.loop-place-test.true c.index-touches-place.is c.index-contacts-place.is in
-    read.0.first
-
-pub deal_row-requires-clause-second : goal.deal_row-requires-clause-second
-deal_row-requires-clause-second c =
-    let labels = c.labels-labels.result.now in
-    let bodies = c.args.bodies.now in
-    let items = c.as_slice-active_places.result.now in
-    let labelled_by = c.labels-labels.ensures.value ∙ c.in_ok-groups.ensures.value in
-    let active = labels_rows c.args.scene.now bodies c.args.touches.now c.requires.bodies c.requires.settled labels items
-    (c.as_slice-active_places.ensures.value ∙ c.requires.active) labelled_by c.args.contacts.now c.requires.touches in
-    let read = read_row_is_active c.args.scene.now c.args.touches.now bodies c.args.contacts.now labels items
-    c.loop-place.place-index c.index-touches-place.result c.index-contacts-place.result
-    active c.requires.contacts (c.as_slice-active_places.ensures.value ∙ c.requires.active) c.loop-place-test.true c.index-touches-place.is c.index-contacts-place.is in
-    read.0.second
-
 pub deal_row-requires-clause-slots : goal.deal_row-requires-clause-slots
 deal_row-requires-clause-slots c = ap length c.deref-in-loop-place.ensures.value ∙ c.in_ok-made.ensures.as_many
 
-pub deal_row-requires-clause-group : goal.deal_row-requires-clause-group
-deal_row-requires-clause-group c =
-    let labels = c.labels-labels.result.now in
-    let bodies = c.args.bodies.now in
-    let items = c.as_slice-active_places.result.now in
-    let labelled_by = c.labels-labels.ensures.value ∙ c.in_ok-groups.ensures.value in
-    let active = labels_rows c.args.scene.now bodies c.args.touches.now c.requires.bodies c.requires.settled labels items
-    (c.as_slice-active_places.ensures.value ∙ c.requires.active) labelled_by c.args.contacts.now c.requires.touches in
-    let read = read_row_is_active c.args.scene.now c.args.touches.now bodies c.args.contacts.now labels items
-    c.loop-place.place-index c.index-touches-place.result c.index-contacts-place.result
-    active c.requires.contacts (c.as_slice-active_places.ensures.value ∙ c.requires.active) c.loop-place-test.true c.index-touches-place.is c.index-contacts-place.is in
-    let labelled = labels_low c.args.scene.now bodies c.args.touches.now c.requires.bodies c.requires.settled labels items
-    (c.as_slice-active_places.ensures.value ∙ c.requires.active) labelled_by in
-    let woken_bodies = labels_woken c.args.scene.now bodies c.args.touches.now c.requires.bodies c.requires.settled labels items
-    (c.as_slice-active_places.ensures.value ∙ c.requires.active) labelled_by in
-    let row = row_of c.args.scene.now (get_or items c.loop-place.place-index 0) c.index-touches-place.result c.index-contacts-place.result in
-    let own = group_active labels bodies row labelled woken_bodies read.0 in
-    own.0
-
-pub deal_row-requires-clause-slot : goal.deal_row-requires-clause-slot
-deal_row-requires-clause-slot c =
+pub deal_row-requires-clause-island : goal.deal_row-requires-clause-island
+deal_row-requires-clause-island c =
     let labels = c.labels-labels.result.now in
     let bodies = c.args.bodies.now in
     let items = c.as_slice-active_places.result.now in
@@ -124,7 +79,7 @@ deal_row-requires-clause-slot c =
     let rows : List Row = map (row_at c.args.scene.now c.args.touches.now c.args.contacts.now) (take c.loop-place.place-index items) in
     let within = slot_within labels bodies (full_part labels bodies rows) label own.0 own.1 in
     let lent = ap length (c.deref_mut-in-loop-place.ensures.value ∙ c.loop-place.invariant) in
-    omega (arith, slot, within, lent)
+    record { first = read.0.first; second = read.0.second; group = own.0; slot = omega (arith, slot, within, lent) }
 
 pub loop-place-preserved : goal.loop-place-preserved
 loop-place-preserved c =
