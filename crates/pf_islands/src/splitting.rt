@@ -172,8 +172,8 @@ fn group_of_sides(labels: &[usize], first: Side, second: Side) -> usize
     }
 }
 
-/// Adds the row of a contact point and its contact, which stands at this place, to the island of its
-/// group.
+/// Adds the row of a contact point and of its contact, which stands at this place, to the island of
+/// its group. Impulses are copied by field, so that the compiler makes the row where it is stored.
 #[inline]
 #[tactic(auto, unfolding(crate::specs::Rows::row_of))]
 fn deal_row(
@@ -202,7 +202,6 @@ fn deal_row(
     let slot = usize::from(slots[group_of_sides(labels, first, second)]);
     let entry = Entry {
         touch: *touch,
-        // Field by field: the compiler then makes the entry where the row is stored.
         impulses: Impulses {
             normal: contact.impulses.normal,
             tangent: contact.impulses.tangent,
