@@ -29,8 +29,8 @@ pub record IsReady (c : Constraint) (m : ContactState) : Type 0 where
   pub first : HasShortProducts (unsigned_abs m.first.spin) c.first_arm
   pub second : HasShortProducts (unsigned_abs m.second.spin) c.second_arm
 
--- what an impulse does to a body of this mass at this arm is exact: how it turns the body, and how it
--- changes its velocity and its spin
+-- what an impulse does to a body of this mass at this arm is exact: how it turns the body, and how
+-- it changes its velocity and its spin
 pub record IsExactOn (m : InverseMass) (arm impulse : V2) : Type 0 where
   pub moment_x : HasShortProducts (unsigned_abs impulse.x) arm
   pub moment_y : HasShortProducts (unsigned_abs impulse.y) arm

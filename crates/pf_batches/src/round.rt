@@ -20,8 +20,8 @@ use pf_bundles::limits::{LANE_DIRECTION_LIMIT, LANE_LIMIT, NUMBER_LIMIT, PRODUCT
 use pf_bundles::{PreparedLanes, ScaledVectors};
 use pf_lanes::Lanes;
 
-/// What the step adds to the accumulated normal impulses, or `None` where a number is above a limit.
-/// A sum that would be below 0 becomes 0: at least the opposite of the old impulse is added.
+/// What the step adds to the accumulated normal impulses, or `None` where a number is above a
+/// limit. A sum that would be below 0 becomes 0: at least the opposite of the old impulse is added.
 #[inline(always)]
 #[tactic(auto, unfolding(pf_solver::specs::Impulse::normal_impulse), using(crate::proofs::Sums::lacking, crate::proofs::Additions::normal_added, crate::proofs::Additions::normal_total, crate::proofs::Additions::normal_size))]
 fn normal_pushes(prepared: &PreparedLanes, state: &ContactLanes) -> Option<Lanes>
@@ -29,7 +29,8 @@ fn normal_pushes(prepared: &PreparedLanes, state: &ContactLanes) -> Option<Lanes
         → IsReady (constraint_in k prepared.now.constraint) (state_in k prepared.now state.now) }
     requires numbers { (k : Lane) → AreWithin NUMBER_LIMIT (state_in k prepared.now state.now) }
     ensures added { IfSome result (λ added. (k : Lane) → number_in k added ≡ difference
-        (normal_impulse (constraint_in k prepared.now.constraint) (state_in k prepared.now state.now))
+        (normal_impulse (constraint_in k prepared.now.constraint)
+        (state_in k prepared.now state.now))
         (number_in k state.now.normal)) }
     ensures total { IfSome result
         (λ added. (k : Lane) → sum (number_in k state.now.normal) (number_in k added)
@@ -149,7 +150,8 @@ fn after_normal_step(prepared: &PreparedLanes, state: &ContactLanes) -> Option<C
     Some(after.with_normal(normal))
 }
 
-/// What the step adds to the accumulated tangent impulses, or `None` where a number is above a limit.
+/// What the step adds to the accumulated tangent impulses, or `None` where a number is above a
+/// limit.
 #[inline(always)]
 #[tactic(auto, unfolding(pf_solver::specs::Impulse::tangent_impulse, pf_solver::specs::Impulse::friction_limit), using(crate::proofs::Additions::opposite_product, crate::proofs::Additions::tangent_added, crate::proofs::Additions::tangent_total, crate::proofs::Additions::tangent_size))]
 fn tangent_pushes(prepared: &PreparedLanes, state: &ContactLanes) -> Option<Lanes>

@@ -11,8 +11,8 @@ refusal_kind (refusals.TooOld tick) = refusals.TooOld 0
 refusal_kind (refusals.HorizonsDiffer own other) = refusals.HorizonsDiffer 0 0
 refusal_kind refusal = refusal
 
--- why a call of a context failed, with each number 0. What is wrong with a line of a scene's text is
--- wrong with the scene, and a buffer is small for frames as for a world.
+-- why a call of a context failed, with each number 0. What is wrong with a line of a scene's text
+-- is wrong with the scene, and a buffer is small for frames as for a world.
 abbrev pub error_kind : ContextError → ContextError
 error_kind (errors.Line number fault) = errors.Scene fault
 error_kind (errors.SmallBuffer count) = errors.SmallBuffer 0

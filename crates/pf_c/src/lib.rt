@@ -1,5 +1,5 @@
-//! A context behind a C interface: each export makes one call of `pf_context`. C holds the context as
-//! a flag and a pointer. Each export calls it (`held.rt`), writes its outputs and returns
+//! A context behind a C interface: each export makes one call of `pf_context`. C holds the context
+//! as a flag and a pointer. Each export calls it (`held.rt`), writes its outputs and returns
 //! a code (`answers.rt`).
 //!
 //! No export trusts what C passes but this: the pointers are live, aligned, not null and do not

@@ -103,8 +103,8 @@ abbrev pub kept_world : Scene → CommandMap → Snapshots → ℕ → World
 kept_world scene commands s tick = sim_at scene s.base s.horizon commands tick
 
 -- there is a keyframe at each multiple after the horizon up to the settled tick; the recent worlds
--- are of the ticks up to it; the settled world may stand apart where it is recent, and does where it
--- is neither a keyframe nor that of the horizon; and no two worlds are kept at one tick
+-- are of the ticks up to it; the settled world may stand apart where it is recent, and does where
+-- it is neither a keyframe nor that of the horizon; and no two worlds are kept at one tick
 pub record IsSnapshots (s : Snapshots) : Type 0 where
   pub base : s.horizon ≤ s.settled
   pub keyframes : length s.keyframes + s.horizon / KEYFRAME_INTERVAL

@@ -1,6 +1,6 @@
-//! The fast path of the pre-step, of warm starting and of rounds: the general path's results without
-//! overflow tests of each sum and product. Each function returns `None` where a number is above a
-//! limit of `pf_rows::limits`.
+//! The fast path of the pre-step, of warm starting and of rounds: the general path's results
+//! without overflow tests of each sum and product. Each function returns `None` where a number is
+//! above a limit of `pf_rows::limits`.
 
 ghost use Rattle.std.specs.Prelude.{◌≡◌, ◌≤◌, ◌<◌, ◌^◌, IfSome, IsTrue};
 ghost use Rattle.std.specs.Int.RustNames.{unsigned_abs};

@@ -52,9 +52,9 @@ pub fn levels_are_solved_at_once()
         → solved_at_once level step b ≡ solved_in level step b }
 {}
 
-/// Passes level by level, each level at once, are passes along the list, bit for bit: where all rows
-/// are in a level, no two of a level have a dynamic body in common, and of two rows of one body the
-/// one that comes first in the list is in the level that comes first (level scheduling of
+/// Passes level by level, each level at once, are passes along the list, bit for bit: where all
+/// rows are in a level, no two of a level have a dynamic body in common, and of two rows of one
+/// body the one that comes first in the list is in the level that comes first (level scheduling of
 /// Gauss-Seidel; Box2D 3.x colours its contacts, and does not keep their order).
 pub fn levels_are_solved_as_the_list()
     ensures { (n : ℕ) (step : Step) (b : Batch) (levels : List (List ℕ)) → AreLevelsOf b levels

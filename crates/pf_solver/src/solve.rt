@@ -161,8 +161,8 @@ pub fn solve_untouched(scene: &Scene, bodies: &mut [BodyState])
     }
 }
 
-/// Gravity on the awake bodies, and the pre-step of all rows. All of a row but its entry is computed
-/// anew. Takes no memory.
+/// Gravity on the awake bodies, and the pre-step of all rows. All of a row but its entry is
+/// computed anew. Takes no memory.
 #[inline(never)]
 #[tactic(auto, unfolding(crate::specs::Solve::prepared_batch))]
 pub(crate) fn prepare_list(scene: &Scene, bodies: &mut [BodyState], rows: &mut [Row])
@@ -192,8 +192,8 @@ fn measure_all(rows: &mut [Row])
     }
 }
 
-/// Velocities of all bodies that rows name, in the order of the rows: warm starting, and the rounds.
-/// Takes no memory.
+/// Velocities of all bodies that rows name, in the order of the rows: warm starting, and the
+/// rounds. Takes no memory.
 #[inline(never)]
 pub(crate) fn solve_list(bodies: &mut [BodyState], rows: &mut [Row])
     requires { All (λ r. IsEntryOf (length bodies.old) r.entry) rows.old }
