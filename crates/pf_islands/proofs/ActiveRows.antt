@@ -106,14 +106,14 @@ abbrev pub row_at : Scene → List Touch → List Contact → ℕ → Row
 row_at s touches contacts place =
     row_of s place (get_or touches place no_touch) (get_or contacts place no_contact)
 
--- the row of a contact that is read at its place
-pub row_read : (s : Scene) (touches : List Touch) (contacts : List Contact) (place : ℕ) (t : Touch) (c : Contact) (r : Row)
+-- the row of a contact point and a contact that are read at a place
+pub row_read : (s : Scene) (touches : List Touch) (contacts : List Contact) (place : ℕ) (t : Touch) (c : Contact)
     → length contacts ≡ length touches → place < length touches → t ≡ get_or touches place t
-    → c ≡ get_or contacts place c → r ≡ row_of s place t c → r ≡ row_at s touches contacts place
-row_read s touches contacts place t c r same within t_is c_is r_is =
+    → c ≡ get_or contacts place c → row_of s place t c ≡ row_at s touches contacts place
+row_read s touches contacts place t c same within t_is c_is =
     let touch = get_or_read touches place t within t_is no_touch in
     let contact = get_or_read contacts place c (omega (arith, same, within)) c_is no_contact in
-    r_is ∙ ap₂ (row_of s place) touch contact
+    ap₂ (row_of s place) touch contact
 
 module _ (s : Scene) (bodies : List BodyState) where
   -- what holds of the row of each contact point that is simulated holds of all rows

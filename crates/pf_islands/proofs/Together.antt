@@ -149,7 +149,8 @@ module _ (s : Scene) (touches : List Touch) where
         together = together k t (slice_get-get_or touches k d within) first second;
       })
 
-  -- the row that is read at a place of a contact that is simulated, where all rows are of these labels
+  -- the row of a contact point and a contact that are read at a place of a contact that is simulated,
+  -- where all rows are of these labels
   pub read_row_is_active : (bodies : List BodyState) (contacts : List Contact) (labels places : List ℕ) (k : ℕ)
       (t : Touch) (c : Contact) → All (IsActiveRow labels bodies) (active_rows s bodies touches contacts)
       → length contacts ≡ length touches
@@ -159,7 +160,6 @@ module _ (s : Scene) (touches : List Touch) where
       × (row_of s (get_or places k 0) t c ≡ row_at s touches contacts (get_or places k 0))
   read_row_is_active bodies contacts labels places k t c active same are within t_is c_is =
       let inside = subst (All (λ place. place < length touches)) (sym are) (places_within s bodies touches contacts) in
-      let r = row_of s (get_or places k 0) t c in
-      let at = row_read s touches contacts (get_or places k 0) t c r same (inside k 0 within) t_is c_is refl in
+      let at = row_read s touches contacts (get_or places k 0) t c same (inside k 0 within) t_is c_is in
       let holds = row_holds s bodies touches contacts (IsActiveRow labels bodies) places k active are within in
       (subst (IsActiveRow labels bodies) (sym at) holds, at)

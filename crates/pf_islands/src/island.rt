@@ -96,7 +96,7 @@ impl Island {
         Ok(())
     }
 
-    /// Adds the row of an entry. An error loses the entry.
+    /// Adds the row of an entry.
     #[inline]
     pub(crate) fn add_row(&mut self, entry: Entry) -> Result<(), AllocError>
         ensures { OnOk result (self.new

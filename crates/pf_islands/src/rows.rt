@@ -1,4 +1,5 @@
-//! Which bodies and contacts are simulated in a tick, and where bodies stand for the solver.
+//! What is simulated in a tick: which bodies and contacts, whether a contact wakes a body, and on
+//! which side of a row each body stands for the solver.
 
 ghost use Rattle.std.specs.Prelude.{◌≡◌, ◌+◌, ◌^◌, ◌<◌, ◌≤◌, ◌++◌, [], true, All, length, vec_capacity, vec_len, IfOk, IsOk, IsTrue};
 ghost use Rattle.std.specs.List.{list_all, range_with_len};

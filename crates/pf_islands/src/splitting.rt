@@ -172,8 +172,9 @@ fn group_of_sides(labels: &[usize], first: Side, second: Side) -> usize
     }
 }
 
-/// Adds the row of a contact point and of its contact, which stands at this place, to the island of
-/// its group. Impulses are copied by field, so that the compiler makes the row where it is stored.
+/// Adds the row of a contact point and its contact to the island of their group. `place` is the
+/// place of both among all contacts, and `places` has the place of each body in its island.
+/// Impulses are copied by field, so that the compiler makes the row where it is stored.
 #[inline]
 #[tactic(auto, unfolding(crate::specs::Rows::row_of))]
 fn deal_row(
@@ -248,15 +249,10 @@ fn split(
     deal_bodies(&mut made, &mut places, &slots, labels, numbers, bodies)?;
     for place in active_places {
         let place = *place;
+        let touch = &touches[place];
+        let contact = &contacts[place];
         deal_row(
-            &mut made,
-            &slots,
-            &places,
-            labels,
-            scene,
-            place,
-            &touches[place],
-            &contacts[place],
+            &mut made, &slots, &places, labels, scene, place, touch, contact,
         )?;
     }
     Ok(made)
