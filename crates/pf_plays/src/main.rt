@@ -14,7 +14,8 @@
 //! GATE is `open`; `meeting N`, where each peer waits in each turn until those below N have come;
 //! `counting N`, the same, but open also where one did not come; `shut-from P TURN`, which is shut
 //! in this turn for this peer and those above it; or `after P TURN OTHER`, where this peer waits in
-//! this turn until another one has come for it.
+//! this turn until another one has come for it, and the other one in the turn before until this
+//! peer has come for this one.
 //!
 //! A session prints `session`, and for each peer `peer PLAYER REACHED SETTLED COMMANDS` and its
 //! bodies that move, as `pf_play` shows them; or `session` and its fault. The counts of `two` are

@@ -113,7 +113,9 @@ pub enum Rule {
         worker: usize,
         turn: usize,
     },
-    /// For each worker, but for this one in this turn only once another one has come for the turn.
+    /// For each worker, but for this one in this turn only once another one has come for the turn;
+    /// and for the other one in the turn before only once this one has come for this turn. So the
+    /// other one's turn before lies between this one's turn before and this turn.
     After {
         worker: usize,
         turn: usize,
@@ -155,7 +157,15 @@ impl<const IS_OPEN: bool> Gate for TrialGate<IS_OPEN> {
                 worker: late_worker,
                 turn: late_turn,
                 other,
-            } => worker != late_worker || turn != late_turn || self.book.wait_for(other, turn),
+            } => {
+                if worker == late_worker && turn == late_turn {
+                    self.book.wait_for(other, turn)
+                } else if worker == other && turn.saturating_add(1) == late_turn {
+                    self.book.wait_for(late_worker, late_turn)
+                } else {
+                    true
+                }
+            }
         };
         if !may_pass {
             self.book.shut.fetch_add(1, Ordering::SeqCst);
