@@ -9,6 +9,7 @@ pub mod Within
 pub mod Few
 pub mod Flagging
 pub mod Placing
+pub mod Watching
 pub mod Zipped
 pub mod Intervals
 pub mod CellNumbers

@@ -7,4 +7,5 @@ pub mod Stored
 pub mod Partners
 pub mod Loose
 pub mod Kept
+pub mod Watched
 pub mod Laws

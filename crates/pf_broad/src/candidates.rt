@@ -43,10 +43,13 @@ pub struct PairsUpdate {
 
 /// Writes the flag of each candidate, which says whether its bodies may touch. A candidate is
 /// tested only where one of its bodies may have moved; the flags of the others must be right.
-/// `same` says that no flag changed; `moved_places` counts only candidates whose flags are set.
+/// `same` says that no flag changed; `moved_places` counts only candidates whose flags are set. The
+/// places, among all candidates, of those that are tested are put into a list, in place of what it
+/// held.
 #[inline(never)]
 pub(crate) fn test_moved(
     alloc: Global,
+    tested: &mut Vec<usize>,
     candidates: &[Pair],
     flags: &mut [bool],
     moved: &[bool],
@@ -63,7 +66,11 @@ pub(crate) fn test_moved(
     ensures places { IfOk result (λ update. update.moved_places.items
         ≡ moved_places (λ k. get_or moved.now k false)
         (filter (pair_may_touch bounds.now) candidates.now)) }
+    ensures tested { IfOk result (λ _. tested.new.items
+        ≡ moved_places (λ k. get_or moved.now k false) candidates.now) }
 {
+    tested.clear();
+    tested.reserve(candidates.len())?;
     let mut moved_places = Vec::with_capacity(alloc, candidates.len())?;
     let mut same = true;
     let mut place = 0;
@@ -73,6 +80,7 @@ pub(crate) fn test_moved(
             let touches = may_touch(&bounds[pair.a], &bounds[pair.b]);
             same = same & (flags[i] == touches);
             flags[i] = touches;
+            tested.push_reserved(i);
             if touches {
                 moved_places.push_reserved(place);
             }

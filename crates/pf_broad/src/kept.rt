@@ -7,6 +7,7 @@ use crate::candidates::{
 };
 use crate::grid::Grid;
 use crate::loose::{all_enlarged_bounds, has_left, left_bodies, refit};
+use crate::watched::{Watched, are_right, moved_among};
 use pf_shapes::{BodyState, Bounds, Pair};
 use std::alloc::{AllocError, Global};
 use std::marker::Model;
@@ -17,9 +18,9 @@ const MAX_LEFT: usize = 16;
 
 /// What the broad phase keeps from tick to tick: enlarged bounds of all bodies, and as candidates
 /// the pairs of bodies whose enlarged bounds overlap, as Box2D's `b2BroadPhase` does; for each
-/// candidate a flag that says whether its bodies may touch; and the pairs that it found, which are
-/// the candidates whose flags are set. It is sound for every scene and world: what is kept changes
-/// no result, only time.
+/// candidate a flag that says whether its bodies may touch; the pairs that it found, which are the
+/// candidates whose flags are set; and the places of the pairs whose bodies moved last. It is sound
+/// for every scene and world: what is kept changes no result, only time.
 ///
 /// Contracts see the enlarged bounds, the flags and the pairs.
 #[derive(Debug, Drop)]
@@ -30,11 +31,14 @@ pub struct BroadPhase {
     flags: Vec<bool>,
     /// The candidates whose flags are set.
     found: Vec<Pair>,
+    /// The bodies that moved last, and the places of their pairs.
+    watched: Watched,
 }
 
 impl Model for BroadPhase {
     ghost use Rattle.pf_broad.specs.Kept.{AreFound, BroadPhase};
     ghost use Rattle.pf_broad.specs.Loose.{AreCandidates};
+    ghost use Rattle.pf_broad.specs.Watched.{ListsPlaces};
 
     ghost Value = { BroadPhase };
 
@@ -45,11 +49,12 @@ impl Model for BroadPhase {
     } };
 
     ghost invariant = { λ b. AreCandidates b.loose.items b.candidates.items
-        × AreFound b.flags.items b.candidates.items b.found.items };
+        × AreFound b.flags.items b.candidates.items b.found.items
+        × ListsPlaces b.watched b.candidates.items b.found.items };
 }
 
 impl BroadPhase {
-    ghost use Rattle.std.specs.Prelude.{◌≡◌, ◌≢◌, ◌<◌, ◌≤◌, ◌||◌, [], Bool, false, true, length, All, IfOk, IsOk, IsTrue, OnErr, OnOk};
+    ghost use Rattle.std.specs.Prelude.{◌≡◌, ◌≢◌, ◌<◌, ◌≤◌, ◌||◌, [], Bool, false, true, get_or, length, All, IfOk, IsOk, IsTrue, OnErr, OnOk};
     ghost use Rattle.std.specs.List.{range_with_len};
     ghost use Rattle.pf_shapes.specs.Bounds.{IsOrdered};
     ghost use Rattle.pf_shapes.specs.Pair.{IsAscending, IsPairOf};
@@ -68,6 +73,7 @@ impl BroadPhase {
             candidates: Vec::new(alloc),
             flags: Vec::new(alloc),
             found: Vec::new(alloc),
+            watched: Watched::none(alloc),
         }
     }
 
@@ -173,7 +179,9 @@ impl BroadPhase {
             candidates,
             mut flags,
             mut found,
+            mut watched,
         } = self;
+        watched.clear();
         flags.resize(candidates.len(), false)?;
         test_all(&mut found, &mut flags, &candidates, bounds)?;
         let update = PairsUpdate {
@@ -185,14 +193,16 @@ impl BroadPhase {
             candidates,
             flags,
             found,
+            watched,
         };
         Ok((next, update))
     }
 
     /// The same with only those candidates tested that have a body of `moved`. Each candidate must
-    /// have a flag, and those of the others must be right.
+    /// have a flag, and those of the others must be right. Where only watched bodies may have moved
+    /// and no flag changes, only the watched places are looked at.
     fn test_some(
-        self,
+        mut self,
         alloc: Global,
         bounds: &[Bounds],
         moved: &[usize],
@@ -208,22 +218,70 @@ impl BroadPhase {
         ensures places { IfOk result (λ tested. tested.1.moved_places.items
             ≡ moved_places (has_body moved.now) tested.0.pairs) }
     {
+        let may_have_moved = moved_flags(alloc, bounds.len(), moved)?;
+        if !self.watched.has_all(moved)
+            || !are_right(
+                &self.watched.candidates,
+                &self.candidates,
+                &self.flags,
+                &may_have_moved,
+                bounds,
+            )
+        {
+            return self.test_and_watch(alloc, bounds, may_have_moved);
+        }
+        let moved_places = moved_among(alloc, &self.watched.pairs, &self.found, &may_have_moved)?;
+        // Most of the watched bodies are at rest: the next update finds out anew which ones move.
+        if moved_places.len() < self.watched.pairs.len() / 2 {
+            self.watched.clear();
+        }
+        let update = PairsUpdate {
+            same: true,
+            moved_places,
+        };
+        Ok((self, update))
+    }
+
+    /// The same with only those candidates tested that have a body that may have moved. These
+    /// bodies are the watched ones from then on.
+    fn test_and_watch(
+        self,
+        alloc: Global,
+        bounds: &[Bounds],
+        moved: Vec<bool>,
+    ) -> Result<(BroadPhase, PairsUpdate), AllocError>
+        requires loosened { AreLoosened self.loose bounds.now }
+        requires moved { length moved.items ≡ length bounds.now }
+        requires as_many { length self.flags ≡ length (pairs self.loose) }
+        requires flags { AreFlagged (λ k. get_or moved.items k false) bounds.now
+            (pairs self.loose) self.flags }
+        ensures kept { IfOk result (λ tested. IsKeptOf tested.0 bounds.now) }
+        ensures same { IfOk result
+            (λ tested. IsTrue tested.1.same → tested.0.pairs ≡ self.pairs) }
+        ensures places { IfOk result (λ tested. tested.1.moved_places.items
+            ≡ moved_places (λ k. get_or moved.items k false) tested.0.pairs) }
+    {
         let BroadPhase {
             loose,
             candidates,
             mut flags,
             mut found,
+            mut watched,
         } = self;
-        let may_have_moved = moved_flags(alloc, bounds.len(), moved)?;
-        let update = test_moved(alloc, &candidates, &mut flags, &may_have_moved, bounds)?;
+        let tested = &mut watched.candidates;
+        let update = test_moved(alloc, tested, &candidates, &mut flags, &moved, bounds)?;
         if !update.same {
             load_flagged(&mut found, &candidates, &flags)?;
         }
+        watched.pairs.clear();
+        watched.pairs.extend_from_slice(&update.moved_places)?;
+        watched.bodies = moved;
         let next = BroadPhase {
             loose,
             candidates,
             flags,
             found,
+            watched,
         };
         Ok((next, update))
     }
@@ -268,6 +326,7 @@ impl BroadPhase {
             candidates,
             flags: Vec::new(alloc),
             found,
+            watched: Watched::none(alloc),
         })
     }
 
@@ -315,6 +374,7 @@ impl BroadPhase {
             candidates,
             flags: Vec::new(alloc),
             found: Vec::new(alloc),
+            watched: Watched::none(alloc),
         })
     }
 }

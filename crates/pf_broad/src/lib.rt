@@ -12,6 +12,7 @@ mod kept;
 pub mod laws;
 mod loose;
 mod partners;
+mod watched;
 
 pub use bodies::all_bounds;
 pub use broad_phase::pairs;

@@ -6,8 +6,10 @@ use Rattle.std.proofs.lemmas.List.Filters.{length-filter_more}
 use Rattle.pf_shapes.specs.Bounds.{Bounds}
 use Rattle.pf_shapes.specs.Pair.{Pair}
 use Rattle.pf_broad.specs.Pairs.{may_touch, pair, pair_at, pair_may_touch}
+use Rattle.pf_broad.specs.Watched.{is_moved_place}
 use Rattle.pf_broad.proofs.Flagging.{flag_read, kept, tested, touch_is, unchanged}
 use Rattle.pf_broad.proofs.Placing.{places_next, place_step}
+use Rattle.pf_broad.proofs.Watching.{places_more}
 use Rattle.pf_broad.proofs.candidates.test_moved.Goals.{then-moved-pair+then-touches, then-moved-pair+else-touches, else-moved-pair}
 use Rattle.pf_broad.proofs.candidates.test_moved.Goals as goal
 
@@ -60,7 +62,7 @@ loop-i-preserved c =
       places = elim c.if-moved-pair.branch [
         | then-moved-pair+then-touches w ↦
             rw w.moved_places-is
-            (w.push_reserved.ensures.items ∙ (λ k. c.loop-i.invariant.places k ++ c.loop-i.invariant.place k ∷ [])
+            (w.push_reserved-then-touches.ensures.items ∙ (λ k. c.loop-i.invariant.places k ++ c.loop-i.invariant.place k ∷ [])
             ∙ sym (places_next moved before after p (t p) true true more
             (sym (tests _ _ _ w.index-bounds-pair.is w.index-bounds-pair-then-moved-pair.is w.may_touch-touches.ensures) ∙ w.if-touches.true)
             (was_moved ∙ w.if-moved-pair.true)))
@@ -77,13 +79,37 @@ loop-i-preserved c =
             (was_moved ∙ w.if-moved-pair.false)))
       ];
       count = elim c.if-moved-pair.branch [
-        | then-moved-pair+then-touches w ↦ rw w.moved_places-is (omega (arith, c.loop-i.invariant.count, ap length w.push_reserved.ensures.items))
+        | then-moved-pair+then-touches w ↦ rw w.moved_places-is (omega (arith, c.loop-i.invariant.count, ap length w.push_reserved-then-touches.ensures.items))
         | then-moved-pair+else-touches w ↦ rw w.moved_places-is (omega (arith, c.loop-i.invariant.count))
         | else-moved-pair w ↦ rw w.moved_places-is (omega (arith, c.loop-i.invariant.count))
       ];
       room = elim c.if-moved-pair.branch [
-        | then-moved-pair+then-touches w ↦ rw w.moved_places-is (omega (arith, c.loop-i.invariant.room, w.push_reserved.ensures.capacity))
+        | then-moved-pair+then-touches w ↦ rw w.moved_places-is (omega (arith, c.loop-i.invariant.room, w.push_reserved-then-touches.ensures.capacity))
         | then-moved-pair+else-touches w ↦ rw w.moved_places-is c.loop-i.invariant.room
         | else-moved-pair w ↦ rw w.moved_places-is c.loop-i.invariant.room
+      ];
+      tested = elim c.if-moved-pair.branch [
+        | then-moved-pair+then-touches w ↦
+            rw w.tested-is
+            (w.push_reserved.ensures.items ∙ ap (λ l. l ++ i ∷ []) c.loop-i.invariant.tested
+            ∙ sym (places_more (is_moved_place moved cs) i true (was_moved ∙ w.if-moved-pair.true)))
+        | then-moved-pair+else-touches w ↦
+            rw w.tested-is
+            (w.push_reserved.ensures.items ∙ ap (λ l. l ++ i ∷ []) c.loop-i.invariant.tested
+            ∙ sym (places_more (is_moved_place moved cs) i true (was_moved ∙ w.if-moved-pair.true)))
+        | else-moved-pair w ↦
+            rw w.tested-is
+            (c.loop-i.invariant.tested ∙ sym (append-nil _)
+            ∙ sym (places_more (is_moved_place moved cs) i false (was_moved ∙ w.if-moved-pair.false)))
+      ];
+      tested_count = elim c.if-moved-pair.branch [
+        | then-moved-pair+then-touches w ↦ rw w.tested-is (omega (arith, c.loop-i.invariant.tested_count, ap length w.push_reserved.ensures.items))
+        | then-moved-pair+else-touches w ↦ rw w.tested-is (omega (arith, c.loop-i.invariant.tested_count, ap length w.push_reserved.ensures.items))
+        | else-moved-pair w ↦ rw w.tested-is (omega (arith, c.loop-i.invariant.tested_count))
+      ];
+      tested_room = elim c.if-moved-pair.branch [
+        | then-moved-pair+then-touches w ↦ rw w.tested-is (omega (arith, c.loop-i.invariant.tested_room, w.push_reserved.ensures.capacity))
+        | then-moved-pair+else-touches w ↦ rw w.tested-is (omega (arith, c.loop-i.invariant.tested_room, w.push_reserved.ensures.capacity))
+        | else-moved-pair w ↦ rw w.tested-is c.loop-i.invariant.tested_room
       ];
     }

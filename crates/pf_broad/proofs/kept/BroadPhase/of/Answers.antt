@@ -20,4 +20,5 @@ invariant_of-result c = (
   candidates_of c.in_ok-loose.loose.items c.args.bounds.now c.in_ok-candidates.candidates.items c.in_ok-loose.ensures c.requires.ordered c.requires.few
       (c.in_ok-candidates.ensures ∙ ap pairs c.deref-2.ensures.value),
   λ long. c.new-2.ensures.items ∙ ap (λ l. flagged l c.in_ok-candidates.candidates.items) (sym c.new.ensures.items),
+  c.none.ensures _ _,
 )

@@ -46,4 +46,5 @@ invariant_of-result c = (
   candidates_of c.in_ok-loose.loose.items c.args.bounds.now c.in_ok-candidates.candidates.items c.in_ok-loose.ensures.enlarged_bounds c.requires.ordered c.requires.few
       (c.in_ok-candidates.ensures ∙ ap pairs c.deref-4.ensures.value),
   λ long. c.clear.ensures.items ∙ ap (λ l. flagged l c.in_ok-candidates.candidates.items) (sym c.new.ensures.items),
+  c.none.ensures _ _,
 )

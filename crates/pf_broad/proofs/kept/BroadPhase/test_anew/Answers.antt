@@ -29,6 +29,7 @@ invariant_of-next c =
     let cs = c.self.inside.candidates.items in (
       c.self.invariant.0,
       λ _. c.in_ok-test_all.ensures.found ∙ ap (filter t) c.deref.ensures.value ∙ sym (ap (λ fs. flagged fs cs) (written c) ∙ flagged-map t cs),
+      c.clear.ensures _ _,
     )
 
 pub returns-clause-kept : goal.returns-clause-kept

@@ -1,83 +1,140 @@
-use Rattle.std.proofs.Common.{◌≡◌, ℕ, Bool, false, true, not, length, get_or, map, filter, ap, refl, sym, subst, arith, ◌∙◌}
-use Rattle.std.proofs.lemmas.List.{with_items_is}
-use Rattle.std.specs.Vec.{with_items}
+use Rattle.std.proofs.Common.{◌≡◌, ℕ, Bool, false, true, List, All, length, get_or, map, ap, refl, sym, subst, filter, ◌∙◌, Result, Ok, Err, IfOk}
+use Rattle.pf_shapes.specs.Pair.{Pair}
 use Rattle.pf_broad.specs.Pairs.{pair_may_touch, pairs}
 use Rattle.pf_broad.specs.Partners.{has_body}
-use Rattle.pf_broad.specs.Loose.{AreLoosened}
-use Rattle.pf_broad.specs.Kept.{flagged, moved_places, AreFlagged, BroadPhase}
+use Rattle.pf_broad.specs.Kept.{flagged, moved_places, AreFlagged, BroadPhase, IsKeptOf}
+use Rattle.pf_broad.specs.Watched.{is_moved_place, IsRightWhereMoved}
 use Rattle.pf_broad.proofs.Flagging.{are_flagged, flagged-map}
 use Rattle.pf_broad.proofs.Loosening.{overlapping-pairs}
 use Rattle.pf_broad.proofs.Placing.{places-same}
+use Rattle.pf_broad.proofs.Watching.{flags_right, moved_of_watched, places_below, set_watched}
 use Rattle.pf_broad.proofs.Within.{pairs-IsPairOf}
-use Rattle.pf_broad.proofs.kept.BroadPhase.test_some.Goals.{After-deref-2, After-drop-may_have_moved-2, then-not-update+in_ok-load_flagged, else-not-update}
+use Rattle.pf_broad.proofs.kept.BroadPhase.test_some.Goals.{In_ok-may_have_moved, After-deref-4, After-drop-may_have_moved-2, then-len, else-len}
 use Rattle.pf_broad.proofs.kept.BroadPhase.test_some.Goals as goal
 
--- the candidates are the pairs of the enlarged bounds
-all_candidates : (c : After-deref-2) → c.deref.result.now ≡ pairs c.args.self.loose
-all_candidates c = c.deref.ensures.value ∙ c.self.invariant.0.pairs ∙ ap (λ (b : BroadPhase). pairs b.loose) c.self.view_is
+pub are_right-requires-clause-places : goal.are_right-requires-clause-places
+are_right-requires-clause-places c =
+    let watched : ℕ → Bool = λ k. get_or c.self.inside.watched.bodies.items k false in
+    places_below watched c.deref-else-not-has_all.result.now c.deref.result.now
+    (c.deref.ensures.value ∙ c.self.invariant.2.candidate_places ∙ ap (moved_places watched) (sym c.deref-else-not-has_all.ensures.value))
 
-pub test_moved-requires-clause-candidates : goal.test_moved-requires-clause-candidates
-test_moved-requires-clause-candidates c = pairs-IsPairOf c.args.self.loose c.deref.result.now _ (all_candidates c) c.requires.loosened.as_many
+pub are_right-requires-clause-candidates : goal.are_right-requires-clause-candidates
+are_right-requires-clause-candidates c =
+    pairs-IsPairOf c.args.self.loose c.deref-else-not-has_all.result.now _
+    (c.deref-else-not-has_all.ensures.value ∙ c.self.invariant.0.pairs ∙ ap (λ (b : BroadPhase). pairs b.loose) c.self.view_is) c.requires.loosened.as_many
 
-pub test_moved-requires-clause-others : goal.test_moved-requires-clause-others
-test_moved-requires-clause-others c =
-    let bs = c.args.bounds.now in
-    let cs = c.deref.result.now in
-    let moved = c.args.moved.now in
-    let flags_are : c.self.inside.flags.items ≡ c.args.self.flags = ap (λ (b : BroadPhase). b.flags) c.self.view_is in
-    are_flagged bs moved c.deref-2.result.now cs c.deref_mut.result.now
-    (pairs-IsPairOf c.args.self.loose cs _ (all_candidates c) c.requires.loosened.as_many)
-    (λ k below. ap (λ l. get_or l k false) c.deref-2.ensures.value ∙ c.in_ok-may_have_moved.ensures.each k below)
-    (subst (λ l. AreFlagged (has_body moved) bs l c.deref_mut.result.now) (sym (all_candidates c))
-    (subst (AreFlagged (has_body moved) bs (pairs c.args.self.loose)) (sym (c.deref_mut.ensures.value ∙ flags_are)) c.requires.flags))
+-- the flags are right but for the bodies that may have moved
+others_right : (c : In_ok-may_have_moved)
+    → AreFlagged (λ k. get_or c.in_ok-may_have_moved.may_have_moved.items k false) c.args.bounds.now (pairs c.args.self.loose) c.args.self.flags
+others_right c =
+    are_flagged c.args.bounds.now c.args.moved.now c.in_ok-may_have_moved.may_have_moved.items (pairs c.args.self.loose) c.args.self.flags
+    (pairs-IsPairOf c.args.self.loose (pairs c.args.self.loose) _ refl c.requires.loosened.as_many) c.in_ok-may_have_moved.ensures.each c.requires.flags
 
--- the flags that are kept are those that were written
-written : (c : After-drop-may_have_moved-2) → (with_items c.self.inside.flags c.test_moved.new.flags).items ≡ c.test_moved.new.flags
-written c = with_items_is c.self.inside.flags c.test_moved.new.flags (omega (arith, c.test_moved.auto.flags, c.deref_mut.ensures.len, ap length c.deref_mut.ensures.value))
+pub test_and_watch-requires-clause-flags : goal.test_and_watch-requires-clause-flags
+test_and_watch-requires-clause-flags c = others_right (goal.at.test_and_watch-requires-clause-flags c).In_ok-may_have_moved
 
--- the pairs that are kept are those of the bounds
-all_found : (c : After-drop-may_have_moved-2) → c.if-not-update.found.items ≡ pairs c.args.bounds.now
-all_found c =
-    let bs = c.args.bounds.now in
-    let loose = c.args.self.loose in
-    let t = pair_may_touch bs in
-    let all : c.self.inside.candidates.items ≡ pairs loose = c.self.invariant.0.pairs ∙ ap (λ (b : BroadPhase). pairs b.loose) c.self.view_is in
-    let flags : c.test_moved.new.flags ≡ map t (pairs loose) = c.in_ok-update.ensures.flags ∙ ap (map t) (c.deref.ensures.value ∙ all) in
-    let passed : flagged (map t (pairs loose)) (pairs loose) ≡ pairs bs = flagged-map t (pairs loose) ∙ overlapping-pairs loose bs c.requires.loosened in
-    elim c.if-not-update.branch [
-      | then-not-update+in_ok-load_flagged w ↦
-          rw w.found-is
-          (w.in_ok-load_flagged.ensures
-          ∙ (λ k. flagged ((w.deref-then-not-update-2.ensures.value ∙ written c ∙ flags) k) ((w.deref-then-not-update.ensures.value ∙ all) k)) ∙ passed)
-      | else-not-update w ↦
-          let same = c.in_ok-update.ensures.same (holds c.in_ok-update.update.same w.if-not-update.false) ∙ c.deref_mut.ensures.value in
-          let as_many : length c.self.inside.flags.items ≡ length c.self.inside.candidates.items =
-          ap (λ (b : BroadPhase). length b.flags) c.self.view_is ∙ c.requires.as_many ∙ ap length (sym all) in
-          rw w.found-is (c.self.invariant.1 as_many ∙ (λ k. flagged ((sym same ∙ flags) k) (all k)) ∙ passed)
-    ]
+-- the places are the same by the list of the bodies that moved
+places_listed : (c : In_ok-may_have_moved) (found : List Pair) → found ≡ pairs c.args.bounds.now
+    → moved_places (λ k. get_or c.in_ok-may_have_moved.may_have_moved.items k false) found ≡ moved_places (has_body c.args.moved.now) found
+places_listed c found is =
+    places-same (λ k. get_or c.in_ok-may_have_moved.may_have_moved.items k false) (has_body c.args.moved.now) (length c.args.bounds.now) found
+    (pairs-IsPairOf c.args.bounds.now found _ is refl) c.in_ok-may_have_moved.ensures.each
+
+pub returns-then-not-has_all-clause-places : goal.returns-then-not-has_all-clause-places
+returns-then-not-has_all-clause-places c =
+    let moved : ℕ → Bool = λ k. get_or c.in_ok-may_have_moved.may_have_moved.items k false in
+    both c.test_and_watch.result (λ tested. IsKeptOf tested.0 c.args.bounds.now)
+    (λ tested. tested.1.moved_places.items ≡ moved_places moved tested.0.pairs) (λ tested. tested.1.moved_places.items ≡ moved_places (has_body c.args.moved.now) tested.0.pairs)
+    (λ tested kept places. places ∙ places_listed (goal.at.returns-then-not-has_all-clause-places c).In_ok-may_have_moved tested.0.pairs kept.pairs)
+    c.test_and_watch.ensures.kept c.test_and_watch.ensures.places
   where
-    holds : (b : Bool) → not b ≡ false → b ≡ true
-    holds true e = refl
-    holds false e = sym e
+    both : {X Y : Type 0} (r : Result X Y) (P Q R : X → Type 0) → ((x : X) → P x → Q x → R x) → IfOk r P → IfOk r Q → IfOk r R
+    both (Ok x) P Q R join p q = join x p q
+    both (Err y) P Q R join p q = p
+
+-- each body that may have moved is watched
+all_watched : (c : After-deref-4) → (k : ℕ) → get_or c.in_ok-may_have_moved.may_have_moved.items k false ≡ true
+    → get_or c.self.inside.watched.bodies.items k false ≡ true
+all_watched c =
+    set_watched c.args.moved.now c.in_ok-may_have_moved.may_have_moved.items (length c.args.bounds.now) (λ k. get_or c.self.inside.watched.bodies.items k false)
+    c.in_ok-may_have_moved.ensures.count c.in_ok-may_have_moved.ensures.each (c.has_all.ensures c.if-not-has_all.false)
+
+-- the flags at the watched places are right where a body may have moved
+watched_right : (c : After-deref-4)
+    → All (IsRightWhereMoved (λ k. get_or c.in_ok-may_have_moved.may_have_moved.items k false) c.args.bounds.now c.self.inside.candidates.items c.self.inside.flags.items)
+    c.self.inside.watched.candidates.items
+watched_right c =
+    let bs = c.args.bounds.now in
+    let places = c.deref.result.now in
+    let cs = c.deref-else-not-has_all.result.now in
+    let flags = c.deref-else-not-has_all-2.result.now in
+    let right = λ (m : List Bool) (l : List Pair) (f : List Bool). IsRightWhereMoved (λ k. get_or m k false) bs l f in
+    let may_move = c.in_ok-may_have_moved.may_have_moved.items in
+    subst (λ l. All (right may_move c.self.inside.candidates.items c.self.inside.flags.items) l) c.deref.ensures.value
+    (subst (λ l. All (right may_move c.self.inside.candidates.items l) places) c.deref-else-not-has_all-2.ensures.value
+    (subst (λ l. All (right may_move l flags) places) c.deref-else-not-has_all.ensures.value
+    (subst (λ l. All (right l cs flags) places) c.deref-else-not-has_all-3.ensures.value (c.are_right.ensures c.if-not-are_right.false))))
+
+-- no flag changes
+flags_stay : (c : After-deref-4) → c.self.inside.flags.items ≡ map (pair_may_touch c.args.bounds.now) (pairs c.args.self.loose)
+flags_stay c =
+    let bs = c.args.bounds.now in
+    let cs = c.self.inside.candidates.items in
+    let may_move = c.in_ok-may_have_moved.may_have_moved.items in
+    let moved : ℕ → Bool = λ k. get_or may_move k false in
+    let all = c.self.invariant.0.pairs ∙ ap (λ (b : BroadPhase). pairs b.loose) c.self.view_is in
+    let flags : c.self.inside.flags.items ≡ c.args.self.flags = ap (λ (b : BroadPhase). b.flags) c.self.view_is in
+    let others : AreFlagged moved bs cs c.self.inside.flags.items =
+    subst (λ l. AreFlagged moved bs l c.self.inside.flags.items) (sym all)
+    (subst (AreFlagged moved bs (pairs c.args.self.loose)) (sym flags) (others_right (goal.at.After-deref-4 c).In_ok-may_have_moved)) in
+    flags_right moved (λ k. get_or c.self.inside.watched.bodies.items k false) bs cs c.self.inside.flags.items c.self.inside.watched.candidates.items
+    (ap length flags ∙ c.requires.as_many ∙ ap length (sym all)) c.self.invariant.2.candidate_places (all_watched c) (watched_right c)
+    others ∙ ap (map (pair_may_touch bs)) all
+
+pub moved_among-requires-clause-places : goal.moved_among-requires-clause-places
+moved_among-requires-clause-places c =
+    let watched : ℕ → Bool = λ k. get_or c.self.inside.watched.bodies.items k false in
+    places_below watched c.deref-3.result.now c.deref-2.result.now
+    (c.deref-2.ensures.value ∙ c.self.invariant.2.pair_places ∙ ap (moved_places watched) (sym c.deref-3.ensures.value))
+
+-- so no pair does
+pairs_stay : (c : After-deref-4) → c.self.inside.found.items ≡ pairs c.args.bounds.now
+pairs_stay c =
+    let all = c.self.invariant.0.pairs ∙ ap (λ (b : BroadPhase). pairs b.loose) c.self.view_is in
+    let flags : c.self.inside.flags.items ≡ c.args.self.flags = ap (λ (b : BroadPhase). b.flags) c.self.view_is in
+    c.self.invariant.1 (ap length flags ∙ c.requires.as_many ∙ ap length (sym all))
+    ∙ (λ k. flagged (flags_stay c k) (all k)) ∙ flagged-map (pair_may_touch c.args.bounds.now) (pairs c.args.self.loose)
+    ∙ overlapping-pairs c.args.self.loose c.args.bounds.now c.requires.loosened
+
+pub moved_among-requires-clause-pairs : goal.moved_among-requires-clause-pairs
+moved_among-requires-clause-pairs c =
+    pairs-IsPairOf c.args.bounds.now c.deref-3.result.now (length c.deref-4.result.now) (c.deref-3.ensures.value ∙ pairs_stay c)
+    (sym (ap length c.deref-4.ensures.value ∙ c.in_ok-may_have_moved.ensures.count))
+
+-- nothing that contracts see changes
+same_kept : (c : After-drop-may_have_moved-2) → c.if-len.self ≡ c.args.self
+same_kept c =
+    elim c.if-len.branch [
+      | then-len w ↦ w.self-is ∙ c.self.view_is
+      | else-len w ↦ w.self-is
+    ]
 
 pub returns-clause-kept : goal.returns-clause-kept
 returns-clause-kept c =
-    let bs = c.args.bounds.now in
-    let loose : c.self.inside.loose.items ≡ c.args.self.loose = ap (λ (b : BroadPhase). b.loose) c.self.view_is in
-    record {
-      loose = subst (λ l. AreLoosened l bs) (sym loose) c.requires.loosened;
-      flags = written c ∙ c.in_ok-update.ensures.flags ∙ ap (map (pair_may_touch bs)) (c.deref.ensures.value ∙ c.self.invariant.0.pairs);
-      pairs = all_found c;
-    }
+    let before = (goal.at.returns-clause-kept c).After-deref-4 in
+    subst (λ b. IsKeptOf b c.args.bounds.now) (sym (same_kept c)) (record {
+      loose = c.requires.loosened;
+      flags = ap (λ (b : BroadPhase). b.flags) (sym c.self.view_is) ∙ flags_stay before;
+      pairs = ap (λ (b : BroadPhase). b.pairs) (sym c.self.view_is) ∙ pairs_stay before;
+    })
 
 pub returns-clause-places : goal.returns-clause-places
 returns-clause-places c =
-    let bs = c.args.bounds.now in
-    let loose = c.args.self.loose in
-    let t = pair_may_touch bs in
-    let moved : ℕ → Bool = λ k. get_or c.deref-2.result.now k false in
-    let all : c.deref.result.now ≡ pairs loose = c.deref.ensures.value ∙ c.self.invariant.0.pairs ∙ ap (λ (b : BroadPhase). pairs b.loose) c.self.view_is in
-    c.in_ok-update.ensures.places
-    ∙ ap (moved_places moved) (ap (filter t) all ∙ overlapping-pairs loose bs c.requires.loosened ∙ sym (all_found c))
-    ∙ places-same moved (has_body c.args.moved.now) (length bs) c.if-not-update.found.items (pairs-IsPairOf bs c.if-not-update.found.items (length bs) (all_found c) refl)
-    (λ k below. ap (λ l. get_or l k false) c.deref-2.ensures.value ∙ c.in_ok-may_have_moved.ensures.each k below)
+    let before = (goal.at.returns-clause-places c).After-deref-4 in
+    let found = c.self.inside.found.items in
+    let moved : ℕ → Bool = λ k. get_or c.in_ok-may_have_moved.may_have_moved.items k false in
+    c.in_ok-moved_places.ensures
+    ∙ (λ j. filter (is_moved_place (λ k. get_or (c.deref-4.ensures.value j) k false) (c.deref-3.ensures.value j)) ((c.deref-2.ensures.value ∙ c.self.invariant.2.pair_places) j))
+    ∙ moved_of_watched moved (λ k. get_or c.self.inside.watched.bodies.items k false) found (all_watched before)
+    ∙ places_listed (goal.at.returns-clause-places c).In_ok-may_have_moved found (pairs_stay before)
+    ∙ ap (λ (b : BroadPhase). moved_places (has_body c.args.moved.now) b.pairs) (c.self.view_is ∙ sym (same_kept c))
