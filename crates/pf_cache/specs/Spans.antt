@@ -1,10 +1,11 @@
 -- How kept contact points are stored: those of all pairs in one list, and for each pair where its
 -- points stand in that list.
-use Rattle.std.specs.Prelude.{◌≡◌, ℕ, ◌+◌, ◌<◌, ◌≤◌, ◌==◌, Bool, true, false, not, ◌&&◌, Option, None, List, [], ◌∷◌, length, map, All, count_by, get_or, take, drop, if◌then◌else◌}
+use Rattle.std.specs.Prelude.{◌≡◌, ℕ, ◌+◌, ◌<◌, ◌≤◌, ◌==◌, Bool, true, false, not, ◌&&◌, ◌||◌, Option, None, List, [], ◌∷◌, length, map, All, count_by, get_or, take, drop, if◌then◌else◌}
 use Rattle.std.specs.List.{flat_map, zip}
 use Rattle.pf_shapes.specs.Pair.{IsPairOf, Pair}
 use Rattle.pf_shapes.specs.declared.scene.TheConstants.{MAX_BODIES}
 use Rattle.pf_broad.specs.Kept.{moved_places}
+use Rattle.pf_broad.specs.Partners.{has_body}
 use Rattle.pf_manifold.specs.Key.{AreTouches, IsRising, rank}
 use Rattle.pf_manifold.specs.PlacedShape.{PlacedShape}
 use Rattle.pf_manifold.specs.Touches.{Touch}
@@ -117,3 +118,8 @@ abbrev pub AreMovedPlaces : List Bool → List Pair → List ℕ → Type 0
 AreMovedPlaces unmoved pairs places =
     (may_have_moved : ℕ → Bool) × (places ≡ moved_places may_have_moved pairs)
     × ((k : ℕ) → k < length unmoved → may_have_moved k ≡ false → get_or unmoved k false ≡ true)
+
+-- the places of the pairs with a body that is listed, or the places of all pairs
+abbrev pub AreListedPlaces : List ℕ → List Pair → List ℕ → Type 0
+AreListedPlaces numbers pairs places =
+    (all : Bool) × (places ≡ moved_places (λ k. all || has_body numbers k) pairs)

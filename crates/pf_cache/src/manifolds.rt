@@ -78,6 +78,9 @@ pub struct FoundCollisions {
     pub collisions: Collisions,
     /// How many of the first contact points are known to have the keys of the first kept ones.
     pub same: usize,
+    /// The places of the pairs with a body that may have moved, in ascending order; or those of all
+    /// pairs.
+    pub moved_places: Vec<usize>,
 }
 
 /// The contact points of a tick's pairs.
@@ -209,7 +212,7 @@ impl Manifolds {
     ghost use Rattle.pf_cache.specs.Contact.{HaveSameFirst};
     ghost use Rattle.pf_cache.specs.PlacedBodies.{HaveStayed, bodies_of};
     ghost use Rattle.pf_cache.specs.Manifolds.{computed_count, kept_touches, manifolds_of, no_manifolds, placed_shapes};
-    ghost use Rattle.pf_cache.specs.Spans.{AreSpansOf};
+    ghost use Rattle.pf_cache.specs.Spans.{AreListedPlaces, AreSpansOf};
 
     /// Nothing kept. Takes no memory.
     pub fn new(alloc: Global) -> Manifolds
@@ -235,7 +238,8 @@ impl Manifolds {
     /// The pairs whose contact points are kept, and where the points of each stand in the list of
     /// all.
     pub fn spans(&self) -> &[Span]
-        ensures { AreSpansOf result.now (kept_touches self.now) }
+        ensures spans { AreSpansOf result.now (kept_touches self.now) }
+        ensures pairs { map (λ s. s.pair) result.now ≡ self.now.pairs }
     {
         self.spans.as_slice()
     }
@@ -249,7 +253,8 @@ impl Manifolds {
     /// there are no bodies.
     ///
     /// Also finds how many of the first points have the keys of the first kept ones. No clause says
-    /// that they are not more.
+    /// that they are not more. And lists the places of the pairs with a body of `moved`, or of all
+    /// pairs; no clause says which of the two.
     pub fn update<C: Collider>(
         self,
         collider: &C,
@@ -271,6 +276,8 @@ impl Manifolds {
         ensures same { IfOk result (λ found. HaveSameFirst found.same
             (map key_of (kept_touches self))
             (map key_of (kept_touches found.collisions.manifolds))) }
+        ensures places { IfOk result (λ found. AreListedPlaces moved.now
+            found.collisions.manifolds.pairs found.moved_places.items) }
         ensures no_memory { bodies.now ≡ [] → IsOk result }
     {
         if bodies.is_empty() {
@@ -281,6 +288,7 @@ impl Manifolds {
             return Ok(FoundCollisions {
                 collisions,
                 same: 0,
+                moved_places: Vec::new(alloc),
             });
         }
         let count = self.placed.shapes().len();
@@ -309,6 +317,10 @@ impl Manifolds {
             manifolds,
             computed,
         };
-        Ok(FoundCollisions { collisions, same })
+        Ok(FoundCollisions {
+            collisions,
+            same,
+            moved_places: update.moved_places,
+        })
     }
 }

@@ -9,6 +9,7 @@ pub mod Looked
 pub mod Sleeping
 pub mod ActiveRows
 pub mod ActiveSpans
+pub mod Listed
 pub mod Members
 pub mod Dealing
 pub mod AwakeNumbers

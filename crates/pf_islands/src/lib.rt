@@ -1,17 +1,19 @@
 //! Groups of bodies that contacts connect: which of them are simulated, and which go to sleep.
 #![tactic(auto)]
 
+mod active;
+mod awake;
 mod forest;
 mod groups;
 mod island;
 mod joining;
 pub mod laws;
 mod marks;
-mod rows;
 mod sizes;
 mod sleep;
 mod splitting;
 
+pub use awake::AwakeCandidates;
 pub use island::Island;
 pub use joining::join_back;
 pub use sleep::{fall_asleep, rest_alone};

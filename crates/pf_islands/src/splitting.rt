@@ -5,23 +5,25 @@ ghost use Rattle.std.specs.List.{range_with_len};
 ghost use Rattle.pf_shapes.specs.declared.scene.TheConstants.{MAX_BODIES};
 ghost use Rattle.pf_rows.specs.Row.{IsSide, new_row};
 ghost use Rattle.pf_manifold.specs.Touches.{IsTouchOf};
-ghost use Rattle.pf_cache.specs.Spans.{AreSpansOf};
+ghost use Rattle.pf_cache.specs.Manifolds.{kept_touches};
+ghost use Rattle.pf_cache.specs.Spans.{AreListedPlaces};
 ghost use Rattle.pf_islands.specs.Group.{groups as groups_of};
 ghost use Rattle.pf_islands.specs.Island.{members};
 ghost use Rattle.pf_islands.specs.Rows.{active_rows, row_of};
-ghost use Rattle.pf_islands.specs.Flags.{awake_numbers, simulated_flags};
+ghost use Rattle.pf_islands.specs.Flags.{HasAwake, awake_numbers, simulated_flags};
 ghost use Rattle.pf_islands.specs.Settled.{AreSettled, active_places};
 ghost use Rattle.pf_islands.specs.Sleep.{woken_bodies};
 ghost use Rattle.pf_islands.specs.Split.{AreWoken, IsIslandOf, active_labels, is_active_label, island_of, islands, no_island};
 ghost use Rattle.pf_islands.specs.Dealing.{ArePlaces, AreSlots, HasIsland, group_of_row, group_of_sides, placed_row, placed_side, slot_of, with_body, with_row};
 
+use crate::active::{Active, active_of, side_of, wake_none};
+use crate::awake::AwakeCandidates;
 use crate::forest::singles;
 use crate::groups::Groups;
 use crate::island::Island;
 use crate::marks::unmarked;
-use crate::rows::{Active, active_of, side_of, wake_none};
 use crate::sizes::{row_counts, zeros};
-use pf_cache::{Contact, Span};
+use pf_cache::{Contact, Manifolds};
 use pf_manifold::Touch;
 use pf_rows::{Entry, Impulses, Side};
 use pf_shapes::{BodyState, Scene};
@@ -292,34 +294,44 @@ fn woken_bodies(
 /// theirs. The islands are made in the memory of the spare ones, whose bodies and contacts are
 /// gone. Takes no memory where there are no bodies and no contact points.
 ///
-/// `spans` are the pairs with their points. In most ticks no contact wakes a body. Then only the
-/// contacts that are simulated are linked, and only awake bodies are added to islands: of what
-/// sleeps each body is looked at once, and no contact point.
+/// `manifolds` holds the contact points, and `candidates` lists the bodies and pairs of which alone
+/// some may be awake. In most ticks no contact wakes a body. Then only the contacts that are
+/// simulated are linked, and only awake bodies are added to islands: nothing else is looked at.
 pub fn wake_and_split(
     alloc: Global,
     spare: Vec<Island>,
     scene: &Scene,
     bodies: &[BodyState],
-    touches: &[Touch],
-    spans: &[Span],
+    manifolds: &Manifolds,
     contacts: &[Contact],
+    candidates: &AwakeCandidates,
 ) -> Result<Vec<Island>, AllocError>
     requires bodies { length bodies.now ≡ length scene.now.fixtures }
-    requires touches { All (IsTouchOf (length bodies.now)) touches.now }
-    requires spans { AreSpansOf spans.now touches.now }
-    requires contacts { length contacts.now ≡ length touches.now }
-    ensures value { let woken = woken_bodies (groups_of scene.now touches.now) bodies.now in
-        IfOk result (λ found. found.items ≡ islands (groups_of scene.now touches.now) woken
-        (active_rows scene.now woken touches.now contacts.now)) }
+    requires touches { All (IsTouchOf (length bodies.now)) (kept_touches manifolds.now) }
+    requires contacts { length contacts.now ≡ length (kept_touches manifolds.now) }
+    requires listed { All (λ number. number < length bodies.now) candidates.now.bodies.now }
+    requires awake { HasAwake candidates.now.bodies.now bodies.now }
+    requires places { AreListedPlaces candidates.now.bodies.now manifolds.now.pairs
+        candidates.now.places.now }
+    ensures value { let touches = kept_touches manifolds.now in
+        let woken = woken_bodies (groups_of scene.now touches) bodies.now in
+        IfOk result (λ found. found.items ≡ islands (groups_of scene.now touches) woken
+        (active_rows scene.now woken touches contacts.now)) }
     ensures fit { IfOk result (λ found. All (IsIslandOf scene.now) found.items) }
-    ensures no_memory { bodies.now ≡ [] → touches.now ≡ [] → IsOk result }
+    ensures no_memory { bodies.now ≡ [] → kept_touches manifolds.now ≡ [] → IsOk result }
 {
-    let active = active_of(alloc, scene, bodies, touches, spans)?;
+    let touches = manifolds.touches();
+    let spans = manifolds.spans();
+    let active = active_of(alloc, scene, bodies, touches, spans, candidates)?;
     if wake_none(scene, bodies, touches, &active.places) {
         return split(alloc, spare, scene, bodies, touches, contacts, &active);
     }
     let woken = woken_bodies(alloc, scene, bodies, touches)?;
     let bodies = woken.as_slice();
-    let active = active_of(alloc, scene, bodies, touches, spans)?;
+    let all = AwakeCandidates {
+        bodies: &singles(alloc, bodies.len())?,
+        places: &singles(alloc, spans.len())?,
+    };
+    let active = active_of(alloc, scene, bodies, touches, spans, &all)?;
     split(alloc, spare, scene, bodies, touches, contacts, &active)
 }

@@ -70,7 +70,7 @@ pub unlisted : (changes : List BodyChange) (after before : List BodyState) (k : 
 unlisted changes after before k undone none =
     sym (unchanged_stays changes after k (none_of changes k none)) ∙ ap (λ bs. slice_get bs k) undone
 
-numbers_more : (changes more : List BodyChange) → numbers_of (changes ++ more) ≡ numbers_of changes ++ numbers_of more
+pub numbers_more : (changes more : List BodyChange) → numbers_of (changes ++ more) ≡ numbers_of changes ++ numbers_of more
 numbers_more [] more = refl
 numbers_more (c ∷ changes) more = ap (λ ns. c.number ∷ ns) (numbers_more changes more)
 

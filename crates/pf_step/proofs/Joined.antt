@@ -239,3 +239,18 @@ module _ (s : Scene) (before : List Contact) (commanded : List BodyState) (count
       (λ j within none.
       sym (others_stay j (omega (arith, within, count))
       (any_mapped (λ (i : Island). has_number i.numbers j) (island_after_tick s) found ∙ sym (number_of_all found j) ∙ none)))
+
+  -- the islands have all awake bodies
+  pub islands_have_awake : (j : ℕ) → j < length commanded → is_awake_at commanded j ≡ true
+      → has_number (flat_map (λ (i : Island). i.numbers) found) j ≡ true
+  islands_have_awake j within awake =
+      number_of_all found j ∙ sym (any_mapped (λ (i : Island). has_number i.numbers j) (island_after_tick s) found)
+      ∙ by (list_any (λ (i : Island). has_number i.numbers j) ended) refl
+    where
+      by : (e : Bool) → list_any (λ (i : Island). has_number i.numbers j) ended ≡ e
+          → list_any (λ (i : Island). has_number i.numbers j) ended ≡ true
+      by true is = is
+      by false none =
+          let inside : j < length s.fixtures = omega (arith, within, count) in
+          let sleeps = asleep j inside none in
+          absurd (true≢false (sym awake ∙ ap (λ (b : BodyState). b.awake) (slept j inside sleeps) ∙ sleeps))

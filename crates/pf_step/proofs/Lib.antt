@@ -19,3 +19,4 @@ pub mod Restored
 pub mod Joined
 pub mod Untouched
 pub mod Following
+pub mod Awake

@@ -1,11 +1,13 @@
 //! A tick from its contact points on.
 
-ghost use Rattle.std.specs.Prelude.{◌≡◌, ◌≢◌, ◌++◌, [], Err, All, IfErr, IfOk, IsOk, OnOk, length, map};
+ghost use Rattle.std.specs.Prelude.{◌≡◌, ◌≢◌, ◌<◌, ◌++◌, [], Err, All, IfErr, IfOk, IsOk, OnOk, length, map};
 ghost use Rattle.pf_manifold.specs.Key.{AreTouches, key_of};
 ghost use Rattle.pf_manifold.specs.Touches.{IsTouchOf};
 ghost use Rattle.pf_cache.specs.Contact.{HaveSameFirst};
 ghost use Rattle.pf_cache.specs.ContactsChange.{contacts_before};
 ghost use Rattle.pf_cache.specs.Manifolds.{kept_touches};
+ghost use Rattle.pf_cache.specs.Spans.{AreListedPlaces};
+ghost use Rattle.pf_islands.specs.Flags.{HasAwake};
 ghost use Rattle.pf_islands.specs.Split.{IsIslandOf};
 ghost use Rattle.pf_step.specs.declared.crew.StepError.TheVariants.{OutOfMemory};
 ghost use Rattle.pf_step.specs.Activity.{islands_of_bodies, islands_with};
@@ -17,8 +19,8 @@ use crate::changes::Changes;
 use crate::crew::{Crew, StepError};
 use crate::work::Work;
 use crate::world::World;
-use pf_cache::Collisions;
-use pf_islands::{Island, join_back, wake_and_split};
+use pf_cache::FoundCollisions;
+use pf_islands::{AwakeCandidates, Island, join_back, wake_and_split};
 use pf_shapes::Scene;
 use pf_solver::solve_untouched;
 use std::alloc::{AllocError, Global};
@@ -37,18 +39,22 @@ fn prepare(
     alloc: Global,
     scene: &Scene,
     world: &World,
-    found: &Collisions,
+    found: &FoundCollisions,
     work: &mut Work,
     changes: &mut Changes,
 ) -> Result<Vec<Island>, AllocError>
     requires bodies { length world.now.bodies ≡ length scene.now.fixtures }
-    requires points { kept_touches found.now.manifolds
+    requires points { kept_touches found.now.collisions.manifolds
         ≡ touches_of_scene scene.now world.now.bodies }
     requires touches { All (IsTouchOf (length world.now.bodies))
-        (kept_touches found.now.manifolds) }
+        (kept_touches found.now.collisions.manifolds) }
     requires order { AreTouches (touches_of_scene scene.now world.now.bodies) }
     requires keys { map (λ c. c.key) world.now.contacts
         ≡ map key_of (touches_of_scene scene.now world.now.bodies) }
+    requires moved { All (λ number. number < length world.now.bodies) work.old.moved }
+    requires awake { HasAwake work.old.moved world.now.bodies }
+    requires places { AreListedPlaces work.old.moved found.now.collisions.manifolds.pairs
+        found.now.moved_places.items }
     ensures islands { IfOk result (λ islands. islands.items
         ≡ islands_with scene.now world.now.contacts world.now.bodies) }
     ensures fit { IfOk result (λ islands. All (IsIslandOf scene.now) islands.items) }
@@ -66,14 +72,19 @@ fn prepare(
     ensures work { work.new ≡ record work.old { moved = work.new.moved } }
     ensures no_memory { world.now.bodies ≡ [] → changes.old.bodies ≡ [] → IsOk result }
 {
+    let spare = work.take_islands(alloc);
+    let candidates = AwakeCandidates {
+        bodies: work.moved(),
+        places: &found.moved_places,
+    };
     let islands = wake_and_split(
         alloc,
-        work.take_islands(alloc),
+        spare,
         scene,
         &world.bodies,
-        found.manifolds.touches(),
-        found.manifolds.spans(),
+        &found.collisions.manifolds,
         world.contacts.as_slice(),
+        &candidates,
     )?;
     changes.note_islands(&world.bodies, &islands)?;
     changes.note_impulses(&world.contacts, &islands)?;
@@ -91,6 +102,7 @@ fn finish_untouched(
     requires bodies { length world.old.bodies ≡ length scene.now.fixtures }
     requires untouched { touches_of_scene scene.now world.old.bodies ≡ [] }
     ensures ending { IsEnding scene.now world.old changes.old.bodies world.new changes.new result }
+    ensures awake { OnOk result (HasAwake (numbers_of changes.new.bodies) world.new.bodies) }
     ensures moved { OnOk result (work.new.moved ≡ numbers_of changes.new.bodies) }
     ensures work { work.new ≡ record work.old { moved = work.new.moved } }
     ensures no_memory { world.old.bodies ≡ [] → changes.old.bodies ≡ [] → IsOk result }
@@ -112,30 +124,35 @@ pub(crate) fn finish<C: Crew>(
     alloc: Global,
     scene: &Scene,
     world: &mut World,
-    found: &Collisions,
+    found: &FoundCollisions,
     known: usize,
     work: &mut Work,
     crew: &mut C,
     changes: &mut Changes,
 ) -> Result<(), StepError>
     requires bodies { length world.old.bodies ≡ length scene.now.fixtures }
-    requires points { kept_touches found.now.manifolds
+    requires points { kept_touches found.now.collisions.manifolds
         ≡ touches_of_scene scene.now world.old.bodies }
     requires touches { All (IsTouchOf (length world.old.bodies))
-        (kept_touches found.now.manifolds) }
+        (kept_touches found.now.collisions.manifolds) }
     requires known { HaveSameFirst known (map (λ c. c.key) world.old.contacts)
-        (map key_of (kept_touches found.now.manifolds)) }
+        (map key_of (kept_touches found.now.collisions.manifolds)) }
+    requires moved { All (λ number. number < length world.old.bodies) work.old.moved }
+    requires awake { HasAwake work.old.moved world.old.bodies }
+    requires places { AreListedPlaces work.old.moved found.now.collisions.manifolds.pairs
+        found.now.moved_places.items }
     ensures ending { IsEnding scene.now world.old changes.old.bodies world.new changes.new result }
     ensures called { let islands = islands_of_bodies scene.now world.old.contacts world.old.bodies
         in OnOk result (C.is_called crew.old islands crew.new) }
     ensures failed { let islands = islands_of_bodies scene.now world.old.contacts world.old.bodies
         in IfErr result (λ error. FailsBy C.may_fail crew.old islands error crew.new) }
+    ensures awake { OnOk result (HasAwake (numbers_of changes.new.bodies) world.new.bodies) }
     ensures moved { OnOk result (work.new.moved ≡ numbers_of changes.new.bodies) }
     ensures work { work.new ≡ record work.old { moved = work.new.moved } }
     ensures no_memory { world.old.bodies ≡ [] → changes.old.bodies ≡ []
         → result ≢ Err OutOfMemory }
 {
-    let touches = found.manifolds.touches();
+    let touches = found.collisions.manifolds.touches();
     if touches.is_empty() && crew.skips_untouched() {
         finish_untouched(scene, world, work, changes)?;
         return Ok(());

@@ -6,6 +6,7 @@ ghost use Rattle.pf_manifold.specs.Key.{key_of};
 ghost use Rattle.pf_manifold.specs.Touches.{IsTouchOf};
 ghost use Rattle.pf_cache.specs.Contact.{HaveSameFirst};
 ghost use Rattle.pf_cache.specs.Manifolds.{kept_touches};
+ghost use Rattle.pf_cache.specs.Spans.{AreListedPlaces};
 ghost use Rattle.pf_step.specs.declared.crew.StepError.TheVariants.{OutOfMemory};
 ghost use Rattle.pf_step.specs.Activity.{islands_of_tick};
 ghost use Rattle.pf_cache.specs.PlacedBodies.{HaveStayed, bodies_of};
@@ -28,7 +29,7 @@ use std::alloc::{AllocError, Global};
 
 /// The contact points of the bodies of a scene as they stand; kept ones are reused. Only bodies of
 /// `moved` may have moved since these were kept. Also finds how many of the first points have the
-/// keys of the first kept ones.
+/// keys of the first kept ones, and at which places pairs with a body of `moved` stand.
 #[tactic(auto, using(pf_cache::proofs::Unmoved::kept_points, pf_manifold::proofs::KeyOrder::touches_of_bodies))]
 fn find_collisions<P: Collider>(
     collider: &P,
@@ -50,6 +51,8 @@ fn find_collisions<P: Collider>(
         (kept_touches found.collisions.manifolds)) }
     ensures same { IfOk result (λ found. HaveSameFirst found.same (map key_of (kept_touches kept))
         (map key_of (kept_touches found.collisions.manifolds))) }
+    ensures places { IfOk result (λ found. AreListedPlaces moved.now
+        found.collisions.manifolds.pairs found.moved_places.items) }
     ensures no_memory { bodies.now ≡ [] → IsOk result }
 {
     kept.update(collider, alloc, scene, bodies, moved)
@@ -100,19 +103,18 @@ pub fn step_next<P: Collider, C: Crew>(
         }
     };
     let known = if is_known { found.same } else { 0 };
-    let collisions = found.collisions;
     match finish(
         alloc,
         scene,
         world,
-        &collisions,
+        &found,
         known,
         work,
         crew,
         &mut changes,
     ) {
         Ok(()) => {
-            work.end_tick(collisions);
+            work.end_tick(found.collisions);
             Ok(changes)
         }
         Err(error) => {

@@ -9,7 +9,7 @@ use Rattle.pf_broad.specs.Pairs.{all_bounds, bounds_at, no_bounds, pairs}
 use Rattle.pf_manifold.specs.Key.{key_of}
 use Rattle.pf_manifold.specs.Touches.{Touch}
 use Rattle.pf_cache.specs.Contact.{HaveSameFirst}
-use Rattle.pf_cache.specs.Manifolds.{computed_count, kept_touches, placed_shapes, points_of_pair}
+use Rattle.pf_cache.specs.Manifolds.{Manifolds, computed_count, kept_touches, placed_shapes, points_of_pair}
 use Rattle.pf_cache.specs.PlacedBodies.{HaveStayed, PlacedBodies, bodies_of}
 use Rattle.pf_cache.specs.Spans.{Span, computed_count_by_flags, spans_from, unmoved_flags}
 use Rattle.pf_cache.proofs.Bounded.{as_many_bounds, length-placed_shapes, length-unmoved_flags}
@@ -258,3 +258,16 @@ returns-clause-same g c =
       | in-None+in_ok-found-in-None w ↦ rw w.found-is w.in_ok-found-in-None.ensures.same
     ] in
     subst (λ (ts : List Touch × List Touch). HaveSameFirst tick.same (map key_of ts.0) (map key_of ts.1)) (λ i. (old i, new i)) keys
+
+pub returns-clause-places : goal.returns-clause-places
+returns-clause-places g c =
+    let moved = c.args.moved.now in
+    let listed = c.in_ok-update.ensures.places in
+    let found_are : c.update-2.new.self.pairs ≡ pairs (all_bounds c.args.scene.now.fixtures c.args.bodies.now) =
+    c.in_ok-update.ensures.pairs
+    ∙ ap pairs (c.bounds.ensures.value ∙ ap (λ (p : PlacedBodies). p.bounds) c.in_ok-placed.ensures.placed) in (
+      listed.0,
+      listed.2
+          ∙ ap (moved_places (λ k. listed.0 || has_body moved k))
+          (found_are ∙ sym (ap (λ (m : Manifolds). m.pairs) (returns-clause-manifolds g c))),
+    )

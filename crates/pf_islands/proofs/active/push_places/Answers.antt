@@ -1,6 +1,6 @@
 use Rattle.std.proofs.Common.{rules, ◌∙◌, ◌∷◌, ◌++◌, [], ap, append_assoc, sym}
 use Rattle.pf_islands.proofs.ActiveSpans.{range_one}
-use Rattle.pf_islands.proofs.rows.push_places.Goals as goal
+use Rattle.pf_islands.proofs.active.push_places.Goals as goal
 
 pub loop-place-preserved : goal.loop-place-preserved
 loop-place-preserved c =

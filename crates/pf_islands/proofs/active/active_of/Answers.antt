@@ -9,8 +9,8 @@ use Rattle.pf_islands.specs.Rows.{is_simulated_at}
 use Rattle.pf_islands.specs.Settled.{active_places}
 use Rattle.pf_islands.proofs.ActiveRows.{places_within}
 use Rattle.pf_islands.proofs.ActiveSpans.{ends_inside, few_places, has_room, no_points, not_active, pair_within, places_added, places_of_spans, places_same, spans_have_places}
-use Rattle.pf_islands.proofs.rows.active_of.Goals.{then-span-gt0+then-is_active_by, else-span-gt0, else-span-gt0-via-then-span-gt0+else-is_active_by, else-span-gt0-via-else-span-gt0}
-use Rattle.pf_islands.proofs.rows.active_of.Goals as goal
+use Rattle.pf_islands.proofs.active.active_of.Goals.{then-span-gt0+then-is_active_by, else-span-gt0, else-span-gt0-via-then-span-gt0+else-is_active_by, else-span-gt0-via-else-span-gt0}
+use Rattle.pf_islands.proofs.active.active_of.Goals as goal
 
 pub loop-span-init : goal.loop-span-init
 loop-span-init c = record {

@@ -1,15 +1,16 @@
 //! What is simulated in a tick: which bodies and contacts, whether a contact wakes a body, and on
 //! which side of a row each body stands for the solver.
 
-ghost use Rattle.std.specs.Prelude.{◌≡◌, ◌+◌, ◌^◌, ◌<◌, ◌≤◌, ◌++◌, [], true, All, length, vec_capacity, vec_len, IfOk, IsOk, IsTrue};
+ghost use Rattle.std.specs.Prelude.{◌≡◌, ◌+◌, ◌^◌, ◌<◌, ◌≤◌, ◌++◌, [], true, All, length, map, vec_capacity, vec_len, IfOk, IsOk, IsTrue};
 ghost use Rattle.std.specs.List.{list_all, range_with_len};
 ghost use Rattle.pf_shapes.specs.Pair.{IsPairOf};
 ghost use Rattle.pf_manifold.specs.Touches.{IsTouchOf};
-ghost use Rattle.pf_cache.specs.Spans.{AreSpansOf};
-ghost use Rattle.pf_islands.specs.Flags.{awake_numbers, is_active_by, simulated_flags};
+ghost use Rattle.pf_cache.specs.Spans.{AreListedPlaces, AreSpansOf};
+ghost use Rattle.pf_islands.specs.Flags.{HasAwake, awake_numbers, is_active_by, simulated_flags};
 ghost use Rattle.pf_islands.specs.Rows.{side_of};
 ghost use Rattle.pf_islands.specs.Settled.{active_places, touches_at, wakes_none};
 
+use crate::awake::{AwakeCandidates, awake_numbers, simulated_flags};
 use pf_cache::Span;
 use pf_manifold::Touch;
 use pf_rows::Side;
@@ -30,33 +31,6 @@ pub(crate) fn side_of(scene: &Scene, number: usize) -> Side
     }
 }
 
-/// For each body whether it is dynamic and awake, and the numbers of the awake ones, in ascending
-/// order. Both lists are short, so that they can be read again and again. Takes no memory where
-/// there are no bodies.
-fn simulated_and_awake(
-    alloc: Global,
-    scene: &Scene,
-    bodies: &[BodyState],
-) -> Result<(Vec<bool>, Vec<usize>), AllocError>
-    requires { length bodies.now ≡ length scene.now.fixtures }
-    ensures flags { IfOk result (λ found. found.0.items ≡ simulated_flags scene.now bodies.now) }
-    ensures numbers { IfOk result (λ found. found.1.items ≡ awake_numbers bodies.now) }
-    ensures no_memory { bodies.now ≡ [] → IsOk result }
-{
-    let fixtures = scene.fixtures();
-    let mut simulated = Vec::with_capacity(alloc, bodies.len())?;
-    let mut numbers = Vec::with_capacity(alloc, bodies.len())?;
-    for (number, body) in bodies.iter().enumerate() {
-        if body.awake {
-            simulated.push_reserved(!fixtures[number].is_static());
-            numbers.push_reserved(number);
-        } else {
-            simulated.push_reserved(false);
-        }
-    }
-    Ok((simulated, numbers))
-}
-
 /// Whether one of a pair's bodies is simulated, by these flags. Both are read, so that one branch
 /// decides.
 #[inline]
@@ -67,8 +41,7 @@ fn is_active_by(simulated: &[bool], pair: &Pair) -> bool
     simulated[pair.a] | simulated[pair.b]
 }
 
-/// Adds the places of a span's points, for which there is room. A function of its own, since few
-/// spans have points that are simulated: the loop over all spans runs faster without this one.
+/// Adds the places of a span's points, for which there is room.
 #[inline(never)]
 fn push_places(places: &mut Vec<usize>, span: &Span)
     requires number { span.now.start + span.now.len < 2 ^ 64 }
@@ -93,19 +66,24 @@ pub(crate) struct Active {
     pub places: Vec<usize>,
 }
 
-/// Which bodies and contacts are simulated. `spans` says which pair has which points, so that the
-/// points of a pair that sleeps are not looked at. Takes no memory where there are no bodies and no
-/// contact points.
+/// Which bodies and contacts are simulated. `spans` says which pair has which points, and
+/// `candidates` which bodies and pairs are looked at. Takes no memory where there are no bodies and
+/// no contact points.
 pub(crate) fn active_of(
     alloc: Global,
     scene: &Scene,
     bodies: &[BodyState],
     touches: &[Touch],
     spans: &[Span],
+    candidates: &AwakeCandidates,
 ) -> Result<Active, AllocError>
     requires bodies { length bodies.now ≡ length scene.now.fixtures }
     requires touches { All (IsTouchOf (length bodies.now)) touches.now }
     requires spans { AreSpansOf spans.now touches.now }
+    requires listed { All (λ number. number < length bodies.now) candidates.now.bodies.now }
+    requires awake { HasAwake candidates.now.bodies.now bodies.now }
+    requires places { AreListedPlaces candidates.now.bodies.now (map (λ s. s.pair) spans.now)
+        candidates.now.places.now }
     ensures simulated { IfOk result
         (λ found. found.simulated.items ≡ simulated_flags scene.now bodies.now) }
     ensures numbers { IfOk result (λ found. found.numbers.items ≡ awake_numbers bodies.now) }
@@ -115,9 +93,11 @@ pub(crate) fn active_of(
         (λ found. All (λ place. place < length touches.now) found.places.items) }
     ensures no_memory { bodies.now ≡ [] → touches.now ≡ [] → IsOk result }
 {
-    let (simulated, numbers) = simulated_and_awake(alloc, scene, bodies)?;
+    let numbers = awake_numbers(alloc, bodies, candidates.bodies)?;
+    let simulated = simulated_flags(alloc, scene, bodies, &numbers)?;
     let mut places = Vec::with_capacity(alloc, touches.len())?;
-    for span in spans {
+    for place in candidates.places {
+        let span = &spans[*place];
         if span.len > 0 && is_active_by(&simulated, &span.pair) {
             push_places(&mut places, span);
         }

@@ -2,7 +2,7 @@ use Rattle.std.proofs.Common.{◌∙◌, ap, sym, take_all}
 use Rattle.std.specs.List.{list_all}
 use Rattle.pf_islands.specs.Settled.{touches_at, wakes_none}
 use Rattle.pf_islands.proofs.SettledGroups.{all_more}
-use Rattle.pf_islands.proofs.rows.wake_none.Goals as goal
+use Rattle.pf_islands.proofs.active.wake_none.Goals as goal
 
 pub loop-place-preserved : goal.loop-place-preserved
 loop-place-preserved c =

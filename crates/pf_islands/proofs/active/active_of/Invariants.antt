@@ -3,7 +3,7 @@ use Rattle.std.specs.Prelude.{drop}
 use Rattle.pf_islands.specs.Flags.{simulated_flags}
 use Rattle.pf_islands.specs.Settled.{active_places}
 use Rattle.pf_islands.proofs.ActiveSpans.{places_of_spans}
-use Rattle.pf_islands.proofs.rows.active_of.Given as goal
+use Rattle.pf_islands.proofs.active.active_of.Given as goal
 
 abbrev pub invariant-loop-span : goal.invariant-loop-span
 invariant-loop-span l = record {

@@ -1,6 +1,6 @@
 use Rattle.std.proofs.Common.{◌≡◌, ◌+◌, ◌-◌, ◌≤◌, ◌++◌, vec_capacity, vec_len}
 use Rattle.std.specs.List.{range_with_len}
-use Rattle.pf_islands.proofs.rows.push_places.Given as goal
+use Rattle.pf_islands.proofs.active.push_places.Given as goal
 
 abbrev pub invariant-loop-place : goal.invariant-loop-place
 invariant-loop-place l = record {

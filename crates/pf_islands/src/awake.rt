@@ -1,0 +1,93 @@
+//! Which bodies are awake in a tick.
+
+ghost use Rattle.std.specs.Prelude.{◌≡◌, ◌<◌, [], All, filter, length, IfOk, IsOk};
+ghost use Rattle.pf_islands.specs.Flags.{HasAwake, awake_numbers, simulated_flags};
+ghost use Rattle.pf_islands.specs.Rows.{is_awake_at};
+
+use pf_shapes::{BodyState, Scene};
+use std::alloc::{AllocError, Global};
+
+/// Where a tick looks for awake bodies, so that what sleeps is not looked at.
+pub struct AwakeCandidates<'a> {
+    /// The numbers of bodies, among them all that are awake, in any order.
+    pub bodies: &'a [usize],
+    /// The places of the pairs with one of these bodies, in ascending order, or of all pairs.
+    pub places: &'a [usize],
+}
+
+/// The awake ones of these bodies, in the same order.
+fn awake_among(
+    alloc: Global,
+    bodies: &[BodyState],
+    listed: &[usize],
+) -> Result<Vec<usize>, AllocError>
+    requires { All (λ number. number < length bodies.now) listed.now }
+    ensures { IfOk result
+        (λ numbers. numbers.items ≡ filter (is_awake_at bodies.now) listed.now) }
+{
+    let mut numbers = Vec::with_capacity(alloc, listed.len())?;
+    for number in listed {
+        if bodies[*number].awake {
+            numbers.push_reserved(*number);
+        }
+    }
+    Ok(numbers)
+}
+
+/// The numbers of all awake bodies, in ascending order. Takes no memory where there are no bodies.
+fn all_awake(alloc: Global, bodies: &[BodyState]) -> Result<Vec<usize>, AllocError>
+    ensures value { IfOk result (λ numbers. numbers.items ≡ awake_numbers bodies.now) }
+    ensures no_memory { bodies.now ≡ [] → IsOk result }
+{
+    let mut numbers = Vec::with_capacity(alloc, bodies.len())?;
+    for (number, body) in bodies.iter().enumerate() {
+        if body.awake {
+            numbers.push_reserved(number);
+        }
+    }
+    Ok(numbers)
+}
+
+/// The numbers of all awake bodies, in ascending order. They are looked for among the listed ones,
+/// which may be in any order; where these are at least half as many as there are bodies, among all,
+/// since nothing is sorted then. Takes no memory where there are no bodies.
+pub(crate) fn awake_numbers(
+    alloc: Global,
+    bodies: &[BodyState],
+    listed: &[usize],
+) -> Result<Vec<usize>, AllocError>
+    requires listed { All (λ number. number < length bodies.now) listed.now }
+    requires awake { HasAwake listed.now bodies.now }
+    ensures value { IfOk result (λ numbers. numbers.items ≡ awake_numbers bodies.now) }
+    ensures no_memory { bodies.now ≡ [] → IsOk result }
+{
+    if listed.len() >= bodies.len() / 2 {
+        return all_awake(alloc, bodies);
+    }
+    let mut numbers = awake_among(alloc, bodies, listed)?;
+    numbers.sort_unstable();
+    numbers.dedup();
+    Ok(numbers)
+}
+
+/// For each body whether it is dynamic and awake. The list is short, so that it can be read again
+/// and again. Takes no memory where there are no bodies.
+pub(crate) fn simulated_flags(
+    alloc: Global,
+    scene: &Scene,
+    bodies: &[BodyState],
+    numbers: &[usize],
+) -> Result<Vec<bool>, AllocError>
+    requires bodies { length bodies.now ≡ length scene.now.fixtures }
+    requires numbers { numbers.now ≡ awake_numbers bodies.now }
+    ensures value { IfOk result (λ flags. flags.items ≡ simulated_flags scene.now bodies.now) }
+    ensures no_memory { bodies.now ≡ [] → IsOk result }
+{
+    let fixtures = scene.fixtures();
+    let mut simulated = Vec::with_capacity(alloc, bodies.len())?;
+    simulated.resize(bodies.len(), false)?;
+    for number in numbers {
+        simulated[*number] = !fixtures[*number].is_static();
+    }
+    Ok(simulated)
+}

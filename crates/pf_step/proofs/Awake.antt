@@ -1,0 +1,138 @@
+-- The bodies that a work lists have all awake ones among them, from step to step.
+use Rattle.std.proofs.Common.{◌≡◌, ◌∙◌, ◌<◌, ◌||◌, ◌&&◌, ◌==◌, ℕ, Bool, true, false, List, [], ◌∷◌, ◌++◌, Option, Some, None, filter, length, nat_lt, refl, sym, ap, ap₂, arith, slice_get}
+use Rattle.std.specs.List.{flat_map, range_with_len}
+use Rattle.std.proofs.lemmas.Bool.{true≢false}
+use Rattle.std.proofs.lemmas.Bool.Decides.{nat_tests}
+use Rattle.std.proofs.lemmas.List.Folds.{list_any-append}
+use Rattle.std.proofs.lemmas.Option.{none-some, slice_get-get_or}
+use Rattle.pf_shapes.specs.Body.{BodyState, no_state}
+use Rattle.pf_shapes.specs.Scene.{Scene}
+use Rattle.pf_broad.specs.Partners.{has_body}
+use Rattle.pf_broad.proofs.Ranges.{has_body-below, has_body-filter}
+use Rattle.pf_cache.proofs.Standing.{same_at}
+use Rattle.pf_commands.specs.declared.payload.Payload.{Payload}
+use Rattle.pf_islands.specs.Flags.{HasAwake}
+use Rattle.pf_islands.specs.Rows.{is_awake_at}
+use Rattle.pf_islands.specs.Split.{Island}
+use Rattle.pf_islands.proofs.Listed.{all_listed, awake_there}
+use Rattle.pf_step.specs.Changes.{BodyChange, bodies_before, change_if, change_of, changes_by_commands, changes_of, changes_of_awake, changes_of_islands, numbers_of}
+use Rattle.pf_step.specs.Commands.{after_commands}
+use Rattle.pf_step.specs.Work.{KnowsWorld, Work, moved_bodies}
+use Rattle.pf_step.specs.World.{World}
+use Rattle.pf_step.proofs.Changing.{notes_of_all}
+use Rattle.pf_step.proofs.Commanding.{commands_before, commands_length}
+use Rattle.pf_step.proofs.Following.{neither, numbers_more, unlisted}
+
+-- a body that is the same in both is awake in both
+awake_alike : (bodies others : List BodyState) (k : ℕ) → slice_get bodies k ≡ slice_get others k
+    → is_awake_at bodies k ≡ is_awake_at others k
+awake_alike bodies others k same = ap (λ (b : BodyState). b.awake) (same_at bodies others k same no_state)
+
+-- where each body that is not listed stays as it is, and all awake ones are listed, the awake ones
+-- are listed afterwards
+still_listed : (numbers : List ℕ) (before after : List BodyState)
+    → ((k : ℕ) → has_body numbers k ≡ false → slice_get after k ≡ slice_get before k)
+    → HasAwake numbers before → HasAwake numbers after
+still_listed numbers before after same awake k wakes = by (has_body numbers k) refl
+  where
+    by : (e : Bool) → has_body numbers k ≡ e → has_body numbers k ≡ true
+    by true is = is
+    by false other = awake k (sym (awake_alike after before k (same k other)) ∙ wakes)
+
+-- ---- more bodies
+
+or_true : (a b : Bool) → b ≡ true → (a || b) ≡ true
+or_true true b is = refl
+or_true false b is = is
+
+or_first : (a b : Bool) → a ≡ true → (a || b) ≡ true
+or_first true b is = refl
+or_first false b is = absurd (true≢false (sym is))
+
+listed_first : (first second : List ℕ) (bodies : List BodyState) → HasAwake first bodies → HasAwake (first ++ second) bodies
+listed_first first second bodies awake k wakes =
+    list_any-append (λ m. m == k) first second ∙ or_first (has_body first k) (has_body second k) (awake k wakes)
+
+listed_second : (first second : List ℕ) (bodies : List BodyState) → HasAwake second bodies → HasAwake (first ++ second) bodies
+listed_second first second bodies awake k wakes =
+    list_any-append (λ m. m == k) first second ∙ or_true (has_body first k) (has_body second k) (awake k wakes)
+
+-- ---- bodies that are noted
+
+-- the body of a number is noted
+noted_number : (bodies : List BodyState) (numbers : List ℕ) (k : ℕ) → k < length bodies → has_body numbers k ≡ true
+    → has_body (numbers_of (changes_of bodies numbers)) k ≡ true
+noted_number bodies [] k within listed = listed
+noted_number bodies (n ∷ numbers) k within listed =
+    ap (λ ns. has_body ns k) (numbers_more (change_of bodies n) (changes_of bodies numbers))
+    ∙ list_any-append (λ m. m == k) (numbers_of (change_of bodies n)) (numbers_of (changes_of bodies numbers))
+    ∙ by (n == k) refl listed
+  where
+    own : (b : Option BodyState) → slice_get bodies n ≡ b → n ≡ k → has_body (numbers_of (change_if n b)) k ≡ true
+    own (Some b) here same = or_first (n == k) false (grind (arith, nat_tests))
+    own None none same =
+        absurd (none-some (no_state_at) (sym none ∙ slice_get-get_or bodies n no_state (omega (arith, within, same))))
+      where
+        no_state_at : BodyState
+        no_state_at = no_state
+
+    by : (e : Bool) → (n == k) ≡ e → (e || has_body numbers k) ≡ true
+        → (has_body (numbers_of (change_of bodies n)) k || has_body (numbers_of (changes_of bodies numbers)) k) ≡ true
+    by true same all =
+        or_first _ (has_body (numbers_of (changes_of bodies numbers)) k) (own (slice_get bodies n) refl (grind (arith, nat_tests)))
+    by false other rest =
+        or_true (has_body (numbers_of (change_of bodies n)) k) _ (noted_number bodies numbers k within rest)
+
+-- all awake bodies are noted
+pub awake_noted : (bodies : List BodyState) → HasAwake (numbers_of (changes_of_awake bodies)) bodies
+awake_noted bodies k wakes =
+    let within = awake_there bodies k wakes in
+    noted_number bodies (filter (is_awake_at bodies) (range_with_len 0 (length bodies))) k within
+    (has_body-filter (is_awake_at bodies) (range_with_len 0 (length bodies)) k
+    ∙ ap₂ (λ a b. a && b) wakes (has_body-below (length bodies) k ∙ below (length bodies) within))
+  where
+    below : (n : ℕ) → k < n → nat_lt k n ≡ true
+    below n less = grind (arith, nat_tests)
+
+-- those of islands are noted, where the islands have all awake ones
+pub islands_noted : (bodies : List BodyState) (islands : List Island)
+    → ((k : ℕ) → k < length bodies → is_awake_at bodies k ≡ true
+    → has_body (flat_map (λ (i : Island). i.numbers) islands) k ≡ true)
+    → HasAwake (numbers_of (changes_of_islands bodies islands)) bodies
+islands_noted bodies islands have k wakes =
+    let within = awake_there bodies k wakes in
+    ap (λ cs. has_body (numbers_of cs) k) (notes_of_all bodies (λ (i : Island). i.numbers) islands)
+    ∙ noted_number bodies (flat_map (λ (i : Island). i.numbers) islands) k within (have k within wakes)
+
+-- ---- the next step
+
+-- after commands
+pub awake_after_commands : (s : Scene) (w : World) (payloads : List Payload) (work : Work) (moved : List ℕ)
+    (notes : List BodyChange) (after : List BodyState) → KnowsWorld s w work
+    → notes ≡ changes_by_commands w.bodies payloads → after ≡ after_commands s.fixtures w.bodies payloads
+    → moved ≡ moved_bodies work.is_known work.moved (length w.bodies) (numbers_of notes)
+    → HasAwake moved after
+awake_after_commands s w payloads work moved notes after follows noted after_is listed = by work.is_known refl
+  where
+    by : (known : Bool) → work.is_known ≡ known → HasAwake moved after
+    by true known =
+        let list : moved ≡ work.moved ++ numbers_of notes =
+        listed ∙ ap (λ b. moved_bodies b work.moved (length w.bodies) (numbers_of notes)) known in
+        still_listed moved w.bodies after
+        (λ k other.
+        unlisted notes after w.bodies k (ap₂ bodies_before noted after_is ∙ commands_before s.fixtures w.bodies payloads)
+        (neither work.moved (numbers_of notes) k (sym (ap (λ ns. has_body ns k) list) ∙ other)).1)
+        (λ k wakes.
+        ap (λ ns. has_body ns k) list ∙ listed_first work.moved (numbers_of notes) w.bodies (follows known).3 k wakes)
+    by false unknown =
+        all_listed moved (length w.bodies) after
+        (listed ∙ ap (λ b. moved_bodies b work.moved (length w.bodies) (numbers_of notes)) unknown)
+        (sym (ap length after_is ∙ commands_length s.fixtures w.bodies payloads))
+
+-- after a step, where all that was awake before it is noted
+pub awake_after_step : (first more changes : List BodyChange) (before after : List BodyState) → changes ≡ first ++ more
+    → bodies_before more after ≡ before → HasAwake (numbers_of more) before → HasAwake (numbers_of changes) after
+awake_after_step first more changes before after are undone awake k wakes =
+    ap (λ cs. has_body (numbers_of cs) k) are ∙ ap (λ ns. has_body ns k) (numbers_more first more)
+    ∙ listed_second (numbers_of first) (numbers_of more) after
+    (still_listed (numbers_of more) before after (λ n other. unlisted more after before n undone other) awake) k wakes
