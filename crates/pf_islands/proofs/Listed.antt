@@ -1,5 +1,5 @@
 -- Awake bodies and simulated pairs, which are looked for among listed ones alone.
-use Rattle.std.proofs.Common.{◌≡◌, ◌∙◌, ◌≤◌, ◌<◌, ◌+◌, ◌==◌, ⊎_elim, ℕ, Bool, true, false, not, ◌&&◌, ◌||◌, cond, List, ◌++◌, filter, get_or, length, map, nat_lt, refl, sym, ap, ap₂, subst, arith}
+use Rattle.std.proofs.Common.{◌≡◌, ◌∙◌, ◌≤◌, ◌<◌, ◌+◌, ◌==◌, ⊎_elim, ℕ, Bool, true, false, not, ◌&&◌, ◌||◌, cond, List, ◌++◌, filter, get_or, length, map, nat_lt, refl, sym, ap, ap₂, arith}
 use Rattle.std.specs.Prelude.{drop}
 use Rattle.std.specs.List.{range_with_len}
 use Rattle.std.proofs.Math.ListN.{get_or-eq_default}
@@ -91,6 +91,22 @@ pub all_places : (numbers places : List ℕ) (pairs : List Pair) → places ≡ 
     → AreListedPlaces numbers pairs places
 all_places numbers places pairs are = (true, are ∙ every_place pairs)
 
+-- each place is that of a span
+pub place_low : (numbers : List ℕ) (spans : List Span) (places : List ℕ)
+    → AreListedPlaces numbers (map (λ (x : Span). x.pair) spans) places
+    → (i d : ℕ) → i < length places → get_or places i d < length spans
+place_low numbers spans places listed i d within =
+    let pairs = map (λ (x : Span). x.pair) spans in
+    let long = length-map spans (λ (x : Span). x.pair) in
+    let low = number_low
+    (λ k. (listed.0 || has_body numbers (pair_at pairs k).a) || (listed.0 || has_body numbers (pair_at pairs k).b))
+    (length pairs) places listed.1 i d within in
+    omega (arith, low, long)
+
+-- the spans from a place on have the places that are left of all
+abbrev pub LeadTo : Scene → List BodyState → List Span → List ℕ → List ℕ → ℕ → Type 0
+LeadTo s bodies spans all made k = made ++ places_of_spans (simulated_flags s bodies) (drop k spans) ≡ all
+
 module _ (s : Scene) (bodies : List BodyState) (numbers : List ℕ) (spans : List Span) (places : List ℕ)
     (awake : HasAwake numbers bodies) (listed : AreListedPlaces numbers (map (λ (x : Span). x.pair) spans) places) where
   abbrev spanned : List Pair
@@ -104,10 +120,6 @@ module _ (s : Scene) (bodies : List BodyState) (numbers : List ℕ) (spans : Lis
   is_listed_at k =
       (listed.0 || has_body numbers (pair_at spanned k).a) || (listed.0 || has_body numbers (pair_at spanned k).b)
 
-  -- the spans from a place on have the places that are left of all
-  abbrev pub LeadTo : List ℕ → List ℕ → ℕ → Type 0
-  LeadTo all made k = made ++ places_of_spans simulated (drop k spans) ≡ all
-
   asleep : (k : ℕ) → has_body numbers k ≡ false → get_or simulated k false ≡ false
   asleep k other = flag_at s bodies k ∙ asleep_not_simulated s bodies k (by (is_awake_at bodies k) refl)
     where
@@ -116,7 +128,7 @@ module _ (s : Scene) (bodies : List BodyState) (numbers : List ℕ) (spans : Lis
       by false is = is
 
   -- a pair without a listed body is not simulated
-  passed : (all made : List ℕ) (k : ℕ) → k < length spanned → is_listed_at k ≡ false → LeadTo all made k → LeadTo all made (k + 1)
+  passed : (all made : List ℕ) (k : ℕ) → k < length spanned → is_listed_at k ≡ false → LeadTo s bodies spans all made k → LeadTo s bodies spans all made (k + 1)
   passed all made k below other before =
       let long = length-map spans (λ (x : Span). x.pair) in
       let within : k < length spans = omega (arith, below, long) in
@@ -131,28 +143,21 @@ module _ (s : Scene) (bodies : List BodyState) (numbers : List ℕ) (spans : Lis
       (ap (is_active_by simulated) pair_is
       ∙ ap₂ (λ a b. a || b) (asleep (pair_at spanned k).a first.1) (asleep (pair_at spanned k).b second.1)))
 
-  pub from_first : (all made : List ℕ) → LeadTo all made 0 → LeadTo all made (get_or places 0 (length spanned))
+  pub from_first : (all made : List ℕ) → LeadTo s bodies spans all made 0 → LeadTo s bodies spans all made (get_or places 0 (length spanned))
   from_first all made =
-      at_first is_listed_at (length spanned) places listed.1 (LeadTo all made) (passed all made)
+      at_first is_listed_at (length spanned) places listed.1 (LeadTo s bodies spans all made) (passed all made)
 
-  pub to_next : (all made : List ℕ) (i : ℕ) → i < length places → LeadTo all made (get_or places i 0 + 1)
-      → LeadTo all made (get_or places (i + 1) (length spanned))
+  pub to_next : (all made : List ℕ) (i : ℕ) → i < length places → LeadTo s bodies spans all made (get_or places i 0 + 1)
+      → LeadTo s bodies spans all made (get_or places (i + 1) (length spanned))
   to_next all made =
-      at_next is_listed_at (length spanned) places listed.1 (LeadTo all made) (passed all made)
+      at_next is_listed_at (length spanned) places listed.1 (LeadTo s bodies spans all made) (passed all made)
 
-  pub to_here : (all made : List ℕ) (i : ℕ) → i < length places → LeadTo all made (get_or places i (length spanned))
-      → LeadTo all made (get_or places i 0)
-  to_here all made = at_number is_listed_at (length spanned) places listed.1 (LeadTo all made)
-
-  -- each place is that of a span
-  pub place_low : (i d : ℕ) → i < length places → get_or places i d < length spans
-  place_low i d within =
-      let long = length-map spans (λ (x : Span). x.pair) in
-      let low = number_low is_listed_at (length spanned) places listed.1 i d within in
-      omega (arith, low, long)
+  pub to_here : (all made : List ℕ) (i : ℕ) → i < length places → LeadTo s bodies spans all made (get_or places i (length spanned))
+      → LeadTo s bodies spans all made (get_or places i 0)
+  to_here all made = at_number is_listed_at (length spanned) places listed.1 (LeadTo s bodies spans all made)
 
   -- behind the last one, all are made
-  pub all_made : (all made : List ℕ) (i : ℕ) → length places ≤ i → LeadTo all made (get_or places i (length spanned)) → made ≡ all
+  pub all_made : (all made : List ℕ) (i : ℕ) → length places ≤ i → LeadTo s bodies spans all made (get_or places i (length spanned)) → made ≡ all
   all_made all made i over before =
       let long = length-map spans (λ (x : Span). x.pair) in
       sym (append-nil made)

@@ -129,7 +129,7 @@ fn wakes_none(scene: &Scene, bodies: &[BodyState], touch: &Touch) -> bool
 }
 
 /// Whether the contacts at these places, which are simulated, wake no bodies. No clause says that
-/// it finds each such list.
+/// it finds each such list, but that without places.
 pub(crate) fn wake_none(
     scene: &Scene,
     bodies: &[BodyState],
@@ -139,8 +139,9 @@ pub(crate) fn wake_none(
     requires bodies { length bodies.now ≡ length scene.now.fixtures }
     requires touches { All (IsTouchOf (length bodies.now)) touches.now }
     requires places { All (λ place. place < length touches.now) places.now }
-    ensures { IsTrue result
+    ensures value { IsTrue result
         → list_all (wakes_none scene.now bodies.now) (touches_at touches.now places.now) ≡ true }
+    ensures none { places.now ≡ [] → result ≡ true }
 {
     for place in places {
         if !wakes_none(scene, bodies, &touches[*place]) {

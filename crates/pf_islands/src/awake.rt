@@ -8,6 +8,7 @@ use pf_shapes::{BodyState, Scene};
 use std::alloc::{AllocError, Global};
 
 /// Where a tick looks for awake bodies, so that what sleeps is not looked at.
+#[derive(Drop)]
 pub struct AwakeCandidates<'a> {
     /// The numbers of bodies, among them all that are awake, in any order.
     pub bodies: &'a [usize],
@@ -27,7 +28,8 @@ fn awake_among(
 {
     let mut numbers = Vec::with_capacity(alloc, listed.len())?;
     for number in listed {
-        if bodies[*number].awake {
+        let body = &bodies[*number];
+        if body.awake {
             numbers.push_reserved(*number);
         }
     }

@@ -328,9 +328,11 @@ pub fn wake_and_split(
     }
     let woken = woken_bodies(alloc, scene, bodies, touches)?;
     let bodies = woken.as_slice();
+    let all_numbers = singles(alloc, bodies.len())?;
+    let all_places = singles(alloc, spans.len())?;
     let all = AwakeCandidates {
-        bodies: &singles(alloc, bodies.len())?,
-        places: &singles(alloc, spans.len())?,
+        bodies: &all_numbers,
+        places: &all_places,
     };
     let active = active_of(alloc, scene, bodies, touches, spans, &all)?;
     split(alloc, spare, scene, bodies, touches, contacts, &active)

@@ -13,8 +13,8 @@ loop-place-preserved c =
     c.loop-place-test.true inside c.index-touches-place.is c.loop-place.invariant
     (sym c.wakes_none.ensures ∙ c.if-not-wakes_none.false)
 
-pub returns : goal.returns
-returns c = λ passes.
+pub returns-clause-value : goal.returns-clause-value
+returns-clause-value c = λ passes.
     ap (λ ps. list_all (wakes_none c.args.scene.now c.args.bodies.now) (touches_at c.args.touches.now ps))
     (sym (take_all c.loop-place.place-index c.args.places.now c.loop-place-test.false))
     ∙ c.loop-place.invariant

@@ -1,4 +1,4 @@
-use Rattle.std.proofs.Common.{rules, ◌≡◌, ◌∙◌, ◌∷◌, ◌++◌, [], ℕ, Global, Vec, true, false, ap, append-nil, sym}
+use Rattle.std.proofs.Common.{rules, ◌∙◌, ◌∷◌, ◌++◌, [], ℕ, Global, Vec, true, false, ap, append-nil, sym}
 use Rattle.std.proofs.lemmas.List.{get_or_read}
 use Rattle.pf_shapes.specs.Body.{BodyState, no_state}
 use Rattle.pf_islands.proofs.AwakeNumbers.{numbers_more}
