@@ -20,4 +20,5 @@ pub mod HomeAgain
 pub mod Whole
 pub mod Exactly
 pub mod SettledGroups
+pub mod DealtRows
 pub mod PutBack

@@ -1,6 +1,7 @@
 -- The bodies that a work lists have all awake ones among them, from step to step.
-use Rattle.std.proofs.Common.{◌≡◌, ◌∙◌, ◌<◌, ◌||◌, ◌&&◌, ◌==◌, ℕ, Bool, true, false, List, [], ◌∷◌, ◌++◌, Option, Some, None, filter, length, nat_lt, refl, sym, ap, ap₂, arith, slice_get}
+use Rattle.std.proofs.Common.{◌≡◌, ◌∙◌, ◌<◌, ◌||◌, ◌&&◌, ◌==◌, ℕ, Bool, true, false, List, [], ◌∷◌, ◌++◌, Option, Some, None, filter, get_or, length, nat_lt, refl, sym, ap, ap₂, arith, slice_get}
 use Rattle.std.specs.List.{flat_map, range_with_len}
+use Rattle.std.specs.Prelude.{All}
 use Rattle.std.proofs.lemmas.Bool.{true≢false}
 use Rattle.std.proofs.lemmas.Bool.Decides.{nat_tests}
 use Rattle.std.proofs.lemmas.List.Folds.{list_any-append}
@@ -21,7 +22,7 @@ use Rattle.pf_step.specs.Work.{KnowsWorld, Work, moved_bodies}
 use Rattle.pf_step.specs.World.{World}
 use Rattle.pf_step.proofs.Changing.{notes_of_all}
 use Rattle.pf_step.proofs.Commanding.{commands_before, commands_length}
-use Rattle.pf_step.proofs.Following.{neither, numbers_more, unlisted}
+use Rattle.pf_step.proofs.Following.{neither, numbers_more, stayed_after_commands, unlisted}
 
 -- a body that is the same in both is awake in both
 awake_alike : (bodies others : List BodyState) (k : ℕ) → slice_get bodies k ≡ slice_get others k
@@ -66,22 +67,20 @@ noted_number bodies [] k within listed = listed
 noted_number bodies (n ∷ numbers) k within listed =
     ap (λ ns. has_body ns k) (numbers_more (change_of bodies n) (changes_of bodies numbers))
     ∙ list_any-append (λ m. m == k) (numbers_of (change_of bodies n)) (numbers_of (changes_of bodies numbers))
-    ∙ by (n == k) refl listed
+    ∙ by (n == k) refl listed (noted_number bodies numbers k within)
   where
     own : (b : Option BodyState) → slice_get bodies n ≡ b → n ≡ k → has_body (numbers_of (change_if n b)) k ≡ true
     own (Some b) here same = or_first (n == k) false (grind (arith, nat_tests))
     own None none same =
-        absurd (none-some (no_state_at) (sym none ∙ slice_get-get_or bodies n no_state (omega (arith, within, same))))
-      where
-        no_state_at : BodyState
-        no_state_at = no_state
+        absurd
+        (none-some (get_or bodies n no_state) (sym none ∙ slice_get-get_or bodies n no_state (omega (arith, within, same))))
 
     by : (e : Bool) → (n == k) ≡ e → (e || has_body numbers k) ≡ true
+        → (has_body numbers k ≡ true → has_body (numbers_of (changes_of bodies numbers)) k ≡ true)
         → (has_body (numbers_of (change_of bodies n)) k || has_body (numbers_of (changes_of bodies numbers)) k) ≡ true
-    by true same all =
+    by true same all others =
         or_first _ (has_body (numbers_of (changes_of bodies numbers)) k) (own (slice_get bodies n) refl (grind (arith, nat_tests)))
-    by false other rest =
-        or_true (has_body (numbers_of (change_of bodies n)) k) _ (noted_number bodies numbers k within rest)
+    by false other rest others = or_true (has_body (numbers_of (change_of bodies n)) k) _ (others rest)
 
 -- all awake bodies are noted
 pub awake_noted : (bodies : List BodyState) → HasAwake (numbers_of (changes_of_awake bodies)) bodies
@@ -107,7 +106,7 @@ islands_noted bodies islands have k wakes =
 -- ---- the next step
 
 -- after commands
-pub awake_after_commands : (s : Scene) (w : World) (payloads : List Payload) (work : Work) (moved : List ℕ)
+awake_after_commands : (s : Scene) (w : World) (payloads : List Payload) (work : Work) (moved : List ℕ)
     (notes : List BodyChange) (after : List BodyState) → KnowsWorld s w work
     → notes ≡ changes_by_commands w.bodies payloads → after ≡ after_commands s.fixtures w.bodies payloads
     → moved ≡ moved_bodies work.is_known work.moved (length w.bodies) (numbers_of notes)
@@ -128,6 +127,17 @@ awake_after_commands s w payloads work moved notes after follows noted after_is 
         all_listed moved (length w.bodies) after
         (listed ∙ ap (λ b. moved_bodies b work.moved (length w.bodies) (numbers_of notes)) unknown)
         (sym (ap length after_is ∙ commands_length s.fixtures w.bodies payloads))
+
+-- and all listed ones are bodies
+pub listed_after_commands : (s : Scene) (w : World) (payloads : List Payload) (work : Work) (moved : List ℕ)
+    (notes : List BodyChange) (after : List BodyState) → KnowsWorld s w work
+    → notes ≡ changes_by_commands w.bodies payloads → after ≡ after_commands s.fixtures w.bodies payloads
+    → moved ≡ moved_bodies work.is_known work.moved (length w.bodies) (numbers_of notes)
+    → All (λ number. number < length after) moved × HasAwake moved after
+listed_after_commands s w payloads work moved notes after follows noted after_is listed = (
+  (stayed_after_commands s w payloads work work.manifolds moved notes after follows refl noted after_is listed).0,
+  awake_after_commands s w payloads work moved notes after follows noted after_is listed,
+)
 
 -- after a step, where all that was awake before it is noted
 pub awake_after_step : (first more changes : List BodyChange) (before after : List BodyState) → changes ≡ first ++ more

@@ -51,8 +51,8 @@ fn prepare(
     requires order { AreTouches (touches_of_scene scene.now world.now.bodies) }
     requires keys { map (λ c. c.key) world.now.contacts
         ≡ map key_of (touches_of_scene scene.now world.now.bodies) }
-    requires moved { All (λ number. number < length world.now.bodies) work.old.moved }
-    requires awake { HasAwake work.old.moved world.now.bodies }
+    requires awake { All (λ number. number < length world.now.bodies) work.old.moved
+        × HasAwake work.old.moved world.now.bodies }
     requires places { AreListedPlaces work.old.moved found.now.collisions.manifolds.pairs
         found.now.moved_places.items }
     ensures islands { IfOk result (λ islands. islands.items
@@ -77,12 +77,13 @@ fn prepare(
         bodies: work.moved(),
         places: &found.moved_places,
     };
+    let collisions = &found.collisions;
     let islands = wake_and_split(
         alloc,
         spare,
         scene,
         &world.bodies,
-        &found.collisions.manifolds,
+        &collisions.manifolds,
         world.contacts.as_slice(),
         &candidates,
     )?;
@@ -137,8 +138,8 @@ pub(crate) fn finish<C: Crew>(
         (kept_touches found.now.collisions.manifolds) }
     requires known { HaveSameFirst known (map (λ c. c.key) world.old.contacts)
         (map key_of (kept_touches found.now.collisions.manifolds)) }
-    requires moved { All (λ number. number < length world.old.bodies) work.old.moved }
-    requires awake { HasAwake work.old.moved world.old.bodies }
+    requires awake { All (λ number. number < length world.old.bodies) work.old.moved
+        × HasAwake work.old.moved world.old.bodies }
     requires places { AreListedPlaces work.old.moved found.now.collisions.manifolds.pairs
         found.now.moved_places.items }
     ensures ending { IsEnding scene.now world.old changes.old.bodies world.new changes.new result }

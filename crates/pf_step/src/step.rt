@@ -103,16 +103,7 @@ pub fn step_next<P: Collider, C: Crew>(
         }
     };
     let known = if is_known { found.same } else { 0 };
-    match finish(
-        alloc,
-        scene,
-        world,
-        &found,
-        known,
-        work,
-        crew,
-        &mut changes,
-    ) {
+    match finish(alloc, scene, world, &found, known, work, crew, &mut changes) {
         Ok(()) => {
             work.end_tick(found.collisions);
             Ok(changes)

@@ -1,16 +1,16 @@
-use Rattle.std.proofs.Common.{◌≡◌, ◌∙◌, refl, [], ◌∷◌, ◌++◌, List, ap, arith, get_or, length, map, set, subst, sym, take}
+use Rattle.std.proofs.Common.{◌≡◌, ◌∙◌, refl, List, ap, length, map, subst, sym, take}
 use Rattle.std.specs.Prelude.{All}
-use Rattle.std.proofs.lemmas.List.{map_more, with_items_is}
+use Rattle.std.proofs.lemmas.List.{with_items_is}
 use Rattle.std.proofs.lemmas.List.FromFn.{length-map-range_with_len}
 use Rattle.pf_manifold.specs.Touches.{IsTouchOf}
 use Rattle.pf_rows.specs.Row.{Row}
-use Rattle.pf_islands.specs.Dealing.{ArePlaces, group_of_row, placed_row, with_row}
-use Rattle.pf_islands.specs.Rows.{active_rows, is_simulated_at, row_of}
-use Rattle.pf_islands.specs.Split.{IsIslandOf, active_labels, no_island}
+use Rattle.pf_islands.specs.Dealing.{ArePlaces, AreSlots}
+use Rattle.pf_islands.specs.Rows.{active_rows, is_simulated_at}
+use Rattle.pf_islands.specs.Split.{IsIslandOf, active_labels}
 use Rattle.pf_islands.proofs.ActiveRows.{all_made, row_at, rows_fit}
-use Rattle.pf_islands.proofs.Dealing.{full_part, group_active, row_dealt, slot_within}
-use Rattle.pf_islands.proofs.SettledGroups.{labels_islands, labels_long, labels_low, labels_rows, labels_woken, others_alone}
-use Rattle.pf_islands.proofs.Together.{read_row_is_active}
+use Rattle.pf_islands.proofs.Dealing.{full_part}
+use Rattle.pf_islands.proofs.DealtRows.{has_island, one_dealt}
+use Rattle.pf_islands.proofs.SettledGroups.{labels_islands, labels_long, labels_rows, labels_woken, others_alone}
 use Rattle.pf_islands.proofs.Whole.{islands_fit}
 use Rattle.pf_islands.proofs.splitting.split.Goals as goal
 
@@ -58,64 +58,34 @@ deal_row-requires-clause-slots c = ap length c.deref-in-loop-place.ensures.value
 
 pub deal_row-requires-clause-island : goal.deal_row-requires-clause-island
 deal_row-requires-clause-island c =
-    let labels = c.labels-labels.result.now in
-    let bodies = c.args.bodies.now in
-    let items = c.as_slice-active_places.result.now in
-    let labelled_by = c.labels-labels.ensures.value ∙ c.in_ok-groups.ensures.value in
-    let active = labels_rows c.args.scene.now bodies c.args.touches.now c.requires.bodies c.requires.settled labels items
-    (c.as_slice-active_places.ensures.value ∙ c.requires.active) labelled_by c.args.contacts.now c.requires.touches in
-    let read = read_row_is_active c.args.scene.now c.args.touches.now bodies c.args.contacts.now labels items
-    c.loop-place.place-index c.index-touches-place.result c.index-contacts-place.result
-    active c.requires.contacts (c.as_slice-active_places.ensures.value ∙ c.requires.active) c.loop-place-test.true c.index-touches-place.is c.index-contacts-place.is in
-    let labelled = labels_low c.args.scene.now bodies c.args.touches.now c.requires.bodies c.requires.settled labels items
-    (c.as_slice-active_places.ensures.value ∙ c.requires.active) labelled_by in
-    let woken_bodies = labels_woken c.args.scene.now bodies c.args.touches.now c.requires.bodies c.requires.settled labels items
-    (c.as_slice-active_places.ensures.value ∙ c.requires.active) labelled_by in
-    let row = row_of c.args.scene.now (get_or items c.loop-place.place-index 0) c.index-touches-place.result c.index-contacts-place.result in
-    let own = group_active labels bodies row labelled woken_bodies read.0 in
-    let label = group_of_row labels row in
-    let slot = ap (λ xs. get_or xs label 0) c.deref-in-loop-place.ensures.value
-    ∙ c.in_ok-made.ensures.slots label own.0 own.1 in
-    let rows : List Row = map (row_at c.args.scene.now c.args.touches.now c.args.contacts.now) (take c.loop-place.place-index items) in
-    let within = slot_within labels bodies (full_part labels bodies rows) label own.0 own.1 in
-    let lent = ap length (c.deref_mut-in-loop-place.ensures.value ∙ c.loop-place.invariant) in
-    record { first = read.0.first; second = read.0.second; group = own.0; slot = omega (arith, slot, within, lent) }
+    let slots = c.deref-in-loop-place.result.now in
+    has_island c.args.scene.now c.args.bodies.now c.args.touches.now c.args.contacts.now c.labels-labels.result.now
+    c.as_slice-active_places.result.now slots c.requires.bodies c.requires.settled c.requires.touches c.requires.contacts
+    (c.as_slice-active_places.ensures.value ∙ c.requires.active) (c.labels-labels.ensures.value ∙ c.in_ok-groups.ensures.value)
+    (subst (AreSlots c.labels-labels.result.now c.args.bodies.now) (sym c.deref-in-loop-place.ensures.value)
+    c.in_ok-made.ensures.slots)
+    c.loop-place.place-index c.index-touches-place.result c.index-contacts-place.result c.loop-place-test.true
+    c.index-touches-place.is c.index-contacts-place.is
+    c.deref_mut-in-loop-place.result.now (c.deref_mut-in-loop-place.ensures.value ∙ c.loop-place.invariant)
 
 pub loop-place-preserved : goal.loop-place-preserved
 loop-place-preserved c =
     let labels = c.labels-labels.result.now in
     let bodies = c.args.bodies.now in
-    let items = c.as_slice-active_places.result.now in
-    let labelled_by = c.labels-labels.ensures.value ∙ c.in_ok-groups.ensures.value in
-    let active = labels_rows c.args.scene.now bodies c.args.touches.now c.requires.bodies c.requires.settled labels items
-    (c.as_slice-active_places.ensures.value ∙ c.requires.active) labelled_by c.args.contacts.now c.requires.touches in
-    let read = read_row_is_active c.args.scene.now c.args.touches.now bodies c.args.contacts.now labels items
-    c.loop-place.place-index c.index-touches-place.result c.index-contacts-place.result
-    active c.requires.contacts (c.as_slice-active_places.ensures.value ∙ c.requires.active) c.loop-place-test.true c.index-touches-place.is c.index-contacts-place.is in
-    let labelled = labels_low c.args.scene.now bodies c.args.touches.now c.requires.bodies c.requires.settled labels items
-    (c.as_slice-active_places.ensures.value ∙ c.requires.active) labelled_by in
-    let woken_bodies = labels_woken c.args.scene.now bodies c.args.touches.now c.requires.bodies c.requires.settled labels items
-    (c.as_slice-active_places.ensures.value ∙ c.requires.active) labelled_by in
-    let row = row_of c.args.scene.now (get_or items c.loop-place.place-index 0) c.index-touches-place.result c.index-contacts-place.result in
-    let own = group_active labels bodies row labelled woken_bodies read.0 in
-    let label = group_of_row labels row in
-    let slot = ap (λ xs. get_or xs label 0) c.deref-in-loop-place.ensures.value
-    ∙ c.in_ok-made.ensures.slots label own.0 own.1 in
-    let at = row_at c.args.scene.now c.args.touches.now c.args.contacts.now in
-    let k = c.loop-place.place-index in
-    let now = c.deref_mut-in-loop-place.result.now in
-    let places = c.deref-in-loop-place-2.result.now in
     let noted = subst (ArePlaces labels bodies)
     (sym (c.deref-in-loop-place-2.ensures.value
     ∙ with_items_is c.in_ok-places.places c.deal_bodies.new.places (c.deal_bodies.auto.places ∙ c.deref_mut-2.ensures.len)))
     c.in_ok-deal_bodies.ensures.places in
     with_items_is c.loop-place.made c.deal_row.new.islands (c.deal_row.auto.islands ∙ c.deref_mut-in-loop-place.ensures.len)
-    ∙ row_dealt labels bodies (map at (take k items)) row places now c.deal_row.new.islands labelled woken_bodies noted read.0
-    (c.deref_mut-in-loop-place.ensures.value ∙ c.loop-place.invariant)
-    (c.in_ok-deal_row.ensures
-    ∙ ap (λ n. set now n (with_row (placed_row places row) (get_or now n no_island))) slot)
-    ∙ ap (λ (rows : List Row). map (full_part labels bodies rows) (active_labels labels bodies))
-    (ap (λ (r : Row). map at (take k items) ++ r ∷ []) read.1 ∙ sym (map_more at items k 0 c.loop-place-test.true))
+    ∙ one_dealt c.args.scene.now bodies c.args.touches.now c.args.contacts.now labels
+    c.as_slice-active_places.result.now c.deref-in-loop-place.result.now
+    c.requires.bodies c.requires.settled c.requires.touches c.requires.contacts
+    (c.as_slice-active_places.ensures.value ∙ c.requires.active) (c.labels-labels.ensures.value ∙ c.in_ok-groups.ensures.value)
+    (subst (AreSlots labels bodies) (sym c.deref-in-loop-place.ensures.value) c.in_ok-made.ensures.slots)
+    c.loop-place.place-index c.index-touches-place.result c.index-contacts-place.result c.loop-place-test.true
+    c.index-touches-place.is c.index-contacts-place.is
+    c.deref_mut-in-loop-place.result.now (c.deref_mut-in-loop-place.ensures.value ∙ c.loop-place.invariant)
+    c.deref-in-loop-place-2.result.now c.deal_row.new.islands noted c.in_ok-deal_row.ensures
 
 pub deal_bodies-requires-clause-woken_bodies : goal.deal_bodies-requires-clause-woken_bodies
 deal_bodies-requires-clause-woken_bodies c =

@@ -6,7 +6,8 @@ use Rattle.pf_manifold.specs.Key.{AreTouches, key_of}
 use Rattle.pf_cache.specs.Contact.{Contact, next_contacts}
 use Rattle.pf_cache.specs.ContactRows.{AreRowsAt}
 use Rattle.pf_cache.specs.ContactsChange.{contacts_before}
-use Rattle.pf_cache.specs.Manifolds.{Collisions, kept_touches}
+use Rattle.pf_cache.specs.Manifolds.{kept_touches}
+use Rattle.pf_cache.specs.declared.manifolds.FoundCollisions.{FoundCollisions}
 use Rattle.pf_cache.proofs.Kept.{same_keys}
 use Rattle.pf_islands.specs.Join.{IsAtHome, joined_bodies, joined_contacts}
 use Rattle.pf_islands.specs.Split.{Island}
@@ -15,9 +16,10 @@ use Rattle.pf_step.specs.Activity.{contacts_of_bodies, islands_of_bodies, island
 use Rattle.pf_step.specs.Changes.{bodies_before, changes_of_islands, world_before}
 use Rattle.pf_step.specs.Step.{touches_of_scene, world_after}
 use Rattle.pf_step.specs.World.{World}
+use Rattle.pf_step.proofs.Awake.{awake_after_step, islands_noted}
 use Rattle.pf_step.proofs.Changing.{before_more}
 use Rattle.pf_step.proofs.Following.{islands_within}
-use Rattle.pf_step.proofs.Joined.{ended_at_contacts, ended_at_home, ended_join, islands_before}
+use Rattle.pf_step.proofs.Joined.{ended_at_contacts, ended_at_home, ended_join, islands_before, islands_have_awake}
 use Rattle.pf_step.proofs.Restored.{contacts_restored}
 use Rattle.pf_step.proofs.ending.finish.Goals as goal
 
@@ -25,7 +27,7 @@ pub prepare-requires-clause-keys : goal.prepare-requires-clause-keys
 prepare-requires-clause-keys g c =
     let s = c.args.scene.now in
     let w = c.args.world.now in
-    let points = c.touches-touches.ensures.value ∙ ap (λ (x : Collisions). kept_touches x.manifolds) c.found.view_is ∙ c.requires.points in
+    let points = c.touches-touches.ensures.value ∙ ap (λ (x : FoundCollisions). kept_touches x.collisions.manifolds) c.found.view_is ∙ c.requires.points in
     ap (map (λ (x : Contact). x.key)) c.in_ok-update_contacts.ensures.value
     ∙ same_keys c.world.inside.contacts c.touches-touches.result.now ∙ ap (map key_of) points
     ∙ ap (λ (v : World). map key_of (touches_of_scene s v.bodies)) (sym c.world.view_is)
@@ -34,7 +36,7 @@ prepare-requires-clause-keys g c =
 points : (g : _) (c : goal.After-join_back-arg-1 g)
     → c.touches-touches.result.now ≡ touches_of_scene c.args.scene.now c.args.world.now.bodies
 points g c =
-    c.touches-touches.ensures.value ∙ ap (λ (x : Collisions). kept_touches x.manifolds) c.found.view_is ∙ c.requires.points
+    c.touches-touches.ensures.value ∙ ap (λ (x : FoundCollisions). kept_touches x.collisions.manifolds) c.found.view_is ∙ c.requires.points
 
 updated : (g : _) (c : goal.After-join_back-arg-1 g)
     → c.update_contacts.new.contacts ≡ contacts_of_bodies c.args.scene.now c.args.world.now.contacts c.args.world.now.bodies
@@ -78,7 +80,7 @@ returns-clause-ending g c =
     let found = islands_of_bodies s w.contacts w.bodies in
     let of_world = ap (λ (v : World). v.bodies) c.world.view_is in
     let contacts = ap (λ (v : World). v.contacts) c.world.view_is in
-    let points_are = c.touches-touches.ensures.value ∙ ap (λ (x : Collisions). kept_touches x.manifolds) c.found.view_is ∙ c.requires.points in
+    let points_are = c.touches-touches.ensures.value ∙ ap (λ (x : FoundCollisions). kept_touches x.collisions.manifolds) c.found.view_is ∙ c.requires.points in
     let now_is = c.in_ok-update_contacts.ensures.value ∙ ap₂ next_contacts contacts points_are in
     let order = subst AreTouches points_are c.touches-touches.ensures.order in
     let own : c.deref.result.now ≡ map (island_after_tick s) (islands_with s now lent) =
@@ -104,3 +106,25 @@ returns-clause-ending g c =
       unchanged = tt;
       undone = tt;
     }
+
+pub returns-clause-awake : goal.returns-clause-awake
+returns-clause-awake g c =
+    let s = c.args.scene.now in
+    let w = c.args.world.now in
+    let noted = c.args.changes.now.bodies in
+    let found = islands_of_bodies s w.contacts w.bodies in
+    let of_world = ap (λ (v : World). v.bodies) c.world.view_is in
+    let notes : c.prepare.new.changes.bodies ≡ noted ++ changes_of_islands w.bodies found =
+    c.in-Ok.ensures.noted
+    ∙ (λ i. c.update_contacts.ensures.bodies i
+    ++ changes_of_islands (of_world i)
+    (islands_with s
+    ((c.in_ok-update_contacts.ensures.value
+    ∙ ap₂ next_contacts (ap (λ (v : World). v.contacts) c.world.view_is)
+    (c.touches-touches.ensures.value ∙ ap (λ (x : FoundCollisions). kept_touches x.collisions.manifolds) c.found.view_is
+    ∙ c.requires.points)) i)
+    (of_world i))) in
+    awake_after_step noted (changes_of_islands w.bodies found) c.prepare.new.changes.bodies w.bodies _ notes
+    (ap (λ (v : World). bodies_before (changes_of_islands w.bodies found) v.bodies) (returns-clause-ending g c).value
+    ∙ islands_before s w.contacts w.bodies c.requires.bodies)
+    (islands_noted w.bodies found (islands_have_awake s w.contacts w.bodies c.requires.bodies))

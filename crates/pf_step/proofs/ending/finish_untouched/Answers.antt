@@ -4,6 +4,7 @@ use Rattle.pf_solver.specs.Alone.{body_after_tick}
 use Rattle.pf_solver.specs.Bodies.{gravity_per_tick}
 use Rattle.pf_step.specs.Changes.{bodies_before, changes_of_awake, world_before}
 use Rattle.pf_step.specs.World.{World}
+use Rattle.pf_step.proofs.Awake.{awake_after_step, awake_noted}
 use Rattle.pf_step.proofs.Changing.{before_more}
 use Rattle.pf_step.proofs.Following.{all_within}
 use Rattle.pf_step.proofs.Untouched.{awake_before, no_points, untouched_world}
@@ -32,3 +33,17 @@ returns-clause-ending c =
       unchanged = tt;
       undone = tt;
     }
+
+pub returns-clause-awake : goal.returns-clause-awake
+returns-clause-awake c =
+    let s = c.args.scene.now in
+    let w = c.args.world.now in
+    let noted = c.args.changes.now.bodies in
+    let pull = gravity_per_tick s.gravity in
+    let of_world = ap (λ (x : World). x.bodies) c.world.view_is in
+    let bodies = with_items_is c.world.inside.bodies c.solve_untouched.new.bodies (c.solve_untouched.auto.bodies ∙ c.deref_mut.ensures.len)
+    ∙ c.solve_untouched.ensures ∙ ap (map (body_after_tick pull)) (c.deref_mut.ensures.value ∙ of_world) in
+    let notes = c.update_contacts.ensures.bodies ∙ c.in_ok-note_awake.ensures.noted
+    ∙ ap (λ bs. noted ++ changes_of_awake bs) (c.deref.ensures.value ∙ of_world) in
+    awake_after_step noted (changes_of_awake w.bodies) c.update_contacts.new.self.bodies w.bodies _ notes
+    (ap (bodies_before (changes_of_awake w.bodies)) bodies ∙ awake_before pull w.bodies) (awake_noted w.bodies)

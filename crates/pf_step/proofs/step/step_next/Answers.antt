@@ -10,6 +10,7 @@ use Rattle.pf_broad.specs.Pairs.{all_bounds}
 use Rattle.pf_commands.specs.Payload.{body_of}
 use Rattle.pf_cache.specs.Manifolds.{Collisions, Manifolds, kept_touches, no_manifolds, placed_shapes}
 use Rattle.pf_cache.specs.PlacedBodies.{HaveStayed, bodies_of}
+use Rattle.pf_islands.specs.Flags.{HasAwake}
 use Rattle.pf_islands.specs.Split.{Island}
 use Rattle.pf_step.specs.Activity.{islands_of_bodies}
 use Rattle.pf_step.specs.Changes.{AreAdded, BodyChange, bodies_before, changes_by_commands, numbers_of, world_before}
@@ -20,6 +21,7 @@ use Rattle.pf_step.specs.Work.{Work, moved_bodies, work_after_tick}
 use Rattle.pf_step.specs.World.{World}
 use Rattle.pf_step.proofs.Commanding.{commands_length, commands_undone}
 use Rattle.pf_cache.proofs.FirstKeys.{none_same}
+use Rattle.pf_step.proofs.Awake.{listed_after_commands}
 use Rattle.pf_step.proofs.Contacts.{step_keys}
 use Rattle.pf_step.proofs.Following.{all_within, keys_after_commands, none_noted, none_there, other_error, stayed_after_commands, stayed_after_step}
 use Rattle.pf_step.proofs.Lengths.{step_length}
@@ -71,6 +73,7 @@ returns-in-Ok-finish-clause-step g c =
     ap (λ (x : World). map (λ (y : Contact). y.key) x.contacts) value ∙ step_keys s w payloads
     ∙ ap (λ bs. map key_of (touches_of_scene s bs)) (sym (c.deref-2.ensures.value ∙ commanded))
     ∙ ap (map key_of) (sym c.in-Ok.ensures.touches) ∙ ap (λ m. map key_of (kept_touches m)) (sym manifolds_is) in
+    let awake = subst (λ ns. HasAwake ns c.finish.new.world.bodies) (sym moved_is) c.in-Ok-finish.ensures.awake in
     record {
       value = value;
       before = c.in-Ok-finish.ensures.ending.before
@@ -82,7 +85,7 @@ returns-in-Ok-finish-clause-step g c =
           ∙ (λ i. work_after_tick ((c.in-Ok.ensures.value ∙ found) i) (sym (ap (λ (x : Work). x.moved) c.end_tick.ensures) i)
           ((c.finish.ensures.work ∙ (λ j. record (work_before j) { moved = c.finish.new.work.moved })) i));
       not_counted = tt;
-      follows = λ known. (stand.0, stand.1, keys);
+      follows = λ known. (stand.0, stand.1, keys, awake);
     }
 
 pub returns-in-Ok-finish-clause-called : goal.returns-in-Ok-finish-clause-called
@@ -125,6 +128,24 @@ find_collisions-requires-clause-moved g c = (stayed g c).0
 
 pub find_collisions-requires-clause-others : goal.find_collisions-requires-clause-others
 find_collisions-requires-clause-others g c = (stayed g c).1
+
+pub finish-requires-clause-awake : goal.finish-requires-clause-awake
+finish-requires-clause-awake g c =
+    let s = c.args.scene.now in
+    let w = c.args.world.now in
+    let payloads = c.args.payloads.now in
+    let of_world = ap (λ (x : World). x.bodies) c.world.view_is in
+    let commanded = with_items_is c.world.inside.bodies c.apply_all.new.bodies (c.apply_all.auto.bodies ∙ c.deref_mut.ensures.len)
+    ∙ c.apply_all.ensures ∙ ap₂ (λ fs bs. after_commands fs bs payloads) c.fixtures.ensures.value (c.deref_mut.ensures.value ∙ of_world) in
+    let notes = c.in_ok-note_commanded.ensures.noted
+    ∙ ap₂ (λ (cs : List BodyChange) (bs : List BodyState). cs ++ changes_by_commands bs payloads)
+    c.take_changes-changes.ensures.changes (c.deref.ensures.value ∙ of_world) in
+    let listed_before = ap (λ (x : Work). x.moved) (c.take_changes-changes.ensures.work ∙ c.take_manifolds-kept.ensures.rest) in
+    listed_after_commands s w payloads c.args.work.now c.list_moved.new.self.moved c.bodies.result.now
+    (with_items c.world.inside.bodies c.apply_all.new.bodies).items c.requires.follows (c.bodies.ensures ∙ notes) commanded
+    (c.in_ok-list_moved.ensures.listed
+    ∙ (λ i. moved_bodies (c.take_manifolds-kept.ensures.taken.1 i) (listed_before i) ((ap length (c.as_slice-count.ensures.value ∙ of_world)) i)
+    (numbers_of c.bodies.result.now)))
 
 -- the first contacts have the keys of the first points
 pub finish-requires-clause-known : goal.finish-requires-clause-known
