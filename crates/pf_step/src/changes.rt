@@ -69,6 +69,22 @@ fn note(
     Ok(())
 }
 
+/// Makes room for so many more changes, so that they are not copied while the list grows. Takes no
+/// memory where there are no bodies.
+fn make_room(
+    changes: &mut Vec<BodyChange>,
+    bodies: &[BodyState],
+    count: usize,
+) -> Result<(), AllocError>
+    ensures same { changes.new.items ≡ changes.old.items }
+    ensures no_memory { bodies.now ≡ [] → IsOk result }
+{
+    if bodies.is_empty() {
+        return Ok(());
+    }
+    changes.reserve(count)
+}
+
 /// Notes these bodies as they are. After an error some of them may be noted.
 fn note_all(
     changes: &mut Vec<BodyChange>,
@@ -81,6 +97,7 @@ fn note_all(
         ≡ bodies_before changes.old.items bodies.now }
     ensures no_memory { bodies.now ≡ [] → IsOk result }
 {
+    make_room(changes, bodies, numbers.len())?;
     for number in numbers {
         note(changes, bodies, *number)?;
     }
