@@ -69,6 +69,15 @@ fn note(
     Ok(())
 }
 
+/// How many bodies these islands have. Only memory depends on it: no contract says that it is right.
+fn body_count(islands: &[Island]) -> usize {
+    let mut count = 0usize;
+    for island in islands {
+        count = count.saturating_add(island.numbers.len());
+    }
+    count
+}
+
 /// Makes room for so many more changes, so that they are not copied while the list grows. Takes no
 /// memory where there are no bodies.
 fn make_room(
@@ -97,7 +106,6 @@ fn note_all(
         ≡ bodies_before changes.old.items bodies.now }
     ensures no_memory { bodies.now ≡ [] → IsOk result }
 {
-    make_room(changes, bodies, numbers.len())?;
     for number in numbers {
         note(changes, bodies, *number)?;
     }
@@ -188,6 +196,7 @@ impl Changes {
             ≡ bodies_before self.old.bodies bodies.now }
         ensures no_memory { bodies.now ≡ [] → IsOk result }
     {
+        make_room(&mut self.bodies, bodies, body_count(islands))?;
         for island in islands {
             note_all(&mut self.bodies, bodies, island.numbers.as_slice())?;
         }

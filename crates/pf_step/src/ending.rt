@@ -32,8 +32,10 @@ fn most_in_place(moved: usize, bodies: usize) -> usize {
 }
 
 /// The islands of a tick in the world after its phases Commands and Points, whose contacts are
-/// already those of the tick. Notes their bodies and impulses, and lists all noted bodies as those
-/// that may have moved. After an error some of them may be noted.
+/// already those of the tick. Awake bodies are looked for among those that may have moved, which
+/// `work` lists, and contacts among those of their pairs. Notes the bodies and impulses of the
+/// islands, and then lists all noted bodies as those that may have moved. After an error some of
+/// them may be noted.
 #[tactic(auto, using(crate::proofs::Restored::islands_beside))]
 fn prepare(
     alloc: Global,

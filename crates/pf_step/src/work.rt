@@ -20,7 +20,8 @@ use std::mem;
 pub struct Work {
     meter: Meter,
     manifolds: Manifolds,
-    /// The bodies that may have moved since the contact points were kept, if that is known.
+    /// The bodies that may have moved since the contact points were kept, if that is known: among
+    /// them all that are awake.
     moved: Vec<usize>,
     /// Whether it is known which bodies may have moved, and that the contacts of the world have the
     /// keys of the kept points.

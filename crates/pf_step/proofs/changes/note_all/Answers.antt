@@ -7,12 +7,10 @@ pub returns-in_err-note-clause-same : goal.returns-in_err-note-clause-same
 returns-in_err-note-clause-same c =
     let bodies = c.args.bodies.now in
     ap (λ cs. bodies_before cs bodies) (c.in_err-note.ensures.err ∙ c.loop-number.invariant)
-    ∙ notes_undo_nothing c.make_room.new.changes.items bodies (take c.loop-number.number-index c.args.numbers.now)
-    ∙ ap (λ cs. bodies_before cs bodies) c.make_room.ensures.same
+    ∙ notes_undo_nothing c.args.changes.now.items bodies (take c.loop-number.number-index c.args.numbers.now)
 
 pub returns-clause-same : goal.returns-clause-same
 returns-clause-same c =
     let bodies = c.args.bodies.now in
     ap (λ cs. bodies_before cs bodies) c.loop-number.invariant
-    ∙ notes_undo_nothing c.make_room.new.changes.items bodies (take c.loop-number.number-index c.args.numbers.now)
-    ∙ ap (λ cs. bodies_before cs bodies) c.make_room.ensures.same
+    ∙ notes_undo_nothing c.args.changes.now.items bodies (take c.loop-number.number-index c.args.numbers.now)
