@@ -11,8 +11,8 @@ use Rattle.pf_bundles.specs.declared.limits.TheConstants.{LANE_LIMIT, QUARTER_AR
 use Rattle.pf_bundles.specs.Limits.{AreLimits, HasLimits}
 use Rattle.pf_bundles.specs.Prepared.{PreparedLanes, constraint_in, mass_in}
 
--- what a lane holds of a row: inverse masses, the constraint, and the limits of spins and of impulses
--- up to which its products are exact
+-- what a lane holds of a row: inverse masses, the constraint, and the limits of spins and of
+-- impulses up to which its products are exact
 pub record LaneRow : Type 0 where
   pub first_mass : InverseMass
   pub second_mass : InverseMass

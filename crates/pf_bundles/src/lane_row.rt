@@ -141,8 +141,8 @@ fn has_short_arms(c: &Constraint, limit: u64) -> bool
     is_short(c.first_arm, limit) && is_short(c.second_arm, limit)
 }
 
-/// The limit of the spins of a constraint, the greatest of six. `None` where an arm is too great for
-/// each of them.
+/// The limit of the spins of a constraint, the greatest of six. `None` where an arm is too great
+/// for each of them.
 #[inline]
 #[tactic(auto, using(crate::proofs::Arms::quarter_limit, crate::proofs::Arms::half_limit, crate::proofs::Arms::short_limit, crate::proofs::Arms::middle_limit, crate::proofs::Arms::long_limit, crate::proofs::Arms::longest_limit))]
 fn spin_limit_of(c: &Constraint) -> Option<u64>

@@ -57,8 +57,8 @@ pub const LONGEST_ARM_SPIN: u64 = 1 << 23;
 /// impulse along a direction counts twice, since a direction may be a little longer than 1.
 pub const LANE_LIMIT: u64 = 1 << 28;
 
-/// The next limit of the parts of an impulse that is not tested: 2, so that impulses up to 1 are not.
-/// It is that of a box of 1 by 1 with the mass 1.
+/// The next limit of the parts of an impulse that is not tested: 2, so that impulses up to 1 are
+/// not. It is that of a box of 1 by 1 with the mass 1.
 pub const MIDDLE_PUSH: u64 = 1 << 25;
 
 /// The limit after `MIDDLE_PUSH`: a half.

@@ -238,7 +238,8 @@ fn store_lanes(
     requires velocities { 0 < length velocities.old }
     requires impulses { 0 < length impulses.old }
     requires first { AreFirst seats.now }
-    requires seats { All (IsSeatIn (numbers_behind_first velocities.old impulses.old)) (taken_seats seats.now) }
+    requires seats { All (IsSeatIn (numbers_behind_first velocities.old impulses.old))
+        (taken_seats seats.now) }
     ensures value { numbers_behind_first velocities.new impulses.new ≡ numbers_with_lanes seats.now
         states.now (numbers_behind_first velocities.old impulses.old) }
     ensures velocities { length velocities.new ≡ length velocities.old }
