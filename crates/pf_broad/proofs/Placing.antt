@@ -69,6 +69,6 @@ filter-every a (suc n) = ap (λ l. a ∷ l) (filter-every (a + 1) n)
 pub every_place : (ps : List Pair) → range_with_len 0 (length ps) ≡ moved_places (λ _. true) ps
 every_place ps = filter-every 0 (length ps)
 
--- no pair has no place
+-- where there are no pairs, there are no places
 pub places_of_none : (moved : ℕ → Bool) (ps : List Pair) (places : List ℕ) → ps ≡ [] → places ≡ [] → places ≡ moved_places moved ps
 places_of_none moved ps places none empty = empty ∙ ap (moved_places moved) (sym none)

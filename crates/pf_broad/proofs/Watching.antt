@@ -10,22 +10,22 @@ use Rattle.pf_shapes.specs.Pair.{Pair}
 use Rattle.pf_broad.specs.declared.watched.Watched.{Watched}
 use Rattle.pf_broad.specs.Pairs.{pair_at, pair_may_touch}
 use Rattle.pf_broad.specs.Partners.{has_body}
-use Rattle.pf_broad.specs.Kept.{moved_places, AreFlagged}
-use Rattle.pf_broad.specs.Watched.{is_moved_place, IsRightWhereMoved, ListsPlaces}
+use Rattle.pf_broad.specs.Kept.{has_body_of, moved_places, AreFlagged}
+use Rattle.pf_broad.specs.Watched.{IsRightWhereMoved, ListsPlaces}
 use Rattle.pf_broad.proofs.Ranges.{filter-range_none, filter-range_suc, has_body-filter, has_body-below}
 
 -- no body is watched
-pub none_listed : (watched : Watched) (candidates found : List Pair) → watched.bodies.items ≡ [] → watched.candidates.items ≡ [] → watched.pairs.items ≡ []
+pub none_listed : (watched : Watched) (candidates found : List Pair) → watched.body_flags.items ≡ [] → watched.candidate_places.items ≡ [] → watched.pair_places.items ≡ []
     → ListsPlaces watched candidates found
 none_listed watched candidates found bodies places pairs = record {
   candidate_places = places ∙ no_place candidates;
   pair_places = pairs ∙ no_place found;
 }
   where
-    no_place : (ps : List Pair) → [] ≡ moved_places (λ k. get_or watched.bodies.items k false) ps
+    no_place : (ps : List Pair) → [] ≡ moved_places (λ k. get_or watched.body_flags.items k false) ps
     no_place ps =
         sym (ap (λ l. moved_places (λ k. get_or l k false) ps) bodies
-        ∙ filter-range_none (is_moved_place (λ k. get_or [] k false) ps) 0 (length ps) (λ k below. refl))
+        ∙ filter-range_none (has_body_of (λ k. get_or [] k false) ps) 0 (length ps) (λ k below. refl))
 
 -- what holds of each number of a list
 pub All-has_body : (P : ℕ → Type 0) (xs : List ℕ) (k : ℕ) → All P xs → has_body xs k ≡ true → P k
@@ -54,9 +54,9 @@ filter-filter p q (x ∷ xs) weaker =
     fails false b h e = refl
     fails true b h e = sym (h refl) ∙ e
 
--- a body of a pair passes the weaker of two tests
+-- if each moved body is watched, a pair with a moved body has a watched one
 weaker_place : (moved watched : ℕ → Bool) (ps : List Pair) → ((k : ℕ) → moved k ≡ true → watched k ≡ true)
-    → (k : ℕ) → is_moved_place moved ps k ≡ true → is_moved_place watched ps k ≡ true
+    → (k : ℕ) → has_body_of moved ps k ≡ true → has_body_of watched ps k ≡ true
 weaker_place moved watched ps weaker k =
     either (moved (pair_at ps k).a) (moved (pair_at ps k).b) (watched (pair_at ps k).a) (watched (pair_at ps k).b) (weaker (pair_at ps k).a) (weaker (pair_at ps k).b)
   where
@@ -67,25 +67,25 @@ weaker_place moved watched ps weaker k =
 
 -- of the watched places those of moved bodies
 pub moved_of_watched : (moved watched : ℕ → Bool) (ps : List Pair) → ((k : ℕ) → moved k ≡ true → watched k ≡ true)
-    → filter (is_moved_place moved ps) (moved_places watched ps) ≡ moved_places moved ps
+    → filter (has_body_of moved ps) (moved_places watched ps) ≡ moved_places moved ps
 moved_of_watched moved watched ps weaker =
-    filter-filter (is_moved_place moved ps) (is_moved_place watched ps) (range_with_len 0 (length ps)) (weaker_place moved watched ps weaker)
+    filter-filter (has_body_of moved ps) (has_body_of watched ps) (range_with_len 0 (length ps)) (weaker_place moved watched ps weaker)
 
 range_below : (a n m : ℕ) → a + n ≡ m → AllByRecursion (λ k. k < m) (range_with_len a n)
 range_below a zero m e = tt
 range_below a (suc n) m e = (omega arith, range_below (a + 1) n m (omega arith))
 
--- the places are some of the list
+-- each place is below the count of pairs
 pub places_below : (moved : ℕ → Bool) (ps : List Pair) (places : List ℕ) → places ≡ moved_places moved ps → All (λ k. k < length ps) places
 places_below moved ps places is =
     let P : ℕ → Type 0 = λ k. k < length ps in
     All-same P places (moved_places moved ps) is
-    (All-filter (is_moved_place moved ps) P (range_with_len 0 (length ps)) (All-from_recursion P _ (range_below 0 (length ps) (length ps) (omega arith))))
+    (All-filter (has_body_of moved ps) P (range_with_len 0 (length ps)) (All-from_recursion P _ (range_below 0 (length ps) (length ps) (omega arith))))
 
 -- a place is listed
-has_place : (moved : ℕ → Bool) (ps : List Pair) (i : ℕ) → i < length ps → is_moved_place moved ps i ≡ true → has_body (moved_places moved ps) i ≡ true
+has_place : (moved : ℕ → Bool) (ps : List Pair) (i : ℕ) → i < length ps → has_body_of moved ps i ≡ true → has_body (moved_places moved ps) i ≡ true
 has_place moved ps i below is =
-    has_body-filter (is_moved_place moved ps) (range_with_len 0 (length ps)) i
+    has_body-filter (has_body_of moved ps) (range_with_len 0 (length ps)) i
     ∙ (λ k. is k && (has_body-below (length ps) i ∙ lt i (length ps) below) k)
   where
     lt : (i n : ℕ) → i < n → nat_lt i n ≡ true
@@ -107,7 +107,7 @@ pub flags_right : (moved watched : ℕ → Bool) (bounds : List Bounds) (cs : Li
 flags_right moved watched bounds cs flags places long is weaker right others =
     all_right (pair_may_touch bounds) cs flags long
     (λ i below.
-    elim (is_moved_place moved cs i) as (λ b. is_moved_place moved cs i ≡ b → get_or flags i false ≡ pair_may_touch bounds (pair_at cs i)) [
+    elim (has_body_of moved cs i) as (λ b. has_body_of moved cs i ≡ b → get_or flags i false ≡ pair_may_touch bounds (pair_at cs i)) [
       | true ↦ λ one.
           All-has_body (IsRightWhereMoved moved bounds cs flags) places i right
           (ap (λ l. has_body l i) is ∙ has_place watched cs i below (weaker_place moved watched cs weaker i one)) one

@@ -8,11 +8,14 @@ use Rattle.pf_broad.specs.Pairs.{bounds_at, pair_at, pair_may_touch, pairs}
 use Rattle.pf_broad.specs.Partners.{has_body}
 use Rattle.pf_broad.specs.Loose.{contains, AreLoosened}
 
+-- the pair at this place has a body of this set
+abbrev pub has_body_of : (ℕ → Bool) → List Pair → ℕ → Bool
+has_body_of bodies ps k = bodies (pair_at ps k).a || bodies (pair_at ps k).b
+
 -- the flag of each pair of which neither body may have moved says whether the two may touch
 abbrev pub AreFlagged : (ℕ → Bool) → List Bounds → List Pair → List Bool → Type 0
 AreFlagged moved bounds candidates flags =
-    (i : ℕ) → i < length candidates
-    → (moved (pair_at candidates i).a || moved (pair_at candidates i).b) ≡ false
+    (i : ℕ) → i < length candidates → has_body_of moved candidates i ≡ false
     → get_or flags i false ≡ pair_may_touch bounds (pair_at candidates i)
 
 -- what the broad phase keeps: enlarged bounds, the flags of the pairs whose enlarged bounds
@@ -41,10 +44,10 @@ abbrev pub AreFound : List Bool → List Pair → List Pair → Type 0
 AreFound flags candidates found =
     length flags ≡ length candidates → found ≡ flagged flags candidates
 
--- the places of the pairs with a body that may have moved, in ascending order
+-- the places of the pairs with a body of this set, as of those that may have moved, in ascending
+-- order
 abbrev pub moved_places : (ℕ → Bool) → List Pair → List ℕ
-moved_places moved ps =
-    filter (λ k. moved (pair_at ps k).a || moved (pair_at ps k).b) (range_with_len 0 (length ps))
+moved_places bodies ps = filter (has_body_of bodies ps) (range_with_len 0 (length ps))
 
 -- where there are as many flags as pairs: the flag of two bodies that are not listed says whether
 -- they may touch

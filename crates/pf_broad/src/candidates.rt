@@ -43,31 +43,30 @@ pub struct PairsUpdate {
 
 /// Writes the flag of each candidate, which says whether its bodies may touch. A candidate is
 /// tested only where one of its bodies may have moved; the flags of the others must be right.
-/// `same` says that no flag changed; `moved_places` counts only candidates whose flags are set. The
-/// places, among all candidates, of those that are tested are put into a list, in place of what it
-/// held.
+/// `same` says that no flag changed. `moved_places` are places in the list of those candidates
+/// whose flags are set; `tested` becomes the list of the places of the tested candidates among all.
 #[inline(never)]
 pub(crate) fn test_moved(
     alloc: Global,
     tested: &mut Vec<usize>,
     candidates: &[Pair],
     flags: &mut [bool],
-    moved: &[bool],
+    may_have_moved: &[bool],
     bounds: &[Bounds],
 ) -> Result<PairsUpdate, AllocError>
     requires candidates { All (IsPairOf (length bounds.now)) candidates.now }
     requires flags { length flags.old ≡ length candidates.now }
-    requires moved { length moved.now ≡ length bounds.now }
-    requires others { AreFlagged (λ k. get_or moved.now k false) bounds.now candidates.now
+    requires moved { length may_have_moved.now ≡ length bounds.now }
+    requires others { AreFlagged (λ k. get_or may_have_moved.now k false) bounds.now candidates.now
         flags.old }
     ensures flags { IfOk result
         (λ _. flags.new ≡ map (pair_may_touch bounds.now) candidates.now) }
     ensures same { IfOk result (λ update. IsTrue update.same → flags.new ≡ flags.old) }
     ensures places { IfOk result (λ update. update.moved_places.items
-        ≡ moved_places (λ k. get_or moved.now k false)
+        ≡ moved_places (λ k. get_or may_have_moved.now k false)
         (filter (pair_may_touch bounds.now) candidates.now)) }
     ensures tested { IfOk result (λ _. tested.new.items
-        ≡ moved_places (λ k. get_or moved.now k false) candidates.now) }
+        ≡ moved_places (λ k. get_or may_have_moved.now k false) candidates.now) }
 {
     tested.clear();
     tested.reserve(candidates.len())?;
@@ -76,7 +75,7 @@ pub(crate) fn test_moved(
     let mut place = 0;
     for i in 0..candidates.len() {
         let pair = &candidates[i];
-        if moved[pair.a] | moved[pair.b] {
+        if may_have_moved[pair.a] | may_have_moved[pair.b] {
             let touches = may_touch(&bounds[pair.a], &bounds[pair.b]);
             same = same & (flags[i] == touches);
             flags[i] = touches;

@@ -19,7 +19,7 @@ const MAX_LEFT: usize = 16;
 /// What the broad phase keeps from tick to tick: enlarged bounds of all bodies, and as candidates
 /// the pairs of bodies whose enlarged bounds overlap, as Box2D's `b2BroadPhase` does; for each
 /// candidate a flag that says whether its bodies may touch; the pairs that it found, which are the
-/// candidates whose flags are set; and the places of the pairs whose bodies moved last. It is sound
+/// candidates whose flags are set; and the places of pairs that have a watched body. It is sound
 /// for every scene and world: what is kept changes no result, only time.
 ///
 /// Contracts see the enlarged bounds, the flags and the pairs.
@@ -31,7 +31,7 @@ pub struct BroadPhase {
     flags: Vec<bool>,
     /// The candidates whose flags are set.
     found: Vec<Pair>,
-    /// The bodies that moved last, and the places of their pairs.
+    /// The watched bodies, and the places of their pairs.
     watched: Watched,
 }
 
@@ -221,7 +221,7 @@ impl BroadPhase {
         let may_have_moved = moved_flags(alloc, bounds.len(), moved)?;
         if !self.watched.has_all(moved)
             || !are_right(
-                &self.watched.candidates,
+                &self.watched.candidate_places,
                 &self.candidates,
                 &self.flags,
                 &may_have_moved,
@@ -230,9 +230,12 @@ impl BroadPhase {
         {
             return self.test_and_watch(alloc, bounds, may_have_moved);
         }
-        let moved_places = moved_among(alloc, &self.watched.pairs, &self.found, &may_have_moved)?;
-        // Most of the watched bodies are at rest: the next update finds out anew which ones move.
-        if moved_places.len() < self.watched.pairs.len() / 2 {
+        let watched_places = &self.watched.pair_places;
+        let moved_places = moved_among(alloc, watched_places, &self.found, &may_have_moved)?;
+        // Where fewer than half of the watched pairs, rounded down, have a body that may have
+        // moved, nothing is watched any longer. The next update that tests some candidates watches
+        // anew.
+        if moved_places.len() < self.watched.pair_places.len() / 2 {
             self.watched.clear();
         }
         let update = PairsUpdate {
@@ -243,23 +246,23 @@ impl BroadPhase {
     }
 
     /// The same with only those candidates tested that have a body that may have moved. These
-    /// bodies are the watched ones from then on.
+    /// bodies become the watched ones.
     fn test_and_watch(
         self,
         alloc: Global,
         bounds: &[Bounds],
-        moved: Vec<bool>,
+        may_have_moved: Vec<bool>,
     ) -> Result<(BroadPhase, PairsUpdate), AllocError>
         requires loosened { AreLoosened self.loose bounds.now }
-        requires moved { length moved.items ≡ length bounds.now }
+        requires moved { length may_have_moved.items ≡ length bounds.now }
         requires as_many { length self.flags ≡ length (pairs self.loose) }
-        requires flags { AreFlagged (λ k. get_or moved.items k false) bounds.now
+        requires flags { AreFlagged (λ k. get_or may_have_moved.items k false) bounds.now
             (pairs self.loose) self.flags }
         ensures kept { IfOk result (λ tested. IsKeptOf tested.0 bounds.now) }
         ensures same { IfOk result
             (λ tested. IsTrue tested.1.same → tested.0.pairs ≡ self.pairs) }
         ensures places { IfOk result (λ tested. tested.1.moved_places.items
-            ≡ moved_places (λ k. get_or moved.items k false) tested.0.pairs) }
+            ≡ moved_places (λ k. get_or may_have_moved.items k false) tested.0.pairs) }
     {
         let BroadPhase {
             loose,
@@ -268,14 +271,21 @@ impl BroadPhase {
             mut found,
             mut watched,
         } = self;
-        let tested = &mut watched.candidates;
-        let update = test_moved(alloc, tested, &candidates, &mut flags, &moved, bounds)?;
+        let tested = &mut watched.candidate_places;
+        let update = test_moved(
+            alloc,
+            tested,
+            &candidates,
+            &mut flags,
+            &may_have_moved,
+            bounds,
+        )?;
         if !update.same {
             load_flagged(&mut found, &candidates, &flags)?;
         }
-        watched.pairs.clear();
-        watched.pairs.extend_from_slice(&update.moved_places)?;
-        watched.bodies = moved;
+        watched.pair_places.clear();
+        watched.pair_places.extend_from_slice(&update.moved_places)?;
+        watched.body_flags = may_have_moved;
         let next = BroadPhase {
             loose,
             candidates,

@@ -252,9 +252,9 @@ impl Manifolds {
     /// are kept, all others stand as they stood. An error drops what is kept. Takes no memory where
     /// there are no bodies.
     ///
-    /// Also finds how many of the first points have the keys of the first kept ones. No clause says
-    /// that they are not more. And lists the places of the pairs with a body of `moved`, or of all
-    /// pairs; no clause says which of the two.
+    /// `same` counts first points that have the keys of the first kept ones; no clause says that it
+    /// counts all of them. `moved_places` lists the places of the pairs with a body of `moved`, or
+    /// of all pairs; no clause says which of the two.
     pub fn update<C: Collider>(
         self,
         collider: &C,

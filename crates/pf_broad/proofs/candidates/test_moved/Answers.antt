@@ -6,11 +6,11 @@ use Rattle.std.proofs.lemmas.List.Filters.{length-filter_more}
 use Rattle.pf_shapes.specs.Bounds.{Bounds}
 use Rattle.pf_shapes.specs.Pair.{Pair}
 use Rattle.pf_broad.specs.Pairs.{may_touch, pair, pair_at, pair_may_touch}
-use Rattle.pf_broad.specs.Watched.{is_moved_place}
+use Rattle.pf_broad.specs.Kept.{has_body_of}
 use Rattle.pf_broad.proofs.Flagging.{flag_read, kept, tested, touch_is, unchanged}
 use Rattle.pf_broad.proofs.Placing.{places_next, place_step}
 use Rattle.pf_broad.proofs.Watching.{places_more}
-use Rattle.pf_broad.proofs.candidates.test_moved.Goals.{then-moved-pair+then-touches, then-moved-pair+else-touches, else-moved-pair}
+use Rattle.pf_broad.proofs.candidates.test_moved.Goals.{then-may_have_moved-pair+then-touches, then-may_have_moved-pair+else-touches, else-may_have_moved-pair}
 use Rattle.pf_broad.proofs.candidates.test_moved.Goals as goal
 
 pub loop-i-preserved : goal.loop-i-preserved
@@ -21,7 +21,7 @@ loop-i-preserved c =
     let i = c.loop-i.i in
     let t = pair_may_touch bs in
     let p = pair_at cs i in
-    let moved : ℕ → Bool = λ k. get_or c.args.moved.now k false in
+    let moved : ℕ → Bool = λ k. get_or c.args.may_have_moved.now k false in
     let before = filter t (take i cs) in
     let after = filter t (take (i + 1) cs) in
     let below : i < length cs = c.loop-i-test.true in
@@ -31,85 +31,85 @@ loop-i-preserved c =
     λ first second v. touch_is bs cs i at_i first second v c.requires.candidates below p_is in
     let was_moved = ap (λ (q : Pair). moved q.a || moved q.b) (sym p_is) in
     let more : after ≡ before ++ cond (t p) (p ∷ []) [] = filter_more t cs i (pair 0 0) below in
-    let step = place_step (get_or c.if-moved-pair.flags i false) in
-    let flags : c.if-moved-pair.flags ≡ map t (take (i + 1) cs) ++ drop (i + 1) old =
-    elim c.if-moved-pair.branch [
-      | then-moved-pair+then-touches w ↦
-          tested t cs old c.loop-i.flags c.if-moved-pair.flags i w.may_touch-touches.result below c.requires.flags c.loop-i.invariant.flags
-          (tests _ _ _ w.index-bounds-pair.is w.index-bounds-pair-then-moved-pair.is w.may_touch-touches.ensures) w.flags-is
-      | then-moved-pair+else-touches w ↦
-          tested t cs old c.loop-i.flags c.if-moved-pair.flags i w.may_touch-touches.result below c.requires.flags c.loop-i.invariant.flags
-          (tests _ _ _ w.index-bounds-pair.is w.index-bounds-pair-then-moved-pair.is w.may_touch-touches.ensures) w.flags-is
-      | else-moved-pair w ↦
-          kept t cs old c.loop-i.flags c.if-moved-pair.flags i below c.requires.flags c.loop-i.invariant.flags
-          (c.requires.others i below (was_moved ∙ w.if-moved-pair.false)) w.flags-is
+    let step = place_step (get_or c.if-may_have_moved-pair.flags i false) in
+    let flags : c.if-may_have_moved-pair.flags ≡ map t (take (i + 1) cs) ++ drop (i + 1) old =
+    elim c.if-may_have_moved-pair.branch [
+      | then-may_have_moved-pair+then-touches w ↦
+          tested t cs old c.loop-i.flags c.if-may_have_moved-pair.flags i w.may_touch-touches.result below c.requires.flags c.loop-i.invariant.flags
+          (tests _ _ _ w.index-bounds-pair.is w.index-bounds-pair-then-may_have_moved-pair.is w.may_touch-touches.ensures) w.flags-is
+      | then-may_have_moved-pair+else-touches w ↦
+          tested t cs old c.loop-i.flags c.if-may_have_moved-pair.flags i w.may_touch-touches.result below c.requires.flags c.loop-i.invariant.flags
+          (tests _ _ _ w.index-bounds-pair.is w.index-bounds-pair-then-may_have_moved-pair.is w.may_touch-touches.ensures) w.flags-is
+      | else-may_have_moved-pair w ↦
+          kept t cs old c.loop-i.flags c.if-may_have_moved-pair.flags i below c.requires.flags c.loop-i.invariant.flags
+          (c.requires.others i below (was_moved ∙ w.if-may_have_moved-pair.false)) w.flags-is
     ] in
-    let read : get_or c.if-moved-pair.flags i false ≡ t p = flag_read t cs old c.if-moved-pair.flags i below flags in
+    let read : get_or c.if-may_have_moved-pair.flags i false ≡ t p = flag_read t cs old c.if-may_have_moved-pair.flags i below flags in
     record {
       flags = flags;
-      same = elim c.if-moved-pair.branch [
-        | then-moved-pair+then-touches w ↦ λ yes.
+      same = elim c.if-may_have_moved-pair.branch [
+        | then-may_have_moved-pair+then-touches w ↦ λ yes.
             (let both = and_parts c.loop-i.same _ (sym w.same-is ∙ yes) in
             w.flags-is ∙ unchanged c.loop-i.flags i w.may_touch-touches.result both.1 ∙ c.loop-i.invariant.same both.0)
-        | then-moved-pair+else-touches w ↦ λ yes.
+        | then-may_have_moved-pair+else-touches w ↦ λ yes.
             (let both = and_parts c.loop-i.same _ (sym w.same-is ∙ yes) in
             w.flags-is ∙ unchanged c.loop-i.flags i w.may_touch-touches.result both.1 ∙ c.loop-i.invariant.same both.0)
-        | else-moved-pair w ↦ λ yes. w.flags-is ∙ c.loop-i.invariant.same (sym w.same-is ∙ yes)
+        | else-may_have_moved-pair w ↦ λ yes. w.flags-is ∙ c.loop-i.invariant.same (sym w.same-is ∙ yes)
       ];
       place = (λ k. c.loop-i.invariant.place k + (c.from-place.ensures ∙ step.0 ∙ ap (λ b. cond b 1 0) read) k)
           ∙ sym (length-filter_more t cs i (pair 0 0) below);
       few = omega (arith, c.loop-i.invariant.few, c.from-place.ensures, step.1);
-      places = elim c.if-moved-pair.branch [
-        | then-moved-pair+then-touches w ↦
+      places = elim c.if-may_have_moved-pair.branch [
+        | then-may_have_moved-pair+then-touches w ↦
             rw w.moved_places-is
             (w.push_reserved-then-touches.ensures.items ∙ (λ k. c.loop-i.invariant.places k ++ c.loop-i.invariant.place k ∷ [])
             ∙ sym (places_next moved before after p (t p) true true more
-            (sym (tests _ _ _ w.index-bounds-pair.is w.index-bounds-pair-then-moved-pair.is w.may_touch-touches.ensures) ∙ w.if-touches.true)
-            (was_moved ∙ w.if-moved-pair.true)))
-        | then-moved-pair+else-touches w ↦
+            (sym (tests _ _ _ w.index-bounds-pair.is w.index-bounds-pair-then-may_have_moved-pair.is w.may_touch-touches.ensures) ∙ w.if-touches.true)
+            (was_moved ∙ w.if-may_have_moved-pair.true)))
+        | then-may_have_moved-pair+else-touches w ↦
             rw w.moved_places-is
             (c.loop-i.invariant.places ∙ sym (append-nil _)
             ∙ sym (places_next moved before after p (t p) true false more
-            (sym (tests _ _ _ w.index-bounds-pair.is w.index-bounds-pair-then-moved-pair.is w.may_touch-touches.ensures) ∙ w.if-touches.false)
-            (was_moved ∙ w.if-moved-pair.true)))
-        | else-moved-pair w ↦
+            (sym (tests _ _ _ w.index-bounds-pair.is w.index-bounds-pair-then-may_have_moved-pair.is w.may_touch-touches.ensures) ∙ w.if-touches.false)
+            (was_moved ∙ w.if-may_have_moved-pair.true)))
+        | else-may_have_moved-pair w ↦
             rw w.moved_places-is
             (c.loop-i.invariant.places ∙ sym (append-nil _)
             ∙ sym (places_next moved before after p (t p) false (t p) more refl
-            (was_moved ∙ w.if-moved-pair.false)))
+            (was_moved ∙ w.if-may_have_moved-pair.false)))
       ];
-      count = elim c.if-moved-pair.branch [
-        | then-moved-pair+then-touches w ↦ rw w.moved_places-is (omega (arith, c.loop-i.invariant.count, ap length w.push_reserved-then-touches.ensures.items))
-        | then-moved-pair+else-touches w ↦ rw w.moved_places-is (omega (arith, c.loop-i.invariant.count))
-        | else-moved-pair w ↦ rw w.moved_places-is (omega (arith, c.loop-i.invariant.count))
+      count = elim c.if-may_have_moved-pair.branch [
+        | then-may_have_moved-pair+then-touches w ↦ rw w.moved_places-is (omega (arith, c.loop-i.invariant.count, ap length w.push_reserved-then-touches.ensures.items))
+        | then-may_have_moved-pair+else-touches w ↦ rw w.moved_places-is (omega (arith, c.loop-i.invariant.count))
+        | else-may_have_moved-pair w ↦ rw w.moved_places-is (omega (arith, c.loop-i.invariant.count))
       ];
-      room = elim c.if-moved-pair.branch [
-        | then-moved-pair+then-touches w ↦ rw w.moved_places-is (omega (arith, c.loop-i.invariant.room, w.push_reserved-then-touches.ensures.capacity))
-        | then-moved-pair+else-touches w ↦ rw w.moved_places-is c.loop-i.invariant.room
-        | else-moved-pair w ↦ rw w.moved_places-is c.loop-i.invariant.room
+      room = elim c.if-may_have_moved-pair.branch [
+        | then-may_have_moved-pair+then-touches w ↦ rw w.moved_places-is (omega (arith, c.loop-i.invariant.room, w.push_reserved-then-touches.ensures.capacity))
+        | then-may_have_moved-pair+else-touches w ↦ rw w.moved_places-is c.loop-i.invariant.room
+        | else-may_have_moved-pair w ↦ rw w.moved_places-is c.loop-i.invariant.room
       ];
-      tested = elim c.if-moved-pair.branch [
-        | then-moved-pair+then-touches w ↦
+      tested = elim c.if-may_have_moved-pair.branch [
+        | then-may_have_moved-pair+then-touches w ↦
             rw w.tested-is
             (w.push_reserved.ensures.items ∙ ap (λ l. l ++ i ∷ []) c.loop-i.invariant.tested
-            ∙ sym (places_more (is_moved_place moved cs) i true (was_moved ∙ w.if-moved-pair.true)))
-        | then-moved-pair+else-touches w ↦
+            ∙ sym (places_more (has_body_of moved cs) i true (was_moved ∙ w.if-may_have_moved-pair.true)))
+        | then-may_have_moved-pair+else-touches w ↦
             rw w.tested-is
             (w.push_reserved.ensures.items ∙ ap (λ l. l ++ i ∷ []) c.loop-i.invariant.tested
-            ∙ sym (places_more (is_moved_place moved cs) i true (was_moved ∙ w.if-moved-pair.true)))
-        | else-moved-pair w ↦
+            ∙ sym (places_more (has_body_of moved cs) i true (was_moved ∙ w.if-may_have_moved-pair.true)))
+        | else-may_have_moved-pair w ↦
             rw w.tested-is
             (c.loop-i.invariant.tested ∙ sym (append-nil _)
-            ∙ sym (places_more (is_moved_place moved cs) i false (was_moved ∙ w.if-moved-pair.false)))
+            ∙ sym (places_more (has_body_of moved cs) i false (was_moved ∙ w.if-may_have_moved-pair.false)))
       ];
-      tested_count = elim c.if-moved-pair.branch [
-        | then-moved-pair+then-touches w ↦ rw w.tested-is (omega (arith, c.loop-i.invariant.tested_count, ap length w.push_reserved.ensures.items))
-        | then-moved-pair+else-touches w ↦ rw w.tested-is (omega (arith, c.loop-i.invariant.tested_count, ap length w.push_reserved.ensures.items))
-        | else-moved-pair w ↦ rw w.tested-is (omega (arith, c.loop-i.invariant.tested_count))
+      tested_count = elim c.if-may_have_moved-pair.branch [
+        | then-may_have_moved-pair+then-touches w ↦ rw w.tested-is (omega (arith, c.loop-i.invariant.tested_count, ap length w.push_reserved.ensures.items))
+        | then-may_have_moved-pair+else-touches w ↦ rw w.tested-is (omega (arith, c.loop-i.invariant.tested_count, ap length w.push_reserved.ensures.items))
+        | else-may_have_moved-pair w ↦ rw w.tested-is (omega (arith, c.loop-i.invariant.tested_count))
       ];
-      tested_room = elim c.if-moved-pair.branch [
-        | then-moved-pair+then-touches w ↦ rw w.tested-is (omega (arith, c.loop-i.invariant.tested_room, w.push_reserved.ensures.capacity))
-        | then-moved-pair+else-touches w ↦ rw w.tested-is (omega (arith, c.loop-i.invariant.tested_room, w.push_reserved.ensures.capacity))
-        | else-moved-pair w ↦ rw w.tested-is c.loop-i.invariant.tested_room
+      tested_room = elim c.if-may_have_moved-pair.branch [
+        | then-may_have_moved-pair+then-touches w ↦ rw w.tested-is (omega (arith, c.loop-i.invariant.tested_room, w.push_reserved.ensures.capacity))
+        | then-may_have_moved-pair+else-touches w ↦ rw w.tested-is (omega (arith, c.loop-i.invariant.tested_room, w.push_reserved.ensures.capacity))
+        | else-may_have_moved-pair w ↦ rw w.tested-is c.loop-i.invariant.tested_room
       ];
     }

@@ -54,12 +54,12 @@ all_found c =
 
 -- the places are those of the pairs that are kept
 places_are : (c : After-drop-watched-2)
-    → c.in_ok-update.update.moved_places.items ≡ moved_places (λ k. get_or c.args.moved.items k false) c.if-not-update.found.items
+    → c.in_ok-update.update.moved_places.items ≡ moved_places (λ k. get_or c.args.may_have_moved.items k false) c.if-not-update.found.items
 places_are c =
     let bs = c.args.bounds.now in
     c.in_ok-update.ensures.places
     ∙ (λ j. moved_places (λ k. get_or (c.deref-2.ensures.value j) k false) (filter (pair_may_touch bs) ((c.deref.ensures.value ∙ kept_candidates c) j)))
-    ∙ ap (moved_places (λ k. get_or c.args.moved.items k false)) (overlapping-pairs c.args.self.loose bs c.requires.loosened ∙ sym (all_found c))
+    ∙ ap (moved_places (λ k. get_or c.args.may_have_moved.items k false)) (overlapping-pairs c.args.self.loose bs c.requires.loosened ∙ sym (all_found c))
 
 pub invariant_of-next : goal.invariant_of-next
 invariant_of-next c = (

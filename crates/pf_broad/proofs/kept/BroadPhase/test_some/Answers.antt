@@ -2,8 +2,8 @@ use Rattle.std.proofs.Common.{◌≡◌, ℕ, Bool, false, true, List, All, leng
 use Rattle.pf_shapes.specs.Pair.{Pair}
 use Rattle.pf_broad.specs.Pairs.{pair_may_touch, pairs}
 use Rattle.pf_broad.specs.Partners.{has_body}
-use Rattle.pf_broad.specs.Kept.{flagged, moved_places, AreFlagged, BroadPhase, IsKeptOf}
-use Rattle.pf_broad.specs.Watched.{is_moved_place, IsRightWhereMoved}
+use Rattle.pf_broad.specs.Kept.{flagged, has_body_of, moved_places, AreFlagged, BroadPhase, IsKeptOf}
+use Rattle.pf_broad.specs.Watched.{IsRightWhereMoved}
 use Rattle.pf_broad.proofs.Flagging.{are_flagged, flagged-map}
 use Rattle.pf_broad.proofs.Loosening.{overlapping-pairs}
 use Rattle.pf_broad.proofs.Placing.{places-same}
@@ -14,7 +14,7 @@ use Rattle.pf_broad.proofs.kept.BroadPhase.test_some.Goals as goal
 
 pub are_right-requires-clause-places : goal.are_right-requires-clause-places
 are_right-requires-clause-places c =
-    let watched : ℕ → Bool = λ k. get_or c.self.inside.watched.bodies.items k false in
+    let watched : ℕ → Bool = λ k. get_or c.self.inside.watched.body_flags.items k false in
     places_below watched c.deref-else-not-has_all.result.now c.deref.result.now
     (c.deref.ensures.value ∙ c.self.invariant.2.candidate_places ∙ ap (moved_places watched) (sym c.deref-else-not-has_all.ensures.value))
 
@@ -54,15 +54,15 @@ returns-then-not-has_all-clause-places c =
 
 -- each body that may have moved is watched
 all_watched : (c : After-deref-4) → (k : ℕ) → get_or c.in_ok-may_have_moved.may_have_moved.items k false ≡ true
-    → get_or c.self.inside.watched.bodies.items k false ≡ true
+    → get_or c.self.inside.watched.body_flags.items k false ≡ true
 all_watched c =
-    set_watched c.args.moved.now c.in_ok-may_have_moved.may_have_moved.items (length c.args.bounds.now) (λ k. get_or c.self.inside.watched.bodies.items k false)
-    c.in_ok-may_have_moved.ensures.count c.in_ok-may_have_moved.ensures.each (c.has_all.ensures c.if-not-has_all.false)
+    set_watched c.args.moved.now c.in_ok-may_have_moved.may_have_moved.items (length c.args.bounds.now) (λ k. get_or c.self.inside.watched.body_flags.items k false)
+    c.in_ok-may_have_moved.ensures.count c.in_ok-may_have_moved.ensures.each (c.has_all.ensures.0 c.if-not-has_all.false)
 
 -- the flags at the watched places are right where a body may have moved
 watched_right : (c : After-deref-4)
     → All (IsRightWhereMoved (λ k. get_or c.in_ok-may_have_moved.may_have_moved.items k false) c.args.bounds.now c.self.inside.candidates.items c.self.inside.flags.items)
-    c.self.inside.watched.candidates.items
+    c.self.inside.watched.candidate_places.items
 watched_right c =
     let bs = c.args.bounds.now in
     let places = c.deref.result.now in
@@ -73,9 +73,9 @@ watched_right c =
     subst (λ l. All (right may_move c.self.inside.candidates.items c.self.inside.flags.items) l) c.deref.ensures.value
     (subst (λ l. All (right may_move c.self.inside.candidates.items l) places) c.deref-else-not-has_all-2.ensures.value
     (subst (λ l. All (right may_move l flags) places) c.deref-else-not-has_all.ensures.value
-    (subst (λ l. All (right l cs flags) places) c.deref-else-not-has_all-3.ensures.value (c.are_right.ensures c.if-not-are_right.false))))
+    (subst (λ l. All (right l cs flags) places) c.deref-else-not-has_all-3.ensures.value (c.are_right.ensures.0 c.if-not-are_right.false))))
 
--- no flag changes
+-- all flags are right
 flags_stay : (c : After-deref-4) → c.self.inside.flags.items ≡ map (pair_may_touch c.args.bounds.now) (pairs c.args.self.loose)
 flags_stay c =
     let bs = c.args.bounds.now in
@@ -87,17 +87,17 @@ flags_stay c =
     let others : AreFlagged moved bs cs c.self.inside.flags.items =
     subst (λ l. AreFlagged moved bs l c.self.inside.flags.items) (sym all)
     (subst (AreFlagged moved bs (pairs c.args.self.loose)) (sym flags) (others_right (goal.at.After-deref-4 c).In_ok-may_have_moved)) in
-    flags_right moved (λ k. get_or c.self.inside.watched.bodies.items k false) bs cs c.self.inside.flags.items c.self.inside.watched.candidates.items
+    flags_right moved (λ k. get_or c.self.inside.watched.body_flags.items k false) bs cs c.self.inside.flags.items c.self.inside.watched.candidate_places.items
     (ap length flags ∙ c.requires.as_many ∙ ap length (sym all)) c.self.invariant.2.candidate_places (all_watched c) (watched_right c)
     others ∙ ap (map (pair_may_touch bs)) all
 
 pub moved_among-requires-clause-places : goal.moved_among-requires-clause-places
 moved_among-requires-clause-places c =
-    let watched : ℕ → Bool = λ k. get_or c.self.inside.watched.bodies.items k false in
+    let watched : ℕ → Bool = λ k. get_or c.self.inside.watched.body_flags.items k false in
     places_below watched c.deref-3.result.now c.deref-2.result.now
     (c.deref-2.ensures.value ∙ c.self.invariant.2.pair_places ∙ ap (moved_places watched) (sym c.deref-3.ensures.value))
 
--- so no pair does
+-- so the pairs stay
 pairs_stay : (c : After-deref-4) → c.self.inside.found.items ≡ pairs c.args.bounds.now
 pairs_stay c =
     let all = c.self.invariant.0.pairs ∙ ap (λ (b : BroadPhase). pairs b.loose) c.self.view_is in
@@ -134,7 +134,7 @@ returns-clause-places c =
     let found = c.self.inside.found.items in
     let moved : ℕ → Bool = λ k. get_or c.in_ok-may_have_moved.may_have_moved.items k false in
     c.in_ok-moved_places.ensures
-    ∙ (λ j. filter (is_moved_place (λ k. get_or (c.deref-4.ensures.value j) k false) (c.deref-3.ensures.value j)) ((c.deref-2.ensures.value ∙ c.self.invariant.2.pair_places) j))
-    ∙ moved_of_watched moved (λ k. get_or c.self.inside.watched.bodies.items k false) found (all_watched before)
+    ∙ (λ j. filter (has_body_of (λ k. get_or (c.deref-4.ensures.value j) k false) (c.deref-3.ensures.value j)) ((c.deref-2.ensures.value ∙ c.self.invariant.2.pair_places) j))
+    ∙ moved_of_watched moved (λ k. get_or c.self.inside.watched.body_flags.items k false) found (all_watched before)
     ∙ places_listed (goal.at.returns-clause-places c).In_ok-may_have_moved found (pairs_stay before)
     ∙ ap (λ (b : BroadPhase). moved_places (has_body c.args.moved.now) b.pairs) (c.self.view_is ∙ sym (same_kept c))
