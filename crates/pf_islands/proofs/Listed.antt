@@ -15,7 +15,7 @@ use Rattle.pf_broad.proofs.Placing.{every_place}
 use Rattle.pf_broad.proofs.Ranges.{has_body-below, has_body-filter}
 use Rattle.pf_cache.specs.Spans.{AreListedPlaces, Span}
 use Rattle.pf_cache.proofs.ChosenNumbers.{at_first, at_next, at_number, number_low}
-use Rattle.pf_islands.specs.Flags.{HasAwake, awake_numbers, is_active_by, simulated_flags}
+use Rattle.pf_islands.specs.Flags.{ListsAwake, awake_numbers, is_active_by, simulated_flags}
 use Rattle.pf_islands.specs.Rows.{is_awake_at, is_simulated_at}
 use Rattle.pf_islands.proofs.ActiveRows.{asleep_not_simulated, flag_at}
 use Rattle.pf_islands.proofs.ActiveSpans.{not_active, places_of_spans, places_same}
@@ -33,10 +33,10 @@ is_below : (k n : ℕ) → k < n → nat_lt k n ≡ true
 is_below k n below = grind (arith, nat_tests)
 
 -- the awake ones of the listed bodies are all that are awake
-pub awake_are : (numbers found : List ℕ) (bodies : List BodyState) → HasAwake numbers bodies
+pub awake_of_listed : (numbers found : List ℕ) (bodies : List BodyState) → ListsAwake numbers bodies
     → found ≡ filter (is_awake_at bodies) numbers
     → (k : ℕ) → has_body found k ≡ (is_awake_at bodies k && nat_lt k (length bodies))
-awake_are numbers found bodies awake found_are k =
+awake_of_listed numbers found bodies awake found_are k =
     ap (λ ns. has_body ns k) found_are ∙ has_body-filter (is_awake_at bodies) numbers k ∙ by (is_awake_at bodies k) refl
   where
     by : (e : Bool) → is_awake_at bodies k ≡ e → (e && has_body numbers k) ≡ (e && nat_lt k (length bodies))
@@ -45,7 +45,7 @@ awake_are numbers found bodies awake found_are k =
 
 -- all bodies are listed
 pub all_listed : (numbers : List ℕ) (n : ℕ) (bodies : List BodyState) → numbers ≡ range_with_len 0 n → n ≡ length bodies
-    → HasAwake numbers bodies
+    → ListsAwake numbers bodies
 all_listed numbers n bodies are long k awake =
     ap (λ ns. has_body ns k) are ∙ has_body-below n k
     ∙ is_below k n (let there = awake_there bodies k awake in omega (arith, there, long))
@@ -103,12 +103,12 @@ place_low numbers spans places listed i d within =
     (length pairs) places listed.1 i d within in
     omega (arith, low, long)
 
--- the spans from a place on have the places that are left of all
+-- `made`, then the places of the spans from `k` on, is `all`
 abbrev pub LeadTo : Scene → List BodyState → List Span → List ℕ → List ℕ → ℕ → Type 0
 LeadTo s bodies spans all made k = made ++ places_of_spans (simulated_flags s bodies) (drop k spans) ≡ all
 
 module _ (s : Scene) (bodies : List BodyState) (numbers : List ℕ) (spans : List Span) (places : List ℕ)
-    (awake : HasAwake numbers bodies) (listed : AreListedPlaces numbers (map (λ (x : Span). x.pair) spans) places) where
+    (awake : ListsAwake numbers bodies) (listed : AreListedPlaces numbers (map (λ (x : Span). x.pair) spans) places) where
   abbrev spanned : List Pair
   spanned = map (λ (x : Span). x.pair) spans
 
@@ -127,7 +127,7 @@ module _ (s : Scene) (bodies : List BodyState) (numbers : List ℕ) (spans : Lis
       by true is = absurd (true≢false (sym (awake k is) ∙ other))
       by false is = is
 
-  -- a pair without a listed body is not simulated
+  -- a span whose pair has no listed body adds no place
   passed : (all made : List ℕ) (k : ℕ) → k < length spanned → is_listed_at k ≡ false → LeadTo s bodies spans all made k → LeadTo s bodies spans all made (k + 1)
   passed all made k below other before =
       let long = length-map spans (λ (x : Span). x.pair) in
@@ -156,7 +156,7 @@ module _ (s : Scene) (bodies : List BodyState) (numbers : List ℕ) (spans : Lis
       → LeadTo s bodies spans all made (get_or places i 0)
   to_here all made = at_number is_listed_at (length spanned) places listed.1 (LeadTo s bodies spans all made)
 
-  -- behind the last one, all are made
+  -- after the last listed place, `made` is `all`
   pub all_made : (all made : List ℕ) (i : ℕ) → length places ≤ i → LeadTo s bodies spans all made (get_or places i (length spanned)) → made ≡ all
   all_made all made i over before =
       let long = length-map spans (λ (x : Span). x.pair) in

@@ -1,9 +1,9 @@
 -- Where no contact wakes a body, the groups of the contacts that are simulated are enough.
 use Rattle.std.proofs.Common.{◌≡◌, ◌∙◌, ◌⊎◌, inl, inr, ⊎_elim, ℕ, ◌+◌, ◌<◌, ◌==◌, Bool, true, false, not, ◌&&◌, ◌||◌, List, [], ◌∷◌, length, map, option_map, filter, get_or, cond, max, min, take, refl, sym, ap, ap₂, subst, arith}
 use Rattle.std.proofs.lemmas.Bool.{and_from, and_parts, cases_lt, cond_both, cond-false, cond-true, eq-eqb, eqb-true, false_from_ne_true, ne_eqb, true≢false}
-use Rattle.std.proofs.lemmas.List.{ext_get_or, get_or_read, length-map, map_more, nil_from_length}
+use Rattle.std.proofs.lemmas.List.{ext_get_or, get_or-map, get_or_read, length-map, map_more, nil_from_length}
 use Rattle.std.proofs.lemmas.List.Elements.{All-cons, All-head, All-nil, All-tail, All-weaker}
-use Rattle.std.proofs.lemmas.List.Folds.{list_all-append}
+use Rattle.std.proofs.lemmas.List.Folds.{list_all-append, list_all_at}
 use Rattle.std.proofs.lemmas.List.FromFn.{get_or-map-range_with_len, length-map-range_with_len}
 use Rattle.std.proofs.lemmas.Option.{get_or_from_slice_get, slice_get-get_or, slice_get-map}
 use Rattle.std.specs.List.{list_all, range_with_len, zip}
@@ -552,3 +552,14 @@ all_more q touches places k t inside within is before passes =
     ∙ list_all-append q (touches_at touches (take k places)) (get_or touches (get_or places k 0) no_touch ∷ [])
     ∙ and_from _ _ before
     (and_from _ true (ap q (sym (get_or_read touches (get_or places k 0) t within is no_touch)) ∙ passes) refl)
+
+-- a place whose contact point does not pass
+pub not_all : (q : Touch → Bool) (touches : List Touch) (places : List ℕ) (k : ℕ) (t : Touch) → k < length places
+    → get_or places k 0 < length touches → t ≡ get_or touches (get_or places k 0) t → q t ≡ false
+    → list_all q (touches_at touches places) ≡ false
+not_all q touches places k t inside within is fails =
+    let read : ℕ → Touch = λ place. get_or touches place no_touch in
+    let long = length-map places read in
+    list_all_at q (map read places) k no_touch (omega (arith, inside, long))
+    (ap q (get_or-map read places k 0 no_touch inside ∙ sym (get_or_read touches (get_or places k 0) t within is no_touch))
+    ∙ fails)

@@ -16,8 +16,8 @@ abbrev pub awake_numbers : List BodyState → List ℕ
 awake_numbers bodies = filter (is_awake_at bodies) (range_with_len 0 (length bodies))
 
 -- each awake body is listed
-abbrev pub HasAwake : List ℕ → List BodyState → Type 0
-HasAwake numbers bodies = (k : ℕ) → is_awake_at bodies k ≡ true → has_body numbers k ≡ true
+abbrev pub ListsAwake : List ℕ → List BodyState → Type 0
+ListsAwake numbers bodies = (k : ℕ) → is_awake_at bodies k ≡ true → has_body numbers k ≡ true
 
 -- the contacts of a pair are simulated where one of its bodies is, by these flags
 abbrev pub is_active_by : List Bool → Pair → Bool

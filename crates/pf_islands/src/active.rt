@@ -6,11 +6,11 @@ ghost use Rattle.std.specs.List.{list_all, range_with_len};
 ghost use Rattle.pf_shapes.specs.Pair.{IsPairOf};
 ghost use Rattle.pf_manifold.specs.Touches.{IsTouchOf};
 ghost use Rattle.pf_cache.specs.Spans.{AreListedPlaces, AreSpansOf};
-ghost use Rattle.pf_islands.specs.Flags.{HasAwake, awake_numbers, is_active_by, simulated_flags};
+ghost use Rattle.pf_islands.specs.Flags.{ListsAwake, awake_numbers, is_active_by, simulated_flags};
 ghost use Rattle.pf_islands.specs.Rows.{side_of};
 ghost use Rattle.pf_islands.specs.Settled.{active_places, touches_at, wakes_none};
 
-use crate::awake::{AwakeCandidates, awake_numbers, simulated_flags};
+use crate::awake::{AwakeSearch, awake_numbers, simulated_flags};
 use pf_cache::Span;
 use pf_manifold::Touch;
 use pf_rows::Side;
@@ -66,24 +66,24 @@ pub(crate) struct Active {
     pub places: Vec<usize>,
 }
 
-/// Which bodies and contacts are simulated. `spans` says which pair has which points, and
-/// `candidates` which bodies and pairs are looked at. Takes no memory where there are no bodies and
-/// no contact points.
+/// Which bodies and contacts are simulated. `spans` has the points of each pair, and `search` says
+/// where to look for awake bodies and simulated contacts. Takes no memory where there are no bodies
+/// and no contact points.
 pub(crate) fn active_of(
     alloc: Global,
     scene: &Scene,
     bodies: &[BodyState],
     touches: &[Touch],
     spans: &[Span],
-    candidates: &AwakeCandidates,
+    search: &AwakeSearch,
 ) -> Result<Active, AllocError>
     requires bodies { length bodies.now ≡ length scene.now.fixtures }
     requires touches { All (IsTouchOf (length bodies.now)) touches.now }
     requires spans { AreSpansOf spans.now touches.now }
-    requires listed { All (λ number. number < length bodies.now) candidates.now.bodies.now }
-    requires awake { HasAwake candidates.now.bodies.now bodies.now }
-    requires places { AreListedPlaces candidates.now.bodies.now (map (λ s. s.pair) spans.now)
-        candidates.now.places.now }
+    requires listed { All (λ number. number < length bodies.now) search.now.bodies.now }
+    requires awake { ListsAwake search.now.bodies.now bodies.now }
+    requires places { AreListedPlaces search.now.bodies.now (map (λ s. s.pair) spans.now)
+        search.now.pair_places.now }
     ensures simulated { IfOk result
         (λ found. found.simulated.items ≡ simulated_flags scene.now bodies.now) }
     ensures numbers { IfOk result (λ found. found.numbers.items ≡ awake_numbers bodies.now) }
@@ -93,10 +93,10 @@ pub(crate) fn active_of(
         (λ found. All (λ place. place < length touches.now) found.places.items) }
     ensures no_memory { bodies.now ≡ [] → touches.now ≡ [] → IsOk result }
 {
-    let numbers = awake_numbers(alloc, bodies, candidates.bodies)?;
+    let numbers = awake_numbers(alloc, bodies, search.bodies)?;
     let simulated = simulated_flags(alloc, scene, bodies, &numbers)?;
     let mut places = Vec::with_capacity(alloc, touches.len())?;
-    for place in candidates.places {
+    for place in search.pair_places {
         let span = &spans[*place];
         if span.len > 0 && is_active_by(&simulated, &span.pair) {
             push_places(&mut places, span);
@@ -128,8 +128,7 @@ fn wakes_none(scene: &Scene, bodies: &[BodyState], touch: &Touch) -> bool
     fixtures[a].is_static() || fixtures[b].is_static()
 }
 
-/// Whether the contacts at these places, which are simulated, wake no bodies. No clause says that
-/// it finds each such list, but that without places.
+/// Whether the contacts at these places, which are simulated, wake no bodies.
 pub(crate) fn wake_none(
     scene: &Scene,
     bodies: &[BodyState],
@@ -139,9 +138,8 @@ pub(crate) fn wake_none(
     requires bodies { length bodies.now ≡ length scene.now.fixtures }
     requires touches { All (IsTouchOf (length bodies.now)) touches.now }
     requires places { All (λ place. place < length touches.now) places.now }
-    ensures value { IsTrue result
-        → list_all (wakes_none scene.now bodies.now) (touches_at touches.now places.now) ≡ true }
-    ensures none { places.now ≡ [] → result ≡ true }
+    ensures { result
+        ≡ list_all (wakes_none scene.now bodies.now) (touches_at touches.now places.now) }
 {
     for place in places {
         if !wakes_none(scene, bodies, &touches[*place]) {

@@ -1,19 +1,19 @@
-//! Which bodies are awake in a tick.
+//! Which bodies are awake in a tick, as a list of numbers and as flags.
 
 ghost use Rattle.std.specs.Prelude.{◌≡◌, ◌<◌, [], All, filter, length, IfOk, IsOk};
-ghost use Rattle.pf_islands.specs.Flags.{HasAwake, awake_numbers, simulated_flags};
+ghost use Rattle.pf_islands.specs.Flags.{ListsAwake, awake_numbers, simulated_flags};
 ghost use Rattle.pf_islands.specs.Rows.{is_awake_at};
 
 use pf_shapes::{BodyState, Scene};
 use std::alloc::{AllocError, Global};
 
-/// Where a tick looks for awake bodies, so that what sleeps is not looked at.
+/// Where a tick looks for awake bodies and simulated contacts, so that it can skip sleepers.
 #[derive(Drop)]
-pub struct AwakeCandidates<'a> {
-    /// The numbers of bodies, among them all that are awake, in any order.
+pub struct AwakeSearch<'a> {
+    /// Numbers of bodies, each awake one among them. They may be in any order, and repeat.
     pub bodies: &'a [usize],
     /// The places of the pairs with one of these bodies, in ascending order, or of all pairs.
-    pub places: &'a [usize],
+    pub pair_places: &'a [usize],
 }
 
 /// The awake ones of these bodies, in the same order.
@@ -37,7 +37,7 @@ fn awake_among(
 }
 
 /// The numbers of all awake bodies, in ascending order. Takes no memory where there are no bodies.
-fn all_awake(alloc: Global, bodies: &[BodyState]) -> Result<Vec<usize>, AllocError>
+fn awake_of_all(alloc: Global, bodies: &[BodyState]) -> Result<Vec<usize>, AllocError>
     ensures value { IfOk result (λ numbers. numbers.items ≡ awake_numbers bodies.now) }
     ensures no_memory { bodies.now ≡ [] → IsOk result }
 {
@@ -50,21 +50,22 @@ fn all_awake(alloc: Global, bodies: &[BodyState]) -> Result<Vec<usize>, AllocErr
     Ok(numbers)
 }
 
-/// The numbers of all awake bodies, in ascending order. They are looked for among the listed ones,
-/// which may be in any order; where these are at least half as many as there are bodies, among all,
-/// since nothing is sorted then. Takes no memory where there are no bodies.
+/// The numbers of all awake bodies, in ascending order. `listed` has each of them; its numbers may
+/// be in any order, and repeat. Where it has at least half as many numbers as there are bodies,
+/// rounded down, all bodies are looked at instead, so that nothing is sorted. Takes no memory where
+/// there are no bodies.
 pub(crate) fn awake_numbers(
     alloc: Global,
     bodies: &[BodyState],
     listed: &[usize],
 ) -> Result<Vec<usize>, AllocError>
     requires listed { All (λ number. number < length bodies.now) listed.now }
-    requires awake { HasAwake listed.now bodies.now }
+    requires awake { ListsAwake listed.now bodies.now }
     ensures value { IfOk result (λ numbers. numbers.items ≡ awake_numbers bodies.now) }
     ensures no_memory { bodies.now ≡ [] → IsOk result }
 {
     if listed.len() >= bodies.len() / 2 {
-        return all_awake(alloc, bodies);
+        return awake_of_all(alloc, bodies);
     }
     let mut numbers = awake_among(alloc, bodies, listed)?;
     numbers.sort_unstable();
@@ -72,8 +73,8 @@ pub(crate) fn awake_numbers(
     Ok(numbers)
 }
 
-/// For each body whether it is dynamic and awake. The list is short, so that it can be read again
-/// and again. Takes no memory where there are no bodies.
+/// For each body whether it is dynamic and awake: one byte each, so that the flags can be read
+/// again and again. `numbers` lists the awake bodies. Takes no memory where there are no bodies.
 pub(crate) fn simulated_flags(
     alloc: Global,
     scene: &Scene,

@@ -13,7 +13,7 @@ mod sizes;
 mod sleep;
 mod splitting;
 
-pub use awake::AwakeCandidates;
+pub use awake::AwakeSearch;
 pub use island::Island;
 pub use joining::join_back;
 pub use sleep::{fall_asleep, rest_alone};

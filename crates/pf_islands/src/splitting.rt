@@ -10,14 +10,14 @@ ghost use Rattle.pf_cache.specs.Spans.{AreListedPlaces};
 ghost use Rattle.pf_islands.specs.Group.{groups as groups_of};
 ghost use Rattle.pf_islands.specs.Island.{members};
 ghost use Rattle.pf_islands.specs.Rows.{active_rows, row_of};
-ghost use Rattle.pf_islands.specs.Flags.{HasAwake, awake_numbers, simulated_flags};
+ghost use Rattle.pf_islands.specs.Flags.{ListsAwake, awake_numbers, simulated_flags};
 ghost use Rattle.pf_islands.specs.Settled.{AreSettled, active_places};
 ghost use Rattle.pf_islands.specs.Sleep.{woken_bodies};
 ghost use Rattle.pf_islands.specs.Split.{AreWoken, IsIslandOf, active_labels, is_active_label, island_of, islands, no_island};
 ghost use Rattle.pf_islands.specs.Dealing.{ArePlaces, AreSlots, HasIsland, group_of_row, group_of_sides, placed_row, placed_side, slot_of, with_body, with_row};
 
 use crate::active::{Active, active_of, side_of, wake_none};
-use crate::awake::AwakeCandidates;
+use crate::awake::AwakeSearch;
 use crate::forest::singles;
 use crate::groups::Groups;
 use crate::island::Island;
@@ -294,9 +294,9 @@ fn woken_bodies(
 /// theirs. The islands are made in the memory of the spare ones, whose bodies and contacts are
 /// gone. Takes no memory where there are no bodies and no contact points.
 ///
-/// `manifolds` holds the contact points, and `candidates` lists the bodies and pairs of which alone
-/// some may be awake. In most ticks no contact wakes a body. Then only the contacts that are
-/// simulated are linked, and only awake bodies are added to islands: nothing else is looked at.
+/// `manifolds` holds the contact points, and `search` says where to look for awake bodies and
+/// simulated contacts. In most ticks no contact wakes a body: then only simulated contacts are
+/// linked. Else all contacts are linked first, to find which bodies wake.
 pub fn wake_and_split(
     alloc: Global,
     spare: Vec<Island>,
@@ -304,15 +304,15 @@ pub fn wake_and_split(
     bodies: &[BodyState],
     manifolds: &Manifolds,
     contacts: &[Contact],
-    candidates: &AwakeCandidates,
+    search: &AwakeSearch,
 ) -> Result<Vec<Island>, AllocError>
     requires bodies { length bodies.now ≡ length scene.now.fixtures }
     requires touches { All (IsTouchOf (length bodies.now)) (kept_touches manifolds.now) }
     requires contacts { length contacts.now ≡ length (kept_touches manifolds.now) }
-    requires listed { All (λ number. number < length bodies.now) candidates.now.bodies.now }
-    requires awake { HasAwake candidates.now.bodies.now bodies.now }
-    requires places { AreListedPlaces candidates.now.bodies.now manifolds.now.pairs
-        candidates.now.places.now }
+    requires listed { All (λ number. number < length bodies.now) search.now.bodies.now }
+    requires awake { ListsAwake search.now.bodies.now bodies.now }
+    requires places { AreListedPlaces search.now.bodies.now manifolds.now.pairs
+        search.now.pair_places.now }
     ensures value { let touches = kept_touches manifolds.now in
         let woken = woken_bodies (groups_of scene.now touches) bodies.now in
         IfOk result (λ found. found.items ≡ islands (groups_of scene.now touches) woken
@@ -322,7 +322,7 @@ pub fn wake_and_split(
 {
     let touches = manifolds.touches();
     let spans = manifolds.spans();
-    let active = active_of(alloc, scene, bodies, touches, spans, candidates)?;
+    let active = active_of(alloc, scene, bodies, touches, spans, search)?;
     if wake_none(scene, bodies, touches, &active.places) {
         return split(alloc, spare, scene, bodies, touches, contacts, &active);
     }
@@ -330,9 +330,9 @@ pub fn wake_and_split(
     let bodies = woken.as_slice();
     let all_numbers = singles(alloc, bodies.len())?;
     let all_places = singles(alloc, spans.len())?;
-    let all = AwakeCandidates {
+    let all = AwakeSearch {
         bodies: &all_numbers,
-        places: &all_places,
+        pair_places: &all_places,
     };
     let active = active_of(alloc, scene, bodies, touches, spans, &all)?;
     split(alloc, spare, scene, bodies, touches, contacts, &active)

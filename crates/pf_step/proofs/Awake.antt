@@ -12,7 +12,7 @@ use Rattle.pf_broad.specs.Partners.{has_body}
 use Rattle.pf_broad.proofs.Ranges.{has_body-below, has_body-filter}
 use Rattle.pf_cache.proofs.Standing.{same_at}
 use Rattle.pf_commands.specs.declared.payload.Payload.{Payload}
-use Rattle.pf_islands.specs.Flags.{HasAwake}
+use Rattle.pf_islands.specs.Flags.{ListsAwake}
 use Rattle.pf_islands.specs.Rows.{is_awake_at}
 use Rattle.pf_islands.specs.Split.{Island}
 use Rattle.pf_islands.proofs.Listed.{all_listed, awake_there}
@@ -24,7 +24,7 @@ use Rattle.pf_step.proofs.Changing.{notes_of_all}
 use Rattle.pf_step.proofs.Commanding.{commands_before, commands_length}
 use Rattle.pf_step.proofs.Following.{neither, numbers_more, stayed_after_commands, unlisted}
 
--- a body that is the same in both is awake in both
+-- a body that is the same in both is awake in both or in neither
 awake_alike : (bodies others : List BodyState) (k : ℕ) → slice_get bodies k ≡ slice_get others k
     → is_awake_at bodies k ≡ is_awake_at others k
 awake_alike bodies others k same = ap (λ (b : BodyState). b.awake) (same_at bodies others k same no_state)
@@ -33,7 +33,7 @@ awake_alike bodies others k same = ap (λ (b : BodyState). b.awake) (same_at bod
 -- are listed afterwards
 still_listed : (numbers : List ℕ) (before after : List BodyState)
     → ((k : ℕ) → has_body numbers k ≡ false → slice_get after k ≡ slice_get before k)
-    → HasAwake numbers before → HasAwake numbers after
+    → ListsAwake numbers before → ListsAwake numbers after
 still_listed numbers before after same awake k wakes = by (has_body numbers k) refl
   where
     by : (e : Bool) → has_body numbers k ≡ e → has_body numbers k ≡ true
@@ -50,17 +50,17 @@ or_first : (a b : Bool) → a ≡ true → (a || b) ≡ true
 or_first true b is = refl
 or_first false b is = absurd (true≢false (sym is))
 
-listed_first : (first second : List ℕ) (bodies : List BodyState) → HasAwake first bodies → HasAwake (first ++ second) bodies
+listed_first : (first second : List ℕ) (bodies : List BodyState) → ListsAwake first bodies → ListsAwake (first ++ second) bodies
 listed_first first second bodies awake k wakes =
     list_any-append (λ m. m == k) first second ∙ or_first (has_body first k) (has_body second k) (awake k wakes)
 
-listed_second : (first second : List ℕ) (bodies : List BodyState) → HasAwake second bodies → HasAwake (first ++ second) bodies
+listed_second : (first second : List ℕ) (bodies : List BodyState) → ListsAwake second bodies → ListsAwake (first ++ second) bodies
 listed_second first second bodies awake k wakes =
     list_any-append (λ m. m == k) first second ∙ or_true (has_body first k) (has_body second k) (awake k wakes)
 
 -- ---- bodies that are noted
 
--- the body of a number is noted
+-- each listed body that exists is noted
 noted_number : (bodies : List BodyState) (numbers : List ℕ) (k : ℕ) → k < length bodies → has_body numbers k ≡ true
     → has_body (numbers_of (changes_of bodies numbers)) k ≡ true
 noted_number bodies [] k within listed = listed
@@ -83,7 +83,7 @@ noted_number bodies (n ∷ numbers) k within listed =
     by false other rest others = or_true (has_body (numbers_of (change_of bodies n)) k) _ (others rest)
 
 -- all awake bodies are noted
-pub awake_noted : (bodies : List BodyState) → HasAwake (numbers_of (changes_of_awake bodies)) bodies
+pub awake_noted : (bodies : List BodyState) → ListsAwake (numbers_of (changes_of_awake bodies)) bodies
 awake_noted bodies k wakes =
     let within = awake_there bodies k wakes in
     noted_number bodies (filter (is_awake_at bodies) (range_with_len 0 (length bodies))) k within
@@ -97,7 +97,7 @@ awake_noted bodies k wakes =
 pub islands_noted : (bodies : List BodyState) (islands : List Island)
     → ((k : ℕ) → k < length bodies → is_awake_at bodies k ≡ true
     → has_body (flat_map (λ (i : Island). i.numbers) islands) k ≡ true)
-    → HasAwake (numbers_of (changes_of_islands bodies islands)) bodies
+    → ListsAwake (numbers_of (changes_of_islands bodies islands)) bodies
 islands_noted bodies islands have k wakes =
     let within = awake_there bodies k wakes in
     ap (λ cs. has_body (numbers_of cs) k) (notes_of_all bodies (λ (i : Island). i.numbers) islands)
@@ -110,10 +110,10 @@ awake_after_commands : (s : Scene) (w : World) (payloads : List Payload) (work :
     (notes : List BodyChange) (after : List BodyState) → KnowsWorld s w work
     → notes ≡ changes_by_commands w.bodies payloads → after ≡ after_commands s.fixtures w.bodies payloads
     → moved ≡ moved_bodies work.is_known work.moved (length w.bodies) (numbers_of notes)
-    → HasAwake moved after
+    → ListsAwake moved after
 awake_after_commands s w payloads work moved notes after follows noted after_is listed = by work.is_known refl
   where
-    by : (known : Bool) → work.is_known ≡ known → HasAwake moved after
+    by : (known : Bool) → work.is_known ≡ known → ListsAwake moved after
     by true known =
         let list : moved ≡ work.moved ++ numbers_of notes =
         listed ∙ ap (λ b. moved_bodies b work.moved (length w.bodies) (numbers_of notes)) known in
@@ -133,7 +133,7 @@ pub listed_after_commands : (s : Scene) (w : World) (payloads : List Payload) (w
     (notes : List BodyChange) (after : List BodyState) → KnowsWorld s w work
     → notes ≡ changes_by_commands w.bodies payloads → after ≡ after_commands s.fixtures w.bodies payloads
     → moved ≡ moved_bodies work.is_known work.moved (length w.bodies) (numbers_of notes)
-    → All (λ number. number < length after) moved × HasAwake moved after
+    → All (λ number. number < length after) moved × ListsAwake moved after
 listed_after_commands s w payloads work moved notes after follows noted after_is listed = (
   (stayed_after_commands s w payloads work work.manifolds moved notes after follows refl noted after_is listed).0,
   awake_after_commands s w payloads work moved notes after follows noted after_is listed,
@@ -141,7 +141,7 @@ listed_after_commands s w payloads work moved notes after follows noted after_is
 
 -- after a step, where all that was awake before it is noted
 pub awake_after_step : (first more changes : List BodyChange) (before after : List BodyState) → changes ≡ first ++ more
-    → bodies_before more after ≡ before → HasAwake (numbers_of more) before → HasAwake (numbers_of changes) after
+    → bodies_before more after ≡ before → ListsAwake (numbers_of more) before → ListsAwake (numbers_of changes) after
 awake_after_step first more changes before after are undone awake k wakes =
     ap (λ cs. has_body (numbers_of cs) k) are ∙ ap (λ ns. has_body ns k) (numbers_more first more)
     ∙ listed_second (numbers_of first) (numbers_of more) after

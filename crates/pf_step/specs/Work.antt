@@ -6,7 +6,7 @@ use Rattle.pf_manifold.specs.Key.{key_of}
 use Rattle.pf_cache.specs.Manifolds.{Manifolds, Collisions, kept_touches, no_manifolds}
 use Rattle.pf_cache.specs.Meter.{Meter, saturating_sum}
 use Rattle.pf_cache.specs.PlacedBodies.{HaveStayed, bodies_of}
-use Rattle.pf_islands.specs.Flags.{HasAwake}
+use Rattle.pf_islands.specs.Flags.{ListsAwake}
 use Rattle.pf_step.specs.World.{World}
 
 -- how much work was done, the contact points of the last tick, and, if that is known, which bodies
@@ -43,12 +43,12 @@ abbrev pub moved_bodies : Bool → List ℕ → ℕ → List ℕ → List ℕ
 moved_bodies true moved count commanded = moved ++ commanded
 moved_bodies false moved count commanded = range_with_len 0 count
 
--- where a work knows which bodies of a world may have moved: these are bodies of the scene, all
--- that are awake are among them, all others stand as it kept them, and the contacts have the keys of
--- the kept contact points
+-- where a work knows which bodies of a world may have moved: these are bodies of the world; where
+-- as many bodies are kept, all others stand as they were kept; the contacts have the keys of the
+-- kept contact points; and each awake body is one of those that may have moved
 abbrev pub KnowsWorld : Scene → World → Work → Type 0
 KnowsWorld s world w =
     w.is_known ≡ true → All (λ number. number < length world.bodies) w.moved
     × HaveStayed w.moved (bodies_of w.manifolds) s.fixtures world.bodies
     × (map (λ c. c.key) world.contacts ≡ map key_of (kept_touches w.manifolds))
-    × HasAwake w.moved world.bodies
+    × ListsAwake w.moved world.bodies

@@ -1,6 +1,6 @@
 //! What a step changes in a world, so that it can be undone.
 
-ghost use Rattle.std.specs.Prelude.{◌≡◌, ◌++◌, [], IsOk, OnErr, OnOk, slice_set};
+ghost use Rattle.std.specs.Prelude.{◌≡◌, ◌≢◌, ◌≤◌, ◌+◌, ◌-◌, ◌^◌, ◌++◌, [], IsOk, OnErr, OnOk, length, min, slice_set, sum_by, vec_capacity, vec_len};
 ghost use Rattle.pf_step.specs.Changes.{bodies_before, change_of, changes_of};
 
 use crate::work::Work;
@@ -69,8 +69,10 @@ fn note(
     Ok(())
 }
 
-/// How many bodies these islands have. Only memory depends on it: no contract says that it is right.
-fn body_count(islands: &[Island]) -> usize {
+/// How many bodies these islands have, or the greatest `usize` where they have more.
+fn body_count(islands: &[Island]) -> usize
+    ensures { result ≡ min (sum_by (λ i. length i.numbers) islands.now) (2 ^ 64 - 1) }
+{
     let mut count = 0usize;
     for island in islands {
         count = count.saturating_add(island.numbers.len());
@@ -78,7 +80,7 @@ fn body_count(islands: &[Island]) -> usize {
     count
 }
 
-/// Makes room for so many more changes, so that they are not copied while the list grows. Takes no
+/// Makes room for `count` more changes, so that the list is not copied while it grows. Takes no
 /// memory where there are no bodies.
 fn make_room(
     changes: &mut Vec<BodyChange>,
@@ -86,6 +88,8 @@ fn make_room(
     count: usize,
 ) -> Result<(), AllocError>
     ensures same { changes.new.items ≡ changes.old.items }
+    ensures room { OnOk result (bodies.now ≢ []
+        → vec_len changes.new + count ≤ vec_capacity changes.new) }
     ensures no_memory { bodies.now ≡ [] → IsOk result }
 {
     if bodies.is_empty() {

@@ -7,7 +7,7 @@ ghost use Rattle.pf_cache.specs.Contact.{HaveSameFirst};
 ghost use Rattle.pf_cache.specs.ContactsChange.{contacts_before};
 ghost use Rattle.pf_cache.specs.Manifolds.{kept_touches};
 ghost use Rattle.pf_cache.specs.Spans.{AreListedPlaces};
-ghost use Rattle.pf_islands.specs.Flags.{HasAwake};
+ghost use Rattle.pf_islands.specs.Flags.{ListsAwake};
 ghost use Rattle.pf_islands.specs.Split.{IsIslandOf};
 ghost use Rattle.pf_step.specs.declared.crew.StepError.TheVariants.{OutOfMemory};
 ghost use Rattle.pf_step.specs.Activity.{islands_of_bodies, islands_with};
@@ -20,7 +20,7 @@ use crate::crew::{Crew, StepError};
 use crate::work::Work;
 use crate::world::World;
 use pf_cache::FoundCollisions;
-use pf_islands::{AwakeCandidates, Island, join_back, wake_and_split};
+use pf_islands::{AwakeSearch, Island, join_back, wake_and_split};
 use pf_shapes::Scene;
 use pf_solver::solve_untouched;
 use std::alloc::{AllocError, Global};
@@ -54,7 +54,7 @@ fn prepare(
     requires keys { map (λ c. c.key) world.now.contacts
         ≡ map key_of (touches_of_scene scene.now world.now.bodies) }
     requires awake { All (λ number. number < length world.now.bodies) work.old.moved
-        × HasAwake work.old.moved world.now.bodies }
+        × ListsAwake work.old.moved world.now.bodies }
     requires places { AreListedPlaces work.old.moved found.now.collisions.manifolds.pairs
         found.now.moved_places.items }
     ensures islands { IfOk result (λ islands. islands.items
@@ -75,9 +75,9 @@ fn prepare(
     ensures no_memory { world.now.bodies ≡ [] → changes.old.bodies ≡ [] → IsOk result }
 {
     let spare = work.take_islands(alloc);
-    let candidates = AwakeCandidates {
+    let search = AwakeSearch {
         bodies: work.moved(),
-        places: &found.moved_places,
+        pair_places: &found.moved_places,
     };
     let collisions = &found.collisions;
     let islands = wake_and_split(
@@ -87,7 +87,7 @@ fn prepare(
         &world.bodies,
         &collisions.manifolds,
         world.contacts.as_slice(),
-        &candidates,
+        &search,
     )?;
     changes.note_islands(&world.bodies, &islands)?;
     changes.note_impulses(&world.contacts, &islands)?;
@@ -105,7 +105,7 @@ fn finish_untouched(
     requires bodies { length world.old.bodies ≡ length scene.now.fixtures }
     requires untouched { touches_of_scene scene.now world.old.bodies ≡ [] }
     ensures ending { IsEnding scene.now world.old changes.old.bodies world.new changes.new result }
-    ensures awake { OnOk result (HasAwake (numbers_of changes.new.bodies) world.new.bodies) }
+    ensures awake { OnOk result (ListsAwake (numbers_of changes.new.bodies) world.new.bodies) }
     ensures moved { OnOk result (work.new.moved ≡ numbers_of changes.new.bodies) }
     ensures work { work.new ≡ record work.old { moved = work.new.moved } }
     ensures no_memory { world.old.bodies ≡ [] → changes.old.bodies ≡ [] → IsOk result }
@@ -141,7 +141,7 @@ pub(crate) fn finish<C: Crew>(
     requires known { HaveSameFirst known (map (λ c. c.key) world.old.contacts)
         (map key_of (kept_touches found.now.collisions.manifolds)) }
     requires awake { All (λ number. number < length world.old.bodies) work.old.moved
-        × HasAwake work.old.moved world.old.bodies }
+        × ListsAwake work.old.moved world.old.bodies }
     requires places { AreListedPlaces work.old.moved found.now.collisions.manifolds.pairs
         found.now.moved_places.items }
     ensures ending { IsEnding scene.now world.old changes.old.bodies world.new changes.new result }
@@ -149,7 +149,7 @@ pub(crate) fn finish<C: Crew>(
         in OnOk result (C.is_called crew.old islands crew.new) }
     ensures failed { let islands = islands_of_bodies scene.now world.old.contacts world.old.bodies
         in IfErr result (λ error. FailsBy C.may_fail crew.old islands error crew.new) }
-    ensures awake { OnOk result (HasAwake (numbers_of changes.new.bodies) world.new.bodies) }
+    ensures awake { OnOk result (ListsAwake (numbers_of changes.new.bodies) world.new.bodies) }
     ensures moved { OnOk result (work.new.moved ≡ numbers_of changes.new.bodies) }
     ensures work { work.new ≡ record work.old { moved = work.new.moved } }
     ensures no_memory { world.old.bodies ≡ [] → changes.old.bodies ≡ []

@@ -29,7 +29,8 @@ use std::alloc::{AllocError, Global};
 
 /// The contact points of the bodies of a scene as they stand; kept ones are reused. Only bodies of
 /// `moved` may have moved since these were kept. Also finds how many of the first points have the
-/// keys of the first kept ones, and at which places pairs with a body of `moved` stand.
+/// keys of the first kept ones, and lists the places of the pairs with a body of `moved`, or of all
+/// pairs.
 #[tactic(auto, using(pf_cache::proofs::Unmoved::kept_points, pf_manifold::proofs::KeyOrder::touches_of_bodies))]
 fn find_collisions<P: Collider>(
     collider: &P,

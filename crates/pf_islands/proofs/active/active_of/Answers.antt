@@ -17,9 +17,9 @@ loop-place-init c =
     let s = c.args.scene.now in
     let bodies = c.args.bodies.now in
     let spans = c.args.spans.now in
-    let listed = c.args.candidates.now in
+    let listed = c.args.search.now in
     record {
-      made = from_first s bodies listed.bodies.now spans listed.places.now c.requires.awake c.requires.places
+      made = from_first s bodies listed.bodies.now spans listed.pair_places.now c.requires.awake c.requires.places
           (active_places s bodies c.args.touches.now) c.in_ok-places.places.items
           (ap (λ ns. ns ++ places_of_spans (simulated_flags s bodies) spans) c.in_ok-places.ensures.items
           ∙ spans_have_places s bodies c.args.touches.now spans c.requires.spans);
@@ -28,21 +28,21 @@ loop-place-init c =
 
 pub offset_bounds-spans-place : goal.offset_bounds-spans-place
 offset_bounds-spans-place c =
-    let below = place_low c.args.candidates.now.bodies.now c.args.spans.now c.args.candidates.now.places.now c.requires.places
+    let below = place_low c.args.search.now.bodies.now c.args.spans.now c.args.search.now.pair_places.now c.requires.places
     c.loop-place.place-index 0 c.loop-place-test.true in
     search (rules, arith, below)
 
 pub bounds-spans-place : goal.bounds-spans-place
 bounds-spans-place c =
-    place_low c.args.candidates.now.bodies.now c.args.spans.now c.args.candidates.now.places.now c.requires.places
+    place_low c.args.search.now.bodies.now c.args.spans.now c.args.search.now.pair_places.now c.requires.places
     c.loop-place.place-index 0 c.loop-place-test.true
 
 pub is_active_by-requires : goal.is_active_by-requires
 is_active_by-requires c =
-    let low = place_low c.args.candidates.now.bodies.now c.args.spans.now c.args.candidates.now.places.now c.requires.places
+    let low = place_low c.args.search.now.bodies.now c.args.spans.now c.args.search.now.pair_places.now c.requires.places
     c.loop-place.place-index 0 c.loop-place-test.true in
     let bodies = c.args.bodies.now in
-    let place = get_or c.args.candidates.now.places.now c.loop-place.place-index 0 in
+    let place = get_or c.args.search.now.pair_places.now c.loop-place.place-index 0 in
     let flags = ap length (c.deref-then-span-gt0.ensures.value ∙ c.in_ok-simulated.ensures.value)
     ∙ length-map-range_with_len (is_simulated_at c.args.scene.now bodies) 0 (length bodies) in
     subst (λ n. IsPairOf n c.span.inside.pair) (sym flags)
@@ -53,29 +53,29 @@ is_active_by-requires c =
 
 pub push_places-requires-clause-number : goal.push_places-requires-clause-number
 push_places-requires-clause-number c =
-    let low = place_low c.args.candidates.now.bodies.now c.args.spans.now c.args.candidates.now.places.now c.requires.places
+    let low = place_low c.args.search.now.bodies.now c.args.spans.now c.args.search.now.pair_places.now c.requires.places
     c.loop-place.place-index 0 c.loop-place-test.true in
-    let place = get_or c.args.candidates.now.places.now c.loop-place.place-index 0 in
+    let place = get_or c.args.search.now.pair_places.now c.loop-place.place-index 0 in
     let inside = ends_inside c.args.touches.now c.args.spans.now c.requires.spans place c.index-spans-place.result
     low c.index-spans-place.is in
     search (arith, inside)
 
 pub push_places-requires-clause-room : goal.push_places-requires-clause-room
 push_places-requires-clause-room c =
-    let low = place_low c.args.candidates.now.bodies.now c.args.spans.now c.args.candidates.now.places.now c.requires.places
+    let low = place_low c.args.search.now.bodies.now c.args.spans.now c.args.search.now.pair_places.now c.requires.places
     c.loop-place.place-index 0 c.loop-place-test.true in
     let s = c.args.scene.now in
     let bodies = c.args.bodies.now in
     let touches = c.args.touches.now in
     let spans = c.args.spans.now in
-    let listed = c.args.candidates.now in
+    let listed = c.args.search.now in
     let i = c.loop-place.place-index in
     let all = active_places s bodies touches in
     let active = sym c.is_active_by.ensures ∙ c.if-is_active_by.true in
     let flags = c.deref-then-span-gt0.ensures.value ∙ c.in_ok-simulated.ensures.value in
-    let room = has_room (simulated_flags s bodies) spans (get_or listed.places.now i 0) c.index-spans-place.result
+    let room = has_room (simulated_flags s bodies) spans (get_or listed.pair_places.now i 0) c.index-spans-place.result
     low c.index-spans-place.is c.loop-place.places.items all
-    (to_here s bodies listed.bodies.now spans listed.places.now c.requires.awake c.requires.places all c.loop-place.places.items
+    (to_here s bodies listed.bodies.now spans listed.pair_places.now c.requires.awake c.requires.places all c.loop-place.places.items
     i c.loop-place-test.true c.loop-place.invariant.made)
     (sym (ap₂ (λ fs (x : Span). is_active_by fs x.pair) flags c.span.view_is) ∙ active) in
     let few = few_places s bodies touches in
@@ -83,19 +83,19 @@ push_places-requires-clause-room c =
 
 pub loop-place-preserved : goal.loop-place-preserved
 loop-place-preserved c =
-    let low = place_low c.args.candidates.now.bodies.now c.args.spans.now c.args.candidates.now.places.now c.requires.places
+    let low = place_low c.args.search.now.bodies.now c.args.spans.now c.args.search.now.pair_places.now c.requires.places
     c.loop-place.place-index 0 c.loop-place-test.true in
     let s = c.args.scene.now in
     let bodies = c.args.bodies.now in
     let simulated = simulated_flags s bodies in
     let spans = c.args.spans.now in
-    let listed = c.args.candidates.now in
+    let listed = c.args.search.now in
     let i = c.loop-place.place-index in
-    let place = get_or listed.places.now i 0 in
+    let place = get_or listed.pair_places.now i 0 in
     let x = c.index-spans-place.result in
     let made = c.loop-place.places.items in
     let all = active_places s bodies c.args.touches.now in
-    let before = to_here s bodies listed.bodies.now spans listed.places.now c.requires.awake c.requires.places all made
+    let before = to_here s bodies listed.bodies.now spans listed.pair_places.now c.requires.awake c.requires.places all made
     i c.loop-place-test.true c.loop-place.invariant.made in
     let now : List ℕ = c.if-span-gt0.places.items in
     let here : LeadTo s bodies spans all now (place + 1) =
@@ -120,17 +120,17 @@ loop-place-preserved c =
           ])
     ] in
     record {
-      made = to_next s bodies listed.bodies.now spans listed.places.now c.requires.awake c.requires.places all now
+      made = to_next s bodies listed.bodies.now spans listed.pair_places.now c.requires.awake c.requires.places all now
           i c.loop-place-test.true here;
       room = search rules;
     }
 
 -- all places are made
-made : (c : goal.After-loop-place) → length c.args.candidates.now.places.now ≤ c.loop-place.place-index
+made : (c : goal.After-loop-place) → length c.args.search.now.pair_places.now ≤ c.loop-place.place-index
     → c.loop-place.places.items ≡ active_places c.args.scene.now c.args.bodies.now c.args.touches.now
 made c over =
-    let listed = c.args.candidates.now in
-    all_made c.args.scene.now c.args.bodies.now listed.bodies.now c.args.spans.now listed.places.now c.requires.awake
+    let listed = c.args.search.now in
+    all_made c.args.scene.now c.args.bodies.now listed.bodies.now c.args.spans.now listed.pair_places.now c.requires.awake
     c.requires.places (active_places c.args.scene.now c.args.bodies.now c.args.touches.now) c.loop-place.places.items
     c.loop-place.place-index over c.loop-place.invariant.made
 

@@ -7,6 +7,6 @@ use Rattle.pf_islands.proofs.active.active_of.Given as goal
 abbrev pub invariant-loop-place : goal.invariant-loop-place
 invariant-loop-place l = record {
   made : LeadTo l.scene l.bodies l.spans (active_places l.scene l.bodies l.touches) l.places.items
-      (get_or l.candidates.places.now l.place-index (length (map (λ (x : Span). x.pair) l.spans)));
+      (get_or l.search.pair_places.now l.place-index (length (map (λ (x : Span). x.pair) l.spans)));
   room : length l.touches ≤ vec_capacity l.places;
 }

@@ -29,7 +29,7 @@ woken_islands s touches bodies contacts =
 pub split-requires-clause-settled : goal.split-requires-clause-settled
 split-requires-clause-settled c =
     settled_from c.args.scene.now c.args.bodies.now c.touches-touches.result.now c.deref.result.now
-    (c.deref.ensures.value ∙ c.in_ok-active.ensures.places) (c.wake_none.ensures.value c.if-wake_none.true)
+    (c.deref.ensures.value ∙ c.in_ok-active.ensures.places) (sym c.wake_none.ensures ∙ c.if-wake_none.true)
 
 pub returns-then-wake_none-clause-value : goal.returns-then-wake_none-clause-value
 returns-then-wake_none-clause-value c =
@@ -38,7 +38,7 @@ returns-then-wake_none-clause-value c =
     let touches = c.touches-touches.result.now in
     let same = sym (woken_same s bodies touches c.requires.bodies
     (settled_from s bodies touches c.deref.result.now
-    (c.deref.ensures.value ∙ c.in_ok-active.ensures.places) (c.wake_none.ensures.value c.if-wake_none.true))) in
+    (c.deref.ensures.value ∙ c.in_ok-active.ensures.places) (sym c.wake_none.ensures ∙ c.if-wake_none.true))) in
     IfOk-weaker c.split.result _ _
     (λ found is.
     is ∙ ap (λ bs. islands (groups s touches) bs (active_rows s bs touches c.args.contacts.now)) same

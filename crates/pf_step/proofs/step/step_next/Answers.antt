@@ -10,7 +10,7 @@ use Rattle.pf_broad.specs.Pairs.{all_bounds}
 use Rattle.pf_commands.specs.Payload.{body_of}
 use Rattle.pf_cache.specs.Manifolds.{Collisions, Manifolds, kept_touches, no_manifolds, placed_shapes}
 use Rattle.pf_cache.specs.PlacedBodies.{HaveStayed, bodies_of}
-use Rattle.pf_islands.specs.Flags.{HasAwake}
+use Rattle.pf_islands.specs.Flags.{ListsAwake}
 use Rattle.pf_islands.specs.Split.{Island}
 use Rattle.pf_step.specs.Activity.{islands_of_bodies}
 use Rattle.pf_step.specs.Changes.{AreAdded, BodyChange, bodies_before, changes_by_commands, numbers_of, world_before}
@@ -25,8 +25,46 @@ use Rattle.pf_step.proofs.Awake.{listed_after_commands}
 use Rattle.pf_step.proofs.Contacts.{step_keys}
 use Rattle.pf_step.proofs.Following.{all_within, keys_after_commands, none_noted, none_there, other_error, stayed_after_commands, stayed_after_step}
 use Rattle.pf_step.proofs.Lengths.{step_length}
-use Rattle.pf_step.proofs.step.step_next.Goals.{then-is_known, else-is_known}
+use Rattle.pf_step.proofs.step.step_next.Goals.{After-apply_all, After-moved, In_ok-list_moved, In_ok-note_commanded, then-is_known, else-is_known}
 use Rattle.pf_step.proofs.step.step_next.Goals as goal
+
+-- the bodies once commands are applied
+commanded_are : (g : _) (c : After-apply_all g)
+    → (with_items c.world.inside.bodies c.apply_all.new.bodies).items
+    ≡ after_commands c.args.scene.now.fixtures c.args.world.now.bodies c.args.payloads.now
+commanded_are g c =
+    with_items_is c.world.inside.bodies c.apply_all.new.bodies (c.apply_all.auto.bodies ∙ c.deref_mut.ensures.len)
+    ∙ c.apply_all.ensures
+    ∙ ap₂ (λ fs bs. after_commands fs bs c.args.payloads.now) c.fixtures.ensures.value
+    (c.deref_mut.ensures.value ∙ ap (λ (x : World). x.bodies) c.world.view_is)
+
+-- the commanded bodies are noted as they were
+commands_noted : (g : _) (c : In_ok-note_commanded g)
+    → c.note_commanded.new.self.bodies ≡ changes_by_commands c.args.world.now.bodies c.args.payloads.now
+commands_noted g c =
+    c.in_ok-note_commanded.ensures.noted
+    ∙ ap₂ (λ (cs : List BodyChange) (bs : List BodyState). cs ++ changes_by_commands bs c.args.payloads.now)
+    c.take_changes-changes.ensures.changes (c.deref.ensures.value ∙ ap (λ (x : World). x.bodies) c.world.view_is)
+
+-- the work while a tick runs
+work_listed : (g : _) (c : In_ok-list_moved g) → c.list_moved.new.self ≡ record c.args.work.now {
+  manifolds = no_manifolds;
+  moved = c.list_moved.new.self.moved;
+  is_known = false;
+}
+work_listed g c =
+    c.list_moved.ensures.rest
+    ∙ (λ i. record ((c.take_changes-changes.ensures.work ∙ c.take_manifolds-kept.ensures.rest) i) { moved = c.list_moved.new.self.moved })
+
+-- the bodies that may have moved are listed
+moved_are : (g : _) (c : In_ok-list_moved g)
+    → c.list_moved.new.self.moved ≡ moved_bodies c.args.work.now.is_known c.args.work.now.moved (length c.args.world.now.bodies)
+    (numbers_of c.bodies.result.now)
+moved_are g c =
+    let listed = ap (λ (x : Work). x.moved) (c.take_changes-changes.ensures.work ∙ c.take_manifolds-kept.ensures.rest) in
+    let count = ap length (c.as_slice-count.ensures.value ∙ ap (λ (x : World). x.bodies) c.world.view_is) in
+    c.in_ok-list_moved.ensures.listed
+    ∙ (λ i. moved_bodies (c.take_manifolds-kept.ensures.taken.1 i) (listed i) (count i) (numbers_of c.bodies.result.now))
 
 pub returns-in-Ok-finish-clause-step : goal.returns-in-Ok-finish-clause-step
 unfolding step world_before
@@ -34,13 +72,9 @@ returns-in-Ok-finish-clause-step g c =
     let s = c.args.scene.now in
     let w = c.args.world.now in
     let payloads = c.args.payloads.now in
-    let of_world = ap (λ (x : World). x.bodies) c.world.view_is in
-    let commanded = with_items_is c.world.inside.bodies c.apply_all.new.bodies (c.apply_all.auto.bodies ∙ c.deref_mut.ensures.len)
-    ∙ c.apply_all.ensures ∙ ap₂ (λ fs bs. after_commands fs bs payloads) c.fixtures.ensures.value (c.deref_mut.ensures.value ∙ of_world) in
+    let commanded = commanded_are g (goal.at.returns-in-Ok-finish-clause-step g c).After-apply_all in
     let contacts = ap (λ (x : World). x.contacts) c.world.view_is in
-    let notes = c.in_ok-note_commanded.ensures.noted
-    ∙ ap₂ (λ (cs : List BodyChange) (bs : List BodyState). cs ++ changes_by_commands bs payloads)
-    c.take_changes-changes.ensures.changes (c.deref.ensures.value ∙ of_world) in
+    let notes = commands_noted g (goal.at.returns-in-Ok-finish-clause-step g c).In_ok-note_commanded in
     let value : c.finish.new.world ≡ step s w payloads =
     c.in-Ok-finish.ensures.ending.value ∙ ap₂ (λ (cs : List Contact) (bs : List BodyState). world_after s cs bs) contacts commanded in
     let found = ap₂ (λ (bs : List BodyState) (kept : Manifolds). collisions_of_bodies s.fixtures bs kept)
@@ -48,13 +82,7 @@ returns-in-Ok-finish-clause-step g c =
     let b = (with_items c.world.inside.bodies c.apply_all.new.bodies).items in
     let moved_is = ap (λ (x : Work). x.moved) c.end_tick.ensures ∙ c.in-Ok-finish.ensures.moved in
     let manifolds_is = ap (λ (x : Work). x.manifolds) c.end_tick.ensures in
-    let work_before : c.list_moved.new.self ≡ record c.args.work.now {
-      manifolds = no_manifolds;
-      moved = c.list_moved.new.self.moved;
-      is_known = false;
-    } =
-    c.list_moved.ensures.rest
-    ∙ (λ i. record ((c.take_changes-changes.ensures.work ∙ c.take_manifolds-kept.ensures.rest) i) { moved = c.list_moved.new.self.moved }) in
+    let work_before = work_listed g (goal.at.returns-in-Ok-finish-clause-step g c).In_ok-list_moved in
     let stand =
     subst (λ (x : List ℕ × Manifolds). All (λ number. number < length c.finish.new.world.bodies) x.0
     × HaveStayed x.0 (bodies_of x.1) s.fixtures c.finish.new.world.bodies)
@@ -73,7 +101,7 @@ returns-in-Ok-finish-clause-step g c =
     ap (λ (x : World). map (λ (y : Contact). y.key) x.contacts) value ∙ step_keys s w payloads
     ∙ ap (λ bs. map key_of (touches_of_scene s bs)) (sym (c.deref-2.ensures.value ∙ commanded))
     ∙ ap (map key_of) (sym c.in-Ok.ensures.touches) ∙ ap (λ m. map key_of (kept_touches m)) (sym manifolds_is) in
-    let awake = subst (λ ns. HasAwake ns c.finish.new.world.bodies) (sym moved_is) c.in-Ok-finish.ensures.awake in
+    let awake = subst (λ ns. ListsAwake ns c.finish.new.world.bodies) (sym moved_is) c.in-Ok-finish.ensures.awake in
     record {
       value = value;
       before = c.in-Ok-finish.ensures.ending.before
@@ -92,36 +120,26 @@ pub returns-in-Ok-finish-clause-called : goal.returns-in-Ok-finish-clause-called
 returns-in-Ok-finish-clause-called g c =
     let s = c.args.scene.now in
     let w = c.args.world.now in
-    let payloads = c.args.payloads.now in
-    let of_world = ap (λ (x : World). x.bodies) c.world.view_is in
-    let commanded = with_items_is c.world.inside.bodies c.apply_all.new.bodies (c.apply_all.auto.bodies ∙ c.deref_mut.ensures.len)
-    ∙ c.apply_all.ensures ∙ ap₂ (λ fs bs. after_commands fs bs payloads) c.fixtures.ensures.value (c.deref_mut.ensures.value ∙ of_world) in
+    let commanded = commanded_are g (goal.at.returns-in-Ok-finish-clause-called g c).After-apply_all in
     let contacts = ap (λ (x : World). x.contacts) c.world.view_is in
     subst (λ (is : List Island). g.C.Crew.is_called c.args.crew.now is c.finish.new.crew)
     (ap₂ (λ (cs : List Contact) (bs : List BodyState). islands_of_bodies s cs bs) contacts commanded)
     c.in-Ok-finish.ensures.called
 
 -- only listed bodies may have moved since the kept points were computed
-stayed : (g : _) (c : goal.After-moved g)
+stayed : (g : _) (c : After-moved g)
     → All (λ number. number < length c.deref-2.result.now) c.moved.result.now
     × HaveStayed c.moved.result.now (bodies_of c.take_manifolds-kept.result.0) c.args.scene.now.fixtures c.deref-2.result.now
 stayed g c =
     let s = c.args.scene.now in
     let w = c.args.world.now in
     let payloads = c.args.payloads.now in
-    let of_world = ap (λ (x : World). x.bodies) c.world.view_is in
-    let commanded = with_items_is c.world.inside.bodies c.apply_all.new.bodies (c.apply_all.auto.bodies ∙ c.deref_mut.ensures.len)
-    ∙ c.apply_all.ensures ∙ ap₂ (λ fs bs. after_commands fs bs payloads) c.fixtures.ensures.value (c.deref_mut.ensures.value ∙ of_world) in
-    let notes = c.in_ok-note_commanded.ensures.noted
-    ∙ ap₂ (λ (cs : List BodyChange) (bs : List BodyState). cs ++ changes_by_commands bs payloads)
-    c.take_changes-changes.ensures.changes (c.deref.ensures.value ∙ of_world) in
+    let commanded = commanded_are g (goal.at.After-moved g c).After-apply_all in
+    let notes = commands_noted g (goal.at.After-moved g c).In_ok-note_commanded in
     let work = c.args.work.now in
-    let listed_before = ap (λ (x : Work). x.moved) (c.take_changes-changes.ensures.work ∙ c.take_manifolds-kept.ensures.rest) in
     stayed_after_commands s w payloads work c.take_manifolds-kept.result.0 c.moved.result.now c.bodies.result.now c.deref-2.result.now
     c.requires.follows c.take_manifolds-kept.ensures.taken.0 (c.bodies.ensures ∙ notes) (c.deref-2.ensures.value ∙ commanded)
-    (c.moved.ensures ∙ c.in_ok-list_moved.ensures.listed
-    ∙ (λ i. moved_bodies (c.take_manifolds-kept.ensures.taken.1 i) (listed_before i) ((ap length (c.as_slice-count.ensures.value ∙ of_world)) i)
-    (numbers_of c.bodies.result.now)))
+    (c.moved.ensures ∙ moved_are g (goal.at.After-moved g c).In_ok-list_moved)
 
 pub find_collisions-requires-clause-moved : goal.find_collisions-requires-clause-moved
 find_collisions-requires-clause-moved g c = (stayed g c).0
@@ -134,18 +152,11 @@ finish-requires-clause-awake g c =
     let s = c.args.scene.now in
     let w = c.args.world.now in
     let payloads = c.args.payloads.now in
-    let of_world = ap (λ (x : World). x.bodies) c.world.view_is in
-    let commanded = with_items_is c.world.inside.bodies c.apply_all.new.bodies (c.apply_all.auto.bodies ∙ c.deref_mut.ensures.len)
-    ∙ c.apply_all.ensures ∙ ap₂ (λ fs bs. after_commands fs bs payloads) c.fixtures.ensures.value (c.deref_mut.ensures.value ∙ of_world) in
-    let notes = c.in_ok-note_commanded.ensures.noted
-    ∙ ap₂ (λ (cs : List BodyChange) (bs : List BodyState). cs ++ changes_by_commands bs payloads)
-    c.take_changes-changes.ensures.changes (c.deref.ensures.value ∙ of_world) in
-    let listed_before = ap (λ (x : Work). x.moved) (c.take_changes-changes.ensures.work ∙ c.take_manifolds-kept.ensures.rest) in
+    let commanded = commanded_are g (goal.at.finish-requires-clause-awake g c).After-apply_all in
+    let notes = commands_noted g (goal.at.finish-requires-clause-awake g c).In_ok-note_commanded in
     listed_after_commands s w payloads c.args.work.now c.list_moved.new.self.moved c.bodies.result.now
     (with_items c.world.inside.bodies c.apply_all.new.bodies).items c.requires.follows (c.bodies.ensures ∙ notes) commanded
-    (c.in_ok-list_moved.ensures.listed
-    ∙ (λ i. moved_bodies (c.take_manifolds-kept.ensures.taken.1 i) (listed_before i) ((ap length (c.as_slice-count.ensures.value ∙ of_world)) i)
-    (numbers_of c.bodies.result.now)))
+    (moved_are g (goal.at.finish-requires-clause-awake g c).In_ok-list_moved)
 
 -- the first contacts have the keys of the first points
 pub finish-requires-clause-known : goal.finish-requires-clause-known
@@ -169,9 +180,7 @@ pub returns-in_err-list_moved-clause-no_memory : goal.returns-in_err-list_moved-
 returns-in_err-list_moved-clause-no_memory g c none _ =
     let of_world = ap (λ (x : World). x.bodies) c.world.view_is in
     let payloads = c.args.payloads.now in
-    let notes = c.in_ok-note_commanded.ensures.noted
-    ∙ ap₂ (λ (cs : List BodyChange) (bs : List BodyState). cs ++ changes_by_commands bs payloads)
-    c.take_changes-changes.ensures.changes (c.deref.ensures.value ∙ of_world) in
+    let notes = commands_noted g (goal.at.returns-in_err-list_moved-clause-no_memory g c).In_ok-note_commanded in
     absurd (true≢false (sym (c.in_err-list_moved.ensures.no_memory (ap length (c.as_slice-count.ensures.value ∙ of_world ∙ none))
     (c.bodies.ensures ∙ notes ∙ none_noted c.args.world.now.bodies body_of payloads none))))
 
@@ -180,12 +189,8 @@ returns-in-Err-finish-clause-no_memory g c none =
     let s = c.args.scene.now in
     let w = c.args.world.now in
     let payloads = c.args.payloads.now in
-    let of_world = ap (λ (x : World). x.bodies) c.world.view_is in
-    let commanded = with_items_is c.world.inside.bodies c.apply_all.new.bodies (c.apply_all.auto.bodies ∙ c.deref_mut.ensures.len)
-    ∙ c.apply_all.ensures ∙ ap₂ (λ fs bs. after_commands fs bs payloads) c.fixtures.ensures.value (c.deref_mut.ensures.value ∙ of_world) in
-    let notes = c.in_ok-note_commanded.ensures.noted
-    ∙ ap₂ (λ (cs : List BodyChange) (bs : List BodyState). cs ++ changes_by_commands bs payloads)
-    c.take_changes-changes.ensures.changes (c.deref.ensures.value ∙ of_world) in
+    let commanded = commanded_are g (goal.at.returns-in-Err-finish-clause-no_memory g c).After-apply_all in
+    let notes = commands_noted g (goal.at.returns-in-Err-finish-clause-no_memory g c).In_ok-note_commanded in
     other_error _ _
     (c.in-Err-finish.ensures.no_memory
     (commanded ∙ none_there (after_commands s.fixtures w.bodies payloads) (commands_length s.fixtures w.bodies payloads ∙ ap length none))
@@ -196,23 +201,13 @@ returns-in-Err-clause-step g c =
     let s = c.args.scene.now in
     let w = c.args.world.now in
     let payloads = c.args.payloads.now in
-    let of_world = ap (λ (x : World). x.bodies) c.world.view_is in
-    let commanded = with_items_is c.world.inside.bodies c.apply_all.new.bodies (c.apply_all.auto.bodies ∙ c.deref_mut.ensures.len)
-    ∙ c.apply_all.ensures ∙ ap₂ (λ fs bs. after_commands fs bs payloads) c.fixtures.ensures.value (c.deref_mut.ensures.value ∙ of_world) in
+    let commanded = commanded_are g (goal.at.returns-in-Err-clause-step g c).After-apply_all in
     let contacts = ap (λ (x : World). x.contacts) c.world.view_is in
-    let notes = c.in_ok-note_commanded.ensures.noted
-    ∙ ap₂ (λ (cs : List BodyChange) (bs : List BodyState). cs ++ changes_by_commands bs payloads)
-    c.take_changes-changes.ensures.changes (c.deref.ensures.value ∙ of_world) in
+    let notes = commands_noted g (goal.at.returns-in-Err-clause-step g c).In_ok-note_commanded in
     let undone = with_items_is (with_items c.world.inside.bodies c.apply_all.new.bodies) c.undo_bodies.new.bodies (c.undo_bodies.auto.bodies ∙ c.deref_mut-in-Err.ensures.len)
     ∙ c.undo_bodies.ensures
     ∙ commands_undone s.fixtures w.bodies _ payloads _ (c.bodies-in-Err.ensures ∙ notes) (c.deref_mut-in-Err.ensures.value ∙ commanded) in
-    let not_counted : c.list_moved.new.self ≡ record c.args.work.now {
-      manifolds = no_manifolds;
-      moved = c.list_moved.new.self.moved;
-      is_known = false;
-    } =
-    c.list_moved.ensures.rest
-    ∙ (λ i. record ((c.take_changes-changes.ensures.work ∙ c.take_manifolds-kept.ensures.rest) i) { moved = c.list_moved.new.self.moved }) in
+    let not_counted = work_listed g (goal.at.returns-in-Err-clause-step g c).In_ok-list_moved in
     record {
       value = tt;
       before = tt;
@@ -228,13 +223,9 @@ returns-in-Err-finish-clause-step g c =
     let s = c.args.scene.now in
     let w = c.args.world.now in
     let payloads = c.args.payloads.now in
-    let of_world = ap (λ (x : World). x.bodies) c.world.view_is in
-    let commanded = with_items_is c.world.inside.bodies c.apply_all.new.bodies (c.apply_all.auto.bodies ∙ c.deref_mut.ensures.len)
-    ∙ c.apply_all.ensures ∙ ap₂ (λ fs bs. after_commands fs bs payloads) c.fixtures.ensures.value (c.deref_mut.ensures.value ∙ of_world) in
+    let commanded = commanded_are g (goal.at.returns-in-Err-finish-clause-step g c).After-apply_all in
     let contacts = ap (λ (x : World). x.contacts) c.world.view_is in
-    let notes = c.in_ok-note_commanded.ensures.noted
-    ∙ ap₂ (λ (cs : List BodyChange) (bs : List BodyState). cs ++ changes_by_commands bs payloads)
-    c.take_changes-changes.ensures.changes (c.deref.ensures.value ∙ of_world) in
+    let notes = commands_noted g (goal.at.returns-in-Err-finish-clause-step g c).In_ok-note_commanded in
     let ending = c.in-Err-finish.ensures.ending in
     let same = c.world-2.view_is ∙ ending.unchanged in
     let bodies = c.deref_mut-in-Err-finish.ensures.value ∙ ap (λ (x : World). x.bodies) same in
@@ -242,13 +233,7 @@ returns-in-Err-finish-clause-step g c =
     (c.undo_bodies-in-Err-finish.auto.bodies ∙ c.deref_mut-in-Err-finish.ensures.len)
     ∙ c.undo_bodies-in-Err-finish.ensures ∙ ap₂ bodies_before c.bodies-in-Err-finish.ensures bodies ∙ ending.undone
     ∙ commands_undone s.fixtures w.bodies _ payloads _ notes commanded in
-    let work_before : c.list_moved.new.self ≡ record c.args.work.now {
-      manifolds = no_manifolds;
-      moved = c.list_moved.new.self.moved;
-      is_known = false;
-    } =
-    c.list_moved.ensures.rest
-    ∙ (λ i. record ((c.take_changes-changes.ensures.work ∙ c.take_manifolds-kept.ensures.rest) i) { moved = c.list_moved.new.self.moved }) in
+    let work_before = work_listed g (goal.at.returns-in-Err-finish-clause-step g c).In_ok-list_moved in
     let not_counted : c.finish.new.work ≡ record c.args.work.now {
       manifolds = no_manifolds;
       moved = c.finish.new.work.moved;
@@ -270,10 +255,7 @@ pub returns-in-Err-finish-clause-failed : goal.returns-in-Err-finish-clause-fail
 returns-in-Err-finish-clause-failed g c =
     let s = c.args.scene.now in
     let w = c.args.world.now in
-    let payloads = c.args.payloads.now in
-    let of_world = ap (λ (x : World). x.bodies) c.world.view_is in
-    let commanded = with_items_is c.world.inside.bodies c.apply_all.new.bodies (c.apply_all.auto.bodies ∙ c.deref_mut.ensures.len)
-    ∙ c.apply_all.ensures ∙ ap₂ (λ fs bs. after_commands fs bs payloads) c.fixtures.ensures.value (c.deref_mut.ensures.value ∙ of_world) in
+    let commanded = commanded_are g (goal.at.returns-in-Err-finish-clause-failed g c).After-apply_all in
     let contacts = ap (λ (x : World). x.contacts) c.world.view_is in
     subst (λ (is : List Island). FailsBy g.C.Crew.may_fail c.args.crew.now is c.in-Err-finish.error c.finish.new.crew)
     (ap₂ (λ (cs : List Contact) (bs : List BodyState). islands_of_bodies s cs bs) contacts commanded)

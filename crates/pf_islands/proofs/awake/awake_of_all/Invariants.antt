@@ -1,7 +1,7 @@
 use Rattle.std.proofs.Common.{◌≡◌, ◌≤◌, filter, length, vec_capacity, vec_len}
 use Rattle.std.specs.List.{range_with_len}
 use Rattle.pf_islands.specs.Rows.{is_awake_at}
-use Rattle.pf_islands.proofs.awake.all_awake.Given as goal
+use Rattle.pf_islands.proofs.awake.awake_of_all.Given as goal
 
 abbrev pub invariant-loop-number : goal.invariant-loop-number
 invariant-loop-number l = record {

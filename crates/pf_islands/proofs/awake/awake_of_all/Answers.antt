@@ -2,8 +2,8 @@ use Rattle.std.proofs.Common.{rules, ◌∙◌, ◌∷◌, ◌++◌, [], ℕ, Gl
 use Rattle.std.proofs.lemmas.List.{get_or_read}
 use Rattle.pf_shapes.specs.Body.{BodyState, no_state}
 use Rattle.pf_islands.proofs.AwakeNumbers.{numbers_more}
-use Rattle.pf_islands.proofs.awake.all_awake.Goals.{then-body, else-body}
-use Rattle.pf_islands.proofs.awake.all_awake.Goals as goal
+use Rattle.pf_islands.proofs.awake.awake_of_all.Goals.{then-body, else-body}
+use Rattle.pf_islands.proofs.awake.awake_of_all.Goals as goal
 
 pub loop-number-preserved : goal.loop-number-preserved
 loop-number-preserved c =
