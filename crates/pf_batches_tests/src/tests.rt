@@ -137,7 +137,7 @@ fn world_after<C: Crew>(
 
 /// Whether both crews make the same world of a scene; and, where islands are solved together,
 /// whether the rounds of its last tick were in lanes, and whether rounds of a tick overlapped.
-fn compare(
+pub(crate) fn compare(
     alloc: Global,
     text: &[u8],
     payloads: &[Payload],
