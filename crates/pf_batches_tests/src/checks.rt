@@ -26,7 +26,7 @@ const CIRCLES: [&[u8]; 3] = [
 /// A body beside the three circles, and what is done to it in the first tick.
 #[derive(Clone, Copy)]
 pub(crate) struct Case {
-    /// What is too great, and where that is asked.
+    /// What is above a limit.
     pub(crate) check: &'static str,
     /// The body's line, and that of a second body, if there is one.
     pub(crate) bodies: &'static [u8],
