@@ -1,5 +1,7 @@
 -- What a contract sees of a pool, and with which errors it fails.
 use Rattle.std.specs.Prelude.{◌≡◌, ℕ, ◌<◌, ⊤, Bool, true, List, All, length, slice_index_or}
+use Rattle.crossbeam_channel.specs.declared.err.SendError.{SendError}
+use Rattle.crossbeam_channel.specs.declared.err.SendError.TheVariants as sends
 use Rattle.pf_pool.specs.declared.error.PoolError.{PoolError}
 use Rattle.pf_pool.specs.declared.error.PoolError.TheVariants.{OutOfMemory, NoThread, WorkerLost}
 
@@ -14,6 +16,11 @@ abbrev pub IsRunError : PoolError → Type 0
 IsRunError OutOfMemory = ⊤
 IsRunError NoThread = ⊥
 IsRunError WorkerLost = ⊤
+
+-- the error of a job that could not be sent: only a channel that is closed means a lost worker
+abbrev pub error_of_send : {T : Type 0} → SendError T → PoolError
+error_of_send (sends.OutOfMemory job) = OutOfMemory
+error_of_send (sends.Disconnected job) = WorkerLost
 
 -- no worker was dismissed
 abbrev pub HasAllWorkers : List Bool → Type 0

@@ -4,7 +4,7 @@ use crate::error::PoolError;
 use crate::reply::{Collector, Dealt, Replier};
 use crate::slots::{accept, all_answers, have_answered, no_answers};
 use crate::task::Task;
-use crate::worker::{Job, Worker, start};
+use crate::worker::{Job, Worker, others, start};
 use std::alloc::{AllocError, Global};
 use std::marker::Model;
 use std::snapshot::Snapshot;
@@ -53,10 +53,10 @@ fn greatest<T: Task>(parts: &[T::Part]) -> usize {
 }
 
 impl<R: Wait, T: Task> Pool<R, T> {
-    ghost use Rattle.std.specs.Prelude.{◌≡◌, ◌<◌, ◌≤◌, IfErr, IfOk, IsFalse, IsTrue, OnOk, Some, false, length, replicate, slice_set, true};
+    ghost use Rattle.std.specs.Prelude.{◌≡◌, ◌<◌, ◌≤◌, Err, IfErr, IfOk, IsFalse, IsOk, IsTrue, OnOk, Some, false, length, replicate, slice_index_or, slice_set, true};
     ghost use Rattle.pf_pool.specs.Known.{known_to};
     ghost use Rattle.pf_pool.specs.Pool.{AreOutcomes, HasAllWorkers, IsRunError, IsStartError};
-    ghost use Rattle.pf_pool.specs.Reply.{WereDealt};
+    ghost use Rattle.pf_pool.specs.Reply.{WasDealt, WereDealt};
     ghost use Rattle.pf_pool.specs.Slots.{AreAnswers, HaveAnswered};
     ghost use Rattle.pf_pool.specs.declared.error.PoolError.TheVariants.{WorkerLost};
     ghost use Rattle.pf_pool.specs.declared.reply.Dealt.{Dealt};
@@ -117,10 +117,7 @@ impl<R: Wait, T: Task> Pool<R, T> {
         R: Copy,
         ensures { IfOk result (λ other. other ≡ self.now) }
     {
-        let mut workers = Vec::with_capacity(self.alloc, self.workers.len())?;
-        for worker in &self.workers {
-            workers.push(worker.another()?)?;
-        }
+        let workers = others(self.alloc, &self.workers)?;
         Ok(Pool {
             rt: self.rt,
             alloc: self.alloc,
@@ -152,6 +149,32 @@ impl<R: Wait, T: Task> Pool<R, T> {
         self.workers[worker].dismiss(&self.rt);
     }
 
+    /// Asks a worker to do its part. The part is put into `held` in place of that, if the caller is
+    /// to do it.
+    fn ask_one(
+        &self,
+        turn: usize,
+        worker: usize,
+        part: T::Part,
+        replier: &mut Replier<T>,
+        held: &mut Option<Job<T>>,
+        is_held: bool,
+    ) -> Result<(), PoolError>
+        requires within { worker < length self.now }
+        requires dealt { WasDealt (known_to replier.old) worker part }
+        ensures same { known_to replier.new ≡ known_to replier.old }
+        ensures there { OnOk result (slice_index_or self.now worker false ≡ true) }
+        ensures failed { IfErr result IsRunError }
+    {
+        let job = Job::new(turn, worker, part, replier)?;
+        let own = &self.workers[worker];
+        if is_held {
+            own.hold(job, held)
+        } else {
+            own.ask(&self.rt, job)
+        }
+    }
+
     /// Asks one worker after the other to do its part, from the last to the first, up to the first
     /// error. Returns the number of the last worker that was asked. The greatest part is put into
     /// `held` in place of that, if the caller may do it.
@@ -175,12 +198,7 @@ impl<R: Wait, T: Task> Pool<R, T> {
         while let Some(part) = parts.pop() {
             let worker = parts.len();
             let is_held = worker == greatest && self.task.may_run_here(&part);
-            let own = &self.workers[worker];
-            let asked = match Job::new(turn, worker, part, &mut replier) {
-                Ok(job) if is_held => own.hold(job, held),
-                Ok(job) => own.ask(&self.rt, job),
-                Err(_) => Err(PoolError::OutOfMemory),
-            };
+            let asked = self.ask_one(turn, worker, part, &mut replier, held, is_held);
             if let Err(error) = asked {
                 return (worker + 1, Err(error));
             }
@@ -213,29 +231,36 @@ impl<R: Wait, T: Task> Pool<R, T> {
         Err(PoolError::WorkerLost)
     }
 
-    /// The slots after all workers from `least` on have answered.
+    /// The slots after all workers from `least` on have answered. Returns the error with which the
+    /// others were not asked, if there was one, and then that of a lost worker.
     fn answers(
         &self,
         collector: Collector<T>,
         least: usize,
         slots: Vec<Option<T::Outcome>>,
+        asked: Result<(), PoolError>,
     ) -> Result<Vec<Option<T::Outcome>>, PoolError>
         requires { least ≤ length slots.items }
+        ensures asked { OnOk result (IsOk asked) }
+        ensures first { IfErr asked (λ error. result ≡ Err error) }
         ensures count { IfOk result (λ after. length after.items ≡ length slots.items) }
         ensures answers { IfOk result (λ after. (d : Dealt T.Part) → collector ≡ Some d
             → AreAnswers T.is_outcome d slots.items → AreAnswers T.is_outcome d after.items) }
         ensures all { IfOk result (λ after. HaveAnswered least after.items) }
-        ensures lost { IfErr result (λ error. error ≡ WorkerLost) }
+        ensures lost { OnOk asked (IfErr result (λ error. error ≡ WorkerLost)) }
     {
         let mut slots = slots;
-        self.collect(collector, least, &mut slots)?;
+        let collected = self.collect(collector, least, &mut slots);
+        asked?;
+        collected?;
         Ok(slots)
     }
 
     /// Has each part done by its worker, and waits for all of them: outcome k is what worker k made
     /// of part k. The caller may do the greatest part itself, so that what that part works on stays
     /// in the cache of its processor. Returns an error where it is out of memory or a worker is
-    /// lost. It may wait.
+    /// lost; of several errors the first, once all workers that were asked have answered. It may
+    /// wait.
     pub fn run(&self, turn: usize, parts: Vec<T::Part>) -> Result<Vec<T::Outcome>, PoolError>
         requires { length parts.items ≡ length self.now }
         ensures outcomes { IfOk result
@@ -258,8 +283,7 @@ impl<R: Wait, T: Task> Pool<R, T> {
         if let Some(job) = held {
             job.answer(&self.rt, &*self.task);
         }
-        let answers = self.answers(collector, least, slots)?;
-        asked?;
+        let answers = self.answers(collector, least, slots, asked)?;
         let outcomes = all_answers(self.alloc, answers)?;
         Ok(outcomes)
     }

@@ -9,7 +9,7 @@ ghost use Rattle.pf_pool.specs.declared.error.PoolError.TheVariants.{NoThread};
 use crate::error::PoolError;
 use crate::reply::{LOOKS, Replier};
 use crate::task::Task;
-use crossbeam_channel::{Receiver, SendError, Sender, TryRecvError};
+use crossbeam_channel::{Receiver, Sender, TryRecvError};
 use std::alloc::{AllocError, Global};
 use std::marker::Model;
 use std::sync::{Arc, Wait};
@@ -157,11 +157,7 @@ impl<T: Task> Worker<T> {
         let Some(jobs) = &self.jobs else {
             return Err(PoolError::WorkerLost);
         };
-        match jobs.send(rt, Some(job)) {
-            Ok(()) => Ok(()),
-            Err(SendError::OutOfMemory(_)) => Err(PoolError::OutOfMemory),
-            Err(SendError::Disconnected(_)) => Err(PoolError::WorkerLost),
-        }
+        Ok(jobs.send(rt, Some(job))?)
     }
 
     /// Keeps a job for the caller of the pool, who does it in place of the worker. Returns an error
@@ -190,6 +186,20 @@ impl<T: Task> Worker<T> {
             thread.join(rt);
         }
     }
+}
+
+/// The same workers for another pool, which does not join their threads.
+pub(crate) fn others<T: Task>(
+    alloc: Global,
+    workers: &[Worker<T>],
+) -> Result<Vec<Worker<T>>, AllocError>
+    ensures { IfOk result (λ others. others.items ≡ workers.now) }
+{
+    let mut others = Vec::with_capacity(alloc, workers.len())?;
+    for worker in workers {
+        others.push(worker.another()?)?;
+    }
+    Ok(others)
 }
 
 /// Starts so many workers. After an error those that were started end by themselves.
