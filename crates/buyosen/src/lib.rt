@@ -12,15 +12,15 @@
 //!
 //! let frame = ours.issue(Payload::Push { body: 0, x: push, y: Fx::ZERO })?;
 //! ours.advance(20)?;
-//! ours.settle(alloc)?;
+//! ours.settle_alone(alloc)?;
 //! draw(ours.settled_world());
 //!
 //! theirs.advance(20)?;
-//! theirs.settle(alloc)?;
+//! theirs.settle_alone(alloc)?;
 //! draw(theirs.settled_world()); // another world: the frame has not come yet
 //!
 //! theirs.take(&frame)?; // it comes 20 ticks late
-//! theirs.settle(alloc)?; // the peer simulates again
+//! theirs.settle_alone(alloc)?; // the peer simulates again
 //! draw(theirs.settled_world()); // the same world as ours, bit for bit
 //! ```
 //!
@@ -32,7 +32,7 @@
 //!   [`Name`], and [`encode`] and [`decode`] make and read its frame. A [`CommandMap`] holds
 //!   commands; merging maps is associative, commutative and idempotent.
 //! - **Peers**: [`PeerCore::take`], [`PeerCore::merge`] and [`PeerCore::merge_sealed`] take
-//!   commands of others; [`PeerCore::advance`] goes on; [`PeerCore::settle`] and
+//!   commands of others; [`PeerCore::advance`] goes on; [`PeerCore::settle_alone`] and
 //!   [`PeerCore::settle_with`] simulate what is missing; [`PeerCore::seal`] forgets what lies
 //!   before a tick. What each returns, and what an error leaves, stands beside it.
 //! - **Worlds**: [`PeerCore::settled_world`] lends the latest one, and [`world_at`] makes that of

@@ -221,6 +221,6 @@ pub fn same(
 
 /// Settles on one thread.
 pub fn settle(alloc: Global, peer: &mut PeerCore) -> Result<String> {
-    let reached = peer.settle(alloc)?;
+    let reached = peer.settle_alone(alloc)?;
     Ok(format!(in alloc; "settle {reached}")?)
 }

@@ -133,7 +133,7 @@ fn laws_of_steps(rt: HostRuntime) {
 
 #[test]
 fn laws_of_peers(_rt: HostRuntime) {
-    use pf_peers::laws as sessions;
+    use pf_events::laws as sessions;
     use pf_rollback::laws;
     laws::same_commands_same_worlds();
     laws::unsealed_peers_simulate_from_tick_zero();

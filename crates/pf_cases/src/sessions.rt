@@ -2,11 +2,11 @@
 //! stand in the stored runs of `pf_runs` and `pf_calls`.
 
 ghost use Rattle.std.specs.Prelude.{◌≡◌};
-ghost use Rattle.pf_peers.specs.Session.{other_peer_of, peer_of};
+ghost use Rattle.pf_events.specs.Session.{other_peer_of, peer_of};
 
 use crate::scenes::scene_of;
 use pf_commands::Payload;
-use pf_peers::{Event, Reply, Session, run};
+use pf_events::{Event, Reply, Session, run};
 use pf_step::Work;
 use std::alloc::Global;
 use std::test::Fail;

@@ -4,7 +4,7 @@ use Rattle.pf_text.specs.declared.driver.DriveError.{DriveError}
 use Rattle.pf_text.specs.declared.driver.DriveError.TheVariants as drives
 use Rattle.pf_text.specs.Driver.{Completes, Drives}
 use Rattle.pf_text.specs.Streams.{Transfer}
-use Rattle.pf_peers.specs.Session.{Session}
+use Rattle.pf_events.specs.Session.{Session}
 use Rattle.pf_shapes.specs.declared.fault.SceneFault.{SceneFault}
 use Rattle.pf_step.specs.declared.crew.CrewError.{CrewError}
 use Rattle.pf_console.specs.declared.error.ProgramError.{ProgramError}

@@ -20,8 +20,8 @@ use Rattle.pf_commands.specs.Payload.{IsPayload}
 use Rattle.pf_commands.specs.Frame.{IsFrameable, encoding}
 use Rattle.pf_commands.proofs.Encoding.{encoding_encodes}
 use Rattle.pf_commands.proofs.Frames.{encoded_decodes}
-use Rattle.pf_peers.specs.declared.event.Event.{Event}
-use Rattle.pf_peers.specs.declared.event.Event.TheVariants.{Issue, Take, Merge, Advance, Settle, Show, Seal}
+use Rattle.pf_events.specs.declared.event.Event.{Event}
+use Rattle.pf_events.specs.declared.event.Event.TheVariants.{Issue, Take, Merge, Advance, Settle, Show, Seal}
 use Rattle.pf_console.specs.Digits.{frame_or_error, bytes_or_error, frame_of}
 use Rattle.pf_console.specs.Grammar.{peer_of, tick_of, body_of, real_of, coordinate_of, event_of, issue_of, push_of, turn_of, stop_of, place_of, take_of, merge_of, advance_of, settle_of, show_of, seal_of}
 use Rattle.pf_console.specs.EventEncoding.{payload_fields, event_fields, IsEncodable}

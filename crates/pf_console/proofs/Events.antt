@@ -1,9 +1,9 @@
 -- Lines that each encode an event, one after the other.
 use Rattle.std.proofs.Common.{◌≡◌, ℕ, suc, ◌+◌, List, [], ◌∷◌, length, Ok, refl, subst, sym, add-zero, arith}
 use Rattle.pf_text.specs.Driver.{step, lines_output}
-use Rattle.pf_peers.specs.declared.event.Event.{Event}
-use Rattle.pf_peers.specs.Session.{Session, reply_to, replies_to, session_after, session_after_all}
-use Rattle.pf_peers.proofs.Sessions.{length-session_after}
+use Rattle.pf_events.specs.declared.event.Event.{Event}
+use Rattle.pf_events.specs.Session.{Session, reply_to, replies_to, session_after, session_after_all}
+use Rattle.pf_events.proofs.Sessions.{length-session_after}
 use Rattle.pf_console.specs.declared.phase.Phase.TheVariants.{Playing}
 use Rattle.pf_console.specs.Phase.{after_line}
 use Rattle.pf_console.specs.Run.{text_rules}

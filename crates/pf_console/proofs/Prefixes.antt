@@ -11,7 +11,7 @@ use Rattle.pf_shapes.specs.declared.fault.SceneFault.{SceneFault}
 use Rattle.pf_console.specs.declared.error.ProgramError.{ProgramError}
 use Rattle.pf_console.specs.declared.error.ProgramError.TheVariants.{Words, Line, Frame, Memory, Crew, Read, Write}
 use Rattle.pf_console.specs.declared.error.ProgramError.TheVariants as errors
-use Rattle.pf_peers.specs.Session.{Session}
+use Rattle.pf_events.specs.Session.{Session}
 use Rattle.pf_console.specs.declared.phase.Phase.{Phase}
 use Rattle.pf_console.specs.Laws.{NothingFailed}
 use Rattle.pf_console.specs.Phase.{first_phase}

@@ -3,7 +3,7 @@ use Rattle.std.specs.Prelude.{◌≡◌, ℕ, IsSome, Option, Some, None, Result
 use Rattle.pf_islands.specs.Split.{Island}
 use Rattle.pf_step.specs.declared.crew.CrewError.{CrewError}
 use Rattle.pf_step.specs.declared.crew.CrewError.TheVariants.{OutOfMemory, NoThread, GateShut, CrewLost}
-use Rattle.pf_peers.specs.Crews.{CanFail}
+use Rattle.pf_events.specs.Crews.{CanFail}
 use Rattle.pf_console.specs.declared.error.ProgramError.{ProgramError}
 use Rattle.pf_console.specs.declared.error.ProgramError.TheVariants.{Crew, Memory}
 

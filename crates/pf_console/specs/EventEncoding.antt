@@ -8,8 +8,8 @@ use Rattle.pf_commands.specs.declared.payload.Payload.{Payload}
 use Rattle.pf_commands.specs.declared.payload.Payload.TheVariants.{Push, Turn, Stop, Place}
 use Rattle.pf_commands.specs.Payload.{IsPayload}
 use Rattle.pf_commands.specs.Frame.{IsFrameable, encoding}
-use Rattle.pf_peers.specs.declared.event.Event.{Event}
-use Rattle.pf_peers.specs.declared.event.Event.TheVariants.{Issue, Take, Merge, Advance, Settle, Show, Seal}
+use Rattle.pf_events.specs.declared.event.Event.{Event}
+use Rattle.pf_events.specs.declared.event.Event.TheVariants.{Issue, Take, Merge, Advance, Settle, Show, Seal}
 
 -- what is issued: its kind, its body and its numbers
 abbrev pub payload_fields : Payload → List (List ℕ)

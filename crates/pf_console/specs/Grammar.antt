@@ -10,9 +10,9 @@ use Rattle.pf_text.specs.Fault.{◌>>=◌}
 use Rattle.pf_text.specs.Numbers.{whole_of, integer}
 use Rattle.pf_rot.specs.Vector.{V2}
 use Rattle.pf_shapes.specs.declared.scene.TheConstants.{MAX_POSITION}
-use Rattle.pf_peers.specs.declared.event.Event.{Event}
+use Rattle.pf_events.specs.declared.event.Event.{Event}
 use Rattle.pf_commands.specs.declared.payload.Payload.TheVariants.{Push, Turn, Stop, Place}
-use Rattle.pf_peers.specs.declared.event.Event.TheVariants.{Issue, Take, Merge, Advance, Settle, Show, Seal}
+use Rattle.pf_events.specs.declared.event.Event.TheVariants.{Issue, Take, Merge, Advance, Settle, Show, Seal}
 use Rattle.pf_console.specs.declared.fields.EventWord.{EventWord}
 use Rattle.pf_console.specs.declared.fields.EventWord.TheVariants as words
 use Rattle.pf_console.specs.declared.fields.Kind.{Kind}

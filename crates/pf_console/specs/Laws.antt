@@ -4,8 +4,8 @@ use Rattle.std.specs.List.{flat_map}
 use Rattle.pf_text.specs.Fields.{fields_of}
 use Rattle.pf_text.specs.Driver.{Output, is_plain, is_skipped}
 use Rattle.pf_shapes.specs.declared.fault.SceneFault.{SceneFault}
-use Rattle.pf_peers.specs.declared.event.Event.{Event}
-use Rattle.pf_peers.specs.Session.{Session, replies_to, session_after_all}
+use Rattle.pf_events.specs.declared.event.Event.{Event}
+use Rattle.pf_events.specs.Session.{Session, replies_to, session_after_all}
 use Rattle.pf_console.specs.declared.error.ProgramError.{ProgramError}
 use Rattle.pf_console.specs.declared.error.ProgramError.TheVariants.{Line}
 use Rattle.pf_console.specs.declared.error.ProgramError.TheVariants as errors

@@ -9,8 +9,8 @@ use Rattle.pf_commands.specs.declared.payload.Command.{Command}
 use Rattle.pf_commands.specs.declared.payload.Payload.{Payload}
 use Rattle.pf_commands.specs.declared.payload.Payload.TheVariants.{Push, Turn, Stop, Place}
 use Rattle.pf_cache.specs.Contact.{Contact}
-use Rattle.pf_peers.specs.declared.event.Reply.{Reply}
-use Rattle.pf_peers.specs.declared.event.Reply.TheVariants.{Issued, Took, Merged, Advanced, Settled, Shown, Sealed, Refused}
+use Rattle.pf_events.specs.declared.event.Reply.{Reply}
+use Rattle.pf_events.specs.declared.event.Reply.TheVariants.{Issued, Took, Merged, Advanced, Settled, Shown, Sealed, Refused}
 use Rattle.pf_step.specs.World.{World}
 use Rattle.pf_rollback.specs.declared.error.Refusal.{Refusal}
 use Rattle.pf_rollback.specs.declared.error.Refusal.TheVariants.{NotReached, TooOld, HorizonsDiffer}

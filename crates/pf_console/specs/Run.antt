@@ -4,8 +4,8 @@ use Rattle.pf_text.specs.declared.fault.LineFault.{LineFault}
 use Rattle.pf_text.specs.Driver.{Rules}
 use Rattle.pf_shapes.specs.declared.fault.SceneFault.{SceneFault}
 use Rattle.pf_shapes.specs.Fault.{scene_fault_of}
-use Rattle.pf_peers.specs.declared.event.Event.{Event}
-use Rattle.pf_peers.specs.Session.{Session, new_session, reply_to, session_after}
+use Rattle.pf_events.specs.declared.event.Event.{Event}
+use Rattle.pf_events.specs.Session.{Session, new_session, reply_to, session_after}
 use Rattle.pf_console.specs.declared.phase.Phase.{Phase}
 use Rattle.pf_console.specs.Grammar.{event_of}
 use Rattle.pf_console.specs.Phase.{phase_rules}

@@ -1,13 +1,13 @@
 //! The lines of events.
 
 ghost use Rattle.std.specs.Prelude.{◌≡◌, map, IfOk};
-ghost use Rattle.pf_peers.specs.Session.{IsAmong};
+ghost use Rattle.pf_events.specs.Session.{IsAmong};
 ghost use Rattle.pf_console.specs.Grammar.{push_of, turn_of, stop_of, place_of, issue_of, take_of, merge_of, advance_of, settle_of, show_of, event_of, seal_of};
 
 use crate::digits::frame;
 use crate::fields::{EventWord, Kind, body, impulse, kind_in, peer, position, real, tick, word};
 use pf_commands::Payload;
-use pf_peers::Event;
+use pf_events::Event;
 use pf_rot::V2;
 use pf_text::LineFault;
 

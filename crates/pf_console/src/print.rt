@@ -10,7 +10,7 @@ use crate::names::{put_name, refusal_name};
 use itoa::Buffer;
 use pf_cache::Contact;
 use pf_commands::{Command, Payload};
-use pf_peers::Reply;
+use pf_events::Reply;
 use pf_rollback::Refusal;
 use pf_shapes::{BodyState, Fixture};
 use pf_step::World;

@@ -2,7 +2,7 @@
 
 ghost use Rattle.std.specs.Prelude.{Ok, length, map};
 ghost use Rattle.pf_text.specs.Driver.{Produces};
-ghost use Rattle.pf_peers.specs.Session.{IsAmong};
+ghost use Rattle.pf_events.specs.Session.{IsAmong};
 ghost use Rattle.pf_console.specs.Grammar.{event_of};
 ghost use Rattle.pf_console.specs.Run.{after_event, run_play};
 
@@ -11,7 +11,7 @@ use crate::phase::Play;
 use crate::print::reply_text;
 use crate::settler::Settler;
 use pf_manifold::Collider;
-use pf_peers::{Event, Session};
+use pf_events::{Event, Session};
 use pf_shapes::{Scene, SceneFault};
 use pf_step::Crew;
 use pf_text::TakeError;

@@ -10,7 +10,7 @@ use crate::error::ProgramError;
 use crate::phase::Phase;
 use crate::settler::Settler;
 use pf_manifold::Collider;
-use pf_peers::Session;
+use pf_events::Session;
 use pf_step::Crew;
 use pf_text::{Sink, Source, drive};
 use std::alloc::Global;

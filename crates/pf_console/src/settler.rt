@@ -1,14 +1,14 @@
 //! Who settles the peers of a text.
 
 ghost use Rattle.std.specs.Prelude.{◌≡◌, ◌≢◌, ℕ, None, length, IfOk, IfSome, OnErr, OnOk};
-ghost use Rattle.pf_peers.specs.Crews.{CanFail};
-ghost use Rattle.pf_peers.specs.Session.{IsAmong, answer};
-ghost use Rattle.pf_peers.specs.declared.event.Event.TheVariants.{Settle};
+ghost use Rattle.pf_events.specs.Crews.{CanFail};
+ghost use Rattle.pf_events.specs.Session.{IsAmong, answer};
+ghost use Rattle.pf_events.specs.declared.event.Event.TheVariants.{Settle};
 ghost use Rattle.pf_console.specs.Crews.{error_of_missing_reply};
 
 use crate::error::ProgramError;
 use pf_manifold::Collider;
-use pf_peers::{Event, Reply, Session};
+use pf_events::{Event, Reply, Session};
 use pf_step::{Crew, CrewError, StepError};
 use std::alloc::{AllocError, Global};
 use std::marker::Model;
@@ -27,7 +27,7 @@ pub struct Settler<'a, P: Collider, C: Crew> {
 impl<'a, P: Collider, C: Crew> Model for Settler<'a, P, C> {
     ghost use Rattle.std.specs.Prelude.{Option, IfSome};
     ghost use Rattle.pf_step.specs.declared.crew.CrewError.{CrewError};
-    ghost use Rattle.pf_peers.specs.Crews.{CanFail};
+    ghost use Rattle.pf_events.specs.Crews.{CanFail};
 
     ghost Value = { Option CrewError };
 

@@ -65,7 +65,7 @@ impl Context {
         let Some(core) = self.peers.get_mut(peer) else {
             return Err(ContextError::BadKey);
         };
-        Ok(core.settle(alloc)?)
+        Ok(core.settle_alone(alloc)?)
     }
 
     /// Seals a tick that a peer has reached: it is the peer's new horizon. The commands before it

@@ -218,7 +218,7 @@ fn deal_row(
 
 /// The islands of groups that are awake as wholes, made in the memory of the spare ones.
 #[inline(never)]
-fn split(
+fn split_settled(
     alloc: Global,
     spare: Vec<Island>,
     scene: &Scene,
@@ -324,7 +324,7 @@ pub fn wake_and_split(
     let spans = manifolds.spans();
     let active = active_of(alloc, scene, bodies, touches, spans, search)?;
     if wake_none(scene, bodies, touches, &active.places) {
-        return split(alloc, spare, scene, bodies, touches, contacts, &active);
+        return split_settled(alloc, spare, scene, bodies, touches, contacts, &active);
     }
     let woken = woken_bodies(alloc, scene, bodies, touches)?;
     let bodies = woken.as_slice();
@@ -335,5 +335,33 @@ pub fn wake_and_split(
         pair_places: &all_places,
     };
     let active = active_of(alloc, scene, bodies, touches, spans, &all)?;
-    split(alloc, spare, scene, bodies, touches, contacts, &active)
+    split_settled(alloc, spare, scene, bodies, touches, contacts, &active)
+}
+
+/// [`wake_and_split`] with nothing beside the world and its contact points: all bodies and all
+/// pairs are looked at, and the islands are made in memory of their own.
+pub fn split(
+    alloc: Global,
+    scene: &Scene,
+    bodies: &[BodyState],
+    manifolds: &Manifolds,
+    contacts: &[Contact],
+) -> Result<Vec<Island>, AllocError>
+    requires bodies { length bodies.now ≡ length scene.now.fixtures }
+    requires touches { All (IsTouchOf (length bodies.now)) (kept_touches manifolds.now) }
+    requires contacts { length contacts.now ≡ length (kept_touches manifolds.now) }
+    ensures value { let touches = kept_touches manifolds.now in
+        let woken = woken_bodies (groups_of scene.now touches) bodies.now in
+        IfOk result (λ found. found.items ≡ islands (groups_of scene.now touches) woken
+        (active_rows scene.now woken touches contacts.now)) }
+    ensures fit { IfOk result (λ found. All (IsIslandOf scene.now) found.items) }
+{
+    let numbers = singles(alloc, bodies.len())?;
+    let places = singles(alloc, manifolds.spans().len())?;
+    let all = AwakeSearch {
+        bodies: &numbers,
+        pair_places: &places,
+    };
+    let none = Vec::new(alloc);
+    wake_and_split(alloc, none, scene, bodies, manifolds, contacts, &all)
 }

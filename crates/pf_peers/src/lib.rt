@@ -1,12 +1,9 @@
-//! Peers of one scene, and lists of events on them.
+//! Peers of one scene: as a list of events on one thread ([`run`]), and as threads that exchange
+//! frames over links ([`run_session`]). Each call stands, with its contract, in one of the crates
+//! below.
 #![tactic(auto)]
 
-mod answering;
-mod event;
-pub mod laws;
-mod replay;
-mod session;
-
-pub use event::{Event, Reply};
-pub use replay::run;
-pub use session::Session;
+pub use pf_events::{Event, Reply, Session, run};
+pub use pf_links::{Link, LinkIn, LinkOut, MAX_CAPACITY};
+pub use pf_scripts::{MAX_POLLS, Peer, Polled, SessionError, Turn};
+pub use pf_sessions::{LINK_CAPACITY, RING, run_session};

@@ -16,7 +16,7 @@ use Rattle.pf_program.specs.Options.{FailsByWordsOrMemory, HasCrewSize}
 use Rattle.pf_console.specs.Crews.{FailsByCrew}
 use Rattle.pf_console.specs.Request.{CanStart, FailsByThreadsOf}
 use Rattle.pf_islands.specs.Split.{Island}
-use Rattle.pf_peers.specs.Crews.{CanFail}
+use Rattle.pf_events.specs.Crews.{CanFail}
 
 -- words that could not be read name no crew
 pub words_name_none : {X : Type 0} (words : Result X ProgramError) → FailsByWordsOrMemory words → (fault : ProgramError) → words ≡ Err fault

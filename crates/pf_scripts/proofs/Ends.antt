@@ -4,7 +4,7 @@ use Rattle.std.proofs.lemmas.Bool.{true≢false}
 use Rattle.pf_islands.specs.Split.{Island}
 use Rattle.pf_step.specs.declared.crew.CrewError.{CrewError}
 use Rattle.pf_step.specs.declared.crew.CrewError.TheVariants.{OutOfMemory, NoThread, GateShut, CrewLost}
-use Rattle.pf_peers.specs.Crews.{CanFail}
+use Rattle.pf_events.specs.Crews.{CanFail}
 use Rattle.pf_workers.specs.Crew.{FailsStanding, IsStartError, StandingCrew}
 use Rattle.pf_scripts.specs.Play.{IsPeerError, IsCrewErrorOfPlay}
 use Rattle.pf_scripts.specs.declared.error.SessionError.{SessionError}

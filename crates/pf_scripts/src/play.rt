@@ -39,7 +39,7 @@ impl Peer {
     ghost use Rattle.pf_scripts.specs.Frames.{commands_in, refusal_of};
     ghost use Rattle.pf_scripts.specs.Peer.{commands_of, kept_of, peer_of, setting_of};
     ghost use Rattle.pf_scripts.specs.Play.{HasMoved, HasPlayed, IsPeerError, IsCrewErrorOfPlay};
-    ghost use Rattle.pf_peers.specs.Crews.{CanFail};
+    ghost use Rattle.pf_events.specs.Crews.{CanFail};
     ghost use Rattle.pf_scripts.specs.Script.{bytes_of, frame_fault, frames_in, place_after, script_fault, tick_fault, turn_fault};
     ghost use Rattle.pf_scripts.specs.declared.error.SessionError.TheVariants as errors;
 

@@ -57,7 +57,7 @@ fn finish(
 {
     let (mut receiver, mut senders) = (receiver, senders);
     take_rest(&mut receiver.core, &mut senders, &mut receiver.inputs)?;
-    receiver.core.settle(alloc)?;
+    receiver.core.settle_alone(alloc)?;
     Ok((receiver, senders))
 }
 

@@ -52,3 +52,33 @@ pub fn solve_island(scene: &Scene, island: &mut Island)
     solve_rounds(island);
     finish_island(island);
 }
+
+/// What can be taken through a tick by itself, by value.
+pub trait Solve {
+    ghost use Rattle.std.specs.Prelude.{◌≡◌};
+    ghost use Rattle.pf_shapes.specs.Scene.{Scene};
+
+    /// Whether it is of this scene.
+    ghost is_of: { Scene → Self → Type 0 };
+
+    /// What it is after a tick of its own.
+    ghost after_tick: { Scene → Self → Self };
+
+    /// Takes it through a tick of 1/64 s, with nothing but the scene beside it. Takes no memory.
+    fn solve(self, scene: &Scene) -> Self
+        requires { is_of scene.now self }
+        ensures { result ≡ after_tick scene.now self };
+}
+
+/// As [`solve_island`], which does so in place.
+impl Solve for Island {
+    ghost is_of = { IsIslandOf };
+
+    ghost after_tick = { island_after_tick };
+
+    fn solve(self, scene: &Scene) -> Island {
+        let mut island = self;
+        solve_island(scene, &mut island);
+        island
+    }
+}

@@ -14,6 +14,6 @@ mod velocities;
 pub use bodies::{STILL_SPEED, STILL_SPIN, STILL_TICKS, after_gravity, after_motion, after_timer};
 pub use constraint::{BIAS_FACTOR, SLOP};
 pub use impulse::{ContactState, Motion};
-pub use island::{finish_island, prepare_island, solve_island, solve_rounds};
+pub use island::{Solve, finish_island, prepare_island, solve_island, solve_rounds};
 pub use solve::solve_untouched;
 pub use velocities::{ContactStep, ROUNDS, Round, WarmStart};

@@ -28,6 +28,18 @@ pub record IsStep {E : Type 0} (s : Scene) (w : World) (payloads : List Payload)
       (new ≡ record old { manifolds = no_manifolds; moved = new.moved; is_known = false })
   pub follows : KnowsWorld s after new
 
+-- what a step with the payloads of a tick makes of a world that it only reads: the next one, with
+-- the tick counted and its contact points kept, and what the work then knows is true of that world;
+-- or it returns an error, with nothing counted and no points kept
+pub record IsStepOfCopy {E : Type 0} (s : Scene) (w : World) (payloads : List Payload)
+    (old new : Work) (result : Result World E) : Type 0 where
+  pub value : IfOk result (λ next. next ≡ step s w payloads)
+  pub counted : OnOk result
+      (new ≡ work_after_tick (collisions_of_tick s w payloads old.manifolds) new.moved old)
+  pub not_counted : OnErr result
+      (new ≡ record old { manifolds = no_manifolds; moved = new.moved; is_known = false })
+  pub follows : IfOk result (λ next. KnowsWorld s next new)
+
 -- what the phases after Points do to a world, where some changes of bodies are noted already: they
 -- make the next world of it, note more changes of its bodies, and undoing all of them leaves what
 -- undoing those alone would have left before; or they return an error, and the world, and what

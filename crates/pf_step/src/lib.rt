@@ -16,6 +16,6 @@ mod world;
 pub use changes::Changes;
 pub use command::apply;
 pub use crew::{Crew, CrewError, StepError, solve_all};
-pub use step::{step_by, step_next, step_on_one_thread};
+pub use step::{step_alone, step_by, step_next, step_on_one_thread, step_with};
 pub use work::Work;
 pub use world::World;

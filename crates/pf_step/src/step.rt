@@ -11,7 +11,7 @@ ghost use Rattle.pf_step.specs.declared.crew.StepError.TheVariants.{OutOfMemory}
 ghost use Rattle.pf_step.specs.Activity.{islands_of_tick};
 ghost use Rattle.pf_cache.specs.PlacedBodies.{HaveStayed, bodies_of};
 ghost use Rattle.pf_step.specs.Work.{KnowsWorld};
-ghost use Rattle.pf_step.specs.Stepping.{FailsBy, IsStep};
+ghost use Rattle.pf_step.specs.Stepping.{FailsBy, IsStep, IsStepOfCopy};
 ghost use Rattle.pf_step.specs.Commands.{after_commands};
 ghost use Rattle.pf_step.specs.Step.{collisions_of_bodies, touches_of_scene};
 
@@ -23,9 +23,10 @@ use crate::work::Work;
 use crate::world::World;
 use pf_cache::{FoundCollisions, Manifolds};
 use pf_commands::Payload;
-use pf_manifold::{Collider, OneThread};
+use pf_manifold::{Collider, OneThread, SeveralThreads};
 use pf_shapes::{BodyState, Scene};
 use std::alloc::{AllocError, Global};
+use std::thread::Threads;
 
 /// The contact points of the bodies of a scene as they stand; kept ones are reused. Only bodies of
 /// `moved` may have moved since these were kept. Also finds how many of the first points have the
@@ -138,6 +139,81 @@ pub fn step_by<P: Collider, C: Crew>(
 {
     work.forget_moved();
     step_next(collider, alloc, scene, world, payloads, work, crew)
+}
+
+/// [`step_by`] of a copy of the world, which is returned.
+fn step_copy<P: Collider, C: Crew>(
+    collider: &P,
+    alloc: Global,
+    scene: &Scene,
+    world: &World,
+    payloads: &[Payload],
+    work: &mut Work,
+    crew: &mut C,
+) -> Result<World, StepError>
+    requires can { P.can_collide collider.now }
+    requires world { length world.now.bodies ≡ length scene.now.fixtures }
+    ensures step { IsStepOfCopy scene.now world.now payloads.now work.old work.new result }
+    ensures called { let islands = islands_of_tick scene.now world.now payloads.now in
+        OnOk result (C.is_called crew.old islands crew.new) }
+    ensures failed { let islands = islands_of_tick scene.now world.now payloads.now in
+        IfErr result (λ error. FailsBy C.may_fail crew.old islands error crew.new) }
+{
+    match world.try_clone() {
+        Ok(copy) => {
+            let mut next = copy;
+            let changes = step_by(collider, alloc, scene, &mut next, payloads, work, crew)?;
+            changes.lend(work);
+            Ok(next)
+        }
+        Err(_) => {
+            let _none_kept = work.take_manifolds(alloc);
+            Err(StepError::OutOfMemory)
+        }
+    }
+}
+
+/// The world one tick of 1/64 s after a world, with the payloads of the tick's commands in order of
+/// player, then number, on one thread. Counts in `work` the tick and the pairs that cannot reuse
+/// kept points, and leaves the points there. An error, which is out of memory, counts nothing, and
+/// then no points are kept.
+///
+/// [`step_next`] changes the world in place, and returns what undoes that.
+pub fn step_alone(
+    alloc: Global,
+    scene: &Scene,
+    world: &World,
+    payloads: &[Payload],
+    work: &mut Work,
+) -> Result<World, StepError>
+    requires { length world.now.bodies ≡ length scene.now.fixtures }
+    ensures step { IsStepOfCopy scene.now world.now payloads.now work.old work.new result }
+    ensures failed { IfErr result (λ error. error ≡ OutOfMemory) }
+{
+    let mut alone = OneThread;
+    step_copy(&OneThread, alloc, scene, world, payloads, work, &mut alone)
+}
+
+/// As [`step_alone`], with a crew, which is called once with the islands of the tick, or not at all
+/// where nothing touches and the crew allows that. If [`pf_manifold::PAIRS_FOR_THREADS`] pairs or
+/// more cannot reuse kept points, several threads compute the points.
+pub fn step_with<R: Threads + Sync, C: Crew>(
+    rt: &R,
+    alloc: Global,
+    scene: &Scene,
+    world: &World,
+    payloads: &[Payload],
+    work: &mut Work,
+    crew: &mut C,
+) -> Result<World, StepError>
+    requires { length world.now.bodies ≡ length scene.now.fixtures }
+    ensures step { IsStepOfCopy scene.now world.now payloads.now work.old work.new result }
+    ensures called { let islands = islands_of_tick scene.now world.now payloads.now in
+        OnOk result (C.is_called crew.old islands crew.new) }
+    ensures failed { let islands = islands_of_tick scene.now world.now payloads.now in
+        IfErr result (λ error. FailsBy C.may_fail crew.old islands error crew.new) }
+{
+    step_copy(&SeveralThreads { rt }, alloc, scene, world, payloads, work, crew)
 }
 
 /// [`step_by`] on one thread, without a runtime. Where nothing touches, no islands are made.

@@ -47,15 +47,15 @@ fn play(alloc: Global) -> Result<String, Error> {
 
     let frame = ours.issue(push)?;
     ours.advance(20)?;
-    ours.settle(alloc)?;
+    ours.settle_alone(alloc)?;
     let mut text = draw(alloc, "player 0      ", ours.settled_world())?;
 
     theirs.advance(20)?;
-    theirs.settle(alloc)?;
+    theirs.settle_alone(alloc)?;
     text.push_str(&draw(alloc, "player 1      ", theirs.settled_world())?)?;
 
     theirs.take(&frame)?;
-    theirs.settle(alloc)?;
+    theirs.settle_alone(alloc)?;
     text.push_str(&draw(alloc, "player 1 later", theirs.settled_world())?)?;
 
     let replay = world_at(alloc, &theirs, 10)?;

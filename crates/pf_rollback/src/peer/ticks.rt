@@ -92,7 +92,7 @@ impl PeerCore {
     /// Settles the ticks up to the reached one, in their order, by steps on one thread, and returns
     /// the reached tick. After an error the ticks before it stay settled. The commands and the
     /// reached tick stay as they are. Takes no memory where the reached tick is settled.
-    pub fn settle(&mut self, alloc: Global) -> Result<u32, AllocError>
+    pub fn settle_alone(&mut self, alloc: Global) -> Result<u32, AllocError>
         ensures { IsSettle self.old self.new result }
     {
         match self.settle_by(&OneThread, alloc, &mut OneThread) {
@@ -102,7 +102,7 @@ impl PeerCore {
         }
     }
 
-    /// As [`PeerCore::settle`], with a crew, which is called once for each tick, with its islands,
+    /// As [`PeerCore::settle_alone`], with a crew, which is called once for each tick, with its islands,
     /// or not at all in a tick where nothing touches, if the crew allows that. If
     /// [`pf_manifold::PAIRS_FOR_THREADS`] pairs or more cannot reuse kept points, several threads
     /// compute the points.

@@ -26,8 +26,8 @@ woken_islands s touches bodies contacts =
 
 -- ---- no contact wakes a body
 
-pub split-requires-clause-settled : goal.split-requires-clause-settled
-split-requires-clause-settled c =
+pub split_settled-requires-clause-settled : goal.split_settled-requires-clause-settled
+split_settled-requires-clause-settled c =
     settled_from c.args.scene.now c.args.bodies.now c.touches-touches.result.now c.deref.result.now
     (c.deref.ensures.value ∙ c.in_ok-active.ensures.places) (sym c.wake_none.ensures ∙ c.if-wake_none.true)
 
@@ -39,11 +39,11 @@ returns-then-wake_none-clause-value c =
     let same = sym (woken_same s bodies touches c.requires.bodies
     (settled_from s bodies touches c.deref.result.now
     (c.deref.ensures.value ∙ c.in_ok-active.ensures.places) (sym c.wake_none.ensures ∙ c.if-wake_none.true))) in
-    IfOk-weaker c.split.result _ _
+    IfOk-weaker c.split_settled.result _ _
     (λ found is.
     is ∙ ap (λ bs. islands (groups s touches) bs (active_rows s bs touches c.args.contacts.now)) same
     ∙ ap (λ ts. woken_islands s ts bodies c.args.contacts.now) c.touches-touches.ensures.value)
-    c.split.ensures.value
+    c.split_settled.ensures.value
 
 -- ---- a contact wakes one
 
@@ -66,8 +66,8 @@ active_of-requires-2-clause-places c =
     (c.deref-3.ensures.value ∙ c.in_ok-all_places.ensures.value
     ∙ ap (range_with_len 0) (sym (length-map spans (λ (x : Span). x.pair))))
 
-pub split-requires-2-clause-settled : goal.split-requires-2-clause-settled
-split-requires-2-clause-settled c =
+pub split_settled-requires-2-clause-settled : goal.split_settled-requires-2-clause-settled
+split_settled-requires-2-clause-settled c =
     let touches = c.touches-touches.result.now in
     subst (λ bs. AreSettled c.args.scene.now bs touches)
     (sym (c.as_slice-bodies.ensures.value ∙ c.in_ok-woken.ensures.bodies))
@@ -78,9 +78,9 @@ pub returns-clause-value : goal.returns-clause-value
 returns-clause-value c =
     let s = c.args.scene.now in
     let touches = c.touches-touches.result.now in
-    IfOk-weaker c.split-2.result _ _
+    IfOk-weaker c.split_settled-2.result _ _
     (λ found is.
     is ∙ ap (λ bs. islands (groups s touches) bs (active_rows s bs touches c.args.contacts.now))
     (c.as_slice-bodies.ensures.value ∙ c.in_ok-woken.ensures.bodies)
     ∙ ap (λ ts. woken_islands s ts c.args.bodies.now c.args.contacts.now) c.touches-touches.ensures.value)
-    c.split-2.ensures.value
+    c.split_settled-2.ensures.value

@@ -2,7 +2,7 @@ use Rattle.std.proofs.Common.{rules, Bool, true, false, ◌≡◌, ◌∙◌, �
 use Rattle.std.proofs.lemmas.List.{drop_all, take_all}
 use Rattle.std.proofs.lemmas.Result.{err_from_is_err_and}
 use Rattle.std.specs.Prelude.{◌⊎◌, IfErr, IsTrue}
-use Rattle.pf_peers.specs.Crews.{CanFail}
+use Rattle.pf_events.specs.Crews.{CanFail}
 use Rattle.pf_step.specs.declared.crew.CrewError.{CrewError}
 use Rattle.pf_step.specs.declared.crew.CrewError.TheVariants.{GateShut, OutOfMemory}
 use Rattle.pf_scripts.specs.Peer.{peer_of, setting_of}

@@ -1,5 +1,0 @@
-use Rattle.pf_peers.proofs.Alike.{same_in_any_order}
-use Rattle.pf_peers.proofs.laws.order_and_repeats_do_not_matter.Goals as goal
-
-pub returns : goal.returns
-returns c = same_in_any_order

@@ -1,5 +1,0 @@
-use Rattle.pf_peers.proofs.Shown.{shown_alike}
-use Rattle.pf_peers.proofs.laws.same_commands_show_one_world.Goals as goal
-
-pub returns : goal.returns
-returns c = shown_alike

@@ -1,5 +1,0 @@
-use Rattle.pf_peers.proofs.Shown.{shown_after}
-use Rattle.pf_peers.proofs.laws.shown_worlds_are_simulated.Goals as goal
-
-pub returns : goal.returns
-returns c = shown_after
