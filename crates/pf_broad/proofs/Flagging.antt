@@ -1,8 +1,8 @@
 -- Candidates have flags, which are brought up to date one after the other.
-use Rattle.std.proofs.Common.{◌≡◌, ℕ, zero, suc, ◌+◌, ◌<◌, Bool, true, false, cond, ◌||◌, All, List, [], ◌∷◌, ◌++◌, length, map, take, drop, filter, get_or, slice_set, refl, sym, subst, ap, ◌∙◌, arith, add-one}
+use Rattle.std.proofs.Common.{◌≡◌, ℕ, zero, suc, ◌+◌, ◌<◌, Bool, true, false, cond, ◌||◌, All, List, [], ◌∷◌, ◌++◌, length, map, take, drop, filter, get_or, slice_set, refl, sym, subst, ap, ◌∙◌, arith, add-one, append-nil, ◌≤◌}
 use Rattle.std.proofs.Math.Bool.{beq}
 use Rattle.std.specs.Cmp.{booleans_Decides}
-use Rattle.std.proofs.lemmas.List.{get_or-map, get_or_default, set-get_or}
+use Rattle.std.proofs.lemmas.List.{drop_all, get_or-map, get_or_default, set-get_or, take_all}
 use Rattle.std.proofs.lemmas.List.Elements.{All-get_or}
 use Rattle.pf_shapes.specs.Bounds.{Bounds}
 use Rattle.pf_shapes.specs.Pair.{IsPairOf, Pair}
@@ -77,6 +77,21 @@ touch_is bs cs i p first second v of below is at_a at_b value =
     let bounds_a = at_a ∙ get_or_default bs p.a first no_bounds (omega (arith, a_is, in_range.0, in_range.1)) ∙ ap (bounds_at bs) a_is in
     let bounds_b = at_b ∙ get_or_default bs p.b second no_bounds (omega (arith, b_is, in_range.1)) ∙ ap (bounds_at bs) b_is in
     value ∙ (λ k. may_touch (bounds_a k) (bounds_b k))
+
+-- the bodies of a candidate are in range
+pub bodies_below : (n : ℕ) (cs : List Pair) (i : ℕ) (p candidate : Pair) → All (IsPairOf n) cs → i < length cs → p ≡ candidate → candidate ≡ get_or cs i candidate
+    → (p.a < n) × (p.b < n)
+bodies_below n cs i p candidate of below same is =
+    let in_range : IsPairOf n (get_or cs i candidate) = of i candidate below in
+    let a_is : p.a ≡ (get_or cs i candidate).a = ap (λ (q : Pair). q.a) (same ∙ is) in
+    let b_is : p.b ≡ (get_or cs i candidate).b = ap (λ (q : Pair). q.b) (same ∙ is) in
+    (omega (arith, a_is, in_range.0, in_range.1), omega (arith, b_is, in_range.1))
+
+-- at the end all flags are up to date
+pub all_flags : (t : Pair → Bool) (cs : List Pair) (old flags : List Bool) (i : ℕ) → length cs ≤ i → length old ≡ length cs
+    → flags ≡ map t (take i cs) ++ drop i old → flags ≡ map t cs
+all_flags t cs old flags i ended long are =
+    are ∙ (λ k. map t (take_all i cs ended k) ++ drop_all i old (omega (arith, ended, long)) k) ∙ append-nil (map t cs)
 
 -- the pairs whose flags are set, with the next one
 pub flagged_next : (flags : List Bool) (ps : List Pair) (i : ℕ) → i < length ps → length flags ≡ length ps

@@ -1,13 +1,14 @@
-use Rattle.std.proofs.Common.{◌≡◌, ◌+◌, ◌<◌, ◌||◌, ◌∷◌, ◌++◌, [], cond, false, true, length, get_or, take, map, filter, drop, refl, ap, sym, arith, ◌∙◌, ℕ, Bool}
+use Rattle.std.proofs.Common.{◌≡◌, ◌+◌, ◌<◌, ◌||◌, ◌∷◌, ◌++◌, [], cond, false, true, length, get_or, take, map, filter, drop, refl, ap, sym, arith, ◌∙◌, ℕ, Bool, List}
 use Rattle.std.proofs.lemmas.Bool.{and_parts}
-use Rattle.std.proofs.lemmas.List.{append-nil, get_or_default}
+use Rattle.std.proofs.lemmas.List.{append-nil, get_or_default, take_all}
 use Rattle.std.proofs.lemmas.List.Elements.{filter_more}
 use Rattle.std.proofs.lemmas.List.Filters.{length-filter_more}
+use Rattle.std.specs.List.{range_with_len}
 use Rattle.pf_shapes.specs.Bounds.{Bounds}
 use Rattle.pf_shapes.specs.Pair.{Pair}
 use Rattle.pf_broad.specs.Pairs.{may_touch, pair, pair_at, pair_may_touch}
-use Rattle.pf_broad.specs.Kept.{has_body_of}
-use Rattle.pf_broad.proofs.Flagging.{flag_read, kept, tested, touch_is, unchanged}
+use Rattle.pf_broad.specs.Kept.{has_body_of, moved_places}
+use Rattle.pf_broad.proofs.Flagging.{all_flags, bodies_below, flag_read, kept, tested, touch_is, unchanged}
 use Rattle.pf_broad.proofs.Placing.{places_next, place_step}
 use Rattle.pf_broad.proofs.Watching.{places_more}
 use Rattle.pf_broad.proofs.candidates.test_moved.Goals.{then-may_have_moved-pair+then-touches, then-may_have_moved-pair+else-touches, else-may_have_moved-pair}
@@ -113,3 +114,49 @@ loop-i-preserved c =
         | else-may_have_moved-pair w ↦ rw w.tested-is c.loop-i.invariant.tested_room
       ];
     }
+
+pub bounds-may_have_moved-pair-inside : goal.bounds-may_have_moved-pair-inside
+bounds-may_have_moved-pair-inside c =
+    let in_range = bodies_below (length c.args.bounds.now) c.args.candidates.now c.loop-i.i (pair c.pair.inside.a c.pair.inside.b) c.index-candidates-i.result c.requires.candidates c.loop-i-test.true c.pair.view_is c.index-candidates-i.is in
+    omega (arith, in_range.0, c.requires.moved)
+
+pub bounds-may_have_moved-pair-inside-in-loop-i : goal.bounds-may_have_moved-pair-inside-in-loop-i
+bounds-may_have_moved-pair-inside-in-loop-i c =
+    let in_range = bodies_below (length c.args.bounds.now) c.args.candidates.now c.loop-i.i (pair c.pair.inside.a c.pair.inside.b) c.index-candidates-i.result c.requires.candidates c.loop-i-test.true c.pair.view_is c.index-candidates-i.is in
+    omega (arith, in_range.1, c.requires.moved)
+
+pub bounds-bounds-pair-inside : goal.bounds-bounds-pair-inside
+bounds-bounds-pair-inside c =
+    let in_range = bodies_below (length c.args.bounds.now) c.args.candidates.now c.loop-i.i (pair c.pair.inside.a c.pair.inside.b) c.index-candidates-i.result c.requires.candidates c.loop-i-test.true c.pair.view_is c.index-candidates-i.is in
+    in_range.0
+
+pub bounds-bounds-pair-inside-then-may_have_moved-pair : goal.bounds-bounds-pair-inside-then-may_have_moved-pair
+bounds-bounds-pair-inside-then-may_have_moved-pair c =
+    let in_range = bodies_below (length c.args.bounds.now) c.args.candidates.now c.loop-i.i (pair c.pair.inside.a c.pair.inside.b) c.index-candidates-i.result c.requires.candidates c.loop-i-test.true c.pair.view_is c.index-candidates-i.is in
+    in_range.1
+
+pub push_reserved-requires : goal.push_reserved-requires
+push_reserved-requires c = omega (arith, c.loop-i.invariant.tested_count, c.loop-i.invariant.tested_room, c.loop-i-test.true)
+
+pub push_reserved-requires-then-touches : goal.push_reserved-requires-then-touches
+push_reserved-requires-then-touches c = omega (arith, c.loop-i.invariant.count, c.loop-i.invariant.room, c.loop-i-test.true)
+
+pub returns-clause-flags : goal.returns-clause-flags
+returns-clause-flags c =
+    all_flags (pair_may_touch c.args.bounds.now) c.args.candidates.now c.args.flags.now c.loop-i.flags c.loop-i.i c.loop-i-test.false c.requires.flags
+    c.loop-i.invariant.flags
+
+pub returns-clause-same : goal.returns-clause-same
+returns-clause-same c = c.loop-i.invariant.same
+
+pub returns-clause-places : goal.returns-clause-places
+returns-clause-places c =
+    c.loop-i.invariant.places
+    ∙ ap (λ (cs : List Pair). moved_places (λ k. get_or c.args.may_have_moved.now k false) (filter (pair_may_touch c.args.bounds.now) cs))
+    (take_all c.loop-i.i c.args.candidates.now c.loop-i-test.false)
+
+pub returns-clause-tested : goal.returns-clause-tested
+returns-clause-tested c =
+    let cs = c.args.candidates.now in
+    let ended : c.loop-i.i ≡ length cs = omega (arith, c.loop-i.auto.i-end, c.loop-i-test.false) in
+    c.loop-i.invariant.tested ∙ ap (λ n. filter (has_body_of (λ k. get_or c.args.may_have_moved.now k false) cs) (range_with_len 0 n)) ended
