@@ -213,7 +213,15 @@ pub fn step_with<R: Threads + Sync, C: Crew>(
     ensures failed { let islands = islands_of_tick scene.now world.now payloads.now in
         IfErr result (λ error. FailsBy C.may_fail crew.old islands error crew.new) }
 {
-    step_copy(&SeveralThreads { rt }, alloc, scene, world, payloads, work, crew)
+    step_copy(
+        &SeveralThreads { rt },
+        alloc,
+        scene,
+        world,
+        payloads,
+        work,
+        crew,
+    )
 }
 
 /// [`step_by`] on one thread, without a runtime. Where nothing touches, no islands are made.
