@@ -53,6 +53,7 @@ fn gate_of(words: &[&str]) -> Result<GateKind> {
     Ok(match words {
         ["open"] => GateKind::Open,
         ["meeting"] => GateKind::Ruled(Rule::Meeting),
+        ["unwatched"] => GateKind::Ruled(Rule::Unwatched),
         ["counting"] => GateKind::Counting,
         ["shut", worker, turn] => GateKind::Ruled(Rule::Shut {
             worker: count(worker)?,

@@ -103,6 +103,9 @@ impl Book {
 pub enum Rule {
     /// For each worker, once the others have come for the same turn.
     Meeting,
+    /// The same, but a crew is told that nobody watches: so workers meet only if they are threads
+    /// of their own also then.
+    Unwatched,
     /// For all but this worker in this turn.
     Shut {
         worker: usize,
@@ -144,7 +147,7 @@ impl<const IS_OPEN: bool> Gate for TrialGate<IS_OPEN> {
     fn pass(&self, worker: usize, turn: usize) -> bool {
         self.book.note(worker, turn);
         let may_pass = match self.rule {
-            Rule::Meeting => self.book.wait_for_all(turn),
+            Rule::Meeting | Rule::Unwatched => self.book.wait_for_all(turn),
             Rule::Shut {
                 worker: shut_worker,
                 turn: shut_turn,
@@ -171,5 +174,9 @@ impl<const IS_OPEN: bool> Gate for TrialGate<IS_OPEN> {
             self.book.shut.fetch_add(1, Ordering::SeqCst);
         }
         IS_OPEN || may_pass
+    }
+
+    fn is_watched(&self) -> bool {
+        !matches!(self.rule, Rule::Unwatched)
     }
 }
