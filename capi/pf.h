@@ -217,7 +217,8 @@ uint32_t pf_peer_free(pf_context *context, pf_peer peer);
 
 /* Issue a command of the peer's player at the tick that the peer has reached, and write the frame
  * to send to all others. It acts in the tick that the next pf_advance adds. Impulses are above
- * -2^55 and below 2^55, positions from -2^44 to 2^44. */
+ * -2^55 and below 2^55, positions from -2^44 to 2^44; a number beyond is PF_BAD_NUMBER, also where
+ * the peer's key names nothing. */
 uint32_t pf_push(pf_context *context, pf_peer peer, uint16_t body, pf_v2 impulse, pf_frame *frame);
 uint32_t pf_turn(pf_context *context, pf_peer peer, uint16_t body, int64_t impulse,
                  pf_frame *frame);

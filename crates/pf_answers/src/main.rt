@@ -2,8 +2,8 @@
 //!
 //! A line is an operation and its raw numbers, as `add A B`, `dot X Y U V`, `turn C S SPIN` or
 //! `whole N`; or `frame HEX`, which prints the command that a frame encodes, or `encode HEX`,
-//! which encodes that command again. The output is a line for each. The stored run has 3,965
-//! lines, random ones and some at the ends of ranges, with values by an independent program.
+//! which encodes that command again. The output is a line for each. The stored run has thousands
+//! of lines, random ones and some at the ends of ranges, with values by an independent program.
 #![tactic(auto)]
 
 use anyhow::{Context, Result, bail};

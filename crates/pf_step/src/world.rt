@@ -67,8 +67,9 @@ impl World {
         &self.contacts
     }
 
-    /// Undoes a step: this is the world after it, and `changes` are what it returned. Other changes
-    /// are undone all the same: each noted body gets its noted state, and contacts are undone as
+    /// Undoes a step: this is the world after it, and `changes` are what it returned. Changes of
+    /// another step are undone all the same, and leave a world that no simulation may have: each
+    /// noted body that this world has gets its noted state, and contacts are undone as
     /// [`pf_cache::Contacts::undo`] says. Takes time for what changed and for the contacts, and no
     /// memory.
     #[tactic(auto, unfolding(crate::specs::Changes::world_before))]
