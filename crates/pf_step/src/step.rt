@@ -1,11 +1,11 @@
 //! A tick: from a world to the world one tick later. Its definition is on one screen,
 //! `specs/Step.antt`.
 
-ghost use Rattle.std.specs.Prelude.{◌≡◌, ◌≢◌, ◌<◌, [], Err, All, length, map, IfErr, IfOk, IsOk, OnOk};
+ghost use Rattle.std.specs.Prelude.{◌≡◌, ◌≢◌, ◌<◌, [], Err, All, length, map, false, IfErr, IfOk, IsOk, OnErr, OnOk};
 ghost use Rattle.pf_manifold.specs.Key.{key_of};
 ghost use Rattle.pf_manifold.specs.Touches.{IsTouchOf};
 ghost use Rattle.pf_cache.specs.Contact.{HaveSameFirst};
-ghost use Rattle.pf_cache.specs.Manifolds.{kept_touches};
+ghost use Rattle.pf_cache.specs.Manifolds.{kept_touches, no_manifolds};
 ghost use Rattle.pf_cache.specs.Spans.{AreListedPlaces};
 ghost use Rattle.pf_step.specs.declared.crew.StepError.TheVariants.{OutOfMemory};
 ghost use Rattle.pf_step.specs.Activity.{islands_of_tick};
@@ -141,6 +141,24 @@ pub fn step_by<P: Collider, C: Crew>(
     step_next(collider, alloc, scene, world, payloads, work, crew)
 }
 
+/// A copy of a world. Out of memory, no contact points are kept any more, as after a step that
+/// failed.
+fn copy_or_forget(alloc: Global, world: &World, work: &mut Work) -> Result<World, StepError>
+    ensures copy { IfOk result (λ copy. copy ≡ world.now) }
+    ensures kept { OnOk result (work.new ≡ work.old) }
+    ensures forgotten { OnErr result
+        (work.new ≡ record work.old { manifolds = no_manifolds; is_known = false }) }
+    ensures failed { IfErr result (λ error. error ≡ OutOfMemory) }
+{
+    match world.try_clone() {
+        Ok(copy) => Ok(copy),
+        Err(_) => {
+            let _none_kept = work.take_manifolds(alloc);
+            Err(StepError::OutOfMemory)
+        }
+    }
+}
+
 /// [`step_by`] of a copy of the world, which is returned.
 fn step_copy<P: Collider, C: Crew>(
     collider: &P,
@@ -159,17 +177,13 @@ fn step_copy<P: Collider, C: Crew>(
     ensures failed { let islands = islands_of_tick scene.now world.now payloads.now in
         IfErr result (λ error. FailsBy C.may_fail crew.old islands error crew.new) }
 {
-    match world.try_clone() {
-        Ok(copy) => {
-            let mut next = copy;
-            let changes = step_by(collider, alloc, scene, &mut next, payloads, work, crew)?;
+    let mut next = copy_or_forget(alloc, world, work)?;
+    match step_by(collider, alloc, scene, &mut next, payloads, work, crew) {
+        Ok(changes) => {
             changes.lend(work);
             Ok(next)
         }
-        Err(_) => {
-            let _none_kept = work.take_manifolds(alloc);
-            Err(StepError::OutOfMemory)
-        }
+        Err(error) => Err(error),
     }
 }
 
