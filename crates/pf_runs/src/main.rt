@@ -1,8 +1,14 @@
 //! Runs many texts. They stand on standard input, separated by a line that no text has; for each,
 //! the program prints its replies, the line that reports its error, if it has one, and `status N`.
 //! It runs each text on one thread, and then with contact points by several where there are many,
-//! and ends where these differ. A text `frame DIGITS` is printed as a frame. The stored run has
-//! what an independent program prints for the same texts.
+//! and ends where these differ. A text `frame DIGITS` is printed as a frame.
+//!
+//! A text behind the line `cuts` is run cut off after every byte, on one thread: for length 0, and
+//! for each length whose output differs from that of the length before, the program prints a line
+//! `cut LENGTH` and that output. `frame DIGITS` is cut off as well; what is shorter than `frame `
+//! is then a text like any other.
+//!
+//! The stored run has what an independent program prints for the same texts.
 #![tactic(auto)]
 
 ghost use Rattle.std.specs.Prelude.{◌+◌, ◌<◌, length, IfSome};
@@ -21,6 +27,9 @@ const SEPARATOR: &[u8] = b"\n= next text =\n";
 
 /// What stands before the digits of a frame.
 const FRAME: &[u8] = b"frame ";
+
+/// What stands before a text that is run cut off after every byte.
+const CUTS: &[u8] = b"cuts\n";
 
 /// The first of several texts, and the texts behind it.
 fn split_once(texts: &[u8]) -> Option<(&[u8], &[u8])>
@@ -59,7 +68,7 @@ fn run<P: Collider>(collider: &P, alloc: Global, text: &[u8]) -> Result<Collecte
 }
 
 /// Prints the replies to a text, its error and its status, which no collider changes.
-fn print<T: Threads + Sync, W: Write>(
+fn print_run<T: Threads + Sync, W: Write>(
     rt: &T,
     alloc: Global,
     text: &[u8],
@@ -72,6 +81,34 @@ fn print<T: Threads + Sync, W: Write>(
     }
     writer.write_all(by_one.bytes())?;
     Ok(())
+}
+
+/// Prints what a text gives cut off after every byte, for each length that changes it.
+fn print_cuts<W: Write>(alloc: Global, text: &[u8], writer: &mut W) -> Result<()> {
+    let mut last = Collected::new(alloc);
+    for length in 0..=text.len() {
+        let output = run(&OneThread, alloc, &text[..length])?;
+        // The output of a text is never empty, so that of length 0 is printed.
+        if output.bytes() != last.bytes() {
+            writeln!(writer, "cut {length}")?;
+            writer.write_all(output.bytes())?;
+        }
+        last = output;
+    }
+    Ok(())
+}
+
+/// Prints what a text gives, in the way that its first line asks for.
+fn print<T: Threads + Sync, W: Write>(
+    rt: &T,
+    alloc: Global,
+    text: &[u8],
+    writer: &mut W,
+) -> Result<()> {
+    if let Some(text) = text.strip_prefix(CUTS) {
+        return print_cuts(alloc, text, writer);
+    }
+    print_run(rt, alloc, text, writer)
 }
 
 fn main(rt: HostRuntime) -> Result<()> {
