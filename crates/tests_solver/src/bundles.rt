@@ -134,7 +134,7 @@ fn limits_fall_with_long_arms(rt: HostRuntime) {
         ((1 << 29) - 1, Some((1 << 23, 1 << 23))),
         (1 << 29, None),
     ] {
-        assert_eq!(rt; limits(length), expected, "at {length}");
+        assert!(rt; limits(length) == expected, "at {length}");
     }
 }
 
@@ -142,34 +142,37 @@ fn limits_fall_with_long_arms(rt: HostRuntime) {
 fn a_bundle_holds_the_rows_of_a_level(rt: HostRuntime) {
     let rows = [lane(Fx::ONE, Fx::ONE), lane(Fx::ONE, Fx::TICK)];
     let bundle = Bundle::of(&[1, 0], &[ground(8), ground(9)], &rows);
-    assert_eq!(rt;
-        raw(bundle.prepared().constraint().bias),
-        [1 << 18, 1 << 24, 0, 0]
-    );
-    let [a, b, c, d] = bundle.seats();
-    assert_eq!(rt;
-        [a.place(), b.place(), c.place(), d.place()],
-        [Some(1), Some(0), None, None]
-    );
+    assert!(rt; raw(bundle.prepared().constraint().bias) == [1 << 18, 1 << 24, 0, 0]);
+    let places = bundle.seats().map(|seat| seat.place());
+    assert!(rt; places == [Some(1), Some(0), None, None]);
 }
 
-#[test]
-fn numbers_come_back(rt: HostRuntime) {
+/// Whether a velocity and a spin come back, and great ones have no place in a lane.
+fn are_velocities_held() -> bool {
     let velocity = V2 {
         x: Fx::TICK,
         y: Fx::ONE,
     };
     let whole = WholeVelocity::of(velocity, Fx::TICK, NUMBER_LIMIT);
-    assert!(rt; whole.is_some_and(|v| v.velocity() == velocity && v.spin() == Fx::TICK));
-    assert!(rt; WholeVelocity::of(velocity, Fx::TICK, 1 << 23).is_none());
-    assert!(rt; WholeVelocity::of(velocity, Fx::MAX, NUMBER_LIMIT).is_none());
+    whole.is_some_and(|v| v.velocity() == velocity && v.spin() == Fx::TICK)
+        && WholeVelocity::of(velocity, Fx::TICK, 1 << 23).is_none()
+        && WholeVelocity::of(velocity, Fx::MAX, NUMBER_LIMIT).is_none()
+}
+
+/// Whether impulses come back, and great ones have no place in a lane.
+fn are_impulses_held() -> bool {
     let impulses = Impulses {
         normal: Fx::ONE,
         tangent: Fx::TICK,
     };
     let whole = WholeImpulses::of(&impulses, NUMBER_LIMIT);
-    assert!(rt; whole.is_some_and(|p| p.impulses() == impulses));
-    assert!(rt; WholeImpulses::of(&impulses, 1 << 23).is_none());
+    whole.is_some_and(|p| p.impulses() == impulses)
+        && WholeImpulses::of(&impulses, 1 << 23).is_none()
+}
+
+#[test]
+fn numbers_come_back(rt: HostRuntime) {
+    assert!(rt; are_velocities_held() && are_impulses_held());
 }
 
 /// Numbers of one body and one row.
@@ -188,6 +191,21 @@ fn has_spin(state: &SeatState, spin: i64) -> bool {
     state.first.spin().raw() == 0 && state.second.spin().raw() == spin
 }
 
+/// Whether the numbers of one row are read, stored and cleared.
+fn are_stored(numbers: &mut Numbers, state: SeatState) -> bool
+    requires velocities { length numbers.old.velocities ≡ 1 }
+    requires impulses { length numbers.old.impulses ≡ 1 }
+{
+    let (seat, free) = (LaneSeat::of(0, &ground(0)), LaneSeat::none());
+    let is_read = has_spin(&numbers.read(&seat), Fx::TICK.raw());
+    numbers.store(&[seat, free, free, free], &[state; 4]);
+    let is_stored = has_spin(&numbers.read(&seat), Fx::TICK.raw());
+    let is_free = has_spin(&numbers.read(&free), 0);
+    numbers.clear();
+    let is_empty = numbers.velocities().is_empty() && numbers.impulses().is_empty();
+    is_read && is_stored && is_free && is_empty
+}
+
 #[test]
 fn numbers_of_lanes_are_read_and_stored(rt: HostRuntime) -> Result<(), Fail> {
     let turning = WholeVelocity::of(V2::ZERO, Fx::TICK, NUMBER_LIMIT).unwrap_or(
@@ -199,14 +217,7 @@ fn numbers_of_lanes_are_read_and_stored(rt: HostRuntime) -> Result<(), Fail> {
         impulses: WholeImpulses::none(),
     };
     let mut numbers = numbers_of_one(rt.alloc(), &state)?;
-    let (seat, free) = (LaneSeat::of(0, &ground(0)), LaneSeat::none());
-    assert!(rt; has_spin(&numbers.read(&seat), Fx::TICK.raw()));
-    numbers.store(&[seat, free, free, free], &[state; 4]);
-    assert!(rt;
-        has_spin(&numbers.read(&seat), Fx::TICK.raw()) && has_spin(&numbers.read(&free), 0)
-    );
-    numbers.clear();
-    assert!(rt; numbers.velocities().is_empty() && numbers.impulses().is_empty());
+    assert!(rt; are_stored(&mut numbers, state));
     Ok(())
 }
 
@@ -237,18 +248,32 @@ fn have(bundles: &[Bundle], counts: &[usize]) -> bool {
             .all(|(bundle, count)| taken(bundle) == *count)
 }
 
+/// Whether each level of five rows has a bundle.
+fn are_loaded(levels: &mut Levels, bundles: &mut Vec<Bundle>) -> Result<bool, AllocError> {
+    let pairs = [ground(0), ground(1), ground(2), ground(3), ground(4)];
+    levels.update(&pairs, 5)?;
+    if !are_below(levels.levels(), 5) {
+        return Ok(false);
+    }
+    let rows = [lane(Fx::ONE, Fx::ONE); 5];
+    load_bundles(bundles, levels.levels(), &pairs, &rows)?;
+    Ok(have(bundles, &[4, 1]))
+}
+
 #[test]
 fn each_level_has_a_bundle(rt: HostRuntime) -> Result<(), Fail> {
-    let pairs = [ground(0), ground(1), ground(2), ground(3), ground(4)];
-    let rows = [lane(Fx::ONE, Fx::ONE); 5];
     let mut levels = Levels::new(rt.alloc());
-    levels.update(&pairs, 5)?;
-    let levels = levels.levels();
-    assert!(rt; are_below(levels, 5));
     let mut bundles = Vec::new(rt.alloc());
-    load_bundles(&mut bundles, levels, &pairs, &rows)?;
-    assert!(rt; have(&bundles, &[4, 1]));
-    load_bundles(&mut bundles, &[], &pairs, &rows)?;
-    assert!(rt; have(&bundles, &[]));
+    let is_so = are_loaded(&mut levels, &mut bundles)?;
+    assert!(rt; is_so);
+    Ok(())
+}
+
+#[test]
+fn no_levels_have_no_bundles(rt: HostRuntime) -> Result<(), Fail> {
+    let mut bundles = Vec::new(rt.alloc());
+    bundles.push(Bundle::of(&[], &[], &[]))?;
+    load_bundles(&mut bundles, &[], &[], &[])?;
+    assert!(rt; bundles.is_empty());
     Ok(())
 }

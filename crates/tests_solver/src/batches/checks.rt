@@ -3,10 +3,10 @@
 
 ghost use Rattle.std.specs.Prelude.{◌≤◌};
 
-use crate::numbers::{NUMBERS, SCALARS};
-use crate::rows::{ARMS, GENERAL_PATHS, PUSHES, ROWS};
-use crate::steps::{FRICTION_STEPS, NORMAL_STEPS, WARM_STARTS};
-use crate::tests::compare;
+use crate::batches::compare;
+use crate::batches::numbers::{NUMBERS, SCALARS};
+use crate::batches::rows::{ARMS, GENERAL_PATHS, PUSHES, ROWS};
+use crate::batches::steps::{FRICTION_STEPS, NORMAL_STEPS, WARM_STARTS};
 use pf_commands::Payload;
 use pf_num::Fx;
 use std::alloc::{AllocError, Global};
@@ -136,63 +136,32 @@ fn many_circles(alloc: Global) -> Result<Vec<u8>, AllocError> {
     Ok(text)
 }
 
-#[test]
-fn rows_are_checked(rt: HostRuntime) -> Result<(), Fail> {
-    assert_eq!(rt; first_other(rt.alloc(), &ROWS)?, None);
-    Ok(())
-}
+/// What is checked, and the cases of each.
+const TABLES: [(&str, &[Case]); 9] = [
+    ("a row", &ROWS),
+    ("spins of arms", &ARMS),
+    ("great impulses", &PUSHES),
+    ("a number", &NUMBERS),
+    ("what scalars leave", &SCALARS),
+    ("a warm start", &WARM_STARTS),
+    ("a step of a normal", &NORMAL_STEPS),
+    ("a step of friction", &FRICTION_STEPS),
+    ("the general path of scalars", &GENERAL_PATHS),
+];
 
 #[test]
-fn arms_limit_spins(rt: HostRuntime) -> Result<(), Fail> {
-    assert_eq!(rt; first_other(rt.alloc(), &ARMS)?, None);
-    Ok(())
-}
-
-#[test]
-fn great_impulses_are_tested(rt: HostRuntime) -> Result<(), Fail> {
-    assert_eq!(rt; first_other(rt.alloc(), &PUSHES)?, None);
-    Ok(())
-}
-
-#[test]
-fn numbers_are_checked(rt: HostRuntime) -> Result<(), Fail> {
-    assert_eq!(rt; first_other(rt.alloc(), &NUMBERS)?, None);
-    Ok(())
-}
-
-#[test]
-fn what_scalars_leave_is_checked(rt: HostRuntime) -> Result<(), Fail> {
-    assert_eq!(rt; first_other(rt.alloc(), &SCALARS)?, None);
-    Ok(())
-}
-
-#[test]
-fn warm_starts_are_checked(rt: HostRuntime) -> Result<(), Fail> {
-    assert_eq!(rt; first_other(rt.alloc(), &WARM_STARTS)?, None);
-    Ok(())
-}
-
-#[test]
-fn steps_of_normals_are_checked(rt: HostRuntime) -> Result<(), Fail> {
-    assert_eq!(rt; first_other(rt.alloc(), &NORMAL_STEPS)?, None);
-    Ok(())
-}
-
-#[test]
-fn steps_of_friction_are_checked(rt: HostRuntime) -> Result<(), Fail> {
-    assert_eq!(rt; first_other(rt.alloc(), &FRICTION_STEPS)?, None);
-    Ok(())
-}
-
-#[test]
-fn scalars_take_the_general_path(rt: HostRuntime) -> Result<(), Fail> {
-    assert_eq!(rt; first_other(rt.alloc(), &GENERAL_PATHS)?, None);
+fn limits_of_lanes_are_checked(rt: HostRuntime) -> Result<(), Fail> {
+    for (what, cases) in TABLES {
+        let other = first_other(rt.alloc(), cases)?;
+        assert!(rt; other.is_none(), "{what}: {other:?}");
+    }
     Ok(())
 }
 
 #[test]
 fn steps_of_levels_are_counted(rt: HostRuntime) -> Result<(), Fail> {
     let text = many_circles(rt.alloc())?;
-    assert_eq!(rt; compare(rt.alloc(), &text, &[], 1)?, [true, false, false]);
+    let found = compare(rt.alloc(), &text, &[], 1)?;
+    assert!(rt; found == [true, false, false]);
     Ok(())
 }

@@ -1,6 +1,6 @@
 //! Velocities, spins and accumulated impulses that no lane holds.
 
-use crate::checks::{ALONE, Case};
+use crate::batches::checks::{ALONE, Case};
 
 /// Numbers that are not loaded: all islands are solved alone.
 pub(crate) const NUMBERS: [Case; 5] = [

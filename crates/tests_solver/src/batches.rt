@@ -1,5 +1,10 @@
 //! Islands solved together, against each of them alone: ticks of the same world by two crews.
 
+mod checks;
+mod numbers;
+mod rows;
+mod steps;
+
 ghost use Rattle.std.specs.Prelude.{◌≡◌, All, IfOk, length, map};
 ghost use Rattle.pf_islands.specs.Split.{IsIslandOf};
 ghost use Rattle.pf_solver.specs.Alone.{island_after_tick};
@@ -157,7 +162,7 @@ pub(crate) fn compare(
 fn stacks_are_solved_in_lanes(rt: HostRuntime) -> Result<(), Fail> {
     for ticks in 1..5 {
         let found = compare(rt.alloc(), STACKS, &[], ticks)?;
-        assert_eq!(rt; found, [true, true, false], "after {ticks} ticks");
+        assert!(rt; found == [true, true, false], "after {ticks} ticks");
     }
     Ok(())
 }
@@ -166,7 +171,7 @@ fn stacks_are_solved_in_lanes(rt: HostRuntime) -> Result<(), Fail> {
 fn rounds_of_a_pyramid_overlap(rt: HostRuntime) -> Result<(), Fail> {
     for ticks in 2..5 {
         let found = compare(rt.alloc(), PYRAMID, &[], ticks)?;
-        assert_eq!(rt; found, [true, true, true], "after {ticks} ticks");
+        assert!(rt; found == [true, true, true], "after {ticks} ticks");
     }
     Ok(())
 }
@@ -198,7 +203,7 @@ fn fast_bodies_are_solved_by_scalars(rt: HostRuntime) -> Result<(), Fail> {
             y: impulse(y),
         };
         let found = compare(rt.alloc(), STACKS, &[push], 1)?;
-        assert_eq!(rt; found, [true, in_lanes, false], "a push by {x} {y}");
+        assert!(rt; found == [true, in_lanes, false], "a push by {x} {y}");
     }
     Ok(())
 }
@@ -206,6 +211,6 @@ fn fast_bodies_are_solved_by_scalars(rt: HostRuntime) -> Result<(), Fail> {
 #[test]
 fn one_contact_is_solved_alone(rt: HostRuntime) -> Result<(), Fail> {
     let found = compare(rt.alloc(), CIRCLE, &[], 3)?;
-    assert_eq!(rt; found, [true, false, false]);
+    assert!(rt; found == [true, false, false]);
     Ok(())
 }

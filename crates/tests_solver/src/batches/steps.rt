@@ -1,6 +1,6 @@
 //! Steps that lanes leave to scalars.
 
-use crate::checks::{Case, IN_LANES};
+use crate::batches::checks::{Case, IN_LANES};
 
 /// Warm starts that are left to scalars.
 pub(crate) const WARM_STARTS: [Case; 8] = [

@@ -1,7 +1,7 @@
 //! Numbers of rows: those that no lane holds, those that limit spins and impulses, and those for
 //! which scalars take their general path.
 
-use crate::checks::{ALONE, Case, IN_LANES};
+use crate::batches::checks::{ALONE, Case, IN_LANES};
 
 /// Rows that no lane holds: all islands are solved alone.
 pub(crate) const ROWS: [Case; 6] = [
