@@ -1,10 +1,13 @@
 //! Pairs of bodies that may touch, their contact points, and the cells in which bodies lie, by
 //! hand. The side of a cell is 67108864.
 
+ghost use Rattle.std.specs.Prelude.{IfOk};
+ghost use Rattle.pf_manifold.specs.Key.{AreTouches};
+
 use crate::scenes::scene_of;
 use pf_broad::{CELL_SIDE, Cell, Grid, MAX_CELLS, pairs};
 use pf_manifold::{Manifold, Touch, collide_list, replace_points};
-use pf_shapes::Pair;
+use pf_shapes::{Pair, Scene};
 use std::alloc::Global;
 use std::test::Fail;
 
@@ -119,14 +122,15 @@ const CASES: [Case; 7] = [
 ];
 
 /// The pairs of a scene's bodies at their starts, and their contact points.
-fn found(alloc: Global, text: &[u8]) -> Result<(Vec<Pair>, Vec<Touch>), Fail> {
-    let scene = scene_of(alloc, text)?;
+pub(crate) fn found(alloc: Global, scene: &Scene) -> Result<(Vec<Pair>, Vec<Touch>), Fail>
+    ensures { IfOk result (λ found. AreTouches found.1.items) }
+{
     let starts = scene.starts();
     if scene.fixtures().len() != starts.len() {
         return Err(Fail::from("each body has a start"));
     }
-    let pairs = pairs(alloc, &scene, starts)?;
-    let touches = collide_list(alloc, &scene, starts, &pairs)?;
+    let pairs = pairs(alloc, scene, starts)?;
+    let touches = collide_list(alloc, scene, starts, &pairs)?;
     Ok((pairs, touches))
 }
 
@@ -148,14 +152,19 @@ fn are_of(pairs: &[Pair], numbers: &[(usize, usize)]) -> bool {
         .eq(numbers.iter().copied())
 }
 
+/// Whether a scene's bodies have these pairs and contact points.
+fn has_found(alloc: Global, case: &Case) -> Result<bool, Fail> {
+    let (text, numbers, keys) = *case;
+    let scene = scene_of(alloc, text)?;
+    let (pairs, touches) = found(alloc, &scene)?;
+    Ok(are_of(&pairs, numbers) && are_at(&touches, keys))
+}
+
 #[test]
 fn pairs_and_points_are_found(rt: HostRuntime) -> Result<(), Fail> {
-    for (text, numbers, keys) in CASES {
-        let (pairs, touches) = found(rt.alloc(), text)?;
-        assert!(rt;
-            are_of(&pairs, numbers) && are_at(&touches, keys),
-            "{numbers:?}"
-        );
+    for case in CASES {
+        let has_found = has_found(rt.alloc(), &case)?;
+        assert!(rt; has_found, "{:?}", case.1);
     }
     Ok(())
 }
@@ -174,15 +183,10 @@ fn are_exchanged(touches: &mut [Touch]) -> bool {
 
 #[test]
 fn points_are_written_over_others(rt: HostRuntime) -> Result<(), Fail> {
-    let (_, mut touches) = found(rt.alloc(), TOUCHING)?;
+    let scene = scene_of(rt.alloc(), TOUCHING)?;
+    let (_, mut touches) = found(rt.alloc(), &scene)?;
     assert!(rt; are_exchanged(&mut touches));
     Ok(())
-}
-
-/// The cells of a scene's bodies at their starts.
-fn grid_of(alloc: Global, text: &[u8]) -> Result<Grid, Fail> {
-    let scene = scene_of(alloc, text)?;
-    Ok(Grid::of(alloc, &scene, scene.starts())?)
 }
 
 /// Whether a cell has these bodies.
@@ -202,10 +206,17 @@ fn are_cells_of_borders(grid: &Grid) -> bool {
 }
 
 #[test]
-fn cells_have_the_bodies_that_lie_in_them(rt: HostRuntime) -> Result<(), Fail> {
-    assert!(rt; CELL_SIDE == 67_108_864 && MAX_CELLS == 16);
-    let wide = grid_of(rt.alloc(), WIDE)?;
-    let borders = grid_of(rt.alloc(), BORDERS)?;
-    assert!(rt; are_cells_of_wide(&wide) && are_cells_of_borders(&borders));
+fn wide_bodies_are_in_no_cell(rt: HostRuntime) -> Result<(), Fail> {
+    let scene = scene_of(rt.alloc(), WIDE)?;
+    let grid = Grid::of(rt.alloc(), &scene, scene.starts())?;
+    assert!(rt; are_cells_of_wide(&grid));
+    Ok(())
+}
+
+#[test]
+fn bodies_on_borders_are_in_both_cells(rt: HostRuntime) -> Result<(), Fail> {
+    let scene = scene_of(rt.alloc(), BORDERS)?;
+    let grid = Grid::of(rt.alloc(), &scene, scene.starts())?;
+    assert!(rt; are_cells_of_borders(&grid) && CELL_SIDE == 67_108_864 && MAX_CELLS == 16);
     Ok(())
 }

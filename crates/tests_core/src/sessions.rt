@@ -83,16 +83,18 @@ fn ticks_for_world(session: &Session, alloc: Global, tick: u32) -> Result<u64, F
     Ok(work.meter().ticks)
 }
 
+/// Settles tick 4, and returns how many ticks are then simulated for the world at tick 2.
+fn ticks_after_settle(session: &mut Session, alloc: Global) -> Result<u64, Fail> {
+    answer_first(session, alloc, Event::Advance { peer: 0, ticks: 4 })?;
+    answer_first(session, alloc, Event::Settle { peer: 0 })?;
+    ticks_for_world(session, alloc, 2)
+}
+
 #[test]
 fn a_settle_keeps_worlds(rt: HostRuntime) -> Result<(), Fail> {
-    let mut session = Session::new(rt.alloc(), scene_of(rt.alloc(), SCENE)?, 1)?;
-    answer_first(
-        &mut session,
-        rt.alloc(),
-        Event::Advance { peer: 0, ticks: 4 },
-    )?;
-    answer_first(&mut session, rt.alloc(), Event::Settle { peer: 0 })?;
-    assert_eq!(rt; settled_of_first(&session), 4);
-    assert_eq!(rt; ticks_for_world(&session, rt.alloc(), 2)?, 0);
+    let scene = scene_of(rt.alloc(), SCENE)?;
+    let mut session = Session::new(rt.alloc(), scene, 1)?;
+    let ticks = ticks_after_settle(&mut session, rt.alloc())?;
+    assert!(rt; ticks == 0 && settled_of_first(&session) == 4);
     Ok(())
 }

@@ -2,10 +2,7 @@
 
 use pf_num::Fx;
 use pf_rot::{Rot, V2};
-use pf_shapes::{
-    BodyState, Bounds, Fixture, MAX_BODIES, Progress, ReadError, Scene, SceneFault, SceneReader,
-    Shape,
-};
+use pf_shapes::{BodyState, Bounds, Fixture, ReadError, Scene, SceneFault, SceneReader, Shape};
 use pf_text::TakeError;
 use std::alloc::{AllocError, Global};
 use std::test::Fail;
@@ -102,59 +99,31 @@ fn a_scene_is_built(rt: HostRuntime) -> Result<(), Fail> {
     Ok(())
 }
 
+/// Whether a copy of a scene is the scene.
+fn is_copied(scene: &Scene) -> Result<bool, AllocError> {
+    let copy = scene.try_clone()?;
+    Ok(&copy == scene)
+}
+
+/// Whether the scenes of two texts differ.
+fn differ(alloc: Global, text: &[u8], other: &[u8]) -> Result<bool, ReadError> {
+    let scene = scene_of(alloc, text)?;
+    let other = scene_of(alloc, other)?;
+    Ok(scene != other)
+}
+
 #[test]
 fn copies_are_equal(rt: HostRuntime) -> Result<(), Fail> {
     let scene = scene_of(rt.alloc(), LEANING)?;
-    let copy = scene.try_clone()?;
-    let other = scene_of(rt.alloc(), SCENE)?;
-    assert!(rt; copy == scene && other != scene);
-    Ok(())
-}
-
-/// A text of so many circles, and a last line.
-fn crowd(alloc: Global, count: usize, last: &[u8]) -> Result<Vec<u8>, AllocError> {
-    let mut text = Vec::from_slice(alloc, b"gravity 0 0\n")?;
-    for _ in 0..count {
-        text.extend_from_slice(b"circle - 0 0 1048576 0 0\n")?;
-    }
-    text.extend_from_slice(last)?;
-    Ok(text)
-}
-
-#[test]
-fn a_scene_has_up_to_1024_bodies(rt: HostRuntime) -> Result<(), Fail> {
-    let text = crowd(rt.alloc(), MAX_BODIES, b"end\n")?;
-    let scene = scene_of(rt.alloc(), &text)?;
-    let copy = scene.try_clone()?;
-    assert!(rt; scene.len() == MAX_BODIES && copy == scene);
+    let is_copied = is_copied(&scene)?;
+    assert!(rt; is_copied);
     Ok(())
 }
 
 #[test]
-fn a_scene_has_no_more_bodies(rt: HostRuntime) -> Result<(), Fail> {
-    let text = crowd(rt.alloc(), MAX_BODIES, b"box - 0 0 1 1 0 0 0 0\n")?;
-    match scene_of(rt.alloc(), &text) {
-        Ok(_) => Err(Fail::from("a scene is read")),
-        Err(ReadError::Line(1026, SceneFault::TooMany)) => Ok(()),
-        Err(error) => Err(Fail::from(error)),
-    }
-}
-
-/// Why a reader of no bodies refuses a circle with fields that are no numbers.
-fn refused(alloc: Global) -> Result<Option<TakeError<SceneFault>>, TakeError<SceneFault>> {
-    let fields = [b"gravity".as_slice(), b"0".as_slice(), b"0".as_slice()];
-    let Progress::More(reader) = SceneReader::new(0).take(alloc, &fields)? else {
-        return Ok(None);
-    };
-    let x = b"x".as_slice();
-    let circle = [b"circle".as_slice(), x, x, x, x, x, x];
-    Ok(reader.take(alloc, &circle).err())
-}
-
-#[test]
-fn no_more_bodies_are_refused_before_their_fields(rt: HostRuntime) -> Result<(), Fail> {
-    let found = refused(rt.alloc())?;
-    assert!(rt; found == Some(TakeError::Fault(SceneFault::TooMany)));
+fn scenes_of_other_bodies_differ(rt: HostRuntime) -> Result<(), Fail> {
+    let differ = differ(rt.alloc(), LEANING, SCENE)?;
+    assert!(rt; differ);
     Ok(())
 }
 
