@@ -1,6 +1,6 @@
 //! Readers and writers that fail, and such as keep bytes back.
 
-use crate::tests::parrot::{Driven, OUTPUT, Parrot, TEXT, driven};
+use crate::text::parrot::{Driven, OUTPUT, Parrot, TEXT, driven};
 use pf_text::{Bytes, Collected, DriveError, Input, LineFault, Output, drive};
 use std::alloc::{AllocError, Global};
 use std::io::{Error, ErrorKind, Read, Write};

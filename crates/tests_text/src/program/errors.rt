@@ -1,6 +1,6 @@
 //! Calls whose words, reader or writer fail.
 
-use crate::tests::calls::{FALLEN, FALLING, answered, ended, is_so};
+use crate::program::calls::{FALLEN, FALLING, answered, ended, is_so};
 use pf_console::ProgramError;
 use pf_program::program;
 use pf_text::{Bytes, Collected, Input, Output};
@@ -68,7 +68,7 @@ fn a_writer_that_fails_is_reported(rt: HostRuntime) -> Result<(), Fail> {
 #[test]
 fn words_without_memory_are_reported(rt: HostRuntime) -> Result<(), Fail> {
     let ended = answered(rt, rt.alloc(), Err(ProgramError::Memory), FALLING)?;
-    assert!(rt; is_so(&ended, 3, b"", b"pf_play: out of memory\n"));
+    assert!(rt; is_so(&ended, 3, ["", ""], "pf_play: out of memory\n"));
     Ok(())
 }
 
@@ -76,7 +76,7 @@ fn words_without_memory_are_reported(rt: HostRuntime) -> Result<(), Fail> {
 fn words_that_are_mistaken_are_reported(rt: HostRuntime) -> Result<(), Fail> {
     let text = String::from_str(rt.alloc(), "error: such words\n")?;
     let ended = answered(rt, rt.alloc(), Err(ProgramError::Words(text)), FALLING)?;
-    assert!(rt; is_so(&ended, 2, b"", b"error: such words\n"));
+    assert!(rt; is_so(&ended, 2, ["", ""], "error: such words\n"));
     Ok(())
 }
 

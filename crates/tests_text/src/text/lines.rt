@@ -5,7 +5,6 @@ use pf_text::{
     fields_of, integer, number, take_line, whole,
 };
 use std::alloc::{AllocError, Global};
-use std::process::Abort;
 use std::test::Fail;
 
 #[test]
@@ -77,24 +76,35 @@ fn numbers_have_one_encoding(rt: HostRuntime) {
     for (field, parsed) in table {
         assert!(rt; number(field, -100, 100) == parsed, "{field:?}");
     }
+}
+
+#[test]
+fn other_calls_read_the_same_numbers(rt: HostRuntime) {
     assert!(rt; integer(b"12", 0, 20) == Ok(12));
     assert!(rt; integer(b"21", 0, 20) == Err(LineFault::BadNumber));
     assert!(rt; whole(b"-99999999999999999999") == Some(-(1 << 56)));
 }
 
-fn lengths(rt: &impl Abort, alloc: Global, text: &[u8]) -> Result<Vec<usize>, Fail> {
+/// Notes the length of each line of a text, and 0 for one that is too long. No text here has more
+/// than eight.
+fn note_lengths(text: &[u8], found: &mut Vec<usize>) -> Result<(), Fail> {
     let mut source = Bytes::new(text);
     let mut line = LineBuffer::new();
-    let mut found = Vec::new(alloc);
     for _ in 0..9 {
         match take_line(&mut source, &mut line)? {
-            Taken::End => return Ok(found),
+            Taken::End => return Ok(()),
             Taken::TooLong => found.push(0)?,
             Taken::Line | Taken::Last => found.push(line.len())?,
         }
     }
-    assert!(rt; false, "the text has no end");
-    Ok(found)
+    Err(Fail::from("the text has no end"))
+}
+
+/// Whether the lines of a text have these lengths.
+fn have_lengths(alloc: Global, text: &[u8], expected: &[usize]) -> Result<bool, Fail> {
+    let mut found = Vec::new(alloc);
+    note_lengths(text, &mut found)?;
+    Ok(found.as_slice() == expected)
 }
 
 /// Texts, and the lengths of their lines.
@@ -103,8 +113,8 @@ const LINES: [(&[u8], &[usize]); 3] = [(b"", &[]), (b"\n", &[0]), (b"ab\r\n\0\x7
 #[test]
 fn lines_end_with_a_line_feed(rt: HostRuntime) -> Result<(), Fail> {
     for (text, expected) in LINES {
-        let found = lengths(&rt, rt.alloc(), text)?;
-        assert!(rt; found.as_slice() == expected);
+        let have_lengths = have_lengths(rt.alloc(), text, expected)?;
+        assert!(rt; have_lengths, "{text:?}");
     }
     Ok(())
 }
@@ -120,8 +130,8 @@ fn long_line(alloc: Global, length: usize, end: &[u8]) -> Result<Vec<u8>, AllocE
 fn a_line_has_up_to_4096_bytes(rt: HostRuntime) -> Result<(), Fail> {
     for end in [b"".as_slice(), b"\n".as_slice()] {
         let text = long_line(rt.alloc(), MAX_LINE, end)?;
-        let found = lengths(&rt, rt.alloc(), &text)?;
-        assert!(rt; found.as_slice() == [MAX_LINE].as_slice());
+        let have_lengths = have_lengths(rt.alloc(), &text, &[MAX_LINE])?;
+        assert!(rt; have_lengths);
     }
     Ok(())
 }
@@ -130,7 +140,7 @@ fn a_line_has_up_to_4096_bytes(rt: HostRuntime) -> Result<(), Fail> {
 fn a_line_has_no_more_bytes(rt: HostRuntime) -> Result<(), Fail> {
     let long = long_line(rt.alloc(), MAX_LINE + 9, b"")?;
     let mut line = LineBuffer::new();
-    let taken = take_line(&mut Bytes::new(&long), &mut line)?;
-    assert!(rt; taken == Taken::TooLong && line.len() == LINE_CAPACITY);
+    let taken = take_line(&mut Bytes::new(&long), &mut line);
+    assert!(rt; taken == Ok(Taken::TooLong) && line.len() == LINE_CAPACITY);
     Ok(())
 }

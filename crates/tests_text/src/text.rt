@@ -5,7 +5,7 @@ mod parrot;
 mod runs;
 mod streams;
 
-use crate::tests::parrot::Parrot;
+use crate::text::parrot::Parrot;
 use pf_text::{LineError, LineFault, ReadFailed, WriteFailed, laws};
 use std::alloc::{AllocError, Global};
 use std::test::Fail;

@@ -25,90 +25,66 @@ fn mistake(alloc: Global, words: &[&str]) -> Result<String, AllocError> {
     }
 }
 
-/// Whether words ask for a run with a crew of so many workers, or with none.
-fn is_run(alloc: Global, words: &[&str], size: Option<usize>) -> Result<bool, ProgramError> {
-    Ok(matches!(options(alloc, words)?, Request::Run { crew_size } if crew_size == size))
+/// What words ask for.
+#[derive(Clone, Copy, Debug, PartialEq, Eq)]
+enum Asked {
+    Run(Option<usize>),
+    Session(Option<usize>),
+    Frame(&'static str),
+    Help,
+    Version,
 }
 
-#[test]
-fn runs(rt: HostRuntime) -> Result<(), Fail> {
-    for (words, size) in [
-        (["pf_play", "run"].as_slice(), None),
-        (["./out/pf_play", "run", "--"].as_slice(), None),
-        (["pf_play", "run", "--crew", "1"].as_slice(), Some(1)),
-        (["pf_play", "run", "--crew=4"].as_slice(), Some(4)),
-        (["pf_play", "run", "--crew", "16"].as_slice(), Some(16)),
-    ] {
-        let is_run = is_run(rt.alloc(), words, size)?;
-        assert!(rt; is_run);
-    }
-    Ok(())
-}
+/// Words, and what they ask for.
+const REQUESTS: [(&[&str], Asked); 17] = [
+    (&["pf_play", "run"], Asked::Run(None)),
+    (&["./out/pf_play", "run", "--"], Asked::Run(None)),
+    (&["pf_play", "run", "--crew", "1"], Asked::Run(Some(1))),
+    (&["pf_play", "run", "--crew=4"], Asked::Run(Some(4))),
+    (&["pf_play", "run", "--crew", "16"], Asked::Run(Some(16))),
+    (&["pf_play", "session"], Asked::Session(None)),
+    (
+        &["pf_play", "session", "--crew", "16"],
+        Asked::Session(Some(16)),
+    ),
+    (&["pf_play", "frame", "01ff"], Asked::Frame("01ff")),
+    (&["pf_play", "frame", ""], Asked::Frame("")),
+    (
+        &["pf_play", "frame", "no digits"],
+        Asked::Frame("no digits"),
+    ),
+    (&["pf_play", "--version"], Asked::Version),
+    (&["pf_play", "-V"], Asked::Version),
+    (&["pf_play", "--help"], Asked::Help),
+    (&["pf_play", "-h"], Asked::Help),
+    (&["pf_play", "run", "--help"], Asked::Help),
+    (&["pf_play", "frame", "-h"], Asked::Help),
+    (&["pf_play", "-h", "-V"], Asked::Help),
+];
 
-/// Whether words ask for a session with crews of so many workers, or with none.
-fn is_session(alloc: Global, words: &[&str], size: Option<usize>) -> Result<bool, ProgramError> {
-    Ok(matches!(options(alloc, words)?, Request::Session { crew_size } if crew_size == size))
-}
-
-#[test]
-fn sessions(rt: HostRuntime) -> Result<(), Fail> {
-    for (words, size) in [
-        (["pf_play", "session"].as_slice(), None),
-        (["pf_play", "session", "--crew", "16"].as_slice(), Some(16)),
-    ] {
-        let is_session = is_session(rt.alloc(), words, size)?;
-        assert!(rt; is_session);
-    }
-    Ok(())
-}
-
-/// Whether words ask for the frame of these digits.
-fn is_frame(alloc: Global, words: &[&str], digits: &str) -> Result<bool, ProgramError> {
-    Ok(matches!(options(alloc, words)?, Request::Frame(found) if found == digits))
-}
-
-#[test]
-fn takes_the_digits_of_a_frame(rt: HostRuntime) -> Result<(), Fail> {
-    for digits in ["01ff", "", "no digits"] {
-        let is_frame = is_frame(rt.alloc(), &["pf_play", "frame", digits], digits)?;
-        assert!(rt; is_frame, "{digits}");
-    }
-    Ok(())
-}
-
-/// Whether words ask for the version.
-fn is_version(alloc: Global, words: &[&str]) -> Result<bool, ProgramError> {
-    Ok(matches!(options(alloc, words)?, Request::Version))
-}
-
-/// Whether words ask for a help.
-fn is_help(alloc: Global, words: &[&str]) -> Result<bool, ProgramError> {
-    Ok(match options(alloc, words)? {
-        Request::Help(text) => text.contains("Usage: pf_play"),
+/// Whether a request is this one.
+fn is(request: &Request, asked: Asked) -> bool {
+    match (request, asked) {
+        (Request::Run { crew_size }, Asked::Run(size)) => *crew_size == size,
+        (Request::Session { crew_size }, Asked::Session(size)) => *crew_size == size,
+        (Request::Frame(digits), Asked::Frame(expected)) => *digits == expected,
+        (Request::Help(text), Asked::Help) => text.contains("Usage: pf_play"),
+        (Request::Version, Asked::Version) => true,
         _ => false,
-    })
-}
-
-#[test]
-fn tells_the_version(rt: HostRuntime) -> Result<(), Fail> {
-    for word in ["--version", "-V"] {
-        let is_version = is_version(rt.alloc(), &["pf_play", word])?;
-        assert!(rt; is_version, "{word}");
     }
-    Ok(())
+}
+
+/// Whether words ask for this.
+fn ask_for(alloc: Global, words: &[&str], asked: Asked) -> Result<bool, ProgramError> {
+    let request = options(alloc, words)?;
+    Ok(is(&request, asked))
 }
 
 #[test]
-fn tells_help_from_version(rt: HostRuntime) -> Result<(), Fail> {
-    for words in [
-        ["pf_play", "--help"].as_slice(),
-        ["pf_play", "-h"].as_slice(),
-        ["pf_play", "run", "--help"].as_slice(),
-        ["pf_play", "frame", "-h"].as_slice(),
-        ["pf_play", "-h", "-V"].as_slice(),
-    ] {
-        let is_help = is_help(rt.alloc(), words)?;
-        assert!(rt; is_help);
+fn words_ask_for_what_they_say(rt: HostRuntime) -> Result<(), Fail> {
+    for (words, asked) in REQUESTS {
+        let is_asked = ask_for(rt.alloc(), words, asked)?;
+        assert!(rt; is_asked, "{words:?}");
     }
     Ok(())
 }
@@ -237,31 +213,37 @@ fn all_words_are_read_in_order(rt: HostRuntime) -> Result<(), Fail> {
     Ok(())
 }
 
+/// Adds words of 50 bytes, 100 bytes and so on, up to 4,950.
+fn add_long_words<'a>(words: &mut Vec<&'a [u8]>, long: &'a [u8]) -> Result<(), AllocError> {
+    for length in 1..100usize {
+        if let Some(word) = long.get(..50 * length) {
+            words.push(word)?;
+        }
+    }
+    Ok(())
+}
+
 #[test]
 fn long_words_are_read_whole(rt: HostRuntime) -> Result<(), Fail> {
     let long = vec![in rt.alloc(); b'0'; 5000]?;
     let mut words = Vec::new(rt.alloc());
-    for length in 1..100 {
-        words.push(&long[..50 * length])?;
-    }
+    add_long_words(&mut words, &long)?;
     let found = words_of(&(Call { words: &words }, rt.alloc()))?;
-    assert!(rt; are(&found, &words));
+    assert!(rt; words.len() == 99 && are(&found, &words));
     Ok(())
 }
+
+/// What is reported of words that are no text.
+const NO_TEXT: &str = "error: invalid UTF-8 was detected in one or more arguments\n\n\
+    Usage: pf_play <COMMAND>\n\nFor more information, try '--help'.\n";
 
 #[test]
 fn words_that_are_no_text_are_a_mistake(rt: HostRuntime) -> Result<(), Fail> {
     let words = [b"pf_play".as_slice(), b"run", b"\xff"];
     match words_of(&(Call { words: &words }, rt.alloc())) {
-        Err(ProgramError::Words(text)) => assert_eq!(rt;
-            text.as_str(),
-            "error: invalid UTF-8 was detected in one or more arguments\n\n\
-Usage: pf_play <COMMAND>\n\nFor more information, try '--help'.\n"
-        ),
-        other => {
-            assert!(rt; matches!(other, Err(ProgramError::Memory)));
-            return Err(AllocError)?;
-        }
+        Err(ProgramError::Words(text)) => assert!(rt; text.as_str() == NO_TEXT),
+        Err(ProgramError::Memory) => return Err(AllocError)?,
+        _ => return Err(Fail::from("words that are no text are read")),
     }
     Ok(())
 }

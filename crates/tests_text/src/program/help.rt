@@ -1,11 +1,12 @@
 //! The texts of the help.
 
-use crate::tests::calls::{FALLING, ended, is_so};
+use crate::program::calls::{FALLING, ended, is_so};
+use crate::program::table::{Case, FRAMES};
 use std::alloc::{AllocError, Global};
 use std::test::Fail;
 
 /// The help of runs, below the options.
-const RUN_TEXT: &str = "\
+pub(crate) const RUN_TEXT: &str = "\
 Standard input holds a scene, a line `peers N` with N from 1 to 8, and then events, a line
 each. P and Q are the numbers of peers, from 0:
 
@@ -45,7 +46,7 @@ that it has accumulated along its normal and its tangent. Here the answers are:
   end
 ";
 
-const HELP: &str = "\
+pub(crate) const HELP: &str = "\
 An exact 2D physics core for rollback games
 
 Usage: pf_play <COMMAND>
@@ -61,7 +62,7 @@ Options:
 
 ";
 
-const RUN_HELP: &str = "\
+pub(crate) const RUN_HELP: &str = "\
 Answers a text on standard input, line by line
 
 Usage: pf_play run [--crew N] < FILE
@@ -92,38 +93,42 @@ number of its command, and what it does:
   tick 0 player 0 number 3 place 0 16777216 0
 ";
 
-#[test]
-fn texts_that_are_asked_for_are_written(rt: HostRuntime) -> Result<(), Fail> {
-    for (words, head, tail) in [
-        (["pf_play", "--version"].as_slice(), "pf_play 0.1.0\n", ""),
-        (["pf_play", "--help"].as_slice(), HELP, RUN_TEXT),
-        (["pf_play", "run", "--help"].as_slice(), RUN_HELP, RUN_TEXT),
-        (["pf_play", "frame", "--help"].as_slice(), FRAME_HELP, ""),
-    ] {
-        let ended = ended(rt, rt.alloc(), words, FALLING)?;
-        let expected = format!(in rt.alloc(); "{head}{tail}")?;
-        assert!(rt; is_so(&ended, 0, expected.as_str().as_bytes(), b""));
-    }
-    Ok(())
-}
-
-/// The lines of the help that are set in by two spaces, between these two texts.
-fn set_in(alloc: Global, after: &str, before: &str) -> Result<String, AllocError> {
+/// Adds the lines of the run's help that are set in by two spaces, between these two texts.
+fn add_set_in(text: &mut String, after: &str, before: &str) -> Result<(), AllocError> {
     let (_, rest) = RUN_TEXT.split_once(after).unwrap_or(("", ""));
     let (shown, _) = rest.split_once(before).unwrap_or((rest, ""));
-    let mut text = String::new(alloc);
     for line in shown.lines() {
         text.push_str(line.trim_start())?;
         text.push('\n')?;
     }
-    Ok(text)
+    Ok(())
+}
+
+/// The scene of the help, and its answer.
+fn example(alloc: Global) -> Result<[String; 2], AllocError> {
+    let mut scene = String::new(alloc);
+    add_set_in(&mut scene, "gravity 10:\n\n", "\n\nand run it")?;
+    let mut answer = String::new(alloc);
+    add_set_in(&mut answer, "the answers are:\n\n", "\n\n")?;
+    Ok([scene, answer])
 }
 
 #[test]
 fn the_scene_of_the_help_has_its_answer(rt: HostRuntime) -> Result<(), Fail> {
-    let scene = set_in(rt.alloc(), "gravity 10:\n\n", "\n\nand run it")?;
-    let answer = set_in(rt.alloc(), "the answers are:\n\n", "\n\n")?;
-    let ended = ended(rt, rt.alloc(), &["pf_play", "run"], scene.as_str())?;
-    assert!(rt; scene.as_str() == FALLING && is_so(&ended, 0, answer.as_str().as_bytes(), b""));
+    let [scene, answer] = example(rt.alloc())?;
+    let ended = ended(rt, rt.alloc(), &["pf_play", "run"], FALLING)?;
+    assert!(rt; scene.as_str() == FALLING && is_so(&ended, 0, [answer.as_str(), ""], ""));
     Ok(())
+}
+
+/// Whether the lines of frames stand in the help of frames.
+fn are_shown(calls: &[Case]) -> bool {
+    calls
+        .iter()
+        .all(|call| FRAME_HELP.contains(call.output[0].trim_end()))
+}
+
+#[test]
+fn the_help_of_frames_has_their_lines(rt: HostRuntime) {
+    assert!(rt; are_shown(&FRAMES));
 }

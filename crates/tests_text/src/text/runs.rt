@@ -1,6 +1,6 @@
 //! Texts in memory: their replies, and their invalid lines.
 
-use crate::tests::parrot::{OUTPUT, Parrot, TEXT, driven, is_so};
+use crate::text::parrot::{OUTPUT, Parrot, TEXT, driven, is_so};
 use pf_text::{Collected, DriveError, LineFault, MAX_LINE, Sink};
 use std::alloc::{AllocError, Global};
 use std::test::Fail;
