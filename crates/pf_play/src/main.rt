@@ -20,6 +20,3 @@ fn main(rt: HostRuntime) -> ExitCode {
         &mut errors,
     )
 }
-
-#[cfg(test)]
-mod tests;

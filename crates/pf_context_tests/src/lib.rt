@@ -1,6 +1,0 @@
-//! Tests of `pf_context` by its public calls. They stand in a crate of their own, so that a check
-//! of `pf_context` does not prove them.
-#![tactic(auto)]
-
-#[cfg(test)]
-mod tests;

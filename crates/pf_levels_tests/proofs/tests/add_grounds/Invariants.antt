@@ -1,5 +1,0 @@
-use Rattle.pf_levels.specs.Levels.{ArePairsOf}
-use Rattle.pf_levels_tests.proofs.tests.add_grounds.Given as goal
-
-abbrev pub invariant-loop-body : goal.invariant-loop-body
-invariant-loop-body l = ArePairsOf 19 l.pairs.items

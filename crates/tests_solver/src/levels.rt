@@ -1,0 +1,177 @@
+//! Levels of a few rows, by hand.
+
+ghost use Rattle.std.specs.Prelude.{◌≡◌, ◌≤◌, IfOk};
+ghost use Rattle.pf_levels.specs.Levels.{ArePairsOf};
+
+use pf_levels::{Level, Levels, Overlap, Pair, WIDTH, laws};
+use pf_rows::Side;
+use std::alloc::AllocError;
+use std::test::Fail;
+
+/// A row of two dynamic bodies.
+fn pair(first: usize, second: usize) -> Pair
+    ensures { result ≡ record { first = Side.Dynamic first; second = Side.Dynamic second } }
+{
+    Pair {
+        first: Side::Dynamic(first),
+        second: Side::Dynamic(second),
+    }
+}
+
+/// A row of a static body and a dynamic one.
+fn ground(second: usize) -> Pair
+    ensures { result ≡ record { first = Side.Static; second = Side.Dynamic second } }
+{
+    Pair {
+        first: Side::Static,
+        second: Side::Dynamic(second),
+    }
+}
+
+/// Whether levels have rows at these places.
+fn are(levels: &[Level], expected: &[&[usize]]) -> bool {
+    levels.len() == expected.len()
+        && levels
+            .iter()
+            .zip(expected.iter())
+            .all(|(level, places)| level.places() == *places)
+}
+
+/// Finds the levels of pairs of bodies, and says whether they have rows at these places.
+fn are_found(
+    levels: &mut Levels,
+    pairs: &[Pair],
+    bodies: usize,
+    expected: &[&[usize]],
+) -> Result<bool, AllocError>
+    requires { ArePairsOf bodies pairs.now }
+{
+    levels.update(pairs, bodies)?;
+    Ok(are(levels.levels(), expected))
+}
+
+#[test]
+fn a_chain_has_a_level_for_each_row(rt: HostRuntime) -> Result<(), Fail> {
+    let pairs = [pair(0, 1), pair(1, 2), pair(2, 3)];
+    let mut levels = Levels::new(rt.alloc());
+    let is_so = are_found(&mut levels, &pairs, 4, &[&[0], &[1], &[2]])?;
+    assert!(rt; is_so);
+    Ok(())
+}
+
+/// Whether the last row of a round goes with the first of the next.
+fn are_overlapped(levels: &mut Levels, overlap: &mut Overlap) -> Result<bool, AllocError> {
+    let pairs = [pair(0, 1), pair(1, 2), pair(2, 3)];
+    levels.update(&pairs, 4)?;
+    let found = levels.levels();
+    overlap.update(&pairs, 4, found, found.len() / 3)?;
+    Ok(are(overlap.levels(), &[&[1], &[2, 0]]))
+}
+
+#[test]
+fn the_last_row_of_a_round_goes_with_the_first_of_the_next(rt: HostRuntime) -> Result<(), Fail> {
+    let mut levels = Levels::new(rt.alloc());
+    let mut overlap = Overlap::new(rt.alloc());
+    let is_so = are_overlapped(&mut levels, &mut overlap)?;
+    assert!(rt; is_so);
+    Ok(())
+}
+
+#[test]
+fn a_level_has_room_for_four_rows(rt: HostRuntime) -> Result<(), Fail> {
+    let pairs = [
+        ground(0),
+        ground(1),
+        ground(2),
+        pair(3, 4),
+        ground(5),
+        pair(0, 5),
+    ];
+    laws::named_limits();
+    let mut levels = Levels::new(rt.alloc());
+    let is_so = are_found(&mut levels, &pairs, 6, &[&[0, 1, 2, 3], &[4], &[5]])?;
+    assert!(rt; is_so && WIDTH == 4);
+    Ok(())
+}
+
+/// Adds rows of a static body and these bodies.
+fn add_grounds(pairs: &mut Vec<Pair>, first: usize, end: usize) -> Result<(), AllocError>
+    requires end { end ≤ 19 }
+    requires pairs { ArePairsOf 19 pairs.old.items }
+    ensures { IfOk result (λ done. ArePairsOf 19 pairs.new.items) }
+{
+    for body in first..end {
+        pairs.push(ground(body))?;
+    }
+    Ok(())
+}
+
+/// Whether rows go to the first level that has room for them.
+fn are_passed_over(levels: &mut Levels, pairs: &mut Vec<Pair>) -> Result<bool, AllocError>
+    requires { ArePairsOf 19 pairs.old.items }
+{
+    add_grounds(pairs, 0, 13)?;
+    pairs.push(pair(0, 13))?;
+    add_grounds(pairs, 14, 19)?;
+    let expected: [&[usize]; 5] = [
+        &[0, 1, 2, 3],
+        &[4, 5, 6, 7],
+        &[8, 9, 10, 11],
+        &[12, 13, 14, 15],
+        &[16, 17, 18],
+    ];
+    are_found(levels, pairs, 19, &expected)
+}
+
+#[test]
+fn full_levels_are_passed_over(rt: HostRuntime) -> Result<(), Fail> {
+    let mut pairs = Vec::new(rt.alloc());
+    let mut levels = Levels::new(rt.alloc());
+    let is_so = are_passed_over(&mut levels, &mut pairs)?;
+    assert!(rt; is_so);
+    Ok(())
+}
+
+/// Whether levels are those of the pairs, which change from one update to the next.
+fn are_followed(levels: &mut Levels) -> Result<bool, AllocError> {
+    let first = are_found(levels, &[ground(0), ground(1)], 3, &[&[0, 1]])?;
+    let same = are_found(levels, &[ground(0), ground(1)], 3, &[&[0, 1]])?;
+    let other = are_found(levels, &[ground(0), pair(1, 0)], 3, &[&[0], &[1]])?;
+    let more = [ground(0), pair(1, 0), ground(2)];
+    let longer = are_found(levels, &more, 3, &[&[0, 2], &[1]])?;
+    let none = are_found(levels, &[], 0, &[])?;
+    Ok(first && same && other && longer && none)
+}
+
+#[test]
+fn levels_follow_the_pairs(rt: HostRuntime) -> Result<(), Fail> {
+    let mut levels = Levels::new(rt.alloc());
+    let is_so = are_followed(&mut levels)?;
+    assert!(rt; is_so);
+    Ok(())
+}
+
+/// Whether fewer levels are found by the second update with the same pairs, and then by no other.
+fn are_fewer(levels: &mut Levels) -> Result<bool, AllocError> {
+    let pairs = [
+        ground(0),
+        ground(1),
+        ground(2),
+        ground(3),
+        pair(4, 5),
+        pair(5, 6),
+        pair(6, 7),
+    ];
+    let first = are_found(levels, &pairs, 8, &[&[0, 1, 2, 3], &[4], &[5], &[6]])?;
+    let second = are_found(levels, &pairs, 8, &[&[4, 0, 1, 2], &[5, 3], &[6]])?;
+    let third = are_found(levels, &pairs, 8, &[&[4, 0, 1, 2], &[5, 3], &[6]])?;
+    Ok(first && second && third)
+}
+
+#[test]
+fn fewer_levels_are_found_where_pairs_stay_the_same(rt: HostRuntime) -> Result<(), Fail> {
+    let mut levels = Levels::new(rt.alloc());
+    let is_so = are_fewer(&mut levels)?;
+    assert!(rt; is_so);
+    Ok(())
+}
