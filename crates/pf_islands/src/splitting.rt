@@ -290,13 +290,44 @@ fn woken_bodies(
 /// The phase Activity, and the islands of a tick, as Box2D 2.x's `b2World::Solve` makes them: an
 /// island for each group that has an awake body, in the order of their least bodies, with copies of
 /// the bodies of the group, all of them awake, and with the contacts that touch them. The bodies
-/// themselves stay as they are. The groups are those of the contact points, and the contacts are
-/// theirs. The islands are made in the memory of the spare ones, whose bodies and contacts are
-/// gone. Takes no memory where there are no bodies and no contact points.
-///
-/// `manifolds` holds the contact points, and `search` says where to look for awake bodies and
-/// simulated contacts. In most ticks no contact wakes a body: then only simulated contacts are
-/// linked. Else all contacts are linked first, to find which bodies wake.
+/// themselves stay as they are. The groups are those of the contact points that `manifolds` holds,
+/// and the contacts are theirs. The islands are made in the memory of the spare ones, whose bodies
+/// and contacts are gone.
+pub fn split(
+    alloc: Global,
+    spare: Vec<Island>,
+    scene: &Scene,
+    bodies: &[BodyState],
+    manifolds: &Manifolds,
+    contacts: &[Contact],
+) -> Result<Vec<Island>, AllocError>
+    requires bodies { length bodies.now ≡ length scene.now.fixtures }
+    requires touches { All (IsTouchOf (length bodies.now)) (kept_touches manifolds.now) }
+    requires contacts { length contacts.now ≡ length (kept_touches manifolds.now) }
+    ensures value { let touches = kept_touches manifolds.now in
+        let woken = woken_bodies (groups_of scene.now touches) bodies.now in
+        IfOk result (λ found. found.items ≡ islands (groups_of scene.now touches) woken
+        (active_rows scene.now woken touches contacts.now)) }
+    ensures fit { IfOk result (λ found. All (IsIslandOf scene.now) found.items) }
+{
+    let touches = manifolds.touches();
+    let spans = manifolds.spans();
+    let woken = woken_bodies(alloc, scene, bodies, touches)?;
+    let bodies = woken.as_slice();
+    let all_numbers = singles(alloc, bodies.len())?;
+    let all_places = singles(alloc, spans.len())?;
+    let all = AwakeSearch {
+        bodies: &all_numbers,
+        pair_places: &all_places,
+    };
+    let active = active_of(alloc, scene, bodies, touches, spans, &all)?;
+    split_settled(alloc, spare, scene, bodies, touches, contacts, &active)
+}
+
+/// As [`split`], where it is known which bodies may be awake: `search` says where to look for awake
+/// bodies and simulated contacts. In most ticks no contact wakes a body: then only simulated
+/// contacts are linked. Else all contacts are linked first, to find which bodies wake. Takes no
+/// memory where there are no bodies and no contact points.
 pub fn wake_and_split(
     alloc: Global,
     spare: Vec<Island>,
@@ -326,42 +357,5 @@ pub fn wake_and_split(
     if wake_none(scene, bodies, touches, &active.places) {
         return split_settled(alloc, spare, scene, bodies, touches, contacts, &active);
     }
-    let woken = woken_bodies(alloc, scene, bodies, touches)?;
-    let bodies = woken.as_slice();
-    let all_numbers = singles(alloc, bodies.len())?;
-    let all_places = singles(alloc, spans.len())?;
-    let all = AwakeSearch {
-        bodies: &all_numbers,
-        pair_places: &all_places,
-    };
-    let active = active_of(alloc, scene, bodies, touches, spans, &all)?;
-    split_settled(alloc, spare, scene, bodies, touches, contacts, &active)
-}
-
-/// [`wake_and_split`] with nothing beside the world and its contact points: all bodies and all
-/// pairs are looked at, and the islands are made in memory of their own.
-pub fn split(
-    alloc: Global,
-    scene: &Scene,
-    bodies: &[BodyState],
-    manifolds: &Manifolds,
-    contacts: &[Contact],
-) -> Result<Vec<Island>, AllocError>
-    requires bodies { length bodies.now ≡ length scene.now.fixtures }
-    requires touches { All (IsTouchOf (length bodies.now)) (kept_touches manifolds.now) }
-    requires contacts { length contacts.now ≡ length (kept_touches manifolds.now) }
-    ensures value { let touches = kept_touches manifolds.now in
-        let woken = woken_bodies (groups_of scene.now touches) bodies.now in
-        IfOk result (λ found. found.items ≡ islands (groups_of scene.now touches) woken
-        (active_rows scene.now woken touches contacts.now)) }
-    ensures fit { IfOk result (λ found. All (IsIslandOf scene.now) found.items) }
-{
-    let numbers = singles(alloc, bodies.len())?;
-    let places = singles(alloc, manifolds.spans().len())?;
-    let all = AwakeSearch {
-        bodies: &numbers,
-        pair_places: &places,
-    };
-    let none = Vec::new(alloc);
-    wake_and_split(alloc, none, scene, bodies, manifolds, contacts, &all)
+    split(alloc, spare, scene, bodies, manifolds, contacts)
 }
