@@ -7,8 +7,8 @@ ghost use Rattle.pf_events.specs.declared.event.Event.TheVariants.{Settle};
 ghost use Rattle.pf_console.specs.Crews.{error_of_missing_reply};
 
 use crate::error::ProgramError;
-use pf_manifold::Collider;
 use pf_events::{Event, Reply, Session};
+use pf_manifold::Collider;
 use pf_step::{Crew, CrewError, StepError};
 use std::alloc::{AllocError, Global};
 use std::marker::Model;
