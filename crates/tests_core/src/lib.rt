@@ -21,3 +21,5 @@ mod pairs_of_scenes;
 mod scenes;
 #[cfg(test)]
 mod sessions;
+#[cfg(test)]
+mod steps;

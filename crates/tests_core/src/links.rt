@@ -2,9 +2,8 @@
 
 use crate::scenes::scene_of;
 use pf_commands::{Command, FRAME_LEN, Name, Payload, encode};
-use pf_links::{Link, LinkIn, LinkOut};
+use pf_peers::{Link, LinkIn, LinkOut, Peer, Turn};
 use pf_rollback::{MAX_RING, PeerCore, PeerError};
-use pf_scripts::{Peer, Turn};
 use pf_workers::OpenGate;
 use std::alloc::{AllocError, Global};
 use std::sync::Wait;
@@ -79,7 +78,8 @@ fn linked(alloc: Global, core: PeerCore) -> Result<(Peer, LinkOut), AllocError> 
     Ok((peer, other))
 }
 
-/// Whether a frame that comes is refused, and counted.
+/// Whether a frame that comes is refused, and counted. Nothing here can wait, as it takes no
+/// runtime: so no mutex stands round a peer or a link.
 fn is_refused(
     peer: &mut Peer,
     other: &mut LinkOut,
@@ -91,7 +91,7 @@ fn is_refused(
 }
 
 #[test]
-fn a_refused_frame_is_counted(rt: HostRuntime) -> Result<(), Fail> {
+fn a_refused_frame_is_counted_with_no_mutex_per_peer(rt: HostRuntime) -> Result<(), Fail> {
     let core = core_of(rt.alloc(), 1)?;
     let (mut peer, mut other) = linked(rt.alloc(), core)?;
     let is_refused = is_refused(&mut peer, &mut other, [9; FRAME_LEN])?;

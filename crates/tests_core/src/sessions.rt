@@ -6,7 +6,7 @@ ghost use Rattle.pf_events.specs.Session.{other_peer_of, peer_of};
 
 use crate::scenes::scene_of;
 use pf_commands::Payload;
-use pf_events::{Event, Reply, Session, run};
+use pf_peers::{Event, Reply, Session, run};
 use pf_step::Work;
 use std::alloc::Global;
 use std::test::Fail;

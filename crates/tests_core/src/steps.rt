@@ -1,0 +1,68 @@
+//! Steps of copies of worlds, and an island that is split and solved by itself. Many ticks, and
+//! steps that are undone, stand in the stored runs of `pf_runs` and `pf_calls`.
+
+ghost use Rattle.std.specs.Prelude.{◌≡◌, length};
+
+use crate::scenes::scene_of;
+use pf_cache::Manifolds;
+use pf_islands::split;
+use pf_manifold::OneThread;
+use pf_shapes::{BodyState, Scene};
+use pf_solver::Solve;
+use pf_step::{StepError, Work, World, step_alone, step_with};
+use std::alloc::{AllocError, Global};
+use std::test::Fail;
+use std::thread::Threads;
+
+/// A circle that falls.
+const FALLING: &[u8] = b"gravity 0 -167772160\ncircle 0 16777216 0 16777216 0 0\nend\n";
+
+/// The body of a scene with one alone, after a tick of its island.
+fn body_after_tick(alloc: Global, scene: &Scene) -> Result<Option<BodyState>, AllocError> {
+    let none = Manifolds::new(alloc);
+    let mut islands = split(alloc, Vec::new(alloc), scene, scene.starts(), &none, &[])?;
+    match islands.pop() {
+        Some(island) => Ok(island.solve(scene).bodies.as_slice().first().copied()),
+        None => Ok(None),
+    }
+}
+
+/// Whether a body has fallen for one tick from rest at height 0.
+fn has_fallen(body: Option<BodyState>) -> bool {
+    match body {
+        Some(body) => body.position.y.raw() == -40_960 && body.velocity.y.raw() == -2_621_440,
+        None => false,
+    }
+}
+
+#[test]
+fn a_lone_body_is_an_island(rt: HostRuntime) -> Result<(), Fail> {
+    let scene = scene_of(rt.alloc(), FALLING)?;
+    let body = body_after_tick(rt.alloc(), &scene)?;
+    assert!(rt; has_fallen(body));
+    Ok(())
+}
+
+/// Whether steps with and without a crew make the same other world of one, and count alike.
+fn are_steps_alike<R: Threads + Sync>(
+    rt: &R,
+    alloc: Global,
+    scene: &Scene,
+    world: &World,
+) -> Result<bool, StepError>
+    requires { length world.now.bodies ≡ length scene.now.fixtures }
+{
+    let mut work = Work::new(alloc);
+    let alone = step_alone(alloc, scene, world, &[], &mut work)?;
+    let with = step_with(rt, alloc, scene, world, &[], &mut work, &mut OneThread)?;
+    Ok(alone == with && &alone != world && work.meter().ticks == 2)
+}
+
+#[test]
+fn steps_of_copies_are_alike(rt: HostRuntime) -> Result<(), Fail> {
+    let scene = scene_of(rt.alloc(), FALLING)?;
+    let world = World::start(rt.alloc(), &scene)?;
+    let are_alike = are_steps_alike(&rt, rt.alloc(), &scene, &world)?;
+    assert!(rt; are_alike);
+    Ok(())
+}
