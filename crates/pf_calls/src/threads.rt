@@ -21,6 +21,19 @@ pub trait Handle: Threads + Wait + Sync + Copy + Send + 'static {}
 
 impl<R: Threads + Wait + Sync + Copy + Send + 'static> Handle for R {}
 
+/// A crew that starts its workers in each solve, with a gate that keeps a book. It is a crew by
+/// itself, since [`ScopedCrew`] is one only with the open gate.
+#[derive(Debug, Drop)]
+pub struct Scoped<'r, R, const IS_OPEN: bool> {
+    crew: ScopedCrew<'r, R, TrialGate<IS_OPEN>>,
+}
+
+impl<'r, R: Threads + Wait, const IS_OPEN: bool> Crew for Scoped<'r, R, IS_OPEN> {
+    fn solve(&mut self, scene: &Scene, islands: Vec<Island>) -> Result<Vec<Island>, CrewError> {
+        self.crew.solve(scene, islands)
+    }
+}
+
 /// A crew whose workers are started once, and how many it has.
 #[derive(Drop)]
 struct Counted<R, G: Gate> {
@@ -74,8 +87,8 @@ impl<R: Handle, G: Gate + Send + Sync + Drop + 'static> Standing<R, G> {
 #[derive(Drop)]
 enum Kind<'r, R> {
     Scoped(ScopedCrew<'r, R, OpenGate>),
-    ScopedTrial(ScopedCrew<'r, R, TrialGate<false>>),
-    ScopedCounting(ScopedCrew<'r, R, TrialGate<true>>),
+    ScopedTrial(Scoped<'r, R, false>),
+    ScopedCounting(Scoped<'r, R, true>),
     Standing(Standing<R, OpenGate>),
     StandingTrial(Standing<R, TrialGate<false>>),
     StandingCounting(Standing<R, TrialGate<true>>),
@@ -89,11 +102,15 @@ impl<'r, R: Handle> Kind<'r, R> {
             GateKind::Open => Kind::Scoped(ScopedCrew::new(rt, alloc, workers, OpenGate)),
             GateKind::Ruled(rule) => {
                 let gate = TrialGate::new(rule, book);
-                Kind::ScopedTrial(ScopedCrew::new(rt, alloc, workers, gate))
+                Kind::ScopedTrial(Scoped {
+                    crew: ScopedCrew::new(rt, alloc, workers, gate),
+                })
             }
             GateKind::Counting => {
                 let gate = TrialGate::new(Rule::Meeting, book);
-                Kind::ScopedCounting(ScopedCrew::new(rt, alloc, workers, gate))
+                Kind::ScopedCounting(Scoped {
+                    crew: ScopedCrew::new(rt, alloc, workers, gate),
+                })
             }
         }
     }

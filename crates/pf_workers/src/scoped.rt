@@ -6,7 +6,7 @@ ghost use Rattle.pf_solver.specs.Alone.{island_after_tick};
 ghost use Rattle.pf_workers.specs.Crew.{IsScopedError};
 
 use crate::MAX_WORKERS;
-use crate::gate::Gate;
+use crate::gate::{Gate, OpenGate};
 use crate::pile::{Pile, deal, empty_piles, gather};
 use crate::work::solve;
 use pf_islands::Island;
@@ -166,15 +166,15 @@ impl<'r, R: Threads + Wait, G: Gate + Sync> ScopedCrew<'r, R, G> {
     }
 }
 
-impl<'r, R: Threads + Wait, G: Gate + Sync> Crew for ScopedCrew<'r, R, G> {
-    ghost use Rattle.std.specs.Prelude.{◌≡◌};
+impl<'r, R: Threads + Wait> Crew for ScopedCrew<'r, R, OpenGate> {
+    ghost use Rattle.std.specs.Prelude.{◌≡◌, true};
     ghost use Rattle.pf_workers.specs.Crew.{IsScopedError, next_turn};
 
     ghost is_called = { λ before islands after.
         after ≡ record before { turn = next_turn before.turn } };
 
     ghost may_fail = { λ before islands error after.
-        (after ≡ record before { turn = next_turn before.turn }) × IsScopedError G.ALWAYS error };
+        (after ≡ record before { turn = next_turn before.turn }) × IsScopedError true error };
 
     fn solve(&mut self, scene: &Scene, islands: Vec<Island>) -> Result<Vec<Island>, CrewError> {
         ScopedCrew::solve(self, scene, islands)
