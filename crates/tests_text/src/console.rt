@@ -1,6 +1,8 @@
-//! The texts of errors, and crews that fail. Texts with their replies and reports stand in the
-//! stored run of `pf_runs`; `program` has what is reported of memory and of readers and writers,
-//! and `text` the readers and writers that fail at each call.
+//! The texts of errors, and readers, writers and crews that fail. Texts with their replies and
+//! reports stand in the stored run of `pf_runs`; `program` has what is reported of memory and of
+//! readers and writers.
+
+mod streams;
 
 use pf_commands::FrameFault;
 use pf_console::{DigitsFault, ProgramError, finish, laws, report, run_text};
