@@ -54,6 +54,7 @@ fn gate_of(words: &[&str]) -> Result<GateKind> {
         ["open"] => GateKind::Open,
         ["meeting"] => GateKind::Ruled(Rule::Meeting),
         ["unwatched"] => GateKind::Ruled(Rule::Unwatched),
+        ["counted"] => GateKind::Ruled(Rule::Counted),
         ["counting"] => GateKind::Counting,
         ["shut", worker, turn] => GateKind::Ruled(Rule::Shut {
             worker: count(worker)?,

@@ -3,6 +3,7 @@
 
 use pf_program::{program, words_of};
 use pf_text::{Input, Output};
+use pf_workers::OpenGate;
 use std::io::{Stderr, Stdin, Stdout};
 use std::process::ExitCode;
 
@@ -14,6 +15,7 @@ fn main(rt: HostRuntime) -> ExitCode {
     program(
         rt,
         rt.alloc(),
+        OpenGate,
         words_of(&rt),
         &mut input,
         &mut output,

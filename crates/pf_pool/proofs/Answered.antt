@@ -1,13 +1,26 @@
 -- What the workers of a pool are asked, and what their answers are together.
-use Rattle.std.proofs.Common.{◌≡◌, ◌∙◌, ℕ, ◌<◌, List, Option, None, Some, map, length, get_or, ap, subst, sym, arith, ◌≤◌, Bool, true, false}
+use Rattle.std.proofs.Common.{◌≡◌, ◌∙◌, ℕ, ◌<◌, List, Option, None, Some, map, length, get_or, ap, subst, sym, arith, ◌≤◌, Bool, true, false, Result, Ok, Err}
 use Rattle.std.proofs.lemmas.Bool.{true≢false}
 use Rattle.std.proofs.lemmas.List.{get_or-map, length-map}
-use Rattle.std.specs.Prelude.{All, IfSome, IsNone, IsSome}
+use Rattle.std.specs.Prelude.{All, IfOk, IfSome, IsNone, IsSome}
 use Rattle.pf_pool.specs.Pool.{AreOutcomes}
 use Rattle.pf_pool.specs.Reply.{IsOutcomeOf}
 use Rattle.pf_pool.specs.Slots.{AreAnswers, HaveAnswered}
 use Rattle.pf_pool.specs.declared.reply.Dealt.{Dealt}
 use Rattle.pf_pool.proofs.Lists.{default_same}
+
+-- what follows from a success
+pub if_ok_then : {X E : Type 0} {P Q : X → Type 0} (r : Result X E) → IfOk r P → ((x : X) → P x → Q x) → IfOk r Q
+if_ok_then (Ok x) is then = then x is
+if_ok_then (Err e) is then = tt
+
+-- what was dealt is one thing
+pub same_dealt : {P : Type 0} (d e : Dealt P) (known : Option (Dealt P)) → known ≡ Some d → known ≡ Some e → d ≡ e
+same_dealt {P} d e known is also = ap (λ o. get o) (sym is ∙ also)
+  where
+    get : Option (Dealt P) → Dealt P
+    get (Some f) = f
+    get None = d
 
 -- a pool whose workers were found there one by one has them all
 pub all_there : (workers : List Bool) (n : ℕ) → length workers ≤ n

@@ -1,17 +1,19 @@
 -- Each step keeps the rule of the channel of answers.
-use Rattle.std.proofs.Common.{◌≡◌, ◌≢◌, ◌∙◌, inl, inr, ℕ, zero, suc, List, [], ◌∷◌, ◌++◌, length, set, Option, None, Some, refl, sym, ap, subst, arith}
+use Rattle.std.proofs.Common.{◌≡◌, ◌∙◌, ℕ, zero, suc, ◌+◌, List, [], ◌∷◌, ◌++◌, length, set, false, true, Some, refl, sym, ap, subst, arith}
 use Rattle.std.proofs.lemmas.Bool.{true≢false}
 use mathlib.Core.Option.{some, some-ne-none}
 use lib.ListN.{get_elem?}
-use Rattle.std.specs.Prelude.{All, IsSome, is_some, ⊤}
+use Rattle.std.specs.Prelude.{⊤}
 use Rattle.crossbeam_channel.specs.Fifo.{Pushes, Pops, Forks}
+use Rattle.pf_pool.specs.declared.reply.Answer.{Answer}
 use Rattle.pf_pool.specs.declared.reply.Dealt.{Dealt}
+use Rattle.pf_pool.specs.declared.reply.Known.{Known}
 use Rattle.pf_pool.specs.declared.reply.Message.{Message}
 use Rattle.pf_pool.specs.declared.reply.Message.TheVariants as messages
-use Rattle.pf_pool.specs.Reply.{AllKnow, AreReplies, IsReply}
+use Rattle.pf_pool.specs.Reply.{AllFit, AreReplies, Fits, IsOutcomeOf, IsReply, known_after, known_first}
 use Rattle.pf_pool.proofs.Lists.{all_more}
 
--- what is told is one thing
+-- what stands at a place is one thing
 one_some : {X : Type 0} {x y : X} → some x ≡ some y → x ≡ y
 one_some {X} {x} {y} same = ap (λ o. get o) same
   where
@@ -19,95 +21,127 @@ one_some {X} {x} {y} same = ap (λ o. get o) same
     get (some z) = z
     get mathlib.Core.Option.none = x
 
-same_some : {X : Type 0} {x y : X} → Some x ≡ Some y → x ≡ y
-same_some {X} {x} same = ap (λ o. get o) same
-  where
-    get : Option X → X
-    get (Some z) = z
-    get None = x
+-- what stands in a list after one element was set: that element at its place, or an old one
+set_at : {X : Type 0} (P : ℕ → X → Type 0) (xs : List X) (place : ℕ) (x : X) → P place x
+    → ((i : ℕ) (y : X) → get_elem? xs i ≡ some y → (i ≡ place → ⊥) → P i y)
+    → (i : ℕ) (y : X) → get_elem? (set xs place x) i ≡ some y → P i y
+set_at P [] place x new old i y at = absurd (some-ne-none y (sym at))
+set_at P (z ∷ xs) zero x new old zero y at = subst (P 0) (one_some at) new
+set_at P (z ∷ xs) zero x new old (suc i) y at = old (suc i) y at (λ same. absurd (omega (arith, same)))
+set_at P (z ∷ xs) (suc place) x new old zero y at = old 0 y at (λ same. absurd (omega (arith, same)))
+set_at P (z ∷ xs) (suc place) x new old (suc i) y at =
+    set_at (λ j. P (suc j)) xs place x new (λ j u is other. old (suc j) u is (λ same. other (omega (arith, same)))) i y at
 
-none_some : {X : Type 0} (x : X) → None ≢ Some x
-none_some x same = true≢false (sym (ap is_some same))
+-- what stands in a list with one more element: an old one, or that one at the end
+more_at : {X : Type 0} (P : ℕ → X → Type 0) (xs : List X) (x : X) → P (length xs) x
+    → ((i : ℕ) (y : X) → get_elem? xs i ≡ some y → P i y) → (i : ℕ) (y : X) → get_elem? (xs ++ x ∷ []) i ≡ some y → P i y
+more_at P [] x new old zero y at = subst (P 0) (one_some at) new
+more_at P [] x new old (suc i) y at = absurd (some-ne-none y (sym at))
+more_at P (z ∷ xs) x new old zero y at = old 0 y at
+more_at P (z ∷ xs) x new old (suc i) y at = more_at (λ j. P (suc j)) xs x new (λ j u is. old (suc j) u is) i y at
 
--- a view of one pass that is there is that of pass 0
-only : {X : Type 0} (v w : X) (pass : ℕ) → get_elem? (v ∷ []) pass ≡ some w → (pass ≡ 0) × (v ≡ w)
-only v w zero at = (refl, one_some at)
-only v w (suc pass) at = absurd (some-ne-none w (sym at))
+module _ {P : Type 0} (caller : ℕ) (last : Known P) where
+  -- a pass that knows what it knew
+  fit_set : (views : List (Known P)) (pass : ℕ) (known : Known P) → get_elem? views pass ≡ some known
+      → AllFit caller last views → AllFit caller last (set views pass known)
+  fit_set views pass known at fit = set_at (Fits caller last) views pass known (fit pass known at) (λ i y is other. fit i y is)
 
-module _ {P : Type 0} (d : Dealt P) where
-  -- after a change of one pass all know what they knew
-  know_set : (views : List (Option (Dealt P))) (pass : ℕ) → AllKnow d views → AllKnow d (set views pass (Some d))
-  know_set [] pass know p view at = know p view at
-  know_set (v ∷ views) zero know zero view at = sym (one_some at)
-  know_set (v ∷ views) zero know (suc p) view at = know (suc p) view at
-  know_set (v ∷ views) (suc pass) know zero view at = know 0 view at
-  know_set (v ∷ views) (suc pass) know (suc p) view at =
-      know_set views pass (λ q u is. know (suc q) u is) p view at
+  -- one more pass, which knows what another knows, and does not deal
+  fit_more : (views : List (Known P)) (pass : ℕ) (known : Known P) → Fits caller last pass known
+      → AllFit caller last views → AllFit caller last (views ++ record known { deals = false } ∷ [])
+  fit_more views pass known fits fit =
+      more_at (Fits caller last) views (record known { deals = false })
+      (fits.0, fits.1, λ deals. absurd (true≢false (sym deals))) fit
 
-  -- one more pass knows it too
-  know_more : (views : List (Option (Dealt P))) → AllKnow d views → AllKnow d (views ++ Some d ∷ [])
-  know_more [] know zero view at = sym (one_some at)
-  know_more [] know (suc p) view at = absurd (some-ne-none view (sym at))
-  know_more (v ∷ views) know zero view at = know 0 view at
-  know_more (v ∷ views) know (suc p) view at = know_more views (λ q u is. know (suc q) u is) p view at
+module _ {P : Type 0} where
+  -- the first pass is the caller's
+  first_fits : AllFit 0 (known_first {P = P}) (known_first ∷ [])
+  first_fits zero known at = subst (Fits 0 known_first 0) (one_some at) (omega arith, λ same. refl, λ deals. (refl, refl))
+  first_fits (suc pass) known at = absurd (some-ne-none known (sym at))
 
 module _ {P O : Type 0} (IsOutcome : P → O → Type 0) where
-  pub begins : AreReplies IsOutcome [] (None ∷ [])
-  begins = inl (refl, refl)
+  pub begins : AreReplies IsOutcome [] (known_first ∷ [])
+  begins = (0, known_first, (λ i e low. absurd (omega (arith, low))), first_fits)
 
-  -- where a pass knows what was dealt, all do, and all messages are of it
-  known : (pass : ℕ) (d : Dealt P) (items : List (Message P O)) (views : List (Option (Dealt P)))
-      → AreReplies IsOutcome items views → get_elem? views pass ≡ some (Some d) → All (IsReply IsOutcome d) items × AllKnow d views
-  known pass d items views (inl none) at =
-      absurd (none_some d (only None (Some d) pass (subst (λ l. get_elem? l pass ≡ some (Some d)) none.1 at)).1)
-  known pass d items views (inr all) at =
-      subst (λ e. All (IsReply IsOutcome e) items × AllKnow e views) (same_some (sym (all.2 pass (Some d) at))) (all.1, all.2)
+  -- an answer of earlier runs says nothing of the next one
+  later : (last : Known P) (d : Dealt P) (m : Message P O) → IsReply IsOutcome last m
+      → IsReply IsOutcome (record last { run = last.run + 1; dealt = Some d }) m
+  later last d (messages.Dealt other) reply = tt
+  later last d (messages.Answer answer) reply = (omega (arith, reply.0), λ same. absurd (omega (arith, reply.0, same)))
 
-  -- the first message tells what was dealt
-  pub deals : (n pass : ℕ) (v : Option (Dealt P)) (d : Dealt P) → v ≡ None
-      → Pushes (AreReplies IsOutcome) n pass v (messages.Dealt d) (λ w. w ≡ Some d)
-  deals n pass v d first items views room (inl none) at =
-      let is = only None v pass (subst (λ l. get_elem? l pass ≡ some v) none.1 at) in (
-        Some d,
-        inr (
-          d,
-          subst (λ l. All (IsReply IsOutcome d) (l ++ messages.Dealt d ∷ [])) (sym none.0)
-              (all_more (IsReply IsOutcome d) [] (messages.Dealt d) (λ i e low. absurd (omega (arith, low))) tt),
-          subst (λ l. AllKnow d (set l pass (Some d))) (sym none.1)
-              (subst (λ p. AllKnow d (set (None ∷ []) p (Some d))) (sym is.0) (know_more d [] (λ p v is. absurd (some-ne-none v (sym is))))),
+  -- the caller tells what is dealt in the next run
+  pub deals : (n pass : ℕ) (v : Known P) (d : Dealt P) → v.deals ≡ true
+      → Pushes (AreReplies IsOutcome) n pass v (messages.Dealt d) (λ w. w ≡ known_after {O = O} v (messages.Dealt d))
+  deals n pass v d is items views room holds at =
+      let caller = holds.0 in
+      let last = holds.1 in
+      let replies = holds.2 in
+      let fit = holds.3 in
+      let own = fit pass v at in
+      let here = own.2 is in
+      let next : Known P = record last { run = last.run + 1; dealt = Some d } in
+      let after : Known P = known_after {O = O} v (messages.Dealt d) in
+      let counted : v.run + 1 ≡ last.run + 1 = ap (λ run. run + 1) here.1 in (
+        after,
+        (
+          caller,
+          next,
+          all_more (IsReply IsOutcome next) items (messages.Dealt d) (λ i e low. later last d _ (replies i e low)) tt,
+          set_at (Fits caller next) views pass after (omega (arith, counted), λ same. refl, λ deals. (here.0, counted))
+              (λ i y at_i other.
+              let old = fit i y at_i in
+              (omega (arith, old.0), λ same. absurd (omega (arith, old.0, same)), λ deals. absurd (other ((old.2 deals).0 ∙ sym here.0)))),
         ),
         refl,
       )
-  deals n pass v d first items views room (inr all) at =
-      absurd (none_some all.0 (sym first ∙ all.2 pass v at))
 
   -- an answer joins the others
-  pub answers : (n pass : ℕ) (v : Option (Dealt P)) (x : Message P O) → IsSome v
-      → ((d : Dealt P) → v ≡ Some d → IsReply IsOutcome d x) → Pushes (AreReplies IsOutcome) n pass v x (λ w. ⊤)
-  answers n pass None x knows reply items views room holds at = absurd (true≢false (sym knows))
-  answers n pass (Some d) x knows reply items views room holds at =
-      let all = known pass d items views holds at in
-      (Some d, inr (d, all_more (IsReply IsOutcome d) items x all.0 (reply d refl), know_set d views pass all.1), tt)
+  pub answers : (n pass : ℕ) (v : Known P) (answer : Answer O) → answer.run ≡ v.run
+      → ((d : Dealt P) → v.dealt ≡ Some d → IsOutcomeOf IsOutcome d answer.worker answer.outcome)
+      → Pushes (AreReplies IsOutcome) n pass v (messages.Answer answer) (λ w. ⊤)
+  answers n pass v answer run outcome items views room holds at =
+      let caller = holds.0 in
+      let last = holds.1 in
+      let own = holds.3 pass v at in
+      let reply : IsReply IsOutcome last (messages.Answer answer) =
+      (omega (arith, own.0, run), λ same d dealt. outcome d (own.1 (sym run ∙ same) ∙ dealt)) in (
+        v,
+        (
+          caller,
+          last,
+          all_more (IsReply IsOutcome last) items (messages.Answer answer) holds.2 reply,
+          fit_set caller last views pass v at holds.3,
+        ),
+        tt,
+      )
+
+  -- the caller knows of a message what the rule knows
+  of_caller : (last v : Known P) (m : Message P O) → v.run ≡ last.run → v.dealt ≡ last.dealt → IsReply IsOutcome last m → IsReply IsOutcome v m
+  of_caller last v (messages.Dealt other) run dealt reply = tt
+  of_caller last v (messages.Answer answer) run dealt reply =
+      (omega (arith, run, reply.0), λ same d is. reply.1 (same ∙ run) d (sym dealt ∙ is))
 
   -- what arrives is an answer of what was dealt
-  pub takes : (pass : ℕ) (v : Option (Dealt P))
-      → Pops (AreReplies IsOutcome) pass v (λ x w. (w ≡ v) × ((d : Dealt P) → v ≡ Some d → IsReply IsOutcome d x))
-  takes pass v x items views (inl none) at = absurd (omega (arith, ap length none.0))
-  takes pass v x items views (inr all) at =
-      let d = all.0 in
-      let is : v ≡ Some d = all.2 pass v at in (
+  pub takes : (pass : ℕ) (v : Known P)
+      → Pops (AreReplies IsOutcome) pass v (λ x w. (w ≡ v) × (v.deals ≡ true → IsReply IsOutcome v x))
+  takes pass v x items views holds at =
+      let caller = holds.0 in
+      let last = holds.1 in
+      let own = holds.3 pass v at in (
         v,
-        inr (
-          d,
-          (λ i e low. all.1 (suc i) e (omega (arith, low))),
-          subst (λ w. AllKnow d (set views pass w)) (sym is) (know_set d views pass all.2),
+        (caller, last, (λ i e low. holds.2 (suc i) e (omega (arith, low))), fit_set caller last views pass v at holds.3),
+        (
+          refl,
+          λ deals.
+              let here = own.2 deals in
+              of_caller last v x here.1 (own.1 here.1) (holds.2 0 x (omega arith)),
         ),
-        (refl, λ e same. subst (λ f. IsReply IsOutcome f x) (same_some (sym is ∙ same)) (all.1 0 x (omega arith))),
       )
 
   -- a pass is cut in two that know the same
-  pub forks : (pass : ℕ) (v : Option (Dealt P)) → IsSome v → Forks (AreReplies IsOutcome) pass v v v
-  forks pass None knows items views holds at = absurd (true≢false (sym knows))
-  forks pass (Some d) knows items views holds at =
-      let all = known pass d items views holds at in
-      inr (d, all.0, know_more d (set views pass (Some d)) (know_set d views pass all.1))
+  pub forks : (pass : ℕ) (v : Known P) → Forks (AreReplies IsOutcome) pass v v (record v { deals = false })
+  forks pass v items views holds at =
+      let caller = holds.0 in
+      let last = holds.1 in
+      let fit = fit_set caller last views pass v at holds.3 in
+      (caller, last, holds.2, fit_more caller last (set views pass v) pass v (holds.3 pass v at) fit)

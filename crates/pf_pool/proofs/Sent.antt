@@ -26,11 +26,11 @@ use Rattle.crossbeam_channel.specs.contracts.flavors.array.RoundsTableRuleBadgeK
 use Rattle.crossbeam_channel.specs.contracts.flavors.array.Rows
 use Rattle.crossbeam_channel.specs.contracts.flavors.array.Whole
 use Rattle.crossbeam_channel.specs.contracts.flavors.array.WholeSight.TheImpl as whole
-use Rattle.pf_pool.specs.contracts.reply.Dealt
+use Rattle.pf_pool.specs.contracts.reply.Known
 use Rattle.pf_pool.specs.contracts.reply.Message
 use Rattle.pf_pool.specs.contracts.reply.Replies
 use Rattle.pf_pool.specs.contracts.reply.Replier
-use Rattle.pf_pool.specs.contracts.reply.RepliesProtocolMessagePartOutcomeOptionDealtPart.TheImpl as rule
+use Rattle.pf_pool.specs.contracts.reply.RepliesProtocolMessagePartOutcomeKnownPart.TheImpl as rule
 use Rattle.pf_pool.specs.contracts.worker.Job
 use Rattle.pf_pool.specs.declared.task.Task.{Ghosts}
 
@@ -42,7 +42,7 @@ module _ (T P O : RattleType) (task : Ghosts T.Denot P.Denot O.Denot) (part_send
   message_send = search (crosses, sendable) depth 60 fits 20000
 
   abbrev known : RattleType
-  known = Option.the_row (Dealt.the_row P)
+  known = Known.the_row P
 
   abbrev badges : RattleType
   badges = Badge.the_row (Key.the_row message)
@@ -76,7 +76,7 @@ module _ (T P O : RattleType) (task : Ghosts T.Denot P.Denot O.Denot) (part_send
   replier_send : IsSend (Replier.the_field T P O task).row
   replier_send =
       struct_send (Declared.shape (Replier.the_type T P O task))
-      (sending.the_field_send channel Global.the_row allocator.ghosts channel_send global.the_send channel_sync global.the_sync heap.the_frees, (seat.the_send badges (Doing.the_row message known) (badge.the_send (Key.the_row message)), tt))
+      (sending.the_field_send channel Global.the_row allocator.ghosts channel_send global.the_send channel_sync global.the_sync heap.the_frees, (seat.the_send badges (Doing.the_row message known) (badge.the_send (Key.the_row message)), (search sendable depth 9, tt)))
 
   job_send : IsSend (Job.the_row T P O task)
   job_send =

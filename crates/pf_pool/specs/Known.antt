@@ -5,4 +5,4 @@ use Rattle.pf_pool.specs.declared.reply.Dealt.{Dealt}
 use Rattle.pf_pool.specs.declared.reply.Replier.{Replier}
 
 abbrev pub known_to : {T P O : Type 0} → Replier T P O → Option (Dealt P)
-known_to r = view r.pass
+known_to r = (view r.pass).dealt

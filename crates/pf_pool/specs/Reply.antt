@@ -1,33 +1,16 @@
--- The rule of the channel over which the workers of a pool answer in one turn.
-use Rattle.std.specs.Prelude.{◌≡◌, ℕ, ⊤, ◌⊎◌, ◌<◌, List, [], ◌∷◌, All, Option, None, Some, length, slice_index_or}
+-- The rule of the channel over which the workers of a pool answer.
+use Rattle.std.specs.Prelude.{◌≡◌, ℕ, ⊤, ◌+◌, ◌<◌, ◌≤◌, true, List, All, Option, None, Some, length, slice_index_or}
 use mathlib.Core.Option.{some}
 use lib.ListN.{get_elem?}
 use Rattle.pf_pool.specs.declared.reply.Dealt.{Dealt}
+use Rattle.pf_pool.specs.declared.reply.Known.{Known}
 use Rattle.pf_pool.specs.declared.reply.Message.{Message}
 use Rattle.pf_pool.specs.declared.reply.Message.TheVariants as messages
 
-module _ {P O : Type 0} where
-  -- what a message tells of what was dealt
-  abbrev pub dealt_of : Message P O → Option (Dealt P)
-  dealt_of (messages.Dealt d) = Some d
-  dealt_of (messages.Answer worker outcome) = None
-
-module _ {P O : Type 0} (IsOutcome : P → O → Type 0) where
-  -- an outcome is what a worker makes of the part that it was dealt
-  abbrev pub IsOutcomeOf : Dealt P → ℕ → O → Type 0
-  IsOutcomeOf d worker outcome =
-      (none : P) → worker < length d.parts.value.items
-      → IsOutcome (slice_index_or d.parts.value.items worker none) outcome
-
-  abbrev pub IsReply : Dealt P → Message P O → Type 0
-  IsReply d (messages.Dealt other) = ⊤
-  IsReply d (messages.Answer worker outcome) = IsOutcomeOf d worker outcome
-
 module _ {P : Type 0} where
-  -- whoever holds a pass knows what was dealt
-  abbrev pub AllKnow : Dealt P → List (Option (Dealt P)) → Type 0
-  AllKnow d views =
-      (pass : ℕ) (view : Option (Dealt P)) → get_elem? views pass ≡ some view → view ≡ Some d
+  -- at first nothing was dealt, and there is only the caller
+  abbrev pub known_first : Known P
+  known_first = record { deals = true; run = 0; dealt = None }
 
   -- if this is known, then these parts were dealt
   abbrev pub WereDealt : Option (Dealt P) → List P → Type 0
@@ -39,9 +22,39 @@ module _ {P : Type 0} where
       (d : Dealt P) → known ≡ Some d
       → (none : P) → slice_index_or d.parts.value.items worker none ≡ part
 
--- at first nothing was dealt, and there is one pass; then all messages are of one deal
-abbrev pub AreReplies : {P O : Type 0} → (P → O → Type 0) → List (Message P O)
-    → List (Option (Dealt P)) → Type 0
-AreReplies {P} {O} IsOutcome items views =
-    ((items ≡ []) × (views ≡ None ∷ []))
-    ⊎ ((d : Dealt P) × All (IsReply IsOutcome d) items × AllKnow d views)
+  -- a pass of which the caller knows this: only the caller's deals, and knows of the last run what
+  -- was dealt; another is of that run, and then knows the same, or of an earlier one
+  abbrev pub Fits : ℕ → Known P → ℕ → Known P → Type 0
+  Fits caller last pass known =
+      (known.run ≤ last.run) × (known.run ≡ last.run → known.dealt ≡ last.dealt)
+      × (known.deals ≡ true → (pass ≡ caller) × (known.run ≡ last.run))
+
+  abbrev pub AllFit : ℕ → Known P → List (Known P) → Type 0
+  AllFit caller last views =
+      (pass : ℕ) (known : Known P) → get_elem? views pass ≡ some known → Fits caller last pass known
+
+-- what the caller knows after a message of its own
+abbrev pub known_after : {P O : Type 0} → Known P → Message P O → Known P
+known_after known (messages.Dealt d) = record known { run = known.run + 1; dealt = Some d }
+known_after known (messages.Answer answer) = known
+
+module _ {P O : Type 0} (IsOutcome : P → O → Type 0) where
+  -- an outcome is what a worker makes of the part that it was dealt
+  abbrev pub IsOutcomeOf : Dealt P → ℕ → O → Type 0
+  IsOutcomeOf d worker outcome =
+      (none : P) → worker < length d.parts.value.items
+      → IsOutcome (slice_index_or d.parts.value.items worker none) outcome
+
+  -- a message of which the caller knows this: an answer in the last run is an outcome of what was
+  -- dealt in it, and other answers are of earlier runs
+  abbrev pub IsReply : Known P → Message P O → Type 0
+  IsReply last (messages.Dealt other) = ⊤
+  IsReply last (messages.Answer answer) =
+      (answer.run ≤ last.run)
+      × (answer.run ≡ last.run → (d : Dealt P) → last.dealt ≡ Some d
+      → IsOutcomeOf d answer.worker answer.outcome)
+
+  -- all messages and all passes are of what the caller knows
+  abbrev pub AreReplies : List (Message P O) → List (Known P) → Type 0
+  AreReplies items views =
+      (caller : ℕ) × (last : Known P) × All (IsReply last) items × AllFit caller last views

@@ -1,22 +1,27 @@
 //! A pool of standing threads.
 
+ghost use Rattle.std.specs.Prelude.{◌<◌, ◌≤◌};
+
 use crate::error::PoolError;
-use crate::reply::{Collector, Dealt, Replier};
+use crate::reply::{Collector, Dealt};
 use crate::slots::{accept, all_answers, have_answered, no_answers};
 use crate::task::Task;
 use crate::worker::{Job, Worker, others, start};
+use crossbeam_channel::SendError;
 use std::alloc::{AllocError, Global};
+use std::cell::Cell;
 use std::marker::Model;
 use std::snapshot::Snapshot;
 use std::sync::{Arc, Wait};
-use std::thread::Threads;
+use std::thread::{Threads, available_parallelism};
 
 /// The most workers that a pool may have.
 pub const MAX_WORKERS: usize = 16;
 
-/// Workers, each with a thread of its own, that are started once. In a turn each worker is sent one
-/// message, with its part, and sends one answer, with its outcome. The caller may do the greatest
-/// part itself, while the workers do the others.
+/// Workers, each with a thread of its own, that are started once. In a run each worker is sent one
+/// message, with its part, and sends one answer, with its outcome. Where nobody watches, the caller
+/// does the first part itself, and then those that no worker has begun: so it never waits for a
+/// worker that has not come.
 ///
 /// Contracts see which workers this pool has not dismissed.
 #[derive(Drop)]
@@ -25,6 +30,9 @@ pub struct Pool<R, T: Task> {
     alloc: Global,
     task: Arc<T, Global>,
     workers: Vec<Worker<T>>,
+    part_count: usize,
+    /// The channel of the last run, for the next one.
+    collector: Cell<Option<Collector<T>>>,
 }
 
 impl<R, T: Task> Model for Pool<R, T> {
@@ -35,30 +43,31 @@ impl<R, T: Task> Model for Pool<R, T> {
 
     ghost view = { λ p. p.workers.items };
 
-    ghost invariant = { λ p. let n = length p.workers.items in (0 < n) × (n ≤ MAX_WORKERS) };
+    ghost invariant = { λ p. let n = length p.workers.items in
+        (n ≤ MAX_WORKERS) × (0 < p.part_count) × (p.part_count ≤ n) };
 }
 
-/// The number of the part with the most work; of several, the first.
-fn greatest<T: Task>(parts: &[T::Part]) -> usize {
-    let mut greatest = 0;
-    let mut most = 0;
-    for number in 0..parts.len() {
-        let work = T::work_of(&parts[number]);
-        if work > most {
-            greatest = number;
-            most = work;
-        }
+/// Into how many parts work is best cut, for so many workers: where nobody watches, not into more
+/// than there are processors, since some parts would then only wait for others, but into two.
+fn best_part_count<R: Threads, T: Task>(rt: &R, workers: usize, task: &T) -> usize
+    requires { 0 < workers }
+    ensures some { 0 < result }
+    ensures most { result ≤ workers }
+{
+    if task.is_watched() {
+        return workers;
     }
-    greatest
+    match available_parallelism(rt) {
+        Ok(processors) => workers.min(processors.get().max(2)),
+        Err(_) => workers,
+    }
 }
 
 impl<R: Wait, T: Task> Pool<R, T> {
-    ghost use Rattle.std.specs.Prelude.{◌≡◌, ◌<◌, ◌≤◌, Err, IfErr, IfOk, IsFalse, IsOk, IsTrue, OnOk, Some, false, length, replicate, slice_index_or, slice_set, true};
-    ghost use Rattle.pf_pool.specs.Known.{known_to};
+    ghost use Rattle.std.specs.Prelude.{◌≡◌, ◌<◌, ◌≤◌, IfErr, IfOk, IsFalse, IsTrue, OnOk, Some, false, length, replicate, slice_index_or, slice_set, true};
     ghost use Rattle.pf_pool.specs.Pool.{AreOutcomes, HasAllWorkers, IsRunError, IsStartError};
     ghost use Rattle.pf_pool.specs.Reply.{WasDealt, WereDealt};
     ghost use Rattle.pf_pool.specs.Slots.{AreAnswers, HaveAnswered};
-    ghost use Rattle.pf_pool.specs.declared.error.PoolError.TheVariants.{WorkerLost};
     ghost use Rattle.pf_pool.specs.declared.reply.Dealt.{Dealt};
 
     /// Starts so many workers. Returns an error where it is out of memory or a thread could not be
@@ -73,6 +82,7 @@ impl<R: Wait, T: Task> Pool<R, T> {
         ensures pool { IfOk result (λ pool. pool ≡ replicate workers true) }
         ensures failed { IfErr result IsStartError }
     {
+        let part_count = best_part_count(&rt, workers, &task);
         let task = Arc::new(alloc, task)?;
         let workers = start(&rt, alloc, workers, &task)?;
         Ok(Pool {
@@ -80,6 +90,8 @@ impl<R: Wait, T: Task> Pool<R, T> {
             alloc,
             task,
             workers,
+            part_count,
+            collector: Cell::new(None),
         })
     }
 
@@ -94,6 +106,15 @@ impl<R: Wait, T: Task> Pool<R, T> {
         ensures some { 0 < result }
     {
         self.workers.len()
+    }
+
+    /// Into how many parts work is best cut: into one for each worker, or, where nobody watches, for
+    /// each processor, if there are fewer.
+    pub fn part_count(&self) -> usize
+        ensures some { 0 < result }
+        ensures most { result ≤ length self.now }
+    {
+        self.part_count
     }
 
     /// Whether this pool has dismissed none of its workers.
@@ -123,6 +144,8 @@ impl<R: Wait, T: Task> Pool<R, T> {
             alloc: self.alloc,
             task: Arc::try_clone(&self.task)?,
             workers,
+            part_count: self.part_count,
+            collector: Cell::new(None),
         })
     }
 
@@ -149,56 +172,67 @@ impl<R: Wait, T: Task> Pool<R, T> {
         self.workers[worker].dismiss(&self.rt);
     }
 
-    /// Asks a worker to do its part. The part is put into `held` in place of that, if the caller is
+    /// The channel of a run in which these parts are dealt: that of the last run, if it is there.
+    fn deal(&self, parts: &Vec<T::Part>) -> Result<Collector<T>, PoolError>
+        ensures dealt { IfOk result (λ collector. (d : Dealt T.Part) × (collector ≡ Some d)
+            × (d.parts.value.items ≡ parts.now.items)) }
+        ensures failed { IfErr result IsRunError }
+    {
+        let collector = match self.collector.take() {
+            Some(collector) => collector,
+            None => Collector::open(self.alloc, self.workers.len())?,
+        };
+        let dealt = Dealt {
+            parts: Snapshot::of(parts),
+        };
+        collector.deal(&self.rt, dealt)
+    }
+
+    /// Asks a worker to do its part. The part is put into `own` in place of that, if the caller is
     /// to do it.
     fn ask_one(
         &self,
         turn: usize,
         worker: usize,
         part: T::Part,
-        replier: &mut Replier<T>,
-        held: &mut Option<Job<T>>,
-        is_held: bool,
-    ) -> Result<(), PoolError>
+        collector: &mut Collector<T>,
+        own: &mut Option<Job<T>>,
+    ) -> Result<(), SendError<Option<Job<T>>>>
         requires within { worker < length self.now }
-        requires dealt { WasDealt (known_to replier.old) worker part }
-        ensures same { known_to replier.new ≡ known_to replier.old }
-        ensures there { OnOk result (slice_index_or self.now worker false ≡ true) }
-        ensures failed { IfErr result IsRunError }
+        requires dealt { WasDealt collector.old worker part }
+        ensures { collector.new ≡ collector.old }
     {
-        let job = Job::new(turn, worker, part, replier)?;
-        let own = &self.workers[worker];
-        if is_held {
-            own.hold(job, held)
-        } else {
-            own.ask(&self.rt, job)
+        let Ok(replier) = collector.replier() else {
+            return Err(SendError::OutOfMemory(None));
+        };
+        let job = Job::new(turn, worker, part, replier);
+        if worker == 0 && !self.task.is_watched() {
+            *own = Some(job);
+            return Ok(());
         }
+        self.workers[worker].ask(&self.rt, job)
     }
 
     /// Asks one worker after the other to do its part, from the last to the first, up to the first
-    /// error. Returns the number of the last worker that was asked. The greatest part is put into
-    /// `held` in place of that, if the caller may do it.
+    /// error. Returns the number of the last worker that was asked. The first part is put into `own`
+    /// in place of that, if the caller may do it.
     fn ask_each(
         &self,
         turn: usize,
         parts: Vec<T::Part>,
-        replier: Replier<T>,
-        held: &mut Option<Job<T>>,
-    ) -> (usize, Result<(), PoolError>)
-        requires dealt { WereDealt (known_to replier) parts.items }
-        requires count { length parts.items ≡ length self.now }
-        ensures asked { result.0 ≤ length self.now }
+        collector: &mut Collector<T>,
+        own: &mut Option<Job<T>>,
+    ) -> (usize, Result<(), SendError<Option<Job<T>>>>)
+        requires dealt { WereDealt collector.old parts.items }
+        requires count { length parts.items ≤ length self.now }
+        ensures same { collector.new ≡ collector.old }
+        ensures asked { result.0 ≤ length parts.items }
         ensures all { OnOk result.1 (result.0 ≡ 0) }
-        ensures there { OnOk result.1 (HasAllWorkers self.now) }
-        ensures failed { IfErr result.1 IsRunError }
     {
         let mut parts = parts;
-        let mut replier = replier;
-        let greatest = greatest::<T>(&parts);
         while let Some(part) = parts.pop() {
             let worker = parts.len();
-            let is_held = worker == greatest && self.task.may_run_here(&part);
-            let asked = self.ask_one(turn, worker, part, &mut replier, held, is_held);
+            let asked = self.ask_one(turn, worker, part, collector, own);
             if let Err(error) = asked {
                 return (worker + 1, Err(error));
             }
@@ -206,85 +240,84 @@ impl<R: Wait, T: Task> Pool<R, T> {
         (0, Ok(()))
     }
 
-    /// Waits until all workers from `least` on have answered.
-    fn collect(
-        &self,
-        collector: Collector<T>,
-        least: usize,
-        slots: &mut [Option<T::Outcome>],
-    ) -> Result<(), PoolError>
-        requires { least ≤ length slots.old }
-        ensures count { length slots.new ≡ length slots.old }
-        ensures answers { (d : Dealt T.Part) → collector ≡ Some d
-            → AreAnswers T.is_outcome d slots.old → AreAnswers T.is_outcome d slots.new }
-        ensures all { OnOk result (HaveAnswered least slots.new) }
-        ensures lost { IfErr result (λ error. error ≡ WorkerLost) }
-    {
-        let mut collector = collector;
-        for _ in self.rt.forever() {
-            if have_answered(slots, least) {
-                return Ok(());
-            }
-            let message = collector.receive(&self.rt)?;
-            accept::<T>(message, slots);
+    /// Does the job of the caller, if it has one, and those that the workers from `least` on have
+    /// not begun.
+    fn help(&self, own: Option<Job<T>>, least: usize) {
+        if let Some(job) = own {
+            job.answer(&self.rt, &*self.task);
         }
-        Err(PoolError::WorkerLost)
+        for worker in least..self.workers.len() {
+            if let Some(job) = self.workers[worker].take_back(&self.rt) {
+                job.answer(&self.rt, &*self.task);
+            }
+        }
     }
 
-    /// The slots after all workers from `least` on have answered. Returns the error with which the
-    /// others were not asked, if there was one, and then that of a lost worker.
+    /// Waits until all workers from `least` on have answered.
+    fn collect(&self, collector: &mut Collector<T>, least: usize, slots: &mut [Option<T::Outcome>])
+        requires { least ≤ length slots.old }
+        ensures same { collector.new ≡ collector.old }
+        ensures count { length slots.new ≡ length slots.old }
+        ensures answers { (d : Dealt T.Part) → collector.old ≡ Some d
+            → AreAnswers T.is_outcome d slots.old → AreAnswers T.is_outcome d slots.new }
+        ensures all { HaveAnswered least slots.new }
+    {
+        for _ in self.rt.forever() {
+            if have_answered(slots, least) {
+                return;
+            }
+            if let Some((worker, outcome)) = collector.receive(&self.rt) {
+                accept::<T>(worker, outcome, slots);
+            }
+        }
+        unreachable!()
+    }
+
+    /// The slots after all workers have answered. Returns the error with which the others were not
+    /// asked, if there was one, once those that were asked have answered.
     fn answers(
         &self,
-        collector: Collector<T>,
-        least: usize,
+        turn: usize,
+        parts: Vec<T::Part>,
+        collector: &mut Collector<T>,
         slots: Vec<Option<T::Outcome>>,
-        asked: Result<(), PoolError>,
-    ) -> Result<Vec<Option<T::Outcome>>, PoolError>
-        requires { least ≤ length slots.items }
-        ensures asked { OnOk result (IsOk asked) }
-        ensures first { IfErr asked (λ error. result ≡ Err error) }
+    ) -> Result<Vec<Option<T::Outcome>>, SendError<Option<Job<T>>>>
+        requires dealt { WereDealt collector.old parts.items }
+        requires count { length parts.items ≤ length self.now }
+        requires slots { length slots.items ≡ length parts.items }
         ensures count { IfOk result (λ after. length after.items ≡ length slots.items) }
-        ensures answers { IfOk result (λ after. (d : Dealt T.Part) → collector ≡ Some d
+        ensures answers { IfOk result (λ after. (d : Dealt T.Part) → collector.old ≡ Some d
             → AreAnswers T.is_outcome d slots.items → AreAnswers T.is_outcome d after.items) }
-        ensures all { IfOk result (λ after. HaveAnswered least after.items) }
-        ensures lost { OnOk asked (IfErr result (λ error. error ≡ WorkerLost)) }
+        ensures all { IfOk result (λ after. HaveAnswered 0 after.items) }
     {
         let mut slots = slots;
-        let collected = self.collect(collector, least, &mut slots);
+        let mut own = None;
+        let (least, asked) = self.ask_each(turn, parts, collector, &mut own);
+        self.help(own, least);
+        self.collect(collector, least, &mut slots);
         asked?;
-        collected?;
         Ok(slots)
     }
 
-    /// Has each part done by its worker, and waits for all of them: outcome k is what worker k made
-    /// of part k. The caller may do the greatest part itself, so that what that part works on stays
-    /// in the cache of its processor. Returns an error where it is out of memory or a worker is
-    /// lost; of several errors the first, once all workers that were asked have answered. It may
-    /// wait.
+    /// Has each part done, and waits for all of them: outcome k is what worker k makes of part k, and
+    /// workers without a part are not asked.
+    /// Where nobody watches, the caller does the first part, and those that no worker has begun.
+    /// Returns an error where it is out of memory or a worker is lost, once all workers that were
+    /// asked have answered. It may wait.
     pub fn run(&self, turn: usize, parts: Vec<T::Part>) -> Result<Vec<T::Outcome>, PoolError>
-        requires { length parts.items ≡ length self.now }
+        requires { length parts.items ≤ length self.now }
         ensures outcomes { IfOk result
             (λ outcomes. AreOutcomes T.is_outcome parts.items outcomes.items) }
         ensures there { OnOk result (HasAllWorkers self.now) }
         ensures failed { IfErr result IsRunError }
     {
-        let slots = no_answers(self.alloc, self.workers.len())?;
-        let dealt = Dealt {
-            parts: Snapshot::of(&parts),
-        };
-        let (replier, collector) = Collector::open(
-            &self.rt,
-            self.alloc,
-            self.workers.len(),
-            dealt,
-        )?;
-        let mut held = None;
-        let (least, asked) = self.ask_each(turn, parts, replier, &mut held);
-        if let Some(job) = held {
-            job.answer(&self.rt, &*self.task);
+        if !self.has_all_workers() {
+            return Err(PoolError::WorkerLost);
         }
-        let answers = self.answers(collector, least, slots, asked)?;
-        let outcomes = all_answers(self.alloc, answers)?;
-        Ok(outcomes)
+        let slots = no_answers(self.alloc, parts.len())?;
+        let mut collector = self.deal(&parts)?;
+        let answers = self.answers(turn, parts, &mut collector, slots);
+        self.collector.set(Some(collector));
+        Ok(all_answers(self.alloc, answers?)?)
     }
 }

@@ -1,33 +1,53 @@
-//! The channel over which the workers of a pool answer in one turn. Its rule: each answer is what
-//! its worker makes of the part that it was dealt.
+//! The channel over which the workers of a pool answer. Its rule: each answer is what its worker
+//! makes of the part that it was dealt in a run.
 
-ghost use Rattle.std.specs.Prelude.{IsSome};
+ghost use Rattle.std.specs.Prelude.{◌≡◌, IfSome, Some};
 ghost use Rattle.crossbeam_channel.specs.Claims.{IsSeatAt, view};
 ghost use Rattle.crossbeam_channel.specs.Ends.{sends_on};
+ghost use Rattle.pf_pool.specs.Reply.{IsOutcomeOf, IsReply};
+ghost use Rattle.pf_pool.specs.declared.reply.Dealt.{Dealt};
+ghost use Rattle.pf_pool.specs.declared.reply.Known.{Known};
 
 use crate::error::PoolError;
 use crate::task::Task;
 use crossbeam_channel::protocol::{Free, Lesson, Outcome, Protocol, Split};
-use crossbeam_channel::{Pass, RuledReceiver, RuledSender, TryRecvError, bounded_with};
+use crossbeam_channel::{Pass, RuledReceiver, RuledSender, bounded_with};
 use std::alloc::{AllocError, Global};
 use std::hint;
 use std::marker::{Model, PhantomData};
 use std::snapshot::Snapshot;
 use std::sync::Wait;
 
-/// The parts of the workers in a turn, as contracts see them. It has no bytes.
+/// The parts of the workers in a run, as contracts see them. It has no bytes.
 #[derive(Drop)]
 pub(crate) struct Dealt<P> {
     pub(crate) parts: Snapshot<Vec<P>>,
 }
 
+/// What the worker of a number made of its part in a run.
+#[derive(Drop)]
+pub(crate) struct Answer<O> {
+    pub(crate) run: usize,
+    pub(crate) worker: usize,
+    pub(crate) outcome: O,
+}
+
 /// What goes through the channel.
 #[derive(Drop)]
 pub(crate) enum Message<P, O> {
-    /// What was dealt. It is sent before all answers, so that whoever holds a pass knows it.
+    /// What is dealt in the next run. The caller sends it before all jobs, so that whoever answers
+    /// knows it.
     Dealt(Dealt<P>),
-    /// What the worker of a number made of its part.
-    Answer(usize, O),
+    /// What a worker answers.
+    Answer(Answer<O>),
+}
+
+/// What one who holds a pass knows: the number of a run, what was dealt in it, and whether it is the
+/// caller, who deals. Only contracts see it.
+pub(crate) struct Known<P> {
+    pub(crate) deals: bool,
+    pub(crate) run: usize,
+    pub(crate) dealt: Option<Dealt<P>>,
 }
 
 /// The rule of the channel.
@@ -35,217 +55,241 @@ pub(crate) struct Replies<T> {
     task: PhantomData<T>,
 }
 
-impl<T: Task> Protocol<Message<T::Part, T::Outcome>, Option<Dealt<T::Part>>> for Replies<T> {
-    ghost use Rattle.std.specs.Prelude.{None};
-    ghost use Rattle.pf_pool.specs.Reply.{AreReplies};
+impl<T: Task> Protocol<Message<T::Part, T::Outcome>, Known<T::Part>> for Replies<T> {
+    ghost use Rattle.pf_pool.specs.Reply.{AreReplies, known_first};
 
     ghost holds = { AreReplies T.is_outcome };
 
-    ghost first = { None };
+    ghost first = { known_first };
 }
 
-/// Who sends what was dealt knows it.
+/// The caller, who sends what is dealt in the next run, knows it.
 struct Deals;
 
-impl<P, O> Outcome<Message<P, O>, Option<Dealt<P>>> for Deals {
+impl<P, O> Outcome<Message<P, O>, Known<P>> for Deals {
     ghost use Rattle.std.specs.Prelude.{◌≡◌};
-    ghost use Rattle.pf_pool.specs.Reply.{dealt_of};
+    ghost use Rattle.pf_pool.specs.Reply.{known_after};
 
-    ghost then = { λ before message after. after ≡ dealt_of message };
+    ghost then = { λ before message after. after ≡ known_after before message };
 }
 
-impl<P, O> Lesson<Message<P, O>, Option<Dealt<P>>> for Deals {
+impl<P, O> Lesson<Message<P, O>, Known<P>> for Deals {
     ghost use Rattle.std.specs.Prelude.{⊤};
 
     ghost fact = { λ view messages. ⊤ };
 }
 
-/// Who receives an answer, and knows what was dealt, knows that its worker made it of its part.
+/// The caller, who receives an answer, knows that its worker made it of its part.
 struct Takes<T> {
     task: PhantomData<T>,
 }
 
-impl<T: Task> Outcome<Message<T::Part, T::Outcome>, Option<Dealt<T::Part>>> for Takes<T> {
-    ghost use Rattle.std.specs.Prelude.{◌≡◌, Some};
+impl<T: Task> Outcome<Message<T::Part, T::Outcome>, Known<T::Part>> for Takes<T> {
+    ghost use Rattle.std.specs.Prelude.{◌≡◌, true};
     ghost use Rattle.pf_pool.specs.Reply.{IsReply};
-    ghost use Rattle.pf_pool.specs.declared.reply.Dealt.{Dealt};
 
     ghost then = { λ before message after. (after ≡ before)
-        × ((d : Dealt T.Part) → before ≡ Some d → IsReply T.is_outcome d message) };
+        × (before.deals ≡ true → IsReply T.is_outcome before message) };
 }
 
-impl<T: Task> Lesson<Message<T::Part, T::Outcome>, Option<Dealt<T::Part>>> for Takes<T> {
+impl<T: Task> Lesson<Message<T::Part, T::Outcome>, Known<T::Part>> for Takes<T> {
     ghost use Rattle.std.specs.Prelude.{⊤};
 
     ghost fact = { λ view messages. ⊤ };
 }
 
-/// What one knows, both know.
+/// What the caller knows, a worker knows, too. It does not deal.
 struct Shares;
 
-impl<P> Split<Option<Dealt<P>>> for Shares {
+impl<P> Split<Known<P>> for Shares {
+    ghost use Rattle.std.specs.Prelude.{false};
+
     ghost left = { λ view. view };
 
-    ghost right = { λ view. view };
+    ghost right = { λ view. record view { deals = false } };
 }
 
 /// How often a thread looks for a message before it sleeps. Messages often come within
 /// microseconds, and to wake a thread takes about fifty.
 pub(crate) const LOOKS: u32 = 2_000;
 
-/// The end of a worker, over which it answers.
+/// The end of a worker, over which it answers in one run.
 #[derive(Drop)]
 pub(crate) struct Replier<T: Task> {
-    sender: RuledSender<Message<T::Part, T::Outcome>, Option<Dealt<T::Part>>, Replies<T>>,
-    pass: Pass<Message<T::Part, T::Outcome>, Option<Dealt<T::Part>>>,
+    sender: RuledSender<Message<T::Part, T::Outcome>, Known<T::Part>, Replies<T>>,
+    pass: Pass<Message<T::Part, T::Outcome>, Known<T::Part>>,
+    run: usize,
     ghost seat: { IsSeatAt (sends_on sender) pass },
-    ghost knows: { IsSome (view pass) },
-}
-
-/// The end of the caller, over which the workers' answers arrive.
-///
-/// Contracts see what it knows of what was dealt.
-#[derive(Drop)]
-pub(crate) struct Collector<T: Task> {
-    receiver: RuledReceiver<Message<T::Part, T::Outcome>, Option<Dealt<T::Part>>, Replies<T>>,
-    pass: Pass<Message<T::Part, T::Outcome>, Option<Dealt<T::Part>>>,
-}
-
-impl<T: Task> Model for Collector<T> {
-    ghost use Rattle.std.specs.Prelude.{Option};
-    ghost use Rattle.crossbeam_channel.specs.Claims as claims;
-    ghost use Rattle.crossbeam_channel.specs.Ends.{receives_on};
-    ghost use Rattle.pf_pool.specs.declared.reply.Dealt.{Dealt};
-
-    ghost Value = { Option (Dealt T.Part) };
-
-    ghost view = { λ c. claims.view c.pass };
-
-    ghost invariant = { λ c. claims.IsSeatAt (receives_on c.receiver) c.pass };
+    ghost counted: { (view pass).run ≡ run },
 }
 
 impl<T: Task> Replier<T> {
-    ghost use Rattle.std.specs.Prelude.{◌≡◌, IfOk, Some};
+    ghost use Rattle.std.specs.Prelude.{◌≡◌, Some};
     ghost use Rattle.pf_pool.specs.Known.{known_to};
-    ghost use Rattle.pf_pool.specs.Reply.{IsReply};
+    ghost use Rattle.pf_pool.specs.Reply.{IsOutcomeOf};
     ghost use Rattle.pf_pool.specs.declared.reply.Dealt.{Dealt};
-    ghost use Rattle.pf_pool.specs.declared.reply.Message.TheVariants as Message;
-
-    /// Another end of the same channel.
-    pub(crate) fn another(&mut self) -> Result<Replier<T>, AllocError>
-        ensures other { IfOk result (λ other. known_to other ≡ known_to self.old) }
-        ensures same { known_to self.new ≡ known_to self.old }
-    {
-        let sender = self.sender.try_clone()?;
-        let pass = sender.another::<Shares>(&mut self.pass);
-        Ok(Replier { sender, pass })
-    }
 
     /// Sends the answer of a worker. Does nothing where the caller waits no more.
     pub(crate) fn send<R: Wait>(self, rt: &R, worker: usize, outcome: T::Outcome)
         requires { (d : Dealt T.Part) → known_to self ≡ Some d
-            → IsReply T.is_outcome d (Message.Answer worker outcome) }
+            → IsOutcomeOf T.is_outcome d worker outcome }
     {
-        let Replier { sender, mut pass } = self;
-        let _ = sender.send_as::<Free, R>(rt, &mut pass, Message::Answer(worker, outcome));
+        let Replier {
+            sender,
+            mut pass,
+            run,
+        } = self;
+        let answer = Answer {
+            run,
+            worker,
+            outcome,
+        };
+        let _ = sender.send_as::<Free, R>(rt, &mut pass, Message::Answer(answer));
     }
 }
 
+/// The worker and the outcome of a message, if that is an answer in the run of a number.
+fn answer_in<T: Task>(
+    message: Message<T::Part, T::Outcome>,
+    run: usize,
+) -> Option<(usize, T::Outcome)>
+    ensures { (known : Known T.Part) → known.run ≡ run → IsReply T.is_outcome known message
+        → IfSome result (λ answer. (d : Dealt T.Part) → known.dealt ≡ Some d
+        → IsOutcomeOf T.is_outcome d answer.0 answer.1) }
+{
+    match message {
+        Message::Answer(answer) if answer.run == run => Some((answer.worker, answer.outcome)),
+        _ => None,
+    }
+}
+
+/// The end of the caller: it tells what is dealt in a run, and the answers arrive over it.
+///
+/// Contracts see what was dealt in the run of now.
+#[derive(Drop)]
+pub(crate) struct Collector<T: Task> {
+    sender: RuledSender<Message<T::Part, T::Outcome>, Known<T::Part>, Replies<T>>,
+    receiver: RuledReceiver<Message<T::Part, T::Outcome>, Known<T::Part>, Replies<T>>,
+    pass: Pass<Message<T::Part, T::Outcome>, Known<T::Part>>,
+    run: usize,
+}
+
+impl<T: Task> Model for Collector<T> {
+    ghost use Rattle.std.specs.Prelude.{◌≡◌, Option, true};
+    ghost use Rattle.crossbeam_channel.specs.Claims as claims;
+    ghost use Rattle.crossbeam_channel.specs.Ends.{receives_on, sends_on};
+    ghost use Rattle.pf_pool.specs.declared.reply.Dealt.{Dealt};
+
+    ghost Value = { Option (Dealt T.Part) };
+
+    ghost view = { λ c. (claims.view c.pass).dealt };
+
+    ghost invariant = { λ c. claims.IsSeatAt (sends_on c.sender) c.pass
+        × (receives_on c.receiver ≡ sends_on c.sender)
+        × ((claims.view c.pass).deals ≡ true) × ((claims.view c.pass).run ≡ c.run) };
+}
+
 impl<T: Task> Collector<T> {
-    ghost use Rattle.std.specs.Prelude.{◌≡◌, ◌+◌, ◌^◌, ◌<◌, IfErr, IfOk, None, OnOk, Some};
-    ghost use Rattle.crossbeam_channel.specs.Claims.{IsSeatAt, view};
-    ghost use Rattle.crossbeam_channel.specs.Ends.{sends_on};
+    ghost use Rattle.std.specs.Prelude.{◌≡◌, ◌+◌, ◌^◌, ◌<◌, IfErr, IfOk, IfSome, None, Some};
     ghost use Rattle.pf_pool.specs.Known.{known_to};
     ghost use Rattle.pf_pool.specs.Pool.{IsRunError};
-    ghost use Rattle.pf_pool.specs.Reply.{IsReply};
+    ghost use Rattle.pf_pool.specs.Reply.{IsOutcomeOf};
     ghost use Rattle.pf_pool.specs.declared.error.PoolError.TheVariants.{WorkerLost};
     ghost use Rattle.pf_pool.specs.declared.reply.Dealt.{Dealt};
 
-    /// Sends what was dealt, so that whoever holds a pass knows it.
-    fn tell<R: Wait>(
-        rt: &R,
-        sender: &RuledSender<Message<T::Part, T::Outcome>, Option<Dealt<T::Part>>, Replies<T>>,
-        pass: &mut Pass<Message<T::Part, T::Outcome>, Option<Dealt<T::Part>>>,
-        dealt: Dealt<T::Part>,
-    ) -> Result<(), PoolError>
-        requires seat { IsSeatAt (sends_on sender.now) pass.old }
-        requires first { view pass.old ≡ None }
-        ensures seat { OnOk result (IsSeatAt (sends_on sender.now) pass.new) }
-        ensures knows { OnOk result (view pass.new ≡ Some dealt) }
-        ensures lost { IfErr result (λ error. error ≡ WorkerLost) }
-    {
-        match sender.send_as::<Deals, R>(rt, pass, Message::Dealt(dealt)) {
-            Ok(()) => Ok(()),
-            Err(_) => Err(PoolError::WorkerLost),
-        }
-    }
-
-    /// The two ends of the channel of a turn. Takes memory for the answers of all workers.
-    pub(crate) fn open<R: Wait>(
-        rt: &R,
-        alloc: Global,
-        workers: usize,
-        dealt: Dealt<T::Part>,
-    ) -> Result<(Replier<T>, Collector<T>), PoolError>
+    /// A channel over which nothing was dealt. Takes memory for the answers of so many workers.
+    pub(crate) fn open(alloc: Global, workers: usize) -> Result<Collector<T>, AllocError>
         requires { workers + 1 < 2 ^ 64 }
-        ensures ends { IfOk result
-            (λ ends. (known_to ends.0 ≡ Some dealt) × (ends.1 ≡ Some dealt)) }
-        ensures failed { IfErr result IsRunError }
+        ensures { IfOk result (λ collector. collector ≡ None) }
     {
-        let (sender, receiver, mut pass) = bounded_with::<
+        let (sender, receiver, pass) = bounded_with::<
             Message<T::Part, T::Outcome>,
-            Option<Dealt<T::Part>>,
+            Known<T::Part>,
             Replies<T>,
             Global,
         >(alloc, workers + 1)?;
-        Collector::<T>::tell(rt, &sender, &mut pass, dealt)?;
-        let other = sender.another::<Shares>(&mut pass);
-        let collector = Collector {
+        Ok(Collector {
+            sender,
             receiver,
-            pass: other,
-        };
-        Ok((Replier { sender, pass }, collector))
+            pass,
+            run: 0,
+        })
     }
 
-    /// Takes the next message, if it has arrived.
-    fn look<R: Wait>(&mut self, rt: &R) -> Result<Message<T::Part, T::Outcome>, TryRecvError>
-        ensures reply { IfOk result (λ message. (d : Dealt T.Part) → self.old ≡ Some d
-            → IsReply T.is_outcome d message) }
-        ensures same { self.new ≡ self.old }
+    /// Begins the next run, in which these parts are dealt. Returns an error after 2^64 runs.
+    pub(crate) fn deal<R: Wait>(
+        self,
+        rt: &R,
+        dealt: Dealt<T::Part>,
+    ) -> Result<Collector<T>, PoolError>
+        ensures dealt { IfOk result (λ collector. collector ≡ Some dealt) }
+        ensures failed { IfErr result (λ error. error ≡ WorkerLost) }
     {
-        self.receiver.try_recv_as::<Takes<T>, R>(rt, &mut self.pass)
-    }
-
-    /// Sleeps until the next message arrives. Returns an error where no worker is left that could
-    /// answer.
-    fn sleep<R: Wait>(&mut self, rt: &R) -> Result<Message<T::Part, T::Outcome>, PoolError>
-        ensures reply { IfOk result (λ message. (d : Dealt T.Part) → self.old ≡ Some d
-            → IsReply T.is_outcome d message) }
-        ensures same { self.new ≡ self.old }
-        ensures lost { IfErr result (λ error. error ≡ WorkerLost) }
-    {
-        match self.receiver.recv_as::<Takes<T>, R>(rt, &mut self.pass) {
-            Ok(message) => Ok(message),
+        let mut collector = self;
+        let run = collector.run.checked_add(1).ok_or(PoolError::WorkerLost)?;
+        let message = Message::Dealt(dealt);
+        match collector
+            .sender
+            .send_as::<Deals, R>(rt, &mut collector.pass, message)
+        {
+            Ok(()) => {
+                collector.run = run;
+                Ok(collector)
+            }
             Err(_) => Err(PoolError::WorkerLost),
         }
     }
 
-    /// Waits for the next message. Returns an error where no worker is left that could answer.
-    pub(crate) fn receive<R: Wait>(
-        &mut self,
-        rt: &R,
-    ) -> Result<Message<T::Part, T::Outcome>, PoolError>
-        ensures reply { IfOk result (λ message. (d : Dealt T.Part) → self.old ≡ Some d
-            → IsReply T.is_outcome d message) }
+    /// The end of a worker in the run of now.
+    pub(crate) fn replier(&mut self) -> Result<Replier<T>, AllocError>
+        ensures knows { IfOk result (λ replier. known_to replier ≡ self.old) }
         ensures same { self.new ≡ self.old }
-        ensures lost { IfErr result (λ error. error ≡ WorkerLost) }
+    {
+        let sender = self.sender.try_clone()?;
+        let pass = sender.another::<Shares>(&mut self.pass);
+        Ok(Replier {
+            sender,
+            pass,
+            run: self.run,
+        })
+    }
+
+    /// Takes the next message, if it has arrived.
+    fn look<R: Wait>(&mut self, rt: &R) -> Option<(usize, T::Outcome)>
+        ensures outcome { IfSome result (λ answer. (d : Dealt T.Part) → self.old ≡ Some d
+            → IsOutcomeOf T.is_outcome d answer.0 answer.1) }
+        ensures same { self.new ≡ self.old }
+    {
+        match self.receiver.try_recv_as::<Takes<T>, R>(rt, &mut self.pass) {
+            Ok(message) => answer_in::<T>(message, self.run),
+            Err(_) => None,
+        }
+    }
+
+    /// Sleeps until the next message arrives.
+    fn sleep<R: Wait>(&mut self, rt: &R) -> Option<(usize, T::Outcome)>
+        ensures outcome { IfSome result (λ answer. (d : Dealt T.Part) → self.old ≡ Some d
+            → IsOutcomeOf T.is_outcome d answer.0 answer.1) }
+        ensures same { self.new ≡ self.old }
+    {
+        match self.receiver.recv_as::<Takes<T>, R>(rt, &mut self.pass) {
+            Ok(message) => answer_in::<T>(message, self.run),
+            Err(_) => None,
+        }
+    }
+
+    /// Waits for the next message. Returns the worker and the outcome, if it is an answer in the
+    /// run of now.
+    pub(crate) fn receive<R: Wait>(&mut self, rt: &R) -> Option<(usize, T::Outcome)>
+        ensures outcome { IfSome result (λ answer. (d : Dealt T.Part) → self.old ≡ Some d
+            → IsOutcomeOf T.is_outcome d answer.0 answer.1) }
+        ensures same { self.new ≡ self.old }
     {
         for _ in 0..LOOKS {
-            match self.look(rt) {
-                Ok(message) => return Ok(message),
-                Err(TryRecvError::Empty) => hint::spin_loop(),
-                Err(TryRecvError::Disconnected) => return Err(PoolError::WorkerLost),
+            if let Some(answer) = self.look(rt) {
+                return Some(answer);
             }
+            hint::spin_loop();
         }
         self.sleep(rt)
     }

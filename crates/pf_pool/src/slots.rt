@@ -1,12 +1,10 @@
 //! What the workers of a pool have answered in a turn.
 
 ghost use Rattle.std.specs.Prelude.{◌≡◌, ℕ, ◌<◌, All, IfOk, IsNone, IsSome, IsTrue, None, Some, length, map, slice_index_or};
-ghost use Rattle.pf_pool.specs.Reply.{IsReply};
+ghost use Rattle.pf_pool.specs.Reply.{IsOutcomeOf};
 ghost use Rattle.pf_pool.specs.Slots.{AreAnswers, HaveAnswered};
 ghost use Rattle.pf_pool.specs.declared.reply.Dealt.{Dealt};
-ghost use Rattle.pf_pool.specs.declared.reply.Message.TheVariants.{Answer};
 
-use crate::reply::Message;
 use crate::task::Task;
 use std::alloc::{AllocError, Global};
 
@@ -37,23 +35,17 @@ pub(crate) fn have_answered<O>(slots: &[Option<O>], least: usize) -> bool
     true
 }
 
-/// Stores an answer in the slot of its worker, if that is empty. Other answers are dropped.
-pub(crate) fn accept<T: Task>(
-    message: Message<T::Part, T::Outcome>,
-    slots: &mut [Option<T::Outcome>],
-)
-    ensures answers { (d : Dealt T.Part) → IsReply T.is_outcome d message
+/// Stores the outcome of a worker in its slot, if that is empty. Other outcomes are dropped.
+pub(crate) fn accept<T: Task>(worker: usize, outcome: T::Outcome, slots: &mut [Option<T::Outcome>])
+    ensures answers { (d : Dealt T.Part) → IsOutcomeOf T.is_outcome d worker outcome
         → AreAnswers T.is_outcome d slots.old → AreAnswers T.is_outcome d slots.new }
-    ensures noted { (worker : ℕ) (outcome : T.Outcome) → message ≡ Answer worker outcome
-        → worker < length slots.old → IsSome (slice_index_or slots.new worker None) }
+    ensures noted { worker < length slots.old → IsSome (slice_index_or slots.new worker None) }
     ensures kept { (worker : ℕ) → IsSome (slice_index_or slots.old worker None)
         → slice_index_or slots.new worker None ≡ slice_index_or slots.old worker None }
     ensures count { length slots.new ≡ length slots.old }
 {
-    if let Message::Answer(worker, outcome) = message {
-        if worker < slots.len() && slots[worker].is_none() {
-            slots[worker] = Some(outcome);
-        }
+    if worker < slots.len() && slots[worker].is_none() {
+        slots[worker] = Some(outcome);
     }
 }
 

@@ -16,9 +16,7 @@ pub trait Task {
     fn run(&self, worker: usize, turn: usize, part: Self::Part) -> Self::Outcome
         ensures { is_outcome part result };
 
-    /// Whether the caller of a pool may do a part in place of its worker.
-    fn may_run_here(&self, part: &Self::Part) -> bool;
-
-    /// How much work a part is. It decides which part the caller does.
-    fn work_of(part: &Self::Part) -> usize;
+    /// Whether each part has to be done by the worker of its number. If not, the caller of a pool does
+    /// the first part, and those that no worker has begun.
+    fn is_watched(&self) -> bool;
 }

@@ -9,7 +9,7 @@ ghost use Rattle.pf_pool.specs.declared.error.PoolError.TheVariants.{NoThread};
 use crate::error::PoolError;
 use crate::reply::{LOOKS, Replier};
 use crate::task::Task;
-use crossbeam_channel::{Receiver, Sender, TryRecvError};
+use crossbeam_channel::{Receiver, SendError, Sender, TryRecvError};
 use std::alloc::{AllocError, Global};
 use std::marker::Model;
 use std::sync::{Arc, Wait};
@@ -32,22 +32,15 @@ impl<T: Task> Job<T> {
     ghost use Rattle.pf_pool.specs.Reply.{WasDealt};
 
     /// The job of a worker.
-    pub(crate) fn new(
-        turn: usize,
-        worker: usize,
-        part: T::Part,
-        replier: &mut Replier<T>,
-    ) -> Result<Job<T>, AllocError>
-        requires { WasDealt (known_to replier.old) worker part }
-        ensures { known_to replier.new ≡ known_to replier.old }
+    pub(crate) fn new(turn: usize, worker: usize, part: T::Part, replier: Replier<T>) -> Job<T>
+        requires { WasDealt (known_to replier) worker part }
     {
-        let replier = replier.another()?;
-        Ok(Job {
+        Job {
             turn,
             worker,
             part,
             replier,
-        })
+        }
     }
 
     /// Does the job, and answers.
@@ -107,13 +100,15 @@ where
     }
 }
 
-/// A worker: the channel of its jobs, and its thread, if it was this pool that started it. A worker
-/// that was dismissed has neither.
+/// A worker: the channel of its jobs, over which those that it has not begun are taken back, if
+/// that may be, and its thread, if it was this pool that started it. A worker that was dismissed
+/// has none of them.
 ///
 /// Contracts see whether it has its channel.
 #[derive(Drop)]
 pub(crate) struct Worker<T: Task> {
     jobs: Option<Sender<Option<Job<T>>, Global>>,
+    back: Option<Receiver<Option<Job<T>>, Global>>,
     thread: Option<JoinHandle<()>>,
 }
 
@@ -126,9 +121,33 @@ impl<T: Task> Model for Worker<T> {
 }
 
 impl<T: Task> Worker<T> {
-    ghost use Rattle.std.specs.Prelude.{◌≡◌, true, false, IfErr, IfOk, OnOk, Some};
-    ghost use Rattle.pf_pool.specs.declared.error.PoolError.TheVariants.{WorkerLost};
-    ghost use Rattle.pf_pool.specs.Pool.{IsRunError};
+    ghost use Rattle.std.specs.Prelude.{◌≡◌, Err, IfErr, IfOk, OnOk, Some, false, true};
+    ghost use Rattle.crossbeam_channel.specs.declared.err.SendError.TheVariants.{Disconnected};
+    ghost use Rattle.pf_pool.specs.Pool.{IsStartError};
+
+    /// Starts a worker. After an error its thread ends by itself, if it was started.
+    fn start<R>(rt: &R, alloc: Global, task: &Arc<T, Global>) -> Result<Worker<T>, PoolError>
+    where
+        R: Threads + Wait + Copy + Send + 'static,
+        T: Send + Sync + Drop + 'static,
+        T::Part: 'static,
+        T::Outcome: 'static,
+        ensures there { IfOk result (λ worker. worker ≡ true) }
+        ensures failed { IfErr result IsStartError }
+    {
+        let (jobs, received) = crossbeam_channel::bounded(alloc, 1)?;
+        let back = if task.is_watched() {
+            None
+        } else {
+            Some(received.clone()?)
+        };
+        let thread = start_thread(rt, Arc::try_clone(task)?, received)?;
+        Ok(Worker {
+            jobs: Some(jobs),
+            back,
+            thread: Some(thread),
+        })
+    }
 
     /// Whether it was not dismissed.
     pub(crate) fn is_there(&self) -> bool
@@ -145,40 +164,39 @@ impl<T: Task> Worker<T> {
             Some(jobs) => Some(jobs.clone()?),
             None => None,
         };
-        Ok(Worker { jobs, thread: None })
+        let back = match &self.back {
+            Some(back) => Some(back.clone()?),
+            None => None,
+        };
+        Ok(Worker {
+            jobs,
+            back,
+            thread: None,
+        })
     }
 
     /// Sends a job. Returns an error if the worker was dismissed, if its thread has ended, or where
     /// there is no memory.
-    pub(crate) fn ask<R: Wait>(&self, rt: &R, job: Job<T>) -> Result<(), PoolError>
+    pub(crate) fn ask<R: Wait>(&self, rt: &R, job: Job<T>) -> Result<(), SendError<Option<Job<T>>>>
         ensures there { OnOk result (self.now ≡ true) }
-        ensures failed { IfErr result IsRunError }
+        ensures gone { self.now ≡ false → result ≡ Err (Disconnected (Some job)) }
     {
-        let Some(jobs) = &self.jobs else {
-            return Err(PoolError::WorkerLost);
-        };
-        Ok(jobs.send(rt, Some(job))?)
+        match &self.jobs {
+            Some(jobs) => jobs.send(rt, Some(job)),
+            None => Err(SendError::Disconnected(Some(job))),
+        }
     }
 
-    /// Keeps a job for the caller of the pool, who does it in place of the worker. Returns an error
-    /// if the worker was dismissed.
-    pub(crate) fn hold(&self, job: Job<T>, held: &mut Option<Job<T>>) -> Result<(), PoolError>
-        ensures there { OnOk result (self.now ≡ true) }
-        ensures held { OnOk result (held.new ≡ Some job) }
-        ensures failed { IfErr result
-            (λ error. (error ≡ WorkerLost) × (self.now ≡ false) × (held.new ≡ held.old)) }
-    {
-        if !self.is_there() {
-            return Err(PoolError::WorkerLost);
-        }
-        *held = Some(job);
-        Ok(())
+    /// Takes a job back that the worker has not begun, if there is one.
+    pub(crate) fn take_back<R: Wait>(&self, rt: &R) -> Option<Job<T>> {
+        self.back.as_ref()?.try_recv(rt).ok()?
     }
 
     /// Tells its thread to end. Joins it, if it was this pool that started it.
     pub(crate) fn dismiss<R: Threads + Wait>(&mut self, rt: &R)
         ensures { self.new ≡ false }
     {
+        self.back = None;
         if let Some(jobs) = self.jobs.take() {
             let _ = jobs.send(rt, None);
         }
@@ -219,12 +237,7 @@ where
 {
     let mut workers = Vec::with_capacity(alloc, count)?;
     for _made in 0..count {
-        let (jobs, received) = crossbeam_channel::bounded(alloc, 1)?;
-        let thread = start_thread(rt, Arc::try_clone(task)?, received)?;
-        workers.push(Worker {
-            jobs: Some(jobs),
-            thread: Some(thread),
-        })?;
+        workers.push(Worker::start(rt, alloc, task)?)?;
     }
     Ok(workers)
 }

@@ -1,6 +1,6 @@
 //! The program, from the words of its call to its status.
 
-ghost use Rattle.std.specs.Prelude.{◌≡◌, ◌+◌, ◌^◌, ◌<◌, ◌≤◌, IfErr, IfOk, option_map};
+ghost use Rattle.std.specs.Prelude.{◌≡◌, ◌+◌, ◌^◌, ◌<◌, ◌≤◌, IfErr, IfOk, option_map, true};
 ghost use Rattle.std.specs.Process.{exit_status};
 ghost use Rattle.pf_pool.specs.declared.pool.TheConstants.{MAX_WORKERS};
 ghost use Rattle.pf_workers.specs.Crew.{IsStartError, new_crew};
@@ -13,7 +13,7 @@ use crate::command_line::options;
 use pf_console::{ProgramError, Request, finish, perform};
 use pf_manifold::OneThread;
 use pf_text::{Sink, Source};
-use pf_workers::{OpenGate, Workers};
+use pf_workers::{Gate, Workers};
 use std::alloc::Global;
 use std::convert::AsStr;
 use std::process::ExitCode;
@@ -21,11 +21,10 @@ use std::sync::Wait;
 use std::thread::Threads;
 
 /// The crew that a run asks for, if it asks for one, with a collider whose workers are the crew's.
-fn crew_of<T: Threads + Wait + Copy + Send + Sync + 'static>(
-    rt: T,
-    alloc: Global,
-    request: &Request,
-) -> Result<Option<Workers<T, OpenGate>>, ProgramError>
+fn crew_of<
+    T: Threads + Wait + Copy + Send + Sync + 'static,
+    G: Gate + Send + Sync + Drop + 'static,
+>(rt: T, alloc: Global, gate: G, request: &Request) -> Result<Option<Workers<T, G>>, ProgramError>
     requires { HasCrewSize request.now }
     ensures crew { IfOk result (λ made. option_map (λ w. w.crew) made ≡ crew_for request.now) }
     ensures fault { IfErr result (IsCrewStartError request.now) }
@@ -36,7 +35,7 @@ fn crew_of<T: Threads + Wait + Copy + Send + Sync + 'static>(
     else {
         return Ok(None);
     };
-    match Workers::start(rt, alloc, *size, OpenGate) {
+    match Workers::start(rt, alloc, *size, gate) {
         Ok(workers) => Ok(Some(workers)),
         Err(error) => Err(ProgramError::Crew(error)),
     }
@@ -45,13 +44,21 @@ fn crew_of<T: Threads + Wait + Copy + Send + Sync + 'static>(
 /// Does what the words of a call ask for. Where they ask for a run with a crew, it is made before
 /// anything is read, and closed at the end; the peers of a session make their own.
 #[tactic(auto, using(crate::proofs::Crews::can_start))]
-fn play<S: AsStr + Drop, R: Source, W: Sink, T: Threads + Wait + Copy + Send + Sync + 'static>(
+fn play<
+    S: AsStr + Drop,
+    R: Source,
+    W: Sink,
+    T: Threads + Wait + Copy + Send + Sync + 'static,
+    G: Gate + Send + Sync + Drop + 'static,
+>(
     rt: T,
     alloc: Global,
+    gate: G,
     words: Result<Vec<S>, ProgramError>,
     reader: &mut R,
     writer: &mut W,
 ) -> Result<(), ProgramError>
+    requires gate { G.ALWAYS ≡ true }
     requires words { FailsByWordsOrMemory words }
     requires reads { R.failures reader.old + 1 < 2 ^ 64 }
     requires writes { W.failures writer.old + 1 < 2 ^ 64 }
@@ -67,7 +74,7 @@ fn play<S: AsStr + Drop, R: Source, W: Sink, T: Threads + Wait + Copy + Send + S
 {
     let words = words?;
     let request = options(alloc, words.as_slice())?;
-    let Some(workers) = crew_of(rt, alloc, &request)? else {
+    let Some(workers) = crew_of(rt, alloc, gate, &request)? else {
         return perform(
             &rt,
             &OneThread,
@@ -84,21 +91,25 @@ fn play<S: AsStr + Drop, R: Source, W: Sink, T: Threads + Wait + Copy + Send + S
     outcome
 }
 
-/// Does what the words of a call ask for, reports an error, and returns the status to end with.
+/// Does what the words of a call ask for, reports an error, and returns the status to end with. The
+/// workers of a run with a crew pass the gate.
 pub fn program<
     S: AsStr + Drop,
     R: Source,
     W: Sink,
     E: Sink,
     T: Threads + Wait + Copy + Send + Sync + 'static,
+    G: Gate + Send + Sync + Drop + 'static,
 >(
     rt: T,
     alloc: Global,
+    gate: G,
     words: Result<Vec<S>, ProgramError>,
     reader: &mut R,
     writer: &mut W,
     errors: &mut E,
 ) -> ExitCode
+    requires gate { G.ALWAYS ≡ true }
     requires words { FailsByWordsOrMemory words }
     requires reads { R.failures reader.old + 1 < 2 ^ 64 }
     requires writes { W.failures writer.old + 1 < 2 ^ 64 }
@@ -120,5 +131,5 @@ pub fn program<
         }))
         (exit_status result) }
 {
-    ExitCode::from(finish(play(rt, alloc, words, reader, writer), errors))
+    ExitCode::from(finish(play(rt, alloc, gate, words, reader, writer), errors))
 }

@@ -106,6 +106,8 @@ pub enum Rule {
     /// The same, but a crew is told that nobody watches: so workers meet only if they are threads
     /// of their own also then.
     Unwatched,
+    /// For each worker at once. A crew is told that nobody watches.
+    Counted,
     /// For all but this worker in this turn.
     Shut {
         worker: usize,
@@ -148,6 +150,7 @@ impl<const IS_OPEN: bool> Gate for TrialGate<IS_OPEN> {
         self.book.note(worker, turn);
         let may_pass = match self.rule {
             Rule::Meeting | Rule::Unwatched => self.book.wait_for_all(turn),
+            Rule::Counted => true,
             Rule::Shut {
                 worker: shut_worker,
                 turn: shut_turn,
@@ -177,6 +180,6 @@ impl<const IS_OPEN: bool> Gate for TrialGate<IS_OPEN> {
     }
 
     fn is_watched(&self) -> bool {
-        !matches!(self.rule, Rule::Unwatched)
+        !matches!(self.rule, Rule::Unwatched | Rule::Counted)
     }
 }

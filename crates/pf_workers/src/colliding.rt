@@ -83,11 +83,6 @@ impl Chunk {
     {
         collide_list(alloc, &self.scene, &self.bodies, &self.pairs)
     }
-
-    /// How many pairs there are.
-    pub(crate) fn len(&self) -> usize {
-        self.pairs.len()
-    }
 }
 
 /// Cuts pairs in so many chunks of about one length.
@@ -151,7 +146,7 @@ impl<R, G: Gate> Model for StandingCollider<R, G> {
 }
 
 impl<R: Wait, G: Gate> StandingCollider<R, G> {
-    ghost use Rattle.std.specs.Prelude.{◌≡◌, All, IfOk, length};
+    ghost use Rattle.std.specs.Prelude.{◌≡◌, ◌≤◌, All, IfOk, length};
     ghost use Rattle.std.specs.Arc.{arc_value};
     ghost use Rattle.pf_shapes.specs.Pair.{IsPairOf};
     ghost use Rattle.pf_manifold.specs.Touches.{touches};
@@ -167,7 +162,7 @@ impl<R: Wait, G: Gate> StandingCollider<R, G> {
         }
     }
 
-    /// The chunks of the workers.
+    /// The chunks of the workers, as many as pay.
     fn chunks(
         &self,
         alloc: Global,
@@ -177,7 +172,7 @@ impl<R: Wait, G: Gate> StandingCollider<R, G> {
     ) -> Result<Vec<Part>, AllocError>
         requires bodies { length bodies.now ≡ length scene.now.fixtures }
         requires pairs { All (IsPairOf (length bodies.now)) pairs.now }
-        ensures count { IfOk result (λ parts. length parts.items ≡ length self.now) }
+        ensures count { IfOk result (λ parts. length parts.items ≤ length self.now) }
         ensures points { IfOk result
             (λ parts. ArePointsOf parts.items (touches scene.now.fixtures bodies.now pairs.now)) }
     {
@@ -185,7 +180,7 @@ impl<R: Wait, G: Gate> StandingCollider<R, G> {
         let mut copy = Vec::new(alloc);
         copy.extend_from_slice(bodies)?;
         let bodies = Arc::new(alloc, copy)?;
-        chunks_of(alloc, &scene, &bodies, pairs, self.pool.size())
+        chunks_of(alloc, &scene, &bodies, pairs, self.pool.part_count())
     }
 }
 

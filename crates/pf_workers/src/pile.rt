@@ -56,11 +56,6 @@ impl Pile {
         self.islands.pop()
     }
 
-    /// How many contacts its islands have.
-    pub(crate) fn contact_count(&self) -> usize {
-        contact_count(&self.islands)
-    }
-
     /// Solves each island. Cannot fail: where there is no memory to solve them together, each is
     /// solved by itself.
     pub(crate) fn solve(&mut self, scene: &Scene)

@@ -52,11 +52,6 @@ impl Share {
         let Share { scene, pile } = self;
         solve(&scene, gate, worker, turn, pile)
     }
-
-    /// How many contacts its islands have.
-    pub(crate) fn contact_count(&self) -> usize {
-        self.pile.contact_count()
-    }
 }
 
 /// The piles of all workers, each with the scene.

@@ -41,8 +41,9 @@ fn crew_error(error: PoolError) -> CrewError
 }
 
 /// A crew that starts its workers once. In a solve each is sent one message, with its islands and
-/// the scene, which all share, and sends one answer, with its islands after a tick. The caller does
-/// the job with the most contacts, while the others work, if nobody watches the gate.
+/// the scene, which all share, and sends one answer, with its islands after a tick. Where nobody
+/// watches the gate, the caller does the first job, and then those that no worker has begun, and
+/// there are no more jobs than the machine has processors.
 ///
 /// Contracts see which workers there still are, the turn of the next solve, and whether the crew is
 /// lost.
@@ -135,13 +136,13 @@ impl<R: Wait, G: Gate> StandingCrew<R, G> {
         self.pool.dismiss(worker);
     }
 
-    /// Passes the gate for each worker, and returns whether it was open for all.
-    fn pass_for_all(&self, turn: usize) -> bool
+    /// Passes the gate for each worker from this one on, and returns whether it was open for all.
+    fn pass_from(&self, least: usize, turn: usize) -> bool
         ensures { G.ALWAYS ≡ true → IsTrue result }
     {
         let gate = &self.pool.task().gate;
         let mut is_open = true;
-        for number in 0..self.pool.size() {
+        for number in least..self.pool.size() {
             is_open = gate.pass(number, turn) && is_open;
         }
         is_open
@@ -159,7 +160,7 @@ impl<R: Wait, G: Gate> StandingCrew<R, G> {
             (λ solved. solved.items ≡ map (island_after_tick scene.now) islands.items) }
         ensures failed { IfErr result (IsStandingError G.ALWAYS) }
     {
-        if !self.pass_for_all(turn) {
+        if !self.pass_from(0, turn) {
             return Err(CrewError::GateShut);
         }
         let mut islands = islands;
@@ -169,7 +170,7 @@ impl<R: Wait, G: Gate> StandingCrew<R, G> {
 
     /// Lets the workers solve their piles.
     fn run(&self, scene: &Scene, turn: usize, piles: Vec<Pile>) -> Result<Vec<Pile>, CrewError>
-        requires count { length piles.items ≡ length self.now.workers }
+        requires count { length piles.items ≤ length self.now.workers }
         requires islands { All (All (IsIslandOf scene.now)) piles.items }
         ensures solved { IfOk result
             (λ solved. solved.items ≡ map (map (island_after_tick scene.now)) piles.items) }
@@ -183,21 +184,22 @@ impl<R: Wait, G: Gate> StandingCrew<R, G> {
         }
     }
 
-    /// Piles without islands for all workers, in the memory of the last ones.
+    /// Piles without islands, as many as pay, in the memory of the last ones.
     fn take_piles(&mut self) -> Result<Vec<Pile>, AllocError>
         ensures some { IfOk result (λ piles. 0 < length piles.items) }
-        ensures count { IfOk result (λ piles. length piles.items ≡ length self.old.workers) }
+        ensures count { IfOk result (λ piles. length piles.items ≤ length self.old.workers) }
         ensures empty { IfOk result (λ piles. All (λ pile. pile ≡ []) piles.items) }
         ensures same { self.new ≡ self.old }
     {
         let piles = mem::replace(&mut self.piles, Vec::new(self.alloc));
-        if piles.len() == self.pool.size() {
+        if piles.len() == self.pool.part_count() {
             return Ok(piles);
         }
-        empty_piles(self.alloc, self.pool.size())
+        empty_piles(self.alloc, self.pool.part_count())
     }
 
-    /// Solves each island by the workers, in a turn that was counted.
+    /// Solves each island by the workers, in a turn that was counted. Passes the gate for those that
+    /// have no part.
     fn solve_by_workers(
         &mut self,
         scene: &Scene,
@@ -210,6 +212,9 @@ impl<R: Wait, G: Gate> StandingCrew<R, G> {
         ensures same { self.new ≡ self.old }
         ensures failed { IfErr result (IsStandingError G.ALWAYS) }
     {
+        if !self.pass_from(self.pool.part_count(), turn) {
+            return Err(CrewError::GateShut);
+        }
         let mut islands = islands;
         let count = islands.len();
         let empty = self.take_piles()?;

@@ -74,17 +74,7 @@ impl<G: Gate> Task for Work<G> {
         }
     }
 
-    fn may_run_here(&self, part: &Part) -> bool {
-        match part {
-            Part::Islands(_) => !self.gate.is_watched(),
-            Part::Pairs(_) => true,
-        }
-    }
-
-    fn work_of(part: &Part) -> usize {
-        match part {
-            Part::Islands(share) => share.contact_count(),
-            Part::Pairs(chunk) => chunk.len(),
-        }
+    fn is_watched(&self) -> bool {
+        self.gate.is_watched()
     }
 }

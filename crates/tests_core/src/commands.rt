@@ -201,7 +201,8 @@ fn thousands_of_commands_are_merged(rt: HostRuntime) -> Result<(), Fail> {
     Ok(())
 }
 
-/// Whether a map whose commands the scene allows is told from one of which the first is at fault.
+/// Whether `check_all` accepts a map whose commands the scene allows, and rejects another whose
+/// first command it does not allow.
 fn are_checked(
     scene: &Scene,
     map: &mut CommandMap,

@@ -1,13 +1,16 @@
 //! Calls from their words to their status, with what is written and what is reported.
 
+ghost use Rattle.std.specs.Prelude.{◌≡◌, true};
 ghost use Rattle.pf_program.specs.Options.{FailsByWordsOrMemory};
 
 use pf_console::ProgramError;
 use pf_program::program;
 use pf_text::{Bytes, Collected};
+use pf_trials::{Book, Rule, TrialGate};
+use pf_workers::{Gate, OpenGate};
 use std::alloc::{AllocError, Global};
 use std::process::ExitCode;
-use std::sync::Wait;
+use std::sync::{Arc, Wait};
 use std::test::Fail;
 use std::thread::Threads;
 
@@ -20,7 +23,40 @@ pub(crate) const FALLEN: &str =
 /// The status, what is written, and what is reported of an error.
 pub(crate) type Ended = (ExitCode, Collected, Collected);
 
-/// How a call ends on a text in memory. A sink in memory fails only where no memory is left.
+/// How a call ends on a text in memory, whose crew passes a gate. A sink in memory fails only where
+/// no memory is left.
+fn answered_by<
+    T: Threads + Wait + Copy + Send + Sync + 'static,
+    G: Gate + Send + Sync + Drop + 'static,
+>(
+    rt: T,
+    alloc: Global,
+    gate: G,
+    words: Result<Vec<&str>, ProgramError>,
+    text: &str,
+) -> Result<Ended, AllocError>
+    requires gate { G.ALWAYS ≡ true }
+    requires words { FailsByWordsOrMemory words }
+{
+    let mut reader = Bytes::new(text.as_bytes());
+    let mut output = Collected::new(alloc);
+    let mut errors = Collected::new(alloc);
+    let status = program(
+        rt,
+        alloc,
+        gate,
+        words,
+        &mut reader,
+        &mut output,
+        &mut errors,
+    );
+    if status != ExitCode::SUCCESS && errors.bytes().is_empty() {
+        return Err(AllocError);
+    }
+    Ok((status, output, errors))
+}
+
+/// How a call ends on a text in memory.
 pub(crate) fn answered<T: Threads + Wait + Copy + Send + Sync + 'static>(
     rt: T,
     alloc: Global,
@@ -29,14 +65,7 @@ pub(crate) fn answered<T: Threads + Wait + Copy + Send + Sync + 'static>(
 ) -> Result<Ended, AllocError>
     requires { FailsByWordsOrMemory words }
 {
-    let mut reader = Bytes::new(text.as_bytes());
-    let mut output = Collected::new(alloc);
-    let mut errors = Collected::new(alloc);
-    let status = program(rt, alloc, words, &mut reader, &mut output, &mut errors);
-    if status != ExitCode::SUCCESS && errors.bytes().is_empty() {
-        return Err(AllocError);
-    }
-    Ok((status, output, errors))
+    answered_by(rt, alloc, OpenGate, words, text)
 }
 
 /// The same of a call that has its words and memory.
@@ -109,5 +138,44 @@ fn standing_workers_change_no_reply(rt: HostRuntime) -> Result<(), Fail> {
     let text = circles_on_a_floor(rt.alloc(), 160)?;
     let is_so = changes_no_reply(rt, rt.alloc(), text.as_str())?;
     assert!(rt; is_so);
+    Ok(())
+}
+
+/// A circle on a floor, with these events.
+fn events_on_a_floor(alloc: Global, events: &str) -> Result<String, AllocError> {
+    let mut text = String::from_str(
+        alloc,
+        "gravity 0 -167772160\nbox - 0 8388608 167772160 16777216 0 -16777216 16777216 0\n\
+         circle 0 16777216 8388608 16777216 0 16777216\nend\npeers 1\n",
+    )?;
+    text.push_str(events)?;
+    Ok(text)
+}
+
+/// What a run with a crew of two notes at a gate that counts.
+fn noted<T: Threads + Wait + Copy + Send + Sync + 'static>(
+    rt: T,
+    alloc: Global,
+    events: &str,
+) -> Result<String, AllocError> {
+    let text = events_on_a_floor(alloc, events)?;
+    let words = Vec::from_slice(alloc, &["pf_play", "run", "--crew", "2"])?;
+    let book = Arc::new(alloc, Book::new(alloc, 2)?)?;
+    let gate = TrialGate::<true>::new(Rule::Counted, Arc::try_clone(&book)?);
+    answered_by(rt, alloc, gate, Ok(words), text.as_str())?;
+    book.text(alloc)
+}
+
+#[test]
+fn a_settle_calls_the_crew_for_each_tick(rt: HostRuntime) -> Result<(), Fail> {
+    let noted = noted(rt, rt.alloc(), "advance 0 3\nsettle 0\nshow 0 3\n")?;
+    assert!(rt; noted.as_str() == " shut 0 passes 3/3 3/3");
+    Ok(())
+}
+
+#[test]
+fn other_lines_do_not_call_the_crew(rt: HostRuntime) -> Result<(), Fail> {
+    let noted = noted(rt, rt.alloc(), "advance 0 3\nshow 0 3\n")?;
+    assert!(rt; noted.as_str() == " shut 0 passes 0/0 0/0");
     Ok(())
 }

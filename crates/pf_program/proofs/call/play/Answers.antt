@@ -6,6 +6,7 @@ use Rattle.clap.specs.Words.{fault_of, subcommand_of}
 use Rattle.pf_program.specs.Options.{ParsesAs, command_line}
 use Rattle.pf_program.proofs.Crews.{err_same, fails_as, names_alone, never_shut, started_not_shut, wants, words_name_none}
 use Rattle.pf_manifold.specs.declared.parallel.OneThread.{OneThread}
+use Rattle.pf_workers.specs.Crew.{FailsStanding}
 use Rattle.pf_program.specs.Program.{IsCrewStartError}
 use Rattle.pf_program.proofs.call.play.Goals as goal
 
@@ -35,7 +36,8 @@ returns-clause-plays g c =
       crew = λ error is.
           let wanted = wants c.in_ok-request.request _ (sym (ap (option_map (λ w. w.crew)) c.in-Some.is) ∙ c.in_ok-workers.ensures.crew) in
           let can = fails_as _ c.perform-outcome.result c.in_ok-request.request wanted c.perform-outcome.ensures.crew error is in
-          inl (wanted, never_shut can.0 can.2 error can.3);
+          let failed = subst (λ always. FailsStanding always can.0 error can.2) c.requires.gate can.3 in
+          inl (wanted, never_shut can.0 can.2 error failed);
     }
 
 pub returns-in_err-workers-clause-plays : goal.returns-in_err-workers-clause-plays

@@ -6,8 +6,8 @@ use Rattle.pf_pool.proofs.pool.Pool.collect.Given as goal
 abbrev pub invariant-loop : goal.invariant-loop
 invariant-loop g l = record {
   next : (goal.iterator-loop g).can_next l.iterator' × (goal.iterator-loop g).is_finite l.iterator';
-  knows : l.collector ≡ l.fn.collector;
+  knows : l.collector ≡ l.initial.collector;
   count : length l.slots ≡ length l.initial.slots;
-  answers : (d : Dealt g.row.T-Part.Denot) → l.collector ≡ Some d
+  answers : (d : Dealt g.row.T-Part.Denot) → l.initial.collector ≡ Some d
       → AreAnswers g.T.Task.is_outcome d l.initial.slots → AreAnswers g.T.Task.is_outcome d l.slots;
 }
