@@ -1,7 +1,7 @@
 use Rattle.std.proofs.Common.{◌∙◌, ap, get_or, set}
 use Rattle.std.proofs.lemmas.List.Edits.{map_over_more}
 use Rattle.pf_solver.specs.Alone.{island_after_tick}
-use Rattle.tests_solver.proofs.batches.solve_each.Goals as goal
+use Rattle.tests_tick.proofs.batches.solve_each.Goals as goal
 
 pub loop-island-preserved : goal.loop-island-preserved
 loop-island-preserved c =

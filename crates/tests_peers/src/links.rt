@@ -1,9 +1,9 @@
 //! Links, and peers that play scripts over them, one after the other on one thread.
 
-use crate::scenes::scene_of;
 use pf_commands::{Command, FRAME_LEN, Name, Payload, encode};
 use pf_peers::{Link, LinkIn, LinkOut, Peer, Turn};
 use pf_rollback::{MAX_RING, PeerCore, PeerError};
+use pf_shapes::Scene;
 use pf_workers::OpenGate;
 use std::alloc::{AllocError, Global};
 use std::sync::Wait;
@@ -52,7 +52,7 @@ fn core_of(alloc: Global, player: u8) -> Result<PeerCore, Fail> {
     if player >= 2 {
         return Err(Fail::from("no such player"));
     }
-    let scene = scene_of(alloc, SCENE)?;
+    let scene = Scene::read(alloc, SCENE)?;
     Ok(PeerCore::new(alloc, scene, player, MAX_RING)?)
 }
 

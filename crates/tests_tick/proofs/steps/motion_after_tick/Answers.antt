@@ -1,7 +1,7 @@
 use Rattle.std.proofs.Common.{◌-◌, ◌<◌, ap, arith, subst, sym, vec_len}
 use Rattle.std.specs.Prelude.{unwrap_or}
 use Rattle.pf_islands.specs.Split.{Island, IsIslandOf}
-use Rattle.tests_core.proofs.steps.motion_after_tick.Goals as goal
+use Rattle.tests_tick.proofs.steps.motion_after_tick.Goals as goal
 
 pub solve-requires : goal.solve-requires
 solve-requires c =

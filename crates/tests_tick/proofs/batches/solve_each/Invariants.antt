@@ -1,6 +1,6 @@
 use Rattle.std.proofs.Common.{◌≡◌, take, drop, ◌++◌, map}
 use Rattle.pf_solver.specs.Alone.{island_after_tick}
-use Rattle.tests_solver.proofs.batches.solve_each.Given as goal
+use Rattle.tests_tick.proofs.batches.solve_each.Given as goal
 
 abbrev pub invariant-loop-island : goal.invariant-loop-island
 invariant-loop-island l =

@@ -4,9 +4,9 @@
 ghost use Rattle.std.specs.Prelude.{◌≡◌};
 ghost use Rattle.pf_events.specs.Session.{other_peer_of, peer_of};
 
-use crate::scenes::scene_of;
 use pf_commands::Payload;
 use pf_peers::{Event, Reply, Session, run};
+use pf_shapes::Scene;
 use pf_step::Work;
 use std::alloc::Global;
 use std::test::Fail;
@@ -37,7 +37,7 @@ fn are_the_replies(replies: &[Reply]) -> bool {
 
 #[test]
 fn events_have_replies(rt: HostRuntime) -> Result<(), Fail> {
-    let scene = scene_of(rt.alloc(), SCENE)?;
+    let scene = Scene::read(rt.alloc(), SCENE)?;
     let events = [
         Event::Advance { peer: 0, ticks: 4 },
         Event::Issue {
@@ -92,7 +92,7 @@ fn ticks_after_settle(session: &mut Session, alloc: Global) -> Result<u64, Fail>
 
 #[test]
 fn a_settle_keeps_worlds(rt: HostRuntime) -> Result<(), Fail> {
-    let scene = scene_of(rt.alloc(), SCENE)?;
+    let scene = Scene::read(rt.alloc(), SCENE)?;
     let mut session = Session::new(rt.alloc(), scene, 1)?;
     let ticks = ticks_after_settle(&mut session, rt.alloc())?;
     assert!(rt; ticks == 0 && settled_of_first(&session) == 4);
