@@ -23,8 +23,8 @@ invariant_of-self g c =
     let f = island_after_tick c.args.scene.now in
     let islands = c.args.islands.items in
     let many : length islands ≡ c.len-count.result = search rules in (
-      c.self.invariant.0,
-      c.self.invariant.1,
+      c.self-2.invariant.0,
+      c.self-2.invariant.1,
       c.in_ok-self-inside.ensures.empty (map f islands) (shares_after f islands _ _ c.in_ok-piles.ensures.shares c.in_ok-solved.ensures.solved)
           (length-map islands f ∙ many),
     )
