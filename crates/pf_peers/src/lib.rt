@@ -6,4 +6,4 @@
 pub use pf_events::{Event, Reply, Session, run};
 pub use pf_links::{Link, LinkIn, LinkOut, MAX_CAPACITY};
 pub use pf_scripts::{MAX_POLLS, Peer, Polled, SessionError, Turn};
-pub use pf_sessions::{LINK_CAPACITY, RING, run_session};
+pub use pf_sessions::{LINK_CAPACITY, RING, linked_peers, run_session};

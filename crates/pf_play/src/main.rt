@@ -3,7 +3,6 @@
 
 use pf_program::{program, words_of};
 use pf_text::{Input, Output};
-use pf_workers::OpenGate;
 use std::io::{Stderr, Stdin, Stdout};
 use std::process::ExitCode;
 
@@ -15,7 +14,6 @@ fn main(rt: HostRuntime) -> ExitCode {
     program(
         rt,
         rt.alloc(),
-        OpenGate,
         words_of(&rt),
         &mut input,
         &mut output,

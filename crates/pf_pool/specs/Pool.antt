@@ -1,5 +1,5 @@
 -- What a contract sees of a pool, and with which errors it fails.
-use Rattle.std.specs.Prelude.{◌≡◌, ℕ, ◌<◌, ⊤, Bool, true, List, All, length, slice_index_or}
+use Rattle.std.specs.Prelude.{◌≡◌, ℕ, ◌<◌, ⊤, Bool, true, List, All, IsSome, Option, length, slice_index_or}
 use Rattle.crossbeam_channel.specs.declared.err.SendError.{SendError}
 use Rattle.crossbeam_channel.specs.declared.err.SendError.TheVariants as sends
 use Rattle.pf_pool.specs.declared.error.PoolError.{PoolError}
@@ -21,6 +21,12 @@ IsRunError WorkerLost = ⊤
 abbrev pub error_of_send : {T : Type 0} → SendError T → PoolError
 error_of_send (sends.OutOfMemory job) = OutOfMemory
 error_of_send (sends.Disconnected job) = WorkerLost
+
+-- the error of a job for a worker: where it could not be sent, it comes back, and where there was
+-- no memory for it, that is told as out of memory
+abbrev pub IsAskError : {J : Type 0} → SendError (Option J) → Type 0
+IsAskError (sends.OutOfMemory job) = ⊤
+IsAskError (sends.Disconnected job) = IsSome job
 
 -- no worker was dismissed
 abbrev pub HasAllWorkers : List Bool → Type 0

@@ -47,6 +47,15 @@ impl<R, T: Task> Model for Pool<R, T> {
         (n ≤ MAX_WORKERS) × (0 < p.part_count) × (p.part_count ≤ n) };
 }
 
+/// What the workers from number `least` on have answered, and the error with which the others were
+/// not asked, if there was one.
+#[derive(Drop)]
+struct Answers<T: Task> {
+    least: usize,
+    asked: Result<(), SendError<Option<Job<T>>>>,
+    slots: Vec<Option<T::Outcome>>,
+}
+
 /// Into how many parts work is best cut, for so many workers: where nobody watches, not into more
 /// than there are processors, since some parts would then only wait for others, but into two.
 fn best_part_count<R: Threads, T: Task>(rt: &R, workers: usize, task: &T) -> usize
@@ -65,7 +74,7 @@ fn best_part_count<R: Threads, T: Task>(rt: &R, workers: usize, task: &T) -> usi
 
 impl<R: Wait, T: Task> Pool<R, T> {
     ghost use Rattle.std.specs.Prelude.{◌≡◌, ◌<◌, ◌≤◌, IfErr, IfOk, IsFalse, IsTrue, OnOk, Some, false, length, replicate, slice_index_or, slice_set, true};
-    ghost use Rattle.pf_pool.specs.Pool.{AreOutcomes, HasAllWorkers, IsRunError, IsStartError};
+    ghost use Rattle.pf_pool.specs.Pool.{AreOutcomes, HasAllWorkers, IsAskError, IsRunError, IsStartError};
     ghost use Rattle.pf_pool.specs.Reply.{WasDealt, WereDealt};
     ghost use Rattle.pf_pool.specs.Slots.{AreAnswers, HaveAnswered};
     ghost use Rattle.pf_pool.specs.declared.reply.Dealt.{Dealt};
@@ -109,7 +118,7 @@ impl<R: Wait, T: Task> Pool<R, T> {
     }
 
     /// Into how many parts work is best cut: into one for each worker, or, where nobody watches, for
-    /// each processor, if there are fewer.
+    /// each processor, if there are fewer, but into two.
     pub fn part_count(&self) -> usize
         ensures some { 0 < result }
         ensures most { result ≤ length self.now }
@@ -131,8 +140,9 @@ impl<R: Wait, T: Task> Pool<R, T> {
     }
 
     /// A pool of the same workers, which does not join them. After this pool has dismissed one, or
-    /// was closed, no work of the other succeeds. Neither may be done while the other runs: the
-    /// other may then wait for ever.
+    /// was closed, the other fails where somebody watches, and else does those parts itself. Neither
+    /// may be done while the other runs, nor may the other dismiss: one of the two may then wait for
+    /// ever.
     pub fn another(&self) -> Result<Pool<R, T>, AllocError>
     where
         R: Copy,
@@ -200,7 +210,8 @@ impl<R: Wait, T: Task> Pool<R, T> {
     ) -> Result<(), SendError<Option<Job<T>>>>
         requires within { worker < length self.now }
         requires dealt { WasDealt collector.old worker part }
-        ensures { collector.new ≡ collector.old }
+        ensures same { collector.new ≡ collector.old }
+        ensures failed { IfErr result IsAskError }
     {
         let Ok(replier) = collector.replier() else {
             return Err(SendError::OutOfMemory(None));
@@ -214,8 +225,8 @@ impl<R: Wait, T: Task> Pool<R, T> {
     }
 
     /// Asks one worker after the other to do its part, from the last to the first, up to the first
-    /// error. Returns the number of the last worker that was asked. The first part is put into `own`
-    /// in place of that, if the caller may do it.
+    /// error. Returns the least number of those that were asked, or how many parts there are if none
+    /// was. The first part is put into `own` in place of that, if the caller may do it.
     fn ask_each(
         &self,
         turn: usize,
@@ -228,6 +239,7 @@ impl<R: Wait, T: Task> Pool<R, T> {
         ensures same { collector.new ≡ collector.old }
         ensures asked { result.0 ≤ length parts.items }
         ensures all { OnOk result.1 (result.0 ≡ 0) }
+        ensures failed { IfErr result.1 IsAskError }
     {
         let mut parts = parts;
         while let Some(part) = parts.pop() {
@@ -273,30 +285,34 @@ impl<R: Wait, T: Task> Pool<R, T> {
         unreachable!()
     }
 
-    /// The slots after all workers have answered. Returns the error with which the others were not
-    /// asked, if there was one, once those that were asked have answered.
+    /// Has all parts done that can be asked for, and waits until those who were asked have answered.
     fn answers(
         &self,
         turn: usize,
         parts: Vec<T::Part>,
         collector: &mut Collector<T>,
         slots: Vec<Option<T::Outcome>>,
-    ) -> Result<Vec<Option<T::Outcome>>, SendError<Option<Job<T>>>>
+    ) -> Answers<T>
         requires dealt { WereDealt collector.old parts.items }
         requires count { length parts.items ≤ length self.now }
         requires slots { length slots.items ≡ length parts.items }
-        ensures count { IfOk result (λ after. length after.items ≡ length slots.items) }
-        ensures answers { IfOk result (λ after. (d : Dealt T.Part) → collector.old ≡ Some d
-            → AreAnswers T.is_outcome d slots.items → AreAnswers T.is_outcome d after.items) }
-        ensures all { IfOk result (λ after. HaveAnswered 0 after.items) }
+        ensures count { length result.slots.items ≡ length slots.items }
+        ensures answers { (d : Dealt T.Part) → collector.old ≡ Some d
+            → AreAnswers T.is_outcome d slots.items → AreAnswers T.is_outcome d result.slots.items }
+        ensures all { HaveAnswered result.least result.slots.items }
+        ensures asked { OnOk result.asked (result.least ≡ 0) }
+        ensures failed { IfErr result.asked IsAskError }
     {
         let mut slots = slots;
         let mut own = None;
         let (least, asked) = self.ask_each(turn, parts, collector, &mut own);
         self.help(own, least);
         self.collect(collector, least, &mut slots);
-        asked?;
-        Ok(slots)
+        Answers {
+            least,
+            asked,
+            slots,
+        }
     }
 
     /// Has each part done, and waits for all of them: outcome k is what worker k makes of part k, and
@@ -318,6 +334,7 @@ impl<R: Wait, T: Task> Pool<R, T> {
         let mut collector = self.deal(&parts)?;
         let answers = self.answers(turn, parts, &mut collector, slots);
         self.collector.set(Some(collector));
-        Ok(all_answers(self.alloc, answers?)?)
+        answers.asked?;
+        Ok(all_answers(self.alloc, answers.slots)?)
     }
 }

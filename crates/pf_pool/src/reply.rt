@@ -165,7 +165,7 @@ fn answer_in<T: Task>(
 
 /// The end of the caller: it tells what is dealt in a run, and the answers arrive over it.
 ///
-/// Contracts see what was dealt in the run of now.
+/// Contracts see what was dealt in the current run.
 #[derive(Drop)]
 pub(crate) struct Collector<T: Task> {
     sender: RuledSender<Message<T::Part, T::Outcome>, Known<T::Part>, Replies<T>>,
@@ -216,7 +216,8 @@ impl<T: Task> Collector<T> {
         })
     }
 
-    /// Begins the next run, in which these parts are dealt. Returns an error after 2^64 runs.
+    /// Begins the next run, in which these parts are dealt. Returns an error where there is no next
+    /// number.
     pub(crate) fn deal<R: Wait>(
         self,
         rt: &R,
@@ -226,6 +227,8 @@ impl<T: Task> Collector<T> {
         ensures failed { IfErr result (λ error. error ≡ WorkerLost) }
     {
         let mut collector = self;
+        // What a run has left in which nobody was asked.
+        let _ = collector.look(rt);
         let run = collector.run.checked_add(1).ok_or(PoolError::WorkerLost)?;
         let message = Message::Dealt(dealt);
         match collector
@@ -240,7 +243,7 @@ impl<T: Task> Collector<T> {
         }
     }
 
-    /// The end of a worker in the run of now.
+    /// The end of a worker in the current run.
     pub(crate) fn replier(&mut self) -> Result<Replier<T>, AllocError>
         ensures knows { IfOk result (λ replier. known_to replier ≡ self.old) }
         ensures same { self.new ≡ self.old }
@@ -279,7 +282,7 @@ impl<T: Task> Collector<T> {
     }
 
     /// Waits for the next message. Returns the worker and the outcome, if it is an answer in the
-    /// run of now.
+    /// current run.
     pub(crate) fn receive<R: Wait>(&mut self, rt: &R) -> Option<(usize, T::Outcome)>
         ensures outcome { IfSome result (λ answer. (d : Dealt T.Part) → self.old ≡ Some d
             → IsOutcomeOf T.is_outcome d answer.0 answer.1) }

@@ -17,6 +17,6 @@ pub trait Task {
         ensures { is_outcome part result };
 
     /// Whether each part has to be done by the worker of its number. If not, the caller of a pool does
-    /// the first part, and those that no worker has begun.
+    /// the first part, and those that no worker has begun. The answer is always the same.
     fn is_watched(&self) -> bool;
 }

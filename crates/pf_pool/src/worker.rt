@@ -100,11 +100,11 @@ where
     }
 }
 
-/// A worker: the channel of its jobs, over which those that it has not begun are taken back, if
-/// that may be, and its thread, if it was this pool that started it. A worker that was dismissed
-/// has none of them.
+/// A worker: the sender of its jobs; a receiver that takes back those that it has not begun, unless
+/// somebody watches; and its thread, if this pool started it. One that was dismissed has none of
+/// these.
 ///
-/// Contracts see whether it has its channel.
+/// Contracts see whether it was not dismissed.
 #[derive(Drop)]
 pub(crate) struct Worker<T: Task> {
     jobs: Option<Sender<Option<Job<T>>, Global>>,
@@ -122,6 +122,7 @@ impl<T: Task> Model for Worker<T> {
 
 impl<T: Task> Worker<T> {
     ghost use Rattle.std.specs.Prelude.{◌≡◌, Err, IfErr, IfOk, OnOk, Some, false, true};
+    ghost use Rattle.crossbeam_channel.specs.Err.{send_message};
     ghost use Rattle.crossbeam_channel.specs.declared.err.SendError.TheVariants.{Disconnected};
     ghost use Rattle.pf_pool.specs.Pool.{IsStartError};
 
@@ -180,6 +181,7 @@ impl<T: Task> Worker<T> {
     pub(crate) fn ask<R: Wait>(&self, rt: &R, job: Job<T>) -> Result<(), SendError<Option<Job<T>>>>
         ensures there { OnOk result (self.now ≡ true) }
         ensures gone { self.now ≡ false → result ≡ Err (Disconnected (Some job)) }
+        ensures back { IfErr result (λ error. send_message error ≡ Some job) }
     {
         match &self.jobs {
             Some(jobs) => jobs.send(rt, Some(job)),

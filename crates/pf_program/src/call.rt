@@ -13,7 +13,7 @@ use crate::command_line::options;
 use pf_console::{ProgramError, Request, finish, perform};
 use pf_manifold::OneThread;
 use pf_text::{Sink, Source};
-use pf_workers::{Gate, Workers};
+use pf_workers::{Gate, OpenGate, Workers};
 use std::alloc::Global;
 use std::convert::AsStr;
 use std::process::ExitCode;
@@ -91,9 +91,8 @@ fn play<
     outcome
 }
 
-/// Does what the words of a call ask for, reports an error, and returns the status to end with. The
-/// workers of a run with a crew pass the gate.
-pub fn program<
+/// What `program` does, where the workers of a run with a crew pass a gate.
+pub fn program_by_gate<
     S: AsStr + Drop,
     R: Source,
     W: Sink,
@@ -132,4 +131,43 @@ pub fn program<
         (exit_status result) }
 {
     ExitCode::from(finish(play(rt, alloc, gate, words, reader, writer), errors))
+}
+
+/// Does what the words of a call ask for, reports an error, and returns the status to end with.
+pub fn program<
+    S: AsStr + Drop,
+    R: Source,
+    W: Sink,
+    E: Sink,
+    T: Threads + Wait + Copy + Send + Sync + 'static,
+>(
+    rt: T,
+    alloc: Global,
+    words: Result<Vec<S>, ProgramError>,
+    reader: &mut R,
+    writer: &mut W,
+    errors: &mut E,
+) -> ExitCode
+    requires words { FailsByWordsOrMemory words }
+    requires reads { R.failures reader.old + 1 < 2 ^ 64 }
+    requires writes { W.failures writer.old + 1 < 2 ^ 64 }
+    requires reports { E.failures errors.old + 1 < 2 ^ 64 }
+    ensures { Ends
+        (Plays S.text words (record {
+          unread = R.remaining reader.old;
+          left = R.remaining reader.new;
+          before = W.contents writer.old;
+          after = W.contents writer.new;
+        }))
+        (λ outcome. CountsReads (R.failures reader.old) outcome (R.failures reader.new)
+        × CountsWrites (W.failures writer.old) outcome (W.failures writer.new))
+        (Reports (record {
+          before = E.contents errors.old;
+          after = E.contents errors.new;
+          failures_before = E.failures errors.old;
+          failures_after = E.failures errors.new;
+        }))
+        (exit_status result) }
+{
+    program_by_gate(rt, alloc, OpenGate, words, reader, writer, errors)
 }

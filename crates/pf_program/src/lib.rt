@@ -5,5 +5,5 @@
 mod call;
 mod command_line;
 
-pub use call::program;
+pub use call::{program, program_by_gate};
 pub use command_line::{options, words_of};

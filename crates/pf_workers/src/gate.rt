@@ -2,8 +2,8 @@
 
 ghost use Rattle.std.specs.Prelude.{◌≡◌, true, IsTrue};
 
-/// Says whether a worker may work. In a solve that succeeds each worker has passed it once, also
-/// one that has no island. A test or a debugger holds workers up by it, or sees that they meet.
+/// Says whether a worker may work. In a solve that succeeds each worker, or the caller for it where
+/// nobody watches, has passed it once, also for one that has no island. A test or a debugger holds workers up by it, or sees that they meet.
 pub trait Gate {
     ghost use Rattle.std.specs.Prelude.{◌≡◌, Bool, true, IsTrue};
 
@@ -21,7 +21,7 @@ pub trait Gate {
         ensures { ALWAYS ≡ true → IsTrue result };
 
     /// Whether a pass may wait for another worker, or be seen by anybody. If not, the caller of a
-    /// standing crew may pass the gate for a worker, and do its job.
+    /// standing crew may pass the gate for a worker, and do its job. The answer is always the same.
     fn is_watched(&self) -> bool {
         true
     }

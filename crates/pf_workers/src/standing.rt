@@ -23,10 +23,10 @@ use std::thread::Threads;
 /// From this many contacts in a tick on, islands are dealt to the workers.
 const CONTACTS_FOR_THREADS: usize = 64;
 
-/// Whether there are too few contacts for threads to pay: solving them takes no longer than waking
-/// the workers.
+/// Whether threads do not pay: there is nothing to share, or solving takes no longer than waking the
+/// workers.
 fn is_little(islands: &[Island]) -> bool {
-    contact_count(islands) < CONTACTS_FOR_THREADS
+    islands.len() < 2 || contact_count(islands) < CONTACTS_FOR_THREADS
 }
 
 /// The error of a crew whose pool failed.
@@ -42,8 +42,8 @@ fn crew_error(error: PoolError) -> CrewError
 
 /// A crew that starts its workers once. In a solve each is sent one message, with its islands and
 /// the scene, which all share, and sends one answer, with its islands after a tick. Where nobody
-/// watches the gate, the caller does the first job, and then those that no worker has begun, and
-/// there are no more jobs than the machine has processors.
+/// watches the gate, the caller does the first job, and then those that no worker has begun; there
+/// are then no more jobs than islands, and no more than processors, or two.
 ///
 /// Contracts see which workers there still are, the turn of the next solve, and whether the crew is
 /// lost.
@@ -184,18 +184,29 @@ impl<R: Wait, G: Gate> StandingCrew<R, G> {
         }
     }
 
-    /// Piles without islands, as many as pay, in the memory of the last ones.
-    fn take_piles(&mut self) -> Result<Vec<Pile>, AllocError>
-        ensures some { IfOk result (λ piles. 0 < length piles.items) }
-        ensures count { IfOk result (λ piles. length piles.items ≤ length self.old.workers) }
+    /// How many piles pay for so many islands.
+    fn pile_count(&self, islands: usize) -> usize
+        ensures some { 0 < result }
+        ensures most { result ≤ length self.now.workers }
+    {
+        let most = self.pool.part_count();
+        if self.pool.task().gate.is_watched() {
+            return most;
+        }
+        most.min(islands.max(1))
+    }
+
+    /// So many piles without islands, in the memory of the last ones.
+    fn take_piles(&mut self, count: usize) -> Result<Vec<Pile>, AllocError>
+        ensures count { IfOk result (λ piles. length piles.items ≡ count) }
         ensures empty { IfOk result (λ piles. All (λ pile. pile ≡ []) piles.items) }
         ensures same { self.new ≡ self.old }
     {
         let piles = mem::replace(&mut self.piles, Vec::new(self.alloc));
-        if piles.len() == self.pool.part_count() {
+        if piles.len() == count {
             return Ok(piles);
         }
-        empty_piles(self.alloc, self.pool.part_count())
+        empty_piles(self.alloc, count)
     }
 
     /// Solves each island by the workers, in a turn that was counted. Passes the gate for those that
@@ -212,12 +223,13 @@ impl<R: Wait, G: Gate> StandingCrew<R, G> {
         ensures same { self.new ≡ self.old }
         ensures failed { IfErr result (IsStandingError G.ALWAYS) }
     {
-        if !self.pass_from(self.pool.part_count(), turn) {
+        let pile_count = self.pile_count(islands.len());
+        if !self.pass_from(pile_count, turn) {
             return Err(CrewError::GateShut);
         }
         let mut islands = islands;
         let count = islands.len();
-        let empty = self.take_piles()?;
+        let empty = self.take_piles(pile_count)?;
         let piles = deal(&mut islands, empty)?;
         let solved = self.run(scene, turn, piles)?;
         self.piles = gather(solved, count, &mut islands)?;

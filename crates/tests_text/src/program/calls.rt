@@ -4,7 +4,7 @@ ghost use Rattle.std.specs.Prelude.{◌≡◌, true};
 ghost use Rattle.pf_program.specs.Options.{FailsByWordsOrMemory};
 
 use pf_console::ProgramError;
-use pf_program::program;
+use pf_program::program_by_gate;
 use pf_text::{Bytes, Collected};
 use pf_trials::{Book, Rule, TrialGate};
 use pf_workers::{Gate, OpenGate};
@@ -152,30 +152,30 @@ fn events_on_a_floor(alloc: Global, events: &str) -> Result<String, AllocError> 
     Ok(text)
 }
 
-/// What a run with a crew of two notes at a gate that counts.
+/// Whether a run with a crew of two succeeds, and what it notes at a gate that counts.
 fn noted<T: Threads + Wait + Copy + Send + Sync + 'static>(
     rt: T,
     alloc: Global,
     events: &str,
-) -> Result<String, AllocError> {
+) -> Result<(bool, String), AllocError> {
     let text = events_on_a_floor(alloc, events)?;
     let words = Vec::from_slice(alloc, &["pf_play", "run", "--crew", "2"])?;
     let book = Arc::new(alloc, Book::new(alloc, 2)?)?;
     let gate = TrialGate::<true>::new(Rule::Counted, Arc::try_clone(&book)?);
-    answered_by(rt, alloc, gate, Ok(words), text.as_str())?;
-    book.text(alloc)
+    let (status, _, _) = answered_by(rt, alloc, gate, Ok(words), text.as_str())?;
+    Ok((status == ExitCode::SUCCESS, book.text(alloc)?))
 }
 
 #[test]
 fn a_settle_calls_the_crew_for_each_tick(rt: HostRuntime) -> Result<(), Fail> {
-    let noted = noted(rt, rt.alloc(), "advance 0 3\nsettle 0\nshow 0 3\n")?;
-    assert!(rt; noted.as_str() == " shut 0 passes 3/3 3/3");
+    let (succeeds, noted) = noted(rt, rt.alloc(), "advance 0 3\nsettle 0\nshow 0 3\n")?;
+    assert!(rt; succeeds && noted.as_str() == " shut 0 passes 3/3 3/3");
     Ok(())
 }
 
 #[test]
 fn other_lines_do_not_call_the_crew(rt: HostRuntime) -> Result<(), Fail> {
-    let noted = noted(rt, rt.alloc(), "advance 0 3\nshow 0 3\n")?;
-    assert!(rt; noted.as_str() == " shut 0 passes 0/0 0/0");
+    let (succeeds, noted) = noted(rt, rt.alloc(), "advance 0 3\nshow 0 3\n")?;
+    assert!(rt; succeeds && noted.as_str() == " shut 0 passes 0/0 0/0");
     Ok(())
 }

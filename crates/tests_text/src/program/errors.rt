@@ -4,7 +4,6 @@ use crate::program::calls::{FALLEN, FALLING, answered, ended, is_so};
 use pf_console::ProgramError;
 use pf_program::program;
 use pf_text::{Bytes, Collected, Input, Output};
-use pf_workers::OpenGate;
 use std::alloc::AllocError;
 use std::io::{Error, ErrorKind, Read, Write};
 use std::process::ExitCode;
@@ -44,15 +43,7 @@ fn a_reader_that_fails_is_reported(rt: HostRuntime) -> Result<(), Fail> {
     let mut reader = Input::new(Broken { is_read: false });
     let mut output = Collected::new(rt.alloc());
     let mut errors = Collected::new(rt.alloc());
-    let status = program(
-        rt,
-        rt.alloc(),
-        OpenGate,
-        words,
-        &mut reader,
-        &mut output,
-        &mut errors,
-    );
+    let status = program(rt, rt.alloc(), words, &mut reader, &mut output, &mut errors);
     if errors.bytes() != b"pf_play: read failed\n".as_slice() {
         return Err(AllocError)?;
     }
@@ -66,15 +57,7 @@ fn a_writer_that_fails_is_reported(rt: HostRuntime) -> Result<(), Fail> {
     let mut reader = Bytes::new(FALLING.as_bytes());
     let mut output = Output::new(Broken { is_read: true });
     let mut errors = Collected::new(rt.alloc());
-    let status = program(
-        rt,
-        rt.alloc(),
-        OpenGate,
-        words,
-        &mut reader,
-        &mut output,
-        &mut errors,
-    );
+    let status = program(rt, rt.alloc(), words, &mut reader, &mut output, &mut errors);
     if errors.bytes() != b"pf_play: write failed\n".as_slice() {
         return Err(AllocError)?;
     }
@@ -103,15 +86,7 @@ fn an_error_that_cannot_be_reported_keeps_its_status(rt: HostRuntime) -> Result<
     let mut reader = Bytes::new(FALLING.as_bytes());
     let mut output = Collected::new(rt.alloc());
     let mut errors = Output::new(Broken { is_read: true });
-    let status = program(
-        rt,
-        rt.alloc(),
-        OpenGate,
-        words,
-        &mut reader,
-        &mut output,
-        &mut errors,
-    );
+    let status = program(rt, rt.alloc(), words, &mut reader, &mut output, &mut errors);
     assert!(rt; status == ExitCode::from(3));
     Ok(())
 }

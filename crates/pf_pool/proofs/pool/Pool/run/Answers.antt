@@ -15,7 +15,7 @@ returns-clause-outcomes g c =
     let d = dealt.0 in
     let parts : c.len.result ≡ length c.args.parts.items = search rules in
     let slots = c.in_ok-slots.slots.items in
-    let answers = c.in_ok-answers.ensures.answers d dealt.1 (none_answered g.T.Task.is_outcome d slots c.in_ok-slots.ensures.none) in
-    let count = c.in_ok-answers.ensures.count ∙ c.in_ok-slots.ensures.count ∙ parts ∙ sym (ap length dealt.2) in
+    let answers = c.answers-answers.ensures.answers d dealt.1 (none_answered g.T.Task.is_outcome d slots c.in_ok-slots.ensures.none) in
+    let count = c.answers-answers.ensures.count ∙ c.in_ok-slots.ensures.count ∙ parts ∙ sym (ap length dealt.2) in
     subst (λ parts. AreOutcomes g.T.Task.is_outcome parts c.in_ok-all_answers.field-0.items) dealt.2
     (all_answered g.T.Task.is_outcome d _ _ answers count c.in_ok-all_answers.ensures)

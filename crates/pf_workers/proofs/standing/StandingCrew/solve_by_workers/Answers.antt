@@ -6,7 +6,7 @@ use Rattle.pf_workers.proofs.Shares.{shares_after, shares_all}
 use Rattle.pf_workers.proofs.standing.StandingCrew.solve_by_workers.Goals as goal
 
 pub deal-requires-clause-some : goal.deal-requires-clause-some
-deal-requires-clause-some g c = c.in_ok-empty.ensures.some
+deal-requires-clause-some g c = omega (arith, c.in_ok-empty.ensures.count, c.pile_count.ensures.some)
 
 pub run-requires-clause-islands : goal.run-requires-clause-islands
 run-requires-clause-islands g c =
@@ -16,7 +16,7 @@ pub gather-requires : goal.gather-requires
 gather-requires g c =
     let f = map (island_after_tick c.args.scene.now) in
     subst (λ l. 0 < length l) (sym c.in_ok-solved.ensures.solved)
-    (omega (arith, c.in_ok-empty.ensures.some, c.in_ok-piles.ensures.count, length-map c.in_ok-piles.piles.items f))
+    (omega (arith, c.in_ok-empty.ensures.count, c.pile_count.ensures.some, c.in_ok-piles.ensures.count, length-map c.in_ok-piles.piles.items f))
 
 pub invariant_of-self : goal.invariant_of-self
 invariant_of-self g c =
