@@ -23,8 +23,8 @@ pub enum GateKind {
     Open,
     /// A gate with a rule.
     Ruled(Rule),
-    /// A gate that is open for all once they have met, or did not.
-    Counting,
+    /// A gate that is open for all, and notes when a rule would shut it.
+    Noting(Rule),
 }
 
 /// A crew of threads.
@@ -53,9 +53,9 @@ fn gate_of(words: &[&str]) -> Result<GateKind> {
     Ok(match words {
         ["open"] => GateKind::Open,
         ["meeting"] => GateKind::Ruled(Rule::Meeting),
-        ["unwatched"] => GateKind::Ruled(Rule::Unwatched),
-        ["counted"] => GateKind::Ruled(Rule::Counted),
-        ["counting"] => GateKind::Counting,
+        ["counting"] => GateKind::Noting(Rule::Meeting),
+        ["unwatched"] => GateKind::Noting(Rule::Unwatched),
+        ["counted"] => GateKind::Noting(Rule::Counted),
         ["shut", worker, turn] => GateKind::Ruled(Rule::Shut {
             worker: count(worker)?,
             turn: count(turn)?,

@@ -9,7 +9,7 @@ use pf_islands::Island;
 use pf_rollback::PeerCore;
 use pf_shapes::Scene;
 use pf_step::{Crew, CrewError, StepError};
-use pf_trials::{Book, Rule, TrialGate};
+use pf_trials::{Book, TrialGate};
 use pf_workers::{Gate, MAX_WORKERS, OpenGate, ScopedCrew, StandingCollider, StandingCrew};
 use std::alloc::{AllocError, Global};
 use std::mem;
@@ -88,10 +88,10 @@ impl<R: Handle, G: Gate + Send + Sync + Drop + 'static> Standing<R, G> {
 enum Kind<'r, R> {
     Scoped(ScopedCrew<'r, R, OpenGate>),
     ScopedTrial(Scoped<'r, R, false>),
-    ScopedCounting(Scoped<'r, R, true>),
+    ScopedNoting(Scoped<'r, R, true>),
     Standing(Standing<R, OpenGate>),
     StandingTrial(Standing<R, TrialGate<false>>),
-    StandingCounting(Standing<R, TrialGate<true>>),
+    StandingNoting(Standing<R, TrialGate<true>>),
 }
 
 impl<'r, R: Handle> Kind<'r, R> {
@@ -106,9 +106,9 @@ impl<'r, R: Handle> Kind<'r, R> {
                     crew: ScopedCrew::new(rt, alloc, workers, gate),
                 })
             }
-            GateKind::Counting => {
-                let gate = TrialGate::new(Rule::Meeting, book);
-                Kind::ScopedCounting(Scoped {
+            GateKind::Noting(rule) => {
+                let gate = TrialGate::new(rule, book);
+                Kind::ScopedNoting(Scoped {
                     crew: ScopedCrew::new(rt, alloc, workers, gate),
                 })
             }
@@ -129,9 +129,9 @@ impl<'r, R: Handle> Kind<'r, R> {
                 let gate = TrialGate::new(rule, book);
                 Kind::StandingTrial(Standing::new(rt, alloc, workers, gate)?)
             }
-            GateKind::Counting => {
-                let gate = TrialGate::new(Rule::Meeting, book);
-                Kind::StandingCounting(Standing::new(rt, alloc, workers, gate)?)
+            GateKind::Noting(rule) => {
+                let gate = TrialGate::new(rule, book);
+                Kind::StandingNoting(Standing::new(rt, alloc, workers, gate)?)
             }
         })
     }
@@ -161,10 +161,10 @@ impl<'r, R: Handle> ThreadCrew<'r, R> {
         match &mut self.kind {
             Kind::Scoped(crew) => peer.settle_with(rt, alloc, crew),
             Kind::ScopedTrial(crew) => peer.settle_with(rt, alloc, crew),
-            Kind::ScopedCounting(crew) => peer.settle_with(rt, alloc, crew),
+            Kind::ScopedNoting(crew) => peer.settle_with(rt, alloc, crew),
             Kind::Standing(crew) => crew.settle(alloc, peer),
             Kind::StandingTrial(crew) => crew.settle(alloc, peer),
-            Kind::StandingCounting(crew) => crew.settle(alloc, peer),
+            Kind::StandingNoting(crew) => crew.settle(alloc, peer),
         }
     }
 
@@ -173,7 +173,7 @@ impl<'r, R: Handle> ThreadCrew<'r, R> {
         match &mut self.kind {
             Kind::Standing(crew) => crew.dismiss(worker),
             Kind::StandingTrial(crew) => crew.dismiss(worker),
-            Kind::StandingCounting(crew) => crew.dismiss(worker),
+            Kind::StandingNoting(crew) => crew.dismiss(worker),
             _ => (),
         }
     }
@@ -184,7 +184,7 @@ impl<'r, R: Handle> ThreadCrew<'r, R> {
         match kind {
             Kind::Standing(crew) => crew.close(),
             Kind::StandingTrial(crew) => crew.close(),
-            Kind::StandingCounting(crew) => crew.close(),
+            Kind::StandingNoting(crew) => crew.close(),
             _ => (),
         }
     }
