@@ -6,7 +6,7 @@ use Rattle.pf_workers.proofs.Shares.{shares_after, shares_all}
 use Rattle.pf_workers.proofs.standing.StandingCrew.solve_by_workers.Goals as goal
 
 pub deal-requires-clause-some : goal.deal-requires-clause-some
-deal-requires-clause-some g c = omega (arith, c.in_ok-empty.ensures.count, c.pile_count.ensures.some)
+deal-requires-clause-some g c = omega (arith, c.in_ok-empty.ensures.count, c.pile_count-pile_count.ensures.some)
 
 pub run-requires-clause-islands : goal.run-requires-clause-islands
 run-requires-clause-islands g c =
@@ -16,15 +16,15 @@ pub gather-requires : goal.gather-requires
 gather-requires g c =
     let f = map (island_after_tick c.args.scene.now) in
     subst (λ l. 0 < length l) (sym c.in_ok-solved.ensures.solved)
-    (omega (arith, c.in_ok-empty.ensures.count, c.pile_count.ensures.some, c.in_ok-piles.ensures.count, length-map c.in_ok-piles.piles.items f))
+    (omega (arith, c.in_ok-empty.ensures.count, c.pile_count-pile_count.ensures.some, c.in_ok-piles.ensures.count, length-map c.in_ok-piles.piles.items f))
 
 pub invariant_of-self : goal.invariant_of-self
 invariant_of-self g c =
     let f = island_after_tick c.args.scene.now in
     let islands = c.args.islands.items in
     let many : length islands ≡ c.len-count.result = search rules in (
-      c.self-2.invariant.0,
-      c.self-2.invariant.1,
+      c.self.invariant.0,
+      c.self.invariant.1,
       c.in_ok-self-inside.ensures.empty (map f islands) (shares_after f islands _ _ c.in_ok-piles.ensures.shares c.in_ok-solved.ensures.solved)
           (length-map islands f ∙ many),
     )
