@@ -41,7 +41,7 @@ fn answered_by<
     let mut reader = Bytes::new(text.as_bytes());
     let mut output = Collected::new(alloc);
     let mut errors = Collected::new(alloc);
-    let status = program(
+    let status = program_by_gate(
         rt,
         alloc,
         gate,
