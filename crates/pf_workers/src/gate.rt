@@ -3,7 +3,8 @@
 ghost use Rattle.std.specs.Prelude.{◌≡◌, true, IsTrue};
 
 /// Says whether a worker may work. In a solve that succeeds each worker, or the caller for it where
-/// nobody watches, has passed it once, also for one that has no island. A test or a debugger holds workers up by it, or sees that they meet.
+/// nobody watches, has passed it once, also for one that has no island. A test or a debugger holds
+/// workers up by it, or sees that they meet.
 pub trait Gate {
     ghost use Rattle.std.specs.Prelude.{◌≡◌, Bool, true, IsTrue};
 
