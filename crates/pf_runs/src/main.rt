@@ -1,14 +1,16 @@
 //! Runs many texts. They stand on standard input, separated by a line that no text has; for each,
 //! the program prints its replies, the line that reports its error, if it has one, and `status N`.
 //! It runs each text on one thread, and then with contact points by several where there are many,
-//! and ends where these differ. A text `frame DIGITS` is printed as a frame.
+//! and ends where these differ. The first line of a text may ask for another way:
 //!
-//! A text behind the line `cuts` is run cut off after every byte, on one thread: for length 0, and
-//! for each length whose output differs from that of the length before, the program prints a line
-//! `cut LENGTH` and that output. `frame DIGITS` is cut off as well; what is shorter than `frame `
-//! is then a text like any other. A text behind the line `crew` is run with a crew that counts its
-//! calls, and a line `crew COUNT` stands behind its output: `settle` calls the crew once for each
-//! tick that it settles, and no other line does.
+//! | line | the text behind it |
+//! |---|---|
+//! | `frame DIGITS` | is not there: the frame is printed |
+//! | `cuts` | is run cut off after every byte, on one thread: for length 0, and for each length whose output differs from that of the length before, `cut LENGTH` and that output are printed; `frame DIGITS` is cut off as well, and what is shorter than `frame ` is then a text like any other |
+//! | `crew` | is run with a crew that counts its calls, and `crew COUNT` is printed behind its output: `settle` calls the crew once for each tick that it settles, and no other line does |
+//! | `crew N ERROR` | the same, and the crew fails from its call N on |
+//! | `streams` | is run with a reader that fails at one call, for each call: where the output differs from that of the call before, `read LENGTH` and it are printed, LENGTH being how many bytes were read; then with a writer that fails at one call, for each call: where what it has flushed differs, `write` and it are printed |
+//! | `words WORD ..` | is the standard input of the program, called with these words |
 //!
 //! The stored run has what an independent program prints for the same texts.
 #![tactic(auto)]
@@ -16,16 +18,22 @@
 ghost use Rattle.std.specs.Prelude.{◌+◌, ◌<◌, length, IfSome};
 
 mod crew;
+mod program;
+mod run;
+mod streams;
 
 use crate::crew::CountingCrew;
+use crate::program::print_program;
+use crate::run::{ended, run};
+use crate::streams::print_streams;
 use anyhow::{Context, Result, bail};
-use memchr::memmem;
-use pf_console::{finish, frame_text, run_text};
-use pf_manifold::{Collider, OneThread, SeveralThreads};
-use pf_step::Crew;
-use pf_text::{Bytes, Collected, Sink};
+use memchr::{memchr, memmem};
+use pf_console::frame_text;
+use pf_manifold::{OneThread, SeveralThreads};
+use pf_text::{Bytes, Collected};
 use std::alloc::Global;
 use std::io::{Read, Write};
+use std::sync::Wait;
 use std::thread::Threads;
 
 /// What stands between two texts.
@@ -33,12 +41,6 @@ const SEPARATOR: &[u8] = b"\n= next text =\n";
 
 /// What stands before the digits of a frame.
 const FRAME: &[u8] = b"frame ";
-
-/// What stands before a text that is run cut off after every byte.
-const CUTS: &[u8] = b"cuts\n";
-
-/// What stands before a text that is run with a crew that counts its calls.
-const CREW: &[u8] = b"crew\n";
 
 /// The first of several texts, and the texts behind it.
 fn split_once(texts: &[u8]) -> Option<(&[u8], &[u8])>
@@ -50,29 +52,26 @@ fn split_once(texts: &[u8]) -> Option<(&[u8], &[u8])>
     }
 }
 
-/// The replies to a text, its error and its status.
-fn run<P: Collider, C: Crew>(
-    collider: &P,
-    alloc: Global,
-    text: &[u8],
-    crew: &mut C,
-) -> Result<Collected>
-    requires { P.can_collide collider.now }
-{
-    let mut output = Collected::new(alloc);
-    let outcome = match text.strip_prefix(FRAME) {
+/// The first line of a text, if it is text, and what stands behind it.
+fn split_line(text: &[u8]) -> (&str, &[u8]) {
+    let (line, rest) = match memchr(b'\n', text) {
+        Some(end) => (&text[..end], &text[end + 1..]),
+        None => (text, &text[text.len()..]),
+    };
+    (str::from_utf8(line).unwrap_or(""), rest)
+}
+
+/// The replies to a text, its error and its status, by one thread.
+fn run_alone(alloc: Global, text: &[u8]) -> Result<Collected> {
+    match text.strip_prefix(FRAME) {
         Some(digits) => {
             let digits = str::from_utf8(digits).context("digits are text")?;
-            frame_text(alloc, digits, &mut output)
+            let mut output = Collected::new(alloc);
+            let outcome = frame_text(alloc, digits, &mut output);
+            ended(alloc, outcome, output)
         }
-        None => run_text(collider, alloc, &mut Bytes::new(text), &mut output, crew),
-    };
-    let status = finish(outcome, &mut output);
-    let line = format!(in alloc; "status {status}\n")?;
-    if output.write_all(line.as_bytes()).is_err() {
-        bail!("out of memory");
+        None => run(&OneThread, alloc, &mut Bytes::new(text), &mut OneThread),
     }
-    Ok(output)
 }
 
 /// Prints the replies to a text, its error and its status, which no collider changes.
@@ -82,10 +81,13 @@ fn print_run<T: Threads + Sync, W: Write>(
     text: &[u8],
     writer: &mut W,
 ) -> Result<()> {
-    let by_one = run(&OneThread, alloc, text, &mut OneThread)?;
-    let by_threads = run(&SeveralThreads { rt }, alloc, text, &mut OneThread)?;
-    if by_one.bytes() != by_threads.bytes() {
-        bail!("threads change what is written");
+    let by_one = run_alone(alloc, text)?;
+    if !text.starts_with(FRAME) {
+        let mut reader = Bytes::new(text);
+        let by_threads = run(&SeveralThreads { rt }, alloc, &mut reader, &mut OneThread)?;
+        if by_one.bytes() != by_threads.bytes() {
+            bail!("threads change what is written");
+        }
     }
     writer.write_all(by_one.bytes())?;
     Ok(())
@@ -95,7 +97,7 @@ fn print_run<T: Threads + Sync, W: Write>(
 fn print_cuts<W: Write>(alloc: Global, text: &[u8], writer: &mut W) -> Result<()> {
     let mut last = Collected::new(alloc);
     for length in 0..=text.len() {
-        let output = run(&OneThread, alloc, &text[..length], &mut OneThread)?;
+        let output = run_alone(alloc, &text[..length])?;
         // The output of a text is never empty, so that of length 0 is printed.
         if output.bytes() != last.bytes() {
             writeln!(writer, "cut {length}")?;
@@ -106,10 +108,16 @@ fn print_cuts<W: Write>(alloc: Global, text: &[u8], writer: &mut W) -> Result<()
     Ok(())
 }
 
-/// Prints what a text gives with a crew that counts its calls, and how many they were.
-fn print_counted<W: Write>(alloc: Global, text: &[u8], writer: &mut W) -> Result<()> {
-    let mut crew = CountingCrew { calls: 0 };
-    let output = run(&OneThread, alloc, text, &mut crew)?;
+/// Prints what a text gives with a crew that counts its calls, and fails as these words say, and how
+/// many calls they were.
+fn print_counted<W: Write>(
+    alloc: Global,
+    text: &[u8],
+    words: &[&str],
+    writer: &mut W,
+) -> Result<()> {
+    let mut crew = CountingCrew::new(words)?;
+    let output = run(&OneThread, alloc, &mut Bytes::new(text), &mut crew)?;
     writer.write_all(output.bytes())?;
     let calls = crew.calls;
     writeln!(writer, "crew {calls}")?;
@@ -117,19 +125,21 @@ fn print_counted<W: Write>(alloc: Global, text: &[u8], writer: &mut W) -> Result
 }
 
 /// Prints what a text gives, in the way that its first line asks for.
-fn print<T: Threads + Sync, W: Write>(
+fn print<T: Threads + Wait + Copy + Send + Sync + 'static, W: Write>(
     rt: &T,
     alloc: Global,
     text: &[u8],
     writer: &mut W,
 ) -> Result<()> {
-    if let Some(text) = text.strip_prefix(CUTS) {
-        return print_cuts(alloc, text, writer);
+    let (line, rest) = split_line(text);
+    let words: Vec<&str> = line.split(' ').collect(alloc)?;
+    match words.as_slice() {
+        ["cuts"] => print_cuts(alloc, rest, writer),
+        ["streams"] => print_streams(alloc, rest, writer),
+        ["crew", fails @ ..] => print_counted(alloc, rest, fails, writer),
+        ["words", words @ ..] => print_program(*rt, alloc, words, rest, writer),
+        _ => print_run(rt, alloc, text, writer),
     }
-    if let Some(text) = text.strip_prefix(CREW) {
-        return print_counted(alloc, text, writer);
-    }
-    print_run(rt, alloc, text, writer)
 }
 
 fn main(rt: HostRuntime) -> Result<()> {

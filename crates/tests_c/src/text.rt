@@ -1,12 +1,10 @@
-//! Lines, fields and numbers by hand, and readers and writers that fail.
+//! Fields and numbers by hand. Lines, replies, invalid texts, and readers and writers that fail stand
+//! in the stored run of `pf_runs`.
 
-mod lines;
-mod parrot;
-mod runs;
-mod streams;
-
-use crate::text::parrot::Parrot;
-use pf_text::{LineError, LineFault, ReadFailed, WriteFailed, laws};
+use pf_text::{
+    LineError, LineFault, ParsedNumber, ReadFailed, WriteFailed, fields_of, integer, laws, number,
+    whole,
+};
 use std::alloc::{AllocError, Global};
 use std::test::Fail;
 
@@ -26,9 +24,35 @@ fn errors_are_shown_by_their_names(rt: HostRuntime) -> Result<(), Fail> {
 }
 
 #[test]
+fn fields_are_separated_by_one_space(rt: HostRuntime) -> Result<(), Fail> {
+    let fields = fields_of(rt.alloc(), b"circle - 7\t")?;
+    let expected = [b"circle".as_slice(), b"-".as_slice(), b"7\t".as_slice()];
+    assert!(rt; fields.as_slice() == expected.as_slice());
+    Ok(())
+}
+
+#[test]
+fn numbers_have_one_encoding(rt: HostRuntime) {
+    let table = [
+        (b"-7".as_slice(), ParsedNumber::InRange(-7)),
+        (b"101".as_slice(), ParsedNumber::OutOfRange),
+        (
+            b"100000000000000000000000".as_slice(),
+            ParsedNumber::OutOfRange,
+        ),
+        (b"05".as_slice(), ParsedNumber::NotANumber),
+        (b"-0".as_slice(), ParsedNumber::NotANumber),
+        (b"+1".as_slice(), ParsedNumber::NotANumber),
+    ];
+    for (field, parsed) in table {
+        assert!(rt; number(field, -100, 100) == parsed, "{field:?}");
+    }
+    assert!(rt; integer(b"21", 0, 20) == Err(LineFault::BadNumber));
+    assert!(rt; whole(b"-99999999999999999999") == Some(-(1 << 56)));
+}
+
+#[test]
 fn laws_are_called(_rt: HostRuntime) {
-    laws::outputs_follow_one_another::<u32, Parrot>();
-    laws::skipped_lines_change_only_numbers::<u32, Parrot>();
     laws::lines_are_the_parts_between_feeds();
     laws::fields_are_the_parts_between_spaces();
     laws::numbers_have_one_encoding();
