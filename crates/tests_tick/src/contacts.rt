@@ -1,4 +1,5 @@
-//! Contacts from tick to tick, by hand.
+//! Contacts from tick to tick, by hand. Contacts that are undone stand in the stored run of
+//! `pf_calls`.
 
 ghost use Rattle.std.specs.Prelude.{IfOk};
 ghost use Rattle.pf_manifold.specs.Key.{AreTouches};
@@ -27,14 +28,6 @@ box - 16777216 0 16777216 16777216 67108864 16777216 16777216 0
 end
 ";
 
-/// The same with the second of the two in the air.
-const OTHER_STANDS: &[u8] = b"gravity 0 0
-box - 0 0 17179869184 16777216 0 -16777216 16777216 0
-box - 16777216 0 16777216 16777216 -67108864 16777216 16777216 0
-box - 16777216 0 16777216 16777216 67108864 67108864 16777216 0
-end
-";
-
 /// The contact points of a scene's bodies at their starts.
 fn touches_of(alloc: Global, text: &[u8]) -> Result<Vec<Touch>, Fail>
     ensures { IfOk result (λ touches. AreTouches touches.items) }
@@ -44,17 +37,15 @@ fn touches_of(alloc: Global, text: &[u8]) -> Result<Vec<Touch>, Fail>
     Ok(touches)
 }
 
-/// Makes of contacts those of a scene's bodies at their starts, where at most `most` of them stay
-/// where they are, and notes what that changed.
+/// Makes of contacts those of a scene's bodies at their starts, and notes what that changed.
 fn update(
     alloc: Global,
     contacts: &mut Contacts,
     change: &mut ContactsChange,
     text: &[u8],
-    most: usize,
 ) -> Result<(), Fail> {
     let touches = touches_of(alloc, text)?;
-    contacts.update(&touches, 0, most, change)?;
+    contacts.update(&touches, 0, 0, change)?;
     Ok(())
 }
 
@@ -83,11 +74,11 @@ fn are_of_the_points(
     contacts: &mut Contacts,
     change: &mut ContactsChange,
 ) -> Result<bool, Fail> {
-    update(alloc, contacts, change, BOTH_STAND, 0)?;
+    update(alloc, contacts, change, BOTH_STAND)?;
     let first = are_of_both_boxes(contacts.as_slice());
-    update(alloc, contacts, change, ONE_STANDS, 0)?;
+    update(alloc, contacts, change, ONE_STANDS)?;
     let fewer = are_of_one_box(contacts.as_slice());
-    update(alloc, contacts, change, BOTH_STAND, 0)?;
+    update(alloc, contacts, change, BOTH_STAND)?;
     Ok(first && fewer && are_of_both_boxes(contacts.as_slice()))
 }
 
@@ -97,89 +88,6 @@ fn contacts_are_those_of_the_points(rt: HostRuntime) -> Result<(), Fail> {
     let mut change = ContactsChange::new(rt.alloc());
     let are_so = are_of_the_points(rt.alloc(), &mut contacts, &mut change)?;
     assert!(rt; are_so);
-    Ok(())
-}
-
-/// Scenes, and how many contacts may stay where they are.
-const UPDATES: [(&[u8], usize); 9] = [
-    (BOTH_STAND, 0),
-    (BOTH_STAND, 1),
-    (BOTH_STAND, usize::MAX),
-    (ONE_STANDS, 0),
-    (ONE_STANDS, 1),
-    (ONE_STANDS, usize::MAX),
-    (OTHER_STANDS, 0),
-    (OTHER_STANDS, 1),
-    (OTHER_STANDS, usize::MAX),
-];
-
-/// Whether an update of a copy of the contacts is undone.
-fn is_undone(alloc: Global, before: &Contacts, text: &[u8], most: usize) -> Result<bool, Fail> {
-    let mut contacts = before.try_clone()?;
-    let mut change = ContactsChange::new(alloc);
-    update(alloc, &mut contacts, &mut change, text, most)?;
-    contacts.undo(change);
-    Ok(&contacts == before)
-}
-
-/// Whether it is undone by a change that is left as it is.
-fn is_undone_by_a_copy(
-    alloc: Global,
-    before: &Contacts,
-    text: &[u8],
-    most: usize,
-) -> Result<bool, Fail> {
-    let mut contacts = before.try_clone()?;
-    let mut change = ContactsChange::new(alloc);
-    update(alloc, &mut contacts, &mut change, text, most)?;
-    contacts.undo_copied(&change)?;
-    Ok(&contacts == before)
-}
-
-/// Whether each of the updates is undone in both ways.
-fn are_undone(alloc: Global, before: &Contacts) -> Result<bool, Fail> {
-    for (text, most) in UPDATES {
-        if !is_undone(alloc, before, text, most)?
-            || !is_undone_by_a_copy(alloc, before, text, most)?
-        {
-            return Ok(false);
-        }
-    }
-    Ok(true)
-}
-
-/// Contacts of both boxes.
-fn of_both(alloc: Global, contacts: &mut Contacts) -> Result<(), Fail> {
-    let mut change = ContactsChange::new(alloc);
-    update(alloc, contacts, &mut change, BOTH_STAND, 0)
-}
-
-#[test]
-fn updates_are_undone(rt: HostRuntime) -> Result<(), Fail> {
-    let mut both = Contacts::new(rt.alloc());
-    of_both(rt.alloc(), &mut both)?;
-    let are_undone = are_undone(rt.alloc(), &both)?;
-    assert!(rt; are_undone);
-    Ok(())
-}
-
-/// Whether a change of other contacts, of which the first two stayed, leaves behind only those of
-/// one box.
-fn are_left(alloc: Global, contacts: &mut Contacts, others: &mut Contacts) -> Result<bool, Fail> {
-    let mut change = ContactsChange::new(alloc);
-    update(alloc, others, &mut change, ONE_STANDS, 0)?;
-    update(alloc, contacts, &mut change, OTHER_STANDS, usize::MAX)?;
-    others.undo(change);
-    Ok(are_of_one_box(others.as_slice()))
-}
-
-#[test]
-fn changes_of_other_contacts_leave_those_behind(rt: HostRuntime) -> Result<(), Fail> {
-    let mut both = Contacts::new(rt.alloc());
-    of_both(rt.alloc(), &mut both)?;
-    let mut others = Contacts::new(rt.alloc());
-    let are_left = are_left(rt.alloc(), &mut both, &mut others)?;
-    assert!(rt; are_left);
     Ok(())
 }
 

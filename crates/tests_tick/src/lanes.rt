@@ -21,26 +21,6 @@ fn raw(lanes: Lanes) -> [i64; 4] {
     [first.raw(), second.raw(), third.raw(), fourth.raw()]
 }
 
-/// Whether sums and differences with products that are not yet lowered are those of the products.
-fn are_raised(lanes: Lanes, scaled: Scaled, products: [i64; 4]) -> bool
-    requires { (k : Lane)
-        → unsigned_abs (number_in k lanes) * unsigned_abs (number_in k scaled) < EXACT_LIMIT }
-{
-    let (zero, one) = (Lanes::zero(), Lanes::of([1; 4]));
-    let plus = raw(zero.plus_raised(lanes.raised_product(scaled)));
-    let minus = raw(one.minus_raised(lanes.raised_opposite(scaled)));
-    let twice = raw(
-        lanes
-            .raised_product(scaled)
-            .minus(lanes.raised_opposite(scaled)),
-    );
-    (0..4usize).all(|i| {
-        plus[i] == products[i]
-            && minus[i].checked_sub(1) == Some(products[i])
-            && Some(twice[i]) == products[i].checked_mul(2)
-    })
-}
-
 /// Whether products in lanes are those of `pf_num`, and these numbers.
 fn are_products(numbers: [i64; 4], factors: [i64; 4], expected: [i64; 4]) -> bool
     requires numbers { (k : Lane) → unsigned_abs (number_in k (lanes_of numbers)) ≤ 2 ^ 53 }
@@ -53,7 +33,6 @@ fn are_products(numbers: [i64; 4], factors: [i64; 4], expected: [i64; 4]) -> boo
     }
     let products = raw(lanes.product(scaled));
     products == expected
-        && are_raised(lanes, scaled, products)
         && (0..4usize).all(|i| raw_product(numbers[i], factors[i]) == Some(products[i]))
 }
 
