@@ -1,11 +1,10 @@
 -- What the workers of a pool are asked, and what their answers are together.
-use Rattle.std.proofs.Common.{◌≡◌, ◌∙◌, ℕ, ◌<◌, List, Option, None, Some, map, length, get_or, ap, subst, sym, arith, ◌≤◌, Bool, true, false, Result, Ok, Err}
+use Rattle.std.proofs.Common.{◌≡◌, ◌∙◌, ℕ, zero, suc, ◌<◌, List, [], ◌∷◌, Option, None, Some, length, get_or, ap, subst, sym, arith, ◌≤◌, Bool, true, false, Result, Ok, Err}
 use Rattle.std.proofs.lemmas.Bool.{true≢false}
-use Rattle.std.proofs.lemmas.List.{get_or-map, length-map}
-use Rattle.std.specs.Prelude.{All, IfOk, IfSome, IsNone, IsSome}
-use Rattle.pf_pool.specs.Pool.{AreOutcomes}
-use Rattle.pf_pool.specs.Reply.{IsOutcomeOf}
-use Rattle.pf_pool.specs.Slots.{AreAnswers, HaveAnswered}
+use Rattle.std.specs.Prelude.{All, IfOk, IfSome, IsNone, IsSome, is_some}
+use Rattle.pf_pool.specs.Pool.{AreDone}
+use Rattle.pf_pool.specs.Reply.{IsDoneOf}
+use Rattle.pf_pool.specs.Slots.{AreAway, AreDoneFrom, HaveAnswered}
 use Rattle.pf_pool.specs.declared.reply.Dealt.{Dealt}
 use Rattle.pf_pool.proofs.Lists.{default_same}
 
@@ -31,24 +30,28 @@ all_there workers n long there i d low = default_same workers i d false low ∙ 
 pub have_all : {O : Type 0} (slots : List (Option O)) → HaveAnswered 0 slots → All IsSome slots
 have_all slots have w d low = subst IsSome (default_same slots w None d low) (have w (omega arith) low)
 
-module _ {P O : Type 0} (IsOutcome : P → O → Type 0) (d : Dealt P) where
-  -- before any answer all are as they may be
-  pub none_answered : (slots : List (Option O)) → All IsNone slots → AreAnswers IsOutcome d slots
-  none_answered slots none w low = by (get_or slots w None) (none w None low)
-    where
-      by : (slot : Option O) → IsNone slot → IfSome slot (IsOutcomeOf IsOutcome d w)
-      by None is = tt
-      by (Some outcome) is = absurd (true≢false is)
+-- where something stands in a list of slots, there is a slot
+pub within : {X : Type 0} (slots : List (Option X)) (w : ℕ) (x : X) → get_or slots w None ≡ Some x → w < length slots
+within [] w x at = absurd (true≢false (sym (ap is_some at)))
+within (slot ∷ slots) zero x at = omega arith
+within (slot ∷ slots) (suc w) x at = omega (arith, within slots w x at)
 
-  -- where all workers have answered, these are the outcomes of the parts that were dealt
-  pub all_answered : (slots : List (Option O)) (outcomes : List O) → AreAnswers IsOutcome d slots
-      → length slots ≡ length d.parts.value.items → map Some outcomes ≡ slots → AreOutcomes IsOutcome d.parts.value.items outcomes
-  all_answered slots outcomes answers count done =
-      let same : length outcomes ≡ length slots = sym (length-map outcomes Some) ∙ ap length done in (
-        same ∙ count,
-        λ w p o low.
-            let within : w < length outcomes = omega (arith, low, same, count) in
-            let at : get_or slots w None ≡ Some (get_or outcomes w o) =
-            ap (λ xs. get_or xs w None) (sym done) ∙ get_or-map Some outcomes w o None within in
-            subst (λ slot. IfSome slot (IsOutcomeOf IsOutcome d w)) at (answers w (omega (arith, low, count))) p low,
-      )
+module _ {P : Type 0} (IsDone : P → P → Type 0) (d : Dealt P) where
+  -- before any answer all are as they may be
+  pub away_done : (least : ℕ) (slots : List (Option P)) → AreAway least slots → AreDoneFrom IsDone d least slots
+  away_done least slots away w from low = by (get_or slots w None) (away w from low)
+    where
+      by : (slot : Option P) → IsNone slot → IfSome slot (IsDoneOf IsDone d w)
+      by None is = tt
+      by (Some part) is = absurd (true≢false is)
+
+  -- where all workers have answered, all parts are done
+  pub all_done : (before after : List (Option P)) → d.parts.value.items ≡ before → length after ≡ length before
+      → AreDoneFrom IsDone d 0 after → HaveAnswered 0 after → AreDone IsDone before after
+  all_done before after dealt count done have = (
+    count,
+    have_all after have,
+    λ w part now was is.
+        subst (λ slot. IfSome slot (IsDoneOf IsDone d w)) is (done w (omega arith) (within after w now is)) part
+        (ap (λ slots. get_or slots w None) dealt ∙ was),
+  )

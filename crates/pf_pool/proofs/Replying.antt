@@ -10,7 +10,7 @@ use Rattle.pf_pool.specs.declared.reply.Dealt.{Dealt}
 use Rattle.pf_pool.specs.declared.reply.Known.{Known}
 use Rattle.pf_pool.specs.declared.reply.Message.{Message}
 use Rattle.pf_pool.specs.declared.reply.Message.TheVariants as messages
-use Rattle.pf_pool.specs.Reply.{AllFit, AreReplies, Fits, IsOutcomeOf, IsReply, known_after, known_first}
+use Rattle.pf_pool.specs.Reply.{AllFit, AreReplies, Fits, IsDoneOf, IsReply, known_after, known_first}
 use Rattle.pf_pool.proofs.Lists.{all_more}
 
 -- what stands at a place is one thing
@@ -59,19 +59,19 @@ module _ {P : Type 0} where
   first_fits zero known at = subst (Fits 0 known_first 0) (one_some at) (omega arith, λ same. refl, λ deals. (refl, refl))
   first_fits (suc pass) known at = absurd (some-ne-none known (sym at))
 
-module _ {P O : Type 0} (IsOutcome : P → O → Type 0) where
-  pub begins : AreReplies IsOutcome [] (known_first ∷ [])
+module _ {P : Type 0} (IsDone : P → P → Type 0) where
+  pub begins : AreReplies IsDone [] (known_first ∷ [])
   begins = (0, known_first, (λ i e low. absurd (omega (arith, low))), first_fits)
 
   -- an answer of earlier runs says nothing of the next one
-  later : (last : Known P) (d : Dealt P) (m : Message P O) → IsReply IsOutcome last m
-      → IsReply IsOutcome (record last { run = last.run + 1; dealt = Some d }) m
+  later : (last : Known P) (d : Dealt P) (m : Message P) → IsReply IsDone last m
+      → IsReply IsDone (record last { run = last.run + 1; dealt = Some d }) m
   later last d (messages.Dealt other) reply = tt
   later last d (messages.Answer answer) reply = (omega (arith, reply.0), λ same. absurd (omega (arith, reply.0, same)))
 
   -- the caller tells what is dealt in the next run
   pub deals : (n pass : ℕ) (v : Known P) (d : Dealt P) → v.deals ≡ true
-      → Pushes (AreReplies IsOutcome) n pass v (messages.Dealt d) (λ w. w ≡ known_after {O = O} v (messages.Dealt d))
+      → Pushes (AreReplies IsDone) n pass v (messages.Dealt d) (λ w. w ≡ known_after v (messages.Dealt d))
   deals n pass v d is items views room holds at =
       let caller = holds.0 in
       let last = holds.1 in
@@ -80,13 +80,13 @@ module _ {P O : Type 0} (IsOutcome : P → O → Type 0) where
       let own = fit pass v at in
       let here = own.2 is in
       let next : Known P = record last { run = last.run + 1; dealt = Some d } in
-      let after : Known P = known_after {O = O} v (messages.Dealt d) in
+      let after : Known P = known_after v (messages.Dealt d) in
       let counted : v.run + 1 ≡ last.run + 1 = ap (λ run. run + 1) here.1 in (
         after,
         (
           caller,
           next,
-          all_more (IsReply IsOutcome next) items (messages.Dealt d) (λ i e low. later last d _ (replies i e low)) tt,
+          all_more (IsReply IsDone next) items (messages.Dealt d) (λ i e low. later last d _ (replies i e low)) tt,
           set_at (Fits caller next) views pass after (omega (arith, counted), λ same. refl, λ deals. (here.0, counted))
               (λ i y at_i other.
               let old = fit i y at_i in
@@ -96,34 +96,34 @@ module _ {P O : Type 0} (IsOutcome : P → O → Type 0) where
       )
 
   -- an answer joins the others
-  pub answers : (n pass : ℕ) (v : Known P) (answer : Answer O) → answer.run ≡ v.run
-      → ((d : Dealt P) → v.dealt ≡ Some d → IsOutcomeOf IsOutcome d answer.worker answer.outcome)
-      → Pushes (AreReplies IsOutcome) n pass v (messages.Answer answer) (λ w. ⊤)
-  answers n pass v answer run outcome items views room holds at =
+  pub answers : (n pass : ℕ) (v : Known P) (answer : Answer P) → answer.run ≡ v.run
+      → ((d : Dealt P) → v.dealt ≡ Some d → IsDoneOf IsDone d answer.worker answer.done)
+      → Pushes (AreReplies IsDone) n pass v (messages.Answer answer) (λ w. ⊤)
+  answers n pass v answer run done items views room holds at =
       let caller = holds.0 in
       let last = holds.1 in
       let own = holds.3 pass v at in
-      let reply : IsReply IsOutcome last (messages.Answer answer) =
-      (omega (arith, own.0, run), λ same d dealt. outcome d (own.1 (sym run ∙ same) ∙ dealt)) in (
+      let reply : IsReply IsDone last (messages.Answer answer) =
+      (omega (arith, own.0, run), λ same d dealt. done d (own.1 (sym run ∙ same) ∙ dealt)) in (
         v,
         (
           caller,
           last,
-          all_more (IsReply IsOutcome last) items (messages.Answer answer) holds.2 reply,
+          all_more (IsReply IsDone last) items (messages.Answer answer) holds.2 reply,
           fit_set caller last views pass v at holds.3,
         ),
         tt,
       )
 
   -- the caller knows of a message what the rule knows
-  of_caller : (last v : Known P) (m : Message P O) → v.run ≡ last.run → v.dealt ≡ last.dealt → IsReply IsOutcome last m → IsReply IsOutcome v m
+  of_caller : (last v : Known P) (m : Message P) → v.run ≡ last.run → v.dealt ≡ last.dealt → IsReply IsDone last m → IsReply IsDone v m
   of_caller last v (messages.Dealt other) run dealt reply = tt
   of_caller last v (messages.Answer answer) run dealt reply =
       (omega (arith, run, reply.0), λ same d is. reply.1 (same ∙ run) d (sym dealt ∙ is))
 
   -- what arrives is an answer of what was dealt
   pub takes : (pass : ℕ) (v : Known P)
-      → Pops (AreReplies IsOutcome) pass v (λ x w. (w ≡ v) × (v.deals ≡ true → IsReply IsOutcome v x))
+      → Pops (AreReplies IsDone) pass v (λ x w. (w ≡ v) × (v.deals ≡ true → IsReply IsDone v x))
   takes pass v x items views holds at =
       let caller = holds.0 in
       let last = holds.1 in
@@ -139,7 +139,7 @@ module _ {P O : Type 0} (IsOutcome : P → O → Type 0) where
       )
 
   -- a pass is cut in two that know the same
-  pub forks : (pass : ℕ) (v : Known P) → Forks (AreReplies IsOutcome) pass v v (record v { deals = false })
+  pub forks : (pass : ℕ) (v : Known P) → Forks (AreReplies IsDone) pass v v (record v { deals = false })
   forks pass v items views holds at =
       let caller = holds.0 in
       let last = holds.1 in

@@ -30,13 +30,13 @@ use Rattle.pf_pool.specs.contracts.reply.Known
 use Rattle.pf_pool.specs.contracts.reply.Message
 use Rattle.pf_pool.specs.contracts.reply.Replies
 use Rattle.pf_pool.specs.contracts.reply.Replier
-use Rattle.pf_pool.specs.contracts.reply.RepliesProtocolMessagePartOutcomeKnownPart.TheImpl as rule
+use Rattle.pf_pool.specs.contracts.reply.RepliesProtocolMessagePartKnownPart.TheImpl as rule
 use Rattle.pf_pool.specs.contracts.worker.Job
 use Rattle.pf_pool.specs.declared.task.Task.{Ghosts}
 
-module _ (T P O : RattleType) (task : Ghosts T.Denot P.Denot O.Denot) (part_send : IsSend P) (outcome_send : IsSend O) where
+module _ (T P : RattleType) (task : Ghosts T.Denot P.Denot) (part_send : IsSend P) where
   abbrev message : RattleType
-  message = Message.the_row P O
+  message = Message.the_row P
 
   message_send : IsSend message
   message_send = search (crosses, sendable) depth 60 fits 20000
@@ -51,7 +51,7 @@ module _ (T P O : RattleType) (task : Ghosts T.Denot P.Denot O.Denot) (part_send
   channel =
       Rows.the_row badges (Doing.the_row message known) (Rounds.the_row (Replies.the_row T)) (Option.the_row message) (Key.the_row message)
       (Lockers.the_row Whole.the_row) Global.the_row
-      (rounds.ghosts message known (Replies.the_row T) (rule.ghosts T P O task rule.no_dict rule.no_dict rule.no_dict) rounds.no_dict)
+      (rounds.ghosts message known (Replies.the_row T) (rule.ghosts T P task rule.no_dict rule.no_dict) rounds.no_dict)
       (lockers.ghosts message message Whole.the_row (whole.ghosts message) lockers.no_dict)
       allocator.ghosts
 
@@ -59,7 +59,7 @@ module _ (T P O : RattleType) (task : Ghosts T.Denot P.Denot O.Denot) (part_send
   channel_send =
       rows.the_send badges (Doing.the_row message known) (Rounds.the_row (Replies.the_row T)) (Option.the_row message) (Key.the_row message)
       (Lockers.the_row Whole.the_row) Global.the_row
-      (rounds.ghosts message known (Replies.the_row T) (rule.ghosts T P O task rule.no_dict rule.no_dict rule.no_dict) rounds.no_dict)
+      (rounds.ghosts message known (Replies.the_row T) (rule.ghosts T P task rule.no_dict rule.no_dict) rounds.no_dict)
       (lockers.ghosts message message Whole.the_row (whole.ghosts message) lockers.no_dict)
       allocator.ghosts
       (badge.the_send (Key.the_row message)) (option.the_send message message_send) global.the_send heap.the_frees
@@ -68,22 +68,22 @@ module _ (T P O : RattleType) (task : Ghosts T.Denot P.Denot O.Denot) (part_send
   channel_sync =
       rows.the_sync badges (Doing.the_row message known) (Rounds.the_row (Replies.the_row T)) (Option.the_row message) (Key.the_row message)
       (Lockers.the_row Whole.the_row) Global.the_row
-      (rounds.ghosts message known (Replies.the_row T) (rule.ghosts T P O task rule.no_dict rule.no_dict rule.no_dict) rounds.no_dict)
+      (rounds.ghosts message known (Replies.the_row T) (rule.ghosts T P task rule.no_dict rule.no_dict) rounds.no_dict)
       (lockers.ghosts message message Whole.the_row (whole.ghosts message) lockers.no_dict)
       allocator.ghosts
       (badge.the_send (Key.the_row message)) (option.the_send message message_send) global.the_send global.the_sync heap.the_frees
 
-  replier_send : IsSend (Replier.the_field T P O task).row
+  replier_send : IsSend (Replier.the_field T P task).row
   replier_send =
-      struct_send (Declared.shape (Replier.the_type T P O task))
+      struct_send (Declared.shape (Replier.the_type T P task))
       (sending.the_field_send channel Global.the_row allocator.ghosts channel_send global.the_send channel_sync global.the_sync heap.the_frees, (seat.the_send badges (Doing.the_row message known) (badge.the_send (Key.the_row message)), (search sendable depth 9, tt)))
 
-  job_send : IsSend (Job.the_row T P O task)
+  job_send : IsSend (Job.the_row T P task)
   job_send =
-      recorded_send (Job.the_field T P O task).row _ _ (Job.the_type T P O task).to_one
-      (struct_send (Declared.shape (Job.the_type T P O task)) (search sendable depth 9, (search sendable depth 9, (part_send, (replier_send, tt)))))
+      recorded_send (Job.the_field T P task).row _ _ (Job.the_type T P task).to_one
+      (struct_send (Declared.shape (Job.the_type T P task)) (search sendable depth 9, (search sendable depth 9, (part_send, (replier_send, tt)))))
 
-  pub jobs_send : IsSend (Receiver.the_row (Option.the_row (Job.the_row T P O task)) Global.the_row allocator.ghosts)
+  pub jobs_send : IsSend (Receiver.the_row (Option.the_row (Job.the_row T P task)) Global.the_row allocator.ghosts)
   jobs_send =
-      receiver.the_send (Option.the_row (Job.the_row T P O task)) Global.the_row allocator.ghosts
-      (option.the_send (Job.the_row T P O task) job_send) global.the_send global.the_sync heap.the_frees
+      receiver.the_send (Option.the_row (Job.the_row T P task)) Global.the_row allocator.ghosts
+      (option.the_send (Job.the_row T P task) job_send) global.the_send global.the_sync heap.the_frees

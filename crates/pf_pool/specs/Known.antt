@@ -4,5 +4,5 @@ use Rattle.crossbeam_channel.specs.Claims.{view}
 use Rattle.pf_pool.specs.declared.reply.Dealt.{Dealt}
 use Rattle.pf_pool.specs.declared.reply.Replier.{Replier}
 
-abbrev pub known_to : {T P O : Type 0} → Replier T P O → Option (Dealt P)
+abbrev pub known_to : {T P : Type 0} → Replier T P → Option (Dealt P)
 known_to r = (view r.pass).dealt

@@ -1,5 +1,5 @@
 -- What a contract sees of a pool, and with which errors it fails.
-use Rattle.std.specs.Prelude.{◌≡◌, ℕ, ◌<◌, ⊤, Bool, true, List, All, IsSome, Option, length, slice_index_or}
+use Rattle.std.specs.Prelude.{◌≡◌, ℕ, ⊤, Bool, true, List, All, IsSome, Option, Some, None, length, slice_index_or}
 use Rattle.crossbeam_channel.specs.declared.err.SendError.{SendError}
 use Rattle.crossbeam_channel.specs.declared.err.SendError.TheVariants as sends
 use Rattle.pf_pool.specs.declared.error.PoolError.{PoolError}
@@ -32,9 +32,9 @@ IsAskError (sends.Disconnected job) = IsSome job
 abbrev pub HasAllWorkers : List Bool → Type 0
 HasAllWorkers workers = All (λ there. there ≡ true) workers
 
--- outcome w is what worker w makes of part w
-abbrev pub AreOutcomes : {P O : Type 0} → (P → O → Type 0) → List P → List O → Type 0
-AreOutcomes {P} {O} IsOutcome parts outcomes =
-    (length outcomes ≡ length parts)
-    × ((w : ℕ) (p : P) (o : O) → w < length parts
-    → IsOutcome (slice_index_or parts w p) (slice_index_or outcomes w o))
+-- at place w stands what worker w makes of the part that stood there
+abbrev pub AreDone : {P : Type 0} → (P → P → Type 0) → List (Option P) → List (Option P) → Type 0
+AreDone {P} IsDone before after =
+    (length after ≡ length before) × All IsSome after
+    × ((w : ℕ) (part done : P) → slice_index_or before w None ≡ Some part
+    → slice_index_or after w None ≡ Some done → IsDone part done)

@@ -1,5 +1,5 @@
 -- The rule of the channel over which the workers of a pool answer.
-use Rattle.std.specs.Prelude.{◌≡◌, ℕ, ⊤, ◌+◌, ◌<◌, ◌≤◌, true, List, All, Option, None, Some, length, slice_index_or}
+use Rattle.std.specs.Prelude.{◌≡◌, ℕ, ⊤, ◌+◌, ◌≤◌, true, List, All, Option, None, Some, slice_index_or}
 use mathlib.Core.Option.{some}
 use lib.ListN.{get_elem?}
 use Rattle.pf_pool.specs.declared.reply.Dealt.{Dealt}
@@ -13,14 +13,13 @@ module _ {P : Type 0} where
   known_first = record { deals = true; run = 0; dealt = None }
 
   -- if this is known, then these parts were dealt
-  abbrev pub WereDealt : Option (Dealt P) → List P → Type 0
+  abbrev pub WereDealt : Option (Dealt P) → List (Option P) → Type 0
   WereDealt known parts = (d : Dealt P) → known ≡ Some d → d.parts.value.items ≡ parts
 
   -- if this is known, then this part was dealt to this worker
   abbrev pub WasDealt : Option (Dealt P) → ℕ → P → Type 0
   WasDealt known worker part =
-      (d : Dealt P) → known ≡ Some d
-      → (none : P) → slice_index_or d.parts.value.items worker none ≡ part
+      (d : Dealt P) → known ≡ Some d → slice_index_or d.parts.value.items worker None ≡ Some part
 
   -- a pass of which the caller knows this: only the caller's deals, and knows of the last run what
   -- was dealt; another is of that run, and then knows the same, or of an earlier one
@@ -34,27 +33,26 @@ module _ {P : Type 0} where
       (pass : ℕ) (known : Known P) → get_elem? views pass ≡ some known → Fits caller last pass known
 
 -- what the caller knows after a message of its own
-abbrev pub known_after : {P O : Type 0} → Known P → Message P O → Known P
+abbrev pub known_after : {P : Type 0} → Known P → Message P → Known P
 known_after known (messages.Dealt d) = record known { run = known.run + 1; dealt = Some d }
 known_after known (messages.Answer answer) = known
 
-module _ {P O : Type 0} (IsOutcome : P → O → Type 0) where
-  -- an outcome is what a worker makes of the part that it was dealt
-  abbrev pub IsOutcomeOf : Dealt P → ℕ → O → Type 0
-  IsOutcomeOf d worker outcome =
-      (none : P) → worker < length d.parts.value.items
-      → IsOutcome (slice_index_or d.parts.value.items worker none) outcome
+module _ {P : Type 0} (IsDone : P → P → Type 0) where
+  -- this is what a worker makes of the part that it was dealt
+  abbrev pub IsDoneOf : Dealt P → ℕ → P → Type 0
+  IsDoneOf d worker done =
+      (part : P) → slice_index_or d.parts.value.items worker None ≡ Some part → IsDone part done
 
-  -- a message of which the caller knows this: an answer in the last run is an outcome of what was
-  -- dealt in it, and other answers are of earlier runs
-  abbrev pub IsReply : Known P → Message P O → Type 0
+  -- a message of which the caller knows this: an answer in the last run is what its worker made of
+  -- what was dealt in it, and other answers are of earlier runs
+  abbrev pub IsReply : Known P → Message P → Type 0
   IsReply last (messages.Dealt other) = ⊤
   IsReply last (messages.Answer answer) =
       (answer.run ≤ last.run)
       × (answer.run ≡ last.run → (d : Dealt P) → last.dealt ≡ Some d
-      → IsOutcomeOf d answer.worker answer.outcome)
+      → IsDoneOf d answer.worker answer.done)
 
   -- all messages and all passes are of what the caller knows
-  abbrev pub AreReplies : List (Message P O) → List (Known P) → Type 0
+  abbrev pub AreReplies : List (Message P) → List (Known P) → Type 0
   AreReplies items views =
       (caller : ℕ) × (last : Known P) × All (IsReply last) items × AllFit caller last views

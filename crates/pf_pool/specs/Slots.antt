@@ -1,14 +1,19 @@
--- What the workers of a pool have answered in a turn.
-use Rattle.std.specs.Prelude.{ℕ, ◌<◌, ◌≤◌, List, length, Option, None, IfSome, IsSome, slice_index_or}
+-- The parts of the workers of a pool in a run, from those that are to be done to those that are done.
+use Rattle.std.specs.Prelude.{ℕ, ◌<◌, ◌≤◌, List, length, Option, None, IfSome, IsNone, IsSome, slice_index_or}
 use Rattle.pf_pool.specs.declared.reply.Dealt.{Dealt}
-use Rattle.pf_pool.specs.Reply.{IsOutcomeOf}
+use Rattle.pf_pool.specs.Reply.{IsDoneOf}
 
--- what worker w has answered, if it has, is what it makes of the part that it was dealt
-abbrev pub AreAnswers : {P O : Type 0} → (P → O → Type 0) → Dealt P → List (Option O) → Type 0
-AreAnswers IsOutcome d slots =
-    (w : ℕ) → w < length slots → IfSome (slice_index_or slots w None) (IsOutcomeOf IsOutcome d w)
+-- what the workers from number `least` on have done, if they have, is what they make of their parts
+abbrev pub AreDoneFrom : {P : Type 0} → (P → P → Type 0) → Dealt P → ℕ → List (Option P) → Type 0
+AreDoneFrom IsDone d least slots =
+    (w : ℕ) → least ≤ w → w < length slots → IfSome (slice_index_or slots w None) (IsDoneOf IsDone d w)
+
+-- the workers from number `least` on have their parts
+abbrev pub AreAway : {P : Type 0} → ℕ → List (Option P) → Type 0
+AreAway least slots =
+    (w : ℕ) → least ≤ w → w < length slots → IsNone (slice_index_or slots w None)
 
 -- all workers from number `least` on have answered
-abbrev pub HaveAnswered : {O : Type 0} → ℕ → List (Option O) → Type 0
+abbrev pub HaveAnswered : {P : Type 0} → ℕ → List (Option P) → Type 0
 HaveAnswered least slots =
     (w : ℕ) → least ≤ w → w < length slots → IsSome (slice_index_or slots w None)

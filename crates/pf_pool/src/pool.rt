@@ -4,7 +4,7 @@ ghost use Rattle.std.specs.Prelude.{◌<◌, ◌≤◌};
 
 use crate::error::PoolError;
 use crate::reply::{Collector, Dealt};
-use crate::slots::{accept, all_answers, have_answered, no_answers};
+use crate::slots::{accept, have_answered};
 use crate::task::Task;
 use crate::worker::{Job, Worker, others, start};
 use crossbeam_channel::SendError;
@@ -19,9 +19,9 @@ use std::thread::{Threads, available_parallelism};
 pub const MAX_WORKERS: usize = 16;
 
 /// Workers, each with a thread of its own, that are started once. In a run each worker is sent one
-/// message, with its part, and sends one answer, with its outcome. Where nobody watches, the caller
-/// does the first part itself, and then those that no worker has begun: so it never waits for a
-/// worker that has not come.
+/// message, with its part, and sends one answer, with the part when it is done. Where nobody
+/// watches, the caller does the first part itself, and then those that no worker has begun: so it
+/// never waits for a worker that has not come.
 ///
 /// Contracts see which workers this pool has not dismissed.
 #[derive(Drop)]
@@ -47,15 +47,6 @@ impl<R, T: Task> Model for Pool<R, T> {
         (n ≤ MAX_WORKERS) × (0 < p.part_count) × (p.part_count ≤ n) };
 }
 
-/// What the workers from number `least` on have answered, and the error with which the others were
-/// not asked, if there was one.
-#[derive(Drop)]
-struct Answers<T: Task> {
-    least: usize,
-    asked: Result<(), SendError<Option<Job<T>>>>,
-    slots: Vec<Option<T::Outcome>>,
-}
-
 /// Into how many parts work is best cut, for so many workers: where nobody watches, not into more
 /// than there are processors, since some parts would then only wait for others, but into two.
 fn best_part_count<R: Threads, T: Task>(rt: &R, workers: usize, task: &T) -> usize
@@ -73,10 +64,10 @@ fn best_part_count<R: Threads, T: Task>(rt: &R, workers: usize, task: &T) -> usi
 }
 
 impl<R: Wait, T: Task> Pool<R, T> {
-    ghost use Rattle.std.specs.Prelude.{◌≡◌, ◌<◌, ◌≤◌, IfErr, IfOk, IsFalse, IsTrue, OnOk, Some, false, length, replicate, slice_index_or, slice_set, true};
-    ghost use Rattle.pf_pool.specs.Pool.{AreOutcomes, HasAllWorkers, IsAskError, IsRunError, IsStartError};
+    ghost use Rattle.std.specs.Prelude.{◌≡◌, ◌<◌, ◌≤◌, All, IfErr, IfOk, IsFalse, IsSome, IsTrue, OnOk, Some, false, length, replicate, slice_set, true};
+    ghost use Rattle.pf_pool.specs.Pool.{AreDone, HasAllWorkers, IsAskError, IsRunError, IsStartError};
     ghost use Rattle.pf_pool.specs.Reply.{WasDealt, WereDealt};
-    ghost use Rattle.pf_pool.specs.Slots.{AreAnswers, HaveAnswered};
+    ghost use Rattle.pf_pool.specs.Slots.{AreAway, AreDoneFrom, HaveAnswered};
     ghost use Rattle.pf_pool.specs.declared.reply.Dealt.{Dealt};
 
     /// Starts so many workers. Returns an error where it is out of memory or a thread could not be
@@ -86,7 +77,6 @@ impl<R: Wait, T: Task> Pool<R, T> {
         R: Threads + Copy + Send + 'static,
         T: Send + Sync + Drop + 'static,
         T::Part: 'static,
-        T::Outcome: 'static,
         requires { (0 < workers) × (workers ≤ MAX_WORKERS) }
         ensures pool { IfOk result (λ pool. pool ≡ replicate workers true) }
         ensures failed { IfErr result IsStartError }
@@ -183,7 +173,7 @@ impl<R: Wait, T: Task> Pool<R, T> {
     }
 
     /// The channel of a run in which these parts are dealt: that of the last run, if it is there.
-    fn deal(&self, parts: &Vec<T::Part>) -> Result<Collector<T>, PoolError>
+    fn deal(&self, parts: &Vec<Option<T::Part>>) -> Result<Collector<T>, PoolError>
         ensures dealt { IfOk result (λ collector. (d : Dealt T.Part) × (collector ≡ Some d)
             × (d.parts.value.items ≡ parts.now.items)) }
         ensures failed { IfErr result IsRunError }
@@ -230,24 +220,31 @@ impl<R: Wait, T: Task> Pool<R, T> {
     fn ask_each(
         &self,
         turn: usize,
-        parts: Vec<T::Part>,
+        slots: &mut [Option<T::Part>],
         collector: &mut Collector<T>,
         own: &mut Option<Job<T>>,
     ) -> (usize, Result<(), SendError<Option<Job<T>>>>)
-        requires dealt { WereDealt collector.old parts.items }
-        requires count { length parts.items ≤ length self.now }
+        requires dealt { WereDealt collector.old slots.old }
+        requires count { length slots.old ≤ length self.now }
+        requires some { All IsSome slots.old }
         ensures same { collector.new ≡ collector.old }
-        ensures asked { result.0 ≤ length parts.items }
+        ensures asked { result.0 ≤ length slots.old }
+        ensures count { length slots.new ≡ length slots.old }
+        ensures away { AreAway result.0 slots.new }
         ensures all { OnOk result.1 (result.0 ≡ 0) }
         ensures failed { IfErr result.1 IsAskError }
     {
-        let mut parts = parts;
-        while let Some(part) = parts.pop() {
-            let worker = parts.len();
+        let mut least = slots.len();
+        while least > 0 {
+            let worker = least - 1;
+            let Some(part) = slots[worker].take() else {
+                unreachable!()
+            };
             let asked = self.ask_one(turn, worker, part, collector, own);
             if let Err(error) = asked {
-                return (worker + 1, Err(error));
+                return (least, Err(error));
             }
+            least = worker;
         }
         (0, Ok(()))
     }
@@ -266,75 +263,68 @@ impl<R: Wait, T: Task> Pool<R, T> {
     }
 
     /// Waits until all workers from `least` on have answered.
-    fn collect(&self, collector: &mut Collector<T>, least: usize, slots: &mut [Option<T::Outcome>])
+    fn collect(&self, collector: &mut Collector<T>, least: usize, slots: &mut [Option<T::Part>])
         requires { least ≤ length slots.old }
         ensures same { collector.new ≡ collector.old }
         ensures count { length slots.new ≡ length slots.old }
-        ensures answers { (d : Dealt T.Part) → collector.old ≡ Some d
-            → AreAnswers T.is_outcome d slots.old → AreAnswers T.is_outcome d slots.new }
+        ensures done { (d : Dealt T.Part) → collector.old ≡ Some d
+            → AreDoneFrom T.is_done d least slots.old → AreDoneFrom T.is_done d least slots.new }
         ensures all { HaveAnswered least slots.new }
     {
         for _ in self.rt.forever() {
             if have_answered(slots, least) {
                 return;
             }
-            if let Some((worker, outcome)) = collector.receive(&self.rt) {
-                accept::<T>(worker, outcome, slots);
+            if let Some((worker, done)) = collector.receive(&self.rt) {
+                accept::<T>(worker, done, slots);
             }
         }
         unreachable!()
     }
 
     /// Has all parts done that can be asked for, and waits until those who were asked have answered.
-    fn answers(
+    fn have_done(
         &self,
         turn: usize,
-        parts: Vec<T::Part>,
+        slots: &mut [Option<T::Part>],
         collector: &mut Collector<T>,
-        slots: Vec<Option<T::Outcome>>,
-    ) -> Answers<T>
-        requires dealt { WereDealt collector.old parts.items }
-        requires count { length parts.items ≤ length self.now }
-        requires slots { length slots.items ≡ length parts.items }
-        ensures count { length result.slots.items ≡ length slots.items }
-        ensures answers { (d : Dealt T.Part) → collector.old ≡ Some d
-            → AreAnswers T.is_outcome d slots.items → AreAnswers T.is_outcome d result.slots.items }
-        ensures all { HaveAnswered result.least result.slots.items }
-        ensures asked { OnOk result.asked (result.least ≡ 0) }
-        ensures failed { IfErr result.asked IsAskError }
+    ) -> Result<(), SendError<Option<Job<T>>>>
+        requires dealt { WereDealt collector.old slots.old }
+        requires count { length slots.old ≤ length self.now }
+        requires some { All IsSome slots.old }
+        ensures count { length slots.new ≡ length slots.old }
+        ensures done { (d : Dealt T.Part) → collector.old ≡ Some d
+            → OnOk result (AreDoneFrom T.is_done d 0 slots.new) }
+        ensures all { OnOk result (HaveAnswered 0 slots.new) }
+        ensures failed { IfErr result IsAskError }
     {
-        let mut slots = slots;
         let mut own = None;
-        let (least, asked) = self.ask_each(turn, parts, collector, &mut own);
+        let (least, asked) = self.ask_each(turn, slots, collector, &mut own);
         self.help(own, least);
-        self.collect(collector, least, &mut slots);
-        Answers {
-            least,
-            asked,
-            slots,
-        }
+        self.collect(collector, least, slots);
+        asked
     }
 
-    /// Has each part done, and waits for all of them: outcome k is what worker k makes of part k, and
-    /// workers without a part are not asked.
+    /// Has each part done, and waits for all of them: at place k stands then what worker k makes of
+    /// the part that stood there, and workers without a place are not asked.
     /// Where nobody watches, the caller does the first part, and those that no worker has begun.
     /// Returns an error where it is out of memory or a worker is lost, once all workers that were
-    /// asked have answered. It may wait.
-    pub fn run(&self, turn: usize, parts: Vec<T::Part>) -> Result<Vec<T::Outcome>, PoolError>
-        requires { length parts.items ≤ length self.now }
-        ensures outcomes { IfOk result
-            (λ outcomes. AreOutcomes T.is_outcome parts.items outcomes.items) }
+    /// asked have answered; places may then be empty. It takes no memory but in the first run. It
+    /// may wait.
+    pub fn run(&self, turn: usize, parts: &mut Vec<Option<T::Part>>) -> Result<(), PoolError>
+        requires all { All IsSome parts.old.items }
+        requires count { length parts.old.items ≤ length self.now }
+        ensures done { OnOk result (AreDone T.is_done parts.old.items parts.new.items) }
         ensures there { OnOk result (HasAllWorkers self.now) }
         ensures failed { IfErr result IsRunError }
     {
         if !self.has_all_workers() {
             return Err(PoolError::WorkerLost);
         }
-        let slots = no_answers(self.alloc, parts.len())?;
-        let mut collector = self.deal(&parts)?;
-        let answers = self.answers(turn, parts, &mut collector, slots);
+        let mut collector = self.deal(parts)?;
+        let done = self.have_done(turn, parts, &mut collector);
         self.collector.set(Some(collector));
-        answers.asked?;
-        Ok(all_answers(self.alloc, answers.slots)?)
+        done?;
+        Ok(())
     }
 }

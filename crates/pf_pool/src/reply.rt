@@ -4,7 +4,7 @@
 ghost use Rattle.std.specs.Prelude.{◌≡◌, IfSome, Some};
 ghost use Rattle.crossbeam_channel.specs.Claims.{IsSeatAt, view};
 ghost use Rattle.crossbeam_channel.specs.Ends.{sends_on};
-ghost use Rattle.pf_pool.specs.Reply.{IsOutcomeOf, IsReply};
+ghost use Rattle.pf_pool.specs.Reply.{IsDoneOf, IsReply};
 ghost use Rattle.pf_pool.specs.declared.reply.Dealt.{Dealt};
 ghost use Rattle.pf_pool.specs.declared.reply.Known.{Known};
 
@@ -21,25 +21,25 @@ use std::sync::Wait;
 /// The parts of the workers in a run, as contracts see them. It has no bytes.
 #[derive(Drop)]
 pub(crate) struct Dealt<P> {
-    pub(crate) parts: Snapshot<Vec<P>>,
+    pub(crate) parts: Snapshot<Vec<Option<P>>>,
 }
 
 /// What the worker of a number made of its part in a run.
 #[derive(Drop)]
-pub(crate) struct Answer<O> {
+pub(crate) struct Answer<P> {
     pub(crate) run: usize,
     pub(crate) worker: usize,
-    pub(crate) outcome: O,
+    pub(crate) done: P,
 }
 
 /// What goes through the channel.
 #[derive(Drop)]
-pub(crate) enum Message<P, O> {
+pub(crate) enum Message<P> {
     /// What is dealt in the next run. The caller sends it before all jobs, so that whoever answers
     /// knows it.
     Dealt(Dealt<P>),
     /// What a worker answers.
-    Answer(Answer<O>),
+    Answer(Answer<P>),
 }
 
 /// What one who holds a pass knows: the number of a run, what was dealt in it, and whether it is the
@@ -55,10 +55,10 @@ pub(crate) struct Replies<T> {
     task: PhantomData<T>,
 }
 
-impl<T: Task> Protocol<Message<T::Part, T::Outcome>, Known<T::Part>> for Replies<T> {
+impl<T: Task> Protocol<Message<T::Part>, Known<T::Part>> for Replies<T> {
     ghost use Rattle.pf_pool.specs.Reply.{AreReplies, known_first};
 
-    ghost holds = { AreReplies T.is_outcome };
+    ghost holds = { AreReplies T.is_done };
 
     ghost first = { known_first };
 }
@@ -66,14 +66,14 @@ impl<T: Task> Protocol<Message<T::Part, T::Outcome>, Known<T::Part>> for Replies
 /// The caller, who sends what is dealt in the next run, knows it.
 struct Deals;
 
-impl<P, O> Outcome<Message<P, O>, Known<P>> for Deals {
+impl<P> Outcome<Message<P>, Known<P>> for Deals {
     ghost use Rattle.std.specs.Prelude.{◌≡◌};
     ghost use Rattle.pf_pool.specs.Reply.{known_after};
 
     ghost then = { λ before message after. after ≡ known_after before message };
 }
 
-impl<P, O> Lesson<Message<P, O>, Known<P>> for Deals {
+impl<P> Lesson<Message<P>, Known<P>> for Deals {
     ghost use Rattle.std.specs.Prelude.{⊤};
 
     ghost fact = { λ view messages. ⊤ };
@@ -84,15 +84,15 @@ struct Takes<T> {
     task: PhantomData<T>,
 }
 
-impl<T: Task> Outcome<Message<T::Part, T::Outcome>, Known<T::Part>> for Takes<T> {
+impl<T: Task> Outcome<Message<T::Part>, Known<T::Part>> for Takes<T> {
     ghost use Rattle.std.specs.Prelude.{◌≡◌, true};
     ghost use Rattle.pf_pool.specs.Reply.{IsReply};
 
     ghost then = { λ before message after. (after ≡ before)
-        × (before.deals ≡ true → IsReply T.is_outcome before message) };
+        × (before.deals ≡ true → IsReply T.is_done before message) };
 }
 
-impl<T: Task> Lesson<Message<T::Part, T::Outcome>, Known<T::Part>> for Takes<T> {
+impl<T: Task> Lesson<Message<T::Part>, Known<T::Part>> for Takes<T> {
     ghost use Rattle.std.specs.Prelude.{⊤};
 
     ghost fact = { λ view messages. ⊤ };
@@ -116,8 +116,8 @@ pub(crate) const LOOKS: u32 = 2_000;
 /// The end of a worker, over which it answers in one run.
 #[derive(Drop)]
 pub(crate) struct Replier<T: Task> {
-    sender: RuledSender<Message<T::Part, T::Outcome>, Known<T::Part>, Replies<T>>,
-    pass: Pass<Message<T::Part, T::Outcome>, Known<T::Part>>,
+    sender: RuledSender<Message<T::Part>, Known<T::Part>, Replies<T>>,
+    pass: Pass<Message<T::Part>, Known<T::Part>>,
     run: usize,
     ghost seat: { IsSeatAt (sends_on sender) pass },
     ghost counted: { (view pass).run ≡ run },
@@ -126,39 +126,32 @@ pub(crate) struct Replier<T: Task> {
 impl<T: Task> Replier<T> {
     ghost use Rattle.std.specs.Prelude.{◌≡◌, Some};
     ghost use Rattle.pf_pool.specs.Known.{known_to};
-    ghost use Rattle.pf_pool.specs.Reply.{IsOutcomeOf};
+    ghost use Rattle.pf_pool.specs.Reply.{IsDoneOf};
     ghost use Rattle.pf_pool.specs.declared.reply.Dealt.{Dealt};
 
     /// Sends the answer of a worker. Does nothing where the caller waits no more.
-    pub(crate) fn send<R: Wait>(self, rt: &R, worker: usize, outcome: T::Outcome)
+    pub(crate) fn send<R: Wait>(self, rt: &R, worker: usize, done: T::Part)
         requires { (d : Dealt T.Part) → known_to self ≡ Some d
-            → IsOutcomeOf T.is_outcome d worker outcome }
+            → IsDoneOf T.is_done d worker done }
     {
         let Replier {
             sender,
             mut pass,
             run,
         } = self;
-        let answer = Answer {
-            run,
-            worker,
-            outcome,
-        };
+        let answer = Answer { run, worker, done };
         let _ = sender.send_as::<Free, R>(rt, &mut pass, Message::Answer(answer));
     }
 }
 
-/// The worker and the outcome of a message, if that is an answer in the run of a number.
-fn answer_in<T: Task>(
-    message: Message<T::Part, T::Outcome>,
-    run: usize,
-) -> Option<(usize, T::Outcome)>
-    ensures { (known : Known T.Part) → known.run ≡ run → IsReply T.is_outcome known message
+/// The worker of a message and the part that it did, if that is an answer in the run of a number.
+fn answer_in<T: Task>(message: Message<T::Part>, run: usize) -> Option<(usize, T::Part)>
+    ensures { (known : Known T.Part) → known.run ≡ run → IsReply T.is_done known message
         → IfSome result (λ answer. (d : Dealt T.Part) → known.dealt ≡ Some d
-        → IsOutcomeOf T.is_outcome d answer.0 answer.1) }
+        → IsDoneOf T.is_done d answer.0 answer.1) }
 {
     match message {
-        Message::Answer(answer) if answer.run == run => Some((answer.worker, answer.outcome)),
+        Message::Answer(answer) if answer.run == run => Some((answer.worker, answer.done)),
         _ => None,
     }
 }
@@ -168,9 +161,9 @@ fn answer_in<T: Task>(
 /// Contracts see what was dealt in the current run.
 #[derive(Drop)]
 pub(crate) struct Collector<T: Task> {
-    sender: RuledSender<Message<T::Part, T::Outcome>, Known<T::Part>, Replies<T>>,
-    receiver: RuledReceiver<Message<T::Part, T::Outcome>, Known<T::Part>, Replies<T>>,
-    pass: Pass<Message<T::Part, T::Outcome>, Known<T::Part>>,
+    sender: RuledSender<Message<T::Part>, Known<T::Part>, Replies<T>>,
+    receiver: RuledReceiver<Message<T::Part>, Known<T::Part>, Replies<T>>,
+    pass: Pass<Message<T::Part>, Known<T::Part>>,
     run: usize,
 }
 
@@ -193,7 +186,7 @@ impl<T: Task> Collector<T> {
     ghost use Rattle.std.specs.Prelude.{◌≡◌, ◌+◌, ◌^◌, ◌<◌, IfErr, IfOk, IfSome, None, Some};
     ghost use Rattle.pf_pool.specs.Known.{known_to};
     ghost use Rattle.pf_pool.specs.Pool.{IsRunError};
-    ghost use Rattle.pf_pool.specs.Reply.{IsOutcomeOf};
+    ghost use Rattle.pf_pool.specs.Reply.{IsDoneOf};
     ghost use Rattle.pf_pool.specs.declared.error.PoolError.TheVariants.{WorkerLost};
     ghost use Rattle.pf_pool.specs.declared.reply.Dealt.{Dealt};
 
@@ -203,7 +196,7 @@ impl<T: Task> Collector<T> {
         ensures { IfOk result (λ collector. collector ≡ None) }
     {
         let (sender, receiver, pass) = bounded_with::<
-            Message<T::Part, T::Outcome>,
+            Message<T::Part>,
             Known<T::Part>,
             Replies<T>,
             Global,
@@ -258,9 +251,9 @@ impl<T: Task> Collector<T> {
     }
 
     /// Takes the next message, if it has arrived.
-    fn look<R: Wait>(&mut self, rt: &R) -> Option<(usize, T::Outcome)>
-        ensures outcome { IfSome result (λ answer. (d : Dealt T.Part) → self.old ≡ Some d
-            → IsOutcomeOf T.is_outcome d answer.0 answer.1) }
+    fn look<R: Wait>(&mut self, rt: &R) -> Option<(usize, T::Part)>
+        ensures done { IfSome result (λ answer. (d : Dealt T.Part) → self.old ≡ Some d
+            → IsDoneOf T.is_done d answer.0 answer.1) }
         ensures same { self.new ≡ self.old }
     {
         match self.receiver.try_recv_as::<Takes<T>, R>(rt, &mut self.pass) {
@@ -270,9 +263,9 @@ impl<T: Task> Collector<T> {
     }
 
     /// Sleeps until the next message arrives.
-    fn sleep<R: Wait>(&mut self, rt: &R) -> Option<(usize, T::Outcome)>
-        ensures outcome { IfSome result (λ answer. (d : Dealt T.Part) → self.old ≡ Some d
-            → IsOutcomeOf T.is_outcome d answer.0 answer.1) }
+    fn sleep<R: Wait>(&mut self, rt: &R) -> Option<(usize, T::Part)>
+        ensures done { IfSome result (λ answer. (d : Dealt T.Part) → self.old ≡ Some d
+            → IsDoneOf T.is_done d answer.0 answer.1) }
         ensures same { self.new ≡ self.old }
     {
         match self.receiver.recv_as::<Takes<T>, R>(rt, &mut self.pass) {
@@ -281,11 +274,11 @@ impl<T: Task> Collector<T> {
         }
     }
 
-    /// Waits for the next message. Returns the worker and the outcome, if it is an answer in the
+    /// Waits for the next message. Returns the worker and what it did, if it is an answer in the
     /// current run.
-    pub(crate) fn receive<R: Wait>(&mut self, rt: &R) -> Option<(usize, T::Outcome)>
-        ensures outcome { IfSome result (λ answer. (d : Dealt T.Part) → self.old ≡ Some d
-            → IsOutcomeOf T.is_outcome d answer.0 answer.1) }
+    pub(crate) fn receive<R: Wait>(&mut self, rt: &R) -> Option<(usize, T::Part)>
+        ensures done { IfSome result (λ answer. (d : Dealt T.Part) → self.old ≡ Some d
+            → IsDoneOf T.is_done d answer.0 answer.1) }
         ensures same { self.new ≡ self.old }
     {
         for _ in 0..LOOKS {

@@ -51,8 +51,8 @@ impl<T: Task> Job<T> {
             part,
             replier,
         } = self;
-        let outcome = task.run(worker, turn, part);
-        replier.send(rt, worker, outcome);
+        let done = task.run(worker, turn, part);
+        replier.send(rt, worker, done);
     }
 }
 
@@ -132,7 +132,6 @@ impl<T: Task> Worker<T> {
         R: Threads + Wait + Copy + Send + 'static,
         T: Send + Sync + Drop + 'static,
         T::Part: 'static,
-        T::Outcome: 'static,
         ensures there { IfOk result (λ worker. worker ≡ true) }
         ensures failed { IfErr result IsStartError }
     {
@@ -233,7 +232,6 @@ where
     R: Threads + Wait + Copy + Send + 'static,
     T: Task + Send + Sync + Drop + 'static,
     T::Part: 'static,
-    T::Outcome: 'static,
     ensures there { IfOk result (λ workers. workers.items ≡ replicate count true) }
     ensures failed { IfErr result IsStartError }
 {

@@ -6,5 +6,5 @@ loop-preserved g c = record {
   next = c.loop.invariant.next;
   knows = c.receive.ensures.same ∙ c.loop.invariant.knows;
   count = c.loop.invariant.count;
-  answers = c.loop.invariant.answers;
+  done = c.loop.invariant.done;
 }

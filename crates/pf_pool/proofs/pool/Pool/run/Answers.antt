@@ -1,21 +1,15 @@
-use Rattle.std.proofs.Common.{rules, ◌≡◌, ◌∙◌, ap, length, subst, sym}
-use Rattle.pf_pool.specs.Pool.{AreOutcomes}
-use Rattle.pf_pool.specs.declared.reply.Dealt.{Dealt}
-use Rattle.pf_pool.proofs.Answered.{all_answered, none_answered, same_dealt}
+use Rattle.std.proofs.Common.{◌∙◌, ap, length, subst, sym}
+use Rattle.pf_pool.specs.Pool.{AreDone}
+use Rattle.pf_pool.proofs.Answered.{all_done}
+use Rattle.pf_pool.proofs.Lists.{written_back}
 use Rattle.pf_pool.proofs.pool.Pool.run.Goals as goal
 
-pub answers-answers-requires-clause-dealt : goal.answers-answers-requires-clause-dealt
-answers-answers-requires-clause-dealt g c κs within d known =
+pub returns-clause-done : goal.returns-clause-done
+returns-clause-done g c =
+    let IsDone = g.T.Task.is_done in
+    let old = c.args.parts.now.items in
+    let new = c.have_done-done.new.slots in
     let dealt = c.in_ok-collector.ensures.dealt in
-    ap (λ (e : Dealt g.row.T-Part.Denot). e.parts.value.items) (same_dealt d dealt.0 _ known dealt.1) ∙ dealt.2
-
-pub returns-clause-outcomes : goal.returns-clause-outcomes
-returns-clause-outcomes g c =
-    let dealt = c.in_ok-collector.ensures.dealt in
-    let d = dealt.0 in
-    let parts : c.len.result ≡ length c.args.parts.items = search rules in
-    let slots = c.in_ok-slots.slots.items in
-    let answers = c.answers-answers.ensures.answers d dealt.1 (none_answered g.T.Task.is_outcome d slots c.in_ok-slots.ensures.none) in
-    let count = c.answers-answers.ensures.count ∙ c.in_ok-slots.ensures.count ∙ parts ∙ sym (ap length dealt.2) in
-    subst (λ parts. AreOutcomes g.T.Task.is_outcome parts c.in_ok-all_answers.field-0.items) dealt.2
-    (all_answered g.T.Task.is_outcome d _ _ answers count c.in_ok-all_answers.ensures)
+    let count = c.in_ok-done.ensures.count ∙ ap length c.deref_mut.ensures.value in
+    subst (AreDone IsDone old) (sym (written_back c.args.parts.now.len new old count c.args.parts.now.ok.0))
+    (all_done IsDone dealt.0 old new dealt.2 count (c.in_ok-done.ensures.done dealt.0 dealt.1) c.in_ok-done.ensures.all)

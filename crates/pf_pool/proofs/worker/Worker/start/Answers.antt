@@ -5,4 +5,4 @@ use Rattle.pf_pool.proofs.Sent.{jobs_send}
 use Rattle.pf_pool.proofs.worker.Worker.start.Goals as goal
 
 pub start_thread-requires-send-J : goal.start_thread-requires-send-J
-start_thread-requires-send-J g c κs within = param_send 2 _ (arg_send _ no _ (jobs_send (param 0 g.row.T) (param 1 g.row.T-Part) (param 2 g.row.T-Outcome) g.T.Task (search sendable depth 9) (search sendable depth 9)))
+start_thread-requires-send-J g c κs within = param_send 2 _ (arg_send _ no _ (jobs_send (param 0 g.row.T) (param 1 g.row.T-Part) g.T.Task (search sendable depth 9)))
