@@ -1,17 +1,17 @@
 -- What the answers of all workers are together.
-use Rattle.std.proofs.Common.{◌≡◌, ◌∙◌, ℕ, suc, ◌<◌, Bool, List, [], ◌∷◌, Ok, Err, map, length, get_or, refl, ap, ap₂, sym, arith, subst}
+use Rattle.std.proofs.Common.{◌≡◌, ◌∙◌, ℕ, zero, suc, ◌<◌, Bool, List, [], ◌∷◌, Option, None, Some, Ok, Err, map, length, get_or, refl, ap, ap₂, sym, arith, subst}
+use Rattle.std.proofs.lemmas.Bool.{true≢false}
 use Rattle.std.proofs.lemmas.List.{get_or-map, length-map}
-use Rattle.std.specs.Prelude.{All}
+use Rattle.std.specs.Prelude.{All, IsSome}
 use Rattle.pf_shapes.specs.Scene.{Scene}
 use Rattle.pf_islands.specs.Split.{Island}
-use Rattle.pf_pool.specs.Pool.{AreOutcomes}
+use Rattle.pf_pool.specs.Pool.{AreDone}
+use Rattle.pf_pool.proofs.Lists.{default_same}
 use Rattle.pf_solver.specs.Alone.{island_after_tick}
 use Rattle.pf_workers.specs.Solving.{share_of}
-use Rattle.pf_workers.specs.Work.{IsOfIslands, IsOutcome}
-use Rattle.pf_workers.specs.declared.work.Outcome.{Outcome}
-use Rattle.pf_workers.specs.declared.work.Outcome.TheVariants.{Solved, Found}
+use Rattle.pf_workers.specs.Work.{AreIslandsDone, IsDone}
 use Rattle.pf_workers.specs.declared.work.Part.{Part}
-use Rattle.pf_workers.specs.declared.work.Part.TheVariants.{Islands}
+use Rattle.pf_workers.specs.declared.work.Part.TheVariants.{Islands, Solved, Pairs, Found}
 
 -- a list whose elements are made of those of another is made of it
 made_of : {X Y : Type 0} (f : Y → X) (xs : List X) (ys : List Y) (d : X) (e : Y) → length xs ≡ length ys
@@ -23,34 +23,50 @@ made_of f (x ∷ xs) (y ∷ ys) d e long at =
     ap₂ (λ z zs. z ∷ zs) (at 0 (omega arith))
     (made_of f xs ys d e (omega (arith, long)) (λ w low. at (suc w) (omega (arith, low))))
 
-abbrev pub part : Scene → List Island → Part
-part s pile = Islands (share_of s pile)
+-- what a worker is asked: its pile, with the scene
+abbrev pub part : Scene → List Island → Option Part
+part s pile = Some (Islands (share_of s pile))
 
-module _ (always : Bool) (s : Scene) (piles : List (List Island)) (outcomes : List Outcome)
-    (of : AreOutcomes (IsOutcome always) (map (part s) piles) outcomes) where
-  count : length outcomes ≡ length piles
+-- where it was done
+abbrev pub solved : List Island → Option Part
+solved pile = Some (Solved (Ok pile))
+
+-- each worker is asked something
+pub all_asked : (s : Scene) (piles : List (List Island)) → All IsSome (map (part s) piles)
+all_asked s [] k d low = absurd (omega (arith, low))
+all_asked s (pile ∷ piles) zero d low = refl
+all_asked s (pile ∷ piles) (suc k) d low = all_asked s piles k d (omega (arith, low))
+
+module _ (always : Bool) (s : Scene) (piles : List (List Island)) (after : List (Option Part))
+    (of : AreDone (IsDone always) (map (part s) piles) after) where
+  count : length after ≡ length piles
   count = of.0 ∙ length-map piles (part s)
 
-  outcome_at : (w : ℕ) (o : Outcome) → w < length piles → IsOutcome always (Islands (share_of s (get_or piles w []))) (get_or outcomes w o)
-  outcome_at w o low =
-      subst (λ p. IsOutcome always p (get_or outcomes w o)) (get_or-map (part s) piles w [] (part s []) low)
-      (of.1 w (part s []) o (omega (arith, low, length-map piles (part s))))
+  done_at : (w : ℕ) (done : Part) → w < length piles → get_or after w None ≡ Some done
+      → IsDone always (Islands (share_of s (get_or piles w []))) done
+  done_at w done low is = of.2 w (Islands (share_of s (get_or piles w []))) done (get_or-map (part s) piles w [] None low) is
 
-  solving : (outcome : Outcome) (pile : List Island) → IsOutcome always (Islands (share_of s pile)) outcome → IsOfIslands always outcome
-  solving (Solved (Ok after)) pile is = tt
-  solving (Solved (Err error)) pile is = is
-  solving (Found found) pile is = absurd is
+  solving : (pile : List Island) (slot : Option Part) → IsSome slot
+      → ((done : Part) → slot ≡ Some done → IsDone always (Islands (share_of s pile)) done) → AreIslandsDone always slot
+  solving pile None some is = absurd (true≢false (sym some))
+  solving pile (Some (Solved (Ok now))) some is = tt
+  solving pile (Some (Solved (Err error))) some is = is (Solved (Err error)) refl
+  solving pile (Some (Islands share)) some is = absurd (is (Islands share) refl)
+  solving pile (Some (Pairs chunk)) some is = absurd (is (Pairs chunk) refl)
+  solving pile (Some (Found found)) some is = absurd (is (Found found) refl)
 
-  pub all_solving : All (IsOfIslands always) outcomes
-  all_solving w o low = solving (get_or outcomes w o) (get_or piles w []) (outcome_at w o (omega (arith, low, count)))
+  pub all_solving : All (AreIslandsDone always) after
+  all_solving w d low =
+      subst (AreIslandsDone always) (default_same after w None d low)
+      (solving (get_or piles w []) (get_or after w None) (of.1 w None low)
+      (λ done is. done_at w done (omega (arith, low, count)) is))
 
   -- where all workers are done, their piles are those that were dealt, after a tick
-  pub all_solved : (after : List (List Island)) → map (λ pile. Solved (Ok pile)) after ≡ outcomes
-      → after ≡ map (map (island_after_tick s)) piles
-  all_solved after done =
-      let same : length after ≡ length outcomes = sym (length-map after (λ pile. Solved (Ok pile))) ∙ ap length done in
-      made_of (map (island_after_tick s)) after piles [] [] (same ∙ count)
+  pub all_solved : (now : List (List Island)) → map solved now ≡ after → now ≡ map (map (island_after_tick s)) piles
+  all_solved now done =
+      let same : length now ≡ length after = sym (length-map now solved) ∙ ap length done in
+      made_of (map (island_after_tick s)) now piles [] [] (same ∙ count)
       (λ w low.
-      let at : get_or outcomes w (Solved (Ok [])) ≡ Solved (Ok (get_or after w [])) =
-      ap (λ l. get_or l w (Solved (Ok []))) (sym done) ∙ get_or-map (λ pile. Solved (Ok pile)) after w [] (Solved (Ok [])) low in
-      subst (IsOutcome always (Islands (share_of s (get_or piles w [])))) at (outcome_at w (Solved (Ok [])) (omega (arith, low, same, count))))
+      let at : get_or after w None ≡ solved (get_or now w []) =
+      ap (λ l. get_or l w None) (sym done) ∙ get_or-map solved now w [] None low in
+      done_at w (Solved (Ok (get_or now w []))) (omega (arith, low, same, count)) at)

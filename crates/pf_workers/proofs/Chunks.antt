@@ -1,20 +1,29 @@
 -- The points of all chunks of a list of pairs are those of the list.
-use Rattle.std.proofs.Common.{◌≡◌, ◌∙◌, ℕ, zero, suc, ◌+◌, ◌<◌, Bool, List, [], ◌∷◌, ◌++◌, Ok, Vec, Global, append-nil, drop, take, length, map, get_or, ap, ap₂, subst, sym, arith}
+use Rattle.std.proofs.Common.{◌≡◌, ◌∙◌, ℕ, zero, suc, ◌+◌, ◌<◌, Bool, List, [], ◌∷◌, ◌++◌, Option, None, Some, Ok, Vec, Global, append-nil, drop, take, length, map, get_or, refl, ap, ap₂, subst, sym, arith}
 use Rattle.std.proofs.lemmas.Grind.{flat_map-append}
 use Rattle.std.proofs.lemmas.List.{append_assoc, get_or-map, length-map, map-append, take-append-drop, take_more}
 use Rattle.std.specs.List.{flat_map}
-use Rattle.std.specs.Prelude.{All}
+use Rattle.std.specs.Prelude.{All, IsSome}
 use Rattle.pf_shapes.specs.Fixture.{Fixture}
 use Rattle.pf_shapes.specs.Body.{BodyState}
 use Rattle.pf_shapes.specs.Pair.{Pair}
 use Rattle.pf_manifold.specs.Touches.{Touch, touches, touches_of}
-use Rattle.pf_pool.specs.Pool.{AreOutcomes}
+use Rattle.pf_pool.specs.Pool.{AreDone}
+use Rattle.pf_pool.proofs.Lists.{default_same}
 use Rattle.pf_workers.specs.Colliding.{Chunk, chunk, points_of}
-use Rattle.pf_workers.specs.Work.{ArePointsOf, IsOutcome}
-use Rattle.pf_workers.specs.declared.work.Outcome.{Outcome}
-use Rattle.pf_workers.specs.declared.work.Outcome.TheVariants.{Found}
+use Rattle.pf_workers.specs.Work.{ArePointsOf, IsDone}
 use Rattle.pf_workers.specs.declared.work.Part.{Part}
-use Rattle.pf_workers.specs.declared.work.Part.TheVariants.{Pairs}
+use Rattle.pf_workers.specs.declared.work.Part.TheVariants.{Pairs, Found}
+
+-- what a worker is asked: its chunk
+abbrev pub part : Chunk → Option Part
+part c = Some (Pairs c)
+
+-- each worker is asked something
+pub all_asked : (chunks : List Chunk) → All IsSome (map part chunks)
+all_asked [] k d low = absurd (omega (arith, low))
+all_asked (c ∷ chunks) zero d low = refl
+all_asked (c ∷ chunks) (suc k) d low = all_asked chunks k d (omega (arith, low))
 
 pub all_drop : {X : Type 0} (P : X → Type 0) (xs : List X) (k : ℕ) → All P xs → All P (drop k xs)
 all_drop P xs zero ps = ps
@@ -28,20 +37,20 @@ more chunks chunk =
 
 module _ (fixtures : List Fixture) (bodies : List BodyState) where
   -- these parts are chunks of some pairs, and the rest is not cut yet
-  abbrev pub AreCutOff : List Part → List Pair → List Pair → Type 0
+  abbrev pub AreCutOff : List (Option Part) → List Pair → List Pair → Type 0
   AreCutOff parts rest all =
-      (chunks : List Chunk) × (parts ≡ map Pairs chunks)
+      (chunks : List Chunk) × (parts ≡ map part chunks)
       × (flat_map points_of chunks ++ touches fixtures bodies rest ≡ touches fixtures bodies all)
 
   -- a chunk is cut off
-  pub cut : (parts after : List Part) (own others rest all : List Pair) (k : ℕ) → own ≡ take k rest → others ≡ drop k rest
-      → after ≡ parts ++ Pairs (chunk fixtures bodies own) ∷ [] → AreCutOff parts rest all → AreCutOff after others all
+  pub cut : (parts after : List (Option Part)) (own others rest all : List Pair) (k : ℕ) → own ≡ take k rest → others ≡ drop k rest
+      → after ≡ parts ++ part (chunk fixtures bodies own) ∷ [] → AreCutOff parts rest all → AreCutOff after others all
   cut parts after own others rest all k front back pushed before =
       let chunks = before.0 in
       let next = chunk fixtures bodies own in
       let of = touches fixtures bodies in (
         chunks ++ next ∷ [],
-        pushed ∙ ap (λ l. l ++ Pairs next ∷ []) before.1 ∙ sym (map-append Pairs chunks (next ∷ [])),
+        pushed ∙ ap (λ l. l ++ part next ∷ []) before.1 ∙ sym (map-append part chunks (next ∷ [])),
         ap (λ l. l ++ of others) (more chunks next)
             ∙ append_assoc (flat_map points_of chunks) (of own) (of others)
             ∙ ap (λ l. flat_map points_of chunks ++ l)
@@ -51,35 +60,29 @@ module _ (fixtures : List Fixture) (bodies : List BodyState) where
       )
 
   -- the rest is the last chunk
-  pub last : (parts after : List Part) (rest all : List Pair) → after ≡ parts ++ Pairs (chunk fixtures bodies rest) ∷ []
+  pub last : (parts after : List (Option Part)) (rest all : List Pair) → after ≡ parts ++ part (chunk fixtures bodies rest) ∷ []
       → AreCutOff parts rest all → ArePointsOf after (touches fixtures bodies all)
   last parts after rest all pushed before =
       let chunks = before.0 in
       let next = chunk fixtures bodies rest in (
         chunks ++ next ∷ [],
-        pushed ∙ ap (λ l. l ++ Pairs next ∷ []) before.1 ∙ sym (map-append Pairs chunks (next ∷ [])),
+        pushed ∙ ap (λ l. l ++ part next ∷ []) before.1 ∙ sym (map-append part chunks (next ∷ [])),
         more chunks next ∙ before.2,
       )
 
-module _ (always : Bool) (chunks : List Chunk) (found : List Outcome) (of : AreOutcomes (IsOutcome always) (map Pairs chunks) found) where
-  nobody : Chunk
-  nobody = chunk [] [] []
-
+module _ (always : Bool) (chunks : List Chunk) (found : List (Option Part)) (of : AreDone (IsDone always) (map part chunks) found) where
   pub count : length found ≡ length chunks
-  count = of.0 ∙ length-map chunks Pairs
-
-  outcome_at : (n : ℕ) (none : Outcome) → n < length chunks → IsOutcome always (Pairs (get_or chunks n nobody)) (get_or found n none)
-  outcome_at n none low =
-      subst (λ p. IsOutcome always p (get_or found n none)) (get_or-map Pairs chunks n nobody (Pairs nobody) low)
-      (of.1 n (Pairs nobody) none (omega (arith, low, length-map chunks Pairs)))
+  count = of.0 ∙ length-map chunks part
 
   -- the points of one more chunk are joined to those of the others
-  pub joined_more : (n : ℕ) (all : List Touch) (points : Vec Touch Global) (none : Outcome) → n < length found
-      → get_or found n none ≡ Found (Ok points) → all ≡ flat_map points_of (take n chunks)
+  pub joined_more : (n : ℕ) (all : List Touch) (points : Vec Touch Global) (none : Option Part) → n < length found
+      → get_or found n none ≡ Some (Found (Ok points)) → all ≡ flat_map points_of (take n chunks)
       → all ++ points.items ≡ flat_map points_of (take (n + 1) chunks)
   joined_more n all points none low is before =
       let within : n < length chunks = omega (arith, low, count) in
+      let nobody = chunk [] [] [] in
       let own : points.items ≡ points_of (get_or chunks n nobody) =
-      subst (IsOutcome always (Pairs (get_or chunks n nobody))) is (outcome_at n none within) in
+      of.2 n (Pairs (get_or chunks n nobody)) (Found (Ok points)) (get_or-map part chunks n nobody None within)
+      (default_same found n None none low ∙ is) in
       ap (λ l. l ++ points.items) before ∙ ap (λ l. flat_map points_of (take n chunks) ++ l) own
       ∙ sym (more (take n chunks) (get_or chunks n nobody)) ∙ ap (flat_map points_of) (sym (take_more chunks n nobody within))

@@ -1,20 +1,21 @@
 //! Contact points by standing workers.
 
-ghost use Rattle.std.specs.Prelude.{◌≡◌, ◌<◌, All, IfOk, List, length};
+ghost use Rattle.std.specs.Prelude.{◌≡◌, ◌<◌, All, IfOk, List, OnOk, Option, length};
 ghost use Rattle.std.specs.Arc.{arc_value};
 ghost use Rattle.pf_shapes.specs.Pair.{IsPairOf};
 ghost use Rattle.pf_manifold.specs.Touches.{Touch, touches};
-ghost use Rattle.pf_pool.specs.Pool.{AreOutcomes};
-ghost use Rattle.pf_workers.specs.Work.{ArePointsOf, IsOutcome};
+ghost use Rattle.pf_pool.specs.Pool.{AreDone};
+ghost use Rattle.pf_workers.specs.Work.{ArePointsOf, IsDone};
 ghost use Rattle.pf_workers.specs.declared.work.Part.{Part};
 
 use crate::gate::Gate;
 use crate::scene::SharedScene;
-use crate::work::{Outcome, Part, Work};
+use crate::work::{Part, Work};
 use pf_manifold::{Collider, Touch, collide_list};
 use pf_pool::{Pool, PoolError};
 use pf_shapes::{BodyState, Pair, Scene};
 use std::alloc::{AllocError, Global};
+use std::cell::Cell;
 use std::marker::Model;
 use std::sync::{Arc, Wait};
 
@@ -92,35 +93,36 @@ fn chunks_of(
     bodies: &Arc<Vec<BodyState>, Global>,
     pairs: &[Pair],
     count: usize,
-) -> Result<Vec<Part>, AllocError>
+    parts: &mut Vec<Option<Part>>,
+) -> Result<(), AllocError>
     requires some { 0 < count }
     requires bodies { length (arc_value bodies.now).items ≡ length (arc_value scene.now).fixtures }
     requires pairs { All (IsPairOf (length (arc_value bodies.now).items)) pairs.now }
-    ensures count { IfOk result (λ parts. length parts.items ≡ count) }
-    ensures points { IfOk result (λ parts. ArePointsOf parts.items
+    ensures count { OnOk result (length parts.new.items ≡ count) }
+    ensures points { OnOk result (ArePointsOf parts.new.items
         (touches (arc_value scene.now).fixtures (arc_value bodies.now).items pairs.now)) }
 {
-    let mut parts = Vec::with_capacity(alloc, count)?;
+    parts.clear();
     let mut rest = pairs;
     for made in 1..count {
         let (own, others) = rest.split_at(rest.len() / (count - made + 1));
-        parts.push(Part::Pairs(Chunk::new(alloc, scene, bodies, own)?))?;
+        parts.push(Some(Part::Pairs(Chunk::new(alloc, scene, bodies, own)?)))?;
         rest = others;
     }
-    parts.push(Part::Pairs(Chunk::new(alloc, scene, bodies, rest)?))?;
-    Ok(parts)
+    parts.push(Some(Part::Pairs(Chunk::new(alloc, scene, bodies, rest)?)))?;
+    Ok(())
 }
 
-/// The points of all chunks in one list. An outcome that has none is out of memory.
-fn joined<G: Gate>(alloc: Global, found: &[Outcome]) -> Result<Vec<Touch>, AllocError>
-    ensures { (parts : List Part) (points : List Touch) → ArePointsOf parts points
-        → AreOutcomes (IsOutcome G.ALWAYS) parts found.now
+/// The points of all chunks in one list. A part that has none is out of memory.
+fn joined<G: Gate>(alloc: Global, found: &[Option<Part>]) -> Result<Vec<Touch>, AllocError>
+    ensures { (parts : List (Option Part)) (points : List Touch) → ArePointsOf parts points
+        → AreDone (IsDone G.ALWAYS) parts found.now
         → IfOk result (λ all. all.items ≡ points) }
 {
     let mut all = Vec::new(alloc);
     for number in 0..found.len() {
         match &found[number] {
-            Outcome::Found(Ok(points)) => all.extend_from_slice(points)?,
+            Some(Part::Found(Ok(points))) => all.extend_from_slice(points)?,
             _ => return Err(AllocError),
         }
     }
@@ -135,6 +137,8 @@ fn joined<G: Gate>(alloc: Global, found: &[Outcome]) -> Result<Vec<Touch>, Alloc
 pub struct StandingCollider<R, G: Gate> {
     pool: Pool<R, Work<G>>,
     scene: SharedScene,
+    /// The memory for the way of the chunks to the workers and back.
+    parts: Cell<Vec<Option<Part>>>,
 }
 
 impl<R, G: Gate> Model for StandingCollider<R, G> {
@@ -146,19 +150,19 @@ impl<R, G: Gate> Model for StandingCollider<R, G> {
 }
 
 impl<R: Wait, G: Gate> StandingCollider<R, G> {
-    ghost use Rattle.std.specs.Prelude.{◌≡◌, ◌≤◌, All, IfOk, length};
-    ghost use Rattle.std.specs.Arc.{arc_value};
+    ghost use Rattle.std.specs.Prelude.{◌≡◌, ◌≤◌, All, OnOk, length};
     ghost use Rattle.pf_shapes.specs.Pair.{IsPairOf};
     ghost use Rattle.pf_manifold.specs.Touches.{touches};
     ghost use Rattle.pf_workers.specs.Work.{ArePointsOf};
 
     /// A collider whose workers are those of a pool.
-    pub(crate) fn new(pool: Pool<R, Work<G>>) -> StandingCollider<R, G>
+    pub(crate) fn new(alloc: Global, pool: Pool<R, Work<G>>) -> StandingCollider<R, G>
         ensures { result ≡ pool }
     {
         StandingCollider {
             pool,
             scene: SharedScene::new(),
+            parts: Cell::new(Vec::new(alloc)),
         }
     }
 
@@ -169,18 +173,19 @@ impl<R: Wait, G: Gate> StandingCollider<R, G> {
         scene: &Scene,
         bodies: &[BodyState],
         pairs: &[Pair],
-    ) -> Result<Vec<Part>, AllocError>
+        parts: &mut Vec<Option<Part>>,
+    ) -> Result<(), AllocError>
         requires bodies { length bodies.now ≡ length scene.now.fixtures }
         requires pairs { All (IsPairOf (length bodies.now)) pairs.now }
-        ensures count { IfOk result (λ parts. length parts.items ≤ length self.now) }
-        ensures points { IfOk result
-            (λ parts. ArePointsOf parts.items (touches scene.now.fixtures bodies.now pairs.now)) }
+        ensures count { OnOk result (length parts.new.items ≤ length self.now) }
+        ensures points { OnOk result
+            (ArePointsOf parts.new.items (touches scene.now.fixtures bodies.now pairs.now)) }
     {
         let scene = self.scene.shared(alloc, scene)?;
         let mut copy = Vec::new(alloc);
         copy.extend_from_slice(bodies)?;
         let bodies = Arc::new(alloc, copy)?;
-        chunks_of(alloc, &scene, &bodies, pairs, self.pool.part_count())
+        chunks_of(alloc, &scene, &bodies, pairs, self.pool.part_count(), parts)
     }
 }
 
@@ -195,11 +200,14 @@ impl<R: Wait, G: Gate> Collider for StandingCollider<R, G> {
         bodies: &[BodyState],
         pairs: &[Pair],
     ) -> Result<Vec<Touch>, AllocError> {
-        let parts = self.chunks(alloc, scene, bodies, pairs)?;
-        match self.pool.run(0, parts) {
-            Ok(found) => joined::<G>(alloc, &found),
+        let mut parts = self.parts.replace(Vec::new(alloc));
+        self.chunks(alloc, scene, bodies, pairs, &mut parts)?;
+        let found = match self.pool.run(0, &mut parts) {
+            Ok(()) => joined::<G>(alloc, &parts),
             Err(PoolError::OutOfMemory) => Err(AllocError),
             Err(_) => collide_list(alloc, scene, bodies, pairs),
-        }
+        };
+        self.parts.set(parts);
+        found
     }
 }

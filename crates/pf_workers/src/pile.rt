@@ -66,13 +66,15 @@ impl Pile {
     }
 }
 
-/// How many contacts these islands have. It saturates.
-pub(crate) fn contact_count(islands: &[Island]) -> usize {
-    let mut contacts = 0;
+/// How many contacts these islands have, and how many the greatest of them has. They saturate.
+pub(crate) fn contact_counts(islands: &[Island]) -> (usize, usize) {
+    let (mut all, mut greatest) = (0usize, 0);
     for island in islands {
-        contacts = island.rows.len().saturating_add(contacts);
+        let count = island.rows.len();
+        all = count.saturating_add(all);
+        greatest = count.max(greatest);
     }
-    contacts
+    (all, greatest)
 }
 
 /// So many piles without islands.

@@ -1,20 +1,20 @@
 //! The islands of the workers of a standing crew.
 
-ghost use Rattle.std.specs.Prelude.{◌≡◌, All, IfErr, IfOk, Ok, map};
+ghost use Rattle.std.specs.Prelude.{◌≡◌, All, IfErr, Ok, OnOk, Some, length, map};
 ghost use Rattle.std.specs.Arc.{arc_value};
 ghost use Rattle.pf_islands.specs.Split.{IsIslandOf};
 ghost use Rattle.pf_workers.specs.Solving.{share_of};
-ghost use Rattle.pf_workers.specs.Work.{IsOfIslands, IsSolveError};
-ghost use Rattle.pf_workers.specs.declared.work.Outcome.TheVariants.{Solved};
-ghost use Rattle.pf_workers.specs.declared.work.Part.TheVariants.{Islands};
+ghost use Rattle.pf_workers.specs.Work.{AreIslandsDone, IsSolveError};
+ghost use Rattle.pf_workers.specs.declared.work.Part.TheVariants.{Islands, Solved};
 
 use crate::gate::Gate;
 use crate::pile::Pile;
-use crate::work::{Outcome, Part, solve};
+use crate::work::{Part, solve};
 use pf_shapes::Scene;
 use pf_step::CrewError;
 use std::alloc::{AllocError, Global};
 use std::marker::Model;
+use std::mem;
 use std::sync::Arc;
 
 /// The scene of a solve, which all workers share, and the islands of one of them.
@@ -54,40 +54,43 @@ impl Share {
     }
 }
 
-/// The piles of all workers, each with the scene.
-pub(crate) fn shares_of(
+/// Puts the piles of all workers into their places, each with the scene.
+pub(crate) fn hand_out(
     alloc: Global,
     scene: &Arc<Scene, Global>,
-    piles: Vec<Pile>,
-) -> Result<Vec<Part>, AllocError>
-    requires { All (All (IsIslandOf (arc_value scene.now))) piles.items }
-    ensures { IfOk result (λ parts. parts.items
-        ≡ map (λ pile. Islands (share_of (arc_value scene.now) pile)) piles.items) }
+    piles: &mut [Pile],
+    parts: &mut Vec<Option<Part>>,
+) -> Result<(), AllocError>
+    requires { All (All (IsIslandOf (arc_value scene.now))) piles.old }
+    ensures parts { OnOk result (parts.new.items
+        ≡ map (λ pile. Some (Islands (share_of (arc_value scene.now) pile))) piles.old) }
+    ensures count { length piles.new ≡ length piles.old }
 {
-    let mut parts = Vec::with_capacity(alloc, piles.len())?;
-    for pile in piles {
+    parts.clear();
+    for number in 0..piles.len() {
+        let pile = mem::replace(&mut piles[number], Pile::new(alloc));
         let scene = Arc::try_clone(scene)?;
-        parts.push(Part::Islands(Share { scene, pile }))?;
+        parts.push(Some(Part::Islands(Share { scene, pile })))?;
     }
-    Ok(parts)
+    Ok(())
 }
 
-/// The piles of workers that have all solved theirs, or the error of the least that did not.
-pub(crate) fn piles_of<G: Gate>(
-    alloc: Global,
-    outcomes: Vec<Outcome>,
-) -> Result<Vec<Pile>, CrewError>
-    requires { All (IsOfIslands G.ALWAYS) outcomes.items }
-    ensures piles { IfOk result
-        (λ piles. map (λ pile. Solved (Ok pile)) piles.items ≡ outcomes.items) }
+/// Takes the piles of workers that have all solved theirs, or the error of the least that did not.
+pub(crate) fn take_in<G: Gate>(
+    parts: &mut [Option<Part>],
+    piles: &mut [Pile],
+) -> Result<(), CrewError>
+    requires count { length parts.old ≡ length piles.old }
+    requires done { All (AreIslandsDone G.ALWAYS) parts.old }
+    ensures piles { OnOk result (map (λ pile. Some (Solved (Ok pile))) piles.new ≡ parts.old) }
+    ensures count { length piles.new ≡ length piles.old }
     ensures failed { IfErr result (IsSolveError G.ALWAYS) }
 {
-    let mut piles = Vec::with_capacity(alloc, outcomes.len())?;
-    for outcome in outcomes {
-        match outcome {
-            Outcome::Solved(pile) => piles.push(pile?)?,
-            Outcome::Found(_) => unreachable!(),
+    for number in 0..piles.len() {
+        match parts[number].take() {
+            Some(Part::Solved(pile)) => piles[number] = pile?,
+            _ => unreachable!(),
         }
     }
-    Ok(piles)
+    Ok(())
 }

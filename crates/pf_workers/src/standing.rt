@@ -6,10 +6,10 @@ ghost use Rattle.pf_workers.specs.Crew.{crew_error};
 use crate::MAX_WORKERS;
 use crate::colliding::StandingCollider;
 use crate::gate::Gate;
-use crate::pile::{Pile, contact_count, deal, empty_piles, gather};
+use crate::pile::{Pile, contact_counts, deal, empty_piles, gather};
 use crate::scene::SharedScene;
-use crate::solving::{piles_of, shares_of};
-use crate::work::Work;
+use crate::solving::{hand_out, take_in};
+use crate::work::{Part, Work};
 use pf_islands::Island;
 use pf_pool::{Pool, PoolError};
 use pf_shapes::Scene;
@@ -20,13 +20,15 @@ use std::mem;
 use std::sync::Wait;
 use std::thread::Threads;
 
-/// From this many contacts in a tick on, islands are dealt to the workers.
+/// From this many contacts beside the greatest island on, islands are dealt to the workers.
 const CONTACTS_FOR_THREADS: usize = 64;
 
-/// Whether threads do not pay: there is nothing to share, or solving takes no longer than waking the
-/// workers.
+/// Whether threads do not pay: solving all but the greatest island takes no longer than waking the
+/// workers, or is little beside that one.
 fn is_little(islands: &[Island]) -> bool {
-    islands.len() < 2 || contact_count(islands) < CONTACTS_FOR_THREADS
+    let (all, greatest) = contact_counts(islands);
+    let others = all.saturating_sub(greatest);
+    others < CONTACTS_FOR_THREADS || others < greatest / 4
 }
 
 /// The error of a crew whose pool failed.
@@ -52,8 +54,9 @@ pub struct StandingCrew<R, G: Gate> {
     alloc: Global,
     pool: Pool<R, Work<G>>,
     scene: SharedScene,
-    /// The memory for the piles of the next solve.
+    /// The memory for the piles of the next solve, and for their way to the workers and back.
     piles: Vec<Pile>,
+    parts: Vec<Option<Part>>,
     turn: usize,
     lost: bool,
 }
@@ -99,6 +102,7 @@ impl<R: Wait, G: Gate> StandingCrew<R, G> {
                 pool,
                 scene: SharedScene::new(),
                 piles: Vec::new(alloc),
+                parts: Vec::new(alloc),
                 turn: 0,
                 lost: false,
             }),
@@ -112,7 +116,7 @@ impl<R: Wait, G: Gate> StandingCrew<R, G> {
         R: Copy,
         ensures { IfOk result (λ collider. collider ≡ self.now.workers) }
     {
-        Ok(StandingCollider::new(self.pool.another()?))
+        Ok(StandingCollider::new(self.alloc, self.pool.another()?))
     }
 
     /// Tells all workers to end, and joins them. A collider of theirs then computes itself. It may
@@ -169,17 +173,18 @@ impl<R: Wait, G: Gate> StandingCrew<R, G> {
     }
 
     /// Lets the workers solve their piles.
-    fn run(&self, scene: &Scene, turn: usize, piles: Vec<Pile>) -> Result<Vec<Pile>, CrewError>
-        requires count { length piles.items ≤ length self.now.workers }
-        requires islands { All (All (IsIslandOf scene.now)) piles.items }
-        ensures solved { IfOk result
-            (λ solved. solved.items ≡ map (map (island_after_tick scene.now)) piles.items) }
+    fn run(&mut self, scene: &Scene, turn: usize, piles: &mut Vec<Pile>) -> Result<(), CrewError>
+        requires count { length piles.old.items ≤ length self.old.workers }
+        requires islands { All (All (IsIslandOf scene.now)) piles.old.items }
+        ensures solved { OnOk result
+            (piles.new.items ≡ map (map (island_after_tick scene.now)) piles.old.items) }
+        ensures same { self.new ≡ self.old }
         ensures failed { IfErr result (IsStandingError G.ALWAYS) }
     {
         let shared = self.scene.shared(self.alloc, scene)?;
-        let shares = shares_of(self.alloc, &shared, piles)?;
-        match self.pool.run(turn, shares) {
-            Ok(outcomes) => piles_of::<G>(self.alloc, outcomes),
+        hand_out(self.alloc, &shared, piles, &mut self.parts)?;
+        match self.pool.run(turn, &mut self.parts) {
+            Ok(()) => take_in::<G>(&mut self.parts, piles),
             Err(error) => Err(crew_error(error)),
         }
     }
@@ -230,9 +235,9 @@ impl<R: Wait, G: Gate> StandingCrew<R, G> {
         let mut islands = islands;
         let count = islands.len();
         let empty = self.take_piles(pile_count)?;
-        let piles = deal(&mut islands, empty)?;
-        let solved = self.run(scene, turn, piles)?;
-        self.piles = gather(solved, count, &mut islands)?;
+        let mut piles = deal(&mut islands, empty)?;
+        self.run(scene, turn, &mut piles)?;
+        self.piles = gather(piles, count, &mut islands)?;
         Ok(islands)
     }
 

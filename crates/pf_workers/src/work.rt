@@ -33,20 +33,15 @@ pub(crate) fn solve<G: Gate>(
     Ok(pile)
 }
 
-/// What a worker is asked to do.
+/// What a worker is asked to do, and what it comes back as.
 #[derive(Drop)]
 pub(crate) enum Part {
-    /// To solve islands.
+    /// Islands that are to be solved.
     Islands(Share),
-    /// To compute the contact points of pairs.
-    Pairs(Chunk),
-}
-
-/// What it answers.
-#[derive(Drop)]
-pub(crate) enum Outcome {
     /// The islands after a tick, or that the gate was shut.
     Solved(Result<Pile, CrewError>),
+    /// Pairs whose contact points are to be computed.
+    Pairs(Chunk),
     /// The contact points, or out of memory.
     Found(Result<Vec<Touch>, AllocError>),
 }
@@ -59,18 +54,17 @@ pub(crate) struct Work<G: Gate> {
 }
 
 impl<G: Gate> Task for Work<G> {
-    ghost use Rattle.pf_workers.specs.Work.{IsOutcome};
+    ghost use Rattle.pf_workers.specs.Work.{IsDone};
 
     type Part = Part;
 
-    type Outcome = Outcome;
+    ghost is_done = { IsDone G.ALWAYS };
 
-    ghost is_outcome = { IsOutcome G.ALWAYS };
-
-    fn run(&self, worker: usize, turn: usize, part: Part) -> Outcome {
+    fn run(&self, worker: usize, turn: usize, part: Part) -> Part {
         match part {
-            Part::Islands(share) => Outcome::Solved(share.solve(&self.gate, worker, turn)),
-            Part::Pairs(chunk) => Outcome::Found(chunk.collide(self.alloc)),
+            Part::Islands(share) => Part::Solved(share.solve(&self.gate, worker, turn)),
+            Part::Pairs(chunk) => Part::Found(chunk.collide(self.alloc)),
+            done => done,
         }
     }
 
