@@ -1,12 +1,12 @@
 -- What the answers of all workers are together.
-use Rattle.std.proofs.Common.{◌≡◌, ◌∙◌, ℕ, zero, suc, ◌<◌, Bool, List, [], ◌∷◌, Option, None, Some, Ok, Err, map, length, get_or, refl, ap, ap₂, sym, arith, subst}
+use Rattle.std.proofs.Common.{◌≡◌, ◌∙◌, ℕ, zero, suc, ◌<◌, Bool, List, [], ◌∷◌, ◌++◌, drop, take, Option, None, Some, Result, Ok, Err, map, length, get_or, refl, ap, ap₂, sym, arith, subst}
 use Rattle.std.proofs.lemmas.Bool.{true≢false}
 use Rattle.std.proofs.lemmas.List.{get_or-map, length-map}
-use Rattle.std.specs.Prelude.{All, IsSome}
+use Rattle.std.specs.Prelude.{All, IsSome, OnOk}
 use Rattle.pf_shapes.specs.Scene.{Scene}
 use Rattle.pf_islands.specs.Split.{Island}
 use Rattle.pf_pool.specs.Pool.{AreDone}
-use Rattle.pf_pool.proofs.Lists.{default_same}
+use Rattle.pf_pool.proofs.Lists.{default_same, written_back}
 use Rattle.pf_solver.specs.Alone.{island_after_tick}
 use Rattle.pf_workers.specs.Solving.{share_of}
 use Rattle.pf_workers.specs.Work.{AreIslandsDone, IsDone}
@@ -22,6 +22,11 @@ made_of f (x ∷ xs) [] d e long at = absurd (omega (arith, long))
 made_of f (x ∷ xs) (y ∷ ys) d e long at =
     ap₂ (λ z zs. z ∷ zs) (at 0 (omega arith))
     (made_of f xs ys d e (omega (arith, long)) (λ w low. at (suc w) (omega (arith, low))))
+
+-- what follows from a success
+pub on_ok_then : {X E P Q : Type 0} (r : Result X E) → OnOk r P → (P → Q) → OnOk r Q
+on_ok_then (Ok x) is then = then is
+on_ok_then (Err e) is then = tt
 
 -- what a worker is asked: its pile, with the scene
 abbrev pub part : Scene → List Island → Option Part
@@ -70,3 +75,10 @@ module _ (always : Bool) (s : Scene) (piles : List (List Island)) (after : List 
       let at : get_or after w None ≡ solved (get_or now w []) =
       ap (λ l. get_or l w None) (sym done) ∙ get_or-map solved now w [] None low in
       done_at w (Solved (Ok (get_or now w []))) (omega (arith, low, same, count)) at)
+
+-- piles that were solved in a list in place
+pub back : (f : Island → Island) (len : ℕ) (new dealt lent : List (List Island)) → len ≡ length dealt → lent ≡ dealt
+    → new ≡ map (map f) lent → take len (new ++ drop (length new) dealt) ≡ map (map f) dealt
+back f len new dealt lent whole same solved =
+    let done : new ≡ map (map f) dealt = solved ∙ ap (map (map f)) same in
+    written_back len new dealt (ap length done ∙ length-map dealt (map f)) whole ∙ done

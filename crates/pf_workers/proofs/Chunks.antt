@@ -1,5 +1,5 @@
 -- The points of all chunks of a list of pairs are those of the list.
-use Rattle.std.proofs.Common.{◌≡◌, ◌∙◌, ℕ, zero, suc, ◌+◌, ◌<◌, Bool, List, [], ◌∷◌, ◌++◌, Option, None, Some, Ok, Vec, Global, append-nil, drop, take, length, map, get_or, refl, ap, ap₂, subst, sym, arith}
+use Rattle.std.proofs.Common.{◌≡◌, ◌∙◌, ℕ, zero, suc, ◌+◌, ◌<◌, Bool, List, [], ◌∷◌, ◌++◌, Option, None, Some, Ok, Vec, Global, append-nil, drop, take, length, map, get_or, refl, ap, ap₂, sym, arith}
 use Rattle.std.proofs.lemmas.Grind.{flat_map-append}
 use Rattle.std.proofs.lemmas.List.{append_assoc, get_or-map, length-map, map-append, take-append-drop, take_more}
 use Rattle.std.specs.List.{flat_map}

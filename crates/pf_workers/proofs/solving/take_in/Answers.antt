@@ -1,4 +1,4 @@
-use Rattle.std.proofs.Common.{rules, ◌≡◌, ◌∙◌, ◌<◌, ◌++◌, ◌∷◌, [], None, Some, ap, ap₂, arith, get_or, length, map, subst, sym, take}
+use Rattle.std.proofs.Common.{◌≡◌, ◌∙◌, ◌<◌, ◌++◌, ◌∷◌, [], None, Some, ap, ap₂, arith, get_or, length, map, sym, take}
 use Rattle.std.proofs.lemmas.List.{get_or-set_other, length-set, map-append, take_more, take_more_set}
 use Rattle.pf_pool.proofs.Lists.{default_same}
 use Rattle.pf_workers.specs.declared.work.Part.TheVariants.{Solved}

@@ -1,4 +1,4 @@
-use Rattle.std.proofs.Common.{rules, ◌≡◌, map, subst, sym}
+use Rattle.std.proofs.Common.{◌≡◌, subst, sym}
 use Rattle.std.specs.Prelude.{All, IfOk, IsSome}
 use Rattle.pf_manifold.specs.Touches.{touches}
 use Rattle.pf_pool.specs.Pool.{AreDone}
