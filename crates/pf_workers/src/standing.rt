@@ -96,7 +96,7 @@ impl<R: Wait, G: Gate> StandingCrew<R, G> {
         ensures crew { IfOk result (λ crew. crew ≡ new_crew workers) }
         ensures failed { IfErr result IsStartError }
     {
-        match Pool::new(rt, alloc, workers, Work { alloc, gate }) {
+        match Pool::new(rt, alloc, workers, Work::new(alloc, gate)) {
             Ok(pool) => Ok(StandingCrew {
                 alloc,
                 pool,
@@ -257,10 +257,13 @@ impl<R: Wait, G: Gate> StandingCrew<R, G> {
         if !self.pool.has_all_workers() {
             return Err(CrewError::CrewLost);
         }
-        if is_little(&islands) && !self.pool.task().gate.is_watched() {
-            return self.solve_here(scene, islands, turn);
+        let work = self.pool.task();
+        let is_shared = work.gate.is_watched() || !is_little(&islands);
+        work.note_awake(is_shared);
+        if is_shared {
+            return self.solve_by_workers(scene, islands, turn);
         }
-        self.solve_by_workers(scene, islands, turn)
+        self.solve_here(scene, islands, turn)
     }
 }
 

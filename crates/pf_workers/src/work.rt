@@ -13,6 +13,7 @@ use pf_pool::Task;
 use pf_shapes::Scene;
 use pf_step::CrewError;
 use std::alloc::{AllocError, Global};
+use std::sync::atomic::{AtomicBool, Ordering};
 
 /// Passes the gate, and solves the islands of a worker.
 pub(crate) fn solve<G: Gate>(
@@ -51,6 +52,30 @@ pub(crate) enum Part {
 pub(crate) struct Work<G: Gate> {
     pub(crate) alloc: Global,
     pub(crate) gate: G,
+    /// Whether the workers took part in the last solve: if not, they sleep, and to wake them for
+    /// contact points alone does not pay.
+    are_awake: AtomicBool,
+}
+
+impl<G: Gate> Work<G> {
+    /// Work behind this gate.
+    pub(crate) fn new(alloc: Global, gate: G) -> Work<G> {
+        Work {
+            alloc,
+            gate,
+            are_awake: AtomicBool::new(true),
+        }
+    }
+
+    /// Whether the workers took part in the last solve.
+    pub(crate) fn are_awake(&self) -> bool {
+        self.are_awake.load(Ordering::Relaxed)
+    }
+
+    /// Notes whether the workers take part in a solve.
+    pub(crate) fn note_awake(&self, are_awake: bool) {
+        self.are_awake.store(are_awake, Ordering::Relaxed);
+    }
 }
 
 impl<G: Gate> Task for Work<G> {
