@@ -64,10 +64,11 @@ fn best_part_count<R: Threads, T: Task>(rt: &R, workers: usize, task: &T) -> usi
 }
 
 impl<R: Wait, T: Task> Pool<R, T> {
-    ghost use Rattle.std.specs.Prelude.{◌≡◌, ◌<◌, ◌≤◌, All, IfErr, IfOk, IsFalse, IsSome, IsTrue, OnOk, Some, false, length, replicate, slice_set, true};
-    ghost use Rattle.pf_pool.specs.Pool.{AreDone, HasAllWorkers, IsAskError, IsRunError, IsStartError};
+    ghost use Rattle.std.specs.Prelude.{◌≡◌, ℕ, ◌+◌, ◌<◌, ◌≤◌, All, Err, IfErr, IfOk, IsFalse, IsSome, IsTrue, None, OnOk, Some, false, length, replicate, slice_index_or, slice_set, true};
+    ghost use Rattle.pf_pool.specs.Pool.{AreDone, ArePartlyDone, HasAllWorkers, IsAskError, IsRunError, IsStartError};
     ghost use Rattle.pf_pool.specs.Reply.{WasDealt, WereDealt};
-    ghost use Rattle.pf_pool.specs.Slots.{AreAway, AreDoneFrom, HaveAnswered};
+    ghost use Rattle.pf_pool.specs.Slots.{AreAnswers, AreAway, HaveAnswered};
+    ghost use Rattle.pf_pool.specs.declared.error.PoolError.TheVariants.{WorkerLost};
     ghost use Rattle.pf_pool.specs.declared.reply.Dealt.{Dealt};
 
     /// Starts so many workers. Returns an error where it is out of memory or a thread could not be
@@ -231,6 +232,8 @@ impl<R: Wait, T: Task> Pool<R, T> {
         ensures asked { result.0 ≤ length slots.old }
         ensures count { length slots.new ≡ length slots.old }
         ensures away { AreAway result.0 slots.new }
+        ensures kept { (w : ℕ) → w + 1 < result.0
+            → slice_index_or slots.new w None ≡ slice_index_or slots.old w None }
         ensures all { OnOk result.1 (result.0 ≡ 0) }
         ensures failed { IfErr result.1 IsAskError }
     {
@@ -267,8 +270,10 @@ impl<R: Wait, T: Task> Pool<R, T> {
         requires { least ≤ length slots.old }
         ensures same { collector.new ≡ collector.old }
         ensures count { length slots.new ≡ length slots.old }
+        ensures kept { (w : ℕ) → IsSome (slice_index_or slots.old w None)
+            → slice_index_or slots.new w None ≡ slice_index_or slots.old w None }
         ensures done { (d : Dealt T.Part) → collector.old ≡ Some d
-            → AreDoneFrom T.is_done d least slots.old → AreDoneFrom T.is_done d least slots.new }
+            → AreAnswers T.is_done d least slots.old → AreAnswers T.is_done d least slots.new }
         ensures all { HaveAnswered least slots.new }
     {
         for _ in self.rt.forever() {
@@ -283,46 +288,53 @@ impl<R: Wait, T: Task> Pool<R, T> {
     }
 
     /// Has all parts done that can be asked for, and waits until those who were asked have answered.
+    /// Returns the least number of those.
     fn have_done(
         &self,
         turn: usize,
         slots: &mut [Option<T::Part>],
         collector: &mut Collector<T>,
-    ) -> Result<(), SendError<Option<Job<T>>>>
+    ) -> (usize, Result<(), SendError<Option<Job<T>>>>)
         requires dealt { WereDealt collector.old slots.old }
         requires count { length slots.old ≤ length self.now }
         requires some { All IsSome slots.old }
         ensures count { length slots.new ≡ length slots.old }
         ensures done { (d : Dealt T.Part) → collector.old ≡ Some d
-            → OnOk result (AreDoneFrom T.is_done d 0 slots.new) }
-        ensures all { OnOk result (HaveAnswered 0 slots.new) }
-        ensures failed { IfErr result IsAskError }
+            → AreAnswers T.is_done d result.0 slots.new }
+        ensures all { HaveAnswered result.0 slots.new }
+        ensures kept { (w : ℕ) → w + 1 < result.0
+            → slice_index_or slots.new w None ≡ slice_index_or slots.old w None }
+        ensures asked { OnOk result.1 (result.0 ≡ 0) }
+        ensures failed { IfErr result.1 IsAskError }
     {
         let mut own = None;
         let (least, asked) = self.ask_each(turn, slots, collector, &mut own);
         self.help(own, least);
         self.collect(collector, least, slots);
-        asked
+        (least, asked)
     }
 
     /// Has each part done, and waits for all of them: at place k stands then what worker k makes of
     /// the part that stood there, and workers without a place are not asked.
     /// Where nobody watches, the caller does the first part, and those that no worker has begun.
     /// Returns an error where it is out of memory or a worker is lost, once all workers that were
-    /// asked have answered; places may then be empty. It takes no memory but in the first run. It
-    /// may wait.
+    /// asked have answered; the place of one that was not may then be empty. It takes no memory but
+    /// in the first run. It may wait.
     pub fn run(&self, turn: usize, parts: &mut Vec<Option<T::Part>>) -> Result<(), PoolError>
         requires all { All IsSome parts.old.items }
         requires count { length parts.old.items ≤ length self.now }
         ensures done { OnOk result (AreDone T.is_done parts.old.items parts.new.items) }
+        ensures left { ArePartlyDone T.is_done parts.old.items parts.new.items }
         ensures there { OnOk result (HasAllWorkers self.now) }
+        ensures gone { (HasAllWorkers self.now → ⊥)
+            → (result ≡ Err WorkerLost) × (parts.new ≡ parts.old) }
         ensures failed { IfErr result IsRunError }
     {
         if !self.has_all_workers() {
             return Err(PoolError::WorkerLost);
         }
         let mut collector = self.deal(parts)?;
-        let done = self.have_done(turn, parts, &mut collector);
+        let (_, done) = self.have_done(turn, parts, &mut collector);
         self.collector.set(Some(collector));
         done?;
         Ok(())

@@ -2,7 +2,7 @@
 
 ghost use Rattle.std.specs.Prelude.{◌≡◌, ℕ, ◌<◌, IsSome, IsTrue, None, Some, length, slice_index_or};
 ghost use Rattle.pf_pool.specs.Reply.{IsDoneOf};
-ghost use Rattle.pf_pool.specs.Slots.{AreDoneFrom, HaveAnswered};
+ghost use Rattle.pf_pool.specs.Slots.{AreAnswers, HaveAnswered};
 ghost use Rattle.pf_pool.specs.declared.reply.Dealt.{Dealt};
 
 use crate::task::Task;
@@ -22,7 +22,7 @@ pub(crate) fn have_answered<P>(slots: &[Option<P>], least: usize) -> bool
 /// Puts what a worker has done into its slot, if that is empty. Others are dropped.
 pub(crate) fn accept<T: Task>(worker: usize, done: T::Part, slots: &mut [Option<T::Part>])
     ensures done { (d : Dealt T.Part) (least : ℕ) → IsDoneOf T.is_done d worker done
-        → AreDoneFrom T.is_done d least slots.old → AreDoneFrom T.is_done d least slots.new }
+        → AreAnswers T.is_done d least slots.old → AreAnswers T.is_done d least slots.new }
     ensures noted { worker < length slots.old → IsSome (slice_index_or slots.new worker None) }
     ensures kept { (worker : ℕ) → IsSome (slice_index_or slots.old worker None)
         → slice_index_or slots.new worker None ≡ slice_index_or slots.old worker None }

@@ -49,7 +49,7 @@ module _ (always : Bool) (s : Scene) (piles : List (List Island)) (after : List 
 
   done_at : (w : ℕ) (done : Part) → w < length piles → get_or after w None ≡ Some done
       → IsDone always (Islands (share_of s (get_or piles w []))) done
-  done_at w done low is = of.2 w (Islands (share_of s (get_or piles w []))) done (get_or-map (part s) piles w [] None low) is
+  done_at w done low is = of.2 w (Islands (share_of s (get_or piles w []))) done (omega arith) (get_or-map (part s) piles w [] None low) is
 
   solving : (pile : List Island) (slot : Option Part) → IsSome slot
       → ((done : Part) → slot ≡ Some done → IsDone always (Islands (share_of s pile)) done) → AreIslandsDone always slot
@@ -63,7 +63,7 @@ module _ (always : Bool) (s : Scene) (piles : List (List Island)) (after : List 
   pub all_solving : All (AreIslandsDone always) after
   all_solving w d low =
       subst (AreIslandsDone always) (default_same after w None d low)
-      (solving (get_or piles w []) (get_or after w None) (of.1 w None low)
+      (solving (get_or piles w []) (get_or after w None) (of.1 w (omega arith) low)
       (λ done is. done_at w done (omega (arith, low, count)) is))
 
   -- where all workers are done, their piles are those that were dealt, after a tick

@@ -82,7 +82,7 @@ module _ (always : Bool) (chunks : List Chunk) (found : List (Option Part)) (of 
       let within : n < length chunks = omega (arith, low, count) in
       let nobody = chunk [] [] [] in
       let own : points.items ≡ points_of (get_or chunks n nobody) =
-      of.2 n (Pairs (get_or chunks n nobody)) (Found (Ok points)) (get_or-map part chunks n nobody None within)
+      of.2 n (Pairs (get_or chunks n nobody)) (Found (Ok points)) (omega arith) (get_or-map part chunks n nobody None within)
       (default_same found n None none low ∙ is) in
       ap (λ l. l ++ points.items) before ∙ ap (λ l. flat_map points_of (take n chunks) ++ l) own
       ∙ sym (more (take n chunks) (get_or chunks n nobody)) ∙ ap (flat_map points_of) (sym (take_more chunks n nobody within))

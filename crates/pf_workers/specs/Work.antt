@@ -1,19 +1,18 @@
 -- What the workers of a pool are asked, and what they make of it.
-use Rattle.std.specs.Prelude.{◌≡◌, ⊤, Bool, false, IfErr, List, Option, Some, map}
+use Rattle.std.specs.Prelude.{◌≡◌, Bool, false, IfErr, List, Option, Some, map}
 use Rattle.std.specs.List.{flat_map}
 use Rattle.pf_manifold.specs.Touches.{Touch}
 use Rattle.pf_workers.specs.declared.work.Part.{Part}
 use Rattle.pf_workers.specs.declared.work.Part.TheVariants.{Islands, Solved, Pairs, Found}
 use Rattle.pf_workers.specs.Colliding.{Chunk, IsFound, points_of}
-use Rattle.pf_step.specs.declared.crew.CrewError.{CrewError}
-use Rattle.pf_step.specs.declared.crew.CrewError.TheVariants.{OutOfMemory, NoThread, GateShut, CrewLost}
+use Rattle.pf_step.specs.declared.crew.CrewError.TheVariants.{GateShut}
 use Rattle.pf_workers.specs.Solving.{IsSolved}
 
 -- what a worker makes of a part: of islands what they are after a tick, of pairs their contact
 -- points; what is done stays
 abbrev pub IsDone : Bool → Part → Part → Type 0
-IsDone always (Islands share) (Solved outcome) =
-    IsSolved always share.scene share.islands outcome
+IsDone always (Islands share) (Solved piles) =
+    IsSolved always share.scene share.islands piles
 IsDone always (Islands share) done = ⊥
 IsDone always (Pairs chunk) (Found found) = IsFound chunk found
 IsDone always (Pairs chunk) done = ⊥
@@ -21,16 +20,9 @@ IsDone always part done = done ≡ part
 
 -- islands that are done, which fails only where a gate was shut
 abbrev pub AreIslandsDone : Bool → Option Part → Type 0
-AreIslandsDone always (Some (Solved outcome)) =
-    IfErr outcome (λ error. (error ≡ GateShut) × (always ≡ false))
+AreIslandsDone always (Some (Solved piles)) =
+    IfErr piles (λ error. (error ≡ GateShut) × (always ≡ false))
 AreIslandsDone always other = ⊥
-
--- an error of workers that solve islands: out of memory, or a gate that was shut
-abbrev pub IsSolveError : Bool → CrewError → Type 0
-IsSolveError always OutOfMemory = ⊤
-IsSolveError always NoThread = ⊥
-IsSolveError always GateShut = always ≡ false
-IsSolveError always CrewLost = ⊥
 
 -- these parts are chunks of pairs that have these contact points
 abbrev pub ArePointsOf : List (Option Part) → List Touch → Type 0

@@ -1,10 +1,11 @@
 //! The islands of the workers of a standing crew.
 
-ghost use Rattle.std.specs.Prelude.{◌≡◌, All, IfErr, Ok, OnOk, Some, length, map};
+ghost use Rattle.std.specs.Prelude.{◌≡◌, All, IfErr, Ok, OnOk, Some, false, length, map};
 ghost use Rattle.std.specs.Arc.{arc_value};
 ghost use Rattle.pf_islands.specs.Split.{IsIslandOf};
 ghost use Rattle.pf_workers.specs.Solving.{share_of};
-ghost use Rattle.pf_workers.specs.Work.{AreIslandsDone, IsSolveError};
+ghost use Rattle.pf_step.specs.declared.crew.CrewError.TheVariants.{GateShut};
+ghost use Rattle.pf_workers.specs.Work.{AreIslandsDone};
 ghost use Rattle.pf_workers.specs.declared.work.Part.TheVariants.{Islands, Solved};
 
 use crate::gate::Gate;
@@ -54,7 +55,7 @@ impl Share {
     }
 }
 
-/// Puts the piles of all workers into their places, each with the scene.
+/// Makes a part of each pile, with the scene.
 pub(crate) fn hand_out(
     alloc: Global,
     scene: &Arc<Scene, Global>,
@@ -75,7 +76,7 @@ pub(crate) fn hand_out(
     Ok(())
 }
 
-/// Takes the piles of workers that have all solved theirs, or the error of the least that did not.
+/// Takes the solved piles out of the parts, or returns the error of the least worker that has one.
 pub(crate) fn take_in<G: Gate>(
     parts: &mut [Option<Part>],
     piles: &mut [Pile],
@@ -84,7 +85,7 @@ pub(crate) fn take_in<G: Gate>(
     requires done { All (AreIslandsDone G.ALWAYS) parts.old }
     ensures piles { OnOk result (map (λ pile. Some (Solved (Ok pile))) piles.new ≡ parts.old) }
     ensures count { length piles.new ≡ length piles.old }
-    ensures failed { IfErr result (IsSolveError G.ALWAYS) }
+    ensures failed { IfErr result (λ error. (error ≡ GateShut) × (G.ALWAYS ≡ false)) }
 {
     for number in 0..piles.len() {
         match parts[number].take() {

@@ -259,7 +259,7 @@ impl<R: Wait, G: Gate> StandingCrew<R, G> {
         }
         let work = self.pool.task();
         let is_shared = work.gate.is_watched() || !is_little(&islands);
-        work.note_awake(is_shared);
+        work.note_part(is_shared);
         if is_shared {
             return self.solve_by_workers(scene, islands, turn);
         }

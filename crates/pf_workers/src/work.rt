@@ -52,9 +52,9 @@ pub(crate) enum Part {
 pub(crate) struct Work<G: Gate> {
     pub(crate) alloc: Global,
     pub(crate) gate: G,
-    /// Whether the workers took part in the last solve: if not, they sleep, and to wake them for
-    /// contact points alone does not pay.
-    are_awake: AtomicBool,
+    /// Whether the workers took part in the last solve, if there was one. If not, they sleep, and to
+    /// wake them for contact points alone does not pay.
+    took_part: AtomicBool,
 }
 
 impl<G: Gate> Work<G> {
@@ -63,18 +63,18 @@ impl<G: Gate> Work<G> {
         Work {
             alloc,
             gate,
-            are_awake: AtomicBool::new(true),
+            took_part: AtomicBool::new(true),
         }
     }
 
-    /// Whether the workers took part in the last solve.
-    pub(crate) fn are_awake(&self) -> bool {
-        self.are_awake.load(Ordering::Relaxed)
+    /// Whether the workers took part in the last solve, or there was none.
+    pub(crate) fn took_part(&self) -> bool {
+        self.took_part.load(Ordering::Relaxed)
     }
 
     /// Notes whether the workers take part in a solve.
-    pub(crate) fn note_awake(&self, are_awake: bool) {
-        self.are_awake.store(are_awake, Ordering::Relaxed);
+    pub(crate) fn note_part(&self, took_part: bool) {
+        self.took_part.store(took_part, Ordering::Relaxed);
     }
 }
 

@@ -6,5 +6,6 @@ loop-preserved g c = record {
   next = c.loop.invariant.next;
   knows = c.receive.ensures.same ∙ c.loop.invariant.knows;
   count = c.loop.invariant.count;
+  kept = c.loop.invariant.kept;
   done = c.loop.invariant.done;
 }
