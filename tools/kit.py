@@ -7,6 +7,10 @@ import sys
 from pathlib import Path
 
 
+class NoKit(Exception):
+    """There is no kit on PATH."""
+
+
 class OtherKit(Exception):
     """The kit has another layout than these scripts know."""
 
@@ -14,7 +18,7 @@ class OtherKit(Exception):
 def kit_folder():
     found = shutil.which("rt")
     if found is None:
-        raise OtherKit("the command rt of the Rattle kit is not on PATH")
+        raise NoKit("the command rt of the Rattle kit is not on PATH")
     return Path(found).resolve().parent.parent
 
 

@@ -9,10 +9,12 @@
 //! | `cuts` | is run cut off after every byte, on one thread: for length 0, and for each length whose output differs from that of the length before, `cut LENGTH` and that output are printed; `frame DIGITS` is cut off as well, and what is shorter than `frame ` is then a text like any other |
 //! | `crew` | is run with a crew that counts its calls, and `crew COUNT` is printed behind its output: `settle` calls the crew once for each tick that it settles, and no other line does |
 //! | `crew N ERROR` | the same, and the crew fails from its call N on |
-//! | `streams` | is run with a reader that fails at one call, for each call: where the output differs from that of the call before, `read LENGTH` and it are printed, LENGTH being how many bytes were read; then with a writer that fails at one call, for each call: where what it has flushed differs, `write` and it are printed |
+//! | `lines N` | is run behind so many empty lines |
+//! | `streams` | is run with a reader that fails at one call, for each call: where the output differs from that of the call before, `read LENGTH` and it are printed, LENGTH being how many bytes were read, and one more where all were and no call failed; then with a writer that fails at one call, for each call: where what it has flushed differs, `write` and it are printed |
 //! | `words WORD ..` | is the standard input of the program, called with these words |
 //!
-//! The stored run has what an independent program prints for the same texts.
+//! The stored run has what an independent program prints for the same texts; but for those of crews,
+//! of help and of mistaken words.
 #![tactic(auto)]
 
 ghost use Rattle.std.specs.Prelude.{◌+◌, ◌<◌, length, IfSome};
@@ -108,8 +110,8 @@ fn print_cuts<W: Write>(alloc: Global, text: &[u8], writer: &mut W) -> Result<()
     Ok(())
 }
 
-/// Prints what a text gives with a crew that counts its calls, and fails as these words say, and how
-/// many calls they were.
+/// Prints what a text gives with a crew that counts its calls, and fails as these words say, and
+/// how many calls they were.
 fn print_counted<W: Write>(
     alloc: Global,
     text: &[u8],
@@ -121,6 +123,16 @@ fn print_counted<W: Write>(
     writer.write_all(output.bytes())?;
     let calls = crew.calls;
     writeln!(writer, "crew {calls}")?;
+    Ok(())
+}
+
+/// Prints what a text gives behind so many empty lines.
+fn print_far<W: Write>(alloc: Global, text: &[u8], lines: &str, writer: &mut W) -> Result<()> {
+    let count: usize = lines.parse().context("a number of lines")?;
+    let mut far = vec![in alloc; b'\n'; count]?;
+    far.extend_from_slice(text)?;
+    let output = run_alone(alloc, &far)?;
+    writer.write_all(output.bytes())?;
     Ok(())
 }
 
@@ -137,6 +149,7 @@ fn print<T: Threads + Wait + Copy + Send + Sync + 'static, W: Write>(
         ["cuts"] => print_cuts(alloc, rest, writer),
         ["streams"] => print_streams(alloc, rest, writer),
         ["crew", fails @ ..] => print_counted(alloc, rest, fails, writer),
+        ["lines", count] => print_far(alloc, rest, count, writer),
         ["words", words @ ..] => print_program(*rt, alloc, words, rest, writer),
         _ => print_run(rt, alloc, text, writer),
     }

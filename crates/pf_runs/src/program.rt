@@ -19,8 +19,8 @@ fn number_of(status: ExitCode) -> Result<u8> {
     bail!("no such status")
 }
 
-/// Prints what the program writes for these words and a text on standard input, what it reports, and
-/// its status.
+/// Prints what the program writes for these words and a text on standard input, what it reports,
+/// and its status.
 pub fn print_program<T: Threads + Wait + Copy + Send + Sync + 'static, W: Write>(
     rt: T,
     alloc: Global,

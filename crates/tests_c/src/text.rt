@@ -1,6 +1,7 @@
-//! Fields and numbers by hand. Lines, replies, invalid texts, and readers and writers that fail stand
-//! in the stored run of `pf_runs`.
+//! Fields and numbers by hand. Lines, replies, invalid texts, and readers and writers that fail
+//! stand in the stored run of `pf_runs`.
 
+use pf_shapes::Progress;
 use pf_text::{
     LineError, LineFault, ParsedNumber, ReadFailed, WriteFailed, fields_of, integer, laws, number,
     whole,
@@ -56,5 +57,7 @@ fn laws_are_called(_rt: HostRuntime) {
     laws::lines_are_the_parts_between_feeds();
     laws::fields_are_the_parts_between_spaces();
     laws::numbers_have_one_encoding();
+    laws::outputs_follow_one_another::<(), Progress>();
+    laws::skipped_lines_change_only_numbers::<(), Progress>();
     laws::named_limits();
 }

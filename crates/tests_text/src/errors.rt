@@ -48,6 +48,14 @@ fn errors_print_their_texts(rt: HostRuntime) -> Result<(), Fail> {
 }
 
 #[test]
+fn mistaken_words_are_their_own_text(rt: HostRuntime) -> Result<(), Fail> {
+    let words = ProgramError::Words(String::from_str(rt.alloc(), "error: such words\n")?);
+    let is_printed = prints(rt.alloc(), &words, "error: such words\n")?;
+    assert!(rt; is_printed);
+    Ok(())
+}
+
+#[test]
 fn laws_are_called(_rt: HostRuntime) {
     laws::event_lines_have_replies();
     laws::event_lines_encode_events();
