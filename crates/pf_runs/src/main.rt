@@ -64,13 +64,13 @@ fn split_line(text: &[u8]) -> (&str, &[u8]) {
 }
 
 /// The replies to a text, its error and its status, by one thread.
-fn run_alone(alloc: Global, text: &[u8]) -> Result<Collected> {
+fn run_alone(alloc: Global, text: &[u8]) -> Result<Vec<u8>> {
     match text.strip_prefix(FRAME) {
         Some(digits) => {
             let digits = str::from_utf8(digits).context("digits are text")?;
             let mut output = Collected::new(alloc);
             let outcome = frame_text(alloc, digits, &mut output);
-            ended(alloc, outcome, output)
+            ended(alloc, outcome, output.bytes())
         }
         None => run(&OneThread, alloc, &mut Bytes::new(text), &mut OneThread),
     }
@@ -87,23 +87,23 @@ fn print_run<T: Threads + Sync, W: Write>(
     if !text.starts_with(FRAME) {
         let mut reader = Bytes::new(text);
         let by_threads = run(&SeveralThreads { rt }, alloc, &mut reader, &mut OneThread)?;
-        if by_one.bytes() != by_threads.bytes() {
+        if by_one != by_threads {
             bail!("threads change what is written");
         }
     }
-    writer.write_all(by_one.bytes())?;
+    writer.write_all(&by_one)?;
     Ok(())
 }
 
 /// Prints what a text gives cut off after every byte, for each length that changes it.
 fn print_cuts<W: Write>(alloc: Global, text: &[u8], writer: &mut W) -> Result<()> {
-    let mut last = Collected::new(alloc);
+    let mut last = Vec::new(alloc);
     for length in 0..=text.len() {
         let output = run_alone(alloc, &text[..length])?;
         // The output of a text is never empty, so that of length 0 is printed.
-        if output.bytes() != last.bytes() {
+        if output != last {
             writeln!(writer, "cut {length}")?;
-            writer.write_all(output.bytes())?;
+            writer.write_all(&output)?;
         }
         last = output;
     }
@@ -120,7 +120,7 @@ fn print_counted<W: Write>(
 ) -> Result<()> {
     let mut crew = CountingCrew::new(words)?;
     let output = run(&OneThread, alloc, &mut Bytes::new(text), &mut crew)?;
-    writer.write_all(output.bytes())?;
+    writer.write_all(&output)?;
     let calls = crew.calls;
     writeln!(writer, "crew {calls}")?;
     Ok(())
@@ -132,7 +132,7 @@ fn print_far<W: Write>(alloc: Global, text: &[u8], lines: &str, writer: &mut W) 
     let mut far = vec![in alloc; b'\n'; count]?;
     far.extend_from_slice(text)?;
     let output = run_alone(alloc, &far)?;
-    writer.write_all(output.bytes())?;
+    writer.write_all(&output)?;
     Ok(())
 }
 

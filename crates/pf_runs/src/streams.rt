@@ -1,10 +1,10 @@
 //! Runs of a text whose reader, and then whose writer, fails at one call, for each call.
 
-use crate::run::run;
+use crate::run::{ended, run};
 use anyhow::{Result, bail};
-use pf_console::{ProgramError, finish, run_text};
+use pf_console::{ProgramError, run_text};
 use pf_manifold::OneThread;
-use pf_text::{Bytes, Collected, Input, Output};
+use pf_text::{Bytes, Input, Output};
 use std::alloc::Global;
 use std::io::{Error, ErrorKind, Read, Write};
 
@@ -100,7 +100,7 @@ impl Write for Brittle {
 /// Prints what a text gives whose reader fails at one call, for the first call, and for each where
 /// that differs from the call before, with how many bytes were read; and at last without a failure.
 fn print_reads<W: Write>(alloc: Global, text: &[u8], writer: &mut W) -> Result<()> {
-    let mut last = Collected::new(alloc);
+    let mut last = Vec::new(alloc);
     let calls = text.len().saturating_add(2).saturating_mul(4);
     for fails_at in 1..calls {
         let reader = Trickle {
@@ -109,9 +109,9 @@ fn print_reads<W: Write>(alloc: Global, text: &[u8], writer: &mut W) -> Result<(
             fails_at,
         };
         let output = run(&OneThread, alloc, &mut Input::new(reader), &mut OneThread)?;
-        if output.bytes() != last.bytes() {
+        if output != last {
             writeln!(writer, "read {}", (fails_at - 1) / 4)?;
-            writer.write_all(output.bytes())?;
+            writer.write_all(&output)?;
         }
         last = output;
     }
@@ -133,13 +133,8 @@ fn written(alloc: Global, text: &[u8], fails_at: usize) -> Result<(Vec<u8>, bool
     if brittle.calls >= fails_at && !matches!(outcome, Err(ProgramError::Write)) {
         bail!("a writer that fails is the error");
     }
-    let mut errors = Collected::new(alloc);
-    let status = finish(outcome, &mut errors);
-    let Brittle { flushed, calls, .. } = brittle;
-    let mut all = flushed;
-    all.extend_from_slice(errors.bytes())?;
-    writeln!(all, "status {status}")?;
-    Ok((all, calls < fails_at))
+    let all = ended(alloc, outcome, &brittle.flushed)?;
+    Ok((all, brittle.calls < fails_at))
 }
 
 /// Prints what a writer has flushed that fails at one call, with the report and the status, for the
