@@ -23,7 +23,7 @@ pub struct PfContext {
 
 impl PfContext {
     /// A context that is closed.
-    fn closed() -> PfContext
+    pub(crate) fn closed() -> PfContext
         ensures { result.handle.value ≡ None }
     {
         PfContext {

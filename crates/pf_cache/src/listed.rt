@@ -1,7 +1,7 @@
 //! Contact points that are computed all at once: for how many pairs they have to be computed, and
 //! where those of each pair stand in the list of all.
 
-ghost use Rattle.std.specs.Prelude.{◌≡◌, ◌+◌, ◌≤◌, All, IfOk, List, drop, length, map, nat_lt, if◌then◌else◌};
+ghost use Rattle.std.specs.Prelude.{◌≡◌, ◌+◌, ◌-◌, ◌≤◌, ◌||◌, All, IfOk, List, drop, length, map, nat_lt, if◌then◌else◌};
 ghost use Rattle.std.specs.List.{flat_map, prefix_len};
 ghost use Rattle.pf_shapes.specs.Pair.{IsAscending, IsPairOf};
 ghost use Rattle.pf_shapes.specs.declared.scene.TheConstants.{MAX_BODIES};
@@ -36,7 +36,8 @@ fn computed_count(spans: &[Span], unmoved: &[bool], pairs: &[Pair]) -> usize
     count
 }
 
-/// How many of these pairs cannot reuse kept points, if they are at least `many`; else none.
+/// How many of these pairs cannot reuse kept points, if they are at least `many` and no fewer than
+/// those that can; else none.
 pub fn computed_if_many(
     spans: &[Span],
     unmoved: &[bool],
@@ -49,13 +50,17 @@ pub fn computed_if_many(
     requires bodies { All (λ s. IsPairOf MAX_BODIES s.pair) spans.now }
     ensures { result
         ≡ (let count = computed_count_by_flags (map (λ s. s.pair) spans.now) unmoved.now
-        pairs.now in if nat_lt count many then None else Some count) }
+        pairs.now in if nat_lt count many || nat_lt count (length pairs.now - count) then None
+        else Some count) }
 {
     if pairs.len() < many {
         return None;
     }
     let count = computed_count(spans, unmoved, pairs);
-    if count < many { None } else { Some(count) }
+    if count < many || count < pairs.len().saturating_sub(count) {
+        return None;
+    }
+    Some(count)
 }
 
 /// Whether a contact point is of this pair.

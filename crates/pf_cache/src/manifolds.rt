@@ -205,6 +205,57 @@ fn points_at_once<C: Collider>(
     Ok(FoundPoints { points, same: 0 })
 }
 
+/// The contact points of these pairs: those of all computed by the collider, where those of many
+/// have to be; else those that are kept, updated. What it asks of the kept ones is what
+/// `updated_points` asks.
+fn found_points<C: Collider>(
+    collider: &C,
+    alloc: Global,
+    scene: &Scene,
+    bodies: &[BodyState],
+    kept_spans: Vec<Span>,
+    kept_touches: Vec<Touch>,
+    pairs: &[Pair],
+    update: &PairsUpdate,
+    unmoved: &[bool],
+    shapes: &[KeptShape],
+) -> Result<FoundPoints, AllocError>
+    requires can { C.can_collide collider.now }
+    requires bodies { length bodies.now ≡ length scene.now.fixtures }
+    requires shapes { shapes.now ≡ placed_shapes scene.now.fixtures bodies.now }
+    requires few { length shapes.now ≤ MAX_BODIES }
+    requires pairs { All (IsPairOf (length shapes.now)) pairs.now }
+    requires ascending { IsAscending pairs.now }
+    requires rising { IsRising 0 (map (λ s. pair_rank s.pair) kept_spans.items) }
+    requires of_bodies { All (λ s. IsPairOf MAX_BODIES s.pair) kept_spans.items }
+    requires placed { ArePlaced 0 kept_spans.items (length kept_touches.items) }
+    requires kept { All (IsKeptSpan shapes.now unmoved.now kept_touches.items) kept_spans.items }
+    requires same { IsTrue update.now.same → length kept_spans.items ≡ length pairs.now
+        → map (λ s. s.pair) kept_spans.items ≡ pairs.now }
+    requires places { AreMovedPlaces unmoved.now pairs.now update.now.moved_places.items }
+    ensures spans { IfOk result (λ found. found.points.spans.items
+        ≡ spans_from 0 shapes.now pairs.now) }
+    ensures touches { IfOk result
+        (λ found. found.points.touches.items ≡ flat_map (points_of_pair shapes.now) pairs.now) }
+    ensures computed { IfOk result (λ found. found.points.computed
+        ≡ computed_count_by_flags (map (λ s. s.pair) kept_spans.items) unmoved.now pairs.now) }
+    ensures same { IfOk result (λ found. HaveSameFirst found.same (map key_of kept_touches.items)
+        (map key_of found.points.touches.items)) }
+{
+    match computed_if_many(&kept_spans, unmoved, pairs, C::MANY) {
+        Some(computed) => points_at_once(collider, alloc, scene, bodies, pairs, computed),
+        None => updated_points(
+            alloc,
+            kept_spans,
+            kept_touches,
+            pairs,
+            update,
+            unmoved,
+            shapes,
+        ),
+    }
+}
+
 impl Manifolds {
     ghost use Rattle.std.specs.Prelude.{◌≡◌, ◌<◌, [], length, map, All, IfOk, IsOk};
     ghost use Rattle.pf_broad.specs.Pairs.{all_bounds, pairs};
@@ -244,13 +295,68 @@ impl Manifolds {
         self.spans.as_slice()
     }
 
+    /// What `update` does where there are bodies.
+    fn update_some<C: Collider>(
+        self,
+        collider: &C,
+        alloc: Global,
+        scene: &Scene,
+        bodies: &[BodyState],
+        moved: &[usize],
+    ) -> Result<FoundCollisions, AllocError>
+        requires can { C.can_collide collider.now }
+        requires bodies { length bodies.now ≡ length scene.now.fixtures }
+        requires moved { All (λ number. number < length bodies.now) moved.now }
+        requires others { HaveStayed moved.now (bodies_of self) scene.now.fixtures bodies.now }
+        ensures manifolds { IfOk result (λ found. found.collisions.manifolds
+            ≡ manifolds_of scene.now.fixtures bodies.now
+            (pairs (all_bounds scene.now.fixtures bodies.now))) }
+        ensures computed { IfOk result (λ found. found.collisions.computed
+            ≡ computed_count self (placed_shapes scene.now.fixtures bodies.now)
+            (pairs (all_bounds scene.now.fixtures bodies.now))) }
+        ensures same { IfOk result (λ found. HaveSameFirst found.same
+            (map key_of (kept_touches self))
+            (map key_of (kept_touches found.collisions.manifolds))) }
+        ensures places { IfOk result (λ found. AreListedPlaces moved.now
+            found.collisions.manifolds.pairs found.moved_places.items) }
+    {
+        let count = self.placed.shapes().len();
+        let mut broad_phase = kept_for(alloc, self.broad_phase, count, bodies.len());
+        let (placed, unmoved) = self.placed.update(alloc, scene, bodies, moved)?;
+        let spans = self.spans;
+        let touches = self.touches;
+        let update = broad_phase.update(alloc, placed.bounds(), bodies, moved)?;
+        let pairs = broad_phase.pairs();
+        let shapes = placed.shapes();
+        let found = found_points(
+            collider, alloc, scene, bodies, spans, touches, pairs, &update, &unmoved, shapes,
+        )?;
+        let same = found.same;
+        let computed = found.points.computed;
+        let manifolds = Manifolds {
+            placed,
+            broad_phase,
+            spans: found.points.spans,
+            touches: found.points.touches,
+        };
+        let collisions = Collisions {
+            manifolds,
+            computed,
+        };
+        Ok(FoundCollisions {
+            collisions,
+            same,
+            moved_places: update.moved_places,
+        })
+    }
+
     /// The contact points of all pairs of bodies, at most one of them static, whose bounds overlap.
     /// The points of a pair that is kept are reused if both bodies still have the shape, position
     /// and rotation that they had. The other pairs cannot reuse kept points: theirs are computed,
-    /// and these pairs are counted. If these are many, the collider computes the points of all
-    /// pairs at once. Only bodies of `moved` are compared with how they stood: where as many bodies
-    /// are kept, all others stand as they stood. An error drops what is kept. Takes no memory where
-    /// there are no bodies.
+    /// and these pairs are counted. If these are many, and no fewer than the others, the collider
+    /// computes the points of all pairs at once. Only bodies of `moved` are compared with how they
+    /// stood: where as many bodies are kept, all others stand as they stood. An error drops what is
+    /// kept. Takes no memory where there are no bodies.
     ///
     /// `same` counts first points that have the keys of the first kept ones; no clause says that it
     /// counts all of them. `moved_places` lists the places of the pairs with a body of `moved`, or
@@ -291,36 +397,6 @@ impl Manifolds {
                 moved_places: Vec::new(alloc),
             });
         }
-        let count = self.placed.shapes().len();
-        let mut broad_phase = kept_for(alloc, self.broad_phase, count, bodies.len());
-        let (placed, unmoved) = self.placed.update(alloc, scene, bodies, moved)?;
-        let spans = self.spans;
-        let touches = self.touches;
-        let update = broad_phase.update(alloc, placed.bounds(), bodies, moved)?;
-        let pairs = broad_phase.pairs();
-        let found = match computed_if_many(&spans, &unmoved, pairs, C::MANY) {
-            Some(computed) => points_at_once(collider, alloc, scene, bodies, pairs, computed)?,
-            None => {
-                let shapes = placed.shapes();
-                updated_points(alloc, spans, touches, pairs, &update, &unmoved, shapes)?
-            }
-        };
-        let same = found.same;
-        let computed = found.points.computed;
-        let manifolds = Manifolds {
-            placed,
-            broad_phase,
-            spans: found.points.spans,
-            touches: found.points.touches,
-        };
-        let collisions = Collisions {
-            manifolds,
-            computed,
-        };
-        Ok(FoundCollisions {
-            collisions,
-            same,
-            moved_places: update.moved_places,
-        })
+        self.update_some(collider, alloc, scene, bodies, moved)
     }
 }

@@ -3,18 +3,25 @@
 //! It runs each text on one thread, and then with contact points by several where there are many,
 //! and ends where these differ. The first line of a text may ask for another way:
 //!
-//! | line | the text behind it |
-//! |---|---|
-//! | `frame DIGITS` | is not there: the frame is printed |
-//! | `cuts` | is run cut off after every byte, on one thread: for length 0, and for each length whose output differs from that of the length before, `cut LENGTH` and that output are printed; `frame DIGITS` is cut off as well, and what is shorter than `frame ` is then a text like any other |
-//! | `crew` | is run with a crew that counts its calls, and `crew COUNT` is printed behind its output: `settle` calls the crew once for each tick that it settles, and no other line does |
-//! | `crew N ERROR` | the same, and the crew fails from its call N on |
-//! | `lines N` | is run behind so many empty lines |
-//! | `streams` | is run with a reader that fails at one call, for each call: where the output differs from that of the call before, `read LENGTH` and it are printed, LENGTH being how many bytes were read, and one more where all were and no call failed; then with a writer that fails at one call, for each call: where what it has flushed differs, `write` and it are printed |
-//! | `words WORD ..` | is the standard input of the program, called with these words |
+//! - `frame DIGITS`: the frame is printed, and nothing is run.
+//! - `cuts`: the text behind it is run cut off after every byte, on one thread. For length 0, and
+//!   for each length whose output differs from that of the length before, `cut LENGTH` and that
+//!   output are printed. A line `frame DIGITS` is cut off as well; what is shorter than `frame `
+//!   is then a text like any other.
+//! - `crew`: the text is run with a crew that counts its calls, and `crew COUNT` is printed
+//!   behind its output. `settle` calls the crew once for each tick that it settles, and no other
+//!   line does.
+//! - `crew N ERROR`: the same, and the crew fails from its call N on.
+//! - `lines N`: the text is run behind so many empty lines.
+//! - `streams`: the text is run with a reader that fails at one call, for each call. Where the
+//!   output differs from that of the call before, `read LENGTH` and it are printed; LENGTH is how
+//!   many bytes were read, and one more where all were and no call failed. Then it is run with a
+//!   writer that fails at one call, for each call; where what this has flushed differs, `write`
+//!   and it are printed.
+//! - `words WORD ..`: the program is called with these words, and the text is its standard input.
 //!
-//! The stored run has what an independent program prints for the same texts; but for those of crews,
-//! of help and of mistaken words.
+//! The stored run has what an independent program prints for the same texts; but for those of
+//! crews, of help and of mistaken words.
 #![tactic(auto)]
 
 ghost use Rattle.std.specs.Prelude.{◌+◌, ◌<◌, length, IfSome};

@@ -192,7 +192,7 @@ impl<R: Wait, G: Gate> StandingCollider<R, G> {
 impl<R: Wait, G: Gate> Collider for StandingCollider<R, G> {
     const MANY: usize = PAIRS_FOR_WORKERS;
 
-    /// Where a worker is lost, or the workers took no part in the last solve, the caller computes the points.
+    /// Where a worker is lost, the caller computes the points.
     fn collide(
         &self,
         alloc: Global,
@@ -200,9 +200,6 @@ impl<R: Wait, G: Gate> Collider for StandingCollider<R, G> {
         bodies: &[BodyState],
         pairs: &[Pair],
     ) -> Result<Vec<Touch>, AllocError> {
-        if !self.pool.task().took_part() {
-            return collide_list(alloc, scene, bodies, pairs);
-        }
         let mut parts = self.parts.replace(Vec::new(alloc));
         self.chunks(alloc, scene, bodies, pairs, &mut parts)?;
         let found = match self.pool.run(0, &mut parts) {

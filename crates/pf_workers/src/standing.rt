@@ -24,11 +24,10 @@ use std::thread::Threads;
 const CONTACTS_FOR_THREADS: usize = 64;
 
 /// Whether threads do not pay: solving all but the greatest island takes no longer than waking the
-/// workers, or is little beside that one.
+/// workers.
 fn is_little(islands: &[Island]) -> bool {
     let (all, greatest) = contact_counts(islands);
-    let others = all.saturating_sub(greatest);
-    others < CONTACTS_FOR_THREADS || others < greatest / 4
+    all.saturating_sub(greatest) < CONTACTS_FOR_THREADS
 }
 
 /// The error of a crew whose pool failed.
@@ -96,7 +95,7 @@ impl<R: Wait, G: Gate> StandingCrew<R, G> {
         ensures crew { IfOk result (λ crew. crew ≡ new_crew workers) }
         ensures failed { IfErr result IsStartError }
     {
-        match Pool::new(rt, alloc, workers, Work::new(alloc, gate)) {
+        match Pool::new(rt, alloc, workers, Work { alloc, gate }) {
             Ok(pool) => Ok(StandingCrew {
                 alloc,
                 pool,
@@ -257,13 +256,10 @@ impl<R: Wait, G: Gate> StandingCrew<R, G> {
         if !self.pool.has_all_workers() {
             return Err(CrewError::CrewLost);
         }
-        let work = self.pool.task();
-        let is_shared = work.gate.is_watched() || !is_little(&islands);
-        work.note_part(is_shared);
-        if is_shared {
-            return self.solve_by_workers(scene, islands, turn);
+        if is_little(&islands) && !self.pool.task().gate.is_watched() {
+            return self.solve_here(scene, islands, turn);
         }
-        self.solve_here(scene, islands, turn)
+        self.solve_by_workers(scene, islands, turn)
     }
 }
 

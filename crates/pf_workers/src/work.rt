@@ -13,7 +13,6 @@ use pf_pool::Task;
 use pf_shapes::Scene;
 use pf_step::CrewError;
 use std::alloc::{AllocError, Global};
-use std::sync::atomic::{AtomicBool, Ordering};
 
 /// Passes the gate, and solves the islands of a worker.
 pub(crate) fn solve<G: Gate>(
@@ -52,30 +51,6 @@ pub(crate) enum Part {
 pub(crate) struct Work<G: Gate> {
     pub(crate) alloc: Global,
     pub(crate) gate: G,
-    /// Whether the workers took part in the last solve, if there was one. If not, they sleep, and to
-    /// wake them for contact points alone does not pay.
-    took_part: AtomicBool,
-}
-
-impl<G: Gate> Work<G> {
-    /// Work behind this gate.
-    pub(crate) fn new(alloc: Global, gate: G) -> Work<G> {
-        Work {
-            alloc,
-            gate,
-            took_part: AtomicBool::new(true),
-        }
-    }
-
-    /// Whether the workers took part in the last solve, or there was none.
-    pub(crate) fn took_part(&self) -> bool {
-        self.took_part.load(Ordering::Relaxed)
-    }
-
-    /// Notes whether the workers take part in a solve.
-    pub(crate) fn note_part(&self, took_part: bool) {
-        self.took_part.store(took_part, Ordering::Relaxed);
-    }
 }
 
 impl<G: Gate> Task for Work<G> {

@@ -16,7 +16,7 @@ circle - 0 0 1048576 0 0\nend\n# no more\n";
 const LEANING: &[u8] = b"gravity 0 0\nbox 4 33554432 67108864 16777216 8388608 5 -7 3 4\nend\n";
 
 /// The scene of a text.
-pub fn scene_of(alloc: Global, text: &[u8]) -> Result<Scene, ReadError> {
+pub(crate) fn scene_of(alloc: Global, text: &[u8]) -> Result<Scene, ReadError> {
     Scene::read(alloc, text)
 }
 

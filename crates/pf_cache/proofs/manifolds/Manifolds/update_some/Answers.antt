@@ -13,14 +13,11 @@ use Rattle.pf_cache.specs.Manifolds.{Manifolds, computed_count, kept_touches, pl
 use Rattle.pf_cache.specs.PlacedBodies.{HaveStayed, PlacedBodies, bodies_of}
 use Rattle.pf_cache.specs.Spans.{Span, computed_count_by_flags, spans_from, unmoved_flags}
 use Rattle.pf_cache.proofs.Bounded.{as_many_bounds, length-placed_shapes, length-unmoved_flags}
-use Rattle.pf_cache.proofs.FirstKeys.{none_same}
 use Rattle.pf_cache.proofs.Keeping.{are_kept, are_placed, counted, kept_spans, none_spanned}
 use Rattle.pf_cache.proofs.Refreshing.{pairs_of_spans}
 use Rattle.pf_cache.proofs.Standing.{same_at}
 use Rattle.pf_cache.proofs.Unmoved.{flag_stays}
-use Rattle.pf_cache.proofs.Updating.{count_is}
-use Rattle.pf_cache.proofs.manifolds.Manifolds.update.Goals.{in-Some+in_ok-found-in-Some, in-None+in_ok-found-in-None}
-use Rattle.pf_cache.proofs.manifolds.Manifolds.update.Goals as goal
+use Rattle.pf_cache.proofs.manifolds.Manifolds.update_some.Goals as goal
 
 pub update-requires-2-clause-bodies : goal.update-requires-2-clause-bodies
 update-requires-2-clause-bodies g c =
@@ -66,27 +63,25 @@ update-requires-2-clause-few g c =
     c.in_ok-placed.ensures.placed c.bounds.ensures.value in
     omega (arith, long, c.update.ensures.few)
 
-pub points_at_once-requires-clause-pairs : goal.points_at_once-requires-clause-pairs
-points_at_once-requires-clause-pairs g c =
-    let long = as_many_bounds c.args.scene.now.fixtures c.args.bodies.now c.in_ok-placed.placed c.bounds.result.now c.requires.bodies
-    c.in_ok-placed.ensures.placed c.bounds.ensures.value in
-    rw c.pairs-pairs.ensures (subst (λ n. All (IsPairOf n) c.update-2.new.self.pairs) long c.in_ok-update.ensures.bodies)
+pub found_points-requires-clause-shapes : goal.found_points-requires-clause-shapes
+found_points-requires-clause-shapes g c =
+    c.shapes-shapes.ensures.value ∙ ap (λ (p : PlacedBodies). p.shapes) c.in_ok-placed.ensures.placed
 
-pub updated_points-requires-clause-placed : goal.updated_points-requires-clause-placed
-updated_points-requires-clause-placed g c =
+pub found_points-requires-clause-placed : goal.found_points-requires-clause-placed
+found_points-requires-clause-placed g c =
     are_placed c.self.inside.placed.shapes c.self.inside.spans.items c.self.inside.touches.items c.self.invariant.0
 
-pub updated_points-requires-clause-kept : goal.updated_points-requires-clause-kept
-updated_points-requires-clause-kept g c =
+pub found_points-requires-clause-kept : goal.found_points-requires-clause-kept
+found_points-requires-clause-kept g c =
     let shapes_are = c.shapes-shapes.ensures.value ∙ ap (λ (p : PlacedBodies). p.shapes) c.in_ok-placed.ensures.placed in
-    let flags_are = c.deref-in-None.ensures.value ∙ c.in_ok-placed.ensures.unmoved in
+    let flags_are = c.deref.ensures.value ∙ c.in_ok-placed.ensures.unmoved in
     rw (shapes_are, flags_are)
     (are_kept c.self.inside.placed.shapes c.self.inside.spans.items c.self.inside.touches.items c.self.invariant.0
     (placed_shapes c.args.scene.now.fixtures c.args.bodies.now))
 
 -- where the broad phase found the same pairs, and there are as many spans, they are those of the spans
-pub updated_points-requires-clause-same : goal.updated_points-requires-clause-same
-updated_points-requires-clause-same g c = λ is_same as_many.
+pub found_points-requires-clause-same : goal.found_points-requires-clause-same
+found_points-requires-clause-same g c = λ is_same as_many.
     let fixtures = c.args.scene.now.fixtures in
     let bodies = c.args.bodies.now in
     let old = c.self.inside.placed in
@@ -114,8 +109,8 @@ updated_points-requires-clause-same g c = λ is_same as_many.
 
 -- all pairs are listed where another number of bodies is kept; else the bodies of the others are
 -- unmoved
-pub updated_points-requires-clause-places : goal.updated_points-requires-clause-places
-updated_points-requires-clause-places g c =
+pub found_points-requires-clause-places : goal.found_points-requires-clause-places
+found_points-requires-clause-places g c =
     let fixtures = c.args.scene.now.fixtures in
     let bodies = c.args.bodies.now in
     let moved = c.args.moved.now in
@@ -123,7 +118,7 @@ updated_points-requires-clause-places g c =
     let shapes = placed_shapes fixtures bodies in
     let counted = ap length c.shapes-count.ensures.value in
     let stood = subst (λ m. HaveStayed moved (bodies_of m) fixtures bodies) (sym c.self.view_is) c.requires.others in
-    let flags_are : c.deref-in-None.result.now ≡ unmoved_flags old.shapes shapes = c.deref-in-None.ensures.value ∙ c.in_ok-placed.ensures.unmoved in
+    let flags_are : c.deref.result.now ≡ unmoved_flags old.shapes shapes = c.deref.ensures.value ∙ c.in_ok-placed.ensures.unmoved in
     let listed = c.in_ok-update.ensures.places in
     let may_have_moved : ℕ → Bool = λ k. listed.0 || has_body moved k in (
       may_have_moved,
@@ -150,31 +145,17 @@ invariant_of-manifolds g c =
     let shapes = c.in_ok-placed.placed.shapes in
     let shapes_are = ap (λ (p : PlacedBodies). p.shapes) c.in_ok-placed.ensures.placed in
     let found = c.pairs-pairs.result.now in
-    let spans = c.match-computed_if_many.found.points.spans.items in
+    let spans = c.in_ok-found.found.points.spans.items in
     let long = as_many_bounds fixtures bodies c.in_ok-placed.placed c.bounds.result.now c.requires.bodies
     c.in_ok-placed.ensures.placed c.bounds.ensures.value in
     let in_bodies = subst (All (IsPairOf (length c.bounds.result.now))) (sym c.pairs-pairs.ensures) c.in_ok-update.ensures.bodies in
     let spans_are : spans ≡ spans_from 0 shapes found =
-    elim c.match-computed_if_many.branch [
-      | in-Some+in_ok-found-in-Some w ↦
-          rw w.found-is (w.in_ok-found-in-Some.ensures.spans ∙ ap (λ ss. spans_from 0 ss found) (sym shapes_are))
-      | in-None+in_ok-found-in-None w ↦
-          rw w.found-is
-          (w.in_ok-found-in-None.ensures.spans ∙ ap (λ ss. spans_from 0 ss found) w.shapes-shapes.ensures.value)
-    ] in (
+    c.in_ok-found.ensures.spans ∙ ap (λ ss. spans_from 0 ss found) c.shapes-shapes.ensures.value in (
       kept_spans fixtures bodies shapes found shapes_are c.requires.bodies c.update.ensures.few
           (subst (λ n. All (IsPairOf n) found) long in_bodies)
           (subst IsAscending (sym c.pairs-pairs.ensures) c.in_ok-update.ensures.ascending)
-          spans c.match-computed_if_many.found.points.touches.items spans_are
-          (elim c.match-computed_if_many.branch [
-            | in-Some+in_ok-found-in-Some w ↦
-                rw w.found-is
-                (w.in_ok-found-in-Some.ensures.touches ∙ ap (λ ss. flat_map (points_of_pair ss) found) (sym shapes_are))
-            | in-None+in_ok-found-in-None w ↦
-                rw w.found-is
-                (w.in_ok-found-in-None.ensures.touches
-                ∙ ap (λ ss. flat_map (points_of_pair ss) found) w.shapes-shapes.ensures.value)
-          ]),
+          spans c.in_ok-found.found.points.touches.items spans_are
+          (c.in_ok-found.ensures.touches ∙ ap (λ ss. flat_map (points_of_pair ss) found) c.shapes-shapes.ensures.value),
       λ many. (
         subst (IsKeptOf c.update-2.new.self) c.bounds.ensures.value
             (c.in_ok-update.ensures.kept (omega (arith, many, ap length c.bounds.ensures.value))),
@@ -190,16 +171,8 @@ returns-clause-manifolds g c =
     let found_are : found ≡ pairs (all_bounds c.args.scene.now.fixtures c.args.bodies.now) =
     c.pairs-pairs.ensures ∙ c.in_ok-update.ensures.pairs
     ∙ ap pairs (c.bounds.ensures.value ∙ ap (λ (p : PlacedBodies). p.bounds) c.in_ok-placed.ensures.placed) in
-    let spans_are : c.match-computed_if_many.found.points.spans.items ≡ spans_from 0 shapes found =
-    elim c.match-computed_if_many.branch [
-      | in-Some+in_ok-found-in-Some w ↦
-          rw w.found-is
-          w.in_ok-found-in-Some.ensures.spans
-      | in-None+in_ok-found-in-None w ↦
-          rw w.found-is
-          (w.in_ok-found-in-None.ensures.spans
-          ∙ ap (λ ss. spans_from 0 ss found) (w.shapes-shapes.ensures.value ∙ shapes_are))
-    ] in
+    let spans_are : c.in_ok-found.found.points.spans.items ≡ spans_from 0 shapes found =
+    c.in_ok-found.ensures.spans ∙ ap (λ ss. spans_from 0 ss found) (c.shapes-shapes.ensures.value ∙ shapes_are) in
     let bounds_are = ap (λ (p : PlacedBodies). p.bounds) c.in_ok-placed.ensures.placed in
     let pairs_are = (ap (map (λ (s : Span). s.pair)) spans_are ∙ pairs_of_spans shapes 0 found ∙ found_are) in
     λ i. record { shapes = shapes_are i; bounds = bounds_are i; pairs = pairs_are i }
@@ -213,25 +186,16 @@ returns-clause-computed g c =
     let found_are : found ≡ pairs (all_bounds c.args.scene.now.fixtures c.args.bodies.now) =
     c.pairs-pairs.ensures ∙ c.in_ok-update.ensures.pairs
     ∙ ap pairs (c.bounds.ensures.value ∙ ap (λ (p : PlacedBodies). p.bounds) c.in_ok-placed.ensures.placed) in
-    let count : c.match-computed_if_many.found.points.computed ≡ computed_count_by_flags kept (unmoved_flags old shapes) found =
-    elim c.match-computed_if_many.branch [
-      | in-Some+in_ok-found-in-Some w ↦
-          rw w.found-is
-          (w.in_ok-found-in-Some.ensures.computed ∙ count_is _ _ _ w.in-Some.ensures
-          ∙ (λ i. computed_count_by_flags (map (λ (s : Span). s.pair) (c.deref.ensures.value i))
-          ((c.deref-2.ensures.value ∙ c.in_ok-placed.ensures.unmoved) i) found))
-      | in-None+in_ok-found-in-None w ↦
-          rw w.found-is
-          (w.in_ok-found-in-None.ensures.computed
-          ∙ ap (λ fs. computed_count_by_flags kept fs found) (w.deref-in-None.ensures.value ∙ c.in_ok-placed.ensures.unmoved))
-    ] in
+    let count : c.in_ok-found.found.points.computed ≡ computed_count_by_flags kept (unmoved_flags old shapes) found =
+    c.in_ok-found.ensures.computed
+    ∙ ap (λ fs. computed_count_by_flags kept fs found) (c.deref.ensures.value ∙ c.in_ok-placed.ensures.unmoved) in
     count ∙ (λ i. computed_count_by_flags (c.self.view_is i).pairs (unmoved_flags (c.self.view_is i).shapes shapes) found)
     ∙ counted c.args.self shapes found ∙ ap (computed_count c.args.self shapes) found_are
 
 pub returns-clause-same : goal.returns-clause-same
 returns-clause-same g c =
     let kept = c.self.inside.touches.items in
-    let tick = c.match-computed_if_many.found in
+    let tick = c.in_ok-found.found in
     let old = c.self.invariant.0.whole ∙ ap kept_touches c.self.view_is in
     let shapes = placed_shapes c.args.scene.now.fixtures c.args.bodies.now in
     let shapes_are = ap (λ (p : PlacedBodies). p.shapes) c.in_ok-placed.ensures.placed in
@@ -240,23 +204,11 @@ returns-clause-same g c =
     c.pairs-pairs.ensures ∙ c.in_ok-update.ensures.pairs
     ∙ ap pairs (c.bounds.ensures.value ∙ ap (λ (p : PlacedBodies). p.bounds) c.in_ok-placed.ensures.placed) in
     let touches_are : tick.points.touches.items ≡ flat_map (points_of_pair shapes) found =
-    elim c.match-computed_if_many.branch [
-      | in-Some+in_ok-found-in-Some w ↦
-          rw w.found-is
-          w.in_ok-found-in-Some.ensures.touches
-      | in-None+in_ok-found-in-None w ↦
-          rw w.found-is
-          (w.in_ok-found-in-None.ensures.touches
-          ∙ ap (λ ss. flat_map (points_of_pair ss) found) (w.shapes-shapes.ensures.value ∙ shapes_are))
-    ] in
+    c.in_ok-found.ensures.touches
+    ∙ ap (λ ss. flat_map (points_of_pair ss) found) (c.shapes-shapes.ensures.value ∙ shapes_are) in
     let new = touches_are ∙ ap (flat_map (points_of_pair shapes)) found_are ∙ sym (ap kept_touches (returns-clause-manifolds g c)) in
     let keys : HaveSameFirst tick.same (map key_of kept) (map key_of tick.points.touches.items) =
-    elim c.match-computed_if_many.branch [
-      | in-Some+in_ok-found-in-Some w ↦
-          none_same tick.same (map key_of kept) (map key_of tick.points.touches.items)
-          (rw w.found-is w.in_ok-found-in-Some.ensures.same)
-      | in-None+in_ok-found-in-None w ↦ rw w.found-is w.in_ok-found-in-None.ensures.same
-    ] in
+    c.in_ok-found.ensures.same in
     subst (λ (ts : List Touch × List Touch). HaveSameFirst tick.same (map key_of ts.0) (map key_of ts.1)) (λ i. (old i, new i)) keys
 
 pub returns-clause-places : goal.returns-clause-places
