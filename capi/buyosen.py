@@ -12,11 +12,13 @@
             print(body.x / ONE, body.y / ONE)
 
 Numbers are whole numbers in units of 2^-24, so 1 is ONE; a tick is 1/64 s. A call that fails raises
-Error, with its code and the code's name; pf.h says what each means. The library is the one in out/
-beside this file, or in lib/ beside its folder, or else the one that the loader finds.
+Error, with its code and the code's name; pf.h says what each means. The library is the one that the
+environment's BUYOSEN_LIBRARY names; else the one in out/ or out/quick/ beside this file, or in lib/
+beside its folder; else the one that the loader finds.
 """
 
 import ctypes
+import os
 from ctypes import POINTER, byref, c_bool, c_int64, c_size_t, c_uint8, c_uint16, c_uint32, c_uint64
 from pathlib import Path
 from typing import NamedTuple
@@ -103,35 +105,35 @@ _PARAMETERS = {
     "scene_read": [ctypes.c_char_p, c_size_t, POINTER(_Key), POINTER(c_uint64)],
     "scene_new": [_V2, POINTER(_Key)],
     "scene_free": [_Key],
-    "circle": [_Key, _Material, c_int64, _V2, POINTER(c_uint64)],
-    "box": [_Key, _Material, _V2, _V2, _V2, POINTER(c_uint64)],
+    "scene_add_circle": [_Key, _Material, c_int64, _V2, POINTER(c_uint64)],
+    "scene_add_box": [_Key, _Material, _V2, _V2, _V2, POINTER(c_uint64)],
     "peer_new": [_Key, c_uint8, c_uint32, POINTER(_Key)],
     "peer_free": [_Key],
-    "push": [_Key, c_uint16, _V2, POINTER(_Frame)],
-    "turn": [_Key, c_uint16, c_int64, POINTER(_Frame)],
-    "stop": [_Key, c_uint16, POINTER(_Frame)],
-    "place": [_Key, c_uint16, _V2, POINTER(_Frame)],
-    "take": [_Key, ctypes.c_char_p, c_size_t, POINTER(c_uint32)],
-    "merge": [_Key, _Key, POINTER(c_uint64)],
-    "merge_alone": [_Key, _Key, POINTER(c_uint64)],
-    "frames": [_Key, c_uint32, POINTER(_Frame), c_size_t, POINTER(c_uint64)],
-    "advance": [_Key, c_uint32, POINTER(c_uint32)],
-    "settle": [_Key, POINTER(c_uint32)],
-    "seal": [_Key, c_uint32],
-    "reached": [_Key, POINTER(c_uint32)],
-    "settled": [_Key, POINTER(c_uint32)],
-    "horizon": [_Key, POINTER(c_uint32)],
-    "meter": [_Key, POINTER(_Counts)],
-    "world": [_Key, c_uint32, *_WORLD],
-    "base": [_Key, *_WORLD],
+    "peer_push": [_Key, c_uint16, _V2, POINTER(_Frame)],
+    "peer_turn": [_Key, c_uint16, c_int64, POINTER(_Frame)],
+    "peer_stop": [_Key, c_uint16, POINTER(_Frame)],
+    "peer_place": [_Key, c_uint16, _V2, POINTER(_Frame)],
+    "peer_take": [_Key, ctypes.c_char_p, c_size_t, POINTER(c_uint32)],
+    "peer_merge": [_Key, _Key, POINTER(c_uint64)],
+    "peer_merge_alone": [_Key, _Key, POINTER(c_uint64)],
+    "peer_frames": [_Key, c_uint32, POINTER(_Frame), c_size_t, POINTER(c_uint64)],
+    "peer_advance": [_Key, c_uint32, POINTER(c_uint32)],
+    "peer_settle": [_Key, POINTER(c_uint32)],
+    "peer_seal": [_Key, c_uint32],
+    "peer_reached": [_Key, POINTER(c_uint32)],
+    "peer_settled": [_Key, POINTER(c_uint32)],
+    "peer_horizon": [_Key, POINTER(c_uint32)],
+    "peer_meter": [_Key, POINTER(_Counts)],
+    "peer_world": [_Key, c_uint32, *_WORLD],
+    "peer_base": [_Key, *_WORLD],
 }
 
 
 def _load():
     here = Path(__file__).resolve().parent
-    places = [here / "out", here.parent / "lib"]
+    places = [here / "out", here / "out/quick", here.parent / "lib"]
     paths = [str(place / "libbuyosen.so") for place in places if (place / "libbuyosen.so").exists()]
-    library = ctypes.CDLL(paths[0] if paths else "libbuyosen.so")
+    library = ctypes.CDLL(os.environ.get("BUYOSEN_LIBRARY") or [*paths, "libbuyosen.so"][0])
     for name, parameters in _PARAMETERS.items():
         function = getattr(library, "pf_" + name)
         function.argtypes = [POINTER(_Context), *parameters]
@@ -202,13 +204,13 @@ class Scene:
         """Adds a circle, and returns its number."""
         material = _Material(mass, friction, owner)
         arguments = (self._key, material, radius, _V2(*position))
-        return self._context.output(c_uint64, "circle", *arguments).value
+        return self._context.output(c_uint64, "scene_add_circle", *arguments).value
 
     def box(self, mass, friction, half, position, direction=(ONE, 0), owner=NOBODY):
         """Adds a box, and returns its number."""
         material = _Material(mass, friction, owner)
         arguments = (self._key, material, _V2(*half), _V2(*position), _V2(*direction))
-        return self._context.output(c_uint64, "box", *arguments).value
+        return self._context.output(c_uint64, "scene_add_box", *arguments).value
 
     def peer(self, player=0, ring=16):
         """A peer of this scene."""
@@ -224,7 +226,7 @@ class Peer:
         self._context, self._key = context, key
 
     def _output(self, kind, name, *arguments):
-        return self._context.output(kind, name, self._key, *arguments)
+        return self._context.output(kind, f"peer_{name}", self._key, *arguments)
 
     def push(self, body, impulse):
         """Issues a push, and returns its frame."""
@@ -265,7 +267,7 @@ class Peer:
         while True:
             frames = (_Frame * (count.value + 1))()
             try:
-                self._context.call("frames", self._key, tick, frames, count.value, byref(count))
+                self._context.call("peer_frames", self._key, tick, frames, count.value, byref(count))
             except Error as error:
                 if error.code != SMALL_BUFFER:
                     raise
@@ -282,7 +284,7 @@ class Peer:
 
     def seal(self, tick):
         """Forgets what came before this tick."""
-        self._context.call("seal", self._key, tick)
+        self._context.call("peer_seal", self._key, tick)
 
     @property
     def reached(self):
@@ -318,7 +320,7 @@ class Peer:
             contacts = (Contact * (sizes.contacts + 1))()
             buffers = (bodies, sizes.bodies, contacts, sizes.contacts, byref(sizes))
             try:
-                self._context.call(name, self._key, *arguments, *buffers)
+                self._context.call(f"peer_{name}", self._key, *arguments, *buffers)
             except Error as error:
                 if error.code != SMALL_BUFFER:
                     raise

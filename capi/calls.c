@@ -23,8 +23,7 @@ static int failures;
 
 #define EXPECT(actual, expected) expect(__LINE__, (uint64_t)(actual), (uint64_t)(expected))
 
-static void expect(int line, uint64_t actual, uint64_t expected)
-{
+static void expect(int line, uint64_t actual, uint64_t expected) {
     if (actual != expected) {
         printf("calls.c:%d: %" PRIu64 ", not %" PRIu64 "\n", line, actual, expected);
         failures++;
@@ -39,25 +38,23 @@ static const pf_material OF_PLAYER_0 = {PF_ONE, PF_ONE / 2, 0};
 static const pf_material OF_NOBODY = {PF_ONE, PF_ONE / 2, PF_NOBODY};
 
 /* A floor, a box and a circle that stand on it. */
-static pf_scene floor_scene(pf_context *context)
-{
+static pf_scene floor_scene(pf_context *context) {
     pf_scene scene;
     uint64_t body;
     pf_v2 floor = {20 * PF_ONE, PF_ONE}, under = {0, -PF_ONE};
     pf_v2 half = {PF_ONE, PF_ONE}, left = {-4 * PF_ONE, PF_ONE}, right = {4 * PF_ONE, PF_ONE};
     EXPECT(pf_scene_new(context, DOWN, &scene), PF_OK);
-    EXPECT(pf_box(context, scene, STATIC, floor, under, UPRIGHT, &body), PF_OK);
+    EXPECT(pf_scene_add_box(context, scene, STATIC, floor, under, UPRIGHT, &body), PF_OK);
     EXPECT(body, 0);
-    EXPECT(pf_box(context, scene, OF_PLAYER_0, half, left, UPRIGHT, &body), PF_OK);
+    EXPECT(pf_scene_add_box(context, scene, OF_PLAYER_0, half, left, UPRIGHT, &body), PF_OK);
     EXPECT(body, 1);
-    EXPECT(pf_circle(context, scene, OF_NOBODY, PF_ONE, right, &body), PF_OK);
+    EXPECT(pf_scene_add_circle(context, scene, OF_NOBODY, PF_ONE, right, &body), PF_OK);
     EXPECT(body, 2);
     return scene;
 }
 
 /* Each call on a scene or a peer returns this code. */
-static void expect_all(pf_context *context, pf_scene scene, pf_peer peer, uint32_t code)
-{
+static void expect_all(pf_context *context, pf_scene scene, pf_peer peer, uint32_t code) {
     pf_peer new_peer;
     pf_frame frame = {{0}};
     pf_body body;
@@ -67,32 +64,31 @@ static void expect_all(pf_context *context, pf_scene scene, pf_peer peer, uint32
     uint64_t count;
     uint32_t number;
     pf_v2 half = {PF_ONE, PF_ONE};
-    EXPECT(pf_circle(context, scene, OF_NOBODY, PF_ONE, ORIGIN, &count), code);
-    EXPECT(pf_box(context, scene, OF_NOBODY, half, ORIGIN, UPRIGHT, &count), code);
+    EXPECT(pf_scene_add_circle(context, scene, OF_NOBODY, PF_ONE, ORIGIN, &count), code);
+    EXPECT(pf_scene_add_box(context, scene, OF_NOBODY, half, ORIGIN, UPRIGHT, &count), code);
     EXPECT(pf_peer_new(context, scene, 0, 1, &new_peer), code);
     EXPECT(pf_scene_free(context, scene), code);
-    EXPECT(pf_push(context, peer, 0, ORIGIN, &frame), code);
-    EXPECT(pf_turn(context, peer, 0, 0, &frame), code);
-    EXPECT(pf_stop(context, peer, 0, &frame), code);
-    EXPECT(pf_place(context, peer, 0, ORIGIN, &frame), code);
-    EXPECT(pf_take(context, peer, frame.bytes, PF_FRAME_LEN, &number), code);
-    EXPECT(pf_merge(context, peer, peer, &count), code);
-    EXPECT(pf_merge_alone(context, peer, peer, &count), code);
-    EXPECT(pf_frames(context, peer, 0, &frame, 1, &count), code);
-    EXPECT(pf_advance(context, peer, 1, &number), code);
-    EXPECT(pf_settle(context, peer, &number), code);
-    EXPECT(pf_seal(context, peer, 0), code);
-    EXPECT(pf_reached(context, peer, &number), code);
-    EXPECT(pf_settled(context, peer, &number), code);
-    EXPECT(pf_horizon(context, peer, &number), code);
-    EXPECT(pf_meter(context, peer, &counts), code);
-    EXPECT(pf_world(context, peer, 0, &body, 0, &contact, 0, &sizes), code);
-    EXPECT(pf_base(context, peer, &body, 0, &contact, 0, &sizes), code);
+    EXPECT(pf_peer_push(context, peer, 0, ORIGIN, &frame), code);
+    EXPECT(pf_peer_turn(context, peer, 0, 0, &frame), code);
+    EXPECT(pf_peer_stop(context, peer, 0, &frame), code);
+    EXPECT(pf_peer_place(context, peer, 0, ORIGIN, &frame), code);
+    EXPECT(pf_peer_take(context, peer, frame.bytes, PF_FRAME_LEN, &number), code);
+    EXPECT(pf_peer_merge(context, peer, peer, &count), code);
+    EXPECT(pf_peer_merge_alone(context, peer, peer, &count), code);
+    EXPECT(pf_peer_frames(context, peer, 0, &frame, 1, &count), code);
+    EXPECT(pf_peer_advance(context, peer, 1, &number), code);
+    EXPECT(pf_peer_settle(context, peer, &number), code);
+    EXPECT(pf_peer_seal(context, peer, 0), code);
+    EXPECT(pf_peer_reached(context, peer, &number), code);
+    EXPECT(pf_peer_settled(context, peer, &number), code);
+    EXPECT(pf_peer_horizon(context, peer, &number), code);
+    EXPECT(pf_peer_meter(context, peer, &counts), code);
+    EXPECT(pf_peer_world(context, peer, 0, &body, 0, &contact, 0, &sizes), code);
+    EXPECT(pf_peer_base(context, peer, &body, 0, &contact, 0, &sizes), code);
     EXPECT(pf_peer_free(context, peer), code);
 }
 
-static void closed_contexts(void)
-{
+static void closed_contexts(void) {
     pf_context context = {0};
     pf_scene scene = {{0, 0}};
     pf_peer peer = {{0, 0}};
@@ -108,8 +104,7 @@ static void closed_contexts(void)
     expect_all(&context, scene, peer, PF_CLOSED);
 }
 
-static void keys(void)
-{
+static void keys(void) {
     static const uint32_t NUMBERS[] = {0, 1, 2, 3, 1000, UINT32_MAX - 1, UINT32_MAX};
     const size_t count = sizeof NUMBERS / sizeof *NUMBERS;
     pf_context context = {0}, other = {0};
@@ -125,19 +120,19 @@ static void keys(void)
         }
     scene = floor_scene(&context);
     EXPECT(pf_peer_new(&context, scene, 0, 1, &peer), PF_OK);
-    EXPECT(pf_advance(&context, peer, 5, &tick), PF_OK);
+    EXPECT(pf_peer_advance(&context, peer, 5, &tick), PF_OK);
     /* The other context has neither. */
     expect_all(&other, scene, peer, PF_BAD_KEY);
     /* A peer stays when its scene is freed, and a freed key stays one. */
     EXPECT(pf_scene_free(&context, scene), PF_OK);
-    EXPECT(pf_reached(&context, peer, &tick), PF_OK);
+    EXPECT(pf_peer_reached(&context, peer, &tick), PF_OK);
     EXPECT(tick, 5);
     EXPECT(pf_peer_free(&context, peer), PF_OK);
     for (int i = 0; i < 100; i++) {
         later = floor_scene(&context);
         EXPECT(pf_peer_new(&context, later, 0, 1, &fresh), PF_OK);
         expect_all(&context, scene, peer, PF_BAD_KEY);
-        EXPECT(pf_reached(&context, fresh, &tick), PF_OK);
+        EXPECT(pf_peer_reached(&context, fresh, &tick), PF_OK);
         EXPECT(tick, 0);
         EXPECT(pf_scene_free(&context, later), PF_OK);
         EXPECT(pf_peer_free(&context, fresh), PF_OK);
@@ -146,8 +141,7 @@ static void keys(void)
     EXPECT(pf_close(&context), PF_OK);
 }
 
-static void scene_errors(void)
-{
+static void scene_errors(void) {
     static const struct {
         const char *text;
         uint32_t code;
@@ -177,24 +171,27 @@ static void scene_errors(void)
     EXPECT(pf_scene_new(&context, (pf_v2){0, INT64_MAX}, &scene), PF_SCENE_BAD_NUMBER);
     EXPECT(scene.key.generation, 78);
     EXPECT(pf_scene_new(&context, ORIGIN, &scene), PF_OK);
-    EXPECT(pf_circle(&context, scene, light, PF_ONE, ORIGIN, &body), PF_SCENE_BAD_MASS);
-    EXPECT(pf_circle(&context, scene, foreign, PF_ONE, ORIGIN, &body), PF_SCENE_BAD_NUMBER);
-    EXPECT(pf_circle(&context, scene, rough, PF_ONE, ORIGIN, &body), PF_SCENE_BAD_NUMBER);
-    EXPECT(pf_circle(&context, scene, STATIC, INT64_MIN, ORIGIN, &body), PF_SCENE_BAD_SIZE);
-    EXPECT(pf_circle(&context, scene, STATIC, PF_ONE, far, &body), PF_SCENE_BAD_NUMBER);
-    EXPECT(pf_box(&context, scene, STATIC, thin, ORIGIN, UPRIGHT, &body), PF_SCENE_BAD_SIZE);
-    EXPECT(pf_box(&context, scene, STATIC, half, ORIGIN, far, &body), PF_SCENE_BAD_NUMBER);
+    EXPECT(pf_scene_add_circle(&context, scene, light, PF_ONE, ORIGIN, &body), PF_SCENE_BAD_MASS);
+    EXPECT(pf_scene_add_circle(&context, scene, foreign, PF_ONE, ORIGIN, &body),
+           PF_SCENE_BAD_NUMBER);
+    EXPECT(pf_scene_add_circle(&context, scene, rough, PF_ONE, ORIGIN, &body), PF_SCENE_BAD_NUMBER);
+    EXPECT(pf_scene_add_circle(&context, scene, STATIC, INT64_MIN, ORIGIN, &body),
+           PF_SCENE_BAD_SIZE);
+    EXPECT(pf_scene_add_circle(&context, scene, STATIC, PF_ONE, far, &body), PF_SCENE_BAD_NUMBER);
+    EXPECT(pf_scene_add_box(&context, scene, STATIC, thin, ORIGIN, UPRIGHT, &body),
+           PF_SCENE_BAD_SIZE);
+    EXPECT(pf_scene_add_box(&context, scene, STATIC, half, ORIGIN, far, &body),
+           PF_SCENE_BAD_NUMBER);
     EXPECT(body, 9);
     for (uint64_t i = 0; i < 1024; i++) {
-        EXPECT(pf_circle(&context, scene, OF_NOBODY, PF_ONE, ORIGIN, &body), PF_OK);
+        EXPECT(pf_scene_add_circle(&context, scene, OF_NOBODY, PF_ONE, ORIGIN, &body), PF_OK);
         EXPECT(body, i);
     }
-    EXPECT(pf_circle(&context, scene, STATIC, PF_ONE, ORIGIN, &body), PF_SCENE_TOO_MANY);
+    EXPECT(pf_scene_add_circle(&context, scene, STATIC, PF_ONE, ORIGIN, &body), PF_SCENE_TOO_MANY);
     EXPECT(pf_close(&context), PF_OK);
 }
 
-static void peer_errors(void)
-{
+static void peer_errors(void) {
     const int64_t great = (INT64_C(1) << 55);
     pf_context context = {0};
     pf_scene scene;
@@ -207,39 +204,36 @@ static void peer_errors(void)
     EXPECT(pf_peer_new(&context, scene, 0, 0, &peer), PF_BAD_RING);
     EXPECT(pf_peer_new(&context, scene, 0, 65, &peer), PF_BAD_RING);
     EXPECT(pf_peer_new(&context, scene, 0, 64, &peer), PF_OK);
-    EXPECT(pf_push(&context, peer, 1, (pf_v2){great, 0}, &frame), PF_BAD_NUMBER);
-    EXPECT(pf_turn(&context, peer, 1, -great, &frame), PF_BAD_NUMBER);
-    EXPECT(pf_place(&context, peer, 1, (pf_v2){0, great}, &frame), PF_BAD_NUMBER);
-    EXPECT(pf_stop(&context, peer, 3, &frame), PF_UNKNOWN_BODY);
-    EXPECT(pf_stop(&context, peer, 0, &frame), PF_STATIC_BODY);
-    EXPECT(pf_stop(&context, peer, 2, &frame), PF_NOT_OWNER);
-    EXPECT(pf_seal(&context, peer, 1), PF_NOT_REACHED);
-    EXPECT(pf_advance(&context, peer, 1048577, &number), PF_TICK_LIMIT);
+    EXPECT(pf_peer_push(&context, peer, 1, (pf_v2){great, 0}, &frame), PF_BAD_NUMBER);
+    EXPECT(pf_peer_turn(&context, peer, 1, -great, &frame), PF_BAD_NUMBER);
+    EXPECT(pf_peer_place(&context, peer, 1, (pf_v2){0, great}, &frame), PF_BAD_NUMBER);
+    EXPECT(pf_peer_stop(&context, peer, 3, &frame), PF_UNKNOWN_BODY);
+    EXPECT(pf_peer_stop(&context, peer, 0, &frame), PF_STATIC_BODY);
+    EXPECT(pf_peer_stop(&context, peer, 2, &frame), PF_NOT_OWNER);
+    EXPECT(pf_peer_seal(&context, peer, 1), PF_NOT_REACHED);
+    EXPECT(pf_peer_advance(&context, peer, 1048577, &number), PF_TICK_LIMIT);
     EXPECT(number, 3);
-    EXPECT(pf_stop(&context, peer, 1, &command), PF_OK);
-    EXPECT(pf_take(&context, peer, command.bytes, PF_FRAME_LEN, &number), PF_OK);
+    EXPECT(pf_peer_stop(&context, peer, 1, &command), PF_OK);
+    EXPECT(pf_peer_take(&context, peer, command.bytes, PF_FRAME_LEN, &number), PF_OK);
     EXPECT(number, PF_SAME);
-    EXPECT(pf_advance(&context, peer, 2, &number), PF_OK);
-    EXPECT(pf_settle(&context, peer, &number), PF_OK);
-    EXPECT(pf_seal(&context, peer, 2), PF_OK);
-    EXPECT(pf_take(&context, peer, command.bytes, PF_FRAME_LEN, &number), PF_TOO_OLD);
-    EXPECT(pf_seal(&context, peer, 1), PF_TOO_OLD);
+    EXPECT(pf_peer_advance(&context, peer, 2, &number), PF_OK);
+    EXPECT(pf_peer_settle(&context, peer, &number), PF_OK);
+    EXPECT(pf_peer_seal(&context, peer, 2), PF_OK);
+    EXPECT(pf_peer_take(&context, peer, command.bytes, PF_FRAME_LEN, &number), PF_TOO_OLD);
+    EXPECT(pf_peer_seal(&context, peer, 1), PF_TOO_OLD);
     EXPECT(pf_close(&context), PF_OK);
 }
 
 /* A stop of body 1 that player 0 issued, with one byte changed. */
-static void frame_errors(void)
-{
+static void frame_errors(void) {
     enum { VERSION = 0, PLAYER = 5, KIND = 8, LAST = PF_FRAME_LEN - 1 };
     static const struct {
         size_t at;
         uint8_t byte;
         uint32_t code;
     } CHANGES[] = {
-        {VERSION, 9, PF_FRAME_BAD_VERSION},
-        {KIND, 4, PF_FRAME_BAD_KIND},
-        {LAST, 1, PF_FRAME_NOT_CANONICAL},
-        {PLAYER, 8, PF_FRAME_OUT_OF_RANGE},
+        {VERSION, 9, PF_FRAME_BAD_VERSION}, {KIND, 4, PF_FRAME_BAD_KIND},
+        {LAST, 1, PF_FRAME_NOT_CANONICAL},  {PLAYER, 8, PF_FRAME_OUT_OF_RANGE},
         {PLAYER, 1, PF_NOT_OWNER},
     };
     pf_context context = {0};
@@ -249,23 +243,22 @@ static void frame_errors(void)
     uint32_t put = 7;
     EXPECT(pf_open(&context), PF_OK);
     EXPECT(pf_peer_new(&context, floor_scene(&context), 0, 1, &peer), PF_OK);
-    EXPECT(pf_stop(&context, peer, 1, &command), PF_OK);
+    EXPECT(pf_peer_stop(&context, peer, 1, &command), PF_OK);
     for (size_t length = 0; length < PF_FRAME_LEN; length++)
-        EXPECT(pf_take(&context, peer, command.bytes, length, &put), PF_FRAME_SHORT);
+        EXPECT(pf_peer_take(&context, peer, command.bytes, length, &put), PF_FRAME_SHORT);
     memcpy(longer, command.bytes, PF_FRAME_LEN);
-    EXPECT(pf_take(&context, peer, longer, sizeof longer, &put), PF_FRAME_LONG);
+    EXPECT(pf_peer_take(&context, peer, longer, sizeof longer, &put), PF_FRAME_LONG);
     for (size_t i = 0; i < sizeof CHANGES / sizeof *CHANGES; i++) {
         frame = command;
         frame.bytes[CHANGES[i].at] = CHANGES[i].byte;
-        EXPECT(pf_take(&context, peer, frame.bytes, PF_FRAME_LEN, &put), CHANGES[i].code);
+        EXPECT(pf_peer_take(&context, peer, frame.bytes, PF_FRAME_LEN, &put), CHANGES[i].code);
     }
     EXPECT(put, 7);
     EXPECT(pf_close(&context), PF_OK);
 }
 
 /* Two commands of one name: the greater payload stays, whoever comes last. */
-static void names_that_meet(void)
-{
+static void names_that_meet(void) {
     pf_context context = {0};
     pf_scene scene;
     pf_peer first, second;
@@ -275,32 +268,30 @@ static void names_that_meet(void)
     scene = floor_scene(&context);
     EXPECT(pf_peer_new(&context, scene, 0, 1, &first), PF_OK);
     EXPECT(pf_peer_new(&context, scene, 0, 1, &second), PF_OK);
-    EXPECT(pf_stop(&context, first, 1, &stop), PF_OK);
-    EXPECT(pf_push(&context, second, 1, UPRIGHT, &push), PF_OK);
-    EXPECT(pf_take(&context, second, stop.bytes, PF_FRAME_LEN, &put), PF_OK);
+    EXPECT(pf_peer_stop(&context, first, 1, &stop), PF_OK);
+    EXPECT(pf_peer_push(&context, second, 1, UPRIGHT, &push), PF_OK);
+    EXPECT(pf_peer_take(&context, second, stop.bytes, PF_FRAME_LEN, &put), PF_OK);
     EXPECT(put, PF_GREATER);
-    EXPECT(pf_take(&context, first, push.bytes, PF_FRAME_LEN, &put), PF_OK);
+    EXPECT(pf_peer_take(&context, first, push.bytes, PF_FRAME_LEN, &put), PF_OK);
     EXPECT(put, PF_LESSER);
-    EXPECT(pf_take(&context, second, stop.bytes, PF_FRAME_LEN, &put), PF_OK);
+    EXPECT(pf_peer_take(&context, second, stop.bytes, PF_FRAME_LEN, &put), PF_OK);
     EXPECT(put, PF_SAME);
     EXPECT(pf_close(&context), PF_OK);
 }
 
-static void numbers_of_a_tick(void)
-{
+static void numbers_of_a_tick(void) {
     pf_context context = {0};
     pf_peer peer;
     pf_frame frame;
     EXPECT(pf_open(&context), PF_OK);
     EXPECT(pf_peer_new(&context, floor_scene(&context), 0, 1, &peer), PF_OK);
     for (uint32_t i = 0; i < 65536; i++)
-        EXPECT(pf_stop(&context, peer, 1, &frame), PF_OK);
-    EXPECT(pf_stop(&context, peer, 1, &frame), PF_NUMBERS_SPENT);
+        EXPECT(pf_peer_stop(&context, peer, 1, &frame), PF_OK);
+    EXPECT(pf_peer_stop(&context, peer, 1, &frame), PF_NUMBERS_SPENT);
     EXPECT(pf_close(&context), PF_OK);
 }
 
-static void merging(void)
-{
+static void merging(void) {
     pf_context context = {0};
     pf_scene scene, empty;
     pf_peer ours, theirs, foreign;
@@ -313,31 +304,30 @@ static void merging(void)
     EXPECT(pf_peer_new(&context, scene, 0, 1, &ours), PF_OK);
     EXPECT(pf_peer_new(&context, scene, 1, 1, &theirs), PF_OK);
     EXPECT(pf_peer_new(&context, empty, 1, 1, &foreign), PF_OK);
-    EXPECT(pf_stop(&context, ours, 1, &frame), PF_OK);
-    EXPECT(pf_merge(&context, theirs, ours, &count), PF_OK);
+    EXPECT(pf_peer_stop(&context, ours, 1, &frame), PF_OK);
+    EXPECT(pf_peer_merge(&context, theirs, ours, &count), PF_OK);
     EXPECT(count, 1);
-    EXPECT(pf_merge(&context, theirs, ours, &count), PF_OK);
+    EXPECT(pf_peer_merge(&context, theirs, ours, &count), PF_OK);
     EXPECT(count, 0);
-    EXPECT(pf_merge(&context, ours, ours, &count), PF_OK);
+    EXPECT(pf_peer_merge(&context, ours, ours, &count), PF_OK);
     EXPECT(count, 0);
-    EXPECT(pf_merge(&context, foreign, ours, &count), PF_BASES_DIFFER);
-    EXPECT(pf_advance(&context, ours, 1, &tick), PF_OK);
-    EXPECT(pf_seal(&context, ours, 1), PF_OK);
-    EXPECT(pf_horizon(&context, ours, &tick), PF_OK);
+    EXPECT(pf_peer_merge(&context, foreign, ours, &count), PF_BASES_DIFFER);
+    EXPECT(pf_peer_advance(&context, ours, 1, &tick), PF_OK);
+    EXPECT(pf_peer_seal(&context, ours, 1), PF_OK);
+    EXPECT(pf_peer_horizon(&context, ours, &tick), PF_OK);
     EXPECT(tick, 1);
     count = 5;
-    EXPECT(pf_merge(&context, theirs, ours, &count), PF_HORIZONS_DIFFER);
+    EXPECT(pf_peer_merge(&context, theirs, ours, &count), PF_HORIZONS_DIFFER);
     EXPECT(count, 5);
-    EXPECT(pf_stop(&context, ours, 1, &frame), PF_OK);
-    EXPECT(pf_merge_alone(&context, theirs, ours, &count), PF_OK);
+    EXPECT(pf_peer_stop(&context, ours, 1, &frame), PF_OK);
+    EXPECT(pf_peer_merge_alone(&context, theirs, ours, &count), PF_OK);
     EXPECT(count, 1);
-    EXPECT(pf_merge_alone(&context, ours, theirs, &count), PF_TOO_OLD);
+    EXPECT(pf_peer_merge_alone(&context, ours, theirs, &count), PF_TOO_OLD);
     EXPECT(pf_close(&context), PF_OK);
 }
 
 /* The frames of a peer, into arrays of each length, and from each tick on. */
-static void frames_read_back(void)
-{
+static void frames_read_back(void) {
     enum { COMMANDS = 5 };
     pf_context context = {0};
     pf_peer peer, late;
@@ -350,8 +340,8 @@ static void frames_read_back(void)
     EXPECT(pf_peer_new(&context, scene, 0, 1, &peer), PF_OK);
     EXPECT(pf_peer_new(&context, scene, 1, 1, &late), PF_OK);
     for (int64_t i = 0; i < COMMANDS; i++) {
-        EXPECT(pf_turn(&context, peer, 1, i, &issued[i]), PF_OK);
-        EXPECT(pf_advance(&context, peer, 1, &tick), PF_OK);
+        EXPECT(pf_peer_turn(&context, peer, 1, i, &issued[i]), PF_OK);
+        EXPECT(pf_peer_advance(&context, peer, 1, &tick), PF_OK);
     }
     memset(untouched, 0x5a, sizeof untouched);
     for (uint32_t from = 0; from <= COMMANDS; from++)
@@ -359,24 +349,23 @@ static void frames_read_back(void)
             pf_frame frames[COMMANDS];
             size_t later = COMMANDS - from, written = length < later ? 0 : later;
             memset(frames, 0x5a, sizeof frames);
-            EXPECT(pf_frames(&context, peer, from, frames, length, &count),
+            EXPECT(pf_peer_frames(&context, peer, from, frames, length, &count),
                    length < later ? PF_SMALL_BUFFER : PF_OK);
             EXPECT(count, later);
             EXPECT(memcmp(frames, issued + from, written * sizeof *frames), 0);
             EXPECT(memcmp(frames + written, untouched, (COMMANDS - written) * sizeof *frames), 0);
         }
     for (int i = COMMANDS; i-- > 0;) {
-        EXPECT(pf_take(&context, late, issued[i].bytes, PF_FRAME_LEN, &put), PF_OK);
+        EXPECT(pf_peer_take(&context, late, issued[i].bytes, PF_FRAME_LEN, &put), PF_OK);
         EXPECT(put, PF_NEW);
     }
-    EXPECT(pf_frames(&context, late, 0, untouched, COMMANDS, &count), PF_OK);
+    EXPECT(pf_peer_frames(&context, late, 0, untouched, COMMANDS, &count), PF_OK);
     EXPECT(memcmp(untouched, issued, sizeof issued), 0);
     EXPECT(pf_close(&context), PF_OK);
 }
 
 /* A late frame costs the ticks since its own, and the base is the world at the horizon. */
-static void counts_and_base(void)
-{
+static void counts_and_base(void) {
     pf_context context = {0};
     pf_peer peer;
     pf_frame frame;
@@ -387,36 +376,35 @@ static void counts_and_base(void)
     uint32_t tick;
     EXPECT(pf_open(&context), PF_OK);
     EXPECT(pf_peer_new(&context, floor_scene(&context), 0, 16, &peer), PF_OK);
-    EXPECT(pf_meter(&context, peer, &counts), PF_OK);
+    EXPECT(pf_peer_meter(&context, peer, &counts), PF_OK);
     EXPECT(counts.ticks, 0);
     EXPECT(counts.collides, 0);
-    EXPECT(pf_advance(&context, peer, 10, &tick), PF_OK);
-    EXPECT(pf_push(&context, peer, 1, UPRIGHT, &frame), PF_OK);
-    EXPECT(pf_advance(&context, peer, 10, &tick), PF_OK);
-    EXPECT(pf_settle(&context, peer, &tick), PF_OK);
-    EXPECT(pf_meter(&context, peer, &counts), PF_OK);
+    EXPECT(pf_peer_advance(&context, peer, 10, &tick), PF_OK);
+    EXPECT(pf_peer_push(&context, peer, 1, UPRIGHT, &frame), PF_OK);
+    EXPECT(pf_peer_advance(&context, peer, 10, &tick), PF_OK);
+    EXPECT(pf_peer_settle(&context, peer, &tick), PF_OK);
+    EXPECT(pf_peer_meter(&context, peer, &counts), PF_OK);
     EXPECT(counts.ticks, 20);
     EXPECT(counts.collides > 0, 1);
-    EXPECT(pf_world(&context, peer, 12, sealed, 3, contacts, 8, &sizes), PF_OK);
-    EXPECT(pf_seal(&context, peer, 12), PF_OK);
-    EXPECT(pf_base(&context, peer, bodies, 3, contacts, 8, &sizes), PF_OK);
+    EXPECT(pf_peer_world(&context, peer, 12, sealed, 3, contacts, 8, &sizes), PF_OK);
+    EXPECT(pf_peer_seal(&context, peer, 12), PF_OK);
+    EXPECT(pf_peer_base(&context, peer, bodies, 3, contacts, 8, &sizes), PF_OK);
     EXPECT(sizes.bodies, 3);
     EXPECT(memcmp(bodies, sealed, sizeof bodies), 0);
-    EXPECT(pf_base(&context, peer, bodies, 2, contacts, 8, &sizes), PF_SMALL_BUFFER);
+    EXPECT(pf_peer_base(&context, peer, bodies, 2, contacts, 8, &sizes), PF_SMALL_BUFFER);
     EXPECT(pf_close(&context), PF_OK);
 }
 
 /* Buffers of each pair of lengths: one that is too small stays as it was. */
-static void buffers(void)
-{
+static void buffers(void) {
     enum { MOST = 6 };
     pf_context context = {0};
     pf_peer peer;
     uint32_t settled;
     EXPECT(pf_open(&context), PF_OK);
     EXPECT(pf_peer_new(&context, floor_scene(&context), 0, 4, &peer), PF_OK);
-    EXPECT(pf_advance(&context, peer, 8, &settled), PF_OK);
-    EXPECT(pf_settle(&context, peer, &settled), PF_OK);
+    EXPECT(pf_peer_advance(&context, peer, 8, &settled), PF_OK);
+    EXPECT(pf_peer_settle(&context, peer, &settled), PF_OK);
     EXPECT(settled, 8);
     for (size_t b = 0; b <= MOST; b++)
         for (size_t c = 0; c <= MOST; c++) {
@@ -427,7 +415,7 @@ static void buffers(void)
             memset(untouched, 0x5a, sizeof untouched);
             memset(contacts, 0x5a, sizeof contacts);
             memset(none, 0x5a, sizeof none);
-            uint32_t code = pf_world(&context, peer, 8, bodies, b, contacts, c, &sizes);
+            uint32_t code = pf_peer_world(&context, peer, 8, bodies, b, contacts, c, &sizes);
             EXPECT(sizes.bodies, 3);
             EXPECT(sizes.contacts, 3);
             EXPECT(code, b < 3 || c < 3 ? PF_SMALL_BUFFER : PF_OK);
@@ -440,9 +428,53 @@ static void buffers(void)
     EXPECT(pf_close(&context), PF_OK);
 }
 
+/* A number at each limit of the header is allowed, and one beyond it is not. */
+static void limits(void) {
+    pf_context context = {0};
+    pf_scene scene;
+    pf_peer peer;
+    pf_frame frame;
+    uint64_t body;
+    uint32_t reached;
+    EXPECT(pf_open(&context), PF_OK);
+    for (int beyond = 0; beyond <= 1; beyond++) {
+        pf_code bad_number = beyond ? PF_SCENE_BAD_NUMBER : PF_OK;
+        pf_code bad_size = beyond ? PF_SCENE_BAD_SIZE : PF_OK;
+        pf_code bad_mass = beyond ? PF_SCENE_BAD_MASS : PF_OK;
+        pf_v2 gravity = {-PF_MAX_GRAVITY - beyond, 0}, at = {0, PF_MAX_POSITION + beyond};
+        pf_material heavy = {PF_MAX_MASS + beyond, 0, 0}, light = {PF_MIN_MASS - beyond, 0, 0};
+        pf_material rough = {PF_MIN_MASS, PF_MAX_FRICTION + beyond, 0};
+        pf_v2 half = {PF_MAX_SIZE + beyond, PF_MIN_SIZE - beyond};
+        EXPECT(pf_scene_new(&context, gravity, &scene), bad_number);
+        EXPECT(pf_scene_new(&context, ORIGIN, &scene), PF_OK);
+        EXPECT(pf_scene_add_circle(&context, scene, heavy, PF_ONE, ORIGIN, &body), bad_mass);
+        EXPECT(pf_scene_add_circle(&context, scene, light, PF_ONE, ORIGIN, &body), bad_mass);
+        EXPECT(pf_scene_add_circle(&context, scene, rough, PF_ONE, ORIGIN, &body), bad_number);
+        EXPECT(pf_scene_add_circle(&context, scene, STATIC, PF_ONE, at, &body), bad_number);
+        EXPECT(pf_scene_add_box(&context, scene, STATIC, half, ORIGIN, UPRIGHT, &body), bad_size);
+    }
+    EXPECT(pf_scene_add_circle(&context, scene, OF_PLAYER_0, PF_ONE, ORIGIN, &body), PF_OK);
+    EXPECT(pf_peer_new(&context, scene, 0, PF_MAX_RING + 1, &peer), PF_BAD_RING);
+    EXPECT(pf_peer_new(&context, scene, PF_MAX_PLAYERS, 1, &peer), PF_BAD_PLAYER);
+    EXPECT(pf_peer_new(&context, scene, PF_MAX_PLAYERS - 1, 1, &peer), PF_OK);
+    EXPECT(pf_peer_new(&context, scene, 0, PF_MAX_RING, &peer), PF_OK);
+    for (int beyond = 0; beyond <= 1; beyond++) {
+        pf_code code = beyond ? PF_BAD_NUMBER : PF_OK;
+        pf_v2 impulse = {0, -PF_MAX_IMPULSE - beyond}, at = {-PF_MAX_POSITION - beyond, 0};
+        EXPECT(pf_peer_push(&context, peer, 0, impulse, &frame), code);
+        EXPECT(pf_peer_turn(&context, peer, 0, PF_MAX_IMPULSE + beyond, &frame), code);
+        EXPECT(pf_peer_place(&context, peer, 0, at, &frame), code);
+    }
+    EXPECT(pf_peer_advance(&context, peer, PF_MAX_TICK, &reached), PF_OK);
+    EXPECT(pf_peer_advance(&context, peer, 1, &reached), PF_TICK_LIMIT);
+    for (int count = 1; count < PF_MAX_BODIES; count++)
+        EXPECT(pf_scene_add_circle(&context, scene, STATIC, PF_ONE, ORIGIN, &body), PF_OK);
+    EXPECT(pf_scene_add_circle(&context, scene, STATIC, PF_ONE, ORIGIN, &body), PF_SCENE_TOO_MANY);
+    EXPECT(pf_close(&context), PF_OK);
+}
+
 /* The name of each code, into arrays of each length. */
-static void names(void)
-{
+static void names(void) {
     static const struct {
         uint32_t code;
         const char *name;
@@ -455,10 +487,18 @@ static void names(void)
         {PF_BASES_DIFFER, "PF_BASES_DIFFER"},
         {PF_FRAME_NOT_CANONICAL, "PF_FRAME_NOT_CANONICAL"},
         {PF_NOT_OWNER, "PF_NOT_OWNER"},
-        {2, ""},
+        {PF_BAD_ROUNDING, "PF_BAD_ROUNDING"},
+        {11, ""},
         {PF_NOT_OWNER + 1, ""},
         {UINT32_MAX, ""},
     };
+    for (uint32_t code = 0; code <= PF_NOT_OWNER + 1; code++) {
+        char name[PF_NAME_LEN];
+        uint64_t needed;
+        EXPECT(pf_error_name(code, name, sizeof name, &needed), PF_OK);
+        EXPECT(strcmp(pf_code_name(code), name), 0);
+    }
+    EXPECT(pf_version(), PF_VERSION);
     for (size_t i = 0; i < sizeof NAMES / sizeof *NAMES; i++) {
         size_t needs = strlen(NAMES[i].name) + 1;
         EXPECT(needs <= PF_NAME_LEN, 1);
@@ -477,8 +517,8 @@ static void names(void)
     }
 }
 
-int main(void)
-{
+int main(void) {
+    limits();
     names();
     closed_contexts();
     keys();

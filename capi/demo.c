@@ -19,50 +19,44 @@ static const char SCENE[] = "gravity 0 0\n"
                             "circle 1 16777216 8388608 16777216 67108864 0\n"
                             "end\n";
 
-static void check(uint32_t code)
-{
+static void check(uint32_t code) {
     if (code != PF_OK) {
         fprintf(stderr, "demo: code %" PRIu32 "\n", code);
         exit(1);
     }
 }
 
-static void print_frame(int number, const pf_frame *frame)
-{
+static void print_frame(int number, const pf_frame *frame) {
     printf("issue %d ", number);
     for (size_t i = 0; i < PF_FRAME_LEN; i++)
         printf("%02x", frame->bytes[i]);
     printf("\n");
 }
 
-static void advance(pf_context *context, pf_peer peer, int number, uint32_t ticks)
-{
+static void advance(pf_context *context, pf_peer peer, int number, uint32_t ticks) {
     uint32_t reached;
-    check(pf_advance(context, peer, ticks, &reached));
+    check(pf_peer_advance(context, peer, ticks, &reached));
     printf("advance %d %" PRIu32 "\n", number, reached);
 }
 
-static void settle(pf_context *context, pf_peer peer, int number)
-{
+static void settle(pf_context *context, pf_peer peer, int number) {
     uint32_t settled;
-    check(pf_settle(context, peer, &settled));
+    check(pf_peer_settle(context, peer, &settled));
     printf("settle %d %" PRIu32 "\n", number, settled);
 }
 
-static void take(pf_context *context, pf_peer peer, int number, const pf_frame *frame)
-{
+static void take(pf_context *context, pf_peer peer, int number, const pf_frame *frame) {
     static const char *const names[] = {"new", "same", "greater", "lesser"};
     uint32_t put;
-    check(pf_take(context, peer, frame->bytes, PF_FRAME_LEN, &put));
+    check(pf_peer_take(context, peer, frame->bytes, PF_FRAME_LEN, &put));
     printf("take %d %s\n", number, names[put]);
 }
 
-static void show(pf_context *context, pf_peer peer, int number, uint32_t tick)
-{
+static void show(pf_context *context, pf_peer peer, int number, uint32_t tick) {
     pf_body bodies[BODIES];
     pf_contact contacts[CONTACTS];
     pf_sizes sizes;
-    check(pf_world(context, peer, tick, bodies, BODIES, contacts, CONTACTS, &sizes));
+    check(pf_peer_world(context, peer, tick, bodies, BODIES, contacts, CONTACTS, &sizes));
     printf("show %d %" PRIu32 "\n", number, tick);
     for (uint64_t i = 0; i < sizes.bodies; i++) {
         const pf_body *b = &bodies[i];
@@ -79,8 +73,7 @@ static void show(pf_context *context, pf_peer peer, int number, uint32_t tick)
     printf("end\n");
 }
 
-int main(void)
-{
+int main(void) {
     pf_context context = {0};
     pf_scene scene;
     pf_peer peers[2];
@@ -92,14 +85,14 @@ int main(void)
     for (uint8_t player = 0; player < 2; player++)
         check(pf_peer_new(&context, scene, player, RING, &peers[player]));
 
-    check(pf_push(&context, peers[0], 0, (pf_v2){6 * PF_ONE, 0}, &first));
+    check(pf_peer_push(&context, peers[0], 0, (pf_v2){6 * PF_ONE, 0}, &first));
     print_frame(0, &first);
     advance(&context, peers[0], 0, 20);
     settle(&context, peers[0], 0);
     show(&context, peers[0], 0, 20);
 
     advance(&context, peers[1], 1, 5);
-    check(pf_push(&context, peers[1], 1, (pf_v2){-2 * PF_ONE, PF_ONE / 4}, &second));
+    check(pf_peer_push(&context, peers[1], 1, (pf_v2){-2 * PF_ONE, PF_ONE / 4}, &second));
     print_frame(1, &second);
     advance(&context, peers[1], 1, 15);
     settle(&context, peers[1], 1);

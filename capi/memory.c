@@ -21,8 +21,7 @@ static long granted; /* the allocations that are granted; below 0: all are */
 static long live;    /* the blocks that are allocated */
 static int refusals; /* the calls of this match that ran out of memory */
 
-static int is_refused(void)
-{
+static int is_refused(void) {
     if (granted > 0)
         granted--;
     else if (granted == 0)
@@ -30,16 +29,14 @@ static int is_refused(void)
     return 0;
 }
 
-void *__wrap_malloc(size_t size)
-{
+void *__wrap_malloc(size_t size) {
     if (is_refused())
         return NULL;
     live++;
     return __real_malloc(size);
 }
 
-void *__wrap_realloc(void *old, size_t size)
-{
+void *__wrap_realloc(void *old, size_t size) {
     if (is_refused())
         return NULL;
     if (old == NULL)
@@ -47,15 +44,13 @@ void *__wrap_realloc(void *old, size_t size)
     return __real_realloc(old, size);
 }
 
-void __wrap_free(void *old)
-{
+void __wrap_free(void *old) {
     if (old != NULL)
         live--;
     __real_free(old);
 }
 
-static void fail(const char *call, uint32_t code)
-{
+static void fail(const char *call, uint32_t code) {
     printf("memory.c: %s: code %" PRIu32 "\n", call, code);
     exit(1);
 }
@@ -85,8 +80,7 @@ typedef struct result {
     pf_sizes sizes;
 } result;
 
-static void play(result *end)
-{
+static void play(result *end) {
     pf_context context = {0};
     pf_scene scene, made;
     pf_peer ours, theirs, watcher;
@@ -99,22 +93,23 @@ static void play(result *end)
     TRY(pf_open(&context));
     TRY(pf_scene_read(&context, (const uint8_t *)SCENE, strlen(SCENE), &scene, &number));
     TRY(pf_scene_new(&context, impulse, &made));
-    TRY(pf_circle(&context, made, material, PF_ONE, impulse, &number));
+    TRY(pf_scene_add_circle(&context, made, material, PF_ONE, impulse, &number));
     TRY(pf_peer_new(&context, scene, 0, 4, &ours));
     TRY(pf_peer_new(&context, scene, 1, 4, &theirs));
-    TRY(pf_push(&context, ours, 1, impulse, &frame));
-    TRY(pf_advance(&context, ours, 30, &tick));
-    TRY(pf_settle(&context, ours, &tick));
-    TRY(pf_advance(&context, theirs, 30, &tick));
-    TRY(pf_settle(&context, theirs, &tick));
-    TRY(pf_take(&context, theirs, frame.bytes, PF_FRAME_LEN, &tick));
-    TRY(pf_stop(&context, theirs, 2, &frame));
-    TRY(pf_merge(&context, ours, theirs, &number));
-    TRY(pf_settle(&context, theirs, &tick));
-    TRY(pf_seal(&context, theirs, 10));
+    TRY(pf_peer_push(&context, ours, 1, impulse, &frame));
+    TRY(pf_peer_advance(&context, ours, 30, &tick));
+    TRY(pf_peer_settle(&context, ours, &tick));
+    TRY(pf_peer_advance(&context, theirs, 30, &tick));
+    TRY(pf_peer_settle(&context, theirs, &tick));
+    TRY(pf_peer_take(&context, theirs, frame.bytes, PF_FRAME_LEN, &tick));
+    TRY(pf_peer_stop(&context, theirs, 2, &frame));
+    TRY(pf_peer_merge(&context, ours, theirs, &number));
+    TRY(pf_peer_settle(&context, theirs, &tick));
+    TRY(pf_peer_seal(&context, theirs, 10));
     TRY(pf_peer_new(&context, scene, 2, 4, &watcher));
-    TRY(pf_merge_alone(&context, watcher, theirs, &number));
-    TRY(pf_world(&context, theirs, 12, end->bodies, BODIES, end->contacts, CONTACTS, &end->sizes));
+    TRY(pf_peer_merge_alone(&context, watcher, theirs, &number));
+    TRY(pf_peer_world(&context, theirs, 12, end->bodies, BODIES, end->contacts, CONTACTS,
+                      &end->sizes));
     TRY(pf_close(&context));
 }
 
@@ -129,8 +124,7 @@ static void play(result *end)
     } while (0)
 
 /* What needs no memory succeeds where there is none. */
-static void spare(void)
-{
+static void spare(void) {
     pf_context context = {0};
     pf_scene scene;
     pf_peer ours, theirs;
@@ -143,28 +137,27 @@ static void spare(void)
     TRY(pf_scene_read(&context, (const uint8_t *)SCENE, strlen(SCENE), &scene, &number));
     TRY(pf_peer_new(&context, scene, 0, 4, &ours));
     TRY(pf_peer_new(&context, scene, 1, 4, &theirs));
-    TRY(pf_stop(&context, ours, 1, &frame));
-    TRY(pf_merge(&context, theirs, ours, &number));
-    SPARE(pf_advance(&context, ours, 10, &tick));
-    TRY(pf_settle(&context, ours, &tick));
-    SPARE(pf_settle(&context, ours, &tick));
-    SPARE(pf_take(&context, ours, frame.bytes, PF_FRAME_LEN, &tick));
-    SPARE(pf_merge(&context, theirs, ours, &number));
-    SPARE(pf_merge_alone(&context, theirs, ours, &number));
-    SPARE(pf_frames(&context, ours, 0, frames, 2, &number));
-    SPARE(pf_base(&context, ours, end.bodies, BODIES, end.contacts, CONTACTS, &end.sizes));
-    SPARE(pf_meter(&context, ours, &counts));
-    SPARE(pf_reached(&context, ours, &tick));
-    SPARE(pf_settled(&context, ours, &tick));
-    SPARE(pf_horizon(&context, ours, &tick));
-    SPARE(pf_seal(&context, ours, 0));
+    TRY(pf_peer_stop(&context, ours, 1, &frame));
+    TRY(pf_peer_merge(&context, theirs, ours, &number));
+    SPARE(pf_peer_advance(&context, ours, 10, &tick));
+    TRY(pf_peer_settle(&context, ours, &tick));
+    SPARE(pf_peer_settle(&context, ours, &tick));
+    SPARE(pf_peer_take(&context, ours, frame.bytes, PF_FRAME_LEN, &tick));
+    SPARE(pf_peer_merge(&context, theirs, ours, &number));
+    SPARE(pf_peer_merge_alone(&context, theirs, ours, &number));
+    SPARE(pf_peer_frames(&context, ours, 0, frames, 2, &number));
+    SPARE(pf_peer_base(&context, ours, end.bodies, BODIES, end.contacts, CONTACTS, &end.sizes));
+    SPARE(pf_peer_meter(&context, ours, &counts));
+    SPARE(pf_peer_reached(&context, ours, &tick));
+    SPARE(pf_peer_settled(&context, ours, &tick));
+    SPARE(pf_peer_horizon(&context, ours, &tick));
+    SPARE(pf_peer_seal(&context, ours, 0));
     SPARE(pf_scene_free(&context, scene));
     SPARE(pf_peer_free(&context, theirs));
     SPARE(pf_close(&context));
 }
 
-int main(void)
-{
+int main(void) {
     result expected, actual;
     granted = -1;
     spare();

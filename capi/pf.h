@@ -2,7 +2,7 @@
  *
  * Peers made of the same scene that have taken the same commands show the same worlds, bit for bit:
  * however late, in which order and how often the frames of the commands came. A peer refuses a
- * frame for a tick before its horizon (pf_seal).
+ * frame for a tick before its horizon (pf_peer_seal).
  *
  * Units. Numbers are whole numbers in units of 2^-24, so 1 is PF_ONE: positions, sizes, masses,
  * coefficients of friction, the cosine and sine of a rotation; velocities, in lengths per second;
@@ -24,12 +24,14 @@
  *     different contexts need none;
  *  4. no call comes from a signal handler, or from the child of a fork of a program with threads,
  *     and none is left before it returns, by longjmp or by cancelling its thread;
- *  5. malloc, realloc and free are those of one allocator, and may be called from any thread.
+ *  5. malloc, realloc and free are those of one allocator, and may be called from any thread;
+ *  6. the processor rounds to the nearest, as it does unless fesetround says otherwise: in another
+ *     mode worlds are others. pf_open and pf_peer_new see that, and return PF_BAD_ROUNDING.
  *
  * Each call returns PF_OK, or why it failed. A call that fails changes nothing but what is said
- * below of pf_settle and pf_seal. It leaves its outputs, the last parameters, as they were, but for
- * the line of pf_scene_read, and for what an array that is too small would need. No call starts a
- * thread or waits.
+ * below of pf_peer_settle and pf_peer_seal. It leaves its outputs, the last parameters, as they
+ * were, but for the line of pf_scene_read, and for what an array that is too small would need. No
+ * call starts a thread or waits.
  */
 #ifndef PF_H
 #define PF_H
@@ -42,20 +44,42 @@
 extern "C" {
 #endif
 
-#define PF_ONE INT64_C(16777216) /* 1, in units of 2^-24 */
-#define PF_FRAME_LEN 27          /* the bytes of a command */
-#define PF_NOBODY 255            /* the owner of a body that no player may move */
-#define PF_NAME_LEN 32           /* bytes that the name of each code fits into */
+/* The version of this header. pf_version returns that of the library. */
+#define PF_VERSION_MAJOR 0
+#define PF_VERSION_MINOR 1
+#define PF_VERSION_PATCH 0
+#define PF_VERSION (PF_VERSION_MAJOR << 16 | PF_VERSION_MINOR << 8 | PF_VERSION_PATCH)
 
-/* The codes. */
-enum {
+#define PF_ONE INT64_C(16777216) /* 1, in units of 2^-24 */
+#define PF_TICKS_PER_SECOND 64
+#define PF_FRAME_LEN 27 /* the bytes of a command */
+#define PF_NOBODY 255   /* the owner of a body that no player may move */
+#define PF_NAME_LEN 32  /* bytes that the name of each code fits into */
+
+/* Limits, of numbers in units of 2^-24. A negative number is at least the limit's negative. */
+#define PF_MAX_BODIES 1024
+#define PF_MAX_PLAYERS 8
+#define PF_MAX_RING 64
+#define PF_MAX_TICK 1048576
+#define PF_MIN_SIZE (INT64_C(1) << 20) /* of radii and half extents */
+#define PF_MAX_SIZE (INT64_C(1) << 34)
+#define PF_MIN_MASS (INT64_C(1) << 20) /* of a body that is not static */
+#define PF_MAX_MASS (INT64_C(1) << 34)
+#define PF_MAX_FRICTION (INT64_C(1) << 26)
+#define PF_MAX_POSITION (INT64_C(1) << 44)
+#define PF_MAX_GRAVITY (INT64_C(1) << 34)
+#define PF_MAX_IMPULSE ((INT64_C(1) << 55) - 1)
+
+/* What a call returns: PF_OK, or why it failed. */
+typedef enum pf_code {
     PF_OK = 0,
     PF_OUT_OF_MEMORY = 1,
+    PF_BAD_ROUNDING = 2, /* the processor does not round to the nearest */
     PF_CLOSED = 3,       /* the context is closed */
     PF_BAD_KEY = 4,      /* the key names nothing here */
     PF_SMALL_BUFFER = 5, /* a buffer is too small, and nothing was written to it */
-    PF_BAD_PLAYER = 6,   /* the player is not below 8 */
-    PF_BAD_RING = 7,     /* the ring is not from 1 to 64 */
+    PF_BAD_PLAYER = 6,   /* the player is not below PF_MAX_PLAYERS */
+    PF_BAD_RING = 7,     /* the ring is not from 1 to PF_MAX_RING */
     PF_BAD_NUMBER = 8,   /* a number of a command is out of its range */
     PF_STILL_OPEN = 9,   /* the context is open already */
     PF_FULL = 10,        /* the context has no key left */
@@ -63,12 +87,12 @@ enum {
     /* What is wrong with a scene. */
     PF_SCENE_BAD_LINE = 16,   /* not a line that may stand here */
     PF_SCENE_BAD_NUMBER = 17, /* a number is out of its range */
-    PF_SCENE_TOO_MANY = 18,   /* the scene has 1,024 bodies already */
-    PF_SCENE_BAD_MASS = 19,   /* a mass is neither 0 nor from 2^20 to 2^34 */
+    PF_SCENE_TOO_MANY = 18,   /* the scene has PF_MAX_BODIES bodies already */
+    PF_SCENE_BAD_MASS = 19,   /* a mass is neither 0 nor from PF_MIN_MASS to PF_MAX_MASS */
     PF_SCENE_BAD_SIZE = 20,   /* a radius or half extent is out of its range */
 
     /* Why a peer refuses a call. */
-    PF_TICK_LIMIT = 32,      /* no tick is above 1,048,576 */
+    PF_TICK_LIMIT = 32,      /* no tick is above PF_MAX_TICK */
     PF_NUMBERS_SPENT = 33,   /* the player has no number left for a command at this tick */
     PF_NOT_REACHED = 34,     /* the peer has not reached the tick */
     PF_TOO_OLD = 35,         /* the tick is before the peer's horizon */
@@ -86,16 +110,20 @@ enum {
     /* Why the peer's scene does not allow a command. */
     PF_UNKNOWN_BODY = 64, /* the scene has no body of this number */
     PF_STATIC_BODY = 65,  /* the body is static */
-    PF_NOT_OWNER = 66     /* the body is of another player, or of nobody */
-};
+    PF_NOT_OWNER = 66,    /* the body is of another player, or of nobody */
 
-/* What pf_take did. */
-enum {
+    PF_CODE_IS_32_BITS = 0x7fffffff /* no code: with it the type has 32 bits in each compiler */
+} pf_code;
+
+/* What pf_peer_take did. */
+typedef enum pf_put {
     PF_NEW = 0,     /* the peer did not hold a command of this name */
     PF_SAME = 1,    /* it held this one already */
     PF_GREATER = 2, /* it held another one of this name, which gave way to this one */
-    PF_LESSER = 3   /* it held another one of this name, which stays */
-};
+    PF_LESSER = 3,  /* it held another one of this name, which stays */
+
+    PF_PUT_IS_32_BITS = 0x7fffffff
+} pf_put;
 
 /* A context. Its members are not for the caller. */
 typedef struct pf_context {
@@ -124,8 +152,8 @@ typedef struct pf_v2 {
 
 /* What a body is beside its shape. */
 typedef struct pf_material {
-    int64_t mass;     /* 0 of a static body, or from 2^20 to 2^34 */
-    int64_t friction; /* the coefficient of friction, from 0 to 2^26 */
+    int64_t mass;     /* 0 of a static body, or from PF_MIN_MASS to PF_MAX_MASS */
+    int64_t friction; /* the coefficient of friction, from 0 to PF_MAX_FRICTION */
     uint8_t owner;    /* the player who may move it, or PF_NOBODY */
 } pf_material;
 
@@ -136,12 +164,12 @@ typedef struct pf_frame {
 
 /* A body of a world. */
 typedef struct pf_body {
-    int64_t x, y;    /* the position of its centre */
-    int64_t c, s;    /* the cosine and sine of its rotation */
-    int64_t vx, vy;  /* its velocity */
-    int64_t spin;    /* its angular velocity */
-    uint32_t timer;  /* for how many ticks it has been still; 0 where it is asleep */
-    uint32_t awake;  /* 1 where it is simulated, 0 where it is static or asleep */
+    int64_t x, y;   /* the position of its centre */
+    int64_t c, s;   /* the cosine and sine of its rotation */
+    int64_t vx, vy; /* its velocity */
+    int64_t spin;   /* its angular velocity */
+    uint32_t timer; /* for how many ticks it has been still; 0 where it is asleep */
+    uint32_t awake; /* 1 where it is simulated, 0 where it is static or asleep */
 } pf_body;
 
 /* A contact of a world: two bodies by their numbers, the feature that makes the point, and the
@@ -164,116 +192,123 @@ typedef struct pf_counts {
     uint64_t collides; /* the pairs of bodies whose contact points could not be reused */
 } pf_counts;
 
-/* Writes the name of a code, as "PF_BAD_KEY", with a zero behind it, to the front of an array, and
- * how many bytes that takes: also where the call returns PF_SMALL_BUFFER. The name of a number that
- * is no code is empty. */
-uint32_t pf_error_name(uint32_t code, char *name, size_t name_length, uint64_t *needed);
+/* The version of the library, as PF_VERSION has that of the header: 0.1.0 is 0x000100. */
+uint32_t pf_version(void);
+
+/* The name of a code, as "PF_BAD_KEY". That of a number that is no code is empty. */
+const char *pf_code_name(uint32_t code);
+
+/* Writes the name of a code, with a zero behind it, to the front of an array, and how many bytes
+ * that takes: also where the call returns PF_SMALL_BUFFER. For languages that pass arrays. */
+pf_code pf_error_name(uint32_t code, char *name, size_t name_length, uint64_t *needed);
 
 /* --- Contexts ------------------------------------------------------------------------------- */
 
 /* Opens a context that is closed. It has no scenes and no peers. */
-uint32_t pf_open(pf_context *context);
+pf_code pf_open(pf_context *context);
 
 /* Closes a context, and frees all that it holds. It may be opened again; then the keys of before
  * are made-up keys. */
-uint32_t pf_close(pf_context *context);
+pf_code pf_close(pf_context *context);
 
 /* --- Scenes --------------------------------------------------------------------------------- */
 
 /* Reads a scene from a text (docs/FORMATS.md). Where a line is invalid, the call returns a
  * PF_SCENE_ code and writes the line's number, counted from 1, to `line`. */
-uint32_t pf_scene_read(pf_context *context, const uint8_t *text, size_t length, pf_scene *scene,
-                       uint64_t *line);
+pf_code pf_scene_read(pf_context *context, const uint8_t *text, size_t length, pf_scene *scene,
+                      uint64_t *line);
 
-/* Makes a scene without bodies. Gravity is from -2^34 to 2^34 on each axis. */
-uint32_t pf_scene_new(pf_context *context, pf_v2 gravity, pf_scene *scene);
+/* Makes a scene without bodies. Gravity is at most PF_MAX_GRAVITY on each axis. */
+pf_code pf_scene_new(pf_context *context, pf_v2 gravity, pf_scene *scene);
 
-/* Adds a circle to a scene: its radius is from 2^20 to 2^34, its position from -2^44 to 2^44 on
- * each axis. Bodies are numbered from 0. A peer that is made later has it, one that was made
- * before has not. */
-uint32_t pf_circle(pf_context *context, pf_scene scene, pf_material material, int64_t radius,
-                   pf_v2 position, uint64_t *body);
+/* Adds a circle to a scene: its radius is from PF_MIN_SIZE to PF_MAX_SIZE, its position at most
+ * PF_MAX_POSITION on each axis. Bodies are numbered from 0. A peer that is made later has it, one
+ * that was made before has not. */
+pf_code pf_scene_add_circle(pf_context *context, pf_scene scene, pf_material material,
+                            int64_t radius, pf_v2 position, uint64_t *body);
 
-/* Adds a box of these half extents, each from 2^20 to 2^34, turned into this direction, each part
- * of which is from -PF_ONE to PF_ONE: {PF_ONE, 0} is upright, and so is {0, 0}. */
-uint32_t pf_box(pf_context *context, pf_scene scene, pf_material material, pf_v2 half,
-                pf_v2 position, pf_v2 direction, uint64_t *body);
+/* Adds a box of these half extents, each from PF_MIN_SIZE to PF_MAX_SIZE, turned into this
+ * direction, each part of which is from -PF_ONE to PF_ONE: {PF_ONE, 0} is upright, and so is
+ * {0, 0}. */
+pf_code pf_scene_add_box(pf_context *context, pf_scene scene, pf_material material, pf_v2 half,
+                         pf_v2 position, pf_v2 direction, uint64_t *body);
 
 /* Frees a scene. Peers have copies, and stay. */
-uint32_t pf_scene_free(pf_context *context, pf_scene scene);
+pf_code pf_scene_free(pf_context *context, pf_scene scene);
 
 /* --- Peers ---------------------------------------------------------------------------------- */
 
 /* Makes a peer of a scene, at tick 0. All players of a match begin with the same scene. `ring` is
- * how many of the last settled worlds it keeps, from 1 to 64: a frame that is late by fewer ticks
- * costs only the ticks since its own. */
-uint32_t pf_peer_new(pf_context *context, pf_scene scene, uint8_t player, uint32_t ring,
-                     pf_peer *peer);
+ * how many of the last settled worlds it keeps, from 1 to PF_MAX_RING: a frame that is late by
+ * fewer ticks costs only the ticks since its own. */
+pf_code pf_peer_new(pf_context *context, pf_scene scene, uint8_t player, uint32_t ring,
+                    pf_peer *peer);
 
 /* Frees a peer. */
-uint32_t pf_peer_free(pf_context *context, pf_peer peer);
+pf_code pf_peer_free(pf_context *context, pf_peer peer);
 
 /* --- Commands ------------------------------------------------------------------------------- */
 
 /* Issue a command of the peer's player at the tick that the peer has reached, and write the frame
- * to send to all others. It acts in the tick that the next pf_advance adds. Impulses are above
- * -2^55 and below 2^55, positions from -2^44 to 2^44; a number beyond is PF_BAD_NUMBER, also where
- * the peer's key names nothing. */
-uint32_t pf_push(pf_context *context, pf_peer peer, uint16_t body, pf_v2 impulse, pf_frame *frame);
-uint32_t pf_turn(pf_context *context, pf_peer peer, uint16_t body, int64_t impulse,
-                 pf_frame *frame);
-uint32_t pf_stop(pf_context *context, pf_peer peer, uint16_t body, pf_frame *frame);
-uint32_t pf_place(pf_context *context, pf_peer peer, uint16_t body, pf_v2 position,
-                  pf_frame *frame);
+ * to send to all others. It acts in the tick that the next pf_peer_advance adds. Impulses are at
+ * most PF_MAX_IMPULSE, positions at most PF_MAX_POSITION; a number beyond is PF_BAD_NUMBER, also
+ * where the peer's key names nothing. */
+pf_code pf_peer_push(pf_context *context, pf_peer peer, uint16_t body, pf_v2 impulse,
+                     pf_frame *frame);
+pf_code pf_peer_turn(pf_context *context, pf_peer peer, uint16_t body, int64_t impulse,
+                     pf_frame *frame);
+pf_code pf_peer_stop(pf_context *context, pf_peer peer, uint16_t body, pf_frame *frame);
+pf_code pf_peer_place(pf_context *context, pf_peer peer, uint16_t body, pf_v2 position,
+                      pf_frame *frame);
 
 /* Takes a frame that has come, late or not, and writes what it did: PF_NEW to PF_LESSER. The player
  * that the frame names is believed, and a frame for any later tick is kept: a game that does not
  * trust its peers tests both, and limits how many frames it takes. */
-uint32_t pf_take(pf_context *context, pf_peer peer, const uint8_t *frame, size_t length,
-                 uint32_t *put);
+pf_code pf_peer_take(pf_context *context, pf_peer peer, const uint8_t *frame, size_t length,
+                     pf_put *put);
 
 /* Takes all commands that another peer of the context holds, and writes how many changed the
  * peer. It is refused unless both have sealed the same tick, with the same world there. */
-uint32_t pf_merge(pf_context *context, pf_peer peer, pf_peer other, uint64_t *count);
+pf_code pf_peer_merge(pf_context *context, pf_peer peer, pf_peer other, uint64_t *count);
 
 /* The same, whatever the other peer has sealed: refused where it holds a command for a tick before
  * the horizon of this one, or one that this one's scene does not allow. What the other peer has
  * dropped does not come. */
-uint32_t pf_merge_alone(pf_context *context, pf_peer peer, pf_peer other, uint64_t *count);
+pf_code pf_peer_merge_alone(pf_context *context, pf_peer peer, pf_peer other, uint64_t *count);
 
 /* Writes the frames of the commands that the peer holds for this tick and later ones, of all
  * players, by tick, player and number, to the front of an array, and writes how many they are:
  * also where the call returns PF_SMALL_BUFFER. They are all that a replay needs, if nothing was
  * sealed. */
-uint32_t pf_frames(pf_context *context, pf_peer peer, uint32_t tick, pf_frame *frames,
-                   size_t frames_length, uint64_t *count);
+pf_code pf_peer_frames(pf_context *context, pf_peer peer, uint32_t tick, pf_frame *frames,
+                       size_t frames_length, uint64_t *count);
 
 /* --- Ticks ---------------------------------------------------------------------------------- */
 
 /* Goes on by some ticks, simulates nothing, and writes the tick that the peer has reached. */
-uint32_t pf_advance(pf_context *context, pf_peer peer, uint32_t ticks, uint32_t *reached);
+pf_code pf_peer_advance(pf_context *context, pf_peer peer, uint32_t ticks, uint32_t *reached);
 
 /* Simulates up to the reached tick, and writes it. After PF_OUT_OF_MEMORY the ticks before stay
  * settled, and a later call goes on from there. */
-uint32_t pf_settle(pf_context *context, pf_peer peer, uint32_t *settled);
+pf_code pf_peer_settle(pf_context *context, pf_peer peer, uint32_t *settled);
 
 /* Seals a tick that the peer has reached: what came before it is forgotten, and frames of before
  * are refused from then on. It may simulate up to the tick: after PF_OUT_OF_MEMORY only the counts
- * of pf_meter have changed. */
-uint32_t pf_seal(pf_context *context, pf_peer peer, uint32_t tick);
+ * of pf_peer_meter have changed. */
+pf_code pf_peer_seal(pf_context *context, pf_peer peer, uint32_t tick);
 
 /* Writes the tick that the peer has reached. */
-uint32_t pf_reached(pf_context *context, pf_peer peer, uint32_t *tick);
+pf_code pf_peer_reached(pf_context *context, pf_peer peer, uint32_t *tick);
 
 /* Writes the greatest tick whose world the peer keeps. */
-uint32_t pf_settled(pf_context *context, pf_peer peer, uint32_t *tick);
+pf_code pf_peer_settled(pf_context *context, pf_peer peer, uint32_t *tick);
 
 /* Writes the peer's horizon: the tick that it has sealed, at first 0. */
-uint32_t pf_horizon(pf_context *context, pf_peer peer, uint32_t *tick);
+pf_code pf_peer_horizon(pf_context *context, pf_peer peer, uint32_t *tick);
 
 /* Writes how much work was done to settle and to seal ticks: a late frame that cost more than it
  * should shows here. */
-uint32_t pf_meter(pf_context *context, pf_peer peer, pf_counts *counts);
+pf_code pf_peer_meter(pf_context *context, pf_peer peer, pf_counts *counts);
 
 /* --- Worlds --------------------------------------------------------------------------------- */
 
@@ -281,14 +316,37 @@ uint32_t pf_meter(pf_context *context, pf_peer peer, pf_counts *counts);
  * of two arrays, and writes how many bodies and contacts it has: also where the call returns
  * PF_SMALL_BUFFER. A kept world costs a copy, another one its simulation from the kept world before
  * it. */
-uint32_t pf_world(pf_context *context, pf_peer peer, uint32_t tick, pf_body *bodies,
-                  size_t bodies_length, pf_contact *contacts, size_t contacts_length,
-                  pf_sizes *sizes);
+pf_code pf_peer_world(pf_context *context, pf_peer peer, uint32_t tick, pf_body *bodies,
+                      size_t bodies_length, pf_contact *contacts, size_t contacts_length,
+                      pf_sizes *sizes);
 
-/* Writes the world at the peer's horizon, as pf_world does, but simulates nothing and takes no
+/* Writes the world at the peer's horizon, as pf_peer_world does, but simulates nothing and takes no
  * memory. */
-uint32_t pf_base(pf_context *context, pf_peer peer, pf_body *bodies, size_t bodies_length,
-                 pf_contact *contacts, size_t contacts_length, pf_sizes *sizes);
+pf_code pf_peer_base(pf_context *context, pf_peer peer, pf_body *bodies, size_t bodies_length,
+                     pf_contact *contacts, size_t contacts_length, pf_sizes *sizes);
+
+/* Older names of these calls, for one release. */
+#ifndef PF_NO_OLD_NAMES
+#define pf_circle pf_scene_add_circle
+#define pf_box pf_scene_add_box
+#define pf_push pf_peer_push
+#define pf_turn pf_peer_turn
+#define pf_stop pf_peer_stop
+#define pf_place pf_peer_place
+#define pf_take pf_peer_take
+#define pf_merge pf_peer_merge
+#define pf_merge_alone pf_peer_merge_alone
+#define pf_frames pf_peer_frames
+#define pf_advance pf_peer_advance
+#define pf_settle pf_peer_settle
+#define pf_seal pf_peer_seal
+#define pf_reached pf_peer_reached
+#define pf_settled pf_peer_settled
+#define pf_horizon pf_peer_horizon
+#define pf_meter pf_peer_meter
+#define pf_world pf_peer_world
+#define pf_base pf_peer_base
+#endif
 
 #ifdef __cplusplus
 }

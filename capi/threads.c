@@ -23,8 +23,7 @@ typedef struct match {
     pf_contact contacts[CONTACTS];
 } match;
 
-static uint32_t build(match *match)
-{
+static uint32_t build(match *match) {
     const pf_material material = {PF_ONE, PF_ONE / 2, 0}, rock = {0, PF_ONE / 2, PF_NOBODY};
     const pf_v2 upright = {PF_ONE, 0}, half = {PF_ONE, PF_ONE}, floor = {40 * PF_ONE, PF_ONE};
     const pf_v2 down = {0, -10 * PF_ONE}, under = {0, -PF_ONE};
@@ -36,19 +35,18 @@ static uint32_t build(match *match)
         return code;
     if ((code = pf_scene_new(context, down, &scene)) != PF_OK)
         return code;
-    if ((code = pf_box(context, scene, rock, floor, under, upright, &body)) != PF_OK)
+    if ((code = pf_scene_add_box(context, scene, rock, floor, under, upright, &body)) != PF_OK)
         return code;
     for (int64_t i = 1; i < BODIES; i++) {
         pf_v2 at = {i % 3 * (PF_ONE / 8), (3 * i - 2) * PF_ONE};
-        if ((code = pf_box(context, scene, material, half, at, upright, &body)) != PF_OK)
+        if ((code = pf_scene_add_box(context, scene, material, half, at, upright, &body)) != PF_OK)
             return code;
     }
     return pf_peer_new(context, scene, 0, 8, &match->peer);
 }
 
 /* One tick. The first opens the context, and the last reads the world and closes it. */
-static uint32_t play_tick(match *match)
-{
+static uint32_t play_tick(match *match) {
     pf_context *context = &match->context;
     pf_frame frame;
     uint32_t code, i = match->tick;
@@ -57,26 +55,22 @@ static uint32_t play_tick(match *match)
     if (i % 50 == 0) {
         pf_v2 impulse = {PF_ONE, 2 * PF_ONE};
         uint16_t body = (uint16_t)(1 + i / 50);
-        if ((code = pf_push(context, match->peer, body, impulse, &frame)) != PF_OK)
+        if ((code = pf_peer_push(context, match->peer, body, impulse, &frame)) != PF_OK)
             return code;
     }
-    if ((code = pf_advance(context, match->peer, 1, &match->tick)) != PF_OK)
+    if ((code = pf_peer_advance(context, match->peer, 1, &match->tick)) != PF_OK)
         return code;
-    if ((code = pf_settle(context, match->peer, &match->tick)) != PF_OK || match->tick < TICKS)
+    if ((code = pf_peer_settle(context, match->peer, &match->tick)) != PF_OK || match->tick < TICKS)
         return code;
-    code = pf_world(context, match->peer, TICKS, match->bodies, BODIES, match->contacts, CONTACTS,
-                    &match->sizes);
+    code = pf_peer_world(context, match->peer, TICKS, match->bodies, BODIES, match->contacts,
+                         CONTACTS, &match->sizes);
     return code == PF_OK ? pf_close(context) : code;
 }
 
-static bool is_on(const match *match)
-{
-    return match->code == PF_OK && match->tick < TICKS;
-}
+static bool is_on(const match *match) { return match->code == PF_OK && match->tick < TICKS; }
 
 /* Plays to the end. */
-static void *play_all(void *argument)
-{
+static void *play_all(void *argument) {
     match *match = argument;
     while (is_on(match))
         match->code = play_tick(match);
@@ -84,8 +78,7 @@ static void *play_all(void *argument)
 }
 
 /* Plays a part of it. */
-static void *play_part(void *argument)
-{
+static void *play_part(void *argument) {
     match *match = argument;
     for (int i = 0; i < TICKS / THREADS && is_on(match); i++)
         match->code = play_tick(match);
@@ -93,8 +86,7 @@ static void *play_part(void *argument)
 }
 
 /* Plays to the end, beside others. */
-static void *play_beside(void *argument)
-{
+static void *play_beside(void *argument) {
     match *match = argument;
     bool on = true;
     while (on) {
@@ -107,8 +99,7 @@ static void *play_beside(void *argument)
     return NULL;
 }
 
-static bool is_same(const char *how, const match *match, const struct match *other)
-{
+static bool is_same(const char *how, const match *match, const struct match *other) {
     bool same = match->code == PF_OK && match->tick == TICKS &&
                 memcmp(&match->sizes, &other->sizes, sizeof match->sizes) == 0 &&
                 memcmp(match->bodies, other->bodies, sizeof match->bodies) == 0 &&
@@ -119,8 +110,7 @@ static bool is_same(const char *how, const match *match, const struct match *oth
     return same;
 }
 
-int main(void)
-{
+int main(void) {
     static match own[THREADS], moved, shared;
     pthread_t threads[THREADS];
     bool same = true;

@@ -52,8 +52,7 @@ typedef struct player {
     unsigned lost, doubled, swapped, late;
 } player;
 
-static void check(uint32_t code, const char *call)
-{
+static void check(uint32_t code, const char *call) {
     if (code != PF_OK) {
         fprintf(stderr, "udp: %s: code %" PRIu32 "\n", call, code);
         exit(1);
@@ -68,8 +67,7 @@ static const char SCENE[] = "gravity 0 -167772160\n"
                             "circle 1 16777216 8388608 16777216 100663296 16777216\n"
                             "end\n";
 
-static void open_match(player *self)
-{
+static void open_match(player *self) {
     pf_scene scene;
     uint64_t line;
     CHECK(pf_open(&self->context));
@@ -77,8 +75,7 @@ static void open_match(player *self)
     CHECK(pf_peer_new(&self->context, scene, (uint8_t)self->number, RING, &self->peer));
 }
 
-static void open_socket(player *self, const char *port, const char *other_port)
-{
+static void open_socket(player *self, const char *port, const char *other_port) {
     struct sockaddr_in own = {.sin_family = AF_INET}, other = {.sin_family = AF_INET};
     own.sin_port = htons((uint16_t)atoi(port));
     other.sin_port = htons((uint16_t)atoi(other_port));
@@ -92,15 +89,13 @@ static void open_socket(player *self, const char *port, const char *other_port)
 }
 
 /* True once in so many times. */
-static bool happens(player *self, uint32_t once_in)
-{
+static bool happens(player *self, uint32_t once_in) {
     self->random = self->random * 1664525 + 1013904223;
     return (self->random >> 16) % once_in == 0;
 }
 
 /* How many of the other player's frames have come, from the first one on. */
-static uint32_t come(const player *self)
-{
+static uint32_t come(const player *self) {
     uint32_t count = 0;
     while (count < FRAMES && self->has_come[count])
         count++;
@@ -108,15 +103,13 @@ static uint32_t come(const player *self)
 }
 
 /* A packet that cannot be sent is a packet that is lost. */
-static void put_on_the_wire(player *self, const struct packet *packet, size_t length)
-{
+static void put_on_the_wire(player *self, const struct packet *packet, size_t length) {
     if (send(self->socket, packet, length, 0) < 0)
         self->lost++;
 }
 
 /* Sends the frames that are not confirmed; or loses the packet, doubles it, or holds it back. */
-static void send_frames(player *self)
-{
+static void send_frames(player *self) {
     uint32_t count = self->issued_count - self->confirmed;
     size_t length = HEADER + count * sizeof(pf_frame);
     struct packet packet = {htonl(come(self)), htonl(self->confirmed), {{{0}}}};
@@ -143,15 +136,14 @@ static void send_frames(player *self)
 }
 
 /* Takes the frames of a packet. */
-static void take_frames(player *self, const struct packet *packet, size_t count)
-{
+static void take_frames(player *self, const struct packet *packet, size_t count) {
     uint32_t settled, put, first = ntohl(packet->first), confirmed = ntohl(packet->confirmed);
     if (confirmed > self->confirmed && confirmed <= self->issued_count)
         self->confirmed = confirmed;
-    CHECK(pf_settled(&self->context, self->peer, &settled));
+    CHECK(pf_peer_settled(&self->context, self->peer, &settled));
     for (uint32_t i = 0; i < count && first < FRAMES && first + i < FRAMES; i++) {
         const pf_frame *frame = &packet->frames[i];
-        CHECK(pf_take(&self->context, self->peer, frame->bytes, PF_FRAME_LEN, &put));
+        CHECK(pf_peer_take(&self->context, self->peer, frame->bytes, PF_FRAME_LEN, &put));
         self->has_come[first + i] = true;
         if (put == PF_NEW && (first + i) * PUSH_EVERY < settled)
             self->late++;
@@ -159,8 +151,7 @@ static void take_frames(player *self, const struct packet *packet, size_t count)
 }
 
 /* Takes what comes within a tick's time. */
-static void receive_frames(player *self)
-{
+static void receive_frames(player *self) {
     struct pollfd ready = {.fd = self->socket, .events = POLLIN};
     while (poll(&ready, 1, MILLISECONDS) > 0) {
         struct packet packet;
@@ -172,22 +163,21 @@ static void receive_frames(player *self)
     }
 }
 
-static void play_tick(player *self, uint32_t tick)
-{
+static void play_tick(player *self, uint32_t tick) {
     uint32_t number;
     if (tick % PUSH_EVERY == 0) {
         int64_t towards = self->number == 0 ? PF_ONE : -PF_ONE;
         pf_frame *frame = &self->issued[self->issued_count++];
         pf_v2 impulse = {towards, tick % 3 * PF_ONE};
-        CHECK(pf_push(&self->context, self->peer, (uint16_t)(1 + self->number), impulse, frame));
+        CHECK(
+            pf_peer_push(&self->context, self->peer, (uint16_t)(1 + self->number), impulse, frame));
     }
-    CHECK(pf_advance(&self->context, self->peer, 1, &number));
-    CHECK(pf_settle(&self->context, self->peer, &number));
+    CHECK(pf_peer_advance(&self->context, self->peer, 1, &number));
+    CHECK(pf_peer_settle(&self->context, self->peer, &number));
 }
 
 /* Sends and receives until both players have all frames. */
-static void exchange_the_rest(player *self)
-{
+static void exchange_the_rest(player *self) {
     int tries = 0, last = LAST_PACKETS;
     while (last > 0) {
         if (tries++ == TRIES) {
@@ -201,23 +191,21 @@ static void exchange_the_rest(player *self)
     }
 }
 
-static void print_world(player *self)
-{
+static void print_world(player *self) {
     pf_body bodies[BODIES];
     pf_contact contacts[CONTACTS];
     pf_sizes sizes;
     uint32_t settled;
-    CHECK(pf_settle(&self->context, self->peer, &settled));
-    CHECK(pf_world(&self->context, self->peer, settled, bodies, BODIES, contacts, CONTACTS,
-                   &sizes));
+    CHECK(pf_peer_settle(&self->context, self->peer, &settled));
+    CHECK(pf_peer_world(&self->context, self->peer, settled, bodies, BODIES, contacts, CONTACTS,
+                        &sizes));
     printf("tick %" PRIu32 "\n", settled);
     for (uint64_t i = 0; i < sizes.bodies; i++)
         printf("body %" PRIu64 " at %" PRId64 " %" PRId64 ", velocity %" PRId64 " %" PRId64 "\n", i,
                bodies[i].x, bodies[i].y, bodies[i].vx, bodies[i].vy);
 }
 
-int main(int count, char **arguments)
-{
+int main(int count, char **arguments) {
     static player self;
     if (count != 4) {
         fprintf(stderr, "udp PLAYER PORT OTHER_PORT\n");

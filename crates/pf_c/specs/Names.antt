@@ -7,6 +7,7 @@ unfoldable pub code_name : ℕ → List ℕ
 code_name code =
     if code == 0 then codes "PF_OK" else (
     if code == 1 then codes "PF_OUT_OF_MEMORY" else (
+    if code == 2 then codes "PF_BAD_ROUNDING" else (
     if code == 3 then codes "PF_CLOSED" else (
     if code == 4 then codes "PF_BAD_KEY" else (
     if code == 5 then codes "PF_SMALL_BUFFER" else (
@@ -34,7 +35,7 @@ code_name code =
     if code == 53 then codes "PF_FRAME_OUT_OF_RANGE" else (
     if code == 64 then codes "PF_UNKNOWN_BODY" else (
     if code == 65 then codes "PF_STATIC_BODY" else (
-    if code == 66 then codes "PF_NOT_OWNER" else ([]))))))))))))))))))))))))))))))
+    if code == 66 then codes "PF_NOT_OWNER" else ([])))))))))))))))))))))))))))))))
 
 -- a text with a zero behind it is written where it fits, and else nothing
 pub record WritesText (text old new : List ℕ) (code : ℕ) : Type 0 where

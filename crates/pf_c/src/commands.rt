@@ -66,7 +66,7 @@ fn issue(
 /// Issues a push of a body by a peer's player at the tick that it has reached: mass times lengths a
 /// second.
 #[unsafe(no_mangle)]
-pub extern "C" fn pf_push(
+pub extern "C" fn pf_peer_push(
     alloc: Global,
     context: &mut PfContext,
     peer: Key,
@@ -84,7 +84,7 @@ pub extern "C" fn pf_push(
 
 /// Issues a turn of a body: inertia times radians a second.
 #[unsafe(no_mangle)]
-pub extern "C" fn pf_turn(
+pub extern "C" fn pf_peer_turn(
     alloc: Global,
     context: &mut PfContext,
     peer: Key,
@@ -102,7 +102,7 @@ pub extern "C" fn pf_turn(
 
 /// Issues a stop of a body: its velocity and its spin become 0.
 #[unsafe(no_mangle)]
-pub extern "C" fn pf_stop(
+pub extern "C" fn pf_peer_stop(
     alloc: Global,
     context: &mut PfContext,
     peer: Key,
@@ -119,7 +119,7 @@ pub extern "C" fn pf_stop(
 
 /// Issues a place of a body: it stands at this position, at rest.
 #[unsafe(no_mangle)]
-pub extern "C" fn pf_place(
+pub extern "C" fn pf_peer_place(
     alloc: Global,
     context: &mut PfContext,
     peer: Key,
@@ -138,7 +138,7 @@ pub extern "C" fn pf_place(
 /// Takes the command that a frame encodes to a peer, of any player, late or not, and tells what it
 /// did: 0 where it was new, 1 the same, 2 greater, 3 lesser.
 #[unsafe(no_mangle)]
-pub extern "C" fn pf_take(
+pub extern "C" fn pf_peer_take(
     alloc: Global,
     context: &mut PfContext,
     peer: Key,
@@ -160,7 +160,7 @@ pub extern "C" fn pf_take(
 /// Merges into a peer the commands that another peer of the context holds, and tells how many were
 /// new or greater. It is refused unless both have sealed the same tick, with the same world there.
 #[unsafe(no_mangle)]
-pub extern "C" fn pf_merge(
+pub extern "C" fn pf_peer_merge(
     alloc: Global,
     context: &mut PfContext,
     peer: Key,
@@ -178,7 +178,7 @@ pub extern "C" fn pf_merge(
 /// has sealed, and tells how many were new or greater. It is refused where one of them is for a
 /// tick before the horizon of the peer.
 #[unsafe(no_mangle)]
-pub extern "C" fn pf_merge_alone(
+pub extern "C" fn pf_peer_merge_alone(
     alloc: Global,
     context: &mut PfContext,
     peer: Key,

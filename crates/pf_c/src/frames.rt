@@ -26,7 +26,7 @@ fn tell_count(count: &mut u64, answer: &Result<usize, ContextError>)
 /// of their ticks, players and numbers, to the front of a buffer, and tells how many they are.
 /// Where the buffer is too small for them, that is told all the same, and nothing is written.
 #[unsafe(no_mangle)]
-pub extern "C" fn pf_frames(
+pub extern "C" fn pf_peer_frames(
     alloc: Global,
     context: &mut PfContext,
     peer: Key,

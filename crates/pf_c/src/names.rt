@@ -13,6 +13,7 @@ fn code_name(code: u32) -> &'static str
     match code {
         0 => "PF_OK",
         1 => "PF_OUT_OF_MEMORY",
+        2 => "PF_BAD_ROUNDING",
         3 => "PF_CLOSED",
         4 => "PF_BAD_KEY",
         5 => "PF_SMALL_BUFFER",

@@ -86,7 +86,7 @@ pub extern "C" fn pf_scene_new(
 
 /// Pushes a circle of this radius onto a scene, upright at this position, and tells its number.
 #[unsafe(no_mangle)]
-pub extern "C" fn pf_circle(
+pub extern "C" fn pf_scene_add_circle(
     alloc: Global,
     context: &mut PfContext,
     scene: Key,
@@ -112,7 +112,7 @@ pub extern "C" fn pf_circle(
 /// Pushes a box of these half extents onto a scene, at this position, turned into this direction,
 /// and tells its number.
 #[unsafe(no_mangle)]
-pub extern "C" fn pf_box(
+pub extern "C" fn pf_scene_add_box(
     alloc: Global,
     context: &mut PfContext,
     scene: Key,

@@ -38,7 +38,7 @@ fn counts_of(meter: Meter) -> PfCounts
 /// A peer goes on by so many ticks of 1/64 s, simulates nothing, and tells the tick that it has
 /// reached.
 #[unsafe(no_mangle)]
-pub extern "C" fn pf_advance(
+pub extern "C" fn pf_peer_advance(
     alloc: Global,
     context: &mut PfContext,
     peer: Key,
@@ -59,7 +59,7 @@ pub extern "C" fn pf_advance(
 /// Settles the ticks of a peer up to the reached one, and tells that. After an error the ticks
 /// before it stay settled.
 #[unsafe(no_mangle)]
-pub extern "C" fn pf_settle(
+pub extern "C" fn pf_peer_settle(
     alloc: Global,
     context: &mut PfContext,
     peer: Key,
@@ -78,7 +78,7 @@ pub extern "C" fn pf_settle(
 
 /// Seals a tick that a peer has reached: it is the peer's new horizon.
 #[unsafe(no_mangle)]
-pub extern "C" fn pf_seal(alloc: Global, context: &mut PfContext, peer: Key, tick: u32) -> u32
+pub extern "C" fn pf_peer_seal(alloc: Global, context: &mut PfContext, peer: Key, tick: u32) -> u32
     ensures { Answers (λ before after answer.
         CallsPeer peer_error before after peer answer (Seals tick))
         (λ answer. ⊤)
@@ -89,7 +89,7 @@ pub extern "C" fn pf_seal(alloc: Global, context: &mut PfContext, peer: Key, tic
 
 /// Tells the tick that a peer has reached.
 #[unsafe(no_mangle)]
-pub extern "C" fn pf_reached(
+pub extern "C" fn pf_peer_reached(
     alloc: Global,
     context: &mut PfContext,
     peer: Key,
@@ -105,7 +105,7 @@ pub extern "C" fn pf_reached(
 
 /// Tells a peer's settled tick: the greatest tick of a world that it keeps.
 #[unsafe(no_mangle)]
-pub extern "C" fn pf_settled(
+pub extern "C" fn pf_peer_settled(
     alloc: Global,
     context: &mut PfContext,
     peer: Key,
@@ -121,7 +121,7 @@ pub extern "C" fn pf_settled(
 
 /// Tells a peer's horizon: the tick before which it keeps neither commands nor worlds.
 #[unsafe(no_mangle)]
-pub extern "C" fn pf_horizon(
+pub extern "C" fn pf_peer_horizon(
     alloc: Global,
     context: &mut PfContext,
     peer: Key,
@@ -137,7 +137,7 @@ pub extern "C" fn pf_horizon(
 
 /// Tells how much work was done to settle and to seal ticks of a peer.
 #[unsafe(no_mangle)]
-pub extern "C" fn pf_meter(
+pub extern "C" fn pf_peer_meter(
     alloc: Global,
     context: &mut PfContext,
     peer: Key,

@@ -39,7 +39,7 @@ fn tell_sizes(sizes: &mut PfSizes, answer: &Result<Sizes, ContextError>)
 /// fronts of two buffers, and tells how many bodies and contacts it has. Where a buffer is too
 /// small for them, that is told all the same, and nothing is written.
 #[unsafe(no_mangle)]
-pub extern "C" fn pf_world(
+pub extern "C" fn pf_peer_world(
     alloc: Global,
     context: &mut PfContext,
     peer: Key,
@@ -67,10 +67,10 @@ pub extern "C" fn pf_world(
     code_of(&answer)
 }
 
-/// Writes the world at the horizon of a peer, as [`pf_world`] does, but simulates nothing and takes
-/// no memory.
+/// Writes the world at the horizon of a peer, as [`pf_peer_world`] does, but simulates nothing and
+/// takes no memory.
 #[unsafe(no_mangle)]
-pub extern "C" fn pf_base(
+pub extern "C" fn pf_peer_base(
     alloc: Global,
     context: &mut PfContext,
     peer: Key,

@@ -1,0 +1,92 @@
+"""The calls of the proved module under names and in a form that JavaScript can call.
+
+In the module a call takes its structs as C does on x86-64: a key in one register, a vector in two as
+long as there are some, and else in memory. Here each gets a call flat_pf_X beside it that takes
+structs apart, as `tools/compile pf_c` makes them of the unproved sources: a key is two numbers, a
+vector two, and a material stays in memory.
+"""
+
+import re
+import sys
+from pathlib import Path
+
+sys.path.insert(0, str(Path(__file__).resolve().parent.parent / "capi"))
+sys.dont_write_bytecode = True
+
+from header import calls  # noqa: E402
+
+REGISTERS = 6
+WHOLE = {"uint8_t": "i8 zeroext", "uint16_t": "i16 zeroext", "uint32_t": "i32"}
+WHOLE |= {"int64_t": "i64", "uint64_t": "i64", "size_t": "i64"}
+
+
+class Wrapper:
+    """The parameters of a flat call, what it does first, and what it hands on."""
+
+    def __init__(self):
+        self.taken, self.lines, self.passed, self.registers = [], [], [], REGISTERS
+
+    def take(self, kind, name):
+        self.taken.append(f"{kind} %{name}")
+        return f"{kind} %{name}"
+
+    def hand_on(self, *words):
+        self.passed += words
+        self.registers -= len(words)
+
+    def key(self, name):
+        index = self.take("i32", f"{name}.index")
+        generation = self.take("i32", f"{name}.generation")
+        self.lines += [
+            f"%{name}.low = zext {index} to i64",
+            f"%{name}.wide = zext {generation} to i64",
+            f"%{name}.high = shl i64 %{name}.wide, 32",
+            f"%{name} = or i64 %{name}.low, %{name}.high",
+        ]
+        self.hand_on(f"i64 %{name}")
+
+    def vector(self, name):
+        x, y = self.take("i64", f"{name}.x"), self.take("i64", f"{name}.y")
+        if self.registers >= 2:
+            self.hand_on(x, y)
+            return
+        self.lines += [
+            f"%{name} = alloca [2 x i64], align 8",
+            f"store {x}, ptr %{name}, align 8",
+            f"%{name}.second = getelementptr i8, ptr %{name}, i64 8",
+            f"store {y}, ptr %{name}.second, align 8",
+        ]
+        self.passed.append(f"ptr byval([2 x i64]) align 8 %{name}")
+
+    def parameter(self, kind, name):
+        if kind in ("pf_scene", "pf_peer"):
+            self.key(name)
+        elif kind == "pf_v2":
+            self.vector(name)
+        elif kind == "pf_material":
+            self.take("ptr", name)
+            self.passed.append(f"ptr byval([3 x i64]) align 8 %{name}")
+        else:
+            self.hand_on(self.take("ptr" if "*" in kind else WHOLE[kind], name))
+
+    def text(self, name):
+        body = "".join(f"  {line}\n" for line in self.lines)
+        return (
+            f"define i32 @flat_{name}({', '.join(self.taken)}) nounwind {{\n{body}"
+            f"  %result = call i32 @{name}({', '.join(self.passed)})\n  ret i32 %result\n}}\n"
+        )
+
+
+def is_flat(module):
+    return re.search(r"^define [^@\n]*@flat_pf_", module, re.M) is not None
+
+
+def with_flat_calls(module):
+    """The text of the proved module, with the flat calls behind it."""
+    texts = [module]
+    for name, parameters in calls():
+        wrapper = Wrapper()
+        for kind, word in parameters:
+            wrapper.parameter(kind, word)
+        texts.append(wrapper.text(name))
+    return "\n".join(texts)

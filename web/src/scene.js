@@ -1,0 +1,169 @@
+/** The bodies that a match begins with. */
+
+import { loaded, Owned } from "./core.js";
+import { count, direction, ONE, raw, rawVector } from "./numbers.js";
+
+/** @typedef {import("./numbers.js").Num} Num */
+/** @typedef {import("./numbers.js").Vector} Vector */
+
+/**
+ * What a body is beside its shape: where it is; its mass, 1 if none is given, and 0 if it is
+ * static; its friction, 0.5 if none is given; and the player, 0 to 7, who may move it, or null.
+ * @typedef {{at: Vector, mass?: Num, friction?: Num, owner?: number | null}} BodyOptions
+ */
+
+/**
+ * A body of a scene, in units of 2^-24.
+ * @typedef {object} Shape
+ * @property {"circle" | "box"} kind
+ * @property {number | null} owner
+ * @property {bigint} mass
+ * @property {bigint} friction
+ * @property {bigint} [radius] of a circle
+ * @property {[bigint, bigint]} [half] the half extents of a box
+ * @property {[bigint, bigint]} at
+ * @property {[bigint, bigint]} direction the cosine and the sine of its rotation
+ */
+
+const NOBODY = 255;
+/** @type {[bigint, bigint]} */
+const UPRIGHT = [BigInt(ONE), 0n];
+
+export class Scene extends Owned {
+  /** @type {[bigint, bigint]} */
+  gravity;
+  /**
+   * The bodies by their numbers.
+   * @type {Readonly<Shape>[]}
+   */
+  bodies = [];
+  /** @type {[number, number]} */
+  key;
+
+  /**
+   * @param {{gravity?: Vector}} options
+   */
+  constructor({ gravity = [0, -10] } = {}) {
+    super();
+    const core = loaded();
+    this.gravity = rawVector(gravity, "gravity");
+    core.call("scene_new", ...this.gravity, core.output);
+    this.key = core.toldKey();
+    const key = this.key;
+    this.owns(() => core.code("scene_free", ...key));
+  }
+
+  /** The scene that a text of docs/FORMATS.md describes, from `gravity` to `end`.
+   * @param {string} text */
+  static read(text) {
+    checkText(text);
+    const lines = text.split("\n").map((line) => line.split(" "));
+    const scene = new Scene({ gravity: gravityOf(lines) });
+    for (const [word, owner, ...numbers] of lines) {
+      if (word === "end") break;
+      if (word === "circle" || word === "box") {
+        scene.#add(shapeOf(word, owner, numbers.map(BigInt)));
+      }
+    }
+    return scene;
+  }
+
+  /** Adds a circle, and returns its number, which is the same for all peers.
+   * @param {BodyOptions & {radius: Num}} options */
+  circle({ at, radius, mass = 1, friction = 0.5, owner = null }) {
+    const material = { owner, mass: raw(mass), friction: raw(friction) };
+    const placed = { at: rawVector(at, "at"), direction: UPRIGHT };
+    return this.#add({ kind: "circle", ...material, radius: raw(radius), ...placed });
+  }
+
+  /** Adds a box of these half extents, turned by an angle or into a direction, [cosine, sine], and
+   * returns its number.
+   * @param {BodyOptions & {half: Vector, angle?: number, direction?: Vector}} options */
+  box({ at, half, angle = 0, direction: into, mass = 1, friction = 0.5, owner = null }) {
+    const material = { owner, mass: raw(mass), friction: raw(friction) };
+    const turned = into === undefined ? direction(angle) : rawVector(into, "direction");
+    const placed = { at: rawVector(at, "at"), direction: turned };
+    return this.#add({ kind: "box", ...material, half: rawVector(half, "half"), ...placed });
+  }
+
+  /**
+   * @param {Shape} shape
+   */
+  #add(shape) {
+    const core = loaded();
+    const material = core.input;
+    core.view.setBigInt64(material, shape.mass, true);
+    core.view.setBigInt64(material + 8, shape.friction, true);
+    const owner = shape.owner === null ? NOBODY : count(shape.owner, NOBODY - 1, "owner");
+    core.view.setUint8(material + 16, owner);
+    const front = [...this.key, material];
+    if (shape.kind === "circle") {
+      core.call("scene_add_circle", ...front, shape.radius, ...shape.at, core.output);
+    } else {
+      const box = [.../** @type {any} */ (shape.half), ...shape.at, ...shape.direction];
+      core.call("scene_add_box", ...front, ...box, core.output);
+    }
+    return this.bodies.push(Object.freeze(shape)) - 1;
+  }
+
+  /** The text of docs/FORMATS.md that describes this scene. */
+  toString() {
+    const bodies = this.bodies.map((body) => lineOf(body));
+    return [`gravity ${this.gravity.join(" ")}`, ...bodies, "end", ""].join("\n");
+  }
+}
+
+/**
+ * Throws the error of the first line that is wrong, if there is one.
+ * @param {string} text
+ */
+function checkText(text) {
+  const core = loaded();
+  const bytes = new TextEncoder().encode(text);
+  const at = core.allocate(bytes.length);
+  try {
+    core.bytes(at, bytes.length).set(bytes);
+    const line = core.output + 8;
+    const code = core.code("scene_read", at, BigInt(bytes.length), core.output, line);
+    core.check(code, "scene_read", core.told(8));
+    core.call("scene_free", ...core.toldKey());
+  } finally {
+    core.free(at);
+  }
+}
+
+/**
+ * @param {string[][]} lines of a text that is right
+ * @returns {[bigint, bigint]}
+ */
+function gravityOf(lines) {
+  const [, x, y] = /** @type {string[]} */ (lines.find(([word]) => word === "gravity"));
+  return [BigInt(x), BigInt(y)];
+}
+
+/**
+ * @param {"circle" | "box"} kind
+ * @param {string} player
+ * @param {bigint[]} numbers
+ * @returns {Shape}
+ */
+function shapeOf(kind, player, [mass, friction, ...rest]) {
+  const owner = player === "-" ? null : Number(player);
+  const material = { owner, mass, friction };
+  if (kind === "circle") {
+    const [radius, x, y] = rest;
+    return { kind, ...material, radius, at: [x, y], direction: UPRIGHT };
+  }
+  const [width, height, x, y, c, s] = rest;
+  return { kind, ...material, half: [width, height], at: [x, y], direction: [c, s] };
+}
+
+/**
+ * @param {Shape} body
+ */
+function lineOf(body) {
+  const front = [body.kind, body.owner ?? "-", body.mass, body.friction];
+  if (body.kind === "circle") return [...front, body.radius, ...body.at].join(" ");
+  return [...front, .../** @type {any} */ (body.half), ...body.at, ...body.direction].join(" ");
+}
+

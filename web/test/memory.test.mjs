@@ -1,0 +1,58 @@
+import assert from "node:assert/strict";
+import { setImmediate } from "node:timers/promises";
+import test from "node:test";
+import { Peer, refuses, Scene, sceneOfTwo } from "./common.mjs";
+
+/** How many keys may be in use when the collector has run again and again. */
+const FEW_KEYS = 600;
+
+test("what is freed is gone, and may be freed twice", () => {
+  const scene = sceneOfTwo();
+  const peer = new Peer(scene);
+  scene.free();
+  peer.advance();
+  peer.settle();
+  peer.free();
+  peer.free();
+  refuses("PF_BAD_KEY", () => peer.advance());
+  refuses("PF_BAD_KEY", () => new Peer(scene));
+});
+
+test("a world is the same after the memory has grown", () => {
+  const peer = new Peer(sceneOfTwo());
+  peer.advance(10);
+  peer.settle();
+  const world = peer.world();
+  const [hash, view] = [world.hash(), world.raw];
+  const large = new Scene();
+  for (let body = 0; body < 1000; body++) {
+    large.circle({ at: [(body % 40) * 2.1, Math.floor(body / 40) * 2.1], radius: 1 });
+  }
+  const peers = [];
+  while (view.length > 0 && peers.length < 100) {
+    const other = new Peer(large, { ring: 64 });
+    other.advance(70);
+    other.settle();
+    peers.push(other);
+  }
+  assert.equal(view.length, 0, "the view of before is dead");
+  assert.equal(world.raw.length, 3 * 8);
+  assert.equal(world.hash(), hash);
+  for (const other of peers) other.free();
+});
+
+test("what the collector finds is freed", { skip: !globalThis.gc }, async () => {
+  const scene = sceneOfTwo();
+  let greatest = 0;
+  for (let made = 0; made < 2000; made++) {
+    const peer = new Peer(scene, { ring: 64 });
+    peer.advance(64);
+    peer.settle();
+    greatest = Math.max(greatest, peer.key[0]);
+    if (made % 50 === 0) {
+      globalThis.gc();
+      await setImmediate();
+    }
+  }
+  assert.ok(greatest < FEW_KEYS, `${greatest} keys`);
+});
