@@ -207,8 +207,7 @@ pf_code pf_error_name(uint32_t code, char *name, size_t name_length, uint64_t *n
 /* Opens a context that is closed. It has no scenes and no peers. */
 pf_code pf_open(pf_context *context);
 
-/* Closes a context, and frees all that it holds. It may be opened again; then the keys of before
- * are made-up keys. */
+/* Closes a context, and frees all that it holds. It may be opened again. */
 pf_code pf_close(pf_context *context);
 
 /* --- Scenes --------------------------------------------------------------------------------- */
@@ -325,7 +324,7 @@ pf_code pf_peer_world(pf_context *context, pf_peer peer, uint32_t tick, pf_body 
 pf_code pf_peer_base(pf_context *context, pf_peer peer, pf_body *bodies, size_t bodies_length,
                      pf_contact *contacts, size_t contacts_length, pf_sizes *sizes);
 
-/* Older names of these calls, for one release. */
+/* Older names of these calls, for one release: for C sources. The library has the new ones alone. */
 #ifndef PF_NO_OLD_NAMES
 #define pf_circle pf_scene_add_circle
 #define pf_box pf_scene_add_box

@@ -5,6 +5,8 @@ const PF_OUT_OF_MEMORY = 1;
 export const PF_SMALL_BUFFER = 5;
 export const PF_FRAME_SHORT = 48;
 export const PF_FRAME_LONG = 49;
+export const PF_FRAME_BAD_VERSION = 50;
+export const PF_FRAME_BAD_KIND = 51;
 export const PF_UNKNOWN_BODY = 64;
 
 const CONTEXT_BYTES = 16;

@@ -1,26 +1,49 @@
 /** Frames: commands as peers send them. */
 
-import { loaded, PF_FRAME_LONG, PF_FRAME_SHORT } from "./core.js";
+import {
+  loaded,
+  PF_FRAME_BAD_KIND,
+  PF_FRAME_BAD_VERSION,
+  PF_FRAME_LONG,
+  PF_FRAME_SHORT,
+} from "./core.js";
 
 export const FRAME_BYTES = 27;
 const KINDS = /** @type {const} */ (["push", "turn", "stop", "place"]);
+/** The version of a frame, by its kind. */
+const VERSIONS = { push: 1, turn: 1, stop: 1, place: 2 };
+
+/**
+ * The bytes of a frame as it has come, without a copy.
+ * @param {Uint8Array | ArrayBuffer} frame
+ */
+export function bytesOf(frame) {
+  if (frame instanceof Uint8Array) return frame;
+  if (frame instanceof ArrayBuffer) return new Uint8Array(frame);
+  throw new TypeError("a frame is a Uint8Array or an ArrayBuffer");
+}
 
 /**
  * What a frame says, its numbers in units of 2^-24. A game that does not trust its peers looks here
- * whether a frame is of the player that sent it, and for a tick that is near.
- * @param {Uint8Array} frame
+ * whether a frame is of the player that sent it, and for a tick that is near. Only `take` sees
+ * whether a frame is right in all.
+ * @param {Uint8Array | ArrayBuffer} frame
  */
 export function readFrame(frame) {
-  if (frame.length !== FRAME_BYTES) {
-    const code = frame.length < FRAME_BYTES ? PF_FRAME_SHORT : PF_FRAME_LONG;
-    throw loaded().error(code, "readFrame");
-  }
-  const view = new DataView(frame.buffer, frame.byteOffset, FRAME_BYTES);
+  const bytes = bytesOf(frame);
+  const view = new DataView(bytes.buffer, bytes.byteOffset, bytes.length);
+  const refuse = (/** @type {number} */ code) => loaded().error(code, "readFrame");
+  if (bytes.length < FRAME_BYTES) throw refuse(PF_FRAME_SHORT);
+  if (bytes.length > FRAME_BYTES) throw refuse(PF_FRAME_LONG);
+  const version = view.getUint8(0);
+  if (!Object.values(VERSIONS).includes(version)) throw refuse(PF_FRAME_BAD_VERSION);
+  const kind = KINDS[view.getUint8(8)];
+  if (kind === undefined || VERSIONS[kind] !== version) throw refuse(PF_FRAME_BAD_KIND);
   return {
     tick: view.getUint32(1),
     player: view.getUint8(5),
     number: view.getUint16(6),
-    kind: KINDS[view.getUint8(8)],
+    kind,
     body: view.getUint16(9),
     x: view.getBigInt64(11),
     y: view.getBigInt64(19),

@@ -68,13 +68,20 @@ export const GREATEST_U32 = 2 ** 32 - 1;
 const QUARTER_TURN = [1.5707963267341256, 6.077100506506192e-11];
 const TERMS = 18;
 
+/** Beyond this many radians the nearest direction is not found any more. */
+const GREATEST_ANGLE = 2 ** 20;
+
 /**
  * The cosine and the sine of an angle in radians, in units of 2^-24. They are made by sums and
- * products alone, on which all engines agree; on Math.cos they need not.
+ * products alone, on which all engines agree; on Math.cos they need not. An angle is from -2^20 to
+ * 2^20.
  * @param {number} angle
  * @returns {[bigint, bigint]}
  */
 export function direction(angle) {
+  if (typeof angle !== "number" || !(Math.abs(angle) <= GREATEST_ANGLE)) {
+    throw new TypeError(`not an angle from -2^20 to 2^20: ${angle}`);
+  }
   const quarters = Math.round(angle / (QUARTER_TURN[0] + QUARTER_TURN[1]));
   const rest = angle - quarters * QUARTER_TURN[0] - quarters * QUARTER_TURN[1];
   let cosine = 1;

@@ -1,7 +1,7 @@
 /** One side of a match. */
 
 import { loaded, Owned, PF_SMALL_BUFFER } from "./core.js";
-import { FRAME_BYTES } from "./frames.js";
+import { bytesOf, FRAME_BYTES } from "./frames.js";
 import { count, GREATEST_U16, GREATEST_U32, GREATEST_U8, raw, rawVector } from "./numbers.js";
 import { World } from "./world.js";
 
@@ -30,11 +30,8 @@ export class Peer extends Owned {
     this.ring = count(ring, GREATEST_U32, "ring");
     core.call("peer_new", ...scene.key, this.player, this.ring, core.output);
     this.key = core.toldKey();
-    const [key, world] = [this.key, this.#world];
-    this.owns(() => {
-      core.code("peer_free", ...key);
-      world.free();
-    });
+    const key = this.key;
+    this.owns(() => core.code("peer_free", ...key));
   }
 
   /**
@@ -91,7 +88,7 @@ export class Peer extends Owned {
    */
   take(frame) {
     const core = loaded();
-    const bytes = new Uint8Array(frame).subarray(0, GREATEST_LENGTH);
+    const bytes = bytesOf(frame).subarray(0, GREATEST_LENGTH);
     core.bytes(core.input, bytes.length).set(bytes);
     this.#call("take", core.input, BigInt(bytes.length), core.output);
     return PUTS[core.told()];

@@ -42,8 +42,9 @@ class Buffer {
    */
   grow(elements) {
     if (elements <= this.room) return;
+    const at = loaded().allocate(elements * this.size);
     this.free();
-    this.at = loaded().allocate(elements * this.size);
+    this.at = at;
     this.room = elements;
   }
 
@@ -84,6 +85,7 @@ export class World extends Owned {
   fill(tick, name, call) {
     const core = loaded();
     let code = PF_SMALL_BUFFER;
+    this.#empty();
     while (code === PF_SMALL_BUFFER) {
       const [bodies, contacts] = [this.#bodies, this.#contacts];
       const front = [bodies.at || core.output, BigInt(bodies.room)];
@@ -98,8 +100,19 @@ export class World extends Owned {
     this.bodyCount = core.told();
     this.contactCount = core.told(8);
     this.tick = tick;
-    this.#numbers = null;
     return this;
+  }
+
+  #empty() {
+    this.bodyCount = 0;
+    this.contactCount = 0;
+    this.#numbers = null;
+  }
+
+  /** Gives its memory back at once; then it has no bodies and no contacts. */
+  free() {
+    this.#empty();
+    super.free();
   }
 
   /** x, y, cosine, sine, vx, vy and spin of each body, in metres and seconds. */
@@ -143,7 +156,7 @@ export class World extends Owned {
    * @param {number} number
    */
   body(number) {
-    if (!(number >= 0 && number < this.bodyCount)) {
+    if (!Number.isInteger(number) || number < 0 || number >= this.bodyCount) {
       throw loaded().error(PF_UNKNOWN_BODY, "World.body");
     }
     const [x, y, cosine, sine, vx, vy, spin] = this.values.subarray(number * STRIDE);

@@ -18,6 +18,21 @@ test("what is freed is gone, and may be freed twice", () => {
   refuses("PF_BAD_KEY", () => new Peer(scene));
 });
 
+test("a world stays when its peer is freed, and has nothing when it is freed itself", () => {
+  const peer = new Peer(sceneOfTwo());
+  peer.advance(10);
+  peer.settle();
+  const world = peer.world();
+  const hash = world.hash();
+  peer.free();
+  assert.equal(world.hash(), hash);
+  assert.equal(world.values.length, 3 * 7);
+  world.free();
+  assert.equal(world.bodyCount, 0);
+  assert.equal(world.values.length, 0);
+  assert.deepEqual(world.contacts(), []);
+});
+
 test("a world is the same after the memory has grown", () => {
   const peer = new Peer(sceneOfTwo());
   peer.advance(10);

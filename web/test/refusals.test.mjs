@@ -24,7 +24,15 @@ test("frames", () => {
   refuses("PF_FRAME_LONG", () => peer.take(new Uint8Array(3000)));
   refuses("PF_FRAME_BAD_VERSION", () => peer.take(new Uint8Array(27)));
   refuses("PF_FRAME_SHORT", () => readFrame(new Uint8Array(0)));
-  refuses("PF_FRAME_LONG", () => readFrame(new Uint8Array(28)));
+  refuses("PF_FRAME_LONG", () => readFrame(new ArrayBuffer(28)));
+  refuses("PF_FRAME_BAD_VERSION", () => readFrame(new Uint8Array(27)));
+  for (const [version, kind] of [[1, 4], [1, 3], [2, 0]]) {
+    const frame = new Uint8Array(27);
+    frame[0] = version;
+    frame[8] = kind;
+    refuses("PF_FRAME_BAD_KIND", () => readFrame(frame));
+    refuses("PF_FRAME_BAD_KIND", () => peer.take(frame));
+  }
 });
 
 test("ticks", () => {
@@ -88,6 +96,11 @@ test("arguments of a wrong kind", () => {
     () => scene.box({ at }),
     () => scene.circle({ radius: 1 }),
     () => scene.circle({ at, radius: 1, owner: -1 }),
+    () => scene.box({ at, half: [1, 1], angle: NaN }),
+    () => scene.box({ at, half: [1, 1], angle: 2 ** 21 }),
+    () => peer.take("00"),
+    () => peer.take(new Blob([])),
+    () => readFrame([1, 2, 3]),
   ]) {
     assert.throws(call, TypeError, call.toString());
   }
