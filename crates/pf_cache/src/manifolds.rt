@@ -206,8 +206,8 @@ fn points_at_once<C: Collider>(
 }
 
 /// The contact points of these pairs: those of all computed by the collider, where those of many
-/// have to be; else those that are kept, updated. What it asks of the kept ones is what
-/// `updated_points` asks.
+/// have to be, and of at least half; else those that are kept, updated. What it asks of the kept
+/// ones is what `updated_points` asks.
 fn found_points<C: Collider>(
     collider: &C,
     alloc: Global,
