@@ -14,7 +14,7 @@
 Numbers are whole numbers in units of 2^-24, so 1 is ONE; a tick is 1/64 s. A call that fails raises
 Error, with its code and the code's name; pf.h says what each means. The library is the one that the
 environment's BUYOSEN_LIBRARY names; else the one in out/ or out/quick/ beside this file, or in lib/
-beside its folder; else the one that the loader finds.
+or bin/ beside its folder; else the one that the loader finds.
 """
 
 import ctypes
@@ -131,9 +131,10 @@ _PARAMETERS = {
 
 def _load():
     here = Path(__file__).resolve().parent
-    places = [here / "out", here / "out/quick", here.parent / "lib"]
-    paths = [str(place / "libbuyosen.so") for place in places if (place / "libbuyosen.so").exists()]
-    library = ctypes.CDLL(os.environ.get("BUYOSEN_LIBRARY") or [*paths, "libbuyosen.so"][0])
+    name = "buyosen.dll" if os.name == "nt" else "libbuyosen.so"
+    places = [here / "out", here / "out/quick", here.parent / "lib", here.parent / "bin"]
+    paths = [str(place / name) for place in places if (place / name).exists()]
+    library = ctypes.CDLL(os.environ.get("BUYOSEN_LIBRARY") or [*paths, name][0])
     for name, parameters in _PARAMETERS.items():
         function = getattr(library, "pf_" + name)
         function.argtypes = [POINTER(_Context), *parameters]

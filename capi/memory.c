@@ -17,9 +17,9 @@ void *__real_malloc(size_t size);
 void *__real_realloc(void *old, size_t size);
 void __real_free(void *old);
 
-static long granted; /* the allocations that are granted; below 0: all are */
-static long live;    /* the blocks that are allocated */
-static int refusals; /* the calls of this match that ran out of memory */
+static long granted = -1; /* the allocations that are granted; below 0: all are */
+static long live;         /* the blocks that are allocated */
+static int refusals;      /* the calls of this match that ran out of memory */
 
 static int is_refused(void) {
     if (granted > 0)
@@ -159,7 +159,7 @@ static void spare(void) {
 
 int main(void) {
     result expected, actual;
-    granted = -1;
+    live = 0; /* what the program itself has allocated before does not count */
     spare();
     if (live != 0) {
         printf("memory.c: %ld blocks left of what was freed and closed\n", live);

@@ -1,23 +1,14 @@
-#!/usr/bin/env python3
 """Rewrites the module of the library in LLVM's text, made for addresses of 64 bits, for a machine that
-has 32; and adds the flat calls, if it has none (flat.py).
-
-    web/wide.py IN.ll OUT.ll
+has 32.
 
 A pointer in memory stays 8 bytes wide, of which the low 4 are the address: so sizes, offsets and
-usize stay those of the proof. A form of load or store that is not known here ends it, with status 1.
+usize stay those of the proof. A form of load or store that is not known here ends it.
 """
 
 import re
 import sys
-from pathlib import Path
-
-sys.dont_write_bytecode = True
-
-from flat import is_flat, with_flat_calls  # noqa: E402
 
 SIZES = {"ptr": 8, "i64": 8, "i32": 4, "i16": 2, "i8": 1, "i1": 1, "double": 8, "i128": 16}
-CPU = '"target-cpu"="lime1" "target-features"="+simd128"'
 
 END = r"(?:, align \d+)?(?:, ![a-z_.]+ !\d+)*\n"
 STRUCT = r"\{[^}]*\bptr\b[^}]*\}"
@@ -84,8 +75,6 @@ class Widener:
 
     def lines(self, line):
         """What stands in the place of a line."""
-        if line.startswith(("target datalayout", "target triple")):
-            return []
         if "ptr" not in line:
             return [line]
         for form, make in [
@@ -115,25 +104,10 @@ def fields_of(struct):
     return fields
 
 
-def main():
-    words = sys.argv[1:]
-    if words in (["--help"], ["-h"]) or len(words) != 2:
-        print(__doc__.strip())
-        return 0 if words in (["--help"], ["-h"]) else 2
-    module = Path(words[0]).read_text(encoding="utf-8")
-    if not is_flat(module):
-        module = with_flat_calls(module)
+def widened(module):
     widener = Widener()
     try:
         lines = module.splitlines(keepends=True)
-        wide = [it for line in lines for it in widener.lines(line)]
+        return "".join(it for line in lines for it in widener.lines(line))
     except UnknownForm as error:
-        print(f"wide: a form that is not known: {error}", file=sys.stderr)
-        return 1
-    text = re.sub(r'"target-cpu"="[^"]*"', CPU, "".join(wide))
-    Path(words[1]).write_text(text, encoding="utf-8")
-    return 0
-
-
-if __name__ == "__main__":
-    sys.exit(main())
+        sys.exit(f"wide: a form that is not known: {error}")

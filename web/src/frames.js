@@ -57,7 +57,10 @@ export function readFrame(frame) {
 export const toHex = (of) => Array.from(of, (byte) => byte.toString(16).padStart(2, "0")).join("");
 
 /**
+ * The bytes of hexadecimal digits, two a byte.
  * @param {string} digits
  */
-export const fromHex = (digits) =>
-  Uint8Array.from(digits.match(/../g) ?? [], (pair) => parseInt(pair, 16));
+export function fromHex(digits) {
+  if (!/^([0-9a-f]{2})*$/i.test(digits)) throw new TypeError("digits are hexadecimal, two a byte");
+  return Uint8Array.from(digits.match(/../g) ?? [], (pair) => parseInt(pair, 16));
+}

@@ -3,15 +3,21 @@
 import { loaded, Owned, PF_SMALL_BUFFER } from "./core.js";
 import { bytesOf, FRAME_BYTES } from "./frames.js";
 import { count, GREATEST_U16, GREATEST_U32, GREATEST_U8, raw, rawVector } from "./numbers.js";
+import { Scene } from "./scene.js";
 import { World } from "./world.js";
 
 /** @typedef {import("./numbers.js").Num} Num */
 /** @typedef {import("./numbers.js").Vector} Vector */
-/** @typedef {import("./scene.js").Scene} Scene */
 
 const PUTS = /** @type {const} */ (["new", "same", "greater", "lesser"]);
 /** More bytes than a frame has, so that a longer one is refused as it is. */
 const GREATEST_LENGTH = 64;
+
+/** @param {Peer} peer */
+function keyOf(peer) {
+  if (!(peer instanceof Peer)) throw new TypeError("other is a Peer");
+  return peer.key;
+}
 
 /** Holds the commands that a player issues and takes, and simulates the match. */
 export class Peer extends Owned {
@@ -25,6 +31,7 @@ export class Peer extends Owned {
    */
   constructor(scene, { player = 0, ring = 16 } = {}) {
     super();
+    if (!(scene instanceof Scene)) throw new TypeError("scene is a Scene");
     const core = loaded();
     this.player = count(player, GREATEST_U8, "player");
     this.ring = count(ring, GREATEST_U32, "ring");
@@ -97,7 +104,7 @@ export class Peer extends Owned {
   /** Takes all commands that another peer holds, and returns how many changed this one.
    * @param {Peer} other */
   merge(other) {
-    return this.#told("merge", ...other.key);
+    return this.#told("merge", ...keyOf(other));
   }
 
   /**
@@ -105,7 +112,7 @@ export class Peer extends Owned {
    * @param {Peer} other
    */
   mergeAlone(other) {
-    return this.#told("merge_alone", ...other.key);
+    return this.#told("merge_alone", ...keyOf(other));
   }
 
   /**

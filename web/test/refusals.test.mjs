@@ -1,6 +1,6 @@
 import assert from "node:assert/strict";
 import test from "node:test";
-import { Peer, PfError, readFrame, refuses, Scene, sceneOfTwo } from "./common.mjs";
+import { fromHex, Peer, PfError, readFrame, refuses, Scene, sceneOfTwo } from "./common.mjs";
 
 const at = [0, 0];
 
@@ -101,6 +101,11 @@ test("arguments of a wrong kind", () => {
     () => peer.take("00"),
     () => peer.take(new Blob([])),
     () => readFrame([1, 2, 3]),
+    () => fromHex("0g"),
+    () => fromHex("012"),
+    () => new Peer({}),
+    () => peer.merge(scene),
+    () => peer.mergeAlone(null),
   ]) {
     assert.throws(call, TypeError, call.toString());
   }

@@ -1,19 +1,14 @@
-"""The calls of the proved module under names and in a form that JavaScript can call.
+"""The calls of the proved module in a form that any machine and language can call.
 
-In the module a call takes its structs as C does on x86-64: a key in one register, a vector in two as
-long as there are some, and else in memory. Here each gets a call flat_pf_X beside it that takes
-structs apart, as `tools/compile pf_c` makes them of the unproved sources: a key is two numbers, a
-vector two, and a material stays in memory.
+In the module a call takes its structs as C does on x86-64 Linux: a key in one register, a vector in
+two as long as there are some, and else in memory. Here each gets a call flat_pf_X beside it that
+takes structs apart, as `tools/compile pf_c` makes them of the unproved sources: a key is two numbers,
+a vector two, and a material stays in memory.
 """
 
 import re
-import sys
-from pathlib import Path
 
-sys.path.insert(0, str(Path(__file__).resolve().parent.parent / "capi"))
-sys.dont_write_bytecode = True
-
-from header import calls  # noqa: E402
+from header import calls
 
 REGISTERS = 6
 WHOLE = {"uint8_t": "i8 zeroext", "uint16_t": "i16 zeroext", "uint32_t": "i32"}
@@ -77,13 +72,9 @@ class Wrapper:
         )
 
 
-def is_flat(module):
-    return re.search(r"^define [^@\n]*@flat_pf_", module, re.M) is not None
-
-
 def with_flat_calls(module):
-    """The text of the proved module, with the flat calls behind it."""
-    texts = [module]
+    """The text of the proved module, with the flat calls behind it: they alone are exported."""
+    texts = [re.sub(r"^define (?=.*@pf_[a-z_]+\()", "define internal ", module, flags=re.M)]
     for name, parameters in calls():
         wrapper = Wrapper()
         for kind, word in parameters:
