@@ -20,21 +20,21 @@ define internal SIZE @bytes(i64 %asked) nounwind {
   ret SIZE %count
 }
 
-define internal {i64, i64} @rattle_alloc(i64 %asked, i64 %align) nounwind noinline {
+define {i64, i64} @rattle_alloc(i64 %asked, i64 %align) nounwind noinline {
   %count = call SIZE @bytes(i64 %asked)
   %at = call ptr @malloc(SIZE %count)
   %told = call {i64, i64} @told(ptr %at)
   ret {i64, i64} %told
 }
 
-define internal {i64, i64} @rattle_realloc(ptr %old, i64 %kept, i64 %asked, i64 %align) nounwind noinline {
+define {i64, i64} @rattle_realloc(ptr %old, i64 %kept, i64 %asked, i64 %align) nounwind noinline {
   %count = call SIZE @bytes(i64 %asked)
   %at = call ptr @realloc(ptr %old, SIZE %count)
   %told = call {i64, i64} @told(ptr %at)
   ret {i64, i64} %told
 }
 
-define internal void @rattle_dealloc(ptr %at) nounwind noinline {
+define void @rattle_dealloc(ptr %at) nounwind noinline {
   call void @free(ptr %at)
   ret void
 }
