@@ -1,5 +1,5 @@
-"""Rewrites the module of the library in LLVM's text, made for addresses of 64 bits, for a machine that
-has 32.
+"""Rewrites the module of the library in LLVM's text, made for addresses of 64 bits, for a machine
+that has 32.
 
 A pointer in memory stays 8 bytes wide, of which the low 4 are the address: so sizes, offsets and
 usize stay those of the proof. A form of load or store that is not known here ends it.
