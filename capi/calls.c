@@ -395,6 +395,82 @@ static void counts_and_base(void) {
     EXPECT(pf_close(&context), PF_OK);
 }
 
+/* Gravity acts along its own axes, and a body's friction is its own. */
+static void numbers_in_their_places(void) {
+    const pf_material smooth = {PF_ONE, 0, 0};
+    const pf_v2 gravity = {PF_ONE, -64 * PF_ONE}, half = {PF_ONE, PF_ONE};
+    const pf_v2 floor = {90 * PF_ONE, PF_ONE}, under = {0, -PF_ONE}, above = {0, 50 * PF_ONE};
+    const pf_v2 left = {-9 * PF_ONE, PF_ONE}, right = {9 * PF_ONE, PF_ONE};
+    pf_context context = {0};
+    pf_scene scene;
+    pf_peer peer;
+    pf_body bodies[4];
+    pf_contact contacts[8];
+    pf_sizes sizes;
+    uint64_t body;
+    uint32_t tick;
+    EXPECT(pf_open(&context), PF_OK);
+    EXPECT(pf_scene_new(&context, gravity, &scene), PF_OK);
+    EXPECT(pf_scene_add_box(&context, scene, STATIC, floor, under, UPRIGHT, &body), PF_OK);
+    EXPECT(pf_scene_add_box(&context, scene, smooth, half, left, UPRIGHT, &body), PF_OK);
+    EXPECT(pf_scene_add_box(&context, scene, OF_PLAYER_0, half, right, UPRIGHT, &body), PF_OK);
+    EXPECT(pf_scene_add_circle(&context, scene, OF_NOBODY, PF_ONE, above, &body), PF_OK);
+    EXPECT(pf_peer_new(&context, scene, 0, 16, &peer), PF_OK);
+    EXPECT(pf_peer_advance(&context, peer, 16, &tick), PF_OK);
+    EXPECT(pf_peer_settle(&context, peer, &tick), PF_OK);
+    EXPECT(pf_peer_world(&context, peer, 16, bodies, 4, contacts, 8, &sizes), PF_OK);
+    EXPECT(bodies[1].vx, PF_ONE / 4);
+    EXPECT(bodies[2].vx < PF_ONE / 8, 1);
+    EXPECT(bodies[3].vx, PF_ONE / 4);
+    EXPECT(bodies[3].vy, -16 * PF_ONE);
+    EXPECT(pf_close(&context), PF_OK);
+}
+
+/* A peer's horizon, its settled and its reached tick are three numbers. */
+static void ticks_of_a_peer(void) {
+    pf_context context = {0};
+    pf_peer peer;
+    uint32_t tick;
+    EXPECT(pf_open(&context), PF_OK);
+    EXPECT(pf_peer_new(&context, floor_scene(&context), 0, 16, &peer), PF_OK);
+    EXPECT(pf_peer_advance(&context, peer, 16, &tick), PF_OK);
+    EXPECT(pf_peer_settle(&context, peer, &tick), PF_OK);
+    EXPECT(pf_peer_seal(&context, peer, 5), PF_OK);
+    EXPECT(pf_peer_advance(&context, peer, 1, &tick), PF_OK);
+    EXPECT(pf_peer_horizon(&context, peer, &tick), PF_OK);
+    EXPECT(tick, 5);
+    EXPECT(pf_peer_settled(&context, peer, &tick), PF_OK);
+    EXPECT(tick, 16);
+    EXPECT(pf_peer_reached(&context, peer, &tick), PF_OK);
+    EXPECT(tick, 17);
+    EXPECT(pf_close(&context), PF_OK);
+}
+
+/* A circle on a floor: two bodies and one contact. */
+static void lengths_in_their_places(void) {
+    const pf_v2 floor = {9 * PF_ONE, PF_ONE}, under = {0, -PF_ONE}, above = {0, PF_ONE};
+    pf_context context = {0};
+    pf_scene scene;
+    pf_peer peer;
+    pf_body bodies[2];
+    pf_contact contacts[2];
+    pf_sizes sizes;
+    uint64_t body;
+    uint32_t tick;
+    EXPECT(pf_open(&context), PF_OK);
+    EXPECT(pf_scene_new(&context, DOWN, &scene), PF_OK);
+    EXPECT(pf_scene_add_box(&context, scene, STATIC, floor, under, UPRIGHT, &body), PF_OK);
+    EXPECT(pf_scene_add_circle(&context, scene, OF_NOBODY, PF_ONE, above, &body), PF_OK);
+    EXPECT(pf_peer_new(&context, scene, 0, 1, &peer), PF_OK);
+    EXPECT(pf_peer_advance(&context, peer, 1, &tick), PF_OK);
+    EXPECT(pf_peer_seal(&context, peer, 1), PF_OK);
+    EXPECT(pf_peer_base(&context, peer, bodies, 2, contacts, 1, &sizes), PF_OK);
+    EXPECT(pf_peer_base(&context, peer, bodies, 1, contacts, 2, &sizes), PF_SMALL_BUFFER);
+    EXPECT(pf_peer_world(&context, peer, 1, bodies, 2, contacts, 1, &sizes), PF_OK);
+    EXPECT(pf_peer_world(&context, peer, 1, bodies, 1, contacts, 2, &sizes), PF_SMALL_BUFFER);
+    EXPECT(pf_close(&context), PF_OK);
+}
+
 /* Buffers of each pair of lengths: one that is too small stays as it was. */
 static void buffers(void) {
     enum { MOST = 6 };
@@ -530,6 +606,9 @@ int main(void) {
     merging();
     frames_read_back();
     counts_and_base();
+    numbers_in_their_places();
+    ticks_of_a_peer();
+    lengths_in_their_places();
     buffers();
     return failures != 0;
 }

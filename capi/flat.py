@@ -2,8 +2,8 @@
 
 In the module a call takes its structs as C does on x86-64 Linux: a key in one register, a vector in
 two as long as there are some, and else in memory. Here each gets a call flat_pf_X beside it that
-takes structs apart, as `tools/compile pf_c` makes them of the unproved sources: a key is two numbers,
-a vector two, and a material stays in memory.
+takes structs apart, as `tools/compile pf_c` makes them of the unproved sources: a key is two
+numbers, a vector two, and a material stays in memory.
 """
 
 import re
@@ -11,8 +11,10 @@ import re
 from header import calls
 
 REGISTERS = 6
-WHOLE = {"uint8_t": "i8 zeroext", "uint16_t": "i16 zeroext", "uint32_t": "i32"}
+WHOLE = {"uint8_t": "i8", "uint16_t": "i16", "uint32_t": "i32"}
 WHOLE |= {"int64_t": "i64", "uint64_t": "i64", "size_t": "i64"}
+# The module reads the whole register of a number, which a caller elsewhere need not fill.
+EXTENDED = {"i8": "i8 zeroext", "i16": "i16 zeroext"}
 
 
 class Wrapper:
@@ -62,7 +64,9 @@ class Wrapper:
             self.take("ptr", name)
             self.passed.append(f"ptr byval([3 x i64]) align 8 %{name}")
         else:
-            self.hand_on(self.take("ptr" if "*" in kind else WHOLE[kind], name))
+            word = "ptr" if "*" in kind else WHOLE[kind]
+            self.take(word, name)
+            self.hand_on(f"{EXTENDED.get(word, word)} %{name}")
 
     def text(self, name):
         body = "".join(f"  {line}\n" for line in self.lines)

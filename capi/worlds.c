@@ -2,7 +2,7 @@
  * placed by commands that come up to 24 ticks late. Every 32 ticks, when all have come, it prints
  * the tick, how many contacts the world has, and a number over the world, which both peers show.
  *
- * Prints on each machine what worlds.out has, as web/test/worlds.test.mjs does. */
+ * It prints what worlds.out has, on each machine; web/test/worlds.test.mjs makes the same lines. */
 #include <inttypes.h>
 #include <stdio.h>
 #include <stdlib.h>

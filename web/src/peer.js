@@ -15,7 +15,7 @@ const GREATEST_LENGTH = 64;
 
 /** @param {Peer} peer */
 function keyOf(peer) {
-  if (!(peer instanceof Peer)) throw new TypeError("other is a Peer");
+  if (!(peer instanceof Peer)) throw new TypeError("other: a Peer is wanted");
   return peer.key;
 }
 
@@ -31,7 +31,7 @@ export class Peer extends Owned {
    */
   constructor(scene, { player = 0, ring = 16 } = {}) {
     super();
-    if (!(scene instanceof Scene)) throw new TypeError("scene is a Scene");
+    if (!(scene instanceof Scene)) throw new TypeError("scene: a Scene is wanted");
     const core = loaded();
     this.player = count(player, GREATEST_U8, "player");
     this.ring = count(ring, GREATEST_U32, "ring");

@@ -1,6 +1,7 @@
 import assert from "node:assert/strict";
 import { setImmediate } from "node:timers/promises";
 import test from "node:test";
+import { loaded } from "../out/src/core.js";
 import { Peer, refuses, Scene, sceneOfTwo } from "./common.mjs";
 
 /** How many keys may be in use when the collector has run again and again. */
@@ -54,6 +55,34 @@ test("a world is the same after the memory has grown", () => {
   assert.equal(world.raw.length, 3 * 8);
   assert.equal(world.hash(), hash);
   for (const other of peers) other.free();
+});
+
+test("what is freed is used again", () => {
+  const scene = sceneOfTwo();
+  let bytes = 0;
+  for (let made = 0; made < 3000; made++) {
+    const peer = new Peer(scene, { ring: 64 });
+    peer.advance(64);
+    peer.settle();
+    peer.free();
+    if (made === 100) bytes = loaded().buffer.byteLength;
+  }
+  assert.equal(loaded().buffer.byteLength, bytes);
+});
+
+test("where all memory is taken, a call says so, and works again when some is there", () => {
+  const core = loaded();
+  const blocks = [];
+  for (let size = 2 ** 28; size >= 16; size /= 2) {
+    try {
+      for (;;) blocks.push(core.allocate(size));
+    } catch (error) {
+      assert.equal(error.name, "PF_OUT_OF_MEMORY");
+    }
+  }
+  assert.throws(() => sceneOfTwo(), (error) => error.name === "PF_OUT_OF_MEMORY");
+  for (const block of blocks) core.free(block);
+  assert.equal(sceneOfTwo().bodies.length, 3);
 });
 
 test("what the collector finds is freed", { skip: !globalThis.gc }, async () => {

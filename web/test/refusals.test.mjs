@@ -104,6 +104,7 @@ test("arguments of a wrong kind", () => {
     () => fromHex("0g"),
     () => fromHex("012"),
     () => new Peer({}),
+    () => new Peer(peer),
     () => peer.merge(scene),
     () => peer.mergeAlone(null),
   ]) {

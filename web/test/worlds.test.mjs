@@ -19,7 +19,8 @@ class Row {
 
 /** The text of a bin, and of the bodies above it. */
 function sceneText() {
-  const lines = [`gravity 0 ${-10 * ONE}`, `box - 0 ${ONE / 2} ${20 * ONE} ${ONE} 0 ${-ONE} ${ONE} 0`];
+  const floor = [20 * ONE, ONE, 0, -ONE, ONE, 0].join(" ");
+  const lines = [`gravity 0 ${-10 * ONE}`, `box - 0 ${ONE / 2} ${floor}`];
   for (const side of [-21, 21]) {
     lines.push(`box - 0 ${ONE / 2} ${ONE} ${20 * ONE} ${side * ONE} ${19 * ONE} ${ONE} 0`);
   }
@@ -69,5 +70,6 @@ test("the worlds of a long match are those of each machine", () => {
     assert.ok(own.equals(other));
     for (const peer of peers) peer.seal(tick);
   }
-  assert.equal(lines.join(""), readFileSync(new URL("../../capi/worlds.out", import.meta.url), "utf8"));
+  const stored = new URL("../../capi/worlds.out", import.meta.url);
+  assert.equal(lines.join(""), readFileSync(stored, "utf8"));
 });
