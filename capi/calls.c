@@ -141,7 +141,8 @@ static void keys(void) {
     EXPECT(pf_close(&context), PF_OK);
 }
 
-static void scene_errors(void) {
+/* Texts of scenes that are invalid, with their lines. */
+static void text_errors(void) {
     static const struct {
         const char *text;
         uint32_t code;
@@ -154,11 +155,9 @@ static void scene_errors(void) {
         {"gravity 0 0\ncircle 0 1 0 16777216 0 0\nend\n", PF_SCENE_BAD_MASS, 2},
         {"gravity 0 0\ncircle 0 0 0 1 0 0\nend\n", PF_SCENE_BAD_SIZE, 2},
     };
-    const pf_v2 far = {INT64_C(1) << 45, 0}, thin = {PF_ONE, 1}, half = {PF_ONE, PF_ONE};
-    const pf_material light = {1, 0, 0}, foreign = {0, 0, 8}, rough = {0, 67108865, 0};
     pf_context context = {0};
     pf_scene scene = {{77, 78}};
-    uint64_t line, body = 9;
+    uint64_t line;
     EXPECT(pf_open(&context), PF_OK);
     for (size_t i = 0; i < sizeof TEXTS / sizeof *TEXTS; i++) {
         const uint8_t *text = (const uint8_t *)TEXTS[i].text;
@@ -167,6 +166,17 @@ static void scene_errors(void) {
         EXPECT(line, TEXTS[i].line);
         EXPECT(scene.key.index, 77);
     }
+    EXPECT(pf_close(&context), PF_OK);
+}
+
+/* Scenes and bodies whose numbers are out of range. */
+static void scene_errors(void) {
+    const pf_v2 far = {INT64_C(1) << 45, 0}, thin = {PF_ONE, 1}, half = {PF_ONE, PF_ONE};
+    const pf_material light = {1, 0, 0}, foreign = {0, 0, 8}, rough = {0, 67108865, 0};
+    pf_context context = {0};
+    pf_scene scene = {{77, 78}};
+    uint64_t body = 9;
+    EXPECT(pf_open(&context), PF_OK);
     EXPECT(pf_scene_new(&context, (pf_v2){INT64_MIN, 0}, &scene), PF_SCENE_BAD_NUMBER);
     EXPECT(pf_scene_new(&context, (pf_v2){0, INT64_MAX}, &scene), PF_SCENE_BAD_NUMBER);
     EXPECT(scene.key.generation, 78);
@@ -504,14 +514,11 @@ static void buffers(void) {
     EXPECT(pf_close(&context), PF_OK);
 }
 
-/* A number at each limit of the header is allowed, and one beyond it is not. */
-static void limits(void) {
+/* A number of a scene at each limit of the header is allowed, and one beyond it is not. */
+static void scene_limits(void) {
     pf_context context = {0};
     pf_scene scene;
-    pf_peer peer;
-    pf_frame frame;
     uint64_t body;
-    uint32_t reached;
     EXPECT(pf_open(&context), PF_OK);
     for (int beyond = 0; beyond <= 1; beyond++) {
         pf_code bad_number = beyond ? PF_SCENE_BAD_NUMBER : PF_OK;
@@ -529,6 +536,22 @@ static void limits(void) {
         EXPECT(pf_scene_add_circle(&context, scene, STATIC, PF_ONE, at, &body), bad_number);
         EXPECT(pf_scene_add_box(&context, scene, STATIC, half, ORIGIN, UPRIGHT, &body), bad_size);
     }
+    for (int count = 0; count < PF_MAX_BODIES; count++)
+        EXPECT(pf_scene_add_circle(&context, scene, STATIC, PF_ONE, ORIGIN, &body), PF_OK);
+    EXPECT(pf_scene_add_circle(&context, scene, STATIC, PF_ONE, ORIGIN, &body), PF_SCENE_TOO_MANY);
+    EXPECT(pf_close(&context), PF_OK);
+}
+
+/* The same of a peer. */
+static void peer_limits(void) {
+    pf_context context = {0};
+    pf_scene scene;
+    pf_peer peer;
+    pf_frame frame;
+    uint64_t body;
+    uint32_t reached;
+    EXPECT(pf_open(&context), PF_OK);
+    EXPECT(pf_scene_new(&context, ORIGIN, &scene), PF_OK);
     EXPECT(pf_scene_add_circle(&context, scene, OF_PLAYER_0, PF_ONE, ORIGIN, &body), PF_OK);
     EXPECT(pf_peer_new(&context, scene, 0, PF_MAX_RING + 1, &peer), PF_BAD_RING);
     EXPECT(pf_peer_new(&context, scene, PF_MAX_PLAYERS, 1, &peer), PF_BAD_PLAYER);
@@ -543,13 +566,21 @@ static void limits(void) {
     }
     EXPECT(pf_peer_advance(&context, peer, PF_MAX_TICK, &reached), PF_OK);
     EXPECT(pf_peer_advance(&context, peer, 1, &reached), PF_TICK_LIMIT);
-    for (int count = 1; count < PF_MAX_BODIES; count++)
-        EXPECT(pf_scene_add_circle(&context, scene, STATIC, PF_ONE, ORIGIN, &body), PF_OK);
-    EXPECT(pf_scene_add_circle(&context, scene, STATIC, PF_ONE, ORIGIN, &body), PF_SCENE_TOO_MANY);
     EXPECT(pf_close(&context), PF_OK);
 }
 
-/* The name of each code, into arrays of each length. */
+/* The library's version, and the name of each code as a string. */
+static void strings(void) {
+    EXPECT(pf_version(), PF_VERSION);
+    for (uint32_t code = 0; code <= PF_NOT_OWNER + 1; code++) {
+        char name[PF_NAME_LEN];
+        uint64_t needed;
+        EXPECT(pf_error_name(code, name, sizeof name, &needed), PF_OK);
+        EXPECT(strcmp(pf_code_name(code), name), 0);
+    }
+}
+
+/* Names of codes, into arrays of each length. */
 static void names(void) {
     static const struct {
         uint32_t code;
@@ -568,13 +599,6 @@ static void names(void) {
         {PF_NOT_OWNER + 1, ""},
         {UINT32_MAX, ""},
     };
-    for (uint32_t code = 0; code <= PF_NOT_OWNER + 1; code++) {
-        char name[PF_NAME_LEN];
-        uint64_t needed;
-        EXPECT(pf_error_name(code, name, sizeof name, &needed), PF_OK);
-        EXPECT(strcmp(pf_code_name(code), name), 0);
-    }
-    EXPECT(pf_version(), PF_VERSION);
     for (size_t i = 0; i < sizeof NAMES / sizeof *NAMES; i++) {
         size_t needs = strlen(NAMES[i].name) + 1;
         EXPECT(needs <= PF_NAME_LEN, 1);
@@ -594,10 +618,13 @@ static void names(void) {
 }
 
 int main(void) {
-    limits();
+    scene_limits();
+    peer_limits();
+    strings();
     names();
     closed_contexts();
     keys();
+    text_errors();
     scene_errors();
     peer_errors();
     frame_errors();
