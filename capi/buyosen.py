@@ -31,11 +31,12 @@ PUTS = ("new", "same", "greater", "lesser")
 
 
 class Error(Exception):
-    """A call that failed, and why: `code` and `name` of pf.h, `line` that of an invalid line."""
+    """A call that failed, and why: a sentence, `code` and `name` of pf.h, `line` of a scene."""
 
     def __init__(self, code, line=None):
-        self.name = _name(code)
-        super().__init__(self.name + (f" in line {line}" if line else ""))
+        self.name = _written("name", code)
+        place = f"line {line}: " if line else ""
+        super().__init__(f"{place}{_written('text', code)} ({self.name})")
         self.code = code
         self.line = line
 
@@ -139,16 +140,17 @@ def _load():
         function = getattr(library, "pf_" + name)
         function.argtypes = [POINTER(_Context), *parameters]
         function.restype = c_uint32
-    library.pf_error_name.argtypes = [c_uint32, ctypes.c_char_p, c_size_t, POINTER(c_uint64)]
-    library.pf_error_name.restype = c_uint32
+    for function in (library.pf_error_name, library.pf_error_text):
+        function.argtypes = [c_uint32, ctypes.c_char_p, c_size_t, POINTER(c_uint64)]
+        function.restype = c_uint32
     return library
 
 
-def _name(code):
-    """The name of a code, as PF_BAD_KEY."""
-    name, needed = ctypes.create_string_buffer(32), c_uint64()
-    _LIBRARY.pf_error_name(code, name, len(name), byref(needed))
-    return name.value.decode()
+def _written(what, code):
+    """The "name" of a code, as PF_BAD_KEY, or the "text" that says what it means."""
+    array, needed = ctypes.create_string_buffer(96), c_uint64()
+    getattr(_LIBRARY, "pf_error_" + what)(code, array, len(array), byref(needed))
+    return array.value.decode()
 
 
 _LIBRARY = _load()

@@ -569,7 +569,7 @@ static void peer_limits(void) {
     EXPECT(pf_close(&context), PF_OK);
 }
 
-/* The library's version, and the name of each code as a string. */
+/* The library's version, and the name of each code as a string; what has a name has a text. */
 static void strings(void) {
     EXPECT(pf_version(), PF_VERSION);
     for (uint32_t code = 0; code <= PF_NOT_OWNER + 1; code++) {
@@ -577,43 +577,57 @@ static void strings(void) {
         uint64_t needed;
         EXPECT(pf_error_name(code, name, sizeof name, &needed), PF_OK);
         EXPECT(strcmp(pf_code_name(code), name), 0);
+        char text[PF_TEXT_LEN];
+        EXPECT(pf_error_text(code, text, sizeof text, &needed), PF_OK);
+        EXPECT(*text == 0, *name == 0);
     }
 }
 
-/* Names of codes, into arrays of each length. */
+typedef pf_code writer(uint32_t code, char *text, size_t text_length, uint64_t *needed);
+
+/* What a call writes for a code, into arrays of each length up to the most that it needs. */
+static void written(writer *write, uint32_t code, const char *text, size_t most) {
+    size_t needs = strlen(text) + 1;
+    EXPECT(needs <= most, 1);
+    for (size_t length = 0; length <= most; length++) {
+        char array[PF_TEXT_LEN + 1], untouched[PF_TEXT_LEN + 1];
+        uint64_t needed = 0;
+        memset(array, '#', sizeof array);
+        memset(untouched, '#', sizeof untouched);
+        EXPECT(write(code, array, length, &needed), length < needs ? PF_SMALL_BUFFER : PF_OK);
+        EXPECT(needed, needs);
+        size_t count = length < needs ? 0 : needs;
+        EXPECT(memcmp(array, text, count), 0);
+        EXPECT(memcmp(array + count, untouched, sizeof array - count), 0);
+    }
+}
+
+/* Names of codes, and what they mean. */
 static void names(void) {
     static const struct {
         uint32_t code;
-        const char *name;
-    } NAMES[] = {
-        {PF_OK, "PF_OK"},
-        {PF_OUT_OF_MEMORY, "PF_OUT_OF_MEMORY"},
-        {PF_BAD_KEY, "PF_BAD_KEY"},
-        {PF_FULL, "PF_FULL"},
-        {PF_SCENE_BAD_SIZE, "PF_SCENE_BAD_SIZE"},
-        {PF_BASES_DIFFER, "PF_BASES_DIFFER"},
-        {PF_FRAME_NOT_CANONICAL, "PF_FRAME_NOT_CANONICAL"},
-        {PF_NOT_OWNER, "PF_NOT_OWNER"},
-        {PF_BAD_ROUNDING, "PF_BAD_ROUNDING"},
-        {11, ""},
-        {PF_NOT_OWNER + 1, ""},
-        {UINT32_MAX, ""},
+        const char *name, *text;
+    } CODES[] = {
+        {PF_OK, "PF_OK", "done"},
+        {PF_OUT_OF_MEMORY, "PF_OUT_OF_MEMORY", "out of memory"},
+        {PF_BAD_KEY, "PF_BAD_KEY", "the key names nothing"},
+        {PF_FULL, "PF_FULL", "the context has no key left"},
+        {PF_SCENE_BAD_SIZE, "PF_SCENE_BAD_SIZE",
+         "a radius or a half extent is not from 2^20 to 2^34"},
+        {PF_NUMBERS_SPENT, "PF_NUMBERS_SPENT",
+         "the player has no number left for a command at the reached tick"},
+        {PF_BASES_DIFFER, "PF_BASES_DIFFER", "the other peer has another world at the horizon"},
+        {PF_FRAME_NOT_CANONICAL, "PF_FRAME_NOT_CANONICAL",
+         "a field that the command does not use is not 0"},
+        {PF_NOT_OWNER, "PF_NOT_OWNER", "the body belongs to another player, or to nobody"},
+        {PF_BAD_ROUNDING, "PF_BAD_ROUNDING", "the processor does not round to the nearest double"},
+        {11, "", ""},
+        {PF_NOT_OWNER + 1, "", ""},
+        {UINT32_MAX, "", ""},
     };
-    for (size_t i = 0; i < sizeof NAMES / sizeof *NAMES; i++) {
-        size_t needs = strlen(NAMES[i].name) + 1;
-        EXPECT(needs <= PF_NAME_LEN, 1);
-        for (size_t length = 0; length <= PF_NAME_LEN; length++) {
-            char name[PF_NAME_LEN + 1], untouched[PF_NAME_LEN + 1];
-            uint64_t needed = 0;
-            memset(name, '#', sizeof name);
-            memset(untouched, '#', sizeof untouched);
-            EXPECT(pf_error_name(NAMES[i].code, name, length, &needed),
-                   length < needs ? PF_SMALL_BUFFER : PF_OK);
-            EXPECT(needed, needs);
-            size_t written = length < needs ? 0 : needs;
-            EXPECT(memcmp(name, NAMES[i].name, written), 0);
-            EXPECT(memcmp(name + written, untouched, sizeof name - written), 0);
-        }
+    for (size_t i = 0; i < sizeof CODES / sizeof *CODES; i++) {
+        written(pf_error_name, CODES[i].code, CODES[i].name, PF_NAME_LEN);
+        written(pf_error_text, CODES[i].code, CODES[i].text, PF_TEXT_LEN);
     }
 }
 

@@ -55,6 +55,7 @@ extern "C" {
 #define PF_FRAME_LEN 27 /* the bytes of a command */
 #define PF_NOBODY 255   /* the owner of a body that no player may move */
 #define PF_NAME_LEN 32  /* bytes that the name of each code fits into */
+#define PF_TEXT_LEN 96  /* bytes that the text of each code fits into */
 
 /* Limits, of numbers in units of 2^-24. A negative number is at least the limit's negative. */
 #define PF_MAX_BODIES 1024
@@ -201,6 +202,10 @@ const char *pf_code_name(uint32_t code);
 /* Writes the name of a code, with a zero behind it, to the front of an array, and how many bytes
  * that takes: also where the call returns PF_SMALL_BUFFER. For languages that pass arrays. */
 pf_code pf_error_name(uint32_t code, char *name, size_t name_length, uint64_t *needed);
+
+/* Writes what a code means, as "the key names nothing", in the same way. The text of a number that
+ * is no code is empty. */
+pf_code pf_error_text(uint32_t code, char *text, size_t text_length, uint64_t *needed);
 
 /* --- Contexts ------------------------------------------------------------------------------- */
 

@@ -38,7 +38,8 @@ class Calls(unittest.TestCase):
     def test_a_line_that_is_invalid_is_named(self):
         text = b"gravity 0 0\nsquare\nend\n"
         error = self.assert_code(BAD_LINE, self.context.read_scene, text)
-        self.assertEqual((error.line, str(error)), (2, "PF_SCENE_BAD_LINE in line 2"))
+        told = "line 2: no such line may stand here (PF_SCENE_BAD_LINE)"
+        self.assertEqual((error.line, str(error)), (2, told))
 
     def test_late_frames_make_worlds_equal(self):
         ours, theirs = self.scene.peer(0, 8), self.scene.peer(1, 8)

@@ -10,21 +10,23 @@ export const PF_FRAME_BAD_KIND = 51;
 export const PF_UNKNOWN_BODY = 64;
 
 const CONTEXT_BYTES = 16;
-const NAME_BYTES = 32;
+const TEXT_BYTES = 96;
 /** Room for what a call writes, and behind it for what it reads. */
 const OUTPUT_BYTES = 32;
-const INPUT_BYTES = 64;
+const INPUT_BYTES = 96;
 
 /** A call that the core refused. It changed nothing. */
 export class PfError extends Error {
   /**
    * @param {number} code the number of pf.h
    * @param {string} name its name, as "PF_NOT_OWNER"
+   * @param {string} text what it means
    * @param {string} call the call that returned it, as "pf_peer_push"
    * @param {number} [line] the line of a scene's text, counted from 1
    */
-  constructor(code, name, call, line) {
-    super(`${name} (${code}) from ${call}${line === undefined ? "" : `, line ${line}`}`);
+  constructor(code, name, text, call, line) {
+    const place = line === undefined ? "" : `line ${line}: `;
+    super(`${place}${text} (${name}, ${call})`);
     this.name = name;
     this.code = code;
     this.call = call;
@@ -91,7 +93,7 @@ class Core {
    */
   allocate(length) {
     const at = this.#exports.malloc(Math.max(length, 1)) >>> 0;
-    if (at === 0) throw new PfError(PF_OUT_OF_MEMORY, "PF_OUT_OF_MEMORY", "malloc");
+    if (at === 0) throw new PfError(PF_OUT_OF_MEMORY, "PF_OUT_OF_MEMORY", "out of memory", "malloc");
     return at;
   }
 
@@ -135,9 +137,18 @@ class Core {
    * @param {number} [line]
    */
   error(code, call, line) {
-    this.#exports.flat_pf_error_name(code, this.input, BigInt(NAME_BYTES), this.output);
-    const name = String.fromCharCode(...this.bytes(this.input, this.told() - 1));
-    return new PfError(code, name, call, line);
+    const name = this.written("flat_pf_error_name", code);
+    return new PfError(code, name, this.written("flat_pf_error_text", code), call, line);
+  }
+
+  /**
+   * What a call writes about a code.
+   * @param {string} call
+   * @param {number} code
+   */
+  written(call, code) {
+    this.#exports[call](code, this.input, BigInt(TEXT_BYTES), this.output);
+    return String.fromCharCode(...this.bytes(this.input, this.told() - 1));
   }
 }
 

@@ -1,6 +1,6 @@
 -- Commands that C issues.
 use Rattle.std.specs.Prelude.{◌≡◌, ℕ, List, Result, Ok, Err}
-use Rattle.pf_table.specs.declared.key.Key.{Key}
+use Rattle.pf_context.specs.declared.key.Key.{Key}
 use Rattle.pf_commands.specs.declared.payload.Payload.{Payload}
 use Rattle.pf_rollback.specs.Core.{news_tick}
 use Rattle.pf_rollback.specs.Peer.{issue, next_command}

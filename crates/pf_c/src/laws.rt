@@ -4,7 +4,7 @@ ghost use Rattle.std.specs.Prelude.{◌≡◌, ◌≢◌, ◌↔◌, ◌<◌, Is
 ghost use Rattle.pf_context.specs.declared.error.ContextError.{ContextError};
 ghost use Rattle.pf_c.specs.Codes.{code_of, error_code};
 ghost use Rattle.pf_c.specs.Kinds.{error_kind};
-ghost use Rattle.pf_c.specs.Names.{code_name};
+ghost use Rattle.pf_c.specs.Names.{code_name, code_text};
 ghost use Rattle.pf_c.specs.declared.codes.TheConstants.{PF_BAD_KEY, PF_BAD_NUMBER, PF_BAD_PLAYER, PF_BAD_RING, PF_CHECK, PF_CLOSED, PF_FRAME, PF_FULL, PF_OK, PF_OUT_OF_MEMORY, PF_REFUSED, PF_SCENE, PF_SMALL_BUFFER, PF_STILL_OPEN};
 ghost use Rattle.pf_c.specs.declared.scenes.TheConstants.{PF_NOBODY};
 
@@ -39,7 +39,8 @@ pub fn errors_of_one_code_are_alike()
     ensures { (a b : ContextError) → error_code a ≡ error_code b → error_kind a ≡ error_kind b }
 {}
 
-/// Each error has a code with a name.
+/// Each error has a code with a name and a text.
 pub fn errors_have_names()
-    ensures { (error : ContextError) → 0 < length (code_name (error_code error)) }
+    ensures { (error : ContextError) → let code = error_code error in
+        (0 < length (code_name code)) × (0 < length (code_text code)) }
 {}

@@ -1,7 +1,7 @@
-//! The name of each code.
+//! The name of each code, and a sentence that says what it means.
 
 ghost use Rattle.std.specs.Prelude.{◌≡◌, ◌+◌, length};
-ghost use Rattle.pf_c.specs.Names.{WritesText, code_name};
+ghost use Rattle.pf_c.specs.Names.{WritesText, code_name, code_text};
 
 use crate::codes::{PF_OK, PF_SMALL_BUFFER};
 
@@ -46,6 +46,47 @@ fn code_name(code: u32) -> &'static str
     }
 }
 
+/// What a code means; a number that is no code has an empty text.
+#[tactic(auto, unfolding(crate::specs::Names::code_text))]
+fn code_text(code: u32) -> &'static str
+    ensures { result.now ≡ code_text code }
+{
+    match code {
+        0 => "done",
+        1 => "out of memory",
+        2 => "the processor does not round to the nearest double",
+        3 => "the context is closed",
+        4 => "the key names nothing",
+        5 => "a buffer is too small",
+        6 => "the number of a player is not below 8",
+        7 => "the number of settled worlds to keep is not from 1 to 64",
+        8 => "a number is out of its range",
+        9 => "the context is open already",
+        10 => "the context has no key left",
+        16 => "no such line may stand here",
+        17 => "a field is no whole number, or out of its range",
+        18 => "the scene has as many bodies as it may have",
+        19 => "a mass is neither 0 nor from 2^20 to 2^34",
+        20 => "a radius or a half extent is not from 2^20 to 2^34",
+        32 => "the last tick, 1,048,576, leaves no tick for this",
+        33 => "the player has no number left for a command at the reached tick",
+        34 => "the tick is above the reached tick",
+        35 => "the tick is before the horizon: what came before it is sealed",
+        36 => "the horizons differ",
+        37 => "the other peer has another world at the horizon",
+        48 => "the frame has fewer than 27 bytes",
+        49 => "the frame has more than 27 bytes",
+        50 => "the frame begins with neither 1 nor 2",
+        51 => "the version of the frame has no such kind of command",
+        52 => "a field that the command does not use is not 0",
+        53 => "a field of the frame is out of its range",
+        64 => "the scene has no body of this number",
+        65 => "the body is static",
+        66 => "the body belongs to another player, or to nobody",
+        _ => "",
+    }
+}
+
 /// Writes a text, with a zero behind it, to the front of a buffer, if it fits.
 fn write_text(text: &[u8], buffer: &mut [u8]) -> u32
     ensures { WritesText text.now buffer.old buffer.new result }
@@ -69,4 +110,15 @@ pub extern "C" fn pf_error_name(code: u32, name: &mut [u8], needed: &mut u64) ->
     let text = code_name(code).as_bytes();
     *needed = text.len() as u64 + 1;
     write_text(text, name)
+}
+
+/// Writes what a code means, a sentence without a full stop, as [`pf_error_name`] writes its name.
+#[unsafe(no_mangle)]
+pub extern "C" fn pf_error_text(code: u32, text: &mut [u8], needed: &mut u64) -> u32
+    ensures text { WritesText (code_text code) text.old text.new result }
+    ensures needed { needed.new ≡ length (code_text code) + 1 }
+{
+    let meaning = code_text(code).as_bytes();
+    *needed = meaning.len() as u64 + 1;
+    write_text(meaning, text)
 }

@@ -6,7 +6,7 @@ use Rattle.pf_rows.specs.Impulses.{same_impulses}
 use Rattle.pf_cache.specs.Contact.{Contact}
 
 -- the same key and the same accumulated impulses
-unfoldable pub same_contact : Contact → Contact → Bool
+abbrev pub same_contact : Contact → Contact → Bool
 same_contact a b = same_key a.key b.key && same_impulses a.impulses b.impulses
 
 -- the same contacts in the same order

@@ -12,7 +12,6 @@ use Rattle.pf_cache.specs.Contact.{Contact}
 use Rattle.pf_cache.specs.Same.{same_contact, same_contacts}
 
 pub Decides-contact : (a b : Contact) → Decides (same_contact a b) (a ≡ b)
-unfolding same_contact
 Decides-contact a b =
     Decides-like (same_contact a b) (λ e i. record {
       key = e.0 i;
@@ -23,9 +22,6 @@ Decides-contact a b =
 
 pub Decides-contacts : (a b : List Contact) → Decides (same_contacts a b) (a ≡ b)
 Decides-contacts a b = slice_eq-Decides Decides-contact a b _ refl
-
-pub contacts_equivalent : IsEquivalence same_contact
-contacts_equivalent = decided same_contact Decides-contact
 
 pub lists_equivalent : IsEquivalence same_contacts
 lists_equivalent = decided same_contacts Decides-contacts

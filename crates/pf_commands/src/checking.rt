@@ -12,13 +12,13 @@ use thiserror::Error;
 #[derive(Clone, Copy, Debug, PartialEq, Eq, Error)]
 pub enum CheckFault {
     /// The scene has no body of this number.
-    #[error("UnknownBody")]
+    #[error("the scene has no body of this number")]
     UnknownBody,
     /// The body is static.
-    #[error("StaticBody")]
+    #[error("the body is static")]
     StaticBody,
     /// The body belongs to another player, or to nobody.
-    #[error("NotOwner")]
+    #[error("the body belongs to another player, or to nobody")]
     NotOwner,
 }
 

@@ -15,7 +15,7 @@ use thiserror::Error;
 #[derive(Clone, Copy, Debug, PartialEq, Eq, Error)]
 pub enum DigitsFault {
     /// They are no bytes: their count is odd, or one is no hexadecimal digit.
-    #[error("BadNumber")]
+    #[error("the digits encode no bytes")]
     BadNumber,
     /// The bytes encode no command.
     #[error("{0}")]

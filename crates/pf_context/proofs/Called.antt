@@ -2,9 +2,9 @@
 use Rattle.std.proofs.Common.{◌≡◌, ◌≢◌, List, arith, refl, subst, sym}
 use Rattle.std.proofs.lemmas.Grind.{common_steps}
 use Rattle.std.specs.Prelude.{IsSome, MatchOption, Option, None, Result, Err, Some}
-use Rattle.pf_table.specs.declared.key.Key.{Key}
-use Rattle.pf_table.specs.declared.table.Slot.{Slot}
-use Rattle.pf_table.specs.Table.{value_at, with_value_out}
+use Rattle.pf_context.specs.declared.key.Key.{Key}
+use Rattle.pf_context.specs.declared.table.Slot.{Slot}
+use Rattle.pf_context.specs.Table.{value_at, with_value_out}
 use Rattle.pf_context.specs.declared.error.ContextError.{ContextError}
 use Rattle.pf_context.specs.declared.error.ContextError.TheVariants.{BadKey}
 use Rattle.pf_context.specs.Context.{Context}

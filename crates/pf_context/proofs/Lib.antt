@@ -2,3 +2,5 @@
 pub mod Buffers
 pub mod Called
 pub mod Later
+pub mod History
+pub mod Slots

@@ -1,9 +1,9 @@
 -- What a call does through a context: the call of one peer or of one scene, and nothing else.
 use Rattle.std.specs.Prelude.{◌≡◌, ◌≢◌, ◌≤◌, ◌-◌, ◌&&◌, ◌⊎◌, ℕ, IfErr, IfOk, IsOk, IsSome, List, [], MatchOption, OnErr, OnOk, Option, None, Some, Result, Ok, Err, if◌then◌else◌, length, nat_le, nat_lt}
 use Rattle.std.specs.FinMap.{get}
-use Rattle.pf_table.specs.declared.key.Key.{Key}
-use Rattle.pf_table.specs.declared.table.Slot.{Slot}
-use Rattle.pf_table.specs.Table.{IsFull, IsNextKey}
+use Rattle.pf_context.specs.declared.key.Key.{Key}
+use Rattle.pf_context.specs.declared.table.Slot.{Slot}
+use Rattle.pf_context.specs.Table.{IsFull, IsNextKey}
 use Rattle.pf_rot.specs.Vector.{V2}
 use Rattle.pf_rot.specs.Rotation.{Rot}
 use Rattle.pf_shapes.specs.declared.fault.SceneFault.{SceneFault}

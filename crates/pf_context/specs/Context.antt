@@ -1,8 +1,8 @@
 -- Contexts: scenes and peers under keys, and what changes of them.
 use Rattle.std.specs.Prelude.{List, [], Option}
-use Rattle.pf_table.specs.declared.key.Key.{Key}
-use Rattle.pf_table.specs.declared.table.Slot.{Slot}
-use Rattle.pf_table.specs.Table.{value_at, with_new_value, with_value, without_value}
+use Rattle.pf_context.specs.declared.key.Key.{Key}
+use Rattle.pf_context.specs.declared.table.Slot.{Slot}
+use Rattle.pf_context.specs.Table.{value_at, with_new_value, with_value, without_value}
 use Rattle.pf_shapes.specs.Scene.{Scene}
 use Rattle.pf_rollback.specs.Core.{PeerCore}
 

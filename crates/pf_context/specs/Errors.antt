@@ -5,8 +5,8 @@ use Rattle.pf_shapes.specs.declared.read.ReadError.{ReadError}
 use Rattle.pf_shapes.specs.declared.read.ReadError.TheVariants as reading
 use Rattle.pf_rollback.specs.declared.error.PeerError.{PeerError}
 use Rattle.pf_rollback.specs.declared.error.PeerError.TheVariants as faults
-use Rattle.pf_table.specs.declared.table.TableError.{TableError}
-use Rattle.pf_table.specs.declared.table.TableError.TheVariants as tables
+use Rattle.pf_context.specs.declared.table.TableError.{TableError}
+use Rattle.pf_context.specs.declared.table.TableError.TheVariants as tables
 use Rattle.pf_context.specs.declared.error.ContextError.{ContextError}
 use Rattle.pf_context.specs.declared.error.ContextError.TheVariants as errors
 

@@ -1,4 +1,6 @@
 -- What the contracts of this crate cite.
+pub mod Table
+pub mod Loan
 pub mod Context
 pub mod Errors
 pub mod Numbers

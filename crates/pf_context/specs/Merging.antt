@@ -1,6 +1,6 @@
 -- Commands that one peer of a context takes from another.
 use Rattle.std.specs.Prelude.{◌≡◌, ◌≢◌, ◌↔◌, ◌⊎◌, ℕ, IsErrOf, None, Result, Some}
-use Rattle.pf_table.specs.declared.key.Key.{Key}
+use Rattle.pf_context.specs.declared.key.Key.{Key}
 use Rattle.pf_rollback.specs.declared.error.PeerError.{PeerError}
 use Rattle.pf_rollback.specs.Core.{PeerCore}
 use Rattle.pf_rollback.specs.Peer.{Peer}

@@ -3,8 +3,8 @@
 use crate::context::Context;
 use crate::cores;
 use crate::error::ContextError;
+use crate::key::Key;
 use pf_commands::{FRAME_LEN, Payload, Put};
-use pf_table::Key;
 
 impl Context {
     ghost use Rattle.std.specs.Prelude.{◌≡◌, ◌↔◌, IsErrOf, None};

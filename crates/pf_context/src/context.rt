@@ -3,9 +3,10 @@
 ghost use Rattle.std.specs.Prelude.{◌≡◌};
 
 use crate::error::ContextError;
+use crate::key::Key;
+use crate::table::Table;
 use pf_rollback::PeerCore;
 use pf_shapes::Scene;
-use pf_table::{Key, Table};
 use std::alloc::Global;
 use std::marker::Model;
 

@@ -5,9 +5,9 @@ ghost use Rattle.pf_context.specs.declared.error.ContextError.TheVariants.{Scene
 ghost use Rattle.pf_context.specs.Errors.{memory_error, peer_error, read_error, table_error};
 
 use crate::plain::Sizes;
+use crate::table::TableError;
 use pf_rollback::{PeerError, Refusal};
 use pf_shapes::{ReadError, SceneFault};
-use pf_table::TableError;
 use std::alloc::AllocError;
 use thiserror::Error;
 

@@ -9,9 +9,9 @@ ghost use Rattle.pf_context.specs.Frames.{frame_of, later_commands};
 
 use crate::context::Context;
 use crate::error::ContextError;
+use crate::key::Key;
 use pf_commands::{Command, CommandMap, FRAME_LEN, check, encode};
 use pf_shapes::Scene;
-use pf_table::Key;
 
 /// The frame of a command that the scene allows.
 fn frame(scene: &Scene, command: &Command) -> [u8; FRAME_LEN]

@@ -3,8 +3,8 @@
 use crate::context::Context;
 use crate::cores;
 use crate::error::ContextError;
+use crate::key::Key;
 use pf_rollback::PeerError;
-use pf_table::Key;
 
 /// From which peers a peer takes commands.
 #[derive(Clone, Copy, Debug, PartialEq, Eq)]

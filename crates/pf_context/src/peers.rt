@@ -5,9 +5,10 @@ ghost use Rattle.pf_context.specs.Errors.{table_error};
 
 use crate::context::Context;
 use crate::error::ContextError;
+use crate::key::Key;
+use crate::table::Rejection;
 use pf_rollback::{MAX_RING, PeerCore};
 use pf_shapes::PLAYERS;
-use pf_table::{Key, Rejection};
 use std::alloc::Global;
 
 /// Why a table did not take a peer, which is dropped.

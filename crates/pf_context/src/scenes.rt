@@ -7,10 +7,10 @@ ghost use Rattle.pf_context.specs.Numbers.{body_of};
 
 use crate::context::Context;
 use crate::error::ContextError;
+use crate::key::Key;
 use crate::numbers::{self, Material, RawV2};
 use pf_rot::{Rot, V2};
 use pf_shapes::{Fixture, MAX_BODIES, Scene, SceneFault};
-use pf_table::Key;
 use std::alloc::Global;
 
 /// Pushes a body onto a scene, and returns its number.

@@ -3,8 +3,8 @@
 use crate::context::Context;
 use crate::cores;
 use crate::error::ContextError;
+use crate::key::Key;
 use pf_cache::Meter;
-use pf_table::Key;
 use std::alloc::Global;
 
 impl Context {

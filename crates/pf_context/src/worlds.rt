@@ -5,9 +5,9 @@ ghost use Rattle.pf_context.specs.Worlds.{WritesWorld, sizes_of};
 
 use crate::context::Context;
 use crate::error::ContextError;
+use crate::key::Key;
 use crate::plain::{PlainBody, PlainContact, Sizes, write_bodies, write_contacts};
 use pf_step::{Work, World};
-use pf_table::Key;
 use std::alloc::Global;
 
 /// Writes a world to the fronts of two buffers, where both have room, and returns what it needs.

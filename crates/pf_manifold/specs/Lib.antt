@@ -15,5 +15,4 @@ pub mod Laws
 pub mod Touches
 pub mod Key
 pub mod SameKeys
-pub mod SameTouches
 pub mod GeometryLaws

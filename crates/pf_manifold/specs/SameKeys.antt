@@ -19,6 +19,3 @@ Decides-key a b =
     (λ e. (ap (λ (k : Key). k.a) e, (ap (λ (k : Key). k.b) e, ap (λ (k : Key). k.feature) e)))
     (Decides-and _ _ (Decides-eqb a.a b.a)
     (Decides-and _ _ (Decides-eqb a.b b.b) (Decides-eqb a.feature b.feature)))
-
-pub keys_equivalent : IsEquivalence same_key
-keys_equivalent = decided same_key Decides-key

@@ -8,7 +8,7 @@ use std::marker::Model;
 
 /// The key of a contact: its bodies, and the feature that makes its point, as Box2D-Lite's
 /// `ArbiterKey` and `FeaturePair`. The same key at the next tick is the same contact.
-#[derive(Clone, Copy, Debug)]
+#[derive(Clone, Copy, Debug, PartialEq, Eq)]
 pub struct Key {
     /// The number of the first body, which is the lesser.
     pub a: u16,
@@ -26,26 +26,6 @@ impl Model for Key {
     ghost view = { λ k. record { a = k.a; b = k.b; feature = k.feature } };
 
     ghost inverse = { λ k. record { a = k.a; b = k.b; feature = k.feature } };
-}
-
-impl PartialEq for Key {
-    ghost use Rattle.std.specs.Cmp.{partial_equiv_from_equiv};
-    ghost use Rattle.pf_manifold.specs.SameKeys.{same_key};
-    ghost use Rattle.pf_manifold.specs.SameKeys.{keys_equivalent};
-
-    ghost eq = { same_key };
-
-    ghost laws = { partial_equiv_from_equiv keys_equivalent };
-
-    fn eq(&self, other: &Key) -> bool {
-        self.a == other.a && self.b == other.b && self.feature == other.feature
-    }
-}
-
-impl Eq for Key {
-    ghost use Rattle.pf_manifold.specs.SameKeys.{keys_equivalent};
-
-    ghost laws = { keys_equivalent };
 }
 
 impl Key {

@@ -16,7 +16,7 @@ use std::alloc::{AllocError, Global};
 use std::marker::Model;
 
 /// A contact point of two bodies of a scene.
-#[derive(Clone, Copy, Debug)]
+#[derive(Clone, Copy, Debug, PartialEq, Eq)]
 pub struct Touch {
     /// The number of the first body, which is the lesser.
     pub a: u16,
@@ -32,26 +32,6 @@ impl Model for Touch {
     ghost view = { λ t. record { a = t.a; b = t.b; point = t.point } };
 
     ghost inverse = { λ t. record { a = t.a; b = t.b; point = t.point } };
-}
-
-impl PartialEq for Touch {
-    ghost use Rattle.std.specs.Cmp.{partial_equiv_from_equiv};
-    ghost use Rattle.pf_manifold.specs.SameTouches.{same_touch, touches_equivalent};
-
-    ghost eq = { same_touch };
-
-    ghost laws = { partial_equiv_from_equiv touches_equivalent };
-
-    #[tactic(auto, unfolding(crate::specs::SameTouches::same_touch))]
-    fn eq(&self, other: &Touch) -> bool {
-        self.a == other.a && self.b == other.b && self.point == other.point
-    }
-}
-
-impl Eq for Touch {
-    ghost use Rattle.pf_manifold.specs.SameTouches.{touches_equivalent};
-
-    ghost laws = { touches_equivalent };
 }
 
 /// The shape of the body of this number at its position and rotation.

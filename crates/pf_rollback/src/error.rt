@@ -12,10 +12,10 @@ use thiserror::Error;
 pub enum Refusal {
     /// The last tick, 1,048,576: the peer would pass it, or has reached it and has no tick left for
     /// a command.
-    #[error("TickLimit")]
+    #[error("the last tick, 1,048,576, leaves no tick for this")]
     TickLimit,
     /// The peer holds a command of its player at the reached tick with the last number, 65,535.
-    #[error("NumbersSpent")]
+    #[error("the player has no number left for a command at the reached tick")]
     NumbersSpent,
     /// The bytes are no command's frame.
     #[error("{0}")]
@@ -24,16 +24,16 @@ pub enum Refusal {
     #[error("{0}")]
     Check(CheckFault),
     /// The tick is above the reached tick, which is given here.
-    #[error("NotReached {0}")]
+    #[error("the tick is above {0}, the reached tick")]
     NotReached(u32),
     /// The tick is before the horizon, which is given here: what came before it is sealed.
-    #[error("TooOld {0}")]
+    #[error("the tick is before {0}, the horizon: what came before it is sealed")]
     TooOld(u32),
     /// The horizons differ: this peer's, then the other's.
-    #[error("HorizonsDiffer {0} {1}")]
+    #[error("the horizons differ: {0} here and {1} there")]
     HorizonsDiffer(u32, u32),
     /// The other peer has another world at the horizon.
-    #[error("BasesDiffer")]
+    #[error("the other peer has another world at the horizon")]
     BasesDiffer,
 }
 

@@ -14,6 +14,3 @@ Decides-impulses a b =
     })
     (λ e. (ap (λ (p : Impulses). p.normal) e, ap (λ (p : Impulses). p.tangent) e))
     (Decides-and _ _ (Decides-int_eq a.normal b.normal) (Decides-int_eq a.tangent b.tangent))
-
-pub impulses_equivalent : IsEquivalence same_impulses
-impulses_equivalent = decided same_impulses Decides-impulses

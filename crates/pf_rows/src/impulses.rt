@@ -5,7 +5,7 @@ use std::marker::Model;
 
 /// The accumulated impulses of a contact, Box2D-Lite's `Pn` and `Pt`: what it applies in a tick,
 /// with which the next tick starts warm. In units of 2^-24.
-#[derive(Clone, Copy, Debug)]
+#[derive(Clone, Copy, Debug, PartialEq, Eq)]
 pub struct Impulses {
     /// Along the normal.
     pub normal: Fx,
@@ -21,26 +21,6 @@ impl Model for Impulses {
     ghost view = { λ p. record { normal = p.normal; tangent = p.tangent } };
 
     ghost inverse = { λ p. record { normal = p.normal; tangent = p.tangent } };
-}
-
-impl PartialEq for Impulses {
-    ghost use Rattle.std.specs.Cmp.{partial_equiv_from_equiv};
-    ghost use Rattle.pf_rows.specs.Impulses.{same_impulses};
-    ghost use Rattle.pf_rows.specs.ImpulsesLaws.{impulses_equivalent};
-
-    ghost eq = { same_impulses };
-
-    ghost laws = { partial_equiv_from_equiv impulses_equivalent };
-
-    fn eq(&self, other: &Impulses) -> bool {
-        self.normal == other.normal && self.tangent == other.tangent
-    }
-}
-
-impl Eq for Impulses {
-    ghost use Rattle.pf_rows.specs.ImpulsesLaws.{impulses_equivalent};
-
-    ghost laws = { impulses_equivalent };
 }
 
 impl Impulses {

@@ -10,13 +10,13 @@ use thiserror::Error;
 pub enum SessionError {
     /// A peer refuses a frame of its own script. The frame's number counts all frames of the script
     /// from 0.
-    #[error("{2}")]
+    #[error("player {0}, frame {1}: {2}")]
     Frame(u8, usize, Refusal),
     /// A script would pass the last tick, 1,048,576.
-    #[error("TickLimit")]
+    #[error("player {0}: the script passes the last tick, 1,048,576")]
     TickLimit(u8),
     /// A peer was out of memory, its gate was shut, or its crew failed.
-    #[error("{1}")]
+    #[error("player {0}: {1}")]
     Peer(u8, CrewError),
     /// There was no memory outside of the peers' threads.
     #[error("out of memory")]

@@ -2,16 +2,18 @@
 use Rattle.std.proofs.Common.{◌≡◌, ◌∙◌, ℕ, zero, suc, ◌+◌, ◌<◌, Bool, List, [], ◌∷◌, ◌++◌, None, Option, Some, ap, arith, inl, inr, length, refl, subst, sym, take}
 use Rattle.std.proofs.lemmas.List.{take_at}
 use Rattle.std.specs.List.{AllZip, range_with_len}
+use Rattle.std.specs.Prelude.{◌⊎◌, Err, IfErr, IfOk, Ok, Result}
 use Rattle.pf_shapes.specs.Scene.{Scene}
 use Rattle.pf_rollback.specs.Core.{PeerCore}
-use Rattle.pf_scripts.specs.Play.{HasPlayed}
+use Rattle.pf_scripts.specs.Peer.{peer_of, setting_of}
+use Rattle.pf_scripts.specs.Play.{HasPlayed, IsCrewErrorOfPlay, IsPeerError}
 use Rattle.pf_scripts.specs.Frames.{core_setting}
 use Rattle.pf_scripts.specs.Script.{first_fault, script_fault}
 use Rattle.pf_scripts.specs.declared.error.SessionError.{SessionError}
 use Rattle.pf_scripts.specs.declared.error.SessionError.TheVariants as errors
 use Rattle.pf_scripts.specs.declared.peer.Peer.{Peer}
 use Rattle.pf_scripts.specs.declared.turn.Turn.{Turn}
-use Rattle.pf_sessions.specs.Playing.{AllPlayed, IsNewPeer, IsPlayError, IsPlayersError, LeastFails, own_fault}
+use Rattle.pf_sessions.specs.Playing.{AllPlayed, IsNewPeer, IsPlayError, IsPlayOutcome, IsPlayersError, LeastFails, own_fault}
 use Rattle.pf_sessions.specs.Session.{unsealed, IsSessionError, session_fault}
 
 abbrev pub HasNoFault : List Turn → Peer → Type 0
@@ -43,6 +45,18 @@ played_faultless [] (o ∷ olds) news all = absurd all
 played_faultless (s ∷ scripts) [] news all = absurd all
 played_faultless (s ∷ scripts) (o ∷ olds) [] all = absurd all
 played_faultless (s ∷ scripts) (o ∷ olds) (n ∷ news) all = (all.0.no_fault, played_faultless scripts olds news all.1)
+
+-- ---- what a play returns
+
+-- It is stated by cases of the result, since a thread promises it of its result.
+pub outcome_of : (always : Bool) (crew : Option ℕ) (script : List Turn) (p : Peer) (result : Result Peer SessionError)
+    → IfOk result (HasPlayed script p)
+    → IfErr result (λ fault.
+    IsPeerError (IsCrewErrorOfPlay always crew) (peer_of p).player fault
+    ⊎ (script_fault (setting_of p) (peer_of p).player 0 (peer_of p).reached script ≡ Some fault))
+    → IsPlayOutcome always crew script p result
+outcome_of always crew script p (Ok played) has_played fails = has_played
+outcome_of always crew script p (Err fault) has_played fails = fails
 
 -- ---- the fault of a session
 

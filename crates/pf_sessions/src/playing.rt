@@ -2,7 +2,7 @@
 
 ghost use Rattle.std.specs.Prelude.{◌≡◌, ◌<◌, ◌≤◌, IfErr, IfOk, IfSome, length};
 ghost use Rattle.pf_pool.specs.declared.pool.TheConstants.{MAX_WORKERS};
-ghost use Rattle.pf_sessions.specs.Playing.{AllPlayed, IsPlayersError};
+ghost use Rattle.pf_sessions.specs.Playing.{AllPlayed, IsPlayOutcome, IsPlayersError};
 ghost use Rattle.pf_sessions.specs.Session.{turns_of};
 
 use pf_scripts::{Peer, SessionError, Turn};
@@ -24,10 +24,26 @@ struct PlayPromise<G> {
 }
 
 impl<G: Gate> Promise<Result<Peer, SessionError>> for PlayPromise<G> {
-    ghost use Rattle.pf_sessions.specs.Playing.{IsPlayOutcome};
-
     ghost kept_by = { λ p r.
         IsPlayOutcome G.ALWAYS p.crew p.script.value.items p.peer.value r };
+}
+
+/// Lets a peer play its script, as [`Peer::play`] does.
+fn play_script<R, G>(
+    rt: &R,
+    alloc: Global,
+    peer: Peer,
+    script: &[Turn],
+    crew: Option<usize>,
+    gate: &G,
+) -> Result<Peer, SessionError>
+where
+    R: Threads + Wait + Copy + Send + Sync + 'static,
+    G: Gate + Sync,
+    requires { IfSome crew (λ workers. (0 < workers) × (workers ≤ MAX_WORKERS)) }
+    ensures outcome { IsPlayOutcome G.ALWAYS crew script.now peer result }
+{
+    peer.play(*rt, alloc, script, crew, gate)
 }
 
 /// Starts a thread for each peer, the last one first, and joins them. Each peer plays its script in
@@ -69,7 +85,7 @@ where
         promise,
         move || -> Result<Peer, SessionError>
             requires { IfSome crew (λ workers. (0 < workers) × (workers ≤ MAX_WORKERS)) }
-        { peer.play(*rt, alloc, script, crew, gate) },
+        { play_script(rt, alloc, peer, script, crew, gate) },
     );
     let Ok(thread) = started else {
         return Err(SessionError::NoThread);

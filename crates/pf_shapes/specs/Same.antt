@@ -29,7 +29,7 @@ same_fixture a b =
     && (int_eq a.mass b.mass
     && (int_eq a.friction b.friction && option_eq nat_eq a.owner b.owner))
 
-unfoldable pub same_state : BodyState → BodyState → Bool
+abbrev pub same_state : BodyState → BodyState → Bool
 same_state a b =
     same_vector a.position b.position
     && (same_rotation a.rotation b.rotation

@@ -94,7 +94,6 @@ Decides-fixture a b =
     (Decides-and _ _ (Decides-int_eq a.friction b.friction) (Decides-owner a.owner b.owner))))
 
 pub Decides-state : (a b : BodyState) → Decides (same_state a b) (a ≡ b)
-unfolding same_state
 Decides-state a b =
     Decides-like (same_state a b)
     (λ e i. record {
@@ -141,14 +140,8 @@ Decides-scene a b =
     (slice_eq-Decides Decides-state a.starts b.starts _ refl))
     (Decides-vector a.gravity b.gravity))
 
-pub shapes_equivalent : IsEquivalence same_shape
-shapes_equivalent = decided same_shape Decides-shape
-
 pub fixtures_equivalent : IsEquivalence same_fixture
 fixtures_equivalent = decided same_fixture Decides-fixture
-
-pub states_equivalent : IsEquivalence same_state
-states_equivalent = decided same_state Decides-state
 
 pub scenes_equivalent : IsEquivalence same_scene
 scenes_equivalent = decided same_scene Decides-scene

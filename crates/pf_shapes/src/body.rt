@@ -9,7 +9,7 @@ use pf_rot::{Rot, V2};
 use std::marker::Model;
 
 /// The motion of a body at one tick, as Box2D's `b2Body` keeps it.
-#[derive(Clone, Copy, Debug)]
+#[derive(Clone, Copy, Debug, PartialEq, Eq)]
 pub struct BodyState {
     /// The centre, in units of 2^-24 of a length.
     pub position: V2,
@@ -46,32 +46,6 @@ impl Model for BodyState {
       timer = b.timer;
       awake = b.awake;
     } };
-}
-
-impl PartialEq for BodyState {
-    ghost use Rattle.std.specs.Cmp.{partial_equiv_from_equiv};
-    ghost use Rattle.pf_shapes.specs.Same.{same_state};
-    ghost use Rattle.pf_shapes.specs.SameLaws.{states_equivalent};
-
-    ghost eq = { same_state };
-
-    ghost laws = { partial_equiv_from_equiv states_equivalent };
-
-    #[tactic(auto, unfolding(crate::specs::Same::same_state))]
-    fn eq(&self, other: &BodyState) -> bool {
-        self.position == other.position
-            && self.rotation == other.rotation
-            && self.velocity == other.velocity
-            && self.spin == other.spin
-            && self.timer == other.timer
-            && self.awake == other.awake
-    }
-}
-
-impl Eq for BodyState {
-    ghost use Rattle.pf_shapes.specs.SameLaws.{states_equivalent};
-
-    ghost laws = { states_equivalent };
 }
 
 impl Default for BodyState {

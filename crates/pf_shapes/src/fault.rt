@@ -12,19 +12,19 @@ pub enum SceneFault {
     /// No line of a scene has this word and so many fields, or none may stand here; or the line is
     /// too long, not ASCII, or its fields are not separated by single spaces; or the text ended
     /// before its scene.
-    #[error("BadLine")]
+    #[error("no such line may stand here")]
     BadLine,
     /// A field is no whole number, or one out of its range.
-    #[error("BadNumber")]
+    #[error("a field is no whole number, or out of its range")]
     BadNumber,
     /// The scene has as many bodies as it may have.
-    #[error("TooMany")]
+    #[error("the scene has as many bodies as it may have")]
     TooMany,
     /// A mass is neither 0 nor from 2^20 to 2^34.
-    #[error("BadMass")]
+    #[error("a mass is neither 0 nor from 2^20 to 2^34")]
     BadMass,
     /// A radius or a half extent is not from 2^20 to 2^34.
-    #[error("BadSize")]
+    #[error("a radius or a half extent is not from 2^20 to 2^34")]
     BadSize,
 }
 

@@ -27,7 +27,7 @@ pub const MAX_FRICTION: i64 = 1 << 26;
 pub const PLAYERS: u8 = 8;
 
 /// The shape of a body about its centre, in units of 2^-24 of a length.
-#[derive(Debug, Drop)]
+#[derive(Debug, PartialEq, Eq, Drop)]
 pub enum Shape {
     /// A circle of this radius.
     Circle { r: Fx },
@@ -87,36 +87,6 @@ impl Clone for Shape {
             Shape::Box { hx, hy } => Shape::Box { hx: *hx, hy: *hy },
         })
     }
-}
-
-impl PartialEq for Shape {
-    ghost use Rattle.std.specs.Cmp.{partial_equiv_from_equiv};
-    ghost use Rattle.pf_shapes.specs.Same.{same_shape};
-    ghost use Rattle.pf_shapes.specs.SameLaws.{shapes_equivalent};
-
-    ghost eq = { same_shape };
-
-    ghost laws = { partial_equiv_from_equiv shapes_equivalent };
-
-    fn eq(&self, other: &Shape) -> bool {
-        match (self, other) {
-            (Shape::Circle { r }, Shape::Circle { r: other_r }) => r == other_r,
-            (
-                Shape::Box { hx, hy },
-                Shape::Box {
-                    hx: other_hx,
-                    hy: other_hy,
-                },
-            ) => { hx == other_hx && hy == other_hy }
-            _ => false,
-        }
-    }
-}
-
-impl Eq for Shape {
-    ghost use Rattle.pf_shapes.specs.SameLaws.{shapes_equivalent};
-
-    ghost laws = { shapes_equivalent };
 }
 
 /// What a body is apart from its motion, as Box2D's `b2FixtureDef` with the body's mass data. Its

@@ -1,5 +1,5 @@
 //! Links, and a peer that polls one, on one thread. Peers that play scripts over links stand in the
-//! stored run of `pf_plays`.
+//! stored run of `runs_peers`.
 
 use pf_commands::FRAME_LEN;
 use pf_peers::{Link, LinkIn, LinkOut, Peer};

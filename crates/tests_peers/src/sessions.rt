@@ -1,5 +1,5 @@
 //! A session as a list of events. Late commands, merges, limits and commands that are refused
-//! stand in the stored runs of `pf_runs` and `pf_calls`.
+//! stand in the stored runs of `runs_texts` and `runs_peers`.
 
 ghost use Rattle.std.specs.Prelude.{◌≡◌};
 ghost use Rattle.pf_events.specs.Session.{other_peer_of, peer_of};

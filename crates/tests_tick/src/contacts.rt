@@ -1,5 +1,5 @@
 //! Contacts from tick to tick, by hand. Contacts that are undone stand in the stored run of
-//! `pf_calls`.
+//! `runs_peers`.
 
 ghost use Rattle.std.specs.Prelude.{IfOk};
 ghost use Rattle.pf_manifold.specs.Key.{AreTouches};

@@ -1,5 +1,5 @@
 //! Steps of copies of worlds, and an island that is split and solved by itself. Many ticks, and
-//! steps that are undone by rollbacks, stand in the stored runs of `pf_runs` and `pf_calls`.
+//! steps that are undone by rollbacks, stand in the stored runs of `runs_texts` and `runs_peers`.
 
 ghost use Rattle.std.specs.Prelude.{◌≡◌, length};
 

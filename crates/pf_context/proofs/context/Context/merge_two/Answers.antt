@@ -1,7 +1,7 @@
 use Rattle.std.proofs.Common.{◌≡◌, ◌∙◌, ap, rules, subst, sym, true≢false, None, Some}
 use Rattle.std.specs.Prelude.{IsSome, option_copied}
-use Rattle.pf_table.specs.Table.{value_at, with_value, with_value_out}
-use Rattle.pf_table.proofs.Slots.{value_back}
+use Rattle.pf_context.specs.Table.{value_at, with_value, with_value_out}
+use Rattle.pf_context.proofs.Slots.{value_back}
 use Rattle.pf_context.specs.Context.{Context}
 use Rattle.pf_context.proofs.Called.{others_out}
 use Rattle.pf_context.proofs.context.Context.merge_two.Goals as goal

@@ -1,5 +1,0 @@
-use Rattle.pf_table.proofs.Slots.{free_without}
-use Rattle.pf_table.proofs.laws.removals_change_one_key.Goals as goal
-
-pub returns-clause-free : goal.returns-clause-free
-returns-clause-free g c = free_without

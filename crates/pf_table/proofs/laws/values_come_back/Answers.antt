@@ -1,5 +1,0 @@
-use Rattle.pf_table.proofs.Slots.{value_back}
-use Rattle.pf_table.proofs.laws.values_come_back.Goals as goal
-
-pub returns-clause-back : goal.returns-clause-back
-returns-clause-back g c = value_back

@@ -1,0 +1,60 @@
+//! How often the workers of a run with a crew are asked.
+
+use pf_program::program_by_gate;
+use pf_text::{Bytes, Collected};
+use std::alloc::{AllocError, Global};
+use std::process::ExitCode;
+use std::sync::{Arc, Wait};
+use std::test::Fail;
+use std::thread::Threads;
+use tests_gates::{Book, Rule, TrialGate};
+
+/// A circle on a floor, with these events.
+fn events_on_a_floor(alloc: Global, events: &str) -> Result<String, AllocError> {
+    let mut text = String::from_str(
+        alloc,
+        "gravity 0 -167772160\nbox - 0 8388608 167772160 16777216 0 -16777216 16777216 0\n\
+         circle 0 16777216 8388608 16777216 0 16777216\nend\npeers 1\n",
+    )?;
+    text.push_str(events)?;
+    Ok(text)
+}
+
+/// Whether a run with a crew of two succeeds, and what it notes at a gate that counts.
+fn noted<T: Threads + Wait + Copy + Send + Sync + 'static>(
+    rt: T,
+    alloc: Global,
+    events: &str,
+) -> Result<(bool, String), AllocError> {
+    let text = events_on_a_floor(alloc, events)?;
+    let words = Ok(Vec::from_slice(alloc, &["pf_play", "run", "--crew", "2"])?);
+    let book = Arc::new(alloc, Book::new(alloc, 2)?)?;
+    let gate = TrialGate::<true>::new(Rule::Counted, Arc::try_clone(&book)?);
+    let mut reader = Bytes::new(text.as_bytes());
+    let mut output = Collected::new(alloc);
+    let mut errors = Collected::new(alloc);
+    let status = program_by_gate(
+        rt,
+        alloc,
+        gate,
+        words,
+        &mut reader,
+        &mut output,
+        &mut errors,
+    );
+    Ok((status == ExitCode::SUCCESS, book.text(alloc)?))
+}
+
+#[test]
+fn a_settle_calls_the_crew_for_each_tick(rt: HostRuntime) -> Result<(), Fail> {
+    let (succeeds, noted) = noted(rt, rt.alloc(), "advance 0 3\nsettle 0\nshow 0 3\n")?;
+    assert!(rt; succeeds && noted.as_str() == " shut 0 passes 3/3 3/3");
+    Ok(())
+}
+
+#[test]
+fn other_lines_do_not_call_the_crew(rt: HostRuntime) -> Result<(), Fail> {
+    let (succeeds, noted) = noted(rt, rt.alloc(), "advance 0 3\nshow 0 3\n")?;
+    assert!(rt; succeeds && noted.as_str() == " shut 0 passes 0/0 0/0");
+    Ok(())
+}
