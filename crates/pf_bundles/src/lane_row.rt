@@ -15,7 +15,7 @@ use crate::whole::{WholeMass, WholeVector, number_of, whole_of};
 use pf_lanes::Whole;
 use pf_num::Fx;
 use pf_rot::V2;
-use pf_rows::{Constraint, InverseMass, Prepared, Row, Side};
+use pf_rows::{Constraint, InverseMass, Prepared, Row, Side, is_short, is_within};
 use std::marker::Model;
 
 /// The constraint of a row in whole numbers that are doubles.
@@ -105,22 +105,6 @@ impl Model for LaneRow {
       spin_limit = l.spin_limit;
       push_limit = l.push_limit;
     } };
-}
-
-/// Whether a number is at most this in magnitude.
-#[inline]
-fn is_within(x: Fx, limit: u64) -> bool
-    ensures { IsTrue result ↔ (unsigned_abs x ≤ limit) }
-{
-    x.raw().unsigned_abs() <= limit
-}
-
-/// Whether both parts of a vector are at most this in magnitude.
-#[inline]
-fn is_short(v: V2, limit: u64) -> bool
-    ensures { IsTrue result ↔ IsShort limit v }
-{
-    is_within(v.x, limit) && is_within(v.y, limit)
 }
 
 /// Whether directions and bias are within their limits.

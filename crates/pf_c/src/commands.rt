@@ -3,14 +3,14 @@
 ghost use Rattle.std.specs.Prelude.{◌≡◌, Ok};
 ghost use Rattle.pf_commands.specs.Frame.{decode};
 ghost use Rattle.pf_commands.specs.declared.payload.Payload.TheVariants.{Stop};
-ghost use Rattle.pf_rollback.specs.Peer.{take};
+ghost use Rattle.pf_rollback.specs.Calls.{Takes};
 ghost use Rattle.pf_context.specs.Errors.{peer_error};
-ghost use Rattle.pf_context.specs.Calls.{CallsPeer, IsHeld, Merges, MergesAlone, TakesCommands, news_of_frame};
-ghost use Rattle.pf_context.specs.Merging.{IsMerge};
+ghost use Rattle.pf_context.specs.Calls.{CallsPeer};
+ghost use Rattle.pf_context.specs.Merging.{IsMerge, MergesPeer, MergesPeerAlone};
 ghost use Rattle.pf_context.specs.Numbers.{place_of, push_of, turn_of};
 ghost use Rattle.pf_c.specs.Calls.{Answers, Tells};
 ghost use Rattle.pf_c.specs.Codes.{put_code};
-ghost use Rattle.pf_c.specs.Commands.{Issues, frame_of};
+ghost use Rattle.pf_c.specs.Commands.{IssuesPayload, frame_of};
 
 use crate::answers::tell_as;
 use crate::codes::put_code;
@@ -39,7 +39,7 @@ fn issue_payload(
     peer: Key,
     payload: Result<Payload, ContextError>,
 ) -> Result<[u8; FRAME_LEN], ContextError>
-    ensures { Issues peer payload context.old context.new result }
+    ensures { IssuesPayload peer payload context.old context.new result }
 {
     match payload {
         Ok(payload) => context.issue(peer, payload),
@@ -55,7 +55,7 @@ fn issue(
     payload: Result<Payload, ContextError>,
     frame: &mut PfFrame,
 ) -> u32
-    ensures { Answers (λ before after answer. Issues peer payload before after answer)
+    ensures { Answers (λ before after answer. IssuesPayload peer payload before after answer)
         (Tells frame_of frame.old frame.new)
         context.old.handle.value context.new.handle.value result (frame.new ≡ frame.old) }
 {
@@ -75,7 +75,7 @@ pub extern "C" fn pf_peer_push(
     frame: &mut PfFrame,
 ) -> u32
     ensures { Answers
-        (λ before after answer. Issues peer (push_of body impulse) before after answer)
+        (λ before after answer. IssuesPayload peer (push_of body impulse) before after answer)
         (Tells frame_of frame.old frame.new)
         context.old.handle.value context.new.handle.value result (frame.new ≡ frame.old) }
 {
@@ -93,7 +93,7 @@ pub extern "C" fn pf_peer_turn(
     frame: &mut PfFrame,
 ) -> u32
     ensures { Answers
-        (λ before after answer. Issues peer (turn_of body impulse) before after answer)
+        (λ before after answer. IssuesPayload peer (turn_of body impulse) before after answer)
         (Tells frame_of frame.old frame.new)
         context.old.handle.value context.new.handle.value result (frame.new ≡ frame.old) }
 {
@@ -110,7 +110,7 @@ pub extern "C" fn pf_peer_stop(
     frame: &mut PfFrame,
 ) -> u32
     ensures { Answers
-        (λ before after answer. Issues peer (Ok (Stop body)) before after answer)
+        (λ before after answer. IssuesPayload peer (Ok (Stop body)) before after answer)
         (Tells frame_of frame.old frame.new)
         context.old.handle.value context.new.handle.value result (frame.new ≡ frame.old) }
 {
@@ -128,7 +128,7 @@ pub extern "C" fn pf_peer_place(
     frame: &mut PfFrame,
 ) -> u32
     ensures { Answers
-        (λ before after answer. Issues peer (place_of body position) before after answer)
+        (λ before after answer. IssuesPayload peer (place_of body position) before after answer)
         (Tells frame_of frame.old frame.new)
         context.old.handle.value context.new.handle.value result (frame.new ≡ frame.old) }
 {
@@ -146,10 +146,7 @@ pub extern "C" fn pf_peer_take(
     put: &mut u32,
 ) -> u32
     ensures { Answers (λ before after answer.
-        CallsPeer peer_error before after peer answer (λ core. TakesCommands
-        (take core.scene core.peer (decode frame.now))
-        (news_of_frame core.peer.commands (decode frame.now))
-        (IsHeld core.peer.commands (decode frame.now)) core))
+        CallsPeer peer_error before after peer answer (Takes (decode frame.now)))
         (Tells put_code put.old put.new)
         context.old.handle.value context.new.handle.value result (put.new ≡ put.old) }
 {
@@ -167,7 +164,7 @@ pub extern "C" fn pf_peer_merge(
     other: Key,
     count: &mut u64,
 ) -> u32
-    ensures { Answers (IsMerge Merges peer other) (Tells (λ news. news) count.old count.new)
+    ensures { Answers (IsMerge MergesPeer peer other) (Tells (λ news. news) count.old count.new)
         context.old.handle.value context.new.handle.value result (count.new ≡ count.old) }
 {
     let answer = context.call(alloc, |inside| inside.merge(peer, other));
@@ -185,7 +182,7 @@ pub extern "C" fn pf_peer_merge_alone(
     other: Key,
     count: &mut u64,
 ) -> u32
-    ensures { Answers (IsMerge MergesAlone peer other) (Tells (λ news. news) count.old count.new)
+    ensures { Answers (IsMerge MergesPeerAlone peer other) (Tells (λ news. news) count.old count.new)
         context.old.handle.value context.new.handle.value result (count.new ≡ count.old) }
 {
     let answer = context.call(alloc, |inside| inside.merge_alone(peer, other));

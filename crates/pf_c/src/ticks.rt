@@ -5,7 +5,8 @@ ghost use Rattle.pf_rollback.specs.Kept.{settled_tick};
 ghost use Rattle.pf_rollback.specs.Settling.{IsSettle};
 ghost use Rattle.pf_context.specs.Context.{peer_at};
 ghost use Rattle.pf_context.specs.Errors.{memory_error, peer_error, shown};
-ghost use Rattle.pf_context.specs.Calls.{Advances, CallsPeer, Seals};
+ghost use Rattle.pf_rollback.specs.Calls.{Advances, Seals};
+ghost use Rattle.pf_context.specs.Calls.{CallsPeer};
 ghost use Rattle.pf_c.specs.Calls.{Answers, Tells};
 ghost use Rattle.pf_c.specs.Ticks.{counts_of};
 

@@ -8,14 +8,23 @@ use Rattle.pf_context.specs.declared.error.ContextError.{ContextError}
 use Rattle.pf_context.specs.declared.error.ContextError.TheVariants.{BadKey}
 use Rattle.pf_context.specs.declared.merging.MergeRule.{MergeRule}
 use Rattle.pf_context.specs.declared.merging.MergeRule.TheVariants.{AnyHorizon, SameHorizon}
-use Rattle.pf_context.specs.Calls.{CallsPeer, Merges, MergesAlone}
+use Rattle.pf_rollback.specs.Calls.{Merges, MergesSealed}
+use Rattle.pf_context.specs.Calls.{CallsPeer}
 use Rattle.pf_context.specs.Context.{Context, peer_at}
 use Rattle.pf_context.specs.Errors.{peer_error, shown}
 
--- a peer takes the commands that another one holds, by a rule
+-- a peer takes the commands that another one holds, which has sealed the same
+abbrev pub MergesPeer : Peer → PeerCore → PeerCore → Result ℕ PeerError → Type 0
+MergesPeer other = MergesSealed other.horizon other.base other.commands
+
+-- the same whatever the other one has sealed
+abbrev pub MergesPeerAlone : Peer → PeerCore → PeerCore → Result ℕ PeerError → Type 0
+MergesPeerAlone other = Merges other.commands
+
+-- the same by a rule
 abbrev pub MergesBy : MergeRule → Peer → PeerCore → PeerCore → Result ℕ PeerError → Type 0
-MergesBy SameHorizon = Merges
-MergesBy AnyHorizon = MergesAlone
+MergesBy SameHorizon = MergesPeer
+MergesBy AnyHorizon = MergesPeerAlone
 
 -- One peer takes the commands of another one. Merged into itself it stays as it is; where the other
 -- key names nothing, nothing changes.

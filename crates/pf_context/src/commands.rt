@@ -1,7 +1,6 @@
 //! The commands of peers: issued and taken.
 
 use crate::context::Context;
-use crate::cores;
 use crate::error::ContextError;
 use crate::key::Key;
 use pf_commands::{FRAME_LEN, Payload, Put};
@@ -11,7 +10,8 @@ impl Context {
     ghost use Rattle.pf_commands.specs.Frame.{decode};
     ghost use Rattle.pf_context.specs.Context.{peer_at};
     ghost use Rattle.pf_context.specs.Errors.{peer_error};
-    ghost use Rattle.pf_context.specs.Calls.{CallsPeer, Issues, Takes};
+    ghost use Rattle.pf_rollback.specs.Calls.{Issues, Takes};
+    ghost use Rattle.pf_context.specs.Calls.{CallsPeer};
 
     /// Takes the command that a frame encodes to a peer, of any player, for any tick from the
     /// peer's horizon on. Takes memory only where the command's name is new to the peer.
@@ -23,7 +23,7 @@ impl Context {
         let Some(core) = self.peers.get_mut(peer) else {
             return Err(ContextError::BadKey);
         };
-        Ok(cores::take(core, frame)?)
+        Ok(core.take(frame)?)
     }
 
     /// Issues a command of a peer's own player at the tick that it has reached, and returns its
@@ -35,6 +35,6 @@ impl Context {
         let Some(core) = self.peers.get_mut(peer) else {
             return Err(ContextError::BadKey);
         };
-        Ok(cores::issue(core, payload)?)
+        Ok(core.issue(payload)?)
     }
 }

@@ -9,7 +9,6 @@
 
 mod commands;
 mod context;
-mod cores;
 mod error;
 mod frames;
 mod key;

@@ -1,10 +1,11 @@
 //! Commands that one peer of a context takes from another.
 
+ghost use Rattle.pf_context.specs.Merging.{MergesBy};
+
 use crate::context::Context;
-use crate::cores;
 use crate::error::ContextError;
 use crate::key::Key;
-use pf_rollback::PeerError;
+use pf_rollback::{PeerCore, PeerError};
 
 /// From which peers a peer takes commands.
 #[derive(Clone, Copy, Debug, PartialEq, Eq)]
@@ -15,19 +16,28 @@ pub(crate) enum MergeRule {
     AnyHorizon,
 }
 
+/// Merges into a peer the commands that another one holds, by a rule.
+fn merge(rule: MergeRule, core: &mut PeerCore, other: &PeerCore) -> Result<usize, PeerError>
+    ensures { MergesBy rule other.now.peer core.old core.new result }
+{
+    match rule {
+        MergeRule::SameHorizon => core.merge_sealed(&other.sealed()),
+        MergeRule::AnyHorizon => core.merge(other.commands()),
+    }
+}
+
 impl Context {
     ghost use Rattle.std.specs.Prelude.{◌≡◌, ◌≢◌, IsSome, Some};
     ghost use Rattle.pf_rollback.specs.Core.{PeerCore};
     ghost use Rattle.pf_context.specs.Context.{peer_at, with_peer};
-    ghost use Rattle.pf_context.specs.Calls.{Merges, MergesAlone};
-    ghost use Rattle.pf_context.specs.Merging.{IsMerge, MergesBy};
+    ghost use Rattle.pf_context.specs.Merging.{IsMerge, MergesBy, MergesPeer, MergesPeerAlone};
 
     /// Merges into a peer the commands that another peer of the context holds, and returns how many
     /// were new or greater. The peer refuses where the horizons differ, where the worlds there
     /// differ, and a command that its scene does not allow. Takes memory only where a command is
     /// new or greater. A peer that is merged into itself stays as it is.
     pub fn merge(&mut self, peer: Key, other: Key) -> Result<usize, ContextError>
-        ensures { IsMerge Merges peer other self.old self.new result }
+        ensures { IsMerge MergesPeer peer other self.old self.new result }
     {
         self.merge_by(MergeRule::SameHorizon, peer, other)
     }
@@ -37,7 +47,7 @@ impl Context {
     /// before its horizon, and one that its scene does not allow. A peer that is merged into itself
     /// stays as it is.
     pub fn merge_alone(&mut self, peer: Key, other: Key) -> Result<usize, ContextError>
-        ensures { IsMerge MergesAlone peer other self.old self.new result }
+        ensures { IsMerge MergesPeerAlone peer other self.old self.new result }
     {
         self.merge_by(MergeRule::AnyHorizon, peer, other)
     }
@@ -69,7 +79,7 @@ impl Context {
             unreachable!()
         };
         let answer = match self.peers.get(other) {
-            Some(others) => cores::merge(rule, &mut core, others),
+            Some(others) => merge(rule, &mut core, others),
             None => unreachable!(),
         };
         self.peers.put_back(peer, core);

@@ -1,7 +1,6 @@
 //! The ticks of peers: how far they have come, what is settled, and what is sealed.
 
 use crate::context::Context;
-use crate::cores;
 use crate::error::ContextError;
 use crate::key::Key;
 use pf_cache::Meter;
@@ -13,7 +12,8 @@ impl Context {
     ghost use Rattle.pf_rollback.specs.Settling.{IsSettle};
     ghost use Rattle.pf_context.specs.Context.{peer_at};
     ghost use Rattle.pf_context.specs.Errors.{memory_error, peer_error, shown};
-    ghost use Rattle.pf_context.specs.Calls.{Advances, CallsPeer, Seals};
+    ghost use Rattle.pf_rollback.specs.Calls.{Advances, Seals};
+    ghost use Rattle.pf_context.specs.Calls.{CallsPeer};
 
     /// The tick that a peer has reached.
     pub fn reached(&self, peer: Key) -> Result<u32, ContextError>
@@ -52,7 +52,7 @@ impl Context {
         let Some(core) = self.peers.get_mut(peer) else {
             return Err(ContextError::BadKey);
         };
-        Ok(cores::advance(core, ticks)?)
+        Ok(core.advance(ticks)?)
     }
 
     /// Settles the ticks of a peer up to the reached one, in their order, on this thread, and
@@ -77,6 +77,6 @@ impl Context {
         let Some(core) = self.peers.get_mut(peer) else {
             return Err(ContextError::BadKey);
         };
-        Ok(cores::seal(core, alloc, tick)?)
+        Ok(core.seal(alloc, tick)?)
     }
 }

@@ -1,12 +1,11 @@
 -- How the reply to an event uses a crew.
 use Rattle.std.proofs.Common.{◌≡◌, ℕ, List, Result, Ok, Err, refl}
-use Rattle.std.specs.Prelude.{IfErr, OnOk}
 use Rattle.pf_islands.specs.Split.{Island}
 use Rattle.pf_step.specs.declared.crew.CrewError.{CrewError}
 use Rattle.pf_step.specs.declared.crew.StepError.{StepError}
 use Rattle.pf_step.specs.declared.crew.StepError.TheVariants.{Crew, OutOfMemory}
-use Rattle.pf_rollback.specs.Core.{PeerCore, missing_count}
-use Rattle.pf_rollback.specs.Settling.{AreCalls, FailsAfter}
+use Rattle.pf_rollback.specs.Core.{PeerCore}
+use Rattle.pf_rollback.specs.Settling.{CallsCrewByTick}
 use Rattle.pf_events.specs.declared.event.Event.{Event}
 use Rattle.pf_events.specs.declared.event.Event.TheVariants.{Issue, Take, Merge, Advance, Settle, Show, Seal}
 use Rattle.pf_events.specs.declared.event.Reply.{Reply}
@@ -33,11 +32,10 @@ module _ {A : Type 0} (call : A → List Island → A → Type 0) (may_fail : A 
 
   -- a settle of a core
   pub settle_uses : (core new : PeerCore) (peer : ℕ) (first : A) (result : Result Reply StepError) (last : A)
-      → OnOk result (AreCalls call core (missing_count core) first last)
-      → IfErr result (λ error. FailsAfter call may_fail core new first error last)
+      → CallsCrewByTick call may_fail core new first last result
       → UsesCrew call may_fail (λ used. used ≡ core) (Settle peer) first result last
-  settle_uses core new peer first (Ok reply) last called failed = (core, refl, called)
-  settle_uses core new peer first (Err error) last called failed = (core, new, refl, failed)
+  settle_uses core new peer first (Ok reply) last calls = (core, refl, calls)
+  settle_uses core new peer first (Err error) last calls = (core, new, refl, calls)
 
   -- a crew's error is one with which it may fail, and the event is a settle
   pub crew_error : (P : PeerCore → Type 0) (event : Event) (first : A) (error : CrewError) (last : A)

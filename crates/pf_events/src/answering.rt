@@ -1,6 +1,6 @@
 //! How one peer answers an event, and a merge with another.
 
-ghost use Rattle.std.specs.Prelude.{◌≡◌, ◌≢◌, ◌<◌, ℕ, Ok, Some, IfErr, IfOk, OnErr, OnOk, IsErr, IsOk, IsSome, length, slice_get, slice_set};
+ghost use Rattle.std.specs.Prelude.{◌≡◌, ◌≢◌, ◌<◌, ℕ, Ok, Some, IfOk, OnErr, OnOk, IsErr, IsOk, IsSome, length, slice_get, slice_set};
 ghost use Rattle.std.specs.FinMap.{get};
 ghost use Rattle.pf_events.specs.Answers.{IsMergeReply, IsReplyOf};
 ghost use Rattle.pf_events.specs.Crews.{UsesCrew};
@@ -8,10 +8,10 @@ ghost use Rattle.pf_events.specs.Session.{NeedsNoMemory, other_peer_of, peer_ans
 ghost use Rattle.pf_events.specs.declared.event.Event.TheVariants.{Settle};
 ghost use Rattle.pf_events.specs.declared.event.Reply.TheVariants.{Advanced, Issued, Sealed, Settled, Took};
 ghost use Rattle.pf_commands.specs.declared.payload.Command.{Command};
-ghost use Rattle.pf_rollback.specs.Core.{PeerCore, missing_count};
+ghost use Rattle.pf_rollback.specs.Core.{PeerCore};
 ghost use Rattle.pf_rollback.specs.Kept.{settled_tick};
 ghost use Rattle.pf_rollback.specs.Peer.{IsEmptyBefore, advance, issue, seal, take, world_at};
-ghost use Rattle.pf_rollback.specs.Settling.{AreCalls, FailsAfter};
+ghost use Rattle.pf_rollback.specs.Settling.{CallsCrewByTick};
 
 use crate::event::{Event, Reply};
 use pf_commands::{Command, FrameFault, Payload};
@@ -126,10 +126,8 @@ fn settle<P: Collider, C: Crew>(
     ensures peer { core.new.peer ≡ core.old.peer }
     ensures scene { core.new.scene ≡ core.old.scene }
     ensures no_memory { core.old.peer.reached ≡ core.old.peer.horizon → IsOk result }
-    ensures called { OnOk result
-        (AreCalls C.is_called core.old (missing_count core.old) crew.old crew.new) }
-    ensures failed { IfErr result (λ error.
-        FailsAfter C.is_called C.may_fail core.old core.new crew.old error crew.new) }
+    ensures crew { CallsCrewByTick C.is_called C.may_fail core.old core.new
+        crew.old crew.new result }
 {
     // Its clauses say that the settled tick is not before the horizon: at the horizon none is
     // missing.

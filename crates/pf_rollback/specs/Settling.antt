@@ -1,5 +1,5 @@
 -- What a settle of a peer returns and leaves, and how it calls a crew.
-use Rattle.std.specs.Prelude.{◌≡◌, ℕ, zero, suc, ◌+◌, ◌<◌, List, Result, IfOk, OnErr, OnOk}
+use Rattle.std.specs.Prelude.{◌≡◌, ℕ, zero, suc, ◌+◌, ◌<◌, List, Result, Ok, Err, IfOk, OnErr, OnOk}
 use Rattle.pf_commands.specs.Merge.{payloads_at}
 use Rattle.pf_islands.specs.Split.{Island}
 use Rattle.pf_step.specs.declared.crew.CrewError.{CrewError}
@@ -41,3 +41,12 @@ FailsAfter {A} call may_fail old new first error last =
     (more : ℕ) × (more < missing_count old) × HasSettled more old new
     × ((before : A) × AreCalls call old more first before
     × FailsBy may_fail before (islands_at old (settled_tick old.kept + more)) error last)
+
+-- what a settle does with its crew: it calls it for each missing tick; or it fails
+abbrev pub CallsCrewByTick : {A B : Type 0} → (A → List Island → A → Type 0)
+    → (A → List Island → CrewError → A → Type 0) → PeerCore → PeerCore → A → A
+    → Result B StepError → Type 0
+CallsCrewByTick call may_fail old new first last (Ok tick) =
+    AreCalls call old (missing_count old) first last
+CallsCrewByTick call may_fail old new first last (Err error) =
+    FailsAfter call may_fail old new first error last

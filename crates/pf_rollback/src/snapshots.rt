@@ -1,7 +1,7 @@
 //! Snapshots: the worlds that a peer keeps, to simulate from where commands come late.
 
 ghost use Rattle.std.specs.Prelude.{◌≡◌, ◌≤◌, ◌<◌, ◌-◌, ◌%◌, ◌==◌, [], ◌∷◌, ◌++◌, if◌then◌else◌, None, Some, IfOk, OnErr, OnOk, drop, length, nat_le, take, vec_len, vec_capacity};
-ghost use Rattle.circular_buffer.specs.Buffer.{buffer, keep_last};
+ghost use Rattle.circular_buffer.specs.Buffer.{buffer};
 ghost use Rattle.pf_rollback.specs.Snapshots.{last_world, taken_world, world_before_all, other_keyframes};
 
 use circular_buffer::HeapCircularBuffer;
@@ -155,15 +155,14 @@ fn drop_sealed(latest: &mut Option<World>, settled: u32, tick: u32)
 }
 
 impl Snapshots {
-    ghost use Rattle.std.specs.Prelude.{◌≡◌, ◌≤◌, ◌<◌, ◌+◌, ◌-◌, ◌%◌, ◌⊎◌, ℕ, [], length, max, IfErr, IfOk, IfSome, IsOk, OnErr, OnOk};
+    ghost use Rattle.std.specs.Prelude.{◌≡◌, ◌≤◌, ◌<◌, ◌+◌, ◌-◌, ◌%◌, ◌⊎◌, ℕ, [], length, max, IfOk, IfSome, IsOk, OnErr, OnOk};
     ghost use Rattle.pf_commands.specs.declared.name.TheConstants.{MAX_TICK};
     ghost use Rattle.pf_step.specs.Activity.{islands_of_tick};
     ghost use Rattle.pf_step.specs.Step.{collisions_of_tick, step};
-    ghost use Rattle.pf_step.specs.Stepping.{FailsBy};
+    ghost use Rattle.pf_step.specs.Stepping.{CallsCrew};
     ghost use Rattle.pf_shapes.specs.Scene.{Scene};
     ghost use Rattle.pf_step.specs.Work.{KnowsWorld, work_after_tick};
     ghost use Rattle.pf_step.specs.World.{World};
-    ghost use Rattle.pf_cache.specs.Manifolds.{no_manifolds};
     ghost use Rattle.pf_rollback.specs.Kept.{AreRising, no_ticks, settled_tick, nearest_tick, ticks_after_news, ticks_after_seal, ticks_after_settling, ticks_up_to};
     ghost use Rattle.pf_rollback.specs.Snapshots.{ticks_of, settled_world, AreEmpty, IsKept, IsRecent};
 
@@ -255,12 +254,9 @@ impl Snapshots {
             OnOk result (work.new ≡ work_after_tick found work.new.moved work.old) }
         ensures not_counted { OnErr result (work.new.meter ≡ work.old.meter) }
         ensures follows { KnowsWorld scene.now (settled_world self.new) work.new }
-        ensures called { let world = settled_world self.old in
+        ensures crew { let world = settled_world self.old in
             let islands = islands_of_tick scene.now world payloads.now in
-            OnOk result (C.is_called crew.old islands crew.new) }
-        ensures failed { let world = settled_world self.old in
-            let islands = islands_of_tick scene.now world payloads.now in
-            IfErr result (λ error. FailsBy C.may_fail crew.old islands error crew.new) }
+            CallsCrew C.is_called C.may_fail islands crew.old crew.new result }
     {
         let apart = self.latest.is_some();
         let mut world = owned_latest(&mut self.latest, &self.keyframes, &self.base)?;

@@ -8,6 +8,7 @@ use crate::limits::{
     ARM_LIMIT, CONSTRAINT_LIMIT, DIRECTION_LIMIT, INVERSE_INERTIA_LIMIT, INVERSE_MASS_LIMIT,
     TURN_LIMIT,
 };
+use crate::small::{is_short, is_within};
 use pf_num::Fx;
 use pf_rot::V2;
 use std::marker::Model;
@@ -167,22 +168,6 @@ impl Model for Prepared {
       second_mass = p.second_mass;
       constraint = p.constraint;
     })) };
-}
-
-/// Whether a number is at most this in magnitude.
-#[inline]
-fn is_within(x: Fx, limit: u64) -> bool
-    ensures { IsTrue result ↔ (unsigned_abs x ≤ limit) }
-{
-    x.raw().unsigned_abs() <= limit
-}
-
-/// Whether both parts of a vector are at most this in magnitude.
-#[inline]
-fn is_short(v: V2, limit: u64) -> bool
-    ensures { IsTrue result ↔ IsShort limit v }
-{
-    is_within(v.x, limit) && is_within(v.y, limit)
 }
 
 /// Whether a body of this mass is heavy enough for the fast path.

@@ -7,7 +7,9 @@ mod impulses;
 pub mod laws;
 pub mod limits;
 mod row;
+mod small;
 
 pub use constraint::{Constraint, InverseMass, Prepared};
 pub use impulses::Impulses;
 pub use row::{Entry, Row, Side};
+pub use small::{is_short, is_within};

@@ -17,21 +17,12 @@ mod steps;
 
 use crate::fast_path::bodies::{after_impulse, impulse_along};
 use crate::fast_path::lever_arm::squared_lever_arms;
-use crate::fast_path::steps::{after_friction_step, after_normal_step, is_within};
+use crate::fast_path::steps::{after_friction_step, after_normal_step};
 use crate::impulse::{ContactState, Motion};
 use pf_num::Fx;
 use pf_rot::V2;
 use pf_rows::limits::{ACCUMULATED_LIMIT, ARM_LIMIT, DIRECTION_LIMIT, SPEED_LIMIT, STEP_LIMIT};
-use pf_rows::{Constraint, Impulses, InverseMass, Prepared};
-
-/// Whether both parts of a vector are at most this in magnitude.
-#[inline]
-fn is_short(v: V2, limit: u64) -> bool
-    requires { limit < 2 ^ 63 }
-    ensures { IsTrue result → IsShort limit v }
-{
-    is_within(v.x, limit) && is_within(v.y, limit)
-}
+use pf_rows::{Constraint, Impulses, InverseMass, Prepared, is_short, is_within};
 
 /// Whether a body is slow enough for the fast path.
 #[inline]

@@ -1,5 +1,5 @@
 -- What a step returns, and why a step that calls a crew fails.
-use Rattle.std.specs.Prelude.{◌≡◌, false, List, Result, IfOk, OnErr, OnOk, length}
+use Rattle.std.specs.Prelude.{◌≡◌, false, List, Result, Ok, Err, IfOk, OnErr, OnOk, length}
 use Rattle.pf_shapes.specs.Scene.{Scene}
 use Rattle.pf_commands.specs.declared.payload.Payload.{Payload}
 use Rattle.pf_cache.specs.Manifolds.{no_manifolds}
@@ -60,3 +60,10 @@ abbrev pub FailsBy : {A : Type 0} → (A → List Island → CrewError → A →
     → A → List Island → StepError → A → Type 0
 FailsBy may_fail old islands OutOfMemory new = new ≡ old
 FailsBy may_fail old islands (Crew error) new = may_fail old islands error new
+
+-- what a step does with its crew: it calls it with these islands, once, or not at all where the
+-- crew allows that; or it fails
+abbrev pub CallsCrew : {A B : Type 0} → (A → List Island → A → Type 0)
+    → (A → List Island → CrewError → A → Type 0) → List Island → A → A → Result B StepError → Type 0
+CallsCrew is_called may_fail islands old new (Ok done) = is_called old islands new
+CallsCrew is_called may_fail islands old new (Err error) = FailsBy may_fail old islands error new

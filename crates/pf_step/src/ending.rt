@@ -1,6 +1,6 @@
 //! A tick from its contact points on.
 
-ghost use Rattle.std.specs.Prelude.{◌≡◌, ◌≢◌, ◌<◌, ◌++◌, [], Err, All, IfErr, IfOk, IsOk, OnOk, length, map};
+ghost use Rattle.std.specs.Prelude.{◌≡◌, ◌≢◌, ◌<◌, ◌++◌, [], Err, All, IfOk, IsOk, OnOk, length, map};
 ghost use Rattle.pf_manifold.specs.Key.{AreTouches, key_of};
 ghost use Rattle.pf_manifold.specs.Touches.{IsTouchOf};
 ghost use Rattle.pf_cache.specs.Contact.{HaveSameFirst};
@@ -12,7 +12,7 @@ ghost use Rattle.pf_islands.specs.Split.{IsIslandOf};
 ghost use Rattle.pf_step.specs.declared.crew.StepError.TheVariants.{OutOfMemory};
 ghost use Rattle.pf_step.specs.Activity.{islands_of_bodies, islands_with};
 ghost use Rattle.pf_step.specs.Changes.{bodies_before, changes_of_islands, numbers_of, MayChange};
-ghost use Rattle.pf_step.specs.Stepping.{FailsBy, IsEnding};
+ghost use Rattle.pf_step.specs.Stepping.{CallsCrew, IsEnding};
 ghost use Rattle.pf_step.specs.Step.{touches_of_scene};
 
 use crate::changes::Changes;
@@ -145,10 +145,8 @@ pub(crate) fn finish<C: Crew>(
     requires places { AreListedPlaces work.old.moved found.now.collisions.manifolds.pairs
         found.now.moved_places.items }
     ensures ending { IsEnding scene.now world.old changes.old.bodies world.new changes.new result }
-    ensures called { let islands = islands_of_bodies scene.now world.old.contacts world.old.bodies
-        in OnOk result (C.is_called crew.old islands crew.new) }
-    ensures failed { let islands = islands_of_bodies scene.now world.old.contacts world.old.bodies
-        in IfErr result (λ error. FailsBy C.may_fail crew.old islands error crew.new) }
+    ensures crew { let islands = islands_of_bodies scene.now world.old.contacts world.old.bodies
+        in CallsCrew C.is_called C.may_fail islands crew.old crew.new result }
     ensures awake { OnOk result (ListsAwake (numbers_of changes.new.bodies) world.new.bodies) }
     ensures moved { OnOk result (work.new.moved ≡ numbers_of changes.new.bodies) }
     ensures work { work.new ≡ record work.old { moved = work.new.moved } }

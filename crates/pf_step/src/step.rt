@@ -11,8 +11,7 @@ ghost use Rattle.pf_step.specs.declared.crew.StepError.TheVariants.{OutOfMemory}
 ghost use Rattle.pf_step.specs.Activity.{islands_of_tick};
 ghost use Rattle.pf_cache.specs.PlacedBodies.{HaveStayed, bodies_of};
 ghost use Rattle.pf_step.specs.Work.{KnowsWorld};
-ghost use Rattle.pf_step.specs.Stepping.{FailsBy, IsStep, IsStepOfCopy};
-ghost use Rattle.pf_step.specs.Commands.{after_commands};
+ghost use Rattle.pf_step.specs.Stepping.{CallsCrew, IsStep, IsStepOfCopy};
 ghost use Rattle.pf_step.specs.Step.{collisions_of_bodies, touches_of_scene};
 
 use crate::changes::{Changes, undo_bodies};
@@ -85,10 +84,8 @@ pub fn step_next<P: Collider, C: Crew>(
     requires world { length world.old.bodies ≡ length scene.now.fixtures }
     requires follows { KnowsWorld scene.now world.old work.old }
     ensures step { IsStep scene.now world.old payloads.now work.old work.new world.new result }
-    ensures called { let islands = islands_of_tick scene.now world.old payloads.now in
-        OnOk result (C.is_called crew.old islands crew.new) }
-    ensures failed { let islands = islands_of_tick scene.now world.old payloads.now in
-        IfErr result (λ error. FailsBy C.may_fail crew.old islands error crew.new) }
+    ensures crew { let islands = islands_of_tick scene.now world.old payloads.now in
+        CallsCrew C.is_called C.may_fail islands crew.old crew.new result }
     ensures no_memory { world.old.bodies ≡ [] → result ≢ Err OutOfMemory }
 {
     let (kept, is_known) = work.take_manifolds(alloc);
@@ -131,10 +128,8 @@ pub fn step_by<P: Collider, C: Crew>(
     requires can { P.can_collide collider.now }
     requires world { length world.old.bodies ≡ length scene.now.fixtures }
     ensures step { IsStep scene.now world.old payloads.now work.old work.new world.new result }
-    ensures called { let islands = islands_of_tick scene.now world.old payloads.now in
-        OnOk result (C.is_called crew.old islands crew.new) }
-    ensures failed { let islands = islands_of_tick scene.now world.old payloads.now in
-        IfErr result (λ error. FailsBy C.may_fail crew.old islands error crew.new) }
+    ensures crew { let islands = islands_of_tick scene.now world.old payloads.now in
+        CallsCrew C.is_called C.may_fail islands crew.old crew.new result }
     ensures no_memory { world.old.bodies ≡ [] → result ≢ Err OutOfMemory }
 {
     work.forget_moved();
@@ -172,10 +167,8 @@ fn step_copy<P: Collider, C: Crew>(
     requires can { P.can_collide collider.now }
     requires world { length world.now.bodies ≡ length scene.now.fixtures }
     ensures step { IsStepOfCopy scene.now world.now payloads.now work.old work.new result }
-    ensures called { let islands = islands_of_tick scene.now world.now payloads.now in
-        OnOk result (C.is_called crew.old islands crew.new) }
-    ensures failed { let islands = islands_of_tick scene.now world.now payloads.now in
-        IfErr result (λ error. FailsBy C.may_fail crew.old islands error crew.new) }
+    ensures crew { let islands = islands_of_tick scene.now world.now payloads.now in
+        CallsCrew C.is_called C.may_fail islands crew.old crew.new result }
 {
     let mut next = copy_or_forget(alloc, world, work)?;
     match step_by(collider, alloc, scene, &mut next, payloads, work, crew) {
@@ -222,10 +215,8 @@ pub fn step_with<R: Threads + Sync, C: Crew>(
 ) -> Result<World, StepError>
     requires { length world.now.bodies ≡ length scene.now.fixtures }
     ensures step { IsStepOfCopy scene.now world.now payloads.now work.old work.new result }
-    ensures called { let islands = islands_of_tick scene.now world.now payloads.now in
-        OnOk result (C.is_called crew.old islands crew.new) }
-    ensures failed { let islands = islands_of_tick scene.now world.now payloads.now in
-        IfErr result (λ error. FailsBy C.may_fail crew.old islands error crew.new) }
+    ensures crew { let islands = islands_of_tick scene.now world.now payloads.now in
+        CallsCrew C.is_called C.may_fail islands crew.old crew.new result }
 {
     step_copy(
         &SeveralThreads { rt },

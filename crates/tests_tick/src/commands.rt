@@ -1,6 +1,6 @@
-//! Maps of a few commands by hand and of thousands. Frames stand in the stored run of `runs_geometry`,
-//! which of two payloads stays in that of `runs_peers`, and which commands a scene allows in that of
-//! `runs_texts`.
+//! Maps of a few commands by hand and of thousands. Frames stand in the stored run of
+//! `runs_geometry`, which of two payloads stays in that of `runs_peers`, and which commands a scene
+//! allows in that of `runs_texts`.
 
 ghost use Rattle.std.specs.Prelude.{◌<◌};
 

@@ -1,14 +1,14 @@
 //! How a peer comes to hold commands: it issues its own, takes those of frames, and merges maps.
 
-ghost use Rattle.std.specs.Prelude.{◌≡◌, ◌≢◌, ◌≤◌, [], Ok, Err, IsOk, IsSome, IfOk, OnOk, OnErr, Some, None, if◌then◌else◌};
+ghost use Rattle.std.specs.Prelude.{◌≡◌, ◌≤◌, Ok, Err, IsOk, IsSome, IfOk, OnOk, OnErr, Some, None, if◌then◌else◌};
 ghost use Rattle.std.specs.FinMap.{get};
 ghost use Rattle.pf_commands.specs.Check.{check};
 ghost use Rattle.pf_commands.specs.Frame.{decode};
-ghost use Rattle.pf_commands.specs.News.{least_tick, news, put_outcome, is_change};
+ghost use Rattle.pf_commands.specs.News.{news, put_outcome, is_change};
 ghost use Rattle.pf_commands.specs.declared.payload.Command.{Command};
-ghost use Rattle.pf_rollback.specs.Peer.{put, take, next_command, next_number, with_command, IsNextNumber, issue, merge_map, merge_sealed};
+ghost use Rattle.pf_rollback.specs.Peer.{put, take, next_number, with_command, IsNextNumber, issue, merge_map, merge_sealed};
 ghost use Rattle.pf_rollback.specs.Core.{KeepsBefore, news_tick};
-ghost use Rattle.pf_rollback.specs.Calls.{Refines};
+ghost use Rattle.pf_rollback.specs.Calls.{Issues, Merges, MergesSealed, Puts, Takes};
 
 use crate::error::{PeerError, Refusal};
 use crate::peer::PeerCore;
@@ -53,15 +53,7 @@ impl PeerCore {
     /// new or greater drops each kept world after its tick.
     #[tactic(auto, unfolding(crate::specs::Peer::put))]
     pub fn put(&mut self, command: &Command) -> Result<Put, PeerError>
-        ensures peer { Refines result self.old.peer self.new.peer
-            (put self.old.scene self.old.peer command.now) }
-        ensures kept { OnOk result (KeepsBefore (news_tick self.old.peer.commands command.now)
-            self.old.kept self.new.kept) }
-        ensures rest { self.new
-            ≡ record self.old { peer = self.new.peer; kept = self.new.kept } }
-        ensures err { OnErr result (self.new ≡ self.old) }
-        ensures no_memory { IsSome (get self.old.peer.commands command.now.name)
-            → result ≢ Err PeerError.OutOfMemory }
+        ensures { Puts command.now self.old self.new result }
     {
         if let Err(fault) = check(&self.scene, command) {
             return Err(PeerError::Refused(Refusal::Check(fault)));
@@ -76,15 +68,7 @@ impl PeerCore {
     /// Takes the command that a frame of bytes encodes, as [`PeerCore::put`] does. Returns an error
     /// where the bytes encode none.
     pub fn take(&mut self, frame: &[u8]) -> Result<Put, PeerError>
-        ensures peer { Refines result self.old.peer self.new.peer
-            (take self.old.scene self.old.peer (decode frame.now)) }
-        ensures kept { (c : Command) → decode frame.now ≡ Ok c → OnOk result
-            (KeepsBefore (news_tick self.old.peer.commands c) self.old.kept self.new.kept) }
-        ensures rest { self.new
-            ≡ record self.old { peer = self.new.peer; kept = self.new.kept } }
-        ensures err { OnErr result (self.new ≡ self.old) }
-        ensures no_memory { (c : Command) → decode frame.now ≡ Ok c
-            → IsSome (get self.old.peer.commands c.name) → result ≢ Err PeerError.OutOfMemory }
+        ensures { Takes (decode frame.now) self.old self.new result }
     {
         match decode(frame) {
             Ok(command) => self.put(&command),
@@ -99,15 +83,7 @@ impl PeerCore {
     /// greater ones, each kept world after the least tick of them is dropped.
     #[tactic(auto, unfolding(crate::specs::Peer::merge_map))]
     pub fn merge(&mut self, other: &CommandMap) -> Result<usize, PeerError>
-        ensures peer { Refines result self.old.peer self.new.peer
-            (merge_map self.old.scene self.old.peer other.now) }
-        ensures kept { OnOk result (KeepsBefore
-            (least_tick (news self.old.peer.commands other.now)) self.old.kept self.new.kept) }
-        ensures rest { self.new
-            ≡ record self.old { peer = self.new.peer; kept = self.new.kept } }
-        ensures err { OnErr result (self.new ≡ self.old) }
-        ensures no_memory { news self.old.peer.commands other.now ≡ []
-            → result ≢ Err PeerError.OutOfMemory }
+        ensures { Merges other.now self.old self.new result }
     {
         if let Err(fault) = other.check_all(&self.scene) {
             return Err(PeerError::Refused(Refusal::Check(fault)));
@@ -126,16 +102,8 @@ impl PeerCore {
     /// leaves the peer as it was.
     #[tactic(auto, unfolding(crate::specs::Peer::merge_sealed))]
     pub fn merge_sealed(&mut self, other: &Sealed<'_>) -> Result<usize, PeerError>
-        ensures peer { Refines result self.old.peer self.new.peer (merge_sealed self.old.scene
-            self.old.peer other.now.horizon other.now.base.now other.now.commands.now) }
-        ensures kept { OnOk result (KeepsBefore
-            (least_tick (news self.old.peer.commands other.now.commands.now))
-            self.old.kept self.new.kept) }
-        ensures rest { self.new
-            ≡ record self.old { peer = self.new.peer; kept = self.new.kept } }
-        ensures err { OnErr result (self.new ≡ self.old) }
-        ensures no_memory { news self.old.peer.commands other.now.commands.now ≡ []
-            → result ≢ Err PeerError.OutOfMemory }
+        ensures { let o = other.now in
+            MergesSealed o.horizon o.base.now o.commands.now self.old self.new result }
     {
         let horizon = self.snapshots.horizon();
         if horizon != other.horizon {
@@ -165,13 +133,7 @@ impl PeerCore {
     /// scene does not allow the command, and out of memory; each leaves the peer as it was.
     #[tactic(auto, unfolding(crate::specs::Peer::issue, crate::specs::Peer::put))]
     pub fn issue(&mut self, payload: Payload) -> Result<[u8; FRAME_LEN], PeerError>
-        ensures peer { Refines result self.old.peer self.new.peer
-            (issue self.old.scene self.old.peer payload) }
-        ensures kept { let p = self.old.peer in OnOk result (KeepsBefore
-            (news_tick p.commands (next_command p payload)) self.old.kept self.new.kept) }
-        ensures rest { self.new
-            ≡ record self.old { peer = self.new.peer; kept = self.new.kept } }
-        ensures err { OnErr result (self.new ≡ self.old) }
+        ensures { Issues payload self.old self.new result }
     {
         if self.reached >= MAX_TICK {
             return Err(PeerError::Refused(Refusal::TickLimit));

@@ -1,12 +1,12 @@
 //! How a peer advances, and settles the ticks up to the reached one.
 
-ghost use Rattle.std.specs.Prelude.{◌≡◌, ◌≢◌, ◌<◌, ◌+◌, Err, IfErr, OnOk, OnErr};
+ghost use Rattle.std.specs.Prelude.{◌≡◌, ◌<◌, ◌+◌, Err, OnOk, OnErr};
 ghost use Rattle.pf_rollback.specs.Kept.{settled_tick};
 ghost use Rattle.pf_rollback.specs.Peer.{advance};
-ghost use Rattle.pf_rollback.specs.Core.{HasSettled, missing_count};
-ghost use Rattle.pf_rollback.specs.Calls.{Refines};
-ghost use Rattle.pf_rollback.specs.Settling.{AreCalls, FailsAfter, IsSettle, islands_at};
-ghost use Rattle.pf_step.specs.Stepping.{FailsBy};
+ghost use Rattle.pf_rollback.specs.Core.{HasSettled};
+ghost use Rattle.pf_rollback.specs.Calls.{Advances};
+ghost use Rattle.pf_rollback.specs.Settling.{CallsCrewByTick, IsSettle, islands_at};
+ghost use Rattle.pf_step.specs.Stepping.{CallsCrew};
 
 use crate::error::{PeerError, Refusal};
 use crate::peer::PeerCore;
@@ -21,9 +21,7 @@ impl PeerCore {
     /// Returns an error, and stays, where that is above [`MAX_TICK`]. Takes no memory.
     #[tactic(auto, unfolding(crate::specs::Peer::advance))]
     pub fn advance(&mut self, ticks: u32) -> Result<u32, PeerError>
-        ensures peer { Refines result self.old.peer self.new.peer (advance self.old.peer ticks) }
-        ensures rest { self.new ≡ record self.old { peer = self.new.peer } }
-        ensures no_memory { result ≢ Err PeerError.OutOfMemory }
+        ensures { Advances ticks self.old self.new result }
     {
         match self.reached.checked_add(ticks) {
             Some(reached) if reached <= MAX_TICK => {
@@ -46,10 +44,8 @@ impl PeerCore {
     ) -> Result<u32, StepError>
         requires { P.can_collide collider.now }
         ensures settle { IsSettle self.old self.new result }
-        ensures called { OnOk result
-            (AreCalls C.is_called self.old (missing_count self.old) crew.old crew.new) }
-        ensures failed { IfErr result (λ error.
-            FailsAfter C.is_called C.may_fail self.old self.new crew.old error crew.new) }
+        ensures crew { CallsCrewByTick C.is_called C.may_fail self.old self.new
+            crew.old crew.new result }
     {
         let last = self.reached();
         let settled = self.settled();
@@ -77,10 +73,8 @@ impl PeerCore {
         ensures settled { OnOk result (settled_tick self.new.kept ≡ tick + 1) }
         ensures ok { OnOk result (HasSettled 1 self.old self.new) }
         ensures err { OnErr result (HasSettled 0 self.old self.new) }
-        ensures called { OnOk result
-            (C.is_called crew.old (islands_at self.old tick) crew.new) }
-        ensures failed { IfErr result (λ error.
-            FailsBy C.may_fail crew.old (islands_at self.old tick) error crew.new) }
+        ensures crew { CallsCrew C.is_called C.may_fail (islands_at self.old tick)
+            crew.old crew.new result }
     {
         self.snapshots.reserve()?;
         let payloads = self.commands.at_tick(alloc, tick)?;
@@ -113,10 +107,8 @@ impl PeerCore {
         crew: &mut C,
     ) -> Result<u32, StepError>
         ensures settle { IsSettle self.old self.new result }
-        ensures called { OnOk result
-            (AreCalls C.is_called self.old (missing_count self.old) crew.old crew.new) }
-        ensures failed { IfErr result (λ error.
-            FailsAfter C.is_called C.may_fail self.old self.new crew.old error crew.new) }
+        ensures crew { CallsCrewByTick C.is_called C.may_fail self.old self.new
+            crew.old crew.new result }
     {
         self.settle_by(&SeveralThreads { rt }, alloc, crew)
     }

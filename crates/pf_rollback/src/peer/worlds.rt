@@ -4,10 +4,10 @@ ghost use Rattle.std.specs.Prelude.{◌≡◌, ◌≢◌, ◌≤◌, ◌-◌, �
 ghost use Rattle.pf_rollback.specs.declared.error.Refusal.{Refusal};
 ghost use Rattle.pf_rollback.specs.declared.error.PeerError.TheVariants.{Refused};
 ghost use Rattle.pf_step.specs.Simulation.{sim};
-ghost use Rattle.pf_rollback.specs.Kept.{nearest_tick, ticks_after_seal};
+ghost use Rattle.pf_rollback.specs.Kept.{nearest_tick};
 ghost use Rattle.pf_rollback.specs.Peer.{IsEmptyBefore, seal, world_at};
 ghost use Rattle.pf_rollback.specs.Core.{count_after};
-ghost use Rattle.pf_rollback.specs.Calls.{Refines, Returns};
+ghost use Rattle.pf_rollback.specs.Calls.{Returns, Seals};
 
 use crate::error::{PeerError, Refusal};
 use crate::peer::PeerCore;
@@ -64,24 +64,7 @@ impl PeerCore {
     /// tick.
     #[tactic(auto, unfolding(crate::specs::Peer::seal))]
     pub fn seal(&mut self, alloc: Global, tick: u32) -> Result<(), PeerError>
-        ensures peer { Refines result self.old.peer self.new.peer
-            (seal self.old.scene self.old.peer tick) }
-        ensures kept { OnOk result (self.new.kept ≡ ticks_after_seal tick self.old.kept) }
-        ensures counted { let ticks = tick - nearest_tick self.old.kept tick in
-            OnOk result (self.new.meter.ticks ≡ count_after self.old.meter.ticks ticks) }
-        ensures not_counted { let ticks = tick - nearest_tick self.old.kept tick in
-            OnErr result ((some : ℕ) × (some ≤ ticks) × (self.new.kept ≡ self.old.kept)
-            × (self.new.meter.ticks ≡ count_after self.old.meter.ticks some)) }
-        ensures rest { self.new ≡ record self.old {
-          peer = self.new.peer;
-          kept = self.new.kept;
-          meter = self.new.meter;
-        } }
-        ensures refused { (refusal : Refusal) → result ≡ Err (Refused refusal)
-            → self.new ≡ self.old }
-        ensures again { tick ≡ self.old.peer.horizon → (result ≡ Ok tt) × (self.new ≡ self.old) }
-        ensures no_memory { IsEmptyBefore self.old.peer tick
-            → result ≢ Err PeerError.OutOfMemory }
+        ensures { Seals tick self.old self.new result }
     {
         if tick > self.reached {
             return Err(PeerError::Refused(Refusal::NotReached(self.reached)));

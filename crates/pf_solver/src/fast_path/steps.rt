@@ -13,18 +13,7 @@ use pf_num::Fx;
 use pf_rows::limits::{
     ACCUMULATED_LIMIT, NORMAL_LIMIT, SPEED_CHANGE_LIMIT, SPIN_LIMIT, STEP_LIMIT,
 };
-use pf_rows::{Constraint, Impulses};
-
-/// Whether a number is at most this in magnitude.
-#[inline]
-pub(crate) fn is_within(x: Fx, limit: u64) -> bool
-    requires { limit < 2 ^ 63 }
-    ensures { IsTrue result → unsigned_abs x ≤ limit }
-{
-    let raw = x.raw();
-    let limit = limit as i64;
-    raw <= limit && -limit <= raw
-}
+use pf_rows::{Constraint, Impulses, is_within};
 
 /// The accumulated normal impulse after the step, or `None`.
 #[inline(always)]

@@ -5,4 +5,4 @@ pub returns-in-Settle-clause-crew : goal.returns-in-Settle-clause-crew
 returns-in-Settle-clause-crew g c =
     let core = c.args.core.now in
     rw c.in-Settle.is (settle_uses g.C.Crew.is_called g.C.Crew.may_fail core c.settle.new.core c.in-Settle.peer c.args.crew.now
-    c.settle.result c.settle.new.crew c.settle.ensures.called c.settle.ensures.failed)
+    c.settle.result c.settle.new.crew c.settle.ensures.crew)

@@ -116,15 +116,15 @@ returns-in-Ok-finish-clause-step g c =
       follows = λ known. (stand.0, stand.1, keys, awake);
     }
 
-pub returns-in-Ok-finish-clause-called : goal.returns-in-Ok-finish-clause-called
-returns-in-Ok-finish-clause-called g c =
+pub returns-in-Ok-finish-clause-crew : goal.returns-in-Ok-finish-clause-crew
+returns-in-Ok-finish-clause-crew g c =
     let s = c.args.scene.now in
     let w = c.args.world.now in
-    let commanded = commanded_are g (goal.at.returns-in-Ok-finish-clause-called g c).After-apply_all in
+    let commanded = commanded_are g (goal.at.returns-in-Ok-finish-clause-crew g c).After-apply_all in
     let contacts = ap (λ (x : World). x.contacts) c.world.view_is in
     subst (λ (is : List Island). g.C.Crew.is_called c.args.crew.now is c.finish.new.crew)
     (ap₂ (λ (cs : List Contact) (bs : List BodyState). islands_of_bodies s cs bs) contacts commanded)
-    c.in-Ok-finish.ensures.called
+    c.in-Ok-finish.ensures.crew
 
 -- only listed bodies may have moved since the kept points were computed
 stayed : (g : _) (c : After-moved g)
@@ -251,12 +251,12 @@ returns-in-Err-finish-clause-step g c =
       follows = λ known. absurd (true≢false (sym known ∙ ap (λ (x : Work). x.is_known) not_counted));
     }
 
-pub returns-in-Err-finish-clause-failed : goal.returns-in-Err-finish-clause-failed
-returns-in-Err-finish-clause-failed g c =
+pub returns-in-Err-finish-clause-crew : goal.returns-in-Err-finish-clause-crew
+returns-in-Err-finish-clause-crew g c =
     let s = c.args.scene.now in
     let w = c.args.world.now in
-    let commanded = commanded_are g (goal.at.returns-in-Err-finish-clause-failed g c).After-apply_all in
+    let commanded = commanded_are g (goal.at.returns-in-Err-finish-clause-crew g c).After-apply_all in
     let contacts = ap (λ (x : World). x.contacts) c.world.view_is in
     subst (λ (is : List Island). FailsBy g.C.Crew.may_fail c.args.crew.now is c.in-Err-finish.error c.finish.new.crew)
     (ap₂ (λ (cs : List Contact) (bs : List BodyState). islands_of_bodies s cs bs) contacts commanded)
-    c.in-Err-finish.ensures.failed
+    c.in-Err-finish.ensures.crew

@@ -1,6 +1,6 @@
 use Rattle.std.proofs.Common.{◌≡◌, rules, Some}
 use Rattle.std.specs.Prelude.{Ok}
-use Rattle.pf_context.specs.Calls.{Seals}
+use Rattle.pf_rollback.specs.Calls.{Seals}
 use Rattle.pf_context.specs.Context.{peer_at, with_peer}
 use Rattle.pf_context.specs.Errors.{peer_error, returned}
 use Rattle.pf_context.proofs.Called.{made}
@@ -10,10 +10,10 @@ pub returns-in_err-seal-clause-call : goal.returns-in_err-seal-clause-call
 returns-in_err-seal-clause-call c =
     let named : peer_at c.args.self.now c.args.peer ≡ Some c.in-Some.core.now = search rules in
     let same : c.from_residual.result ≡ returned peer_error c.seal.result = search rules in
-    made peer_at with_peer peer_error _ _ c.args.peer _ (Seals c.args.tick) c.in-Some.core.now c.seal.new.core c.seal.result named c.seal.ensures (search rules) same
+    made peer_at with_peer peer_error _ _ c.args.peer _ (Seals c.args.tick) c.in-Some.core.now c.seal.new.self c.seal.result named c.seal.ensures (search rules) same
 
 pub returns-clause-call : goal.returns-clause-call
 returns-clause-call c =
     let named : peer_at c.args.self.now c.args.peer ≡ Some c.in-Some.core.now = search rules in
     let same : Ok c.in_ok-seal.field-0 ≡ returned peer_error c.seal.result = search rules in
-    made peer_at with_peer peer_error _ _ c.args.peer _ (Seals c.args.tick) c.in-Some.core.now c.seal.new.core c.seal.result named c.seal.ensures (search rules) same
+    made peer_at with_peer peer_error _ _ c.args.peer _ (Seals c.args.tick) c.in-Some.core.now c.seal.new.self c.seal.result named c.seal.ensures (search rules) same

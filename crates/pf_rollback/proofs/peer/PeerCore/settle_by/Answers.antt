@@ -29,8 +29,8 @@ returns-in-Err-clause-settle g c = record {
   );
 }
 
-pub returns-in-Err-clause-failed : goal.returns-in-Err-clause-failed
-returns-in-Err-clause-failed g c =
+pub returns-in-Err-clause-crew : goal.returns-in-Err-clause-crew
+returns-in-Err-clause-crew g c =
     let core = c.args.self.now in
     let more = c.loop-tick.tick - c.settled-settled.result in
     let here : c.loop-tick.tick ≡ settled_tick core.kept + more = omega (arith, c.settled-settled.ensures.value, c.loop-tick.auto.tick) in
@@ -42,7 +42,7 @@ returns-in-Err-clause-failed g c =
       (
         c.loop-tick.crew,
         c.loop-tick.invariant.called,
-        subst (λ (is : List Island). FailsBy g.C.Crew.may_fail c.loop-tick.crew is c.in-Err.error c.settle_tick.new.crew) islands c.in-Err.ensures.failed,
+        subst (λ (is : List Island). FailsBy g.C.Crew.may_fail c.loop-tick.crew is c.in-Err.error c.settle_tick.new.crew) islands c.in-Err.ensures.crew,
       ),
     )
 
@@ -62,5 +62,5 @@ loop-tick-preserved g c =
       called =
           subst (λ n. AreCalls g.C.Crew.is_called core n c.args.crew.now c.settle_tick.new.crew) next
           (one_call_more _ _ _ _ _ _ c.loop-tick.invariant.called
-          (subst (λ (is : List Island). g.C.Crew.is_called c.loop-tick.crew is c.settle_tick.new.crew) islands c.in_default.ensures.called));
+          (subst (λ (is : List Island). g.C.Crew.is_called c.loop-tick.crew is c.settle_tick.new.crew) islands c.in_default.ensures.crew));
     }

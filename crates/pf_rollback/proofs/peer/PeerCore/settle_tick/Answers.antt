@@ -1,11 +1,10 @@
 use Rattle.std.proofs.Common.{◌≡◌, ◌+◌, List, OnOk, length, ap, ap₂, sym, subst, refl, ◌∙◌, arith}
-use Rattle.std.specs.Prelude.{IfErr}
 use Rattle.pf_commands.specs.declared.payload.Payload.{Payload}
 use Rattle.pf_step.specs.Work.{Work}
 use Rattle.pf_step.specs.World.{World}
 use Rattle.pf_islands.specs.Split.{Island}
 use Rattle.pf_step.specs.Activity.{islands_of_tick}
-use Rattle.pf_step.specs.Stepping.{FailsBy}
+use Rattle.pf_step.specs.Stepping.{CallsCrew}
 use Rattle.pf_step.specs.Step.{step}
 use Rattle.pf_commands.specs.Merge.{payloads_at}
 use Rattle.pf_rollback.specs.Kept.{settled_tick, ticks_after_settling}
@@ -88,8 +87,8 @@ returns-clause-err g c =
     (err_both c.settle.result (λ same unchanged. settled_none _ _ _ _ peer (ap ticks_of same ∙ ticks) unchanged)
     c.settle.ensures.err c.settle.ensures.not_counted)
 
-pub returns-clause-called : goal.returns-clause-called
-returns-clause-called g c =
+pub returns-clause-crew : goal.returns-clause-crew
+returns-clause-crew g c =
     let s = c.self.inside.scene in
     let m = c.self.inside.commands in
     let kept = c.self.inside.snapshots in
@@ -100,20 +99,5 @@ returns-clause-called g c =
     ∙ ap (kept_world s m kept) (same ∙ sym next) in
     let payloads : c.deref.result.now ≡ payloads_at m c.args.tick = c.deref.ensures.value ∙ c.in_ok-payloads.ensures.items in
     rw (← c.self.view_is)
-    (subst (λ (islands : List Island). OnOk c.settle.result (g.C.Crew.is_called c.args.crew.now islands c.settle.new.crew))
-    (ap₂ (λ (w : World) (ps : List Payload). islands_of_tick s w ps) world payloads) c.settle.ensures.called)
-
-pub returns-clause-failed : goal.returns-clause-failed
-returns-clause-failed g c =
-    let s = c.self.inside.scene in
-    let m = c.self.inside.commands in
-    let kept = c.self.inside.snapshots in
-    let next = rw (← c.self.view_is) at c.requires.next in
-    let same = ap settled_tick (ticks_reserved kept c.reserve.new.self c.reserve.ensures.kept) in
-    let world : settled_world c.reserve.new.self ≡ kept_world s m kept c.args.tick =
-    c.self.invariant.0.worlds _ _ (kept_reserved _ _ _ _ c.reserve.ensures.kept c.settle.ensures.latest)
-    ∙ ap (kept_world s m kept) (same ∙ sym next) in
-    let payloads : c.deref.result.now ≡ payloads_at m c.args.tick = c.deref.ensures.value ∙ c.in_ok-payloads.ensures.items in
-    rw (← c.self.view_is)
-    (subst (λ (islands : List Island). IfErr c.settle.result (λ error. FailsBy g.C.Crew.may_fail c.args.crew.now islands error c.settle.new.crew))
-    (ap₂ (λ (w : World) (ps : List Payload). islands_of_tick s w ps) world payloads) c.settle.ensures.failed)
+    (subst (λ (islands : List Island). CallsCrew g.C.Crew.is_called g.C.Crew.may_fail islands c.args.crew.now c.settle.new.crew c.settle.result)
+    (ap₂ (λ (w : World) (ps : List Payload). islands_of_tick s w ps) world payloads) c.settle.ensures.crew)

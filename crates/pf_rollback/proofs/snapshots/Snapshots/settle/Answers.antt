@@ -74,18 +74,18 @@ returns-in-Ok-clause-latest g c = settled_tick_kept c.args.self.now (subst IsSna
 pub returns-in-Err-clause-latest : goal.returns-in-Err-clause-latest
 returns-in-Err-clause-latest g c = settled_tick_kept c.args.self.now (subst IsSnapshots c.self.view_is c.self.invariant)
 
-pub returns-in-Ok-clause-called : goal.returns-in-Ok-clause-called
-returns-in-Ok-clause-called g c =
+pub returns-in-Ok-clause-crew : goal.returns-in-Ok-clause-crew
+returns-in-Ok-clause-crew g c =
     let s = c.self.inside in
     let latest : c.in_ok-world.world ≡ settled_world c.args.self.now =
     c.in_ok-world.ensures.value ∙ ap (λ ks. last_world s.base ks s.latest) c.deref.ensures.value ∙ ap settled_world c.self.view_is in
     subst (λ (w : World). g.C.Crew.is_called c.args.crew.now (islands_of_tick c.args.scene.now w c.args.payloads.now) c.step_next.new.crew)
-    latest c.in-Ok.ensures.called
+    latest c.in-Ok.ensures.crew
 
-pub returns-in-Err-clause-failed : goal.returns-in-Err-clause-failed
-returns-in-Err-clause-failed g c =
+pub returns-in-Err-clause-crew : goal.returns-in-Err-clause-crew
+returns-in-Err-clause-crew g c =
     let s = c.self.inside in
     let latest : c.in_ok-world.world ≡ settled_world c.args.self.now =
     c.in_ok-world.ensures.value ∙ ap (λ ks. last_world s.base ks s.latest) c.deref.ensures.value ∙ ap settled_world c.self.view_is in
     subst (λ (w : World). FailsBy g.C.Crew.may_fail c.args.crew.now (islands_of_tick c.args.scene.now w c.args.payloads.now) c.in-Err.error c.step_next.new.crew)
-    latest c.in-Err.ensures.failed
+    latest c.in-Err.ensures.crew
