@@ -2,7 +2,7 @@
 use Rattle.std.proofs.Common.{◌≡◌, ◌∙◌, ℕ, ◌+◌, Bool, true, false, List, [], ◌∷◌, Option, Some, None, map, refl, ap, sym}
 use Rattle.std.specs.Prelude.{nat_le, option_map, if◌then◌else◌}
 use Rattle.pf_shapes.specs.Scene.{Scene}
-use Rattle.pf_cache.specs.Meter.{saturating_sum}
+use Rattle.pf_step.specs.Meter.{saturating_sum}
 use Rattle.pf_commands.specs.declared.name.TheConstants.{MAX_TICK}
 use Rattle.pf_links.specs.Link.{Frame}
 use Rattle.pf_rollback.specs.declared.error.Refusal.{Refusal}

@@ -1,6 +1,6 @@
 -- What errors of a crew mean for a text.
 use Rattle.std.specs.Prelude.{◌≡◌, ℕ, IsSome, Option, Some, None, Result, Err, List}
-use Rattle.pf_islands.specs.Split.{Island}
+use Rattle.pf_step.specs.Split.{Island}
 use Rattle.pf_step.specs.declared.crew.CrewError.{CrewError}
 use Rattle.pf_step.specs.declared.crew.CrewError.TheVariants.{OutOfMemory, NoThread, GateShut, CrewLost}
 use Rattle.pf_events.specs.Crews.{CanFail}

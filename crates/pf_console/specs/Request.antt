@@ -1,6 +1,6 @@
 -- What the program does for a request.
 use Rattle.std.specs.Prelude.{◌≡◌, ℕ, ◌<◌, ◌≤◌, IfSome, List, ◌++◌, Some, Result, Ok, Err, codes, string_bytes}
-use Rattle.pf_islands.specs.Split.{Island}
+use Rattle.pf_step.specs.Split.{Island}
 use Rattle.pf_pool.specs.declared.pool.TheConstants.{MAX_WORKERS}
 use Rattle.pf_step.specs.declared.crew.CrewError.{CrewError}
 use Rattle.pf_console.specs.declared.error.ProgramError.{ProgramError}

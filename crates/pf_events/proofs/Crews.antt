@@ -1,6 +1,6 @@
 -- How the reply to an event uses a crew.
 use Rattle.std.proofs.Common.{◌≡◌, ℕ, List, Result, Ok, Err, refl}
-use Rattle.pf_islands.specs.Split.{Island}
+use Rattle.pf_step.specs.Split.{Island}
 use Rattle.pf_step.specs.declared.crew.CrewError.{CrewError}
 use Rattle.pf_step.specs.declared.crew.StepError.{StepError}
 use Rattle.pf_step.specs.declared.crew.StepError.TheVariants.{Crew, OutOfMemory}

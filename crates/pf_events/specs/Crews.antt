@@ -1,6 +1,6 @@
 -- How the reply to an event uses a crew, and with which errors a crew may fail.
 use Rattle.std.specs.Prelude.{◌≡◌, ℕ, List, Result, Ok, Err}
-use Rattle.pf_islands.specs.Split.{Island}
+use Rattle.pf_step.specs.Split.{Island}
 use Rattle.pf_step.specs.declared.crew.CrewError.{CrewError}
 use Rattle.pf_step.specs.declared.crew.StepError.{StepError}
 use Rattle.pf_step.specs.declared.crew.StepError.TheVariants.{OutOfMemory}

@@ -15,7 +15,7 @@ use Rattle.pf_console.specs.declared.error.ProgramError.TheVariants.{Words, Line
 use Rattle.pf_program.specs.Options.{FailsByWordsOrMemory, HasCrewSize}
 use Rattle.pf_console.specs.Crews.{FailsByCrew}
 use Rattle.pf_console.specs.Request.{CanStart, FailsByThreadsOf}
-use Rattle.pf_islands.specs.Split.{Island}
+use Rattle.pf_step.specs.Split.{Island}
 use Rattle.pf_events.specs.Crews.{CanFail}
 
 -- words that could not be read name no crew

@@ -17,8 +17,8 @@ use Rattle.pf_step.specs.Simulation.{sim}
 use Rattle.pf_step.specs.Step.{step}
 use Rattle.pf_step.specs.Work.{KnowsWorld, Work}
 use Rattle.pf_step.specs.World.{World, start_of}
-use Rattle.pf_cache.specs.Meter.{Meter, saturating_sum}
-use Rattle.pf_islands.specs.Split.{Island}
+use Rattle.pf_step.specs.Meter.{Meter, saturating_sum}
+use Rattle.pf_step.specs.Split.{Island}
 use Rattle.pf_rollback.specs.Core.{PeerCore, IsPeerCore, HasSettled, AreAllowed, count_after, news_tick, peer_of}
 use Rattle.pf_rollback.specs.Horizon.{sim_at}
 use Rattle.pf_rollback.specs.Kept.{Ticks, no_ticks, settled_tick, ticks_after_more, ticks_after_settling}

@@ -8,7 +8,7 @@ use Rattle.pf_commands.specs.Check.{IsAllowed}
 use Rattle.pf_commands.specs.Merge.{CommandMap}
 use Rattle.pf_commands.specs.Name.{Name}
 use Rattle.pf_commands.specs.News.{is_news}
-use Rattle.pf_cache.specs.Meter.{Meter, saturating_sum}
+use Rattle.pf_step.specs.Meter.{Meter, saturating_sum}
 use Rattle.pf_step.specs.Work.{no_work}
 use Rattle.pf_step.specs.World.{World, start_of}
 use Rattle.pf_rollback.specs.declared.snapshots.TheConstants.{KEYFRAME_INTERVAL}

@@ -1,7 +1,7 @@
 -- What a settle of a peer returns and leaves, and how it calls a crew.
 use Rattle.std.specs.Prelude.{◌≡◌, ℕ, zero, suc, ◌+◌, ◌<◌, List, Result, Ok, Err, IfOk, OnErr, OnOk}
 use Rattle.pf_commands.specs.Merge.{payloads_at}
-use Rattle.pf_islands.specs.Split.{Island}
+use Rattle.pf_step.specs.Split.{Island}
 use Rattle.pf_step.specs.declared.crew.CrewError.{CrewError}
 use Rattle.pf_step.specs.declared.crew.StepError.{StepError}
 use Rattle.pf_step.specs.Activity.{islands_of_tick}

@@ -16,7 +16,7 @@ ghost use Rattle.pf_commands.specs.Payload.{IsPayload};
 ghost use Rattle.pf_commands.specs.Ticks.{IsFrom, commands_before};
 ghost use Rattle.pf_step.specs.Simulation.{sim};
 ghost use Rattle.pf_step.specs.World.{World, start_of};
-ghost use Rattle.pf_cache.specs.Meter.{saturating_sum};
+ghost use Rattle.pf_step.specs.Meter.{saturating_sum};
 ghost use Rattle.pf_rollback.specs.Core.{count_after};
 ghost use Rattle.pf_rollback.specs.Kept.{Ticks, last_tick, later_than, settled_tick, ticks_after_more, up_to};
 ghost use Rattle.pf_rollback.specs.Horizon.{sim_at};

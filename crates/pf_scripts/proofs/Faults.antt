@@ -5,7 +5,7 @@ use Rattle.std.proofs.lemmas.List.{drop_more, get_or-map, get_or_default, length
 use Rattle.std.proofs.lemmas.List.Sums.{sum_by-append}
 use Rattle.std.specs.Prelude.{option_map}
 use Rattle.pf_scripts.specs.Frames.{Setting}
-use Rattle.pf_cache.specs.Meter.{saturating_sum}
+use Rattle.pf_step.specs.Meter.{saturating_sum}
 use Rattle.pf_links.specs.Link.{Frame}
 use Rattle.pf_rollback.specs.declared.error.Refusal.{Refusal}
 use Rattle.pf_scripts.specs.Frames.{refusal_of}

@@ -2,7 +2,7 @@
 use Rattle.std.specs.Prelude.{ℕ, ◌+◌, List, [], ◌∷◌, Option, Some, None, Vec, map, nat_le, option_map, sum_by, if◌then◌else◌}
 use Rattle.std.specs.Global.{Global}
 use Rattle.std.specs.List.{flat_map}
-use Rattle.pf_cache.specs.Meter.{saturating_sum}
+use Rattle.pf_step.specs.Meter.{saturating_sum}
 use Rattle.pf_commands.specs.declared.name.TheConstants.{MAX_TICK}
 use Rattle.pf_links.specs.Link.{Frame}
 use Rattle.pf_scripts.specs.Frames.{Setting, refusal_of}

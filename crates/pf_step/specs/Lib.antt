@@ -9,3 +9,5 @@ pub mod Stepping
 pub mod Simulation
 pub mod Activity
 pub mod Laws
+pub use Rattle.pf_cache.specs.Meter
+pub use Rattle.pf_islands.specs.Split

@@ -1,6 +1,6 @@
 -- What a contract sees of a crew of threads, and with which errors it fails.
 use Rattle.std.specs.Prelude.{◌≡◌, ℕ, ⊤, Bool, true, false, List, All, replicate, if◌then◌else◌}
-use Rattle.pf_cache.specs.Meter.{saturating_sum}
+use Rattle.pf_step.specs.Meter.{saturating_sum}
 use Rattle.pf_pool.specs.declared.error.PoolError.{PoolError}
 use Rattle.pf_pool.specs.declared.error.PoolError.TheVariants as pools
 use Rattle.pf_step.specs.declared.crew.CrewError.{CrewError}

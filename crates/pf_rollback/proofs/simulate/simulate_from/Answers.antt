@@ -1,5 +1,5 @@
 use Rattle.std.proofs.Common.{◌≡◌, ◌≤◌, ◌+◌, ◌-◌, ℕ, length, ap, sym, ◌∙◌, arith}
-use Rattle.pf_cache.specs.Meter.{saturating_sum}
+use Rattle.pf_step.specs.Meter.{saturating_sum}
 use Rattle.pf_step.specs.Work.{Work}
 use Rattle.pf_step.specs.Step.{step}
 use Rattle.pf_step.specs.World.{World}

@@ -1,5 +1,5 @@
 use Rattle.std.proofs.Common.{◌≡◌, ◌+◌, ◌-◌, ◌∙◌, List, suc, refl, sym, subst, ap, arith}
-use Rattle.pf_islands.specs.Split.{Island}
+use Rattle.pf_step.specs.Split.{Island}
 use Rattle.pf_step.specs.Stepping.{FailsBy}
 use Rattle.pf_rollback.specs.Core.{HasSettled}
 use Rattle.pf_rollback.specs.Kept.{settled_tick}

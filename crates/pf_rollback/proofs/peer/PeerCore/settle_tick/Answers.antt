@@ -2,7 +2,7 @@ use Rattle.std.proofs.Common.{◌≡◌, ◌+◌, List, OnOk, length, ap, ap₂,
 use Rattle.pf_commands.specs.declared.payload.Payload.{Payload}
 use Rattle.pf_step.specs.Work.{Work}
 use Rattle.pf_step.specs.World.{World}
-use Rattle.pf_islands.specs.Split.{Island}
+use Rattle.pf_step.specs.Split.{Island}
 use Rattle.pf_step.specs.Activity.{islands_of_tick}
 use Rattle.pf_step.specs.Stepping.{CallsCrew}
 use Rattle.pf_step.specs.Step.{step}
