@@ -28,7 +28,7 @@ impl<G: Gate> Promise<Result<Peer, SessionError>> for PlayPromise<G> {
         IsPlayOutcome G.ALWAYS p.crew p.script.value.items p.peer.value r };
 }
 
-/// Lets a peer play its script, as [`Peer::play`] does.
+/// [`Peer::play`], with its outcome by cases, as a thread promises it: a call for the proof alone.
 fn play_script<R, G>(
     rt: &R,
     alloc: Global,
