@@ -7,6 +7,7 @@ import struct
 import subprocess
 import tempfile
 from array import array
+from collections import defaultdict
 from dataclasses import dataclass, field
 from fractions import Fraction
 
@@ -73,6 +74,23 @@ class Peer:
         if old is None or old.weight < command.weight:
             self.held[command.name] = command
             self.moments.append(("hold", command))
+
+    def keys(self):
+        """For each tick a number for the commands before it that the peer held when it first
+        reached it: the same number for the same commands."""
+        acting, held, key, keys = defaultdict(int), {}, 0, [0]
+        for what, value in self.moments:
+            if what == "reach":
+                for tick in range(len(keys) - 1, value):
+                    key += acting[tick]
+                    keys.append(key)
+                continue
+            more = hash(value) - hash(held.get(value.name, 0))
+            held[value.name] = value
+            acting[value.tick] += more
+            if value.tick < len(keys) - 1:
+                key += more
+        return keys
 
 
 @dataclass(frozen=True)
@@ -279,20 +297,44 @@ class Track:
         return len(self.digests)
 
 
-def first_difference(tracks):
-    """The first tick at which two tracks have different worlds, and which two; or None."""
-    for tick in range(max(track.ticks for track in tracks)):
-        there = [k for k, track in enumerate(tracks) if tick < track.ticks]
-        for k in there[1:]:
-            if tracks[k].digests[tick] != tracks[there[0]].digests[tick]:
-                return tick, there[0], k
+def pair_that_differs(tracks, tick, keys):
+    """Two tracks that have one key at a tick, and different worlds; or None."""
+    seen = {}
+    for k, track in enumerate(tracks):
+        if tick < track.ticks:
+            first = seen.setdefault(keys[k][tick], k)
+            if track.digests[tick] != tracks[first].digests[tick]:
+                return first, k
     return None
 
 
-def agreement(tracks):
-    """For each tick: 1 where all peers that have reached it agree, 0 where not, 2 for one peer."""
-    agree = []
+def real_differences(match, finals, shown):
+    """The ticks at which two peers differ though nothing is on its way: at the end of all, or with
+    the same commands. For each the two peers, and the tracks that differ."""
+    none = [[0] * track.ticks for track in finals]
+    own = [peer.keys() for peer in match.peers]
+    found = {}
+    for tick in range(max(track.ticks for track in finals)):
+        for tracks, keys in ((finals, none), (shown, own)):
+            pair = pair_that_differs(tracks, tick, keys)
+            if pair:
+                found[tick] = (*pair, tracks)
+                break
+    return found
+
+
+def states(tracks, finals, real):
+    """How the peers are from which ticks on: they `differ`, some are `corrected` later, only one
+    peer is there (`alone`), or all show the `same` world."""
+    runs = []
     for tick in range(max(track.ticks for track in tracks)):
-        there = [track.digests[tick] for track in tracks if tick < track.ticks]
-        agree.append(2 if len(there) == 1 else int(len(set(there)) == 1))
-    return agree
+        there = [k for k, track in enumerate(tracks) if tick < track.ticks]
+        if tick in real:
+            state = "differ"
+        elif any(tracks[k].digests[tick] != finals[k].digests[tick] for k in there):
+            state = "corrected"
+        else:
+            state = "alone" if len(there) == 1 else "same"
+        if not runs or runs[-1][1] != state:
+            runs.append([tick, state])
+    return runs

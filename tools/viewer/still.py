@@ -3,7 +3,7 @@
 from .match import FIELDS
 
 UNIT = 16777216
-COLOURS = ("#4c78a8", "#f58518", "#54a24b", "#e45756", "#72b7b2", "#b279a2", "#ff9da6", "#9d755d")
+COLOURS = ("#4c78a8", "#f58518", "#54a24b", "#eeca3b", "#72b7b2", "#b279a2", "#ff9da6", "#9d755d")
 
 
 def rows_at(match, track, tick):
