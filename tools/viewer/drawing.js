@@ -155,6 +155,7 @@ function drawJumps(pen, lens, jumps) {
   pen.lineWidth = 1.5;
   for (const jump of jumps) {
     const [from, to] = [lens.toScreen(jump.from), lens.toScreen(jump.to)];
+    if (Math.hypot(from[0] - to[0], from[1] - to[1]) < 2) continue; // too short to be seen
     pen.globalAlpha = 1 - jump.age / JUMP_TICKS;
     drawStroke(pen, from, to);
     drawDot(pen, from, 2.5);
