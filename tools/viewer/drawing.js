@@ -45,17 +45,18 @@ function lensOf(canvas) {
 
 /** Begins a path about a body that is greater all round by so many pixels. */
 function traceBody(pen, lens, body, pose, more) {
+  const [x, y] = lens.toScreen([pose.x, pose.y]);
+  const [w, h] = body.size.map((v) => Math.max(0, (v / UNIT) * lens.scale + more));
   pen.beginPath();
   if (body.size.length === 1) {
-    const [x, y] = lens.toScreen([pose.x, pose.y]);
-    pen.arc(x, y, Math.max(0, (body.size[0] / UNIT) * lens.scale + more), 0, 2 * Math.PI);
+    pen.arc(x, y, w, 0, 2 * Math.PI);
     return;
   }
-  const [w, h] = body.size.map((v) => Math.max(0, v / UNIT + more / lens.scale));
-  pen.moveTo(...lens.toScreen(turned(pose, [w, h])));
-  for (const corner of [[-w, h], [-w, -h], [w, -h]]) {
-    pen.lineTo(...lens.toScreen(turned(pose, corner)));
-  }
+  const [right, rise] = [w * pose.c, -w * pose.s], [left, up] = [-h * pose.s, -h * pose.c];
+  pen.moveTo(x + right + left, y + rise + up);
+  pen.lineTo(x - right + left, y - rise + up);
+  pen.lineTo(x - right - left, y - rise - up);
+  pen.lineTo(x + right - left, y + rise - up);
   pen.closePath();
 }
 
@@ -74,18 +75,30 @@ const islandColour = (least, lightness) =>
 const pale = (colour) => `rgb(${[1, 3, 5].map((at) => (
   Math.round(0.4 * parseInt(colour.slice(at, at + 2), 16) + 150)))})`;
 
-/** A body with its outline, and of a circle the radius that turns with it; roughly without. */
-function drawBody(pen, lens, body, pose, colour, isRough) {
-  traceBody(pen, lens, body, pose, isRough ? -0.5 : 0);
+/** A body with its outline, and of a circle the radius that turns with it. */
+function drawBody(pen, lens, body, pose, colour) {
+  traceBody(pen, lens, body, pose, 0);
   pen.fillStyle = colour;
   pen.fill();
-  if (isRough) return;
   pen.strokeStyle = "#333";
   pen.lineWidth = 1;
   pen.stroke();
   if (body.size.length === 2) return;
   drawStroke(pen, lens.toScreen([pose.x, pose.y]),
     lens.toScreen(turned(pose, [body.size[0] / UNIT, 0])));
+}
+
+/** A body without its outline; a box that stands upright, by half a pixel, is drawn faster. */
+function drawRoughly(pen, lens, body, pose, colour) {
+  pen.fillStyle = colour;
+  const [w, h = 0] = body.size.map((v) => (v / UNIT) * lens.scale - 0.5);
+  if (h > 0 && pose.c > 0 && Math.abs(pose.s) * Math.max(w, h) < 0.5) {
+    const [x, y] = lens.toScreen([pose.x, pose.y]);
+    pen.fillRect(x - w, y - h, 2 * w, 2 * h);
+    return;
+  }
+  traceBody(pen, lens, body, pose, -0.5);
+  pen.fill();
 }
 
 function drawStroke(pen, from, to) {
@@ -103,12 +116,13 @@ function drawDot(pen, place, radius) {
 
 function drawBodies(pen, lens, scene, seen, byIslands) {
   const islands = byIslands ? islandsOf(scene.contacts) : null;
+  const drawOne = seen.length > MANY ? drawRoughly : drawBody;
   for (const body of seen) {
     const pose = scene.poses[body.number], isBright = body.static || pose.awake;
     const colour = islands && !body.static
       ? islandColour(islands[body.number], isBright ? 62 : 85)
       : isBright ? body.colour : pale(body.colour);
-    drawBody(pen, lens, body, pose, colour, seen.length > MANY);
+    drawOne(pen, lens, body, pose, colour);
   }
 }
 
