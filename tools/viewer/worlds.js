@@ -10,27 +10,51 @@ const placeOf = new Map(moving.map((body, k) => [body.number, k]));
 
 // ---- numbers
 
-/**
- * Rows of so many numbers of 64 bits, from the deflated planes of their bytes in base 64. Each
- * number is two of 32 bits, the lower one first: so it is compared and read much faster.
- */
-async function unpacked(text, width) {
-  const deflated = await fetch(`data:;base64,${text}`);
-  const stream = deflated.body.pipeThrough(new DecompressionStream("deflate"));
-  const planes = new Uint8Array(await new Response(stream).arrayBuffer());
-  const long = 8 * width, count = planes.length / long;
-  const rows = new Uint8Array(planes.length);
-  for (let plane = 0; plane < long; plane += 1) {
-    for (let row = 0; row < count; row += 1) rows[row * long + plane] = planes[plane * count + row];
-  }
-  return new Int32Array(rows.buffer);
-}
-
 /** Adds a number to the one at a place. */
 function addTo(numbers, at, low, high) {
   const sum = (numbers[at] >>> 0) + (low >>> 0);
   numbers[at] = sum;
   numbers[at + 1] += high + (sum > 0xffffffff);
+}
+
+/**
+ * Rows of so many numbers of 64 bits, from the deflated planes of their bytes in base 64. Each
+ * number is two of 32 bits, the lower one first: so it is compared and read much faster. If they
+ * are changes of what stands so many places before, they are added up.
+ */
+async function unpackHere(text, width, before) {
+  const deflated = await fetch(`data:;base64,${text}`);
+  const stream = deflated.body.pipeThrough(new DecompressionStream("deflate"));
+  const planes = new Uint8Array(await new Response(stream).arrayBuffer());
+  const long = 8 * width, count = planes.length / long;
+  const rows = new Uint8Array(planes.length), numbers = new Int32Array(rows.buffer);
+  for (let plane = 0; plane < long; plane += 1) {
+    for (let row = 0; row < count; row += 1) rows[row * long + plane] = planes[plane * count + row];
+  }
+  for (let at = 2 * before; before && at < numbers.length; at += 2) {
+    addTo(numbers, at, numbers[at - 2 * before], numbers[at - 2 * before + 1]);
+  }
+  return numbers;
+}
+
+/** What the thread does that unpacks, so that drawing does not wait for it. */
+async function answer({ data: [name, ...packed] }) {
+  const numbers = await unpackHere(...packed);
+  postMessage([name, numbers], [numbers.buffer]);
+}
+
+const program = [addTo, unpackHere, answer, "onmessage = answer;"].join("\n");
+const thread = new Worker(URL.createObjectURL(new Blob([program])));
+const waiting = []; // for an answer, by the names of the questions
+thread.onmessage = ({ data: [name, numbers] }) => {
+  waiting[name](numbers);
+  delete waiting[name];
+};
+
+function unpacked(text, width, before = 0) {
+  return new Promise((done) => {
+    thread.postMessage([waiting.push(done) - 1, text, width, before]);
+  });
 }
 
 const rawAt = (numbers, k) => (BigInt(numbers[2 * k + 1]) << 32n) | BigInt(numbers[2 * k] >>> 0);
@@ -64,12 +88,10 @@ class Track {
   }
 
   async #unpackBlock(number) {
-    const [packedBodies, packedContacts] = this.blocks[number];
-    const bodies = await unpacked(packedBodies, FIELDS), row = 2 * FIELDS * moving.length;
-    for (let at = row; at < bodies.length; at += 2) {
-      addTo(bodies, at, bodies[at - row], bodies[at - row + 1]);
-    }
-    return { bodies, contacts: await unpacked(packedContacts, 5) };
+    const [bodies, contacts] = this.blocks[number];
+    const all = [unpacked(bodies, FIELDS, FIELDS * moving.length), unpacked(contacts, 5)];
+    const [rows, points] = await Promise.all(all);
+    return { bodies: rows, contacts: points };
   }
 
   /** The block that has a tick. */
@@ -296,7 +318,7 @@ function differing(scenes, tick) {
 /** Unpacks what the next ticks need, while these are still played. */
 function unpackAhead(reading, tick) {
   for (const peer of peers) {
-    trackOf(peer, reading).block(tick + data.span / 2);
-    trackOf(peer, 0).block(tick + data.span / 2);
+    trackOf(peer, reading).block(tick + data.span);
+    trackOf(peer, 0).block(tick + data.span);
   }
 }
