@@ -110,24 +110,28 @@ function titleText({ peer, tick, isThere, ghosts }) {
   return `peer ${peer}${ghosts.length ? ": corrected later" : ""}`;
 }
 
+/** Writes a text, if it is another one: the page is laid out anew after each. */
+function write(id, text) {
+  if (element(id).textContent !== text) element(id).textContent = text;
+}
+
 /** Tells the body that was pointed at last. */
 function tellBody() {
   if (!state.told) return;
-  element("body").textContent = shown.scenes.map((one) => bodyText(one, state.told)).join("\n");
+  write("body", shown.scenes.map((one) => bodyText(one, state.told)).join("\n"));
 }
 
 function tell() {
-  element("tick").textContent = element("slider").value = shown.tick;
+  write("tick", String(shown.tick));
+  element("slider").value = shown.tick;
   element("cursor").style.left =
     `calc(${SIDE}px + (100% - ${2 * SIDE}px) * ${shown.tick / (lastTick || 1)})`;
   element("earlier").disabled = !(corrections[0] < shown.tick);
   element("later").disabled = !(corrections.at(-1) > shown.tick);
-  for (const scene of shown.scenes) element(`title${scene.peer}`).textContent = titleText(scene);
-  element("late").textContent = peers.flatMap(lateTexts).join("\n");
-  element("here").textContent = differencesHere();
-  if (element("shown").open) {
-    element("numbers").textContent = shown.scenes.map(shownText).join("\n");
-  }
+  for (const scene of shown.scenes) write(`title${scene.peer}`, titleText(scene));
+  write("late", peers.flatMap(lateTexts).join("\n"));
+  write("here", differencesHere());
+  if (element("shown").open) write("numbers", shown.scenes.map(shownText).join("\n"));
   tellBody();
 }
 
