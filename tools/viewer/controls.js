@@ -159,7 +159,7 @@ function playOn(milliseconds) {
   state.rest += Math.max(0, Math.min(100, milliseconds)) * 0.064;
   const ticks = Math.floor(state.rest);
   state.rest -= ticks;
-  state.tick = Math.min(lastTick, state.tick + ticks);
+  if (ticks) goTo(state.tick + ticks);
   unpackAhead(state.reading, state.tick);
   if (state.tick === lastTick) setPlaying(false);
 }
@@ -172,6 +172,7 @@ async function drawFrames() {
     const now = await nextFrame();
     if (state.isPlaying) playOn(now - last);
     last = now;
+    if (!state.isStale) continue;
     state.isStale = false;
     await lookUp();
     drawPanes();
@@ -280,7 +281,8 @@ function listenTo(canvas, peer) {
   });
   for (const kind of ["pointerdown", "pointermove"]) {
     canvas.addEventListener(kind, (event) => {
-      if (fingers.size < 2 && shown) pointAt(shown.scenes[peer], lensOf(canvas).toPlane(place(event)));
+      if (fingers.size > 1 || !shown) return;
+      pointAt(shown.scenes[peer], lensOf(canvas).toPlane(place(event)));
     });
   }
   for (const kind of ["pointerup", "pointercancel"]) {

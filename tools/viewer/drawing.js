@@ -114,14 +114,14 @@ function drawDot(pen, place, radius) {
   pen.fill();
 }
 
+/** Bodies by their owners or by their islands, sleepers pale. */
 function drawBodies(pen, lens, scene, seen, byIslands) {
   const islands = byIslands ? islandsOf(scene.contacts) : null;
   const drawOne = seen.length > MANY ? drawRoughly : drawBody;
   for (const body of seen) {
-    const pose = scene.poses[body.number], isBright = body.static || pose.awake;
-    const colour = islands && !body.static
-      ? islandColour(islands[body.number], isBright ? 62 : 85)
-      : isBright ? body.colour : pale(body.colour);
+    const pose = scene.poses[body.number], isPale = !body.static && !pose.awake;
+    let colour = isPale ? pale(body.colour) : body.colour;
+    if (islands && !body.static) colour = islandColour(islands[body.number], isPale ? 85 : 62);
     drawOne(pen, lens, body, pose, colour);
   }
 }
@@ -163,8 +163,8 @@ function drawPoints(pen, lens, points, isRough) {
     const end = [x + normal[0] * length, y + normal[1] * length];
     return [lens.toScreen([x, y]), lens.toScreen(end)];
   });
-  if (isRough) return drawLines(pen, lines);
-  for (const [from, to] of lines) drawArrow(pen, from, to, dot);
+  if (isRough) drawLines(pen, lines);
+  else for (const [from, to] of lines) drawArrow(pen, from, to, dot);
 }
 
 function outline(pen, lens, shapes, colour, width) {
@@ -200,8 +200,8 @@ function drawPane(canvas, scene, byIslands, differ) {
   outline(pen, lens, scene.ghosts, colours.calm, 1.5);
   pen.setLineDash([]);
   drawJumps(pen, lens, scene.jumps);
-  const red = data.bodies.filter((body) => differ.has(body.number));
-  outline(pen, lens, red.map((body) => ({ body, pose: scene.poses[body.number] })), colours.differ, 3);
+  const red = [...differ].map((k) => ({ body: data.bodies[k], pose: scene.poses[k] }));
+  outline(pen, lens, red, colours.differ, 3);
 }
 
 // ---- the time line
