@@ -12,9 +12,10 @@
             print(body.x / ONE, body.y / ONE)
 
 Numbers are whole numbers in units of 2^-24, so 1 is ONE; a tick is 1/64 s. A call that fails raises
-Error, with its code and the code's name; pf.h says what each means. The library is the one that the
-environment's BUYOSEN_LIBRARY names; else the one in out/ or out/quick/ beside this file, or in lib/
-or bin/ beside its folder; else the one that the loader finds.
+Error, which says why, with its code and the code's name; a number that its type in pf.h can't hold
+is a ValueError. The library is the one that the environment's BUYOSEN_LIBRARY names; else the one
+in out/ or out/quick/ beside this file, where capi/build puts it, or in lib/ or bin/ beside its
+folder; else the one that the loader finds.
 """
 
 import ctypes
@@ -49,11 +50,32 @@ class _Key(ctypes.Structure):
     _fields_ = [("index", c_uint32), ("generation", c_uint32)]
 
 
-class _V2(ctypes.Structure):
+_LIMITS = {c_uint8: (0, 2**8 - 1), c_uint16: (0, 2**16 - 1), c_uint32: (0, 2**32 - 1)}
+_LIMITS |= {c_int64: (-(2**63), 2**63 - 1)}
+
+
+def _within(kind, value):
+    """A value that a parameter of this kind can hold: ctypes would cut a number off."""
+    if kind in _LIMITS and isinstance(value, int):
+        low, high = _LIMITS[kind]
+        if not low <= value <= high:
+            raise ValueError(f"{value} is no number from {low} to {high}")
+    return value
+
+
+class _Numbers(ctypes.Structure):
+    """A struct of numbers, each of which its type can hold."""
+
+    def __init__(self, *values):
+        kinds = [kind for _, kind in self._fields_]
+        super().__init__(*map(_within, kinds, values))
+
+
+class _V2(_Numbers):
     _fields_ = [("x", c_int64), ("y", c_int64)]
 
 
-class _Material(ctypes.Structure):
+class _Material(_Numbers):
     _fields_ = [("mass", c_int64), ("friction", c_int64), ("owner", c_uint8)]
 
 
@@ -175,6 +197,7 @@ class Context:
 
     def call(self, name, *arguments):
         """Calls pf_NAME."""
+        arguments = map(_within, _PARAMETERS[name], arguments)
         code = getattr(_LIBRARY, "pf_" + name)(byref(self._context), *arguments)
         if code:
             raise Error(code)
@@ -191,7 +214,7 @@ class Context:
         try:
             self.call("scene_read", text, len(text), byref(key), byref(line))
         except Error as error:
-            raise Error(error.code, line.value) from None
+            raise Error(error.code, line.value or None) from None
         return Scene(self, key)
 
     def scene(self, gravity):
@@ -269,8 +292,9 @@ class Peer:
         count = c_uint64()
         while True:
             frames = (_Frame * (count.value + 1))()
+            buffer = (frames, count.value, byref(count))
             try:
-                self._context.call("peer_frames", self._key, tick, frames, count.value, byref(count))
+                self._context.call("peer_frames", self._key, tick, *buffer)
             except Error as error:
                 if error.code != SMALL_BUFFER:
                     raise

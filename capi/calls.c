@@ -569,7 +569,7 @@ static void peer_limits(void) {
     EXPECT(pf_close(&context), PF_OK);
 }
 
-/* The library's version, and the name of each code as a string; what has a name has a text. */
+/* The library's version, and names and texts of all codes as strings. */
 static void strings(void) {
     EXPECT(pf_version(), PF_VERSION);
     for (uint32_t code = 0; code <= PF_NOT_OWNER + 1; code++) {
@@ -579,6 +579,7 @@ static void strings(void) {
         EXPECT(strcmp(pf_code_name(code), name), 0);
         char text[PF_TEXT_LEN];
         EXPECT(pf_error_text(code, text, sizeof text, &needed), PF_OK);
+        EXPECT(strcmp(pf_code_text(code), text), 0);
         EXPECT(*text == 0, *name == 0);
     }
 }
@@ -613,7 +614,7 @@ static void names(void) {
         {PF_BAD_KEY, "PF_BAD_KEY", "the key names nothing"},
         {PF_FULL, "PF_FULL", "the context has no key left"},
         {PF_SCENE_BAD_SIZE, "PF_SCENE_BAD_SIZE",
-         "a radius or a half extent is not from 2^20 to 2^34"},
+         "a radius or a half extent is not from 1/16 to 1,024 (2^20 to 2^34 raw)"},
         {PF_NUMBERS_SPENT, "PF_NUMBERS_SPENT",
          "the player has no number left for a command at the reached tick"},
         {PF_BASES_DIFFER, "PF_BASES_DIFFER", "the other peer has another world at the horizon"},

@@ -26,42 +26,59 @@ pf_code pf_peer_new(pf_context *context, pf_scene scene, uint8_t player, uint32_
 
 uint32_t pf_version(void) { return PF_VERSION; }
 
+/* Each code, and what it means. */
+#define CODES(CODE)                                                                                \
+    CODE(PF_OK, "done")                                                                            \
+    CODE(PF_OUT_OF_MEMORY, "out of memory")                                                        \
+    CODE(PF_BAD_ROUNDING, "the processor does not round to the nearest double")                    \
+    CODE(PF_CLOSED, "the context is closed")                                                       \
+    CODE(PF_BAD_KEY, "the key names nothing")                                                      \
+    CODE(PF_SMALL_BUFFER, "a buffer is too small")                                                 \
+    CODE(PF_BAD_PLAYER, "the number of a player is not below 8")                                   \
+    CODE(PF_BAD_RING, "the number of settled worlds to keep is not from 1 to 64")                  \
+    CODE(PF_BAD_NUMBER, "a number is out of its range")                                            \
+    CODE(PF_STILL_OPEN, "the context is open already")                                             \
+    CODE(PF_FULL, "the context has no key left")                                                   \
+    CODE(PF_SCENE_BAD_LINE, "no such line may stand here")                                         \
+    CODE(PF_SCENE_BAD_NUMBER, "a number is no whole one, or out of its range")                     \
+    CODE(PF_SCENE_TOO_MANY, "the scene has as many bodies as it may have")                         \
+    CODE(PF_SCENE_BAD_MASS, "a mass is neither 0 nor from 1/16 to 1,024 (2^20 to 2^34 raw)")       \
+    CODE(PF_SCENE_BAD_SIZE,                                                                        \
+         "a radius or a half extent is not from 1/16 to 1,024 (2^20 to 2^34 raw)")                 \
+    CODE(PF_TICK_LIMIT, "the last tick, 1,048,576, leaves no tick for this")                       \
+    CODE(PF_NUMBERS_SPENT, "the player has no number left for a command at the reached tick")      \
+    CODE(PF_NOT_REACHED, "the tick is above the reached tick")                                     \
+    CODE(PF_TOO_OLD, "the tick is before the horizon: what came before it is sealed")              \
+    CODE(PF_HORIZONS_DIFFER, "the horizons differ")                                                \
+    CODE(PF_BASES_DIFFER, "the other peer has another world at the horizon")                       \
+    CODE(PF_FRAME_SHORT, "the frame has fewer than 27 bytes")                                      \
+    CODE(PF_FRAME_LONG, "the frame has more than 27 bytes")                                        \
+    CODE(PF_FRAME_BAD_VERSION, "the frame begins with neither 1 nor 2")                            \
+    CODE(PF_FRAME_BAD_KIND, "the version of the frame has no such kind of command")                \
+    CODE(PF_FRAME_NOT_CANONICAL, "a field that the command does not use is not 0")                 \
+    CODE(PF_FRAME_OUT_OF_RANGE, "a field of the frame is out of its range")                        \
+    CODE(PF_UNKNOWN_BODY, "the scene has no body of this number")                                  \
+    CODE(PF_STATIC_BODY, "the body is static")                                                     \
+    CODE(PF_NOT_OWNER, "the body belongs to another player, or to nobody")
+
 const char *pf_code_name(uint32_t code) {
-#define NAME(code)                                                                                 \
+#define NAME(code, text)                                                                           \
     case code:                                                                                     \
-        return #code
+        return #code;
     switch (code) {
-        NAME(PF_OK);
-        NAME(PF_OUT_OF_MEMORY);
-        NAME(PF_BAD_ROUNDING);
-        NAME(PF_CLOSED);
-        NAME(PF_BAD_KEY);
-        NAME(PF_SMALL_BUFFER);
-        NAME(PF_BAD_PLAYER);
-        NAME(PF_BAD_RING);
-        NAME(PF_BAD_NUMBER);
-        NAME(PF_STILL_OPEN);
-        NAME(PF_FULL);
-        NAME(PF_SCENE_BAD_LINE);
-        NAME(PF_SCENE_BAD_NUMBER);
-        NAME(PF_SCENE_TOO_MANY);
-        NAME(PF_SCENE_BAD_MASS);
-        NAME(PF_SCENE_BAD_SIZE);
-        NAME(PF_TICK_LIMIT);
-        NAME(PF_NUMBERS_SPENT);
-        NAME(PF_NOT_REACHED);
-        NAME(PF_TOO_OLD);
-        NAME(PF_HORIZONS_DIFFER);
-        NAME(PF_BASES_DIFFER);
-        NAME(PF_FRAME_SHORT);
-        NAME(PF_FRAME_LONG);
-        NAME(PF_FRAME_BAD_VERSION);
-        NAME(PF_FRAME_BAD_KIND);
-        NAME(PF_FRAME_NOT_CANONICAL);
-        NAME(PF_FRAME_OUT_OF_RANGE);
-        NAME(PF_UNKNOWN_BODY);
-        NAME(PF_STATIC_BODY);
-        NAME(PF_NOT_OWNER);
+        CODES(NAME)
+    default:
+        return "";
     }
-    return "";
+}
+
+const char *pf_code_text(uint32_t code) {
+#define TEXT(code, text)                                                                           \
+    case code:                                                                                     \
+        return text;
+    switch (code) {
+        CODES(TEXT)
+    default:
+        return "";
+    }
 }

@@ -196,15 +196,15 @@ typedef struct pf_counts {
 /* The version of the library, as PF_VERSION has that of the header: 0.1.0 is 0x000100. */
 uint32_t pf_version(void);
 
-/* The name of a code, as "PF_BAD_KEY". That of a number that is no code is empty. */
+/* The name of a code, as "PF_BAD_KEY", and what it means, as "the key names nothing". Of a number
+ * that is no code both are empty. */
 const char *pf_code_name(uint32_t code);
+const char *pf_code_text(uint32_t code);
 
-/* Writes the name of a code, with a zero behind it, to the front of an array, and how many bytes
- * that takes: also where the call returns PF_SMALL_BUFFER. For languages that pass arrays. */
+/* The same for languages that pass arrays: writes the name, or the text, with a zero behind it, to
+ * the front of an array, and how many bytes that takes: also where the call returns
+ * PF_SMALL_BUFFER. */
 pf_code pf_error_name(uint32_t code, char *name, size_t name_length, uint64_t *needed);
-
-/* Writes what a code means, as "the key names nothing", in the same way. The text of a number that
- * is no code is empty. */
 pf_code pf_error_text(uint32_t code, char *text, size_t text_length, uint64_t *needed);
 
 /* --- Contexts ------------------------------------------------------------------------------- */

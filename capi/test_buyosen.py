@@ -63,6 +63,22 @@ class Calls(unittest.TestCase):
         self.assert_code(TOO_OLD, peer.take, frame)
         self.assert_code(BAD_NUMBER, peer.push, self.box, (1 << 60, 0))
 
+    def test_no_number_is_cut_off(self):
+        peer = self.scene.peer()
+        for call, *numbers in (
+            (peer.push, 1 << 16, (0, 0)),
+            (peer.push, self.box, (1 << 63, 0)),
+            (peer.turn, self.box, -(1 << 63) - 1),
+            (peer.advance, 1 << 32),
+            (peer.seal, -1),
+            (self.scene.peer, 256),
+            (self.scene.peer, 0, 1 << 32),
+            (self.scene.circle, 1 << 64, 0, ONE, (0, 0)),
+            (self.scene.circle, ONE, 0, 1 << 64, (0, 0)),
+            (self.scene.box, ONE, 0, (ONE, ONE), (0, 0), (ONE, 0), 256),
+        ):
+            self.assertRaises(ValueError, call, *numbers)
+
     def test_frames_are_read_back(self):
         peer, late = self.scene.peer(0), self.scene.peer(1)
         frames = [peer.turn(self.box, ONE), peer.stop(self.box)]

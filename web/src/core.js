@@ -15,7 +15,7 @@ const TEXT_BYTES = 96;
 const OUTPUT_BYTES = 32;
 const INPUT_BYTES = 96;
 
-/** A call that the core refused. It changed nothing. */
+/** A call that the core refused, or for which there was no memory. */
 export class PfError extends Error {
   /**
    * @param {number} code the number of pf.h
@@ -26,7 +26,7 @@ export class PfError extends Error {
    */
   constructor(code, name, text, call, line) {
     const place = line === undefined ? "" : `line ${line}: `;
-    super(`${place}${text} (${name}, ${call})`);
+    super(`${place}${text} (${call})`);
     this.name = name;
     this.code = code;
     this.call = call;
@@ -80,6 +80,14 @@ class Core {
   }
 
   /**
+   * A number of 64 bits that the last call wrote.
+   * @param {number} [offset]
+   */
+  toldLong(offset = 0) {
+    return Number(this.view.getBigUint64(this.output + offset, true));
+  }
+
+  /**
    * The key that the last call wrote.
    * @returns {[number, number]}
    */
@@ -93,7 +101,9 @@ class Core {
    */
   allocate(length) {
     const at = this.#exports.malloc(Math.max(length, 1)) >>> 0;
-    if (at === 0) throw new PfError(PF_OUT_OF_MEMORY, "PF_OUT_OF_MEMORY", "out of memory", "malloc");
+    if (at === 0) {
+      throw new PfError(PF_OUT_OF_MEMORY, "PF_OUT_OF_MEMORY", "out of memory", "malloc");
+    }
     return at;
   }
 

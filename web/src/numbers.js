@@ -56,7 +56,7 @@ export function rawVector(value, what) {
  * @param {number} value
  */
 export function count(value, greatest, what) {
-  if (!Number.isInteger(value) || value < 0) throw new TypeError(`${what}: no count: ${value}`);
+  if (!Number.isInteger(value) || value < 0) throw new TypeError(`${what}: no whole number from 0 on: ${value}`);
   return Math.min(value, greatest);
 }
 

@@ -123,8 +123,8 @@ export class Peer extends Owned {
   frames(from = 0) {
     const core = loaded();
     const tick = count(from, GREATEST_U32, "from");
-    const needed = core.code("peer_frames", ...this.key, tick, core.input, 0n, core.output);
-    if (needed !== PF_SMALL_BUFFER) core.check(needed, "peer_frames");
+    const code = core.code("peer_frames", ...this.key, tick, core.input, 0n, core.output);
+    if (code !== PF_SMALL_BUFFER) core.check(code, "peer_frames");
     const frames = core.told();
     const at = core.allocate(frames * FRAME_BYTES);
     try {
@@ -171,7 +171,7 @@ export class Peer extends Owned {
   get counts() {
     const core = loaded();
     this.#call("meter", core.output);
-    return { ticks: core.told(), collides: core.told(8) };
+    return { ticks: core.toldLong(), collides: core.toldLong(8) };
   }
 
   /**

@@ -9,7 +9,7 @@ test("commands", () => {
   refuses("PF_NOT_OWNER", () => peer.push(2, [1, 0]));
   refuses("PF_STATIC_BODY", () => peer.push(0, [1, 0]));
   assert.throws(() => peer.push(0, [1, 0]), {
-    message: "the body is static (PF_STATIC_BODY, pf_peer_push)",
+    message: "the body is static (pf_peer_push)",
   });
   refuses("PF_UNKNOWN_BODY", () => peer.push(3, [1, 0]));
   refuses("PF_UNKNOWN_BODY", () => peer.push(2 ** 16 + 1, [1, 0]));

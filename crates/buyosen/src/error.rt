@@ -7,7 +7,7 @@ ghost use Rattle.buyosen.specs.Error.{crew_error, peer_error, scene_error, settl
 use pf_rollback::{PeerError, Refusal};
 use pf_shapes::ReadError;
 use pf_step::{CrewError, StepError};
-use std::alloc::AllocError;
+use std::alloc::{AllocError, AllocFailed};
 use thiserror::Error;
 
 /// Why a call failed. The errors of scenes, peers and crews turn into it by `?`.
@@ -31,6 +31,14 @@ impl From<AllocError> for Error {
     ghost from_gives = { λ _ error. error ≡ OutOfMemory };
 
     fn from(_error: AllocError) -> Error {
+        Error::OutOfMemory
+    }
+}
+
+impl<T: Drop> From<AllocFailed<T>> for Error {
+    ghost from_gives = { λ _ error. error ≡ OutOfMemory };
+
+    fn from(_error: AllocFailed<T>) -> Error {
         Error::OutOfMemory
     }
 }

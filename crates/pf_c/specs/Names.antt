@@ -52,10 +52,10 @@ code_text code =
     if code == 9 then codes "the context is open already" else (
     if code == 10 then codes "the context has no key left" else (
     if code == 16 then codes "no such line may stand here" else (
-    if code == 17 then codes "a field is no whole number, or out of its range" else (
+    if code == 17 then codes "a number is no whole one, or out of its range" else (
     if code == 18 then codes "the scene has as many bodies as it may have" else (
-    if code == 19 then codes "a mass is neither 0 nor from 2^20 to 2^34" else (
-    if code == 20 then codes "a radius or a half extent is not from 2^20 to 2^34" else (
+    if code == 19 then codes "a mass is neither 0 nor from 1/16 to 1,024 (2^20 to 2^34 raw)" else (
+    if code == 20 then codes "a radius or a half extent is not from 1/16 to 1,024 (2^20 to 2^34 raw)" else (
     if code == 32 then codes "the last tick, 1,048,576, leaves no tick for this" else (
     if code == 33 then codes "the player has no number left for a command at the reached tick" else (
     if code == 34 then codes "the tick is above the reached tick" else (

@@ -21,7 +21,7 @@ pub enum ContextError {
     #[error("out of memory")]
     OutOfMemory,
     /// The context has no key left: 2^32 slots are in use.
-    #[error("the context is full")]
+    #[error("the context has no key left")]
     Full,
     /// The line of this number, from 1, of a scene's text is invalid.
     #[error("line {0}: {1}")]
@@ -30,10 +30,10 @@ pub enum ContextError {
     #[error("the scene, {0}")]
     Scene(SceneFault),
     /// The number of a player is not below 8.
-    #[error("no such player")]
+    #[error("the number of a player is not below 8")]
     BadPlayer,
     /// The number of settled worlds to keep is not from 1 to 64.
-    #[error("no such ring")]
+    #[error("the number of settled worlds to keep is not from 1 to 64")]
     BadRing,
     /// A number of a command is out of its range.
     #[error("a number is out of its range")]

@@ -1,5 +1,5 @@
 -- How a call of a peer core follows the abstract peer's call, and what it leaves.
-use Rattle.std.specs.Prelude.{◌≡◌, ◌≢◌, ◌≤◌, ◌-◌, ℕ, [], Result, Ok, Err, IsOk, IsSome, None, OnErr, OnOk, Option}
+use Rattle.std.specs.Prelude.{◌≡◌, ◌≢◌, ◌≤◌, ◌-◌, ℕ, [], Result, Ok, Err, IsOk, IsSome, List, None, OnErr, OnOk, Option}
 use Rattle.std.specs.FinMap.{get}
 use Rattle.pf_commands.specs.declared.fault.FrameFault.{FrameFault}
 use Rattle.pf_commands.specs.declared.outcome.Put.{Put}

@@ -19,8 +19,8 @@ mod numbers;
 mod pairs;
 
 use crate::numbers::output_of;
-use crate::pairs::{Body, pair_text, parse_body};
-use anyhow::Result;
+use crate::pairs::pair_text;
+use anyhow::{Result, bail};
 use std::alloc::Global;
 use std::io::{BufRead, BufReader, BufWriter, Write};
 
@@ -29,19 +29,18 @@ fn is_body(line: &str) -> bool {
     line.starts_with("circle ") || line.starts_with("box ")
 }
 
-/// Prints the output for a body, if it is the second of its pair. Returns the body of a pair that
-/// has no second one yet.
+/// Prints the output for a body, if it is the second of its pair. Returns the line of the first one
+/// of a pair that has no second one yet.
 fn print_body<W: Write>(
     alloc: Global,
-    first: Option<Body>,
-    line: &str,
+    first: Option<String>,
+    line: String,
     writer: &mut W,
-) -> Result<Option<Body>> {
-    let body = parse_body(alloc, line.as_bytes())?;
+) -> Result<Option<String>> {
     let Some(first) = first else {
-        return Ok(Some(body));
+        return Ok(Some(line));
     };
-    let text = pair_text(alloc, &first, &body)?;
+    let text = pair_text(alloc, first.as_str(), line.as_str())?;
     write!(writer, "{text}")?;
     Ok(None)
 }
@@ -53,12 +52,15 @@ fn main(rt: HostRuntime) -> Result<()> {
     for line in BufReader::new(alloc, rt.reader())?.lines(alloc) {
         let line = line?;
         if is_body(line.as_str()) {
-            first = print_body(alloc, first, line.as_str(), &mut writer)?;
+            first = print_body(alloc, first, line, &mut writer)?;
         } else {
             let text = output_of(alloc, line.as_str())?;
             writeln!(writer, "{text}")?;
         }
     }
     writer.flush()?;
-    Ok(())
+    match first {
+        None => Ok(()),
+        Some(line) => bail!("a body without a second one: {line}"),
+    }
 }

@@ -10,7 +10,7 @@ use std::alloc::Global;
 
 /// A body of a pair.
 #[derive(Drop)]
-pub struct Body {
+struct Body {
     shape: Shape,
     position: V2,
     rotation: Rot,
@@ -46,7 +46,7 @@ fn body_at(shape: Shape, fields: [&[u8]; 4]) -> Result<Body> {
 }
 
 /// The body that a line encodes.
-pub fn parse_body(alloc: Global, line: &[u8]) -> Result<Body> {
+fn parse_body(alloc: Global, line: &[u8]) -> Result<Body> {
     let fields = fields_of(alloc, line)?;
     match fields.as_slice() {
         [word, r, x, y, c, s] if *word == b"circle".as_slice() => {
@@ -89,8 +89,10 @@ fn push_points(text: &mut String, points: &Manifold) -> Result<()> {
     }
 }
 
-/// The output for two bodies.
-pub fn pair_text(alloc: Global, a: &Body, b: &Body) -> Result<String> {
+/// The output for the bodies of two lines.
+pub fn pair_text(alloc: Global, first: &str, second: &str) -> Result<String> {
+    let a = parse_body(alloc, first.as_bytes())?;
+    let b = parse_body(alloc, second.as_bytes())?;
     let mut text = String::new(alloc);
     let bounds_a = a.shape.bounds(a.position, a.rotation, false);
     let bounds_b = b.shape.bounds(b.position, b.rotation, false);

@@ -103,6 +103,24 @@ fn failure_of(words: &[&str]) -> Result<Option<(u64, CrewError)>> {
     })
 }
 
+/// The call with a crew that words encode, of which the second is the number of the peer.
+fn call_of_a_crew(words: &[&str]) -> Result<Call> {
+    Ok(match words {
+        ["crew", _, failure @ ..] => Call::SettleWith {
+            failure: failure_of(failure)?,
+        },
+        ["crews", _, life, workers, gate @ ..] => Call::Crews {
+            plan: plan_of(life, workers, gate)?,
+        },
+        ["threads", _] => Call::Threads,
+        ["dismiss", _, worker] => Call::Dismiss {
+            worker: number(worker)? as usize,
+        },
+        ["close", _] => Call::Close,
+        _ => bail!("no such call"),
+    })
+}
+
 /// The call that words encode, of which the second is the number of the peer.
 fn call_of(alloc: Global, words: &[&str]) -> Result<Call> {
     Ok(match words {
@@ -129,17 +147,6 @@ fn call_of(alloc: Global, words: &[&str]) -> Result<Call> {
             tick: number(tick)?,
         },
         ["settle", _] => Call::Settle,
-        ["crew", _, failure @ ..] => Call::SettleWith {
-            failure: failure_of(failure)?,
-        },
-        ["crews", _, life, workers, gate @ ..] => Call::Crews {
-            plan: plan_of(life, workers, gate)?,
-        },
-        ["threads", _] => Call::Threads,
-        ["dismiss", _, worker] => Call::Dismiss {
-            worker: number(worker)? as usize,
-        },
-        ["close", _] => Call::Close,
         ["world", _, tick] => Call::World {
             tick: number(tick)?,
         },
@@ -149,7 +156,7 @@ fn call_of(alloc: Global, words: &[&str]) -> Result<Call> {
             first: number(first)?,
             last: number(last)?,
         },
-        _ => bail!("no such call"),
+        words => return call_of_a_crew(words),
     })
 }
 

@@ -27,9 +27,9 @@ pub enum SessionGate {
     /// Open for all, and nothing is noted.
     Open,
     /// A gate that its rule shuts.
-    Strict(NotedGate<false>),
+    Ruled(NotedGate<false>),
     /// A gate that only notes when its rule would shut it.
-    Lenient(NotedGate<true>),
+    Noting(NotedGate<true>),
 }
 
 fn number(word: &str) -> Result<usize> {
@@ -66,7 +66,7 @@ pub fn gate_of(alloc: Global, words: &[&str], peers: usize) -> Result<SessionGat
     }
     let (rule, peers) = rule_of(words, peers)?;
     match words {
-        ["counting", ..] => Ok(SessionGate::Lenient(NotedGate::new(alloc, rule, peers)?)),
-        _ => Ok(SessionGate::Strict(NotedGate::new(alloc, rule, peers)?)),
+        ["counting", ..] => Ok(SessionGate::Noting(NotedGate::new(alloc, rule, peers)?)),
+        _ => Ok(SessionGate::Ruled(NotedGate::new(alloc, rule, peers)?)),
     }
 }

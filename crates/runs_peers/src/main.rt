@@ -34,13 +34,13 @@
 //! bodies are as `pf_play` shows them, and a line `contacts COUNT NORMAL TANGENT` has the sums of
 //! what contacts have accumulated. A call that is refused prints `refused` and why.
 //!
-//! LIFE is `scoped` or `standing`. GATE is `open`; `meeting`, where each worker waits in each solve
-//! until each other worker has come; `counting`, as `meeting`, but open also where one did not come;
-//! `unwatched`, as `counting`, but the crew is told that nobody watches, so that its caller works
-//! too; `counted`, where nobody watches, and nobody waits; `shut WORKER TURN`, which is shut for this
-//! worker in this turn; or `shut-from WORKER TURN`, for this one and those of greater numbers. NOTED
-//! is `shut COUNT`, how often the gate should have been shut, and for each worker how often it came,
-//! and for how many turns. The open gate notes nothing.
+//! LIFE is `scoped` or `standing`. GATE is `open`; `meeting`, where each worker waits in each
+//! solve until each other worker has come; `counting`, as `meeting`, but open also where one did not
+//! come; `unwatched`, as `counting`, but the crew is told that nobody watches, so that its caller
+//! works too; `counted`, where nobody watches, and nobody waits; `shut WORKER TURN`, which is shut
+//! for this worker in this turn; or `shut-from WORKER TURN`, for this one and those of greater
+//! numbers. NOTED is `shut COUNT`, how often the gate should have been shut, and for each worker how
+//! often it came, and for how many turns. The open gate notes nothing.
 //!
 //! After each call stands a line `state N PLAYER BODIES COMMANDS REACHED SETTLED TICKS COLLIDES`:
 //! the last two are the counts of the peer's meter.
@@ -64,7 +64,8 @@
 //! bodies that move, as `pf_play` shows them; or `session` and its fault. The counts of `two` are
 //! `COMMANDS/TICKS` for each peer: how many it holds, and has simulated. A gate that is not `open`
 //! prints `gate shut COUNT passes` and for each peer, or those below N, how often it came and for
-//! how many turns; COUNT is how often its rule was not met.
+//! how many turns; COUNT is how often its rule was not met. `two` has a gate that may be shut, and
+//! prints no such line.
 //!
 //! The stored run has worked cases, with values by an independent program.
 #![tactic(auto)]

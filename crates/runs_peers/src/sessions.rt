@@ -118,8 +118,8 @@ fn play<R: Handle>(
     let crew = crew_of(crew)?;
     match gate_of(alloc, words, scripts.len())? {
         SessionGate::Open => play_by(rt, alloc, scene, scripts, crew, &OpenGate),
-        SessionGate::Strict(noted) => play_noted(rt, alloc, scene, scripts, crew, &noted),
-        SessionGate::Lenient(noted) => play_noted(rt, alloc, scene, scripts, crew, &noted),
+        SessionGate::Ruled(noted) => play_noted(rt, alloc, scene, scripts, crew, &noted),
+        SessionGate::Noting(noted) => play_noted(rt, alloc, scene, scripts, crew, &noted),
     }
 }
 

@@ -57,7 +57,7 @@ pub fn play_two<R: Handle>(
     let [one, two, ..] = scripts.as_slice() else {
         bail!("two scripts are needed");
     };
-    let SessionGate::Strict(noted) = gate_of(alloc, words, 2)? else {
+    let SessionGate::Ruled(noted) = gate_of(alloc, words, 2)? else {
         bail!("a gate with a rule is needed");
     };
     let (first, second) = two_peers(alloc, scene)?;

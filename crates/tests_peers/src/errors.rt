@@ -2,6 +2,7 @@
 
 use pf_commands::FrameFault;
 use pf_console::{DigitsFault, ProgramError, laws};
+use pf_rollback::Refusal;
 use pf_shapes::SceneFault;
 use pf_step::CrewError;
 use std::alloc::{AllocError, Global};
@@ -33,13 +34,17 @@ fn row(number: u8) -> (ProgramError, &'static str) {
             ProgramError::Crew(CrewError::GateShut),
             "crew: a gate is shut",
         ),
+        6 => (
+            ProgramError::Session(Refusal::TooOld(5)),
+            "session: the tick is before 5, the horizon: what came before it is sealed",
+        ),
         _ => (ProgramError::Write, "write failed"),
     }
 }
 
 #[test]
 fn errors_print_their_texts(rt: HostRuntime) -> Result<(), Fail> {
-    for number in 0..7 {
+    for number in 0..8 {
         let (fault, text) = row(number);
         let is_printed = prints(rt.alloc(), &fault, text)?;
         assert!(rt; is_printed, "{text}");

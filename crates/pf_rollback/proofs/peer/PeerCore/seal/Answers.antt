@@ -1,6 +1,7 @@
-use Rattle.std.proofs.Common.{◌≡◌, ◌≤◌, ◌-◌, refl, ap, sym, ◌∙◌, arith}
+use Rattle.std.proofs.Common.{◌≡◌, ◌≤◌, ◌-◌, refl, ap, sym, ◌∙◌, arith, rules}
 use Rattle.pf_rollback.specs.Core.{count_after}
 use Rattle.pf_rollback.specs.Kept.{nearest_tick}
+use Rattle.pf_rollback.specs.Peer.{seal}
 use Rattle.pf_rollback.specs.Snapshots.{settled_world, ticks_of}
 use Rattle.pf_step.specs.Work.{Work}
 use Rattle.pf_rollback.proofs.Cores.{core_sealed, count_none, unknown_follows}
@@ -8,22 +9,48 @@ use Rattle.pf_rollback.proofs.Seals.{seal_again}
 use Rattle.pf_rollback.proofs.Settling.{nearest-from_horizon}
 use Rattle.pf_rollback.proofs.peer.PeerCore.seal.Goals as goal
 
-pub returns-then-tick-self-clause-not_counted : goal.returns-then-tick-self-clause-not_counted
-returns-then-tick-self-clause-not_counted c = (0, omega arith, refl, sym (count_none _))
+pub returns-then-tick-self : goal.returns-then-tick-self
+unfolding seal
+returns-then-tick-self c = record {
+  peer = search rules;
+  kept = search rules;
+  counted = search rules;
+  not_counted = (0, omega arith, refl, sym (count_none _));
+  rest = search rules;
+  refused = search rules;
+  again = search rules;
+  no_memory = search rules;
+}
 
-pub returns-then-tick-horizon-clause-not_counted : goal.returns-then-tick-horizon-clause-not_counted
-returns-then-tick-horizon-clause-not_counted c = (0, omega arith, refl, sym (count_none _))
+pub returns-then-tick-horizon : goal.returns-then-tick-horizon
+unfolding seal
+returns-then-tick-horizon c = record {
+  peer = search rules;
+  kept = search rules;
+  counted = search rules;
+  not_counted = (0, omega arith, refl, sym (count_none _));
+  rest = search rules;
+  refused = search rules;
+  again = search rules;
+  no_memory = search rules;
+}
 
-pub returns-then-tick-horizon-2-clause-peer : goal.returns-then-tick-horizon-2-clause-peer
-returns-then-tick-horizon-2-clause-peer c =
-    rw (← c.self.view_is) (seal_again _ _ _ (c.if-tick-horizon-2.true ∙ c.horizon-horizon.ensures.value) c.self.invariant.0.peer)
-
-pub returns-then-tick-horizon-2-clause-counted : goal.returns-then-tick-horizon-2-clause-counted
-returns-then-tick-horizon-2-clause-counted c =
+pub returns-then-tick-horizon-2 : goal.returns-then-tick-horizon-2
+returns-then-tick-horizon-2 c =
     let kept = ticks_of c.self.inside.snapshots in
     let none : c.args.tick - nearest_tick kept c.args.tick ≡ 0 =
     omega (arith, nearest-from_horizon kept c.args.tick, c.horizon-horizon.ensures.value, c.horizon-horizon.ensures.ticks, c.if-tick-horizon-2.true) in
-    rw (← c.self.view_is) (sym (ap (count_after c.self.inside.work.meter.ticks) none ∙ count_none _))
+    record {
+      peer =
+          rw (← c.self.view_is) (seal_again _ _ _ (c.if-tick-horizon-2.true ∙ c.horizon-horizon.ensures.value) c.self.invariant.0.peer);
+      kept = search rules;
+      counted = rw (← c.self.view_is) (sym (ap (count_after c.self.inside.work.meter.ticks) none ∙ count_none _));
+      not_counted = search rules;
+      rest = search rules;
+      refused = search rules;
+      again = search rules;
+      no_memory = search rules;
+    }
 
 pub invariant_of-self-2 : goal.invariant_of-self-2
 invariant_of-self-2 c =
