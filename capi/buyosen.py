@@ -157,7 +157,10 @@ def _load():
     name = "buyosen.dll" if os.name == "nt" else "libbuyosen.so"
     places = [here / "out", here / "out/quick", here.parent / "lib", here.parent / "bin"]
     paths = [str(place / name) for place in places if (place / name).exists()]
-    library = ctypes.CDLL(os.environ.get("BUYOSEN_LIBRARY") or [*paths, name][0])
+    try:
+        library = ctypes.CDLL(os.environ.get("BUYOSEN_LIBRARY") or [*paths, name][0])
+    except OSError as error:
+        raise OSError(f"{error} (capi/build --quick makes the library)") from None
     for name, parameters in _PARAMETERS.items():
         function = getattr(library, "pf_" + name)
         function.argtypes = [POINTER(_Context), *parameters]
