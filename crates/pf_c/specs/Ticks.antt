@@ -1,5 +1,5 @@
 -- The counts of work, as C is told.
-use Rattle.pf_step.specs.Meter.{Meter}
+use Rattle.pf_cache.specs.Meter.{Meter}
 use Rattle.pf_c.specs.declared.ticks.PfCounts.{PfCounts}
 
 -- how much work was done
