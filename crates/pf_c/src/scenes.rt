@@ -1,9 +1,10 @@
 //! Scenes: read, made body by body, and freed.
 
 ghost use Rattle.std.specs.Prelude.{◌≡◌, ⊤};
+ghost use Rattle.pf_shapes.specs.Numbers.{checked_body};
 ghost use Rattle.pf_context.specs.Context.{scene_at, without_scene};
 ghost use Rattle.pf_context.specs.Calls.{AddsRead, AddsScene, CallsScene, Frees, Pushes};
-ghost use Rattle.pf_context.specs.Numbers.{body_of, box_of, circle_of, fixture_of, scene_of_gravity, turned_at, upright_at};
+ghost use Rattle.pf_context.specs.Numbers.{box_of, circle_of, scene_of_gravity, turned_at, upright_at};
 ghost use Rattle.pf_c.specs.Calls.{Answers, Tells};
 ghost use Rattle.pf_c.specs.Scenes.{line_of, material_of};
 
@@ -97,7 +98,7 @@ pub extern "C" fn pf_scene_add_circle(
 ) -> u32
     ensures { Answers (λ before after answer.
         CallsScene (λ error. error) before after scene answer (Pushes
-        (body_of (fixture_of (material_of of) (circle_of radius)) (upright_at position))))
+        (checked_body (circle_of (material_of of) radius) (upright_at position))))
         (Tells (λ number. number) body.old body.new)
         context.old.handle.value context.new.handle.value result (body.new ≡ body.old) }
 {
@@ -124,7 +125,7 @@ pub extern "C" fn pf_scene_add_box(
 ) -> u32
     ensures { Answers (λ before after answer.
         CallsScene (λ error. error) before after scene answer (Pushes
-        (body_of (fixture_of (material_of of) (box_of half)) (turned_at position direction))))
+        (checked_body (box_of (material_of of) half) (turned_at position direction))))
         (Tells (λ number. number) body.old body.new)
         context.old.handle.value context.new.handle.value result (body.new ≡ body.old) }
 {

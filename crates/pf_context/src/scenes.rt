@@ -1,9 +1,9 @@
 //! Scenes that are read, made body by body, and freed.
 
 ghost use Rattle.std.specs.Prelude.{IfOk};
+ghost use Rattle.pf_shapes.specs.Numbers.{checked_body};
 ghost use Rattle.pf_shapes.specs.Scene.{IsTransform};
 ghost use Rattle.pf_context.specs.Calls.{Pushes};
-ghost use Rattle.pf_context.specs.Numbers.{body_of};
 
 use crate::context::Context;
 use crate::error::ContextError;
@@ -14,14 +14,14 @@ use pf_shapes::{Fixture, MAX_BODIES, Scene, SceneFault};
 use std::alloc::Global;
 
 /// Pushes a body onto a scene, and returns its number.
-#[tactic(auto, unfolding(crate::specs::Numbers::body_of))]
+#[tactic(auto, unfolding(pf_shapes::specs::Numbers::checked_body))]
 fn push(
     scene: &mut Scene,
     fixture: Result<Fixture, SceneFault>,
     start: Result<(V2, Rot), SceneFault>,
 ) -> Result<usize, ContextError>
     requires { IfOk start IsTransform }
-    ensures { Pushes (body_of fixture start) scene.old scene.new result }
+    ensures { Pushes (checked_body fixture start) scene.old scene.new result }
 {
     let fixture = fixture?;
     let (position, rotation) = start?;
@@ -35,11 +35,12 @@ fn push(
 
 impl Context {
     ghost use Rattle.std.specs.Prelude.{◌≡◌, ◌↔◌, IsErrOf, None, length};
+    ghost use Rattle.pf_shapes.specs.Numbers.{checked_body};
     ghost use Rattle.pf_shapes.specs.Scene.{empty_scene};
     ghost use Rattle.pf_context.specs.Context.{scene_at, without_scene};
     ghost use Rattle.pf_context.specs.Errors.{shown};
     ghost use Rattle.pf_context.specs.Calls.{AddsRead, AddsScene, CallsScene, Frees, Pushes};
-    ghost use Rattle.pf_context.specs.Numbers.{box_of, circle_of, fixture_of, scene_of_gravity, upright_at, turned_at};
+    ghost use Rattle.pf_context.specs.Numbers.{box_of, circle_of, scene_of_gravity, upright_at, turned_at};
 
     /// Reads a scene from a text that holds nothing else.
     pub fn read_scene(&mut self, alloc: Global, text: &[u8]) -> Result<Key, ContextError>
@@ -79,7 +80,7 @@ impl Context {
     ) -> Result<usize, ContextError>
         ensures bad_key { IsErrOf result ContextError.BadKey ↔ (scene_at self.old scene ≡ None) }
         ensures call { CallsScene (λ error. error) self.old self.new scene result
-            (Pushes (body_of (fixture_of material (circle_of r)) (upright_at place))) }
+            (Pushes (checked_body (circle_of material r) (upright_at place))) }
     {
         match self.scenes.get_mut(scene) {
             Some(scene) => push(scene, numbers::circle(material, r), numbers::upright(place)),
@@ -99,7 +100,7 @@ impl Context {
     ) -> Result<usize, ContextError>
         ensures bad_key { IsErrOf result ContextError.BadKey ↔ (scene_at self.old scene ≡ None) }
         ensures call { CallsScene (λ error. error) self.old self.new scene result
-            (Pushes (body_of (fixture_of material (box_of half)) (turned_at place direction))) }
+            (Pushes (checked_body (box_of material half) (turned_at place direction))) }
     {
         match self.scenes.get_mut(scene) {
             Some(scene) => push(

@@ -5,6 +5,7 @@ pub mod Body
 pub mod Scene
 pub mod SceneReader
 pub mod Fault
+pub mod Numbers
 pub mod SceneText
 pub mod SceneRead
 pub mod Reach

@@ -5,7 +5,7 @@ use Rattle.pf_rot.specs.Vector.{V2}
 use Rattle.pf_rot.specs.Rotation.{Rot, upright, unit}
 use Rattle.pf_shapes.specs.declared.fixture.Shape.{Shape}
 use Rattle.pf_shapes.specs.declared.fixture.Shape.TheVariants.{Circle, Box}
-use Rattle.pf_shapes.specs.declared.scene_text.TheConstants.{MAX_DIRECTION}
+use Rattle.pf_shapes.specs.declared.numbers.TheConstants.{MAX_DIRECTION}
 use Rattle.pf_shapes.specs.Fixture.{Fixture, IsWithin}
 
 -- `-` for nobody, or the player

@@ -1,27 +1,26 @@
 -- The lines of a scene. The first error from the left is the line's: first the word and the count
 -- of fields, then a body too many, then the fields one after the other.
-use Rattle.std.specs.Prelude.{◌≡◌, ℕ, ℤ, Bool, true, false, pos, neg_ℤ, List, [], ◌∷◌, length, Option, Some, None, Result, Ok, Err, IsOk, ◌==◌, nat_lt, codes, if◌then◌else◌}
+use Rattle.std.specs.Prelude.{◌≡◌, ℕ, ℤ, Bool, true, false, pos, List, [], ◌∷◌, length, Option, Some, None, Result, Ok, Err, IsOk, ◌==◌, nat_lt, codes, if◌then◌else◌}
 use Rattle.std.specs.Int.RustNames.{unsigned_abs}
+use Rattle.std.specs.Option.{option_map}
 use Rattle.std.specs.Str.{bytes_eq}
 use Rattle.pf_text.specs.declared.numbers.ParsedNumber.{ParsedNumber}
 use Rattle.pf_text.specs.declared.numbers.ParsedNumber.TheVariants.{InRange, OutOfRange, NotANumber}
 use Rattle.pf_text.specs.declared.driver.TakeError.{TakeError}
 use Rattle.pf_text.specs.declared.driver.TakeError.TheVariants as take_errors
 use Rattle.pf_text.specs.Fault.{◌>>=◌}
-use Rattle.pf_text.specs.Numbers.{whole_of, number}
+use Rattle.pf_text.specs.Numbers.{clamp_whole, whole_of, number}
 use Rattle.pf_rot.specs.Vector.{V2}
-use Rattle.pf_rot.specs.Rotation.{Rot, upright, unit}
+use Rattle.pf_rot.specs.Rotation.{Rot}
 use Rattle.pf_shapes.specs.declared.fault.SceneFault.{SceneFault}
-use Rattle.pf_shapes.specs.declared.fault.SceneFault.TheVariants.{BadLine, BadNumber, TooMany, BadMass, BadSize}
-use Rattle.pf_shapes.specs.declared.fixture.Shape.TheVariants.{Circle, Box}
+use Rattle.pf_shapes.specs.declared.fault.SceneFault.TheVariants.{BadLine, BadNumber, TooMany}
 use Rattle.pf_shapes.specs.declared.words.SceneWord.{SceneWord}
 use Rattle.pf_shapes.specs.declared.words.SceneWord.TheVariants as words
 use Rattle.pf_shapes.specs.declared.words.BodyWord.{BodyWord}
 use Rattle.pf_shapes.specs.declared.words.BodyWord.TheVariants as bodies
-use Rattle.pf_shapes.specs.declared.fixture.TheConstants.{MIN_SIZE, MAX_SIZE, MIN_MASS, MAX_MASS, MAX_FRICTION}
-use Rattle.pf_shapes.specs.declared.scene.TheConstants.{MAX_GRAVITY, MAX_POSITION}
-use Rattle.pf_shapes.specs.declared.scene_text.TheConstants.{MAX_DIRECTION}
+use Rattle.pf_shapes.specs.declared.scene.TheConstants.{MAX_GRAVITY}
 use Rattle.pf_shapes.specs.Fixture.{Fixture}
+use Rattle.pf_shapes.specs.Numbers.{checked_body, checked_box, checked_circle, checked_fixture, checked_vector, turned_transform, upright_transform}
 use Rattle.pf_shapes.specs.declared.reader.Progress.{Progress}
 use Rattle.pf_shapes.specs.declared.reader.Progress.TheVariants.{More, Ended}
 use Rattle.pf_shapes.specs.SceneReader.{SceneReader}
@@ -35,50 +34,21 @@ Reads (Err (take_errors.Fault fault)) expected = expected ≡ Err fault
 
 -- ---- fields
 
--- a number of a range; one that is out of it is this error
-abbrev pub value_or_fault : SceneFault → ParsedNumber → Result ℤ SceneFault
-value_or_fault outside (InRange z) = Ok z
-value_or_fault outside OutOfRange = Err outside
-value_or_fault outside NotANumber = Err BadNumber
+-- the number that a field encodes; one beyond 2^56 in magnitude, which no range reaches, counts as
+-- that
+abbrev pub number_of : List ℕ → Option ℤ
+number_of field = option_map clamp_whole (whole_of field)
 
-abbrev pub number_of : SceneFault → ℤ → ℤ → List ℕ → Result ℤ SceneFault
-number_of outside low high field = value_or_fault outside (number low high (whole_of field))
-
--- a part of gravity
-abbrev pub acceleration_of : List ℕ → Result ℤ SceneFault
-acceleration_of field = number_of BadNumber (neg_ℤ MAX_GRAVITY) MAX_GRAVITY field
-
--- a part of a position
-abbrev pub coordinate_of : List ℕ → Result ℤ SceneFault
-coordinate_of field = number_of BadNumber (neg_ℤ MAX_POSITION) MAX_POSITION field
-
--- a part of a direction
-abbrev pub direction_of : List ℕ → Result ℤ SceneFault
-direction_of field = number_of BadNumber (neg_ℤ MAX_DIRECTION) MAX_DIRECTION field
-
--- a radius or a half extent
-abbrev pub size_of : List ℕ → Result ℤ SceneFault
-size_of field = number_of BadSize MIN_SIZE MAX_SIZE field
-
--- a coefficient of friction
-abbrev pub friction_of : List ℕ → Result ℤ SceneFault
-friction_of field = number_of BadNumber (pos 0) MAX_FRICTION field
-
--- a mass: `0`, or that of a dynamic body
-abbrev pub mass_of : List ℕ → Result ℤ SceneFault
-mass_of field =
-    if bytes_eq field (codes "0") then Ok (pos 0)
-    else number_of BadMass MIN_MASS MAX_MASS field
-
-abbrev pub player_of : Result ℤ SceneFault → Result (Option ℕ) SceneFault
-player_of (Ok z) = Ok (Some (unsigned_abs z))
-player_of (Err fault) = Err fault
+abbrev pub player_of : ParsedNumber → Result (Option ℕ) SceneFault
+player_of (InRange z) = Ok (Some (unsigned_abs z))
+player_of OutOfRange = Err BadNumber
+player_of NotANumber = Err BadNumber
 
 -- `-` for nobody, or a player from 0 to 7
 abbrev pub owner_of : List ℕ → Result (Option ℕ) SceneFault
 owner_of field =
     if bytes_eq field (codes "-") then Ok None
-    else player_of (number_of BadNumber (pos 0) (pos 7) field)
+    else player_of (number (pos 0) (pos 7) (whole_of field))
 
 -- the first field of a line of a scene
 abbrev pub word_of : List ℕ → Option SceneWord
@@ -89,76 +59,23 @@ word_of field =
     else (if bytes_eq field (codes "end") then Some words.End else None)))
 
 -- `gravity GX GY`
-unfoldable pub gravity_of : List ℕ → List ℕ → Result V2 SceneFault
-gravity_of x y = do
-  x ← acceleration_of x
-  y ← acceleration_of y
-  Ok (record { x = x; y = y })
-
--- a position of a start
-unfoldable pub position_of : List ℕ → List ℕ → Result V2 SceneFault
-position_of x y = do
-  x ← coordinate_of x
-  y ← coordinate_of y
-  Ok (record { x = x; y = y })
-
--- the rotation that points as C to S
-unfoldable pub rotation_of : List ℕ → List ℕ → Result Rot SceneFault
-rotation_of c s = do
-  c ← direction_of c
-  s ← direction_of s
-  Ok (unit c s)
-
--- a circle, from four fields
-unfoldable pub circle_fixture : List ℕ → List ℕ → List ℕ → List ℕ → Result Fixture SceneFault
-circle_fixture owner mass friction r = do
-  owner ← owner_of owner
-  mass ← mass_of mass
-  friction ← friction_of friction
-  r ← size_of r
-  Ok (record { shape = Circle r; mass = mass; friction = friction; owner = owner })
-
--- a box, from five fields
-unfoldable pub box_fixture : List ℕ → List ℕ → List ℕ → List ℕ → List ℕ → Result Fixture SceneFault
-box_fixture owner mass friction hx hy = do
-  owner ← owner_of owner
-  mass ← mass_of mass
-  friction ← friction_of friction
-  hx ← size_of hx
-  hy ← size_of hy
-  Ok (record { shape = Box hx hy; mass = mass; friction = friction; owner = owner })
-
--- a position, and upright there
-unfoldable pub circle_transform : List ℕ → List ℕ → Result (V2 × Rot) SceneFault
-circle_transform x y = do
-  position ← position_of x y
-  Ok (position, upright)
-
--- a position, and the rotation there
-unfoldable pub box_transform : List ℕ → List ℕ → List ℕ → List ℕ → Result (V2 × Rot) SceneFault
-box_transform x y c s = do
-  position ← position_of x y
-  rotation ← rotation_of c s
-  Ok (position, rotation)
-
--- a body's fixture and where it starts
-unfoldable pub body_parts : Result Fixture SceneFault → Result (V2 × Rot) SceneFault
-    → Result (Fixture × (V2 × Rot)) SceneFault
-body_parts fixture transform = do
-  fixture ← fixture
-  transform ← transform
-  Ok (fixture, transform)
+abbrev pub gravity_of : List ℕ → List ℕ → Result V2 SceneFault
+gravity_of x y = checked_vector MAX_GRAVITY (number_of x) (number_of y)
 
 -- `circle OWNER MASS FRICTION R X Y`
 unfoldable pub circle_of : List (List ℕ) → Result (Fixture × (V2 × Rot)) SceneFault
 circle_of (owner ∷ mass ∷ friction ∷ r ∷ x ∷ y ∷ []) =
-    body_parts (circle_fixture owner mass friction r) (circle_transform x y)
+    let shape = checked_circle (number_of r) in
+    checked_body (checked_fixture (owner_of owner) (number_of mass) (number_of friction) shape)
+    (upright_transform (number_of x) (number_of y))
 circle_of args = Err BadLine
 
 -- `box OWNER MASS FRICTION HX HY X Y C S`
 unfoldable pub box_of : List (List ℕ) → Result (Fixture × (V2 × Rot)) SceneFault
 box_of (owner ∷ mass ∷ friction ∷ hx ∷ hy ∷ x ∷ y ∷ c ∷ s ∷ []) =
-    body_parts (box_fixture owner mass friction hx hy) (box_transform x y c s)
+    let shape = checked_box (number_of hx) (number_of hy) in
+    checked_body (checked_fixture (owner_of owner) (number_of mass) (number_of friction) shape)
+    (turned_transform (number_of x) (number_of y) (number_of c) (number_of s))
 box_of args = Err BadLine
 
 -- the fields of a body behind its word

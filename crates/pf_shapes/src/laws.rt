@@ -2,22 +2,25 @@
 //! clauses are the statements.
 
 ghost use Rattle.std.specs.Prelude.{◌≡◌, ℕ, ◌<◌, ℤ, pos, ◌^◌, ◌≤ℤ◌, ◌<ℤ◌, ◌↔◌, Bool, true, List, Ok, Some, None, length, All};
+ghost use Rattle.pf_text.specs.Numbers.{whole_of};
 ghost use Rattle.pf_num.specs.Fx.{IsRaw};
 ghost use Rattle.pf_rot.specs.Vector.{V2, add};
 ghost use Rattle.pf_rot.specs.Rotation.{Rot, rotate};
 ghost use Rattle.pf_rot.specs.Laws.{IsAtMostOne};
 ghost use Rattle.pf_shapes.specs.declared.fixture.Shape.{Shape};
+ghost use Rattle.pf_shapes.specs.declared.fault.SceneFault.{SceneFault};
+ghost use Rattle.pf_shapes.specs.Numbers.{checked_number};
 ghost use Rattle.pf_shapes.specs.Fixture.{Fixture, IsFixture, IsSize, HasSize, IsDynamicMass, inertia, inverse_mass, inverse_inertia};
 ghost use Rattle.pf_shapes.specs.Body.{BodyState, start_of};
 ghost use Rattle.pf_shapes.specs.Bounds.{Bounds, IsOrdered, overlaps, shape_bounds, fixture_bounds};
 ghost use Rattle.pf_shapes.specs.Laws.{Covers, IsInBox, IsInCircle, IsInBounds, IsInner, exact_position, bounds_to_fine_units};
 ghost use Rattle.pf_shapes.specs.SceneEncoding.{body_fields, gravity_fields, start_rotation, IsDirection};
 ghost use Rattle.pf_shapes.specs.Scene.{Scene, IsGravity, IsPosition, empty_scene, with_body};
-ghost use Rattle.pf_shapes.specs.SceneText.{line_of, scene_in_progress};
+ghost use Rattle.pf_shapes.specs.SceneText.{line_of, number_of, scene_in_progress};
 
 use crate::fixture::{MAX_FRICTION, MAX_MASS, MAX_SIZE, MIN_MASS, MIN_SIZE, PLAYERS, Shape};
+use crate::numbers::MAX_DIRECTION;
 use crate::scene::{MAX_BODIES, MAX_GRAVITY, MAX_POSITION};
-use crate::scene_text::MAX_DIRECTION;
 
 /// The fields of gravity, and those of a body for which the scene has room, parse as that, where
 /// their numbers are in range.
@@ -30,6 +33,13 @@ pub fn scene_lines_are_read()
         → IsFixture f → IsPosition position → IsDirection to
         → line_of (record { max_bodies = most; scene = Some s }) (body_fields f position to)
         ≡ Ok (scene_in_progress most (with_body s f position (start_rotation f.shape to))) }
+{}
+
+/// A number of a field is checked as it is, however long it is.
+pub fn long_numbers_are_out_of_range()
+    ensures { (outside : SceneFault) (low high : ℤ) (field : List ℕ) → IsRaw low → IsRaw high
+        → checked_number outside low high (number_of field)
+        ≡ checked_number outside low high (whole_of field) }
 {}
 
 /// The inertia of a dynamic body of an allowed size is above 0, and no body of a lesser mass and
