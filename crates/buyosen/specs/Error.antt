@@ -16,16 +16,16 @@ scene_error (reading.Line number fault) = errors.Scene (reading.Line number faul
 scene_error reading.Memory = errors.OutOfMemory
 
 -- why a call of a peer failed
-abbrev pub peer_error : PeerError → Error
-peer_error (peer_errors.Refused refusal) = errors.Refused refusal
-peer_error peer_errors.OutOfMemory = errors.OutOfMemory
+abbrev pub error_of_peer : PeerError → Error
+error_of_peer (peer_errors.Refused refusal) = errors.Refused refusal
+error_of_peer peer_errors.OutOfMemory = errors.OutOfMemory
 
 -- why a crew did not solve the islands of a tick
-abbrev pub crew_error : CrewError → Error
-crew_error crews.OutOfMemory = errors.OutOfMemory
-crew_error other = errors.Crew other
+abbrev pub error_of_crew : CrewError → Error
+error_of_crew crews.OutOfMemory = errors.OutOfMemory
+error_of_crew other = errors.Crew other
 
 -- why a tick was not settled
 abbrev pub settle_error : StepError → Error
 settle_error steps.OutOfMemory = errors.OutOfMemory
-settle_error (steps.Crew error) = crew_error error
+settle_error (steps.Crew error) = error_of_crew error

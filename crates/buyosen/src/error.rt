@@ -2,7 +2,7 @@
 
 ghost use Rattle.std.specs.Prelude.{◌≡◌};
 ghost use Rattle.buyosen.specs.declared.error.Error.TheVariants.{OutOfMemory};
-ghost use Rattle.buyosen.specs.Error.{crew_error, peer_error, scene_error, settle_error};
+ghost use Rattle.buyosen.specs.Error.{error_of_crew, error_of_peer, scene_error, settle_error};
 
 use pf_rollback::{PeerError, Refusal};
 use pf_shapes::ReadError;
@@ -55,7 +55,7 @@ impl From<ReadError> for Error {
 }
 
 impl From<PeerError> for Error {
-    ghost from_gives = { λ fault result. result ≡ peer_error fault };
+    ghost from_gives = { λ fault result. result ≡ error_of_peer fault };
 
     fn from(fault: PeerError) -> Error {
         match fault {
@@ -66,7 +66,7 @@ impl From<PeerError> for Error {
 }
 
 impl From<CrewError> for Error {
-    ghost from_gives = { λ error result. result ≡ crew_error error };
+    ghost from_gives = { λ error result. result ≡ error_of_crew error };
 
     fn from(error: CrewError) -> Error {
         match error {

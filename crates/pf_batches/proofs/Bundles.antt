@@ -14,7 +14,7 @@ use Rattle.pf_bundles.specs.LaneRow.{lane_row_in}
 use Rattle.pf_bundles.specs.Numbers.{Numbers, Velocity, no_velocity}
 use Rattle.pf_bundles.specs.Prepared.{PreparedLanes, constraint_in}
 use Rattle.pf_solver.specs.Velocities.{Step}
-use Rattle.pf_batches.specs.Contact.{ContactLanes, IsWithin, seat_state_in, state_in, state_of}
+use Rattle.pf_batches.specs.Contact.{ContactLanes, IsSeatWithin, seat_state_in, state_in, state_of}
 use Rattle.pf_bundles.specs.Seats.{SeatState}
 use Rattle.pf_batches.specs.Limits.{AreGrown}
 use Rattle.pf_batches.specs.Numbers.{AreAllWithin, lane_result, seat_state_from}
@@ -45,7 +45,7 @@ velocity_within most velocities (Dynamic place) all =
     read_holds (λ (v : Velocity). IsShort most v.velocity) velocities place no_velocity all
     (record { x = omega arith; y = omega arith })
 
-pub seat_within : (most : ℕ) (n : Numbers) (o : Option Seat) → AreAllWithin most n → IsWithin most (seat_state_or n o)
+pub seat_within : (most : ℕ) (n : Numbers) (o : Option Seat) → AreAllWithin most n → IsSeatWithin most (seat_state_or n o)
 seat_within most n None all = record {
   first = record { x = omega arith; y = omega arith };
   second = record { x = omega arith; y = omega arith };
@@ -64,10 +64,10 @@ seat_within most n (Some seat) all =
 
 -- so they are after a step that makes them greater by some number
 grown_within : (most by : ℕ) (p : PreparedLanes) (k : Lane) (before after : ContactLanes) (s : SeatState)
-    → seat_state_in k before ≡ s → IsWithin most s → AreGrown by (state_in k p before) (state_in k p after)
-    → IsWithin (most + by) (seat_state_in k after)
+    → seat_state_in k before ≡ s → IsSeatWithin most s → AreGrown by (state_in k p before) (state_in k p after)
+    → IsSeatWithin (most + by) (seat_state_in k after)
 grown_within most by p k before after s read within grown =
-    let h : IsWithin most (seat_state_in k before) = subst (IsWithin most) (sym read) within in
+    let h : IsSeatWithin most (seat_state_in k before) = subst (IsSeatWithin most) (sym read) within in
     record {
       first = record { x = omega (arith, h.first.x, grown.first.x); y = omega (arith, h.first.y, grown.first.y) };
       second = record { x = omega (arith, h.second.x, grown.second.x); y = omega (arith, h.second.y, grown.second.y) };
@@ -78,7 +78,7 @@ grown_within most by p k before after s read within grown =
 pub all_grown_within : (most by : ℕ) (p : PreparedLanes) (n : Numbers) (seats : List Seat) (before : ContactLanes) (result : Option ContactLanes)
     → AreAllWithin most n → ((k : Lane) → seat_state_in k before ≡ seat_state_or n (slice_get seats (lane_number k)))
     → IfSome result (λ after. (k : Lane) → AreGrown by (state_in k p before) (state_in k p after))
-    → IfSome result (λ after. (k : Lane) → IsWithin (most + by) (seat_state_in k after))
+    → IfSome result (λ after. (k : Lane) → IsSeatWithin (most + by) (seat_state_in k after))
 all_grown_within most by p n seats before None all read grown = grown
 all_grown_within most by p n seats before (Some after) all read grown = λ k.
     let o = slice_get seats (lane_number k) in
@@ -161,7 +161,7 @@ velocities_within most velocities Static v all here = all
 velocities_within most velocities (Dynamic place) v all here =
     All-set (λ (v : Velocity). IsShort most v.velocity) velocities place v here all
 
-row_within : (most : ℕ) (seat : Seat) (s : SeatState) (n : Numbers) → AreAllWithin most n → IsWithin most s
+row_within : (most : ℕ) (seat : Seat) (s : SeatState) (n : Numbers) → AreAllWithin most n → IsSeatWithin most s
     → AreAllWithin most (numbers_with seat s n)
 row_within most seat s n all here = record {
   velocities =
@@ -173,12 +173,12 @@ row_within most seat s n all here = record {
 }
 
 pub rows_within : (most : ℕ) (seats : List Seat) (states : List SeatState) (n : Numbers) → AreAllWithin most n
-    → All (IsWithin most) states → AreAllWithin most (numbers_with_all seats states n)
+    → All (IsSeatWithin most) states → AreAllWithin most (numbers_with_all seats states n)
 rows_within most [] states n all here = all
 rows_within most (seat ∷ seats) [] n all here = all
 rows_within most (seat ∷ seats) (s ∷ states) n all here =
     rows_within most seats states (numbers_with seat s n)
-    (row_within most seat s n all (All-head (IsWithin most) s states here)) (All-tail (IsWithin most) s states here)
+    (row_within most seat s n all (All-head (IsSeatWithin most) s states here)) (All-tail (IsSeatWithin most) s states here)
 
 -- a greater limit
 pub all_within_more : (most more : ℕ) (n : Numbers) → most ≤ more → AreAllWithin most n → AreAllWithin more n
@@ -193,17 +193,17 @@ all_within_more most more n h all = record {
 }
 
 -- the states of four lanes
-pub states_within : (most : ℕ) (after : ContactLanes) → ((k : Lane) → IsWithin most (seat_state_in k after))
-    → All (IsWithin most) (seat_state_in First after ∷ seat_state_in Second after ∷ seat_state_in Third after ∷ seat_state_in Fourth after ∷ [])
+pub states_within : (most : ℕ) (after : ContactLanes) → ((k : Lane) → IsSeatWithin most (seat_state_in k after))
+    → All (IsSeatWithin most) (seat_state_in First after ∷ seat_state_in Second after ∷ seat_state_in Third after ∷ seat_state_in Fourth after ∷ [])
 states_within most after each =
     let first = seat_state_in First after in
     let second = seat_state_in Second after in
     let third = seat_state_in Third after in
     let fourth = seat_state_in Fourth after in
-    All-cons (IsWithin most) first (second ∷ third ∷ fourth ∷ []) (each First)
-    (All-cons (IsWithin most) second (third ∷ fourth ∷ []) (each Second)
-    (All-cons (IsWithin most) third (fourth ∷ []) (each Third)
-    (All-cons (IsWithin most) fourth [] (each Fourth) (All-nil (IsWithin most)))))
+    All-cons (IsSeatWithin most) first (second ∷ third ∷ fourth ∷ []) (each First)
+    (All-cons (IsSeatWithin most) second (third ∷ fourth ∷ []) (each Second)
+    (All-cons (IsSeatWithin most) third (fourth ∷ []) (each Third)
+    (All-cons (IsSeatWithin most) fourth [] (each Fourth) (All-nil (IsSeatWithin most)))))
 
 -- what follows from what holds of a value, if there is one
 pub some_weaker : {A : Type 0} {P Q : A → Type 0} (o : Option A) → ((a : A) → P a → Q a) → IfSome o P → IfSome o Q

@@ -9,7 +9,7 @@ use Rattle.pf_islands.proofs.Elements.{all_from}
 use Rattle.pf_rows.specs.declared.row.Side.{Side}
 use Rattle.pf_rows.specs.declared.row.Side.TheVariants.{Dynamic, Static}
 use Rattle.pf_rows.specs.Row.{IsEntryOf, IsSide, Row}
-use Rattle.pf_levels.specs.Levels.{ArePairsOf, IsPairOf, Pair, pair_of}
+use Rattle.pf_levels.specs.Levels.{ArePairsOf, IsRowPairOf, RowPair, pair_of}
 use Rattle.pf_levels.proofs.InOrder.{numbers_within}
 use Rattle.pf_bundles.proofs.Bundles.{as_many}
 use Rattle.pf_bundles.specs.Bundle.{AreBundlesOf, Bundle, IsBundleOf, Seat, lane_number, lane_row_or, seat_at}
@@ -44,7 +44,7 @@ as_many_held (l ∷ lanes) (x ∷ rows) held = ap suc (as_many_held lanes rows h
 -- the seat of a place is that of its row
 seat_is : (rows : List Row) (p : ℕ) (d : Row) → p < length rows → seat_at (map pair_of rows) p ≡ seat_of p (slice_index_or rows p d)
 seat_is rows p d within =
-    ap (λ (pair : Pair). record { place = p; first = pair.first; second = pair.second })
+    ap (λ (pair : RowPair). record { place = p; first = pair.first; second = pair.second })
     (get_or_default (map pair_of rows) p (record { first = Static; second = Static }) (pair_of d) (subst (λ n. p < n) (sym (length-map rows pair_of)) within)
     ∙ get_or-map pair_of rows p d)
 
@@ -63,7 +63,7 @@ seats_at (r ∷ rows) level seats within are =
     (map (λ p. slice_index_or (r ∷ rows) p r) level, rows_at_places (r ∷ rows) level r within, are ∙ seats_are (r ∷ rows) r level within)
 
 -- the place of a seat is that of its lane in the level
-place_of_seat : (pairs : List Pair) (level : List ℕ) (i : ℕ) (seat : Seat) → slice_get (map (seat_at pairs) level) i ≡ Some seat
+place_of_seat : (pairs : List RowPair) (level : List ℕ) (i : ℕ) (seat : Seat) → slice_get (map (seat_at pairs) level) i ≡ Some seat
     → slice_get level i ≡ Some seat.place
 place_of_seat pairs [] i seat at = absurd (none-some seat at)
 place_of_seat pairs (p ∷ level) zero seat at = ap (λ (s : Seat). Some s.place) (same_Some (seat_at pairs p) seat at)
@@ -122,13 +122,13 @@ module _ (b : Batch) (n : Numbers) (lanes : List LaneRow) (fit : AreNumbersOf b 
 -- ---- all bundles
 
 -- each level has its bundle
-abbrev pub EachIsBundle : List Pair → List LaneRow → List (List ℕ) → List Bundle → Type 0
+abbrev pub EachIsBundle : List RowPair → List LaneRow → List (List ℕ) → List Bundle → Type 0
 EachIsBundle pairs lanes levels bundles =
     (i : ℕ) (level : List ℕ) (bundle : Bundle) → slice_get levels i ≡ Some level → slice_get bundles i ≡ Some bundle
     → IsBundleOf pairs lanes level bundle
 
 -- bundles that are one for each level
-pub each_bundle : (pairs : List Pair) (lanes : List LaneRow) (levels : List (List ℕ)) (bundles : List Bundle)
+pub each_bundle : (pairs : List RowPair) (lanes : List LaneRow) (levels : List (List ℕ)) (bundles : List Bundle)
     → AreBundlesOf pairs lanes levels bundles → EachIsBundle pairs lanes levels bundles
 each_bundle pairs lanes [] bundles are i level bundle here own = absurd (none-some level here)
 each_bundle pairs lanes (l ∷ levels) [] are i level bundle here own = absurd (none-some bundle own)
@@ -216,6 +216,6 @@ more_side : (n m : ℕ) (side : Side) → n ≤ m → IsSide n side → IsSide m
 more_side n m Static h is = tt
 more_side n m (Dynamic place) h is = omega (arith, h, is)
 
-pub more_bodies : (n m : ℕ) (pairs : List Pair) → n ≤ m → ArePairsOf n pairs → ArePairsOf m pairs
+pub more_bodies : (n m : ℕ) (pairs : List RowPair) → n ≤ m → ArePairsOf n pairs → ArePairsOf m pairs
 more_bodies n m pairs h all =
-    All-weaker (IsPairOf n) (IsPairOf m) (λ pair of. record { first = more_side n m pair.first h of.first; second = more_side n m pair.second h of.second }) pairs all
+    All-weaker (IsRowPairOf n) (IsRowPairOf m) (λ pair of. record { first = more_side n m pair.first h of.first; second = more_side n m pair.second h of.second }) pairs all

@@ -8,9 +8,9 @@ use Rattle.pf_num.proofs.Range.{product_bound}
 use Rattle.pf_rot.specs.Vector.{V2, cross}
 use Rattle.pf_rows.specs.Row.{Constraint, InverseMass}
 use Rattle.pf_rows.specs.Small.{IsShort}
-use Rattle.pf_bundles.specs.Limits.{AreLimits, HasShortProducts, IsPushLimit, IsPushLimitOf, IsSmall, IsSpinLimit, reach}
+use Rattle.pf_bundles.specs.Limits.{AreLimits, HasShortProducts, IsPushLimit, IsPushLimitOf, IsSmallConstraint, IsSpinLimit, arm_reach}
 use Rattle.pf_solver.specs.Impulse.{ContactState, after_impulse, first_after, second_after}
-use Rattle.pf_batches.specs.Limits.{IsExact, IsExactOn, IsReady, SpinsGrown, SpinsWithin}
+use Rattle.pf_batches.specs.Limits.{IsImpulseExact, IsExactOn, IsReady, SpinsGrown, SpinsWithin}
 
 -- ---- spins
 
@@ -45,7 +45,7 @@ module _ (m : InverseMass) (arm impulse : V2) (spin push : ℕ) (limit : IsPushL
   -- the products of a part of the impulse with the arm
   moments : (n : ℕ) → n ≤ push → HasShortProducts n arm
   moments n h =
-      let all : push * reach arm ≡ push * unsigned_abs arm.x + push * unsigned_abs arm.y = grind arith in
+      let all : push * arm_reach arm ≡ push * unsigned_abs arm.x + push * unsigned_abs arm.y = grind arith in
       record {
         x = let l : n * unsigned_abs arm.x ≤ push * unsigned_abs arm.x = mul-le-mul_right (unsigned_abs arm.x) h in omega (arith, l, all, limit.moment);
         y = let l : n * unsigned_abs arm.y ≤ push * unsigned_abs arm.y = mul-le-mul_right (unsigned_abs arm.y) h in omega (arith, l, all, limit.moment);
@@ -55,14 +55,14 @@ module _ (m : InverseMass) (arm impulse : V2) (spin push : ℕ) (limit : IsPushL
   change n h = let l : n * unsigned_abs m.inverse_mass ≤ push * unsigned_abs m.inverse_mass = mul-le-mul_right (unsigned_abs m.inverse_mass) h in omega (arith, l, limit.change)
 
   -- how the impulse turns the body
-  turn_size : unsigned_abs (cross arm impulse) * 16777216 ≤ push * reach arm + 16777216
+  turn_size : unsigned_abs (cross arm impulse) * 16777216 ≤ push * arm_reach arm + 16777216
   unfolding cross
   turn_size =
       let first = product_bound arm.x impulse.y in
       let second = product_bound arm.y impulse.x in
       let x : unsigned_abs arm.x * unsigned_abs impulse.y ≤ unsigned_abs arm.x * push = mul-le-mul_left (unsigned_abs arm.x) short.y in
       let y : unsigned_abs arm.y * unsigned_abs impulse.x ≤ unsigned_abs arm.y * push = mul-le-mul_left (unsigned_abs arm.y) short.x in
-      let all : push * reach arm ≡ unsigned_abs arm.x * push + unsigned_abs arm.y * push = grind arith in
+      let all : push * arm_reach arm ≡ unsigned_abs arm.x * push + unsigned_abs arm.y * push = grind arith in
       omega (arith, difference_size (product arm.x impulse.y) (product arm.y impulse.x), first, second, x, y, all)
 
   -- and what that changes of its spin
@@ -70,7 +70,7 @@ module _ (m : InverseMass) (arm impulse : V2) (spin push : ℕ) (limit : IsPushL
   exact_turn =
       let t = unsigned_abs (cross arm impulse) in
       let j = unsigned_abs m.inverse_inertia in
-      let scaled : t * 16777216 * j ≤ (push * reach arm + 16777216) * j = mul-le-mul_right j turn_size in
+      let scaled : t * 16777216 * j ≤ (push * arm_reach arm + 16777216) * j = mul-le-mul_right j turn_size in
       let turned : t * 16777216 * j ≡ t * j * 16777216 = grind arith in
       omega (arith, scaled, turned, limit.turn)
 
@@ -78,7 +78,7 @@ module _ (m : InverseMass) (arm impulse : V2) (spin push : ℕ) (limit : IsPushL
   below_limit =
       let t = unsigned_abs (cross arm impulse) in
       let j = unsigned_abs m.inverse_inertia in
-      let scaled : t * 16777216 * j ≤ (push * reach arm + 16777216) * j = mul-le-mul_right j turn_size in
+      let scaled : t * 16777216 * j ≤ (push * arm_reach arm + 16777216) * j = mul-le-mul_right j turn_size in
       let turned : t * 16777216 * j ≡ t * j * 16777216 = grind arith in
       omega (arith, scaled, turned, limit.exact)
 
@@ -100,7 +100,7 @@ module _ (m : InverseMass) (arm impulse : V2) (spin push : ℕ) (limit : IsPushL
 -- ---- both bodies
 
 pub pushes_are_exact : (c : Constraint) (m : ContactState) (impulse : V2) (spin push : ℕ) → AreLimits c m.first.mass m.second.mass spin push
-    → IsShort push impulse → IsExact c m impulse
+    → IsShort push impulse → IsImpulseExact c m impulse
 pushes_are_exact c m impulse spin push limits short = record {
   first = is_exact_on m.first.mass c.first_arm impulse spin push limits.pushes.first short;
   second = is_exact_on m.second.mass c.second_arm impulse spin push limits.pushes.second short;
@@ -129,7 +129,7 @@ spins_grown c m after impulse spin push pushes short e =
 
 -- ---- a step may begin
 
-ready : (c : Constraint) (m : ContactState) (spin : ℕ) → IsSmall c → IsSpinLimit c spin → SpinsWithin (2 * spin) m → IsReady c m
+ready : (c : Constraint) (m : ContactState) (spin : ℕ) → IsSmallConstraint c → IsSpinLimit c spin → SpinsWithin (2 * spin) m → IsReady c m
 ready c m spin small limit spins = record {
   small = small;
   spins = record { first = omega (arith, spins.first, limit.most); second = omega (arith, spins.second, limit.most) };
@@ -137,7 +137,7 @@ ready c m spin small limit spins = record {
   second = spin_products spin (unsigned_abs m.second.spin) c.second_arm spins.second limit.second_arm;
 }
 
-pub is_ready : (c : Constraint) (m : ContactState) (spin : ℕ) → IsSmall c → IsSpinLimit c spin → SpinsWithin spin m → IsReady c m
+pub is_ready : (c : Constraint) (m : ContactState) (spin : ℕ) → IsSmallConstraint c → IsSpinLimit c spin → SpinsWithin spin m → IsReady c m
 is_ready c m spin small limit spins =
     ready c m spin small limit (record { first = omega (arith, spins.first); second = omega (arith, spins.second) })
 

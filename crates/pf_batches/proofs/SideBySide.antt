@@ -9,7 +9,7 @@ use Rattle.pf_rows.specs.declared.row.Side.TheVariants.{Static, Dynamic}
 use Rattle.pf_rows.specs.Impulses.{Impulses}
 use Rattle.pf_rows.specs.Row.{InverseMass, IsEntryOf, Row}
 use Rattle.pf_rot.specs.Vector.{V2}
-use Rattle.pf_levels.specs.Levels.{ArePairsOf, IsPairOf, pair_of}
+use Rattle.pf_levels.specs.Levels.{ArePairsOf, IsRowPairOf, pair_of}
 use Rattle.pf_bundles.specs.LaneRow.{IsHeldBy, LaneRow, arm_on, mass_on}
 use Rattle.pf_bundles.specs.Numbers.{Numbers, Velocity}
 use Rattle.pf_islands.specs.Split.{Island}
@@ -20,8 +20,8 @@ use Rattle.pf_solver.specs.Impulse.{Motion, after_round, after_warm_start}
 use Rattle.pf_solver.specs.Velocities.{Batch, Step, bodies_after, body_with, contact_state, pass, passes, row_after, with_motion}
 use Rattle.pf_solver.proofs.Beside.{batch_side_by_side, beside_of_lists, velocities_side_by_side}
 use Rattle.pf_solver.proofs.Passes.{bodies_length, rows_length}
-use Rattle.pf_batches.specs.Islands.{AreBatches, AreHeldBy, batch_of, first_numbers, island_with_first, islands_with, numbers_behind, other_numbers, pairs_behind}
-use Rattle.pf_batches.specs.Numbers.{AreNumbersOf, batch_with, loaded_row, moving_body, numbers_of, velocity_of, with_impulses, with_velocities}
+use Rattle.pf_batches.specs.Islands.{AreBatches, AreHeldBy, batch_of, first_numbers, island_with_first, numbered_islands, numbers_behind, other_numbers, pairs_behind}
+use Rattle.pf_batches.specs.Numbers.{AreNumbersOf, numbered_batch, loaded_row, moving_body, batch_numbers, velocity_of, with_impulses, with_velocities}
 use Rattle.pf_batches.proofs.Numbers.{bodies_as_many, numbers_again, numbers_back, numbers_fit, own_numbers, rows_as_many}
 
 -- ---- one island more
@@ -50,7 +50,7 @@ one_pushed f before now xs k x y within is made so_far =
     (sym (map-append f (take k xs) (get_or xs k x ∷ [])) ∙ ap (map f) (sym (take_more xs k x within)))
 
 -- the numbers of two batches side by side
-numbers_beside : (a b : Batch) → numbers_of (beside a b) ≡ record {
+numbers_beside : (a b : Batch) → batch_numbers (beside a b) ≡ record {
   velocities = map velocity_of a.bodies ++ map velocity_of b.bodies;
   impulses = map (λ (r : Row). r.entry.impulses) a.rows ++ map (λ (r : Row). r.entry.impulses) b.rows;
 }
@@ -82,21 +82,21 @@ module _ (islands : List Island) (k : ℕ) (d : Island) (within : k < length isl
       ∙ ap (λ pairs. map pair_of front.rows ++ pairs) (map-map pair_of shift own)
 
   -- the numbers with those of the next island
-  pub numbers_more : numbers_of (batch_of (take (k + 1) islands)) ≡ record {
+  pub numbers_more : batch_numbers (batch_of (take (k + 1) islands)) ≡ record {
     velocities = map velocity_of (batch_of (take k islands)).bodies ++ map velocity_of (get_or islands k d).bodies;
     impulses = map (λ (r : Row). r.entry.impulses) (batch_of (take k islands)).rows
         ++ map (λ (r : Row). r.entry.impulses) (get_or islands k d).rows;
   }
   numbers_more =
-      ap numbers_of (one_more islands k d within)
+      ap batch_numbers (one_more islands k d within)
       ∙ numbers_beside (batch_of (take k islands)) (batch_in (get_or islands k d))
 
 -- the pairs of a batch are pairs of its bodies
 pub pairs_of_batch : (b : Batch) → IsBatch b → ArePairsOf (length b.bodies) (map pair_of b.rows)
 pairs_of_batch b fit =
     let n = length b.bodies in
-    All-map (IsPairOf n) pair_of b.rows
-    (All-weaker (λ r. IsEntryOf n r.entry) (λ r. IsPairOf n (pair_of r))
+    All-map (IsRowPairOf n) pair_of b.rows
+    (All-weaker (λ r. IsEntryOf n r.entry) (λ r. IsRowPairOf n (pair_of r))
     (λ r here. record { first = here.first; second = here.second }) b.rows fit)
 
 -- islands side by side are a batch
@@ -235,7 +235,7 @@ pub record AreStored (n : Numbers) (islands : List Island) (bodies rows k : ℕ)
   pub velocities : bodies ≤ length n.velocities
   pub impulses : rows ≤ length n.impulses
   pub rest : AreNumbersOf (batch_of (drop k now)) (numbers_behind bodies rows n)
-  pub value : islands_with n islands ≡ take k now ++ islands_with (numbers_behind bodies rows n) (drop k now)
+  pub value : numbered_islands n islands ≡ take k now ++ numbered_islands (numbers_behind bodies rows n) (drop k now)
 
 module _ (n : Numbers) (islands : List Island) (bodies rows k : ℕ) (now : List Island) (i d : Island)
     (stored : AreStored n islands bodies rows k now) (within : k < length now) (is : i ≡ get_or now k d) where
@@ -299,20 +299,20 @@ module _ (n : Numbers) (islands : List Island) (bodies rows k : ℕ) (now : List
         impulses = enough_impulses;
         rest = subst (λ some. AreNumbersOf (batch_of some) then) (sym same) fit_behind;
         value =
-            stored.value ∙ ap (λ some. take k now ++ islands_with before some) left
-            ∙ ap (λ x. take k now ++ x ∷ islands_with (other_numbers i before) (drop (k + 1) now)) (sym made)
-            ∙ ap (λ x. take k now ++ after ∷ islands_with x (drop (k + 1) now))
+            stored.value ∙ ap (λ some. take k now ++ numbered_islands before some) left
+            ∙ ap (λ x. take k now ++ x ∷ numbered_islands (other_numbers i before) (drop (k + 1) now)) (sym made)
+            ∙ ap (λ x. take k now ++ after ∷ numbered_islands x (drop (k + 1) now))
             (behind_both bodies rows (length i.bodies) (length i.rows) n)
-            ∙ sym (append_assoc (take k now) (after ∷ []) (islands_with then (drop (k + 1) now)))
-            ∙ ap₂ (λ front some. front ++ islands_with then some) (sym (take_more_set now k after within)) (sym same);
+            ∙ sym (append_assoc (take k now) (after ∷ []) (numbered_islands then (drop (k + 1) now)))
+            ∙ ap₂ (λ front some. front ++ numbered_islands then some) (sym (take_more_set now k after within)) (sym same);
       }
 
 -- ---- a pass changes of a batch nothing but its numbers
 
 -- the second batch is the first one with other numbers
 record IsWithOwn (before after : Batch) : Type 0 where
-  fit : AreNumbersOf before (numbers_of after)
-  same : batch_with (numbers_of after) before ≡ after
+  fit : AreNumbersOf before (batch_numbers after)
+  same : numbered_batch (batch_numbers after) before ≡ after
 
 -- nothing changes
 own_as_is : (b : Batch) → IsWithOwn b b
@@ -322,16 +322,16 @@ own_as_is b = record { fit = numbers_fit b; same = own_numbers b }
 own_again : (a b c : Batch) → IsWithOwn a b → IsWithOwn b c → IsWithOwn a c
 own_again a b c first second =
     let bodies : length b.bodies ≡ length a.bodies =
-    ap (λ (x : Batch). length x.bodies) (sym first.same) ∙ bodies_as_many (numbers_of b) a in
+    ap (λ (x : Batch). length x.bodies) (sym first.same) ∙ bodies_as_many (batch_numbers b) a in
     let rows : length b.rows ≡ length a.rows =
-    ap (λ (x : Batch). length x.rows) (sym first.same) ∙ rows_as_many (numbers_of b) a in
-    let fit : AreNumbersOf a (numbers_of c) =
+    ap (λ (x : Batch). length x.rows) (sym first.same) ∙ rows_as_many (batch_numbers b) a in
+    let fit : AreNumbersOf a (batch_numbers c) =
     record { velocities = second.fit.velocities ∙ bodies; impulses = second.fit.impulses ∙ rows } in
     record {
       fit = fit;
       same =
-          sym (numbers_again a (numbers_of c) fit (numbers_of b))
-          ∙ ap (batch_with (numbers_of c)) first.same ∙ second.same;
+          sym (numbers_again a (batch_numbers c) fit (batch_numbers b))
+          ∙ ap (numbered_batch (batch_numbers c)) first.same ∙ second.same;
     }
 
 -- bodies without rows
@@ -419,14 +419,14 @@ own_velocities b =
     own_again b warm (passes ROUNDS after_round warm) (own_pass after_warm_start b) (own_passes after_round ROUNDS warm)
 
 -- a batch with its numbers after the velocity phase is the batch after it
-pub velocities_stored : (b : Batch) → batch_with (numbers_of (velocities_of b)) b ≡ velocities_of b
+pub velocities_stored : (b : Batch) → numbered_batch (batch_numbers (velocities_of b)) b ≡ velocities_of b
 velocities_stored b = (own_velocities b).same
 
 -- ---- islands after their rounds
 
 -- the first numbers of batches side by side are those of the first batch
-first_of_beside : (i : Island) (own rest : Batch) → AreNumbersOf (batch_in i) (numbers_of own)
-    → first_numbers i (numbers_of (beside own rest)) ≡ numbers_of own
+first_of_beside : (i : Island) (own rest : Batch) → AreNumbersOf (batch_in i) (batch_numbers own)
+    → first_numbers i (batch_numbers (beside own rest)) ≡ batch_numbers own
 first_of_beside i own rest fit =
     let impulses = λ (r : Row). r.entry.impulses in
     ap (first_numbers i) (numbers_beside own rest)
@@ -435,8 +435,8 @@ first_of_beside i own rest fit =
     (take_at (map impulses own.rows) (map impulses rest.rows) (length i.rows) fit.impulses)
 
 -- and the others are those of the rest
-others_of_beside : (i : Island) (own rest : Batch) → AreNumbersOf (batch_in i) (numbers_of own)
-    → other_numbers i (numbers_of (beside own rest)) ≡ numbers_of rest
+others_of_beside : (i : Island) (own rest : Batch) → AreNumbersOf (batch_in i) (batch_numbers own)
+    → other_numbers i (batch_numbers (beside own rest)) ≡ batch_numbers rest
 others_of_beside i own rest fit =
     let impulses = λ (r : Row). r.entry.impulses in
     ap (other_numbers i) (numbers_beside own rest)
@@ -446,7 +446,7 @@ others_of_beside i own rest fit =
 
 -- islands with the numbers of each after its velocity phase
 each_stored : (islands : List Island)
-    → islands_with (numbers_of (side_by_side (map (λ i. velocities_of (batch_in i)) islands))) islands
+    → numbered_islands (batch_numbers (side_by_side (map (λ i. velocities_of (batch_in i)) islands))) islands
     ≡ map island_after_rounds islands
 each_stored [] = refl
 each_stored (i ∷ islands) =
@@ -454,18 +454,18 @@ each_stored (i ∷ islands) =
     let rest = side_by_side (map (λ i. velocities_of (batch_in i)) islands) in
     let fit = (own_velocities (batch_in i)).fit in
     ap₂ (λ (x : Island) xs. x ∷ xs)
-    (ap (λ n. island_with (batch_with n (batch_in i)) i) (first_of_beside i own rest fit)
+    (ap (λ n. island_with (numbered_batch n (batch_in i)) i) (first_of_beside i own rest fit)
     ∙ ap (λ b. island_with b i) (velocities_stored (batch_in i)))
-    (ap (λ n. islands_with n islands) (others_of_beside i own rest fit) ∙ each_stored islands)
+    (ap (λ n. numbered_islands n islands) (others_of_beside i own rest fit) ∙ each_stored islands)
 
 -- islands with the numbers of their batch after its velocity phase are each after its own rounds
 pub islands_after_rounds : (islands : List Island) (now : Numbers) → AreBatches islands
-    → AreNumbersOf (batch_of islands) now → batch_with now (batch_of islands) ≡ velocities_of (batch_of islands)
-    → islands_with now islands ≡ map island_after_rounds islands
+    → AreNumbersOf (batch_of islands) now → numbered_batch now (batch_of islands) ≡ velocities_of (batch_of islands)
+    → numbered_islands now islands ≡ map island_after_rounds islands
 islands_after_rounds islands now batches fit solved =
-    ap (λ n. islands_with n islands)
+    ap (λ n. numbered_islands n islands)
     (sym (numbers_back (batch_of islands) now fit)
-    ∙ ap numbers_of
+    ∙ ap batch_numbers
     (solved ∙ velocities_side_by_side (map batch_in islands) (All-map IsBatch batch_in islands batches)
     ∙ ap side_by_side (map-map velocities_of batch_in islands)))
     ∙ each_stored islands

@@ -71,7 +71,7 @@ state_of first_mass second_mass s = record {
 }
 
 -- velocities and accumulated impulses are at most this
-pub record IsWithin (most : ℕ) (s : SeatState) : Type 0 where
+pub record IsSeatWithin (most : ℕ) (s : SeatState) : Type 0 where
   pub first : IsShort most s.first.velocity
   pub second : IsShort most s.second.velocity
   pub normal : unsigned_abs s.impulses.normal ≤ most

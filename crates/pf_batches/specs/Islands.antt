@@ -5,14 +5,14 @@ use Rattle.pf_rows.specs.Row.{Row}
 use Rattle.pf_bundles.specs.LaneRow.{IsHeldBy, LaneRow}
 use Rattle.pf_bundles.specs.Numbers.{Numbers}
 use Rattle.pf_islands.specs.Split.{Island}
-use Rattle.pf_levels.specs.Levels.{Pair, pair_of}
+use Rattle.pf_levels.specs.Levels.{RowPair, pair_of}
 use Rattle.pf_solver.specs.Alone.{batch_in, island_with}
 use Rattle.pf_solver.specs.Beside.{IsBatch, shifted_row, side_by_side}
 use Rattle.pf_solver.specs.Velocities.{Batch}
 use Rattle.pf_bundles.specs.Bundle.{AreBundlesOf, Bundle}
 use Rattle.pf_solver.specs.Order.{AreLevelsOf, DoLateAndEarly}
 use Rattle.pf_batches.specs.declared.together.TheConstants.{START_LIMIT}
-use Rattle.pf_batches.specs.Numbers.{AreAllWithin, batch_with, numbers_of}
+use Rattle.pf_batches.specs.Numbers.{AreAllWithin, numbered_batch, batch_numbers}
 
 -- islands side by side
 abbrev pub batch_of : List Island → Batch
@@ -23,7 +23,7 @@ abbrev pub AreBatches : List Island → Type 0
 AreBatches islands = All (λ i. IsBatch (batch_in i)) islands
 
 -- the bodies of rows that stand behind so many other bodies
-abbrev pub pairs_behind : ℕ → List Row → List Pair
+abbrev pub pairs_behind : ℕ → List Row → List RowPair
 pairs_behind n rows = map (λ r. pair_of (shifted_row n r)) rows
 
 -- lanes hold rows, one for one
@@ -53,13 +53,13 @@ other_numbers i n = numbers_behind (length i.bodies) (length i.rows) n
 
 -- an island with the first ones of these numbers
 abbrev pub island_with_first : Numbers → Island → Island
-island_with_first n i = island_with (batch_with (first_numbers i n) (batch_in i)) i
+island_with_first n i = island_with (numbered_batch (first_numbers i n) (batch_in i)) i
 
 -- islands with these numbers: the first island with the first ones, the rest with the others
-abbrev pub islands_with : Numbers → List Island → List Island
-islands_with n [] = []
-islands_with n (i ∷ islands) =
-    island_with_first n i ∷ islands_with (other_numbers i n) islands
+abbrev pub numbered_islands : Numbers → List Island → List Island
+numbered_islands n [] = []
+numbered_islands n (i ∷ islands) =
+    island_with_first n i ∷ numbered_islands (other_numbers i n) islands
 
 -- what the solver holds of a batch before its rounds: its levels, its rows in lanes, its numbers,
 -- and the bundles of the levels
@@ -69,13 +69,13 @@ pub record IsLoaded
     : Type 0 where
   pub order : AreLevelsOf b levels
   pub rows : AreHeldBy lanes b.rows
-  pub numbers : n ≡ numbers_of b
+  pub numbers : n ≡ batch_numbers b
   pub within : AreAllWithin START_LIMIT n
   pub each : AreBundlesOf (map pair_of b.rows) lanes levels bundles
 
 -- what the solver holds of levels across two rounds, where so many levels are early ones
 pub record IsOverlapLoaded
-    (pairs : List Pair) (lanes : List LaneRow) (early_levels : ℕ) (levels across : List (List ℕ))
+    (pairs : List RowPair) (lanes : List LaneRow) (early_levels : ℕ) (levels across : List (List ℕ))
     (bundles : List Bundle)
     : Type 0 where
   pub early_in_levels : early_levels ≤ length levels

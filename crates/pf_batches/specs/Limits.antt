@@ -7,11 +7,11 @@ use Rattle.pf_rot.specs.Vector.{V2, cross}
 use Rattle.pf_rows.specs.Row.{Constraint, InverseMass}
 use Rattle.pf_rows.specs.Small.{IsShort}
 use Rattle.pf_bundles.specs.declared.limits.TheConstants.{PRODUCT_LIMIT, QUARTER_ARM_SPIN}
-use Rattle.pf_bundles.specs.Limits.{HasShortProducts, IsSmall}
+use Rattle.pf_bundles.specs.Limits.{HasShortProducts, IsSmallConstraint}
 use Rattle.pf_solver.specs.Impulse.{ContactState}
 
 -- the velocity of a body is at most this, and so are accumulated impulses
-pub record AreWithin (most : ℕ) (m : ContactState) : Type 0 where
+pub record IsContactWithin (most : ℕ) (m : ContactState) : Type 0 where
   pub first : IsShort most m.first.velocity
   pub second : IsShort most m.second.velocity
   pub normal : unsigned_abs m.impulses.normal ≤ most
@@ -24,7 +24,7 @@ pub record SpinsWithin (limit : ℕ) (m : ContactState) : Type 0 where
 
 -- a step of a contact may begin: no product of a spin with an arm is too great
 pub record IsReady (c : Constraint) (m : ContactState) : Type 0 where
-  pub small : IsSmall c
+  pub small : IsSmallConstraint c
   pub spins : SpinsWithin (2 * QUARTER_ARM_SPIN) m
   pub first : HasShortProducts (unsigned_abs m.first.spin) c.first_arm
   pub second : HasShortProducts (unsigned_abs m.second.spin) c.second_arm
@@ -39,7 +39,7 @@ pub record IsExactOn (m : InverseMass) (arm impulse : V2) : Type 0 where
   pub turn : unsigned_abs (cross arm impulse) * unsigned_abs m.inverse_inertia < PRODUCT_LIMIT
 
 -- what an impulse does to both bodies of a contact is exact
-pub record IsExact (c : Constraint) (m : ContactState) (impulse : V2) : Type 0 where
+pub record IsImpulseExact (c : Constraint) (m : ContactState) (impulse : V2) : Type 0 where
   pub first : IsExactOn m.first.mass c.first_arm impulse
   pub second : IsExactOn m.second.mass c.second_arm impulse
 

@@ -53,15 +53,15 @@ with_impulses (p ∷ impulses) [] = []
 with_impulses (p ∷ impulses) (r ∷ rows) = loaded_row p r ∷ with_impulses impulses rows
 
 -- a batch with these numbers
-abbrev pub batch_with : Numbers → Batch → Batch
-batch_with n b = record {
+abbrev pub numbered_batch : Numbers → Batch → Batch
+numbered_batch n b = record {
   bodies = with_velocities n.velocities b.bodies;
   rows = with_impulses n.impulses b.rows;
 }
 
 -- the numbers of a batch
-abbrev pub numbers_of : Batch → Numbers
-numbers_of b = record {
+abbrev pub batch_numbers : Batch → Numbers
+batch_numbers b = record {
   velocities = map velocity_of b.bodies;
   impulses = map (λ r. r.entry.impulses) b.rows;
 }
@@ -96,8 +96,8 @@ lane_result step l s =
     seat_state_from (step l.constraint (state_of l.first_mass l.second_mass s))
 
 -- a lane holds the row of its seat: the one that stands at the place of that seat
-abbrev pub HoldsRow : List LaneRow → List Seat → PreparedLanes → Lane → Type 0
-HoldsRow rows seats p k =
+abbrev pub HoldsSeatRow : List LaneRow → List Seat → PreparedLanes → Lane → Type 0
+HoldsSeatRow rows seats p k =
     (seat : Seat) → slice_get seats (lane_number k) ≡ Some seat
     → lane_row_in k p ≡ slice_index_or rows seat.place no_lane_row
 
@@ -144,10 +144,11 @@ numbers_after_all (seat ∷ seats) (m ∷ states) n =
     numbers_after_all seats states (numbers_after seat m n)
 
 -- the rows that stand at these places of a list of rows, one for each
-abbrev pub AreRowsAt : List Row → List ℕ → List Row → Type 0
-AreRowsAt rows [] found = found ≡ []
-AreRowsAt rows (p ∷ places) [] = ⊥
-AreRowsAt rows (p ∷ places) (r ∷ found) = (slice_get rows p ≡ Some r) × AreRowsAt rows places found
+abbrev pub AreRowsOfPlaces : List Row → List ℕ → List Row → Type 0
+AreRowsOfPlaces rows [] found = found ≡ []
+AreRowsOfPlaces rows (p ∷ places) [] = ⊥
+AreRowsOfPlaces rows (p ∷ places) (r ∷ found) =
+    (slice_get rows p ≡ Some r) × AreRowsOfPlaces rows places found
 
 -- what a step makes of each row at its place, all of them read from the same numbers
 abbrev pub AreResults : Step → Numbers → List ℕ → List Row → List ContactState → Type 0
@@ -179,18 +180,18 @@ numbers_in_levels (suc k) levels step rows n =
 -- these are the numbers of what became of a batch
 pub record AreNumbersAfter (b after : Batch) (n : Numbers) : Type 0 where
   pub numbers : AreNumbersOf b n
-  pub batch : batch_with n b ≡ after
+  pub batch : numbered_batch n b ≡ after
 
 -- these are the seats of the rows of a level
 abbrev pub AreSeatsOf : List Row → List ℕ → List Seat → Type 0
 AreSeatsOf rows level seats =
-    (found : List Row) × AreRowsAt rows level found × (seats ≡ seats_of level found)
+    (found : List Row) × AreRowsOfPlaces rows level found × (seats ≡ seats_of level found)
 
 -- the seats of a bundle are places of numbers and of rows, and its lanes hold these rows
 pub record IsBundleOn (rows : List LaneRow) (n : Numbers) (bundle : Bundle) : Type 0 where
   pub seats : All (IsSeatIn n) bundle.seats
   pub places : All (λ seat. seat.place < length rows) bundle.seats
-  pub held : (k : Lane) → HoldsRow rows bundle.seats bundle.prepared k
+  pub held : (k : Lane) → HoldsSeatRow rows bundle.seats bundle.prepared k
 
 -- bundles of the levels of a batch, one for each, whose rows the lanes hold
 pub record AreBundlesFor

@@ -9,9 +9,9 @@ ghost use Rattle.pf_bundles.specs.LaneRow.{lane_row_in, no_lane_row};
 ghost use Rattle.pf_bundles.specs.Prepared.{constraint_in};
 ghost use Rattle.pf_solver.specs.FastPath.{IsArmFor};
 ghost use Rattle.pf_solver.specs.Impulse.{ContactState};
-ghost use Rattle.pf_batches.specs.Contact.{IsWithin, seat_state_in, state_in};
-ghost use Rattle.pf_batches.specs.Limits.{AreGrown, AreWithin};
-ghost use Rattle.pf_batches.specs.Numbers.{AreAllWithin, AreNumbersOf, AreSeatsOf, HoldEach, HoldsRow, lane_result, numbers_at_once};
+ghost use Rattle.pf_batches.specs.Contact.{IsSeatWithin, seat_state_in, state_in};
+ghost use Rattle.pf_batches.specs.Limits.{AreGrown, IsContactWithin};
+ghost use Rattle.pf_batches.specs.Numbers.{AreAllWithin, AreNumbersOf, AreSeatsOf, HoldEach, HoldsSeatRow, lane_result, numbers_at_once};
 ghost use Rattle.pf_bundles.specs.Seats.{AreAsMany, AreFirst, HasSeatIn, IsSeatIn, lane_seat, seat_state_at, seat_state_or, taken_seats};
 
 use crate::contact::{ContactLanes, accumulated, motions};
@@ -37,11 +37,11 @@ pub(crate) trait LaneStep: ContactStep {
     ghost use Rattle.pf_solver.specs.FastPath.{IsArmFor};
     ghost use Rattle.pf_solver.specs.Impulse.{ContactState};
     ghost use Rattle.pf_batches.specs.Contact.{state_in};
-    ghost use Rattle.pf_batches.specs.Limits.{AreGrown, AreWithin};
+    ghost use Rattle.pf_batches.specs.Limits.{AreGrown, IsContactWithin};
 
     /// Each contact after the step, or `None` where a number is above a limit.
     fn after_lanes(prepared: &PreparedLanes, state: &ContactLanes) -> Option<ContactLanes>
-        requires { (k : Lane) → AreWithin NUMBER_LIMIT (state_in k prepared.now state.now) }
+        requires { (k : Lane) → IsContactWithin NUMBER_LIMIT (state_in k prepared.now state.now) }
         ensures value { IfSome result (λ after. (k : Lane) → state_in k prepared.now after
             ≡ Self.step (constraint_in k prepared.now.constraint)
             (state_in k prepared.now state.now)) }
@@ -119,7 +119,7 @@ fn read(numbers: &Numbers, seats: &[LaneSeat; 4]) -> ContactLanes
 fn exact_state<L: ContactStep>(row: &LaneRow, state: &SeatState, most: u64) -> Option<SeatState>
     requires { most ≤ EXACT_LIMIT }
     ensures value { IfSome result (λ after. after ≡ lane_result L.step row.now state.now) }
-    ensures size { IfSome result (λ after. IsWithin most after) }
+    ensures size { IfSome result (λ after. IsSeatWithin most after) }
 {
     let prepared = row.prepared();
     let before = contact_of(state, prepared.first_mass(), prepared.second_mass());
@@ -144,7 +144,7 @@ fn exact_lane<L: ContactStep>(
     ensures value { IfSome result (λ after. (own : Seat) → seat.now ≡ Some own
         → after ≡ lane_result L.step (slice_index_or rows.now own.place no_lane_row)
         (seat_state_at numbers.now own)) }
-    ensures size { IfSome result (λ after. IsWithin most after) }
+    ensures size { IfSome result (λ after. IsSeatWithin most after) }
 {
     let state = numbers.read(seat);
     match seat.place() {
@@ -172,7 +172,7 @@ fn after_exact<L: ContactStep>(
         → lane_seat k seats.now ≡ Some seat → seat_state_in k after
         ≡ lane_result L.step (slice_index_or rows.now seat.place no_lane_row)
         (seat_state_at numbers.now seat)) }
-    ensures size { IfSome result (λ after. (k : Lane) → IsWithin most (seat_state_in k after)) }
+    ensures size { IfSome result (λ after. (k : Lane) → IsSeatWithin most (seat_state_in k after)) }
 {
     let [a, b, c, d] = seats;
     let first = exact_lane::<L>(rows, a, numbers, most)?;
@@ -198,7 +198,7 @@ fn after_fast<L: LaneStep>(
         → lane_seat k seats.now ≡ Some seat → seat_state_in k after
         ≡ lane_result L.step (lane_row_in k prepared.now) (seat_state_at numbers.now seat)) }
     ensures size { IfSome result (λ after. (k : Lane)
-        → IsWithin (most + GROWTH) (seat_state_in k after)) }
+        → IsSeatWithin (most + GROWTH) (seat_state_in k after)) }
 {
     let state = read(numbers, seats);
     L::after_lanes(prepared, &state)
@@ -216,14 +216,14 @@ fn after_step<L: LaneStep>(
     requires most { most ≤ NUMBER_LIMIT }
     requires seats { All (IsSeatIn numbers.now) bundle.now.seats }
     requires rows { All (λ seat. seat.place < length rows.now) bundle.now.seats }
-    requires held { (k : Lane) → HoldsRow rows.now bundle.now.seats bundle.now.prepared k }
+    requires held { (k : Lane) → HoldsSeatRow rows.now bundle.now.seats bundle.now.prepared k }
     requires within { AreAllWithin most numbers.now }
     ensures value { IfSome result (λ after. (k : Lane) (seat : Seat)
         → slice_get bundle.now.seats (lane_number k) ≡ Some seat → seat_state_in k after
         ≡ lane_result L.step (slice_index_or rows.now seat.place no_lane_row)
         (seat_state_at numbers.now seat)) }
     ensures size { IfSome result (λ after. (k : Lane)
-        → IsWithin (most + GROWTH) (seat_state_in k after)) }
+        → IsSeatWithin (most + GROWTH) (seat_state_in k after)) }
 {
     let seats = bundle.seats();
     match after_fast::<L>(bundle.prepared(), seats, numbers, most) {
@@ -244,7 +244,7 @@ pub(crate) fn solve_bundle<L: LaneStep>(
     requires most { most ≤ NUMBER_LIMIT }
     requires seats { All (IsSeatIn numbers.old) bundle.now.seats }
     requires rows { All (λ seat. seat.place < length rows.now) bundle.now.seats }
-    requires held { (k : Lane) → HoldsRow rows.now bundle.now.seats bundle.now.prepared k }
+    requires held { (k : Lane) → HoldsSeatRow rows.now bundle.now.seats bundle.now.prepared k }
     requires within { AreAllWithin most numbers.old }
     ensures value { IsTrue result → (b : Batch) (level : List ℕ) → AreNumbersOf b numbers.old
         → AreSeatsOf b.rows level bundle.now.seats → HoldEach rows.now b.rows

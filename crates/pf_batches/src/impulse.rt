@@ -9,7 +9,7 @@ ghost use Rattle.pf_solver.specs.Impulse.{after_impulse, relative_velocity};
 ghost use Rattle.pf_lanes.specs.Lanes.{Lane, number_in};
 ghost use Rattle.pf_bundles.specs.Prepared.{constraint_in, mass_in, vector_in};
 ghost use Rattle.pf_batches.specs.Contact.{state_in};
-ghost use Rattle.pf_batches.specs.Limits.{AreGrown, AreShort, IsExact, IsExactOn, IsGrown, IsReady, SpinsWithin};
+ghost use Rattle.pf_batches.specs.Limits.{AreGrown, AreShort, IsImpulseExact, IsExactOn, IsGrown, IsReady, SpinsWithin};
 ghost use Rattle.pf_bundles.specs.Limits.{HasShortProducts};
 
 use crate::contact::{ContactLanes, MotionChange, MotionLanes};
@@ -312,7 +312,7 @@ fn is_exact(
         (vector_in k prepared.now.constraint.first_arm) }
     requires second { (k : Lane) → HasShortProducts (unsigned_abs (number_in k size))
         (vector_in k prepared.now.constraint.second_arm) }
-    ensures { IsTrue result → (k : Lane) → IsExact (constraint_in k prepared.now.constraint)
+    ensures { IsTrue result → (k : Lane) → IsImpulseExact (constraint_in k prepared.now.constraint)
         (state_in k prepared.now state.now) (vector_in k impulse.now) }
 {
     let constraint = prepared.constraint();
@@ -332,7 +332,7 @@ pub(crate) fn after_impulse(
 ) -> ContactLanes
     requires ready { (k : Lane)
         → IsReady (constraint_in k prepared.now.constraint) (state_in k prepared.now state.now) }
-    requires exact { (k : Lane) → IsExact (constraint_in k prepared.now.constraint)
+    requires exact { (k : Lane) → IsImpulseExact (constraint_in k prepared.now.constraint)
         (state_in k prepared.now state.now) (vector_in k impulse.now) }
     requires velocities { (k : Lane)
         → AreShort (NUMBER_LIMIT + 2 ^ 30) (state_in k prepared.now state.now) }

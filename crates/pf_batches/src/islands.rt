@@ -9,16 +9,16 @@ ghost use Rattle.pf_levels.specs.Levels.{ArePairsOf, pair_of};
 ghost use Rattle.pf_bundles.specs.Numbers.{Numbers};
 ghost use Rattle.pf_solver.specs.Alone.{batch_in};
 ghost use Rattle.pf_solver.specs.Beside.{IsBatch, shifted_side};
-ghost use Rattle.pf_batches.specs.Numbers.{AreNumbersOf, loaded_row, numbers_of, velocity_of};
+ghost use Rattle.pf_batches.specs.Numbers.{AreNumbersOf, loaded_row, batch_numbers, velocity_of};
 ghost use Rattle.pf_batches.specs.Numbers.{with_impulses, with_velocities};
 ghost use Rattle.pf_batches.specs.Numbers.{AreAllWithin};
 ghost use Rattle.pf_batches.specs.Islands.{AreBatches, AreHeldBy, batch_of};
-ghost use Rattle.pf_batches.specs.Islands.{island_with_first, islands_with, pairs_behind};
+ghost use Rattle.pf_batches.specs.Islands.{island_with_first, numbered_islands, pairs_behind};
 
 use pf_bundles::{LaneRow, Numbers, WholeImpulses, WholeVelocity};
 use pf_islands::Island;
 use pf_lanes::EXACT_LIMIT;
-use pf_levels::Pair;
+use pf_levels::RowPair;
 use pf_rows::{Impulses, Row, Side};
 use pf_shapes::BodyState;
 use std::alloc::AllocError;
@@ -36,14 +36,14 @@ fn shifted_side(count: usize, side: Side) -> Side
 }
 
 /// Adds the sides of the rows of an island that stands behind so many other bodies.
-fn add_pairs(count: usize, island: &Island, pairs: &mut Vec<Pair>) -> Result<(), AllocError>
+fn add_pairs(count: usize, island: &Island, pairs: &mut Vec<RowPair>) -> Result<(), AllocError>
     requires rows { IsBatch (batch_in island.now) }
     requires room { count + length island.now.bodies < 2 ^ 64 }
     ensures { OnOk result (pairs.new.items
         ≡ pairs.old.items ++ pairs_behind count island.now.rows) }
 {
     for row in island.rows.as_slice() {
-        pairs.push(Pair {
+        pairs.push(RowPair {
             first: shifted_side(count, row.entry.first),
             second: shifted_side(count, row.entry.second),
         })?;
@@ -52,7 +52,7 @@ fn add_pairs(count: usize, island: &Island, pairs: &mut Vec<Pair>) -> Result<(),
 }
 
 /// Loads the sides of the rows of islands side by side, and returns how many bodies there are.
-pub(crate) fn load_pairs(islands: &[Island], pairs: &mut Vec<Pair>) -> Result<usize, AllocError>
+pub(crate) fn load_pairs(islands: &[Island], pairs: &mut Vec<RowPair>) -> Result<usize, AllocError>
     requires { AreBatches islands.now }
     ensures count { IfOk result (λ count. count ≡ length (batch_of islands.now).bodies) }
     ensures pairs { OnOk result (pairs.new.items ≡ map pair_of (batch_of islands.now).rows) }
@@ -152,7 +152,7 @@ pub(crate) fn load_numbers(
 ) -> Result<bool, AllocError>
     requires { most ≤ EXACT_LIMIT }
     ensures value { IfOk result (λ all. IsTrue all
-        → numbers.new ≡ numbers_of (batch_of islands.now)) }
+        → numbers.new ≡ batch_numbers (batch_of islands.now)) }
     ensures size { IfOk result (λ all. IsTrue all → AreAllWithin most numbers.new) }
 {
     numbers.clear();
@@ -226,7 +226,7 @@ fn store_behind(
 /// Gives islands side by side these velocities and accumulated impulses.
 pub(crate) fn store_numbers(islands: &mut [Island], numbers: &Numbers)
     requires { AreNumbersOf (batch_of islands.old) numbers.now }
-    ensures { islands.new ≡ islands_with numbers.now islands.old }
+    ensures { islands.new ≡ numbered_islands numbers.now islands.old }
 {
     let velocities = numbers.velocities();
     let impulses = numbers.impulses();

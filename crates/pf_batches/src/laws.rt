@@ -7,7 +7,7 @@ ghost use Rattle.pf_solver.specs.Impulse.{ContactState};
 ghost use Rattle.pf_solver.specs.Order.{AreLevelsOf, solved_at_once};
 ghost use Rattle.pf_solver.specs.Velocities.{Batch, Step, passes};
 ghost use Rattle.pf_bundles.specs.Numbers.{Numbers};
-ghost use Rattle.pf_batches.specs.Numbers.{AreNumbersOf, AreResults, AreRowsAt, batch_with, numbers_after_all, numbers_in_levels, seats_of};
+ghost use Rattle.pf_batches.specs.Numbers.{AreNumbersOf, AreResults, AreRowsOfPlaces, numbered_batch, numbers_after_all, numbers_in_levels, seats_of};
 
 use crate::bundle_step::GROWTH;
 use crate::together::START_LIMIT;
@@ -18,14 +18,14 @@ use crate::together::START_LIMIT;
 /// once. After so many passes it is the batch after as many passes along the list of rows.
 pub fn numbers_are_solved_as_the_batch()
     ensures level { (step : Step) (b : Batch) (n : Numbers) (level : List ℕ) (found : List Row)
-        (states : List ContactState) → AreNumbersOf b n → AreRowsAt b.rows level found
+        (states : List ContactState) → AreNumbersOf b n → AreRowsOfPlaces b.rows level found
         → AreResults step n level found states
-        → batch_with (numbers_after_all (seats_of level found) states n) b
-        ≡ solved_at_once level step (batch_with n b) }
+        → numbered_batch (numbers_after_all (seats_of level found) states n) b
+        ≡ solved_at_once level step (numbered_batch n b) }
     ensures passes { (k : ℕ) (step : Step) (b : Batch) (n : Numbers) (levels : List (List ℕ))
         → AreNumbersOf b n → AreLevelsOf b levels
-        → batch_with (numbers_in_levels k levels step b.rows n) b
-        ≡ passes k step (batch_with n b) }
+        → numbered_batch (numbers_in_levels k levels step b.rows n) b
+        ≡ passes k step (numbered_batch n b) }
 {}
 
 /// How great numbers can be before the rounds, and how much greater a step in lanes can make them,

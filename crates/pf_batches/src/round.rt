@@ -9,7 +9,7 @@ ghost use Rattle.pf_num.specs.Fx.{difference, sum};
 ghost use Rattle.pf_rot.specs.Vector.{scale};
 ghost use Rattle.pf_rows.specs.Small.{IsShort};
 ghost use Rattle.pf_batches.specs.Contact.{state_in};
-ghost use Rattle.pf_batches.specs.Limits.{AreGrown, AreShort, AreWithin, IsAddition, IsReady, SpinsWithin};
+ghost use Rattle.pf_batches.specs.Limits.{AreGrown, AreShort, IsContactWithin, IsAddition, IsReady, SpinsWithin};
 
 use crate::contact::ContactLanes;
 use crate::impulse::{
@@ -27,7 +27,8 @@ use pf_lanes::Lanes;
 fn normal_pushes(prepared: &PreparedLanes, state: &ContactLanes) -> Option<Lanes>
     requires ready { (k : Lane)
         → IsReady (constraint_in k prepared.now.constraint) (state_in k prepared.now state.now) }
-    requires numbers { (k : Lane) → AreWithin NUMBER_LIMIT (state_in k prepared.now state.now) }
+    requires numbers { (k : Lane)
+        → IsContactWithin NUMBER_LIMIT (state_in k prepared.now state.now) }
     ensures added { IfSome result (λ added. (k : Lane) → number_in k added ≡ difference
         (normal_impulse (constraint_in k prepared.now.constraint)
         (state_in k prepared.now state.now))
@@ -133,7 +134,8 @@ fn after_push(
 fn after_normal_step(prepared: &PreparedLanes, state: &ContactLanes) -> Option<ContactLanes>
     requires ready { (k : Lane)
         → IsReady (constraint_in k prepared.now.constraint) (state_in k prepared.now state.now) }
-    requires numbers { (k : Lane) → AreWithin NUMBER_LIMIT (state_in k prepared.now state.now) }
+    requires numbers { (k : Lane)
+        → IsContactWithin NUMBER_LIMIT (state_in k prepared.now state.now) }
     ensures value { IfSome result (λ after. (k : Lane) → state_in k prepared.now after
         ≡ after_normal_step (constraint_in k prepared.now.constraint)
         (state_in k prepared.now state.now)) }
@@ -158,7 +160,7 @@ fn tangent_pushes(prepared: &PreparedLanes, state: &ContactLanes) -> Option<Lane
     requires ready { (k : Lane)
         → IsReady (constraint_in k prepared.now.constraint) (state_in k prepared.now state.now) }
     requires numbers { (k : Lane)
-        → AreWithin (NUMBER_LIMIT + 2 ^ 30) (state_in k prepared.now state.now) }
+        → IsContactWithin (NUMBER_LIMIT + 2 ^ 30) (state_in k prepared.now state.now) }
     ensures added { IfSome result (λ added. (k : Lane) → number_in k added ≡ difference
         (tangent_impulse (constraint_in k prepared.now.constraint)
         (state_in k prepared.now state.now)) (number_in k state.now.tangent)) }
@@ -195,7 +197,7 @@ fn after_friction_step(prepared: &PreparedLanes, state: &ContactLanes) -> Option
     requires ready { (k : Lane)
         → IsReady (constraint_in k prepared.now.constraint) (state_in k prepared.now state.now) }
     requires numbers { (k : Lane)
-        → AreWithin (NUMBER_LIMIT + 2 ^ 30) (state_in k prepared.now state.now) }
+        → IsContactWithin (NUMBER_LIMIT + 2 ^ 30) (state_in k prepared.now state.now) }
     ensures value { IfSome result (λ after. (k : Lane) → state_in k prepared.now after
         ≡ after_friction_step (constraint_in k prepared.now.constraint)
         (state_in k prepared.now state.now)) }
@@ -212,7 +214,7 @@ fn after_friction_step(prepared: &PreparedLanes, state: &ContactLanes) -> Option
 #[inline(always)]
 #[tactic(auto, unfolding(pf_solver::specs::Impulse::after_round))]
 pub(crate) fn after_round(prepared: &PreparedLanes, state: &ContactLanes) -> Option<ContactLanes>
-    requires { (k : Lane) → AreWithin NUMBER_LIMIT (state_in k prepared.now state.now) }
+    requires { (k : Lane) → IsContactWithin NUMBER_LIMIT (state_in k prepared.now state.now) }
     ensures value { IfSome result (λ after. (k : Lane) → state_in k prepared.now after
         ≡ after_round (constraint_in k prepared.now.constraint)
         (state_in k prepared.now state.now)) }

@@ -1,7 +1,7 @@
 //! The numbers of one row in doubles, and in fixed-point numbers.
 
 ghost use Rattle.std.specs.Prelude.{◌≡◌, ◌≤◌, IfSome};
-ghost use Rattle.pf_batches.specs.Contact.{IsWithin, state_of};
+ghost use Rattle.pf_batches.specs.Contact.{IsSeatWithin, state_of};
 ghost use Rattle.pf_batches.specs.Numbers.{seat_state_from};
 
 use pf_bundles::{SeatState, WholeImpulses, WholeVelocity};
@@ -45,7 +45,7 @@ pub(crate) fn contact_of(
 pub(crate) fn seat_state_of(state: &ContactState, most: u64) -> Option<SeatState>
     requires { most ≤ EXACT_LIMIT }
     ensures value { IfSome result (λ seat. seat ≡ seat_state_from state.now) }
-    ensures size { IfSome result (λ seat. IsWithin most seat) }
+    ensures size { IfSome result (λ seat. IsSeatWithin most seat) }
 {
     let (first, second) = (&state.first, &state.second);
     Some(SeatState {

@@ -11,7 +11,7 @@ use crate::islands::{load_numbers, load_pairs, load_rows, store_numbers};
 use crate::passes::solve_numbers;
 use pf_bundles::{Bundle, LaneRow, Numbers, Workspace, load_bundles};
 use pf_islands::Island;
-use pf_levels::{Level, Levels, Overlap, Pair, WIDTH};
+use pf_levels::{Level, Levels, Overlap, RowPair, WIDTH};
 use pf_shapes::Scene;
 use pf_solver::{finish_island, prepare_island, solve_rounds};
 use std::alloc::{AllocError, Global};
@@ -37,7 +37,7 @@ fn lanes_pay(rows: usize, levels: usize) -> bool {
 #[tactic(auto, using(crate::proofs::OfLevels::more_bodies))]
 fn load_levels(
     islands: &[Island],
-    pairs: &mut Vec<Pair>,
+    pairs: &mut Vec<RowPair>,
     levels: &mut Levels,
 ) -> Result<usize, AllocError>
     requires { AreBatches islands.now }
@@ -55,7 +55,7 @@ fn load_levels(
 /// doubles do not hold a number, or one is too great.
 fn load_bundles_of(
     islands: &[Island],
-    pairs: &[Pair],
+    pairs: &[RowPair],
     levels: &Levels,
     rows: &mut Vec<LaneRow>,
     numbers: &mut Numbers,
@@ -83,7 +83,7 @@ fn overlap_pays(rows: usize, levels: usize, across: usize) -> bool {
 /// Finds the levels across two rounds, and makes their bundles. Returns how many levels are early
 /// ones; `None` where the levels have so little room that it does not pay.
 fn load_overlap(
-    pairs: &[Pair],
+    pairs: &[RowPair],
     bodies: usize,
     levels: &[Level],
     rows: &[LaneRow],

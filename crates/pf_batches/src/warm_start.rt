@@ -8,7 +8,7 @@ ghost use Rattle.pf_solver.specs.Impulse.{after_warm_start};
 ghost use Rattle.pf_lanes.specs.Lanes.{Lane, number_in};
 ghost use Rattle.pf_bundles.specs.Prepared.{constraint_in, vector_in};
 ghost use Rattle.pf_batches.specs.Contact.{state_in};
-ghost use Rattle.pf_batches.specs.Limits.{AreGrown, AreWithin};
+ghost use Rattle.pf_batches.specs.Limits.{AreGrown, IsContactWithin};
 
 use crate::contact::ContactLanes;
 use crate::impulse::{after_any_impulse, impulse_along, is_ready, twice};
@@ -83,7 +83,7 @@ pub(crate) fn after_warm_start(
     prepared: &PreparedLanes,
     state: &ContactLanes,
 ) -> Option<ContactLanes>
-    requires { (k : Lane) → AreWithin NUMBER_LIMIT (state_in k prepared.now state.now) }
+    requires { (k : Lane) → IsContactWithin NUMBER_LIMIT (state_in k prepared.now state.now) }
     ensures value { IfSome result (λ after. (k : Lane) → state_in k prepared.now after
         ≡ after_warm_start (constraint_in k prepared.now.constraint)
         (state_in k prepared.now state.now)) }

@@ -4,12 +4,12 @@ use Rattle.pf_bench.specs.declared.operation.Operation.{Operation}
 use Rattle.pf_bench.specs.declared.operation.Operation.TheVariants.{Add, Mul, Div, MulWide, DivWide, Root, Length, Turn}
 
 -- the word that names an operation
-abbrev pub word_of : Operation → List ℕ
-word_of Add = codes "add"
-word_of Mul = codes "mul"
-word_of Div = codes "div"
-word_of MulWide = codes "mul-wide"
-word_of DivWide = codes "div-wide"
-word_of Root = codes "root"
-word_of Length = codes "length"
-word_of Turn = codes "turn"
+abbrev pub operation_word : Operation → List ℕ
+operation_word Add = codes "add"
+operation_word Mul = codes "mul"
+operation_word Div = codes "div"
+operation_word MulWide = codes "mul-wide"
+operation_word DivWide = codes "div-wide"
+operation_word Root = codes "root"
+operation_word Length = codes "length"
+operation_word Turn = codes "turn"

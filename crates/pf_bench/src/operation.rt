@@ -2,7 +2,7 @@
 
 ghost use Rattle.std.specs.Prelude.{◌≡◌, IfSome};
 ghost use Rattle.pf_bench.specs.declared.operation.Operation.{Operation};
-ghost use Rattle.pf_bench.specs.Operation.{word_of};
+ghost use Rattle.pf_bench.specs.Operation.{operation_word};
 
 /// What the steps of a chain do.
 #[derive(Clone, Copy, Debug, PartialEq, Eq)]
@@ -22,8 +22,8 @@ pub enum Operation {
 impl Operation {
     /// The operation of this word.
     pub fn parse(word: &str) -> Option<Operation>
-        ensures known { (o : Operation) → word.now ≡ word_of o → result ≡ Some o }
-        ensures value { IfSome result (λ o. word.now ≡ word_of o) }
+        ensures known { (o : Operation) → word.now ≡ operation_word o → result ≡ Some o }
+        ensures value { IfSome result (λ o. word.now ≡ operation_word o) }
     {
         match word {
             "add" => Some(Operation::Add),

@@ -1,11 +1,11 @@
 -- The bundle of each level.
 use Rattle.std.proofs.Common.{◌≡◌, ℕ, zero, suc, ◌<◌, List, [], ◌∷◌, ◌++◌, length, refl, sym, ap, subst, arith}
 use Rattle.std.specs.Prelude.{slice_index_or}
-use Rattle.pf_levels.specs.Levels.{Pair}
+use Rattle.pf_levels.specs.Levels.{RowPair}
 use Rattle.pf_bundles.specs.Bundle.{AreBundlesOf, Bundle, IsBundleOf}
 use Rattle.pf_bundles.specs.LaneRow.{LaneRow}
 
-module _ (pairs : List Pair) (rows : List LaneRow) where
+module _ (pairs : List RowPair) (rows : List LaneRow) where
   -- there are as many bundles as levels
   pub as_many : (levels : List (List ℕ)) (bundles : List Bundle) → AreBundlesOf pairs rows levels bundles → length bundles ≡ length levels
   as_many [] [] are = refl

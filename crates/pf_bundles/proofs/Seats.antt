@@ -6,7 +6,7 @@ use Rattle.pf_rows.specs.Row.{IsSide}
 use Rattle.pf_rows.specs.declared.row.Side.{Side}
 use Rattle.pf_rows.specs.declared.row.Side.TheVariants.{Dynamic, Static}
 use Rattle.pf_lanes.specs.Lanes.{First, Fourth, Lane, Second, Third}
-use Rattle.pf_levels.specs.Levels.{Pair}
+use Rattle.pf_levels.specs.Levels.{RowPair}
 use Rattle.pf_bundles.specs.Bundle.{Seat, lane_row_or, row_of_lane, seat_at}
 use Rattle.pf_bundles.specs.LaneRow.{LaneRow, row_in}
 use Rattle.pf_bundles.specs.Numbers.{Numbers, Velocity, no_velocity}
@@ -122,7 +122,7 @@ rest_kept (x ∷ velocities) (y ∷ impulses) v p = refl
 
 -- ---- the lanes of a level
 
-pub seats_of_level : (pairs : List Pair) (places : List ℕ) → length places ≤ 4
+pub seats_of_level : (pairs : List RowPair) (places : List ℕ) → length places ≤ 4
     → taken_seats (seat_or pairs (slice_get places 0) ∷ seat_or pairs (slice_get places 1) ∷ seat_or pairs (slice_get places 2) ∷ seat_or pairs (slice_get places 3) ∷ [])
     ≡ map (seat_at pairs) places
 seats_of_level pairs [] h = refl

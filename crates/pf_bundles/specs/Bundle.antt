@@ -3,7 +3,7 @@ use Rattle.std.specs.Prelude.{◌≡◌, ⊤, ℕ, List, [], ◌∷◌, None, Op
 use Rattle.pf_lanes.specs.Lanes.{First, Fourth, Lane, Second, Third}
 use Rattle.pf_rows.specs.declared.row.Side.{Side}
 use Rattle.pf_rows.specs.declared.row.Side.TheVariants.{Static}
-use Rattle.pf_levels.specs.Levels.{Pair}
+use Rattle.pf_levels.specs.Levels.{RowPair}
 use Rattle.pf_bundles.specs.LaneRow.{LaneRow, lane_row_in, no_lane_row}
 use Rattle.pf_bundles.specs.Prepared.{PreparedLanes}
 
@@ -26,7 +26,7 @@ lane_number Third = 2
 lane_number Fourth = 3
 
 -- the seat of the row at a place
-abbrev pub seat_at : List Pair → ℕ → Seat
+abbrev pub seat_at : List RowPair → ℕ → Seat
 seat_at pairs p =
     let pair = slice_index_or pairs p (record { first = Static; second = Static }) in
     record { place = p; first = pair.first; second = pair.second }
@@ -42,12 +42,12 @@ row_of_lane rows level k = lane_row_or rows (slice_get level (lane_number k))
 
 -- the rows at the places of a level: each lane holds its row, and the seats are in this order
 pub record IsBundleOf
-    (pairs : List Pair) (rows : List LaneRow) (level : List ℕ) (bundle : Bundle) : Type 0 where
+    (pairs : List RowPair) (rows : List LaneRow) (level : List ℕ) (bundle : Bundle) : Type 0 where
   pub seats : bundle.seats ≡ map (seat_at pairs) level
   pub lanes : (k : Lane) → lane_row_in k bundle.prepared ≡ row_of_lane rows level k
 
 -- a bundle of each level, in the order of the levels
-abbrev pub AreBundlesOf : List Pair → List LaneRow → List (List ℕ) → List Bundle → Type 0
+abbrev pub AreBundlesOf : List RowPair → List LaneRow → List (List ℕ) → List Bundle → Type 0
 AreBundlesOf pairs rows [] [] = ⊤
 AreBundlesOf pairs rows (level ∷ levels) (bundle ∷ bundles) =
     IsBundleOf pairs rows level bundle × AreBundlesOf pairs rows levels bundles

@@ -14,7 +14,7 @@ pub record HasShortProducts (n : ℕ) (v : V2) : Type 0 where
 -- ---- constraints
 
 -- the directions and the bias of a constraint are small
-pub record IsSmall (c : Constraint) : Type 0 where
+pub record IsSmallConstraint (c : Constraint) : Type 0 where
   pub normal : IsShort LANE_DIRECTION_LIMIT c.normal
   pub tangent : IsShort LANE_DIRECTION_LIMIT c.tangent
   pub bias : unsigned_abs c.bias ≤ NUMBER_LIMIT
@@ -42,16 +42,17 @@ IsTriedSpin spin =
 -- ---- impulses
 
 -- the sum of the magnitudes of both parts of an arm
-abbrev pub reach : V2 → ℕ
-reach arm = unsigned_abs arm.x + unsigned_abs arm.y
+abbrev pub arm_reach : V2 → ℕ
+arm_reach arm = unsigned_abs arm.x + unsigned_abs arm.y
 
 -- what impulses of which no part is above `push` do to a body of this mass at this arm is exact in
 -- doubles, and changes its spin by `spin` at most
 pub record IsPushLimitOf (m : InverseMass) (arm : V2) (spin push : ℕ) : Type 0 where
-  pub moment : push * reach arm < PRODUCT_LIMIT
+  pub moment : push * arm_reach arm < PRODUCT_LIMIT
   pub change : push * unsigned_abs m.inverse_mass < PRODUCT_LIMIT
-  pub exact : (push * reach arm + 2 ^ 24) * unsigned_abs m.inverse_inertia < PRODUCT_LIMIT * 2 ^ 24
-  pub turn : (push * reach arm + 2 ^ 24) * unsigned_abs m.inverse_inertia ≤ spin * 2 ^ 48
+  pub exact : (push * arm_reach arm + 2 ^ 24) * unsigned_abs m.inverse_inertia
+      < PRODUCT_LIMIT * 2 ^ 24
+  pub turn : (push * arm_reach arm + 2 ^ 24) * unsigned_abs m.inverse_inertia ≤ spin * 2 ^ 48
 
 -- and so for both bodies of a constraint
 pub record IsPushLimit (c : Constraint) (a b : InverseMass) (spin push : ℕ) : Type 0 where
@@ -69,7 +70,7 @@ IsTriedPush push =
 
 -- the limits of spins and of impulses in a lane
 pub record AreLimits (c : Constraint) (a b : InverseMass) (spin push : ℕ) : Type 0 where
-  pub small : IsSmall c
+  pub small : IsSmallConstraint c
   pub spins : IsSpinLimit c spin
   pub pushes : IsPushLimit c a b spin push
 

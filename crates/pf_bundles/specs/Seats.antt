@@ -7,7 +7,7 @@ use Rattle.pf_rows.specs.Impulses.{Impulses, no_impulses}
 use Rattle.pf_rows.specs.Row.{IsSide}
 use Rattle.pf_rows.specs.declared.row.Side.{Side}
 use Rattle.pf_rows.specs.declared.row.Side.TheVariants.{Dynamic, Static}
-use Rattle.pf_levels.specs.Levels.{Pair}
+use Rattle.pf_levels.specs.Levels.{RowPair}
 use Rattle.pf_levels.specs.declared.level.TheConstants.{WIDTH}
 use Rattle.pf_bundles.specs.Bundle.{Seat, lane_number, seat_at}
 use Rattle.pf_bundles.specs.Numbers.{Numbers, Velocity, no_velocity}
@@ -84,7 +84,7 @@ abbrev pub lane_seat : Lane → List (Option Seat) → Option Seat
 lane_seat k seats = slice_index_or seats (lane_number k) None
 
 -- the seat of the row at a place, if there is one
-abbrev pub seat_or : List Pair → Option ℕ → Option Seat
+abbrev pub seat_or : List RowPair → Option ℕ → Option Seat
 seat_or pairs None = None
 seat_or pairs (Some p) = Some (seat_at pairs p)
 

@@ -9,7 +9,7 @@ ghost use Rattle.pf_bundles.specs.Seats.{AreFirst, seat_or, taken_seats};
 use crate::lane_row::LaneRow;
 use crate::prepared::PreparedLanes;
 use crate::seat::LaneSeat;
-use pf_levels::{Level, Pair, WIDTH};
+use pf_levels::{Level, RowPair, WIDTH};
 use std::alloc::AllocError;
 use std::marker::Model;
 
@@ -47,7 +47,7 @@ fn lane_row(rows: &[LaneRow], places: &[usize], lane: usize) -> LaneRow
 
 /// The seat of a lane, by the row of a level that it holds.
 #[inline]
-fn seat_of(places: &[usize], pairs: &[Pair], lane: usize) -> LaneSeat
+fn seat_of(places: &[usize], pairs: &[RowPair], lane: usize) -> LaneSeat
     requires pairs { ArePairsOf (2 ^ 64 - 1) pairs.now }
     requires places { All (λ p. p < length pairs.now) places.now }
     ensures { result ≡ seat_or pairs.now (slice_get places.now lane) }
@@ -60,7 +60,7 @@ fn seat_of(places: &[usize], pairs: &[Pair], lane: usize) -> LaneSeat
 
 impl Bundle {
     /// The rows at the places of a level.
-    pub fn of(places: &[usize], pairs: &[Pair], rows: &[LaneRow]) -> Bundle
+    pub fn of(places: &[usize], pairs: &[RowPair], rows: &[LaneRow]) -> Bundle
         requires fits { length places.now ≤ WIDTH }
         requires sides { ArePairsOf (2 ^ 64 - 1) pairs.now }
         requires pairs { All (λ p. p < length pairs.now) places.now }
@@ -107,7 +107,7 @@ impl Bundle {
 pub fn load_bundles(
     bundles: &mut Vec<Bundle>,
     levels: &[Level],
-    pairs: &[Pair],
+    pairs: &[RowPair],
     rows: &[LaneRow],
 ) -> Result<(), AllocError>
     requires sides { ArePairsOf (2 ^ 64 - 1) pairs.now }

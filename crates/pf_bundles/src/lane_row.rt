@@ -4,7 +4,7 @@ ghost use Rattle.std.specs.Prelude.{◌≡◌, ◌+◌, ◌*◌, ◌^◌, ◌<�
 ghost use Rattle.std.specs.Int.RustNames.{unsigned_abs};
 ghost use Rattle.pf_rows.specs.Small.{IsShort};
 ghost use Rattle.pf_bundles.specs.LaneRow.{arm_on, mass_on};
-ghost use Rattle.pf_bundles.specs.Limits.{HasShortArms, IsPushLimit, IsPushLimitOf, IsSmall, IsSpinLimit, IsTriedPush, IsTriedSpin, reach};
+ghost use Rattle.pf_bundles.specs.Limits.{HasShortArms, IsPushLimit, IsPushLimitOf, IsSmallConstraint, IsSpinLimit, IsTriedPush, IsTriedSpin, arm_reach};
 
 use crate::limits::{
     HALF_ARM, HALF_ARM_SPIN, LANE_DIRECTION_LIMIT, LANE_LIMIT, LEAST_PUSH, LONG_ARM, LONG_ARM_SPIN,
@@ -110,7 +110,7 @@ impl Model for LaneRow {
 /// Whether directions and bias are within their limits.
 #[inline]
 fn has_small_numbers(c: &Constraint) -> bool
-    ensures { IsTrue result ↔ IsSmall c.now }
+    ensures { IsTrue result ↔ IsSmallConstraint c.now }
 {
     is_short(c.normal, LANE_DIRECTION_LIMIT)
         && is_short(c.tangent, LANE_DIRECTION_LIMIT)
@@ -155,9 +155,9 @@ fn spin_limit_of(c: &Constraint) -> Option<u64>
 
 /// The sum of the magnitudes of both parts of an arm.
 #[inline]
-fn reach(arm: V2) -> u64
+fn arm_reach(arm: V2) -> u64
     requires { IsShort LONGEST_ARM arm }
-    ensures value { result ≡ reach arm }
+    ensures value { result ≡ arm_reach arm }
     ensures size { result ≤ 2 ^ 30 }
 {
     arm.x.raw().unsigned_abs() + arm.y.raw().unsigned_abs()
@@ -185,7 +185,7 @@ fn is_push_limit_of(mass: &InverseMass, arm: V2, spin: u64, push: u64) -> bool
     requires push { push ≤ LANE_LIMIT }
     ensures { IsTrue result ↔ IsPushLimitOf mass.now arm spin push }
 {
-    let moment = push * reach(arm);
+    let moment = push * arm_reach(arm);
     let change = push as u128 * mass.inverse_mass.raw().unsigned_abs() as u128;
     moment < PRODUCT_LIMIT
         && change < PRODUCT_LIMIT as u128
@@ -270,7 +270,7 @@ impl WholeConstraint {
     ghost use Rattle.std.specs.Prelude.{◌≡◌, ◌↔◌, IfSome, IsSome};
     ghost use Rattle.pf_rows.specs.Row.{no_constraint};
     ghost use Rattle.pf_bundles.specs.LaneRow.{ConstraintFits};
-    ghost use Rattle.pf_bundles.specs.Limits.{HasShortArms, IsSmall};
+    ghost use Rattle.pf_bundles.specs.Limits.{HasShortArms, IsSmallConstraint};
 
     /// That of no row.
     fn none() -> WholeConstraint
@@ -292,7 +292,7 @@ impl WholeConstraint {
     /// This constraint, or `None` where doubles do not hold an effective mass or the friction.
     #[inline]
     fn of(c: &Constraint) -> Option<WholeConstraint>
-        requires small { IsSmall c.now }
+        requires small { IsSmallConstraint c.now }
         requires arms { HasShortArms LONGEST_ARM c.now }
         ensures value { IfSome result (λ whole. whole ≡ c.now) }
         ensures fits { IsSome result ↔ ConstraintFits c.now }

@@ -4,7 +4,7 @@ ghost use Rattle.std.specs.Prelude.{◌≡◌, ◌-◌, ◌^◌};
 ghost use Rattle.pf_rows.specs.Row.{IsSide};
 ghost use Rattle.pf_bundles.specs.Seats.{side_index};
 
-use pf_levels::Pair;
+use pf_levels::RowPair;
 use pf_rows::Side;
 use std::marker::Model;
 
@@ -36,7 +36,11 @@ impl Model for LaneSeat {
       second = second_index v;
     } };
 
-    ghost inverse_ok = { λ s h i. record { row = h.row i; first = h.first i; second = h.second i } };
+    ghost inverse_ok = { λ s h i. record {
+      row = h.row i;
+      first = h.first i;
+      second = h.second i;
+    } };
 }
 
 /// The index of the velocity of the body on a side.
@@ -70,7 +74,7 @@ impl LaneSeat {
 
     /// That of the row at this place, of bodies on these sides.
     #[inline]
-    pub fn of(place: usize, pair: &Pair) -> LaneSeat
+    pub fn of(place: usize, pair: &RowPair) -> LaneSeat
         requires place { place < 2 ^ 64 - 1 }
         requires first { IsSide (2 ^ 64 - 1) pair.now.first }
         requires second { IsSide (2 ^ 64 - 1) pair.now.second }

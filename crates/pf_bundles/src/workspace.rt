@@ -6,7 +6,7 @@ ghost use Rattle.pf_levels.specs.Levels.{no_levels};
 use crate::bundle::Bundle;
 use crate::lane_row::LaneRow;
 use crate::numbers::Numbers;
-use pf_levels::{Levels, Overlap, Pair};
+use pf_levels::{Levels, Overlap, RowPair};
 use std::alloc::Global;
 use std::fmt::{Debug, Error, Formatter, Write};
 
@@ -16,7 +16,7 @@ use std::fmt::{Debug, Error, Formatter, Write};
 #[derive(Drop)]
 pub struct Workspace {
     /// The sides of the bodies of all rows.
-    pub pairs: Vec<Pair>,
+    pub pairs: Vec<RowPair>,
     /// The levels of the rows.
     pub levels: Levels,
     /// The levels across two rounds.

@@ -11,11 +11,11 @@ Tells value old new (Ok answer) = new ≡ value answer
 Tells value old new (Err error) = new ≡ old
 
 -- an output is written from what a call returned, and stays as it was where there is nothing
-abbrev pub Writes : {A B : Type 0} → (A → B → Type 0) → B → B → Option (Result A ContextError)
+abbrev pub WritesOutput : {A B : Type 0} → (A → B → Type 0) → B → B → Option (Result A ContextError)
     → Type 0
-Writes Value old new (Some (Ok answer)) = Value answer new
-Writes Value old new (Some (Err error)) = new ≡ old
-Writes Value old new None = new ≡ old
+WritesOutput Value old new (Some (Ok answer)) = Value answer new
+WritesOutput Value old new (Some (Err error)) = new ≡ old
+WritesOutput Value old new None = new ≡ old
 
 module _ {A : Type 0} (Call : Context → Context → Result A ContextError → Type 0)
     (old new : Option Context) (result : Option (Result A ContextError)) where

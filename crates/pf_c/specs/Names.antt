@@ -55,9 +55,11 @@ code_text code =
     if code == 17 then codes "a number is no whole one, or out of its range" else (
     if code == 18 then codes "the scene has as many bodies as it may have" else (
     if code == 19 then codes "a mass is neither 0 nor from 1/16 to 1,024 (2^20 to 2^34 raw)" else (
-    if code == 20 then codes "a radius or a half extent is not from 1/16 to 1,024 (2^20 to 2^34 raw)" else (
+    if code == 20
+    then codes "a radius or a half extent is not from 1/16 to 1,024 (2^20 to 2^34 raw)" else (
     if code == 32 then codes "the last tick, 1,048,576, leaves no tick for this" else (
-    if code == 33 then codes "the player has no number left for a command at the reached tick" else (
+    if code == 33
+    then codes "the player has no number left for a command at the reached tick" else (
     if code == 34 then codes "the tick is above the reached tick" else (
     if code == 35 then codes "the tick is before the horizon: what came before it is sealed" else (
     if code == 36 then codes "the horizons differ" else (
@@ -70,7 +72,8 @@ code_text code =
     if code == 53 then codes "a field of the frame is out of its range" else (
     if code == 64 then codes "the scene has no body of this number" else (
     if code == 65 then codes "the body is static" else (
-    if code == 66 then codes "the body belongs to another player, or to nobody" else ([])))))))))))))))))))))))))))))))
+    if code == 66 then codes "the body belongs to another player, or to nobody"
+    else ([])))))))))))))))))))))))))))))))
 
 -- a text with a zero behind it is written where it fits, and else nothing
 pub record WritesText (text old new : List ℕ) (code : ℕ) : Type 0 where

@@ -15,6 +15,6 @@ material_of m = record {
 }
 
 -- the number of the line that is invalid, and else what was there
-abbrev pub line_of : {A : Type 0} → ℕ → Result A ContextError → ℕ
-line_of old (Err (errors.Line number fault)) = number
-line_of old other = old
+abbrev pub invalid_line : {A : Type 0} → ℕ → Result A ContextError → ℕ
+invalid_line old (Err (errors.Line number fault)) = number
+invalid_line old other = old

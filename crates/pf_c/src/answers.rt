@@ -1,7 +1,7 @@
 //! How an export answers: the code of how its call ended, and its output.
 
 ghost use Rattle.std.specs.Prelude.{◌≡◌};
-ghost use Rattle.pf_c.specs.Calls.{Writes};
+ghost use Rattle.pf_c.specs.Calls.{WritesOutput};
 ghost use Rattle.pf_c.specs.Codes.{code_of, end_code};
 
 use crate::codes::{PF_CLOSED, PF_OK, error_code};
@@ -30,7 +30,7 @@ pub(crate) fn end_code<T>(answer: &Option<Result<T, ContextError>>) -> u32
 /// Writes what a call returned to an output, and returns the code of how it ended.
 pub(crate) fn tell<T: Copy>(answer: Option<Result<T, ContextError>>, output: &mut T) -> u32
     ensures code { result ≡ end_code answer }
-    ensures output { Writes (λ told new. new ≡ told) output.old output.new answer }
+    ensures output { WritesOutput (λ told new. new ≡ told) output.old output.new answer }
 {
     tell_as(answer, output, |told| told)
 }
@@ -43,7 +43,7 @@ pub(crate) fn tell_as<T: Copy, U: Copy, F: FnOnce(T) -> U>(
 ) -> u32
     requires { F.IsAlwaysCallable form }
     ensures code { result ≡ end_code answer }
-    ensures output { Writes (F.post form) output.old output.new answer }
+    ensures output { WritesOutput (F.post form) output.old output.new answer }
 {
     if let Some(Ok(told)) = answer {
         *output = form(told);

@@ -3,11 +3,11 @@
 ghost use Rattle.std.specs.Prelude.{◌≡◌, Ok};
 ghost use Rattle.pf_commands.specs.Frame.{decode};
 ghost use Rattle.pf_commands.specs.declared.payload.Payload.TheVariants.{Stop};
-ghost use Rattle.pf_rollback.specs.Calls.{Takes};
+ghost use Rattle.pf_rollback.specs.Calls.{TakesFrame};
 ghost use Rattle.pf_context.specs.Errors.{peer_error};
 ghost use Rattle.pf_context.specs.Calls.{CallsPeer};
 ghost use Rattle.pf_context.specs.Merging.{IsMerge, MergesPeer, MergesPeerAlone};
-ghost use Rattle.pf_context.specs.Numbers.{place_of, push_of, turn_of};
+ghost use Rattle.pf_context.specs.Numbers.{place_payload, push_payload, turn_payload};
 ghost use Rattle.pf_c.specs.Calls.{Answers, Tells};
 ghost use Rattle.pf_c.specs.Codes.{put_code};
 ghost use Rattle.pf_c.specs.Commands.{IssuesPayload, frame_of};
@@ -75,7 +75,7 @@ pub extern "C" fn pf_peer_push(
     frame: &mut PfFrame,
 ) -> u32
     ensures { Answers
-        (λ before after answer. IssuesPayload peer (push_of body impulse) before after answer)
+        (λ before after answer. IssuesPayload peer (push_payload body impulse) before after answer)
         (Tells frame_of frame.old frame.new)
         context.old.handle.value context.new.handle.value result (frame.new ≡ frame.old) }
 {
@@ -93,7 +93,7 @@ pub extern "C" fn pf_peer_turn(
     frame: &mut PfFrame,
 ) -> u32
     ensures { Answers
-        (λ before after answer. IssuesPayload peer (turn_of body impulse) before after answer)
+        (λ before after answer. IssuesPayload peer (turn_payload body impulse) before after answer)
         (Tells frame_of frame.old frame.new)
         context.old.handle.value context.new.handle.value result (frame.new ≡ frame.old) }
 {
@@ -128,7 +128,8 @@ pub extern "C" fn pf_peer_place(
     frame: &mut PfFrame,
 ) -> u32
     ensures { Answers
-        (λ before after answer. IssuesPayload peer (place_of body position) before after answer)
+        (λ before after answer.
+        IssuesPayload peer (place_payload body position) before after answer)
         (Tells frame_of frame.old frame.new)
         context.old.handle.value context.new.handle.value result (frame.new ≡ frame.old) }
 {
@@ -146,7 +147,7 @@ pub extern "C" fn pf_peer_take(
     put: &mut u32,
 ) -> u32
     ensures { Answers (λ before after answer.
-        CallsPeer peer_error before after peer answer (Takes (decode frame.now)))
+        CallsPeer peer_error before after peer answer (TakesFrame (decode frame.now)))
         (Tells put_code put.old put.new)
         context.old.handle.value context.new.handle.value result (put.new ≡ put.old) }
 {
@@ -182,7 +183,8 @@ pub extern "C" fn pf_peer_merge_alone(
     other: Key,
     count: &mut u64,
 ) -> u32
-    ensures { Answers (IsMerge MergesPeerAlone peer other) (Tells (λ news. news) count.old count.new)
+    ensures { Answers (IsMerge MergesPeerAlone peer other)
+        (Tells (λ news. news) count.old count.new)
         context.old.handle.value context.new.handle.value result (count.new ≡ count.old) }
 {
     let answer = context.call(alloc, |inside| inside.merge_alone(peer, other));

@@ -6,7 +6,7 @@ ghost use Rattle.pf_context.specs.Context.{scene_at, without_scene};
 ghost use Rattle.pf_context.specs.Calls.{AddsRead, AddsScene, CallsScene, Frees, Pushes};
 ghost use Rattle.pf_context.specs.Numbers.{box_of, circle_of, scene_of_gravity, turned_at, upright_at};
 ghost use Rattle.pf_c.specs.Calls.{Answers, Tells};
-ghost use Rattle.pf_c.specs.Scenes.{line_of, material_of};
+ghost use Rattle.pf_c.specs.Scenes.{invalid_line, material_of};
 
 use crate::answers::{end_code, tell, tell_as};
 use crate::held::PfContext;
@@ -55,7 +55,7 @@ pub extern "C" fn pf_scene_read(
 ) -> u32
     ensures { Answers (λ before after answer. AddsRead text.now before after answer)
         (λ answer. Tells (λ key. key) scene.old scene.new answer
-        × (line.new ≡ line_of line.old answer))
+        × (line.new ≡ invalid_line line.old answer))
         context.old.handle.value context.new.handle.value result
         ((scene.new ≡ scene.old) × (line.new ≡ line.old)) }
 {

@@ -6,7 +6,7 @@ use Rattle.std.specs.Prelude.{if◌then◌else◌, get_or}
 use Rattle.pf_manifold.specs.Key.{Key, IsRising, rank}
 use Rattle.pf_rows.specs.Impulses.{no_impulses}
 use Rattle.pf_cache.specs.Contact.{Contact, impulses_at}
-use Rattle.pf_cache.specs.Laws.{AreFound, IsNew}
+use Rattle.pf_cache.specs.Laws.{AreFoundByKey, IsNew}
 use Rattle.pf_manifold.proofs.Rising.{rising-all}
 use Rattle.pf_cache.proofs.Places.{other_rank}
 
@@ -20,7 +20,7 @@ own_rank c contacts = by (rank c.key == rank c.key) ((Decides-eqb (rank c.key) (
     by true e = refl
     by false e = absurd (true≢false (sym e))
 
-pub all_found : (least : ℕ) (contacts : List Contact) → IsRising least (map rank_of contacts) → AreFound contacts
+pub all_found : (least : ℕ) (contacts : List Contact) → IsRising least (map rank_of contacts) → AreFoundByKey contacts
 all_found least [] h = All-nil (λ c. impulses_at (rank c.key) [] ≡ c.impulses)
 all_found least (c ∷ contacts) h =
     let above = rising-all rank_of (suc (rank c.key)) contacts h.1 in

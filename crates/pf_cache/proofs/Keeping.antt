@@ -14,7 +14,7 @@ use Rattle.pf_manifold.specs.Key.{AreTouches}
 use Rattle.pf_manifold.specs.PlacedShape.{PlacedShape}
 use Rattle.pf_manifold.specs.Touches.{Touch}
 use Rattle.pf_manifold.proofs.KeyOrder.{touches_in_order}
-use Rattle.pf_cache.specs.Manifolds.{Manifolds, computed_count, has_pair, is_unmoved, placed_shapes, points_of_pair}
+use Rattle.pf_cache.specs.Manifolds.{Manifolds, computed_count, lists_pair, is_unmoved, placed_shapes, points_of_pair}
 use Rattle.pf_cache.specs.Spans.{ArePlaced, AreRefreshed, AreSpans, IsKeptSpan, IsSpan, Span, are_unmoved, computed_count_by_flags, spans_from, unmoved_flags}
 use Rattle.pf_cache.proofs.Bounded.{length-placed_shapes}
 use Rattle.pf_cache.proofs.Refreshing.{placed_end, placed_from, spans_here, spans_of_both}
@@ -30,7 +30,7 @@ flags_are old shapes p = ap₂ (λ s t. s && t) (flag_at old shapes p.a) (flag_a
 pub counted : (m : Manifolds) (shapes : List PlacedShape) (pairs : List Pair)
     → computed_count_by_flags m.pairs (unmoved_flags m.shapes shapes) pairs ≡ computed_count m shapes pairs
 counted m shapes pairs =
-    ap (λ (test : Pair → Bool). count_by test pairs) (λ i p. not (has_pair m.pairs p && flags_are m.shapes shapes p i))
+    ap (λ (test : Pair → Bool). count_by test pairs) (λ i p. not (lists_pair m.pairs p && flags_are m.shapes shapes p i))
 
 -- spans of points as the bodies stood
 module _ (old : List PlacedShape) (spans : List Span) (touches : List Touch) (are : AreSpans old spans touches) where
@@ -104,7 +104,7 @@ module _ (shapes : List PlacedShape) (spans rest_spans : List Span) (touches res
 pub counts_add : (kept : List Pair) (unmoved : List Bool) (pairs : List Pair) (i : ℕ)
     → computed_count_by_flags kept unmoved (take i pairs) + computed_count_by_flags kept unmoved (drop i pairs) ≡ computed_count_by_flags kept unmoved pairs
 counts_add own unmoved pairs i =
-    let test : Pair → Bool = λ p. not (has_pair own p && are_unmoved unmoved p) in
+    let test : Pair → Bool = λ p. not (lists_pair own p && are_unmoved unmoved p) in
     let first = take i pairs in
     let second = drop i pairs in
     let one = length-filter test first in

@@ -14,7 +14,7 @@ use Rattle.pf_manifold.specs.Key.{key_of}
 use Rattle.pf_manifold.specs.PlacedShape.{PlacedShape}
 use Rattle.pf_manifold.specs.Touches.{Touch}
 use Rattle.pf_cache.specs.Contact.{HaveSameFirst}
-use Rattle.pf_cache.specs.Manifolds.{has_pair, points_of_pair}
+use Rattle.pf_cache.specs.Manifolds.{lists_pair, points_of_pair}
 use Rattle.pf_cache.specs.Spans.{ArePlaced, AreRefreshed, IsKeptSpan, IsSpan, Span, are_unmoved, computed_count_by_flags, span_points, spans_from}
 use Rattle.pf_cache.proofs.FirstKeys.{fewer_same}
 use Rattle.pf_cache.proofs.Reusable.{Decides-pair}
@@ -322,10 +322,10 @@ module _ (shapes : List PlacedShape) (spans : List Span) (pairs : List Pair) (st
 
 -- the pair of a span is one of the spans' pairs
 has_pair_of : (spans : List Span) (i : ℕ) (s : Span) → i < length spans → s ≡ get_or spans i s
-    → has_pair (map (λ x. x.pair) spans) s.pair ≡ true
+    → lists_pair (map (λ x. x.pair) spans) s.pair ≡ true
 has_pair_of [] i s within is = absurd (omega (arith, within))
 has_pair_of (x ∷ spans) zero s within is =
-    ap (λ t. t || has_pair (map (λ y. y.pair) spans) s.pair)
+    ap (λ t. t || lists_pair (map (λ y. y.pair) spans) s.pair)
     ((Decides-pair x.pair s.pair).1 (ap (λ (y : Span). y.pair) (sym is)))
 has_pair_of (x ∷ spans) (suc i) s within is =
     ap (λ t. ((x.pair.a == s.pair.a) && (x.pair.b == s.pair.b)) || t) (has_pair_of spans i s (omega (arith, within)) is)
@@ -337,30 +337,30 @@ has_pair_of (x ∷ spans) (suc i) s within is =
 
 module _ (kept : List Pair) (unmoved : List Bool) (pairs : List Pair) (i : ℕ) (p : Pair) (within : i < length pairs)
     (p_is : p ≡ get_or pairs i p) where
-  test_is : (b : Bool) → not (has_pair kept p && are_unmoved unmoved p) ≡ b
-      → not (has_pair kept (get_or pairs i p) && are_unmoved unmoved (get_or pairs i p)) ≡ b
-  test_is b e = ap (λ q. not (has_pair kept q && are_unmoved unmoved q)) (sym p_is) ∙ e
+  test_is : (b : Bool) → not (lists_pair kept p && are_unmoved unmoved p) ≡ b
+      → not (lists_pair kept (get_or pairs i p) && are_unmoved unmoved (get_or pairs i p)) ≡ b
+  test_is b e = ap (λ q. not (lists_pair kept q && are_unmoved unmoved q)) (sym p_is) ∙ e
 
   -- a pair that has to be computed
   pub missing_more : (count : ℕ) → count ≡ computed_count_by_flags kept unmoved (take i pairs)
-      → not (has_pair kept p && are_unmoved unmoved p) ≡ true
+      → not (lists_pair kept p && are_unmoved unmoved p) ≡ true
       → count + 1 ≡ computed_count_by_flags kept unmoved (take (i + 1) pairs)
   missing_more count done missing =
       ap (λ n. n + 1) done
-      ∙ sym (count_by_more_yes (λ q. not (has_pair kept q && are_unmoved unmoved q)) pairs i p within (test_is true missing))
+      ∙ sym (count_by_more_yes (λ q. not (lists_pair kept q && are_unmoved unmoved q)) pairs i p within (test_is true missing))
 
   -- a pair whose points are there
   pub missing_same : (count : ℕ) → count ≡ computed_count_by_flags kept unmoved (take i pairs)
-      → not (has_pair kept p && are_unmoved unmoved p) ≡ false
+      → not (lists_pair kept p && are_unmoved unmoved p) ≡ false
       → count ≡ computed_count_by_flags kept unmoved (take (i + 1) pairs)
   missing_same count done there =
       done
-      ∙ sym (count_by_more_no (λ q. not (has_pair kept q && are_unmoved unmoved q)) pairs i p within (test_is false there))
+      ∙ sym (count_by_more_no (λ q. not (lists_pair kept q && are_unmoved unmoved q)) pairs i p within (test_is false there))
 
   -- where a body moved
   pub moved_more : (count : ℕ) → count ≡ computed_count_by_flags kept unmoved (take i pairs) → are_unmoved unmoved p ≡ false
       → count + 1 ≡ computed_count_by_flags kept unmoved (take (i + 1) pairs)
-  moved_more count done moved = missing_more count done (ap (λ t. not (has_pair kept p && t)) moved ∙ none (has_pair kept p))
+  moved_more count done moved = missing_more count done (ap (λ t. not (lists_pair kept p && t)) moved ∙ none (lists_pair kept p))
     where
       none : (t : Bool) → not (t && false) ≡ true
       none true = refl
@@ -371,6 +371,6 @@ module _ (kept : List Pair) (unmoved : List Bool) (pairs : List Pair) (i : ℕ) 
       → kept ≡ map (λ x. x.pair) spans → (count : ℕ) → count ≡ computed_count_by_flags kept unmoved (take i pairs)
       → are_unmoved unmoved p ≡ true → count ≡ computed_count_by_flags kept unmoved (take (i + 1) pairs)
   unmoved_same spans k s there s_is same kept_is count done stand =
-      let listed : has_pair kept p ≡ true =
-      ap₂ has_pair kept_is (sym same) ∙ has_pair_of spans k s there s_is in
+      let listed : lists_pair kept p ≡ true =
+      ap₂ lists_pair kept_is (sym same) ∙ has_pair_of spans k s there s_is in
       missing_same count done (ap₂ (λ t u. not (t && u)) listed stand)

@@ -7,7 +7,7 @@ use Rattle.std.proofs.lemmas.Bool.Decides.{Decides-and, Decides-eqb, Decides-lik
 use Rattle.pf_shapes.specs.Pair.{Pair}
 use Rattle.pf_manifold.specs.PlacedShape.{PlacedShape}
 use Rattle.pf_cache.specs.Laws.{IsUnmoved}
-use Rattle.pf_cache.specs.Manifolds.{Manifolds, are_same_shapes, has_pair, is_reusable, is_unmoved}
+use Rattle.pf_cache.specs.Manifolds.{Manifolds, are_same_shapes, lists_pair, is_reusable, is_unmoved}
 use Rattle.pf_cache.proofs.Unmoved.{Decides-placed}
 
 pub Decides-pair : (q p : Pair) → Decides ((q.a == p.a) && (q.b == p.b)) (q ≡ p)
@@ -20,27 +20,27 @@ Decides-pair q p =
     (Decides-and _ _ (Decides-eqb q.a p.a) (Decides-eqb q.b p.b))
 
 -- a pair is listed exactly where the test finds it
-found : (pairs : List Pair) (p : Pair) → has_pair pairs p ≡ true → Contains pairs p
+found : (pairs : List Pair) (p : Pair) → lists_pair pairs p ≡ true → Contains pairs p
 found [] p e = absurd (true≢false (sym e))
 found (q ∷ pairs) p e = by _ refl e (found pairs p)
   where
-    by : (t : Bool) → ((q.a == p.a) && (q.b == p.b)) ≡ t → (t || has_pair pairs p) ≡ true
-        → (has_pair pairs p ≡ true → Contains pairs p) → Contains (q ∷ pairs) p
+    by : (t : Bool) → ((q.a == p.a) && (q.b == p.b)) ≡ t → (t || lists_pair pairs p) ≡ true
+        → (lists_pair pairs p ≡ true → Contains pairs p) → Contains (q ∷ pairs) p
     by true same here behind = (0, omega arith, (Decides-pair q p).0 same)
     by false other there behind =
         let at = behind there in
         (suc at.0, omega (arith, at.1), at.2)
 
-listed : (pairs : List Pair) (p : Pair) → Contains pairs p → has_pair pairs p ≡ true
+listed : (pairs : List Pair) (p : Pair) → Contains pairs p → lists_pair pairs p ≡ true
 listed pairs p at = by pairs at.0 at.1 at.2
   where
     any : (t : Bool) → (t || true) ≡ true
     any true = refl
     any false = refl
 
-    by : (ps : List Pair) (k : ℕ) → k < length ps → slice_index_or ps k p ≡ p → has_pair ps p ≡ true
+    by : (ps : List Pair) (k : ℕ) → k < length ps → slice_index_or ps k p ≡ p → lists_pair ps p ≡ true
     by [] k l e = absurd (omega (arith, l))
-    by (q ∷ ps) zero l e = ap (λ t. t || has_pair ps p) ((Decides-pair q p).1 e)
+    by (q ∷ ps) zero l e = ap (λ t. t || lists_pair ps p) ((Decides-pair q p).1 e)
     by (q ∷ ps) (suc k) l e =
         ap (λ t. ((q.a == p.a) && (q.b == p.b)) || t) (by ps k (omega (arith, l)) e) ∙ any _
 

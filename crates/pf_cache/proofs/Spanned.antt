@@ -8,7 +8,7 @@ use Rattle.std.proofs.lemmas.List.Elements.{All-head, All-tail}
 use Rattle.pf_shapes.specs.Pair.{IsAscending, IsPairOf, Pair, is_before}
 use Rattle.pf_shapes.specs.declared.scene.TheConstants.{MAX_BODIES}
 use Rattle.pf_manifold.specs.Key.{IsRising}
-use Rattle.pf_cache.specs.Manifolds.{has_pair}
+use Rattle.pf_cache.specs.Manifolds.{lists_pair}
 use Rattle.pf_cache.specs.Spans.{Span, pair_rank, span_at}
 
 -- ---- ranks
@@ -107,7 +107,7 @@ same_test q p hq hp = by (pair_rank q == pair_rank p) refl
 
 -- a pair has a span exactly where it is one of the spans' pairs
 pub has_span : (p : Pair) (spans : List Span) → IsPairOf MAX_BODIES p → All (λ s. IsPairOf MAX_BODIES s.pair) spans
-    → is_some (span_at (pair_rank p) spans) ≡ has_pair (map (λ s. s.pair) spans) p
+    → is_some (span_at (pair_rank p) spans) ≡ lists_pair (map (λ s. s.pair) spans) p
 has_span p [] hp all = refl
 has_span p (s ∷ spans) hp all =
     by (pair_rank s.pair == pair_rank p) refl
@@ -117,8 +117,8 @@ has_span p (s ∷ spans) hp all =
     test = same_test s.pair p (All-head (λ x. IsPairOf MAX_BODIES x.pair) s spans all) hp
 
     by : (t : Bool) → (pair_rank s.pair == pair_rank p) ≡ t
-        → is_some (span_at (pair_rank p) spans) ≡ has_pair (map (λ x. x.pair) spans) p
+        → is_some (span_at (pair_rank p) spans) ≡ lists_pair (map (λ x. x.pair) spans) p
         → is_some (if t then Some s else span_at (pair_rank p) spans)
-        ≡ (((s.pair.a == p.a) && (s.pair.b == p.b)) || has_pair (map (λ x. x.pair) spans) p)
+        ≡ (((s.pair.a == p.a) && (s.pair.b == p.b)) || lists_pair (map (λ x. x.pair) spans) p)
     by true e behind = rw (test ∙ e) refl
     by false e behind = rw (test ∙ e) behind

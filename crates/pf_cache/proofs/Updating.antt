@@ -11,7 +11,7 @@ use Rattle.pf_shapes.specs.declared.scene.TheConstants.{MAX_BODIES}
 use Rattle.pf_manifold.specs.Key.{AreTouches, IsRising}
 use Rattle.pf_manifold.specs.PlacedShape.{PlacedShape}
 use Rattle.pf_manifold.specs.Touches.{Touch}
-use Rattle.pf_cache.specs.Manifolds.{has_pair, points_of_pair}
+use Rattle.pf_cache.specs.Manifolds.{lists_pair, points_of_pair}
 use Rattle.pf_cache.specs.Spans.{AreSpans, StandsFrom, IsKeptSpan, IsSpan, Span, are_unmoved, pair_rank, span_at, span_if, spans_from}
 use Rattle.pf_cache.proofs.Refreshing.{pairs_of_spans, spans_more}
 use Rattle.pf_cache.proofs.SpanPlaces.{other_rank}
@@ -49,7 +49,7 @@ module _ (spans lent : List Span) (pairs : List Pair) (i place : ℕ) (d p : Pai
 -- whether there is a span of the pair, and both bodies are unmoved
 pub reused_test : (unmoved : List Bool) (spans : List Span) (p : Pair) (looked : Option Span)
     → All (λ s. IsPairOf MAX_BODIES s.pair) spans → IsPairOf MAX_BODIES p → looked ≡ span_at (pair_rank p) spans
-    → is_some (span_if (are_unmoved unmoved p) looked) ≡ (has_pair (pairs_of spans) p && are_unmoved unmoved p)
+    → is_some (span_if (are_unmoved unmoved p) looked) ≡ (lists_pair (pairs_of spans) p && are_unmoved unmoved p)
 reused_test unmoved spans p looked bodies hp e =
     by (are_unmoved unmoved p) looked ∙ ap (λ t. t && are_unmoved unmoved p) (ap is_some e ∙ has_span p spans hp bodies)
   where
@@ -82,7 +82,7 @@ module _ (shapes : List PlacedShape) (unmoved : List Bool) (kept : List Touch) (
           )
 
   -- so its points are there
-  pub kept_test : is_some (span_if (are_unmoved unmoved p) looked) ≡ (has_pair (pairs_of spans) p && are_unmoved unmoved p)
+  pub kept_test : is_some (span_if (are_unmoved unmoved p) looked) ≡ (lists_pair (pairs_of spans) p && are_unmoved unmoved p)
   kept_test =
       reused_test unmoved spans p looked
       (All-weaker (IsKeptSpan shapes unmoved kept) (λ s. IsPairOf MAX_BODIES s.pair) (λ s h. h.bodies) spans all) hp e

@@ -5,8 +5,8 @@ use Rattle.pf_manifold.specs.PlacedShape.{PlacedShape}
 use Rattle.pf_cache.specs.Contact.{Contact, impulses_at}
 
 -- each contact is found by its key
-abbrev pub AreFound : List Contact → Type 0
-AreFound contacts = All (λ c. impulses_at (rank c.key) contacts ≡ c.impulses) contacts
+abbrev pub AreFoundByKey : List Contact → Type 0
+AreFoundByKey contacts = All (λ c. impulses_at (rank c.key) contacts ≡ c.impulses) contacts
 
 -- a key that no contact has
 abbrev pub IsNew : Key → List Contact → Type 0

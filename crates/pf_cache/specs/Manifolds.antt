@@ -68,13 +68,13 @@ abbrev pub is_unmoved : List PlacedShape → List PlacedShape → ℕ → Bool
 is_unmoved old shapes i = are_same_shapes (slice_get old i) (slice_get shapes i)
 
 -- a list of pairs has this one
-abbrev pub has_pair : List Pair → Pair → Bool
-has_pair pairs p = list_any (λ q. (q.a == p.a) && (q.b == p.b)) pairs
+abbrev pub lists_pair : List Pair → Pair → Bool
+lists_pair pairs p = list_any (λ q. (q.a == p.a) && (q.b == p.b)) pairs
 
 -- the points of a pair are kept, and can be reused: both bodies are unmoved
 abbrev pub is_reusable : Manifolds → List PlacedShape → Pair → Bool
 is_reusable m shapes p =
-    has_pair m.pairs p && (is_unmoved m.shapes shapes p.a && is_unmoved m.shapes shapes p.b)
+    lists_pair m.pairs p && (is_unmoved m.shapes shapes p.a && is_unmoved m.shapes shapes p.b)
 
 -- how many of these pairs cannot reuse kept points
 abbrev pub computed_count : Manifolds → List PlacedShape → List Pair → ℕ

@@ -10,7 +10,7 @@ use Rattle.pf_manifold.specs.Key.{AreTouches, IsRising, rank}
 use Rattle.pf_manifold.specs.PlacedShape.{PlacedShape}
 use Rattle.pf_manifold.specs.Touches.{Touch}
 use Rattle.pf_cache.specs.Ranked.{element_at}
-use Rattle.pf_cache.specs.Manifolds.{has_pair, points_of_pair, same_placed_shape}
+use Rattle.pf_cache.specs.Manifolds.{lists_pair, points_of_pair, same_placed_shape}
 
 -- a pair, and where its points stand
 pub record Span : Type 0 where
@@ -49,7 +49,7 @@ are_unmoved unmoved p = get_or unmoved p.a false && get_or unmoved p.b false
 -- how many of these pairs cannot reuse kept points: they are none of the kept ones, or a body moved
 abbrev pub computed_count_by_flags : List Pair → List Bool → List Pair → ℕ
 computed_count_by_flags kept unmoved pairs =
-    count_by (λ p. not (has_pair kept p && are_unmoved unmoved p)) pairs
+    count_by (λ p. not (lists_pair kept p && are_unmoved unmoved p)) pairs
 
 -- a contact point is of this pair
 abbrev pub is_of_pair : Pair → Touch → Bool

@@ -10,7 +10,7 @@ ghost use Rattle.pf_rows.specs.Impulses.{Impulses, no_impulses};
 ghost use Rattle.pf_cache.specs.Contact.{AreContacts, Contact, impulses_at, next_contacts};
 ghost use Rattle.pf_cache.specs.ContactRows.{with_rows};
 ghost use Rattle.pf_cache.specs.ContactsChange.{ContactsChange, contacts_before, has_rank, may_change, noted_or};
-ghost use Rattle.pf_cache.specs.Laws.{AreFound, IsNew, IsUnmoved};
+ghost use Rattle.pf_cache.specs.Laws.{AreFoundByKey, IsNew, IsUnmoved};
 ghost use Rattle.pf_cache.specs.Manifolds.{Manifolds, is_reusable, points_of_pair};
 ghost use Rattle.pf_rows.specs.Row.{AreRows, Row, impulses_or, no_mass};
 
@@ -19,7 +19,7 @@ use crate::meter::Meter;
 /// Each contact of a list in the order of keys is found by its key, and a key that no contact has
 /// has no impulses.
 pub fn contacts_are_found()
-    ensures found { (contacts : List Contact) → AreContacts contacts → AreFound contacts }
+    ensures found { (contacts : List Contact) → AreContacts contacts → AreFoundByKey contacts }
     ensures new { (k : Key) (contacts : List Contact) → IsNew k contacts
         → impulses_at (rank k) contacts ≡ no_impulses }
 {}

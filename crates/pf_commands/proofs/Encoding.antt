@@ -4,10 +4,10 @@ use Rattle.std.specs.Int.{byte_at, bytes_high_first}
 use Rattle.std.proofs.lemmas.List.{length-append}
 use Rattle.std.proofs.Math.Nat.{mod-eq_of_lt}
 use Rattle.byteorder.specs.Numbers.{big_number-reads_back}
-use Rattle.pf_commands.specs.Frame.{Fields, IsBytes, IsFrameable, Encodes, fields_of, fields_in, bytes_in, encoding}
+use Rattle.pf_commands.specs.Frame.{Fields, IsBytes, IsFrameable, Encodes, frame_fields, fields_in, bytes_in, encoding}
 use Rattle.pf_commands.specs.declared.payload.Command.{Command}
 use Rattle.pf_commands.proofs.Digits.{same_bytes}
-use Rattle.pf_commands.proofs.Fields.{AreFields, worth, fields_in-fit, big_number_parts, number_of-parts}
+use Rattle.pf_commands.proofs.Fields.{AreFields, worth, fields_in-fit, big_number_parts, frame_number-parts}
 use Rattle.pf_commands.proofs.Frames.{ok_is, encoded_decodes}
 
 -- ---- the bytes of fields
@@ -39,8 +39,8 @@ unfolding bytes_in
 length-bytes_in f = refl
 
 -- fields come back from their bytes
-fields_again : (f : Fields) → AreFields f → fields_of (bytes_in f) ≡ f
-unfolding fields_of bytes_in
+fields_again : (f : Fields) → AreFields f → frame_fields (bytes_in f) ≡ f
+unfolding frame_fields bytes_in
 fields_again f fits =
     let version = mod-eq_of_lt fits.version in
     let tick = big_number-reads_back 4 f.tick [] fits.tick in
@@ -57,7 +57,7 @@ encoding_encodes c framed = record {
   long = length-bytes_in (fields_in c);
   are_bytes = bytes_in-fit (fields_in c);
   framed = framed;
-  same = big_number_parts (encoding c) ∙ ap worth (fields_again (fields_in c) (fields_in-fit c framed)) ∙ sym (number_of-parts c);
+  same = big_number_parts (encoding c) ∙ ap worth (fields_again (fields_in c) (fields_in-fit c framed)) ∙ sym (frame_number-parts c);
 }
 
 -- ---- one encoding of a command, one command of an encoding

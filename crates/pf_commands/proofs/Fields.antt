@@ -7,7 +7,7 @@ use Rattle.std.proofs.lemmas.Int.{to_z-of_z, fits_signed_from_abs}
 use Rattle.byteorder.specs.Endian.{big_number}
 use Rattle.byteorder.specs.Numbers.{big_from-lt}
 use Rattle.pf_num.specs.Fx.{IsRaw}
-use Rattle.pf_commands.specs.Frame.{Fields, IsBytes, IsFrameable, fields_of, fields_in, version_of, number_of}
+use Rattle.pf_commands.specs.Frame.{Fields, IsBytes, IsFrameable, frame_fields, fields_in, version_of, frame_number}
 use Rattle.pf_commands.specs.declared.payload.Command.{Command}
 use Rattle.pf_commands.specs.declared.payload.Payload.{Payload}
 use Rattle.pf_commands.specs.declared.payload.Payload.TheVariants.{Push, Turn, Stop, Place}
@@ -34,9 +34,9 @@ pub record AreFields (f : Fields) : Type 0 where
 IsBytes-drop : (n : ℕ) (bytes : List ℕ) → IsBytes bytes → IsBytes (drop n bytes)
 IsBytes-drop n bytes fits i = rw get_or-drop (fits (n + i))
 
-pub fields_of-fit : (bytes : List ℕ) → IsBytes bytes → AreFields (fields_of bytes)
-unfolding fields_of
-fields_of-fit bytes fits = record {
+pub frame_fields-fit : (bytes : List ℕ) → IsBytes bytes → AreFields (frame_fields bytes)
+unfolding frame_fields
+frame_fields-fit bytes fits = record {
   version = fits 0;
   tick = big_from-lt 0 4 (drop 1 bytes) (IsBytes-drop 1 bytes fits);
   player = fits 5;
@@ -77,13 +77,13 @@ fields_in-fit c framed = record {
 }
 
 -- 27 digits are eight fields
-pub big_number_parts : (bytes : List ℕ) → big_number 27 bytes ≡ worth (fields_of bytes)
-unfolding fields_of worth
+pub big_number_parts : (bytes : List ℕ) → big_number 27 bytes ≡ worth (frame_fields bytes)
+unfolding frame_fields worth
 big_number_parts bytes = simp get_or-drop (omega arith)
 
-pub number_of-parts : (c : Command) → number_of c ≡ worth (fields_in c)
-unfolding number_of worth fields_in weight
-number_of-parts c = omega arith
+pub frame_number-parts : (c : Command) → frame_number c ≡ worth (fields_in c)
+unfolding frame_number worth fields_in weight
+frame_number-parts c = omega arith
 
 abbrev made : ℕ → ℕ → ℕ → ℕ → ℕ → ℕ → ℕ → ℕ → Fields
 made version tick player number kind body x y = record { version = version; tick = tick; player = player; number = number; kind = kind; body = body; x = x; y = y }

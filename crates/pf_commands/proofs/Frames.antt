@@ -11,12 +11,12 @@ use Rattle.pf_shapes.specs.declared.scene.TheConstants.{MAX_POSITION}
 use Rattle.pf_commands.specs.Coordinate.{IsCoordinate, is_coordinate}
 use Rattle.pf_commands.specs.declared.fault.FrameFault.{FrameFault}
 use Rattle.pf_commands.specs.declared.fault.FrameFault.TheVariants.{Short, Long, BadVersion, BadKind, NotCanonical, OutOfRange}
-use Rattle.pf_commands.specs.Frame.{Fields, IsBytes, IsFrameable, Encodes, version_of, fields_of, fields_in, is_version, has_kind, is_raw, is_component, is_canonical, is_in_range, payload_of, command_in, command_of, decode}
+use Rattle.pf_commands.specs.Frame.{Fields, IsBytes, IsFrameable, Encodes, version_of, frame_fields, fields_in, is_version, has_kind, is_raw, is_component, is_canonical, is_in_range, payload_of, command_in, command_of, decode}
 use Rattle.pf_commands.specs.declared.payload.Command.{Command}
 use Rattle.pf_commands.specs.declared.payload.Payload.{Payload}
 use Rattle.pf_commands.specs.declared.payload.Payload.TheVariants.{Push, Turn, Stop, Place}
 use Rattle.pf_commands.specs.Payload.{IsPayload, HasCoordinates, kind_of, body_of, x_of, y_of}
-use Rattle.pf_commands.proofs.Fields.{AreFields, worth, raw_again, fields_of-fit, fields_in-fit, big_number_parts, number_of-parts, same_fields}
+use Rattle.pf_commands.proofs.Fields.{AreFields, worth, raw_again, frame_fields-fit, fields_in-fit, big_number_parts, frame_number-parts, same_fields}
 
 -- ---- encoded commands are decoded
 
@@ -87,10 +87,10 @@ command_again c framed =
     rw (version, kind, canonical, range, command) refl
 
 -- the fields of bytes that encode a command are the command's
-pub fields_spelled : (bytes : List ℕ) (c : Command) → Encodes bytes c → fields_of bytes ≡ fields_in c
+pub fields_spelled : (bytes : List ℕ) (c : Command) → Encodes bytes c → frame_fields bytes ≡ fields_in c
 fields_spelled bytes c spelled =
-    same_fields (fields_of bytes) (fields_in c) (fields_of-fit bytes spelled.are_bytes) (fields_in-fit c spelled.framed)
-    (sym (big_number_parts bytes) ∙ spelled.same ∙ number_of-parts c)
+    same_fields (frame_fields bytes) (fields_in c) (frame_fields-fit bytes spelled.are_bytes) (fields_in-fit c spelled.framed)
+    (sym (big_number_parts bytes) ∙ spelled.same ∙ frame_number-parts c)
 
 pub encoded_decodes : (bytes : List ℕ) (c : Command) → Encodes bytes c → decode bytes ≡ Ok c
 unfolding decode
@@ -246,10 +246,10 @@ unfolding decode
 decoded_encodes bytes c fits is =
     let short = guard_ok (nat_lt (length bytes) 27) Short _ c is in
     let long = guard_ok (nat_lt 27 (length bytes)) Long _ c short.1 in
-    let names = command_of-names (fields_of bytes) c (fields_of-fit bytes fits) long.1 in
+    let names = command_of-names (frame_fields bytes) c (frame_fields-fit bytes fits) long.1 in
     record {
       long = omega (arith, ltb-false (length bytes) 27 short.0, ltb-false 27 (length bytes) long.0);
       are_bytes = fits;
       framed = names.framed;
-      same = big_number_parts bytes ∙ sym (ap worth names.same) ∙ sym (number_of-parts c);
+      same = big_number_parts bytes ∙ sym (ap worth names.same) ∙ sym (frame_number-parts c);
     }

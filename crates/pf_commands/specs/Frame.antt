@@ -32,8 +32,8 @@ version_of (Place body x y) = 2
 
 -- the fields of a command, each shifted to its bits: version, tick, player, number, and the
 -- payload's 19 bytes
-unfoldable pub number_of : Command → ℕ
-number_of c =
+unfoldable pub frame_number : Command → ℕ
+frame_number c =
     version_of c.payload * 2 ^ 208 + c.name.tick * 2 ^ 176 + c.name.player * 2 ^ 168
     + c.name.number * 2 ^ 152 + weight c.payload
 
@@ -43,7 +43,7 @@ pub record Encodes (bytes : List ℕ) (c : Command) : Type 0 where
   pub long : length bytes ≡ 27
   pub are_bytes : IsBytes bytes
   pub framed : IsFrameable c
-  pub same : big_number 27 bytes ≡ number_of c
+  pub same : big_number 27 bytes ≡ frame_number c
 
 -- ---- the fields of a frame
 
@@ -63,8 +63,8 @@ abbrev pub number_at : ℕ → ℕ → List ℕ → ℕ
 number_at n i bytes = big_number n (drop i bytes)
 
 -- the fields of a list of bytes, of which there are to be 27
-unfoldable pub fields_of : List ℕ → Fields
-fields_of bytes = record {
+unfoldable pub frame_fields : List ℕ → Fields
+frame_fields bytes = record {
   version = slice_index bytes 0;
   tick = number_at 4 1 bytes;
   player = slice_index bytes 5;
@@ -163,4 +163,4 @@ unfoldable pub decode : List ℕ → Result Command FrameFault
 decode bytes =
     if nat_lt (length bytes) 27 then Err Short
     else (if nat_lt 27 (length bytes) then Err Long
-    else command_of (fields_of bytes))
+    else command_of (frame_fields bytes))

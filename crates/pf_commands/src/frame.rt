@@ -73,13 +73,13 @@ impl Model for Fields {
 
 impl Fields {
     ghost use Rattle.std.specs.Prelude.{◌≡◌, ◌&&◌, length, Some, None, if◌then◌else◌};
-    ghost use Rattle.pf_commands.specs.Frame.{fields_of, fields_in, bytes_in, is_version, has_kind, is_canonical, is_component, payload_in, command_of};
+    ghost use Rattle.pf_commands.specs.Frame.{frame_fields, fields_in, bytes_in, is_version, has_kind, is_canonical, is_component, payload_in, command_of};
 
     /// The fields of 27 bytes.
-    #[tactic(auto, unfolding(crate::specs::Frame::fields_of))]
+    #[tactic(auto, unfolding(crate::specs::Frame::frame_fields))]
     fn of_bytes(bytes: &[u8]) -> Fields
         requires { length bytes.now ≡ FRAME_LEN }
-        ensures { result ≡ fields_of bytes.now }
+        ensures { result ≡ frame_fields bytes.now }
     {
         Fields {
             version: bytes[0],

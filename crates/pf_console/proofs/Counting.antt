@@ -5,9 +5,9 @@ use Rattle.pf_console.specs.declared.error.ProgramError.TheVariants.{Words, Line
 use Rattle.pf_step.specs.Split.{Island}
 use Rattle.pf_step.specs.declared.crew.CrewError.{CrewError}
 use Rattle.pf_console.specs.Crews.{FailsByCrew}
-use Rattle.pf_console.specs.Text.{CountsReads, ReadsNothing}
+use Rattle.pf_console.specs.Text.{CountsReading, ReadsNothing}
 
-pub counts_nothing : (failures : ℕ) (result : Result (Unit {0}) ProgramError) → ReadsNothing result → CountsReads failures result failures
+pub counts_nothing : (failures : ℕ) (result : Result (Unit {0}) ProgramError) → ReadsNothing result → CountsReading failures result failures
 counts_nothing failures (Ok done) h = refl
 counts_nothing failures (Err (Words text)) h = refl
 counts_nothing failures (Err (Line number fault)) h = refl

@@ -1,6 +1,6 @@
 -- Lines that each encode an event, one after the other.
 use Rattle.std.proofs.Common.{◌≡◌, ℕ, suc, ◌+◌, List, [], ◌∷◌, length, Ok, refl, subst, sym, add-zero, arith}
-use Rattle.pf_text.specs.Driver.{step, lines_output}
+use Rattle.pf_text.specs.Driver.{line_step, lines_output}
 use Rattle.pf_events.specs.declared.event.Event.{Event}
 use Rattle.pf_events.specs.Session.{Session, reply_to, replies_to, session_after, session_after_all}
 use Rattle.pf_events.proofs.Sessions.{length-session_after}
@@ -12,8 +12,8 @@ use Rattle.pf_console.specs.Laws.{IsLineOf, AreLinesOf, session_output}
 
 -- the transition of a line that encodes an event
 transition_is : (s : Session) (line : List ℕ) (event : Event) → IsLineOf (length s.peers) line event →
-    step text_rules (Playing s) line ≡ Ok (reply_text s.scene.fixtures (reply_to s event), Playing (session_after s event))
-unfolding step after_line
+    line_step text_rules (Playing s) line ≡ Ok (reply_text s.scene.fixtures (reply_to s event), Playing (session_after s event))
+unfolding line_step after_line
 transition_is s line event h = rw (h.plain, h.not_skipped, h.fields_are, h.event_is) refl
 
 pub output_is : (number : ℕ) (s : Session) (lines : List (List ℕ)) (events : List Event) → AreLinesOf (length s.peers) lines events →

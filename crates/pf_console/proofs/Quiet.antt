@@ -3,7 +3,7 @@ use Rattle.std.proofs.Common.{◌≡◌, ◌∙◌, ℕ, ◌+◌, Bool, true, fa
 use Rattle.std.proofs.lemmas.List.{append-nil}
 use Rattle.pf_text.specs.declared.fault.LineFault.{LineFault}
 use Rattle.pf_text.specs.declared.fault.LineFault.TheVariants.{BadLine}
-use Rattle.pf_text.specs.Driver.{Output, LeadTo, StopsForMemory, StopsForRead, StopsForWrite, and_then, fields_step, is_plain, is_skipped, lines_output, step}
+use Rattle.pf_text.specs.Driver.{Output, LeadTo, StopsForMemory, StopsForRead, StopsForWrite, and_then, fields_step, is_plain, is_skipped, lines_output, line_step}
 use Rattle.pf_text.specs.Fields.{fields_of}
 use Rattle.pf_text.specs.Streams.{Transfer}
 use Rattle.pf_shapes.specs.declared.fault.SceneFault.{SceneFault}
@@ -47,8 +47,8 @@ fields_quiet : (state : Phase Scripts) (fields : Result (List (List ℕ)) LineFa
 fields_quiet state (Ok fields) = line_quiet state fields
 fields_quiet state (Err fault) = tt
 
-step_quiet : (state : Phase Scripts) (line : List ℕ) → IsQuiet (step session_rules state line)
-unfolding step
+step_quiet : (state : Phase Scripts) (line : List ℕ) → IsQuiet (line_step session_rules state line)
+unfolding line_step
 step_quiet state line = by (is_plain line) (is_skipped line)
   where
     by : (plain skipped : Bool) → IsQuiet (if plain then (if skipped then Ok ([], state) else fields_step session_rules state (fields_of line)) else Err (scene_fault_of BadLine))
@@ -57,7 +57,7 @@ step_quiet state line = by (is_plain line) (is_skipped line)
     by false skipped = tt
 
 -- a line that is valid has no text
-pub no_text : (state next : Phase Scripts) (line text : List ℕ) → step session_rules state line ≡ Ok (text, next) → text ≡ []
+pub no_text : (state next : Phase Scripts) (line text : List ℕ) → line_step session_rules state line ≡ Ok (text, next) → text ≡ []
 no_text state next line text is = subst IsQuiet is (step_quiet state line)
 
 and_then_quiet : (number : ℕ) (reply : Transition Scripts) (others : Phase Scripts → Output (Phase Scripts) SceneFault) → IsQuiet reply
@@ -69,7 +69,7 @@ pub lines_quiet : (number : ℕ) (state : Phase Scripts) (lines : List (List ℕ
 unfolding lines_output
 lines_quiet number state [] = refl
 lines_quiet number state (line ∷ lines) =
-    and_then_quiet number (step session_rules state line) (λ next. lines_output session_rules (number + 1) next lines)
+    and_then_quiet number (line_step session_rules state line) (λ next. lines_output session_rules (number + 1) next lines)
     (step_quiet state line) (λ next. lines_quiet (number + 1) next lines)
 
 -- what was written behind the bytes before is nothing

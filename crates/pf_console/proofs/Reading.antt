@@ -13,7 +13,7 @@ use Rattle.pf_console.specs.declared.phase.Phase.TheVariants.{Reading, Seating, 
 use Rattle.pf_console.specs.Phase.{first_phase}
 use Rattle.pf_console.specs.Scripts.{Scripts}
 use Rattle.pf_console.specs.SessionText.{ReadsScripts, WritesNothing, scripts_at, scripts_of, session_rules}
-use Rattle.pf_console.specs.Text.{CountsReads, CountsWrites, StopsAt, outcome_of}
+use Rattle.pf_console.specs.Text.{CountsReading, CountsWriting, StopsAt, outcome_of}
 use Rattle.pf_text.specs.Lines.{lines_of}
 use Rattle.pf_console.proofs.Quiet.{lines_quiet, memory_quiet, never_writes, nothing_more, read_quiet}
 
@@ -48,7 +48,7 @@ reads t (Err drives.Read) h = (read_quiet t h, h)
 reads t (Err drives.Write) h = absurd (never_writes t h)
 
 pub reads_counted : (before after : ℕ) (read : Result (ℕ × Phase Scripts) (DriveError SceneFault)) → counts.CountsReads before read after
-    → CountsReads before (outcome_of Memory read) after
+    → CountsReading before (outcome_of Memory read) after
 reads_counted before after (Ok (number, Reading reader)) h = h
 reads_counted before after (Ok (number, Seating scene)) h = h
 reads_counted before after (Ok (number, Playing s)) h = h
@@ -58,7 +58,7 @@ reads_counted before after (Err drives.Read) h = h
 reads_counted before after (Err drives.Write) h = h
 
 pub writes_counted : (before after : ℕ) (read : Result (ℕ × Phase Scripts) (DriveError SceneFault)) → counts.CountsWrites before read after
-    → CountsWrites before (outcome_of Memory read) after
+    → CountsWriting before (outcome_of Memory read) after
 writes_counted before after (Ok (number, Reading reader)) h = h
 writes_counted before after (Ok (number, Seating scene)) h = h
 writes_counted before after (Ok (number, Playing s)) h = h

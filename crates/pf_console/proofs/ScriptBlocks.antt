@@ -7,11 +7,11 @@ use Rattle.pf_shapes.specs.Scene.{Scene}
 use Rattle.pf_commands.specs.Merge.{CommandMap, put_all}
 use Rattle.pf_links.specs.Link.{Frame}
 use Rattle.pf_scripts.specs.Frames.{commands_in}
-use Rattle.pf_scripts.specs.Script.{frames_of, ticks_of, frames_in}
+use Rattle.pf_scripts.specs.Script.{script_frames, script_ticks, frames_in}
 use Rattle.pf_scripts.specs.declared.turn.Turn.{Turn}
 use Rattle.pf_sessions.specs.Session.{unsealed, all_commands, results_from, session_results}
 use Rattle.pf_console.specs.Blocks.{result_block}
-use Rattle.pf_console.specs.Scripts.{blocks_from, blocks_of, commands_of}
+use Rattle.pf_console.specs.Scripts.{blocks_from, blocks_of, scripted_commands}
 use Rattle.pf_console.specs.Turns.{said_by}
 use Rattle.pf_console.specs.Turns as texts
 
@@ -20,19 +20,19 @@ same_ticks_from : (ticks : ℕ) (script : List Turn)
 same_ticks_from ticks [] = refl
 same_ticks_from ticks (turn ∷ script) = same_ticks_from (ticks + turn.ticks) script
 
-same_ticks : (script : List Turn) → sum_by (λ (turn : texts.Turn). turn.ticks) (map said_by script) ≡ ticks_of script
+same_ticks : (script : List Turn) → sum_by (λ (turn : texts.Turn). turn.ticks) (map said_by script) ≡ script_ticks script
 same_ticks script = same_ticks_from 0 script
 
-same_frames : (script : List Turn) → flat_map (λ (turn : texts.Turn). turn.frames) (map said_by script) ≡ frames_of script
+same_frames : (script : List Turn) → flat_map (λ (turn : texts.Turn). turn.frames) (map said_by script) ≡ script_frames script
 same_frames [] = refl
 same_frames (turn ∷ script) = ap (λ frames. frames_in turn ++ frames) (same_frames script)
 
 same_all_frames : (scripts : List (List Turn))
-    → flat_map (λ (script : List texts.Turn). flat_map (λ (turn : texts.Turn). turn.frames) script) (map (map said_by) scripts) ≡ flat_map frames_of scripts
+    → flat_map (λ (script : List texts.Turn). flat_map (λ (turn : texts.Turn). turn.frames) script) (map (map said_by) scripts) ≡ flat_map script_frames scripts
 same_all_frames [] = refl
 same_all_frames (script ∷ scripts) = rw (same_frames script, same_all_frames scripts) refl
 
-same_commands : (s : Scene) (scripts : List (List Turn)) → commands_of s (map (map said_by) scripts) ≡ all_commands s scripts
+same_commands : (s : Scene) (scripts : List (List Turn)) → scripted_commands s (map (map said_by) scripts) ≡ all_commands s scripts
 same_commands s scripts = ap (λ (frames : List Frame). put_all empty (commands_in (unsealed s) frames)) (same_all_frames scripts)
 
 blocks_are : (s : Scene) (commands : CommandMap) (first : ℕ) (scripts : List (List Turn))

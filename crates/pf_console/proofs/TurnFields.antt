@@ -9,7 +9,7 @@ use Rattle.pf_text.specs.declared.fault.LineFault.{LineFault}
 use Rattle.pf_text.specs.declared.fault.LineFault.TheVariants.{BadNumber}
 use Rattle.pf_text.specs.Fault.{◌>>=◌}
 use Rattle.pf_console.specs.Digits.{bytes_of, bytes_or_error}
-use Rattle.pf_console.specs.Turns.{frames_of}
+use Rattle.pf_console.specs.Turns.{turn_frames}
 use Rattle.hex.specs.Hex.{decode_of as hex_bytes}
 use Rattle.hex.specs.declared.error.FromHexError.{FromHexError}
 
@@ -23,11 +23,11 @@ both_ok (Ok bytes) (Err fault) = refl
 both_ok (Err fault) others = refl
 
 module _ {R : Type 0} (view : R → List ℕ) where
-  all_bytes : (fields : List R) → list_all (λ field. is_ok (bytes_of (view field))) fields ≡ is_ok (frames_of (map view fields))
+  all_bytes : (fields : List R) → list_all (λ field. is_ok (bytes_of (view field))) fields ≡ is_ok (turn_frames (map view fields))
   all_bytes [] = refl
   all_bytes (field ∷ fields) =
       ap (λ rest. is_ok (bytes_of (view field)) && rest) (all_bytes fields)
-      ∙ both_ok (bytes_of (view field)) (frames_of (map view fields))
+      ∙ both_ok (bytes_of (view field)) (turn_frames (map view fields))
 
   pub each_is_ok : (fields : List R) → list_all (λ field. is_ok (bytes_of (view field))) fields ≡ true → All (λ field. IsOk (bytes_of (view field))) fields
   each_is_ok [] ok = λ k d low. absurd (omega arith)
@@ -48,9 +48,9 @@ bad_bytes : (read : Result (List ℕ) FromHexError) → is_ok (bytes_or_error re
 bad_bytes (Ok bytes) not = absurd cc
 bad_bytes (Err error) not = refl
 
-bad_frames : (fields : List (List ℕ)) → is_ok (frames_of fields) ≡ false → frames_of fields ≡ Err BadNumber
+bad_frames : (fields : List (List ℕ)) → is_ok (turn_frames fields) ≡ false → turn_frames fields ≡ Err BadNumber
 bad_frames [] not = absurd cc
-bad_frames (field ∷ fields) not = by (hex_bytes field) (frames_of fields) (bad_frames fields) not
+bad_frames (field ∷ fields) not = by (hex_bytes field) (turn_frames fields) (bad_frames fields) not
   where
     by : (read : Result (List ℕ) FromHexError) (others : Result (List Frame) LineFault) → (is_ok others ≡ false → others ≡ Err BadNumber)
         → is_ok (with_first (bytes_or_error read) others) ≡ false → with_first (bytes_or_error read) others ≡ Err BadNumber
@@ -59,14 +59,14 @@ bad_frames (field ∷ fields) not = by (hex_bytes field) (frames_of fields) (bad
     by (Ok bytes) (Err fault) rest not = rest refl
 
 module _ {R : Type 0} (view : R → List ℕ) where
-  pub bad_fields : (fields : List R) → list_all (λ field. is_ok (bytes_of (view field))) fields ≡ false → frames_of (map view fields) ≡ Err BadNumber
+  pub bad_fields : (fields : List R) → list_all (λ field. is_ok (bytes_of (view field))) fields ≡ false → turn_frames (map view fields) ≡ Err BadNumber
   bad_fields fields not = bad_frames (map view fields) (sym (all_bytes view fields) ∙ not)
 
-  pub good_fields : (fields : List R) → list_all (λ field. is_ok (bytes_of (view field))) fields ≡ true → is_ok (frames_of (map view fields)) ≡ true
+  pub good_fields : (fields : List R) → list_all (λ field. is_ok (bytes_of (view field))) fields ≡ true → is_ok (turn_frames (map view fields)) ≡ true
   good_fields fields ok = sym (all_bytes view fields) ∙ ok
 
   pub frames_are : (fields : List R) (frames : List (Vec ℕ Global)) → map (λ frame. Ok frame.items) frames ≡ map (λ field. bytes_of (view field)) fields
-      → frames_of (map view fields) ≡ Ok (map (λ frame. frame.items) frames)
+      → turn_frames (map view fields) ≡ Ok (map (λ frame. frame.items) frames)
   frames_are [] [] same = refl
   frames_are [] (frame ∷ frames) same = absurd cc
   frames_are (field ∷ fields) [] same = absurd cc

@@ -7,8 +7,8 @@ use Rattle.pf_console.specs.declared.error.DigitsFault.{DigitsFault}
 use Rattle.pf_console.specs.declared.error.DigitsFault.TheVariants.{BadNumber, Refused}
 use Rattle.pf_console.specs.declared.error.ProgramError.{ProgramError}
 use Rattle.pf_console.specs.declared.error.ProgramError.TheVariants.{Frame, Memory, Write}
-use Rattle.pf_console.specs.Digits.{frame_of}
-use Rattle.pf_console.specs.Print.{command_line}
+use Rattle.pf_console.specs.Digits.{digits_frame}
+use Rattle.pf_console.specs.Print.{line_of_command}
 use Rattle.pf_text.specs.Streams.{Written}
 
 abbrev pub command_or_error : Result Command FrameFault → Result Command DigitsFault
@@ -21,7 +21,7 @@ digits_result (Err fault) = Err BadNumber
 
 -- the command that digits encode, or why they encode none
 abbrev pub digits_command : List ℕ → Result Command DigitsFault
-digits_command digits = digits_result (frame_of digits)
+digits_command digits = digits_result (digits_frame digits)
 
 -- The line of the digits' command was written; or their error was returned and nothing written.
 -- Memory runs out only for digits that encode a command, and nothing is written then; where the
@@ -29,11 +29,11 @@ digits_command digits = digits_result (frame_of digits)
 abbrev pub PrintsFrame : List ℕ → Written → Result (Unit {0}) ProgramError → Type 0
 PrintsFrame digits w (Ok done) =
     (command : Command) × (digits_command digits ≡ Ok command)
-    × (w.after ≡ Some (w.before ++ command_line command))
+    × (w.after ≡ Some (w.before ++ line_of_command command))
 PrintsFrame digits w (Err (Frame fault)) =
     (digits_command digits ≡ Err fault) × (w.after ≡ Some w.before)
 PrintsFrame digits w (Err Memory) = IsOk (digits_command digits) × (w.after ≡ Some w.before)
 PrintsFrame digits w (Err Write) =
     (command : Command) × (part : List ℕ) × (rest : List ℕ) × (digits_command digits ≡ Ok command)
-    × (part ++ rest ≡ command_line command) × (w.after ≡ Some (w.before ++ part))
+    × (part ++ rest ≡ line_of_command command) × (w.after ≡ Some (w.before ++ part))
 PrintsFrame digits w (Err other) = ⊥

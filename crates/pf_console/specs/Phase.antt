@@ -59,17 +59,17 @@ after_line play (Seating scene) fields = with_peers play scene (peer_count_of fi
 after_line play (Playing begun) fields = after_play_line (play.after begun fields)
 
 -- the lines of a scene take memory only for bodies
-unfoldable pub allocates : {B : Type 0} → Phase B → List (List ℕ) → Bool
-allocates (Reading reader) fields = is_body_line fields
-allocates (Seating scene) fields = true
-allocates (Playing begun) fields = true
+unfoldable pub takes_memory : {B : Type 0} → Phase B → List (List ℕ) → Bool
+takes_memory (Reading reader) fields = is_body_line fields
+takes_memory (Seating scene) fields = true
+takes_memory (Playing begun) fields = true
 
 -- a text by its lines
 abbrev pub phase_rules : {B : Type 0} → PlayRules B → Rules (Phase B) SceneFault
 phase_rules play = record {
   transition = after_line play;
   line_error = scene_fault_of;
-  allocates = allocates;
+  allocates = takes_memory;
 }
 
 -- a text begins with a scene

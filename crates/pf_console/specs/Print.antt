@@ -24,8 +24,8 @@ payload_text (Stop body) = line_text (codes " stop") (pos body ∷ [])
 payload_text (Place body x y) = line_text (codes " place") (pos body ∷ x ∷ y ∷ [])
 
 -- the line of a command: its name, and what it does
-unfoldable pub command_line : Command → List ℕ
-command_line c =
+unfoldable pub line_of_command : Command → List ℕ
+line_of_command c =
     words_text (codes "tick") (pos c.name.tick ∷ [])
     ++ words_text (codes " player") (pos c.name.player ∷ [])
     ++ words_text (codes " number") (pos c.name.number ∷ []) ++ payload_text c.payload

@@ -88,8 +88,8 @@ scripts_refusal s (script ∷ scripts) =
 -- ---- what is shown
 
 -- the commands of all scripts, merged
-abbrev pub commands_of : Scene → List (List Turn) → CommandMap
-commands_of s scripts =
+abbrev pub scripted_commands : Scene → List (List Turn) → CommandMap
+scripted_commands s scripts =
     put_all empty (commands_in (unsealed s)
     (flat_map (λ script. flat_map (λ turn. turn.frames) script) scripts))
 
@@ -104,4 +104,4 @@ blocks_from s commands first (script ∷ scripts) =
 
 -- the blocks of all peers
 abbrev pub blocks_of : Scripts → List ℕ
-blocks_of s = blocks_from s.scene (commands_of s.scene s.scripts) 0 s.scripts
+blocks_of s = blocks_from s.scene (scripted_commands s.scene s.scripts) 0 s.scripts

@@ -78,14 +78,14 @@ Runs t (Err (Frame fault)) = ⊥
 Runs t (Err (Session refusal)) = ⊥
 
 -- a run that ends because its reader failed counts one failure of it, and any other run none
-abbrev pub CountsReads : {X : Type 0} → ℕ → Result X ProgramError → ℕ → Type 0
-CountsReads before (Err Read) after = after ≡ before + 1
-CountsReads before result after = after ≡ before
+abbrev pub CountsReading : {X : Type 0} → ℕ → Result X ProgramError → ℕ → Type 0
+CountsReading before (Err Read) after = after ≡ before + 1
+CountsReading before result after = after ≡ before
 
 -- the same of its writer
-abbrev pub CountsWrites : {X : Type 0} → ℕ → Result X ProgramError → ℕ → Type 0
-CountsWrites before (Err Write) after = after ≡ before + 1
-CountsWrites before result after = after ≡ before
+abbrev pub CountsWriting : {X : Type 0} → ℕ → Result X ProgramError → ℕ → Type 0
+CountsWriting before (Err Write) after = after ≡ before + 1
+CountsWriting before result after = after ≡ before
 
 -- a call that reads nothing has no error of a reader, nor of a crew, which only a text uses
 abbrev pub ReadsNothing : Result (Unit {0}) ProgramError → Type 0

@@ -2,7 +2,7 @@
 //! positions.
 
 ghost use Rattle.std.specs.Prelude.{◌≡◌, ◌<◌, IfOk};
-ghost use Rattle.pf_console.specs.Grammar.{peer_of, tick_of, body_of, real_of, impulse_of, coordinate_of, position_of, word_of, kind_of};
+ghost use Rattle.pf_console.specs.Grammar.{peer_number, tick_of, body_number, real_of, impulse_of, coordinate_field, position_of, event_word, named_kind};
 
 use pf_commands::Coordinate;
 use pf_num::Fx;
@@ -33,7 +33,7 @@ pub enum Kind {
 
 /// The word that a field is, if it is one.
 pub(crate) fn word(field: &[u8]) -> Option<EventWord>
-    ensures { result ≡ word_of field.now }
+    ensures { result ≡ event_word field.now }
 {
     if field == b"issue".as_slice() {
         Some(EventWord::Issue)
@@ -56,7 +56,7 @@ pub(crate) fn word(field: &[u8]) -> Option<EventWord>
 
 /// The kind that a field is, if it is one.
 pub(crate) fn kind_in(field: &[u8]) -> Option<Kind>
-    ensures { result ≡ kind_of field.now }
+    ensures { result ≡ named_kind field.now }
 {
     if field == b"push".as_slice() {
         Some(Kind::Push)
@@ -73,7 +73,7 @@ pub(crate) fn kind_in(field: &[u8]) -> Option<Kind>
 
 /// The number of a peer, below `peers`.
 pub(crate) fn peer(peers: u8, field: &[u8]) -> Result<u8, LineFault>
-    ensures value { result ≡ peer_of peers field.now }
+    ensures value { result ≡ peer_number peers field.now }
     ensures range { IfOk result (λ peer. peer < peers) }
 {
     match number(field, 0, i64::from(peers) - 1) {
@@ -94,7 +94,7 @@ pub(crate) fn tick(field: &[u8]) -> Result<u32, LineFault>
 
 /// The number of a body.
 pub(crate) fn body(field: &[u8]) -> Result<u16, LineFault>
-    ensures { result ≡ body_of field.now }
+    ensures { result ≡ body_number field.now }
 {
     match number(field, 0, 0xffff) {
         ParsedNumber::InRange(body) => Ok(body as u16),
@@ -124,7 +124,7 @@ pub(crate) fn impulse(x: &[u8], y: &[u8]) -> Result<V2, LineFault>
 
 /// A coordinate of a position, in units of 2^-24.
 fn coordinate(field: &[u8]) -> Result<Coordinate, LineFault>
-    ensures { result ≡ coordinate_of field.now }
+    ensures { result ≡ coordinate_field field.now }
 {
     let ParsedNumber::InRange(raw) = number(field, -MAX_POSITION, MAX_POSITION) else {
         return Err(LineFault::BadNumber);

@@ -1,7 +1,7 @@
 //! The fields of one frame, as a line.
 
 ghost use Rattle.std.specs.Prelude.{◌≡◌, ℕ, ◌+◌, ◌^◌, ◌<◌, List, Some};
-ghost use Rattle.pf_console.specs.Text.{CountsWrites, ReadsNothing};
+ghost use Rattle.pf_console.specs.Text.{CountsWriting, ReadsNothing};
 ghost use Rattle.pf_console.specs.FrameText.{digits_command, PrintsFrame};
 
 use crate::digits::frame;
@@ -29,7 +29,7 @@ pub fn frame_text<W: Sink>(alloc: Global, digits: &str, writer: &mut W) -> Resul
         → PrintsFrame digits.now
         (record { before = before; after = W.contents writer.new }) result }
     ensures reads_nothing { ReadsNothing result }
-    ensures writes_counted { CountsWrites (W.failures writer.old) result (W.failures writer.new) }
+    ensures writes_counted { CountsWriting (W.failures writer.old) result (W.failures writer.new) }
 {
     let command = read(digits.as_bytes()).map_err(ProgramError::Frame)?;
     let text = command_text(alloc, &command)?;

@@ -2,7 +2,7 @@
 
 ghost use Rattle.std.specs.Prelude.{◌≡◌, map, IfOk};
 ghost use Rattle.pf_events.specs.Session.{IsAmong};
-ghost use Rattle.pf_console.specs.Grammar.{push_of, turn_of, stop_of, place_of, issue_of, take_of, merge_of, advance_of, settle_of, show_of, event_of, seal_of};
+ghost use Rattle.pf_console.specs.Grammar.{push_event, turn_of, stop_of, place_event, issue_of, take_of, merge_event, advance_of, settle_of, show_of, event_of, seal_of};
 
 use crate::digits::frame;
 use crate::fields::{EventWord, Kind, body, impulse, kind_in, peer, position, real, tick, word};
@@ -12,9 +12,9 @@ use pf_rot::V2;
 use pf_text::LineFault;
 
 /// `issue P push B X Y`.
-#[tactic(auto, unfolding(crate::specs::Grammar::push_of))]
+#[tactic(auto, unfolding(crate::specs::Grammar::push_event))]
 fn push(peers: u8, of: &[u8], arguments: &[&[u8]]) -> Result<Event, LineFault>
-    ensures value { result ≡ push_of peers of.now (map (λ field. field.now) arguments.now) }
+    ensures value { result ≡ push_event peers of.now (map (λ field. field.now) arguments.now) }
     ensures peer { IfOk result (IsAmong peers) }
 {
     let [moved, x, y] = arguments else {
@@ -59,9 +59,9 @@ fn stop(peers: u8, of: &[u8], arguments: &[&[u8]]) -> Result<Event, LineFault>
 }
 
 /// `issue P place B X Y`.
-#[tactic(auto, unfolding(crate::specs::Grammar::place_of))]
+#[tactic(auto, unfolding(crate::specs::Grammar::place_event))]
 fn place(peers: u8, of: &[u8], arguments: &[&[u8]]) -> Result<Event, LineFault>
-    ensures value { result ≡ place_of peers of.now (map (λ field. field.now) arguments.now) }
+    ensures value { result ≡ place_event peers of.now (map (λ field. field.now) arguments.now) }
     ensures peer { IfOk result (IsAmong peers) }
 {
     let [moved, x, y] = arguments else {
@@ -107,9 +107,9 @@ fn take(peers: u8, arguments: &[&[u8]]) -> Result<Event, LineFault>
 }
 
 /// `merge P Q`.
-#[tactic(auto, unfolding(crate::specs::Grammar::merge_of))]
+#[tactic(auto, unfolding(crate::specs::Grammar::merge_event))]
 fn merge(peers: u8, arguments: &[&[u8]]) -> Result<Event, LineFault>
-    ensures value { result ≡ merge_of peers (map (λ field. field.now) arguments.now) }
+    ensures value { result ≡ merge_event peers (map (λ field. field.now) arguments.now) }
     ensures peer { IfOk result (IsAmong peers) }
 {
     let [to, from] = arguments else {

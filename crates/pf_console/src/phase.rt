@@ -113,7 +113,7 @@ impl<L, B: Play<L>> Machine<L> for Phase<B> {
         SceneFault::from(fault)
     }
 
-    #[tactic(auto, unfolding(crate::specs::Phase::after_line, crate::specs::Phase::allocates))]
+    #[tactic(auto, unfolding(crate::specs::Phase::after_line, crate::specs::Phase::takes_memory))]
     fn take(
         self,
         alloc: Global,

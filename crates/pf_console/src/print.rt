@@ -4,7 +4,7 @@ ghost use Rattle.std.specs.Prelude.{◌≡◌, ◌++◌, ◌<◌, ◌^◌, All, 
 ghost use Rattle.std.specs.List.{flat_map};
 ghost use Rattle.std.specs.String.{string_bytes};
 ghost use Rattle.pf_manifold.specs.Key.{IsKey};
-ghost use Rattle.pf_console.specs.Print.{payload_text, command_line, body_numbers, dynamic_body_text, bodies_text, contact_numbers, contact_text, block_text, reply_line, refusal_line, refusal_text, reply_text};
+ghost use Rattle.pf_console.specs.Print.{payload_text, line_of_command, body_numbers, dynamic_body_text, bodies_text, contact_numbers, contact_text, block_text, reply_line, refusal_line, refusal_text, reply_text};
 
 use crate::names::{put_name, refusal_name};
 use itoa::Buffer;
@@ -40,9 +40,9 @@ fn push_payload(text: &mut String, payload: &Payload) -> Result<(), AllocError>
 }
 
 /// The line of a command.
-#[tactic(auto, unfolding(crate::specs::Print::command_line))]
+#[tactic(auto, unfolding(crate::specs::Print::line_of_command))]
 pub fn command_text(alloc: Global, command: &Command) -> Result<String, AllocError>
-    ensures { IfOk result (λ text. string_bytes text ≡ command_line command.now) }
+    ensures { IfOk result (λ text. string_bytes text ≡ line_of_command command.now) }
 {
     let mut text = String::new(alloc);
     push_words(&mut text, "tick", &[i64::from(command.name.tick())])?;

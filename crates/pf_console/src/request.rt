@@ -3,7 +3,7 @@
 ghost use Rattle.std.specs.Prelude.{◌≡◌, ℕ, ◌+◌, ◌^◌, ◌<◌, List, Some};
 ghost use Rattle.pf_text.specs.Streams.{IfExposed};
 ghost use Rattle.pf_console.specs.Request.{CanStart, FailsByThreadsOf, Performs, Writes};
-ghost use Rattle.pf_console.specs.Text.{CountsReads, CountsWrites, ReadsNothing};
+ghost use Rattle.pf_console.specs.Text.{CountsReading, CountsWriting, ReadsNothing};
 
 use crate::error::ProgramError;
 use crate::frame::frame_text;
@@ -41,7 +41,7 @@ fn say<W: Sink>(text: &str, writer: &mut W) -> Result<(), ProgramError>
     ensures text { (before : List ℕ) → W.contents writer.old ≡ Some before
         → Writes text.now (record { before = before; after = W.contents writer.new }) result }
     ensures reads_nothing { ReadsNothing result }
-    ensures writes_counted { CountsWrites (W.failures writer.old) result (W.failures writer.new) }
+    ensures writes_counted { CountsWriting (W.failures writer.old) result (W.failures writer.new) }
 {
     Ok(writer.write_all(text.as_bytes())?)
 }
@@ -72,8 +72,8 @@ where
       after = W.contents writer.new;
     })
         (λ transfer. Performs request.entry transfer result) }
-    ensures reads_counted { CountsReads (R.failures reader.old) result (R.failures reader.new) }
-    ensures writes_counted { CountsWrites (W.failures writer.old) result (W.failures writer.new) }
+    ensures reads_counted { CountsReading (R.failures reader.old) result (R.failures reader.new) }
+    ensures writes_counted { CountsWriting (W.failures writer.old) result (W.failures writer.new) }
     ensures crew { FailsByThreadsOf C.may_fail request.entry result }
 {
     match request {

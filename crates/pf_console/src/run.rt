@@ -3,7 +3,7 @@
 ghost use Rattle.std.specs.Prelude.{◌+◌, ◌^◌, ◌<◌};
 ghost use Rattle.pf_text.specs.Streams.{IfExposed};
 ghost use Rattle.pf_console.specs.Crews.{FailsByCrew};
-ghost use Rattle.pf_console.specs.Text.{Runs, CountsReads, CountsWrites};
+ghost use Rattle.pf_console.specs.Text.{Runs, CountsReading, CountsWriting};
 
 use crate::ending::outcome_of;
 use crate::error::ProgramError;
@@ -41,8 +41,8 @@ pub fn run_text<P: Collider, R: Source, W: Sink, C: Crew>(
     })
         (λ transfer. Runs transfer result) }
     // An error of the reader or the writer is returned exactly where it failed in this call.
-    ensures reads_counted { CountsReads (R.failures reader.old) result (R.failures reader.new) }
-    ensures writes_counted { CountsWrites (W.failures writer.old) result (W.failures writer.new) }
+    ensures reads_counted { CountsReading (R.failures reader.old) result (R.failures reader.new) }
+    ensures writes_counted { CountsWriting (W.failures writer.old) result (W.failures writer.new) }
     ensures crew { FailsByCrew C.may_fail result }
 {
     let mut settler = Settler::new(collider, crew);

@@ -7,7 +7,7 @@ ghost use Rattle.pf_step.specs.declared.crew.CrewError.{CrewError};
 ghost use Rattle.pf_console.specs.declared.error.ProgramError.TheVariants.{Crew};
 ghost use Rattle.pf_console.specs.Crews.{FailsByThreads};
 ghost use Rattle.pf_console.specs.SessionText.{PlaysSession, ReadsScripts, WritesNothing};
-ghost use Rattle.pf_console.specs.Text.{CountsReads, CountsWrites};
+ghost use Rattle.pf_console.specs.Text.{CountsReading, CountsWriting};
 
 use crate::ending::outcome_of;
 use crate::error::ProgramError;
@@ -33,8 +33,8 @@ fn read_scripts<R: Source, W: Sink>(
       after = W.contents writer.new;
     })
         (λ transfer. WritesNothing transfer × ReadsScripts transfer result) }
-    ensures reads_counted { CountsReads (R.failures reader.old) result (R.failures reader.new) }
-    ensures writes_counted { CountsWrites (W.failures writer.old) result (W.failures writer.new) }
+    ensures reads_counted { CountsReading (R.failures reader.old) result (R.failures reader.new) }
+    ensures writes_counted { CountsWriting (W.failures writer.old) result (W.failures writer.new) }
     ensures no_threads { (error : CrewError) → result ≢ Err (Crew error) }
 {
     let read = drive(alloc, &mut (), reader, writer, Phase::<Scripts>::first());
@@ -65,8 +65,8 @@ pub fn session_text<T: Threads + Wait + Copy + Send + Sync + 'static, R: Source,
     })
         (λ transfer. PlaysSession transfer result) }
     // An error of the reader or the writer is returned exactly where it failed in this call.
-    ensures reads_counted { CountsReads (R.failures reader.old) result (R.failures reader.new) }
-    ensures writes_counted { CountsWrites (W.failures writer.old) result (W.failures writer.new) }
+    ensures reads_counted { CountsReading (R.failures reader.old) result (R.failures reader.new) }
+    ensures writes_counted { CountsWriting (W.failures writer.old) result (W.failures writer.new) }
     ensures threads { FailsByThreads crew result }
 {
     let scripts = read_scripts(alloc, reader, writer)?;

@@ -3,9 +3,9 @@
 ghost use Rattle.std.specs.Prelude.{◌≡◌, ◌<◌, All, IfOk, IsOk, Ok, is_ok, map};
 ghost use Rattle.std.specs.List.{list_all};
 ghost use Rattle.pf_text.specs.Fault.{Returns};
-ghost use Rattle.pf_scripts.specs.Script.{bytes_of as frames_in_memory};
+ghost use Rattle.pf_scripts.specs.Script.{frame_bytes as frames_in_memory};
 ghost use Rattle.pf_console.specs.Digits.{bytes_of};
-ghost use Rattle.pf_console.specs.Turns.{frames_of, said_by, turn_of};
+ghost use Rattle.pf_console.specs.Turns.{turn_frames, said_by, turn_of};
 
 use crate::digits::{are_bytes, bytes};
 use crate::fields::{peer, tick};
@@ -24,7 +24,7 @@ fn are_frames(fields: &[&[u8]]) -> bool
 fn decoded(alloc: Global, fields: &[&[u8]]) -> Result<Vec<Vec<u8>>, AllocError>
     requires { All (λ field. IsOk (bytes_of field.now)) fields.now }
     ensures { IfOk result (λ frames.
-        frames_of (map (λ field. field.now) fields.now) ≡ Ok (frames_in_memory frames.items)) }
+        turn_frames (map (λ field. field.now) fields.now) ≡ Ok (frames_in_memory frames.items)) }
 {
     let mut frames = Vec::new(alloc);
     for field in fields {
@@ -37,7 +37,7 @@ fn decoded(alloc: Global, fields: &[&[u8]]) -> Result<Vec<Vec<u8>>, AllocError>
 #[tactic(auto, using(crate::proofs::TurnFields::each_is_ok, crate::proofs::TurnFields::bad_fields, crate::proofs::TurnFields::good_fields))]
 fn frames(alloc: Global, fields: &[&[u8]]) -> Result<Vec<Vec<u8>>, LineError>
     ensures { Returns (λ frames. frames_in_memory frames.items) result
-        (frames_of (map (λ field. field.now) fields.now)) }
+        (turn_frames (map (λ field. field.now) fields.now)) }
 {
     if !are_frames(fields) {
         return Err(LineError::Fault(LineFault::BadNumber));

@@ -101,18 +101,20 @@ pub record AddsRead
   pub adds : AddsScene old new result (returned read_error scene)
 
 -- a scene with a body more, or why it has none
-abbrev pub pushed : Scene → Result (Fixture × (V2 × Rot)) SceneFault → Result Scene SceneFault
-pushed scene (Ok body) =
+abbrev pub extended_scene : Scene → Result (Fixture × (V2 × Rot)) SceneFault
+    → Result Scene SceneFault
+extended_scene scene (Ok body) =
     if nat_lt (length scene.fixtures) MAX_BODIES then Ok (with_body scene body.0 body.1.0 body.1.1)
     else Err TooMany
-pushed scene (Err fault) = Err fault
+extended_scene scene (Err fault) = Err fault
 
 -- a body is pushed, and its number returned; an error leaves the scene as it was
 abbrev pub Pushes : Result (Fixture × (V2 × Rot)) SceneFault → Scene → Scene
     → Result ℕ ContextError → Type 0
-Pushes body old new (Ok number) = (pushed old body ≡ Ok new) × (number ≡ length old.fixtures)
-Pushes body old new (Err errors.OutOfMemory) = IsOk (pushed old body) × (new ≡ old)
-Pushes body old new (Err (errors.Scene fault)) = (pushed old body ≡ Err fault) × (new ≡ old)
+Pushes body old new (Ok number) =
+    (extended_scene old body ≡ Ok new) × (number ≡ length old.fixtures)
+Pushes body old new (Err errors.OutOfMemory) = IsOk (extended_scene old body) × (new ≡ old)
+Pushes body old new (Err (errors.Scene fault)) = (extended_scene old body ≡ Err fault) × (new ≡ old)
 Pushes body old new (Err error) = ⊥
 
 -- ---- calls of peers

@@ -13,8 +13,8 @@ abbrev pub later_commands : ℕ → List (Name × Payload) → List (Name × Pay
 later_commands tick commands = filter (λ e. nat_le tick e.0.tick) commands
 
 -- the frame of a command
-abbrev pub frame_of : Name × Payload → List ℕ
-frame_of e = encoding (record { name = e.0; payload = e.1 })
+abbrev pub command_frame : Name × Payload → List ℕ
+command_frame e = encoding (record { name = e.0; payload = e.1 })
 
 -- the frames of commands are written where they fit, and else nothing; how many they are is
 -- returned either way
@@ -22,7 +22,7 @@ abbrev pub WritesFrames : List (Name × Payload) → List (List ℕ) → List (L
     → Result ℕ ContextError → Type 0
 WritesFrames commands old new (Ok count) =
     (count ≡ length commands) × (count ≤ length old)
-    × (new ≡ map frame_of commands ++ drop count old)
+    × (new ≡ map command_frame commands ++ drop count old)
 WritesFrames commands old new (Err (SmallBuffer count)) =
     (count ≡ length commands) × (length old < count) × (new ≡ old)
 WritesFrames commands old new (Err error) = ⊥

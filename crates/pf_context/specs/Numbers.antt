@@ -28,8 +28,8 @@ checked_owner None = Ok None
 checked_owner (Some player) = if nat_lt player PLAYERS then Ok (Some player) else Err BadNumber
 
 -- the gravity of a scene
-abbrev pub gravity_of : RawV2 → Result V2 SceneFault
-gravity_of raw = checked_vector MAX_GRAVITY (Some raw.x) (Some raw.y)
+abbrev pub scene_gravity : RawV2 → Result V2 SceneFault
+scene_gravity raw = checked_vector MAX_GRAVITY (Some raw.x) (Some raw.y)
 
 -- the fixture of a circle
 abbrev pub circle_of : Material → ℤ → Result Fixture SceneFault
@@ -59,34 +59,35 @@ empty_scene_of (Err fault) = Err fault
 
 -- a scene without bodies
 abbrev pub scene_of_gravity : RawV2 → Result Scene ContextError
-scene_of_gravity raw = returned errors.Scene (empty_scene_of (gravity_of raw))
+scene_of_gravity raw = returned errors.Scene (empty_scene_of (scene_gravity raw))
 
 -- ---- payloads of commands
 
 -- a number of a command
-unfoldable pub fixed_of : ℤ → Result ℤ ContextError
-fixed_of z = if nat_le (unsigned_abs z) (unsigned_abs max_raw) then Ok z else Err errors.BadNumber
+unfoldable pub checked_fixed : ℤ → Result ℤ ContextError
+checked_fixed z =
+    if nat_le (unsigned_abs z) (unsigned_abs max_raw) then Ok z else Err errors.BadNumber
 
 -- a part of a position to which a command moves a body
-unfoldable pub coordinate_of : ℤ → Result ℤ ContextError
-coordinate_of z = if is_coordinate z then Ok z else Err errors.BadNumber
+unfoldable pub checked_coordinate : ℤ → Result ℤ ContextError
+checked_coordinate z = if is_coordinate z then Ok z else Err errors.BadNumber
 
 -- an impulse
-unfoldable pub push_of : ℕ → RawV2 → Result Payload ContextError
-push_of body v = do
-  x ← fixed_of v.x
-  y ← fixed_of v.y
+unfoldable pub push_payload : ℕ → RawV2 → Result Payload ContextError
+push_payload body v = do
+  x ← checked_fixed v.x
+  y ← checked_fixed v.y
   Ok (Push body x y)
 
 -- an angular impulse
-unfoldable pub turn_of : ℕ → ℤ → Result Payload ContextError
-turn_of body x = do
-  x ← fixed_of x
+unfoldable pub turn_payload : ℕ → ℤ → Result Payload ContextError
+turn_payload body x = do
+  x ← checked_fixed x
   Ok (Turn body x)
 
 -- a position
-unfoldable pub place_of : ℕ → RawV2 → Result Payload ContextError
-place_of body v = do
-  x ← coordinate_of v.x
-  y ← coordinate_of v.y
+unfoldable pub place_payload : ℕ → RawV2 → Result Payload ContextError
+place_payload body v = do
+  x ← checked_coordinate v.x
+  y ← checked_coordinate v.y
   Ok (Place body x y)

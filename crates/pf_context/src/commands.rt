@@ -10,7 +10,7 @@ impl Context {
     ghost use Rattle.pf_commands.specs.Frame.{decode};
     ghost use Rattle.pf_context.specs.Context.{peer_at};
     ghost use Rattle.pf_context.specs.Errors.{peer_error};
-    ghost use Rattle.pf_rollback.specs.Calls.{Issues, Takes};
+    ghost use Rattle.pf_rollback.specs.Calls.{Issues, TakesFrame};
     ghost use Rattle.pf_context.specs.Calls.{CallsPeer};
 
     /// Takes the command that a frame encodes to a peer, of any player, for any tick from the
@@ -18,7 +18,7 @@ impl Context {
     pub fn take(&mut self, peer: Key, frame: &[u8]) -> Result<Put, ContextError>
         ensures bad_key { IsErrOf result ContextError.BadKey ↔ (peer_at self.old peer ≡ None) }
         ensures call { CallsPeer peer_error self.old self.new peer result
-            (Takes (decode frame.now)) }
+            (TakesFrame (decode frame.now)) }
     {
         let Some(core) = self.peers.get_mut(peer) else {
             return Err(ContextError::BadKey);

@@ -5,7 +5,7 @@ ghost use Rattle.std.specs.FinMap.{entries};
 ghost use Rattle.pf_commands.specs.Check.{check};
 ghost use Rattle.pf_commands.specs.Frame.{encoding};
 ghost use Rattle.pf_rollback.specs.Core.{AreAllowed};
-ghost use Rattle.pf_context.specs.Frames.{frame_of, later_commands};
+ghost use Rattle.pf_context.specs.Frames.{command_frame, later_commands};
 
 use crate::context::Context;
 use crate::error::ContextError;
@@ -42,7 +42,7 @@ fn write_frames(scene: &Scene, commands: &CommandMap, tick: u32, frames: &mut [[
     requires allowed { AreAllowed scene.now commands.now }
     requires room { length (later_commands tick (entries commands.now)) ≤ length frames.old }
     ensures { let later = later_commands tick (entries commands.now) in
-        frames.new ≡ map frame_of later ++ drop (length later) frames.old }
+        frames.new ≡ map command_frame later ++ drop (length later) frames.old }
 {
     let mut place = 0;
     for (name, payload) in commands.iter() {

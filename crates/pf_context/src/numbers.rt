@@ -3,7 +3,7 @@
 ghost use Rattle.std.specs.Prelude.{◌≡◌, IfOk};
 ghost use Rattle.pf_shapes.specs.Fixture.{IsOwner};
 ghost use Rattle.pf_shapes.specs.Scene.{IsGravity, IsTransform};
-ghost use Rattle.pf_context.specs.Numbers.{box_of, checked_owner, circle_of, coordinate_of, fixed_of, gravity_of, place_of, push_of, turn_of, turned_at, upright_at};
+ghost use Rattle.pf_context.specs.Numbers.{box_of, checked_owner, circle_of, checked_coordinate, checked_fixed, scene_gravity, place_payload, push_payload, turn_payload, turned_at, upright_at};
 
 use crate::error::ContextError;
 use pf_commands::{Coordinate, Payload};
@@ -33,7 +33,7 @@ pub struct Material {
 
 /// The gravity of a scene.
 pub(crate) fn gravity(raw: RawV2) -> Result<V2, SceneFault>
-    ensures value { result ≡ gravity_of raw }
+    ensures value { result ≡ scene_gravity raw }
     ensures range { IfOk result IsGravity }
 {
     numbers::gravity(Some(raw.x), Some(raw.y))
@@ -95,17 +95,17 @@ pub(crate) fn box_of(material: Material, half: RawV2) -> Result<Fixture, SceneFa
 }
 
 /// A number of a command.
-#[tactic(auto, unfolding(crate::specs::Numbers::fixed_of))]
+#[tactic(auto, unfolding(crate::specs::Numbers::checked_fixed))]
 fn fixed(raw: i64) -> Result<Fx, ContextError>
-    ensures { result ≡ fixed_of raw }
+    ensures { result ≡ checked_fixed raw }
 {
     Fx::from_raw(raw).ok_or(ContextError::BadNumber)
 }
 
 /// A part of a position to which a command moves a body.
-#[tactic(auto, unfolding(crate::specs::Numbers::coordinate_of, crate::specs::Numbers::fixed_of))]
+#[tactic(auto, unfolding(crate::specs::Numbers::checked_coordinate, crate::specs::Numbers::checked_fixed))]
 fn coordinate(raw: i64) -> Result<Coordinate, ContextError>
-    ensures { result ≡ coordinate_of raw }
+    ensures { result ≡ checked_coordinate raw }
 {
     match Coordinate::new(fixed(raw)?) {
         Some(coordinate) => Ok(coordinate),
@@ -115,9 +115,9 @@ fn coordinate(raw: i64) -> Result<Coordinate, ContextError>
 
 /// A push: an impulse, mass times lengths a second. Returns `BadNumber` where a part is above 2^55
 /// - 1 in magnitude.
-#[tactic(auto, unfolding(crate::specs::Numbers::push_of))]
+#[tactic(auto, unfolding(crate::specs::Numbers::push_payload))]
 pub fn push(body: u16, impulse: RawV2) -> Result<Payload, ContextError>
-    ensures { result ≡ push_of body impulse }
+    ensures { result ≡ push_payload body impulse }
 {
     let x = fixed(impulse.x)?;
     let y = fixed(impulse.y)?;
@@ -126,9 +126,9 @@ pub fn push(body: u16, impulse: RawV2) -> Result<Payload, ContextError>
 
 /// A turn: an angular impulse, inertia times radians a second. Returns `BadNumber` where it is
 /// above 2^55 - 1 in magnitude.
-#[tactic(auto, unfolding(crate::specs::Numbers::turn_of))]
+#[tactic(auto, unfolding(crate::specs::Numbers::turn_payload))]
 pub fn turn(body: u16, impulse: i64) -> Result<Payload, ContextError>
-    ensures { result ≡ turn_of body impulse }
+    ensures { result ≡ turn_payload body impulse }
 {
     let x = fixed(impulse)?;
     Ok(Payload::Turn { body, x })
@@ -136,9 +136,9 @@ pub fn turn(body: u16, impulse: i64) -> Result<Payload, ContextError>
 
 /// A place: the position to which the body is moved. Returns `BadNumber` where a part is above 2^44
 /// in magnitude.
-#[tactic(auto, unfolding(crate::specs::Numbers::place_of))]
+#[tactic(auto, unfolding(crate::specs::Numbers::place_payload))]
 pub fn place(body: u16, position: RawV2) -> Result<Payload, ContextError>
-    ensures { result ≡ place_of body position }
+    ensures { result ≡ place_payload body position }
 {
     let x = coordinate(position.x)?;
     let y = coordinate(position.y)?;

@@ -15,16 +15,16 @@ use Rattle.pf_commands.proofs.Lists.{put_all-same}
 use Rattle.pf_commands.proofs.Merging.{same_commands}
 use Rattle.pf_events.specs.declared.event.Event.{Event}
 use Rattle.pf_events.specs.Laws.{IsAlike, commands_for}
-use Rattle.pf_events.specs.Session.{Session, peer_at, replies_to, session_after_all}
+use Rattle.pf_events.specs.Session.{Session, peer_in, replies_to, session_after_all}
 use Rattle.pf_events.proofs.Horizons.{held_part}
 use Rattle.pf_events.proofs.Calls.{length-session_after_all, peer_after_all, same_peer, same_session, scene-session_after_all}
 
 pub same_replies : (s t : Session) (later : List Event) → s.scene ≡ t.scene → length s.peers ≡ length t.peers
-    → ((i : ℕ) → i < length s.peers → IsAlike (peer_at s i) (peer_at t i)) → replies_to s later ≡ replies_to t later
+    → ((i : ℕ) → i < length s.peers → IsAlike (peer_in s i) (peer_in t i)) → replies_to s later ≡ replies_to t later
 same_replies s t later scene count alike =
     ap (λ (x : Session). replies_to x later) (same_session s t scene count (λ i h.
     let same = alike i h in
-    same_peer (peer_at s i) (peer_at t i) same.player same.horizon same.base (same_commands (peer_at s i).commands (peer_at t i).commands same.commands) same.reached))
+    same_peer (peer_in s i) (peer_in t i) same.player same.horizon same.base (same_commands (peer_in s i).commands (peer_in t i).commands same.commands) same.reached))
 
 -- peers that have sealed and hold the same since tick zero, and have the same horizon
 same_held : (s : Scene) (sealed others : CommandMap) (p q : Peer) → HasSealed s sealed p → HasSealed s others q → p.horizon ≡ q.horizon
@@ -45,12 +45,12 @@ same_base s sealed others p q of_p of_q horizon same =
     base_is s sealed p of_p ∙ ap₂ (sim s) same horizon ∙ sym (base_is s others q of_q)
 
 pub same_in_any_order : (s : Session) (sealed : ℕ → CommandMap) (events others later : List Event)
-    → ((i : ℕ) → i < length s.peers → HasSealed s.scene (sealed i) (peer_at s i))
-    → ((i : ℕ) → i < length s.peers → IsCommandMap (merge (sealed i) (peer_at s i).commands))
+    → ((i : ℕ) → i < length s.peers → HasSealed s.scene (sealed i) (peer_in s i))
+    → ((i : ℕ) → i < length s.peers → IsCommandMap (merge (sealed i) (peer_in s i).commands))
     → ((i : ℕ) → i < length s.peers → All IsCommand (commands_for s i events))
     → ((i : ℕ) → i < length s.peers → (c : Command) → Contains (commands_for s i events) c ↔ Contains (commands_for s i others) c)
-    → ((i : ℕ) → i < length s.peers → (peer_at (session_after_all s events) i).horizon ≡ (peer_at (session_after_all s others) i).horizon)
-    → ((i : ℕ) → i < length s.peers → (peer_at (session_after_all s events) i).reached ≡ (peer_at (session_after_all s others) i).reached)
+    → ((i : ℕ) → i < length s.peers → (peer_in (session_after_all s events) i).horizon ≡ (peer_in (session_after_all s others) i).horizon)
+    → ((i : ℕ) → i < length s.peers → (peer_in (session_after_all s events) i).reached ≡ (peer_in (session_after_all s others) i).reached)
     → replies_to (session_after_all s events) later ≡ replies_to (session_after_all s others) later
 same_in_any_order s sealed events others later has named are same horizons reached =
     let after = session_after_all s events in
@@ -62,13 +62,13 @@ same_in_any_order s sealed events others later has named are same horizons reach
     let within : i < length s.peers = omega (arith, length-session_after_all s events) in
     let first = peer_after_all s (sealed i) events i within (has i within) in
     let second = peer_after_all s (sealed i) others i within (has i within) in
-    let all : merge first.later (peer_at after i).commands ≡ merge second.later (peer_at other i).commands =
+    let all : merge first.later (peer_in after i).commands ≡ merge second.later (peer_in other i).commands =
     first.all
-    ∙ put_all-same (merge (sealed i) (peer_at s i).commands) (commands_for s i events) (commands_for s i others) (named i within)
+    ∙ put_all-same (merge (sealed i) (peer_in s i).commands) (commands_for s i events) (commands_for s i others) (named i within)
     (λ d has. All-contains IsCommand (commands_for s i events) d (are i within) has) (same i within)
     ∙ sym second.all in
     let horizon = horizons i within in
-    same_peer (peer_at after i) (peer_at other i) (first.player ∙ sym second.player) horizon
-    (same_base s.scene first.later second.later (peer_at after i) (peer_at other i) first.has second.has horizon all)
-    (same_held s.scene first.later second.later (peer_at after i) (peer_at other i) first.has second.has horizon all)
+    same_peer (peer_in after i) (peer_in other i) (first.player ∙ sym second.player) horizon
+    (same_base s.scene first.later second.later (peer_in after i) (peer_in other i) first.has second.has horizon all)
+    (same_held s.scene first.later second.later (peer_in after i) (peer_in other i) first.has second.has horizon all)
     (reached i within)))

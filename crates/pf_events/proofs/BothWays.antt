@@ -24,7 +24,7 @@ use Rattle.pf_rollback.specs.Peer.{Peer, merge_map, merge_sealed, with_commands}
 use Rattle.pf_rollback.proofs.Allowed.{allowed_merge}
 use Rattle.pf_events.specs.declared.event.Event.TheVariants.{Merge}
 use Rattle.pf_events.specs.Laws.{IsAllowedPeer}
-use Rattle.pf_events.specs.Session.{Session, peer_answer, peer_at, session_after}
+use Rattle.pf_events.specs.Session.{Session, peer_answer, peer_in, session_after}
 use Rattle.pf_events.proofs.Calls.{asked_peer, other_peer}
 use Rattle.pf_events.proofs.Horizons.{IsFrom-merge}
 use Rattle.pf_events.proofs.Maps.{first, second}
@@ -79,10 +79,10 @@ merged_peer s q p i j two horizon base are from =
     rw (test, same, world, ok, late) refl
 
 pub merged_both_ways : (s : Session) (i j : ℕ) → i < length s.peers → j < length s.peers
-    → IsAllowedPeer s.scene (peer_at s i) → IsAllowedPeer s.scene (peer_at s j)
-    → (peer_at s i).horizon ≡ (peer_at s j).horizon → (peer_at s i).base ≡ (peer_at s j).base
+    → IsAllowedPeer s.scene (peer_in s i) → IsAllowedPeer s.scene (peer_in s j)
+    → (peer_in s i).horizon ≡ (peer_in s j).horizon → (peer_in s i).base ≡ (peer_in s j).base
     → let t = session_after (session_after s (Merge i j)) (Merge j i) in
-    (peer_at t i).commands ≡ (peer_at t j).commands
+    (peer_in t i).commands ≡ (peer_in t j).commands
 merged_both_ways s i j in_i in_j are_i are_j horizon base = by (i == j) refl
   where
     u : Session
@@ -92,35 +92,35 @@ merged_both_ways s i j in_i in_j are_i are_j horizon base = by (i == j) refl
     t = session_after u (Merge j i)
 
     m : CommandMap
-    m = (peer_at s i).commands
+    m = (peer_in s i).commands
 
     k : CommandMap
-    k = (peer_at s j).commands
+    k = (peer_in s j).commands
 
-    by : (b : Bool) → (i == j) ≡ b → (peer_at t i).commands ≡ (peer_at t j).commands
-    by true test = let same : i ≡ j = grind (arith, nat_tests) in ap (λ n. (peer_at t n).commands) same
+    by : (b : Bool) → (i == j) ≡ b → (peer_in t i).commands ≡ (peer_in t j).commands
+    by true test = let same : i ≡ j = grind (arith, nat_tests) in ap (λ n. (peer_in t n).commands) same
     by false test =
         let two : i ≢ j = λ same. grind (arith, nat_tests) in
         let back : j ≢ i = λ same. two (sym same) in
-        let p : Peer = peer_at s i in
-        let q : Peer = peer_at s j in
-        let now_i : peer_at u i ≡ with_commands p q.commands =
+        let p : Peer = peer_in s i in
+        let q : Peer = peer_in s j in
+        let now_i : peer_in u i ≡ with_commands p q.commands =
         asked_peer s (Merge i j) in_i ∙ merged_peer s.scene q p i j back horizon base are_j.allowed are_j.from in
-        let now_j : peer_at u j ≡ q = other_peer s (Merge i j) j back in
-        let still_i : (peer_at t i).commands ≡ merge m k = ap (λ (x : Peer). x.commands) (other_peer u (Merge j i) i two ∙ now_i) in
-        let are : AreAllowed s.scene (peer_at u i).commands =
+        let now_j : peer_in u j ≡ q = other_peer s (Merge i j) j back in
+        let still_i : (peer_in t i).commands ≡ merge m k = ap (λ (x : Peer). x.commands) (other_peer u (Merge j i) i two ∙ now_i) in
+        let are : AreAllowed s.scene (peer_in u i).commands =
         subst (λ (x : Peer). AreAllowed s.scene x.commands) (sym now_i) (allowed_merge s.scene m k are_i.allowed (map_checked s.scene k are_j.allowed)) in
-        let from : IsFrom (peer_at u i).horizon (peer_at u i).commands =
+        let from : IsFrom (peer_in u i).horizon (peer_in u i).commands =
         subst (λ (x : Peer). IsFrom x.horizon x.commands) (sym now_i)
         (IsFrom-merge p.horizon m k are_i.from (subst (λ h. IsFrom h k) (sym horizon) are_j.from)) in
-        let one_horizon : (peer_at u j).horizon ≡ (peer_at u i).horizon =
+        let one_horizon : (peer_in u j).horizon ≡ (peer_in u i).horizon =
         ap (λ (x : Peer). x.horizon) now_j ∙ sym horizon ∙ ap (λ (x : Peer). x.horizon) (sym now_i) in
-        let one_base : (peer_at u j).base ≡ (peer_at u i).base =
+        let one_base : (peer_in u j).base ≡ (peer_in u i).base =
         ap (λ (x : Peer). x.base) now_j ∙ sym base ∙ ap (λ (x : Peer). x.base) (sym now_i) in
-        let then_j : (peer_at t j).commands ≡ merge k (merge m k) =
+        let then_j : (peer_in t j).commands ≡ merge k (merge m k) =
         ap (λ (x : Peer). x.commands)
         (asked_peer u (Merge j i) (omega (arith, length-session_after s (Merge i j)))
-        ∙ merged_peer u.scene (peer_at u i) (peer_at u j) j i two one_horizon one_base are from)
-        ∙ ap (λ (x : Peer). merge x.commands (peer_at u i).commands) now_j ∙ ap (λ (x : Peer). merge k x.commands) now_i in
+        ∙ merged_peer u.scene (peer_in u i) (peer_in u j) j i two one_horizon one_base are from)
+        ∙ ap (λ (x : Peer). merge x.commands (peer_in u i).commands) now_j ∙ ap (λ (x : Peer). merge k x.commands) now_i in
         still_i ∙ sym (then_j ∙ merge_comm k (merge m k) are_j.ranges (AreCommands-merge m k are_i.ranges are_j.ranges)
         ∙ merge_assoc m k k ∙ ap (merge m) (merge_same k))

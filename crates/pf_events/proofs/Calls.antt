@@ -26,8 +26,8 @@ use Rattle.pf_events.specs.declared.event.Event.{Event}
 use Rattle.pf_events.specs.declared.event.Event.TheVariants.{Issue, Take, Merge, Advance, Settle, Show, Seal}
 use Rattle.pf_events.specs.declared.event.Reply.{Reply}
 use Rattle.pf_events.specs.declared.event.Reply.TheVariants.{Issued, Took, Merged, Advanced, Sealed}
-use Rattle.pf_events.specs.Laws.{if_taken, commands_of, new_commands, commands_for}
-use Rattle.pf_events.specs.Session.{Session, merge_of, other_peer_at, peer_answer, peer_at, peer_of, reply_and_peer, session_after, session_after_all}
+use Rattle.pf_events.specs.Laws.{if_taken, listed_commands, new_commands, commands_for}
+use Rattle.pf_events.specs.Session.{Session, merge_of, other_peer_at, peer_answer, peer_in, event_peer, reply_and_peer, session_after, session_after_all}
 use Rattle.pf_events.proofs.Horizons.{IsFrom-merge, IsFrom-put, merge-put_all}
 use Rattle.pf_events.proofs.Maps.{put_all-commands_of}
 use Rattle.pf_events.proofs.Sessions.{length-session_after}
@@ -77,7 +77,7 @@ put_late p c outcome false test = record {
 }
 
 merge_late : (p : Peer) (others : CommandMap) (count : ℕ) (late : Bool) → is_from p.horizon others ≡ late
-    → Brings p (commands_of others) (if late then Ok (count, with_commands p others) else Err (TooOld p.horizon))
+    → Brings p (listed_commands others) (if late then Ok (count, with_commands p others) else Err (TooOld p.horizon))
 merge_late p others count true test = record {
   player = λ reply. refl;
   horizon = λ reply. refl;
@@ -85,7 +85,7 @@ merge_late p others count true test = record {
   commands = λ reply. sym (put_all-commands_of p.commands others);
   from = λ reply from. IsFrom-merge p.horizon p.commands others from (is_from-IsFrom p.horizon others test);
 }
-merge_late p others count false test = refused_outcome p (commands_of others) _
+merge_late p others count false test = refused_outcome p (listed_commands others) _
 
 pub puts : (s : Scene) (p : Peer) (c : Command) → Brings p (c ∷ []) (put s p c)
 unfolding put
@@ -110,16 +110,16 @@ issues s p payload =
     (either (Brings p (c ∷ [])) (nat_le NUMBERS (next_number p.commands p.reached p.player)) (Err _) _ (refused_outcome p (c ∷ []) _)
     (framed p c (put s p c) (puts s p c)))
 
-merges_map : (s : Scene) (p : Peer) (others : CommandMap) → Brings p (commands_of others) (merge_map s p others)
+merges_map : (s : Scene) (p : Peer) (others : CommandMap) → Brings p (listed_commands others) (merge_map s p others)
 unfolding merge_map
 merges_map s p others =
-    allowed p (commands_of others) (check_all s (entries others)) _
+    allowed p (listed_commands others) (check_all s (entries others)) _
     (merge_late p others (length (news p.commands others)) (is_from p.horizon others) refl)
 
-pub merges : (s : Scene) (p q : Peer) → Brings p (commands_of q.commands) (merge_of s p q)
+pub merges : (s : Scene) (p q : Peer) → Brings p (listed_commands q.commands) (merge_of s p q)
 unfolding merge_sealed
 merges s p q =
-    let cs = commands_of q.commands in
+    let cs = listed_commands q.commands in
     either (Brings p cs) (p.horizon == q.horizon) _ _
     (either (Brings p cs) (same_world p.base q.base) _ _ (merges_map s p q.commands) (refused_outcome p cs _)) (refused_outcome p cs _)
 
@@ -192,7 +192,7 @@ peer_after_one s sealed q p (Take peer (Err fault)) has = same_after_none s seal
 peer_after_one s sealed q p (Merge peer other) has = by (other == peer)
   where
     by : (b : Bool) → IsPeerAfter s sealed p (if b then (Merged peer 0, p) else reply_and_peer (λ count. Merged peer count) p (merge_of s p q)).1
-        (if b then [] else if_taken (merge_of s p q) (commands_of q.commands))
+        (if b then [] else if_taken (merge_of s p q) (listed_commands q.commands))
     by true = same_after_none s sealed p has
     by false = brought s sealed p _ (merge_of s p q) (λ count. Merged peer count) has (merges s p q)
 peer_after_one s sealed q p (Advance peer ticks) has =
@@ -209,40 +209,40 @@ peer_after_one s sealed q p (Seal peer tick) has = sealed_more s sealed p peer t
 -- ---- one peer of a session
 
 -- the peer of an event is the one that answered
-pub asked_peer : (s : Session) (event : Event) → peer_of event < length s.peers
-    → peer_at (session_after s event) (peer_of event) ≡ (peer_answer s.scene (other_peer_at s event) (peer_at s (peer_of event)) event).1
+pub asked_peer : (s : Session) (event : Event) → event_peer event < length s.peers
+    → peer_in (session_after s event) (event_peer event) ≡ (peer_answer s.scene (other_peer_at s event) (peer_in s (event_peer event)) event).1
 asked_peer s event h =
-    get_or-set_same s.peers (peer_of event) (peer_answer s.scene (other_peer_at s event) (peer_at s (peer_of event)) event).1 (new_peer s.scene 0) h
+    get_or-set_same s.peers (event_peer event) (peer_answer s.scene (other_peer_at s event) (peer_in s (event_peer event)) event).1 (new_peer s.scene 0) h
 
 -- any other stays
-pub other_peer : (s : Session) (event : Event) (i : ℕ) → i ≢ peer_of event → peer_at (session_after s event) i ≡ peer_at s i
+pub other_peer : (s : Session) (event : Event) (i : ℕ) → i ≢ event_peer event → peer_in (session_after s event) i ≡ peer_in s i
 other_peer s event i other =
-    get_or-set_other s.peers (peer_of event) i (peer_answer s.scene (other_peer_at s event) (peer_at s (peer_of event)) event).1 (new_peer s.scene 0) other
+    get_or-set_other s.peers (event_peer event) i (peer_answer s.scene (other_peer_at s event) (peer_in s (event_peer event)) event).1 (new_peer s.scene 0) other
 
 -- the commands that one event brings to a peer
 abbrev commands_by : Session → ℕ → Event → List Command
-commands_by s i event = if peer_of event == i then new_commands s.scene (other_peer_at s event) (peer_at s i) event else []
+commands_by s i event = if event_peer event == i then new_commands s.scene (other_peer_at s event) (peer_in s i) event else []
 
-pub peer_after : (s : Session) (sealed : CommandMap) (event : Event) (i : ℕ) → i < length s.peers → HasSealed s.scene sealed (peer_at s i)
-    → IsPeerAfter s.scene sealed (peer_at s i) (peer_at (session_after s event) i) (commands_by s i event)
-peer_after s sealed event i h has = by (peer_of event == i) refl
+pub peer_after : (s : Session) (sealed : CommandMap) (event : Event) (i : ℕ) → i < length s.peers → HasSealed s.scene sealed (peer_in s i)
+    → IsPeerAfter s.scene sealed (peer_in s i) (peer_in (session_after s event) i) (commands_by s i event)
+peer_after s sealed event i h has = by (event_peer event == i) refl
   where
-    by : (b : Bool) → (peer_of event == i) ≡ b
-        → IsPeerAfter s.scene sealed (peer_at s i) (peer_at (session_after s event) i) (if b then new_commands s.scene (other_peer_at s event) (peer_at s i) event else [])
+    by : (b : Bool) → (event_peer event == i) ≡ b
+        → IsPeerAfter s.scene sealed (peer_in s i) (peer_in (session_after s event) i) (if b then new_commands s.scene (other_peer_at s event) (peer_in s i) event else [])
     by true test =
-        let same : peer_of event ≡ i = grind (arith, nat_tests) in
-        let p : Peer = peer_at s i in
+        let same : event_peer event ≡ i = grind (arith, nat_tests) in
+        let p : Peer = peer_in s i in
         let other : Peer = other_peer_at s event in
-        let asked : peer_at (session_after s event) i ≡ (peer_answer s.scene other p event).1 =
-        ap (λ (k : ℕ). peer_at (session_after s event) k) (sym same)
+        let asked : peer_in (session_after s event) i ≡ (peer_answer s.scene other p event).1 =
+        ap (λ (k : ℕ). peer_in (session_after s event) k) (sym same)
         ∙ asked_peer s event (omega (arith, same))
-        ∙ ap (λ (k : ℕ). (peer_answer s.scene other (peer_at s k) event).1) same in
+        ∙ ap (λ (k : ℕ). (peer_answer s.scene other (peer_in s k) event).1) same in
         subst (λ (q : Peer). IsPeerAfter s.scene sealed p q (new_commands s.scene other p event)) (sym asked)
         (peer_after_one s.scene sealed other p event has)
     by false test =
-        let other : i ≢ peer_of event = λ same. grind (arith, nat_tests) in
+        let other : i ≢ event_peer event = λ same. grind (arith, nat_tests) in
         let stays = other_peer s event i other in
-        subst (λ (q : Peer). IsPeerAfter s.scene sealed (peer_at s i) q []) (sym stays) (same_after_none s.scene sealed (peer_at s i) has)
+        subst (λ (q : Peer). IsPeerAfter s.scene sealed (peer_in s i) q []) (sym stays) (same_after_none s.scene sealed (peer_in s i) has)
 
 put_all-append : (m : CommandMap) (cs ds : List Command) → put_all m (cs ++ ds) ≡ put_all (put_all m cs) ds
 put_all-append m [] ds = refl
@@ -261,10 +261,10 @@ unfolding session_after_all
 scene-session_after_all s [] = refl
 scene-session_after_all s (event ∷ events) = scene-session_after_all (session_after s event) events
 
-pub peer_after_all : (s : Session) (sealed : CommandMap) (events : List Event) (i : ℕ) → i < length s.peers → HasSealed s.scene sealed (peer_at s i)
-    → IsPeerAfter s.scene sealed (peer_at s i) (peer_at (session_after_all s events) i) (commands_for s i events)
+pub peer_after_all : (s : Session) (sealed : CommandMap) (events : List Event) (i : ℕ) → i < length s.peers → HasSealed s.scene sealed (peer_in s i)
+    → IsPeerAfter s.scene sealed (peer_in s i) (peer_in (session_after_all s events) i) (commands_for s i events)
 unfolding session_after_all commands_for
-peer_after_all s sealed [] i h has = same_after_none s.scene sealed (peer_at s i) has
+peer_after_all s sealed [] i h has = same_after_none s.scene sealed (peer_in s i) has
 peer_after_all s sealed (event ∷ events) i h has =
     let first = peer_after s sealed event i h has in
     let rest = peer_after_all (session_after s event) first.later events i (omega (arith, length-session_after s event)) first.has in
@@ -274,7 +274,7 @@ peer_after_all s sealed (event ∷ events) i h has =
       has = rest.has;
       all =
           rest.all ∙ ap (λ m. put_all m (commands_for (session_after s event) i events)) first.all
-          ∙ sym (put_all-append (merge sealed (peer_at s i).commands) (commands_by s i event) (commands_for (session_after s event) i events));
+          ∙ sym (put_all-append (merge sealed (peer_in s i).commands) (commands_by s i event) (commands_for (session_after s event) i events));
     }
 
 -- ---- equal sessions
@@ -289,7 +289,7 @@ same_peer p q player horizon base commands reached = λ i. record {
 }
 
 pub same_session : (s t : Session) → s.scene ≡ t.scene → length s.peers ≡ length t.peers
-    → ((i : ℕ) → i < length s.peers → peer_at s i ≡ peer_at t i) → s ≡ t
+    → ((i : ℕ) → i < length s.peers → peer_in s i ≡ peer_in t i) → s ≡ t
 same_session s t scene count same =
     let peers : s.peers ≡ t.peers =
     ext_get_or (new_peer s.scene 0) s.peers t.peers count

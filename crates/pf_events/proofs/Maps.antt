@@ -16,7 +16,7 @@ use Rattle.pf_commands.proofs.Changes.{put_entries, put_entries-all}
 use Rattle.pf_commands.proofs.Lists.{put_all-merge}
 use Rattle.pf_commands.proofs.Merging.{same_commands, merge_assoc, merge_keeps, merge_same}
 use Rattle.pf_commands.proofs.Names.{name_cmp_total}
-use Rattle.pf_events.specs.Laws.{commands_of}
+use Rattle.pf_events.specs.Laws.{listed_commands}
 
 -- ---- entries in order
 
@@ -51,7 +51,7 @@ put_all-entries : (m : CommandMap) (es : List (Name × Payload)) → put_all m (
 put_all-entries m [] = refl
 put_all-entries m (e ∷ es) = put_all-entries (merge m (singleton e.0 e.1)) es
 
-pub put_all-commands_of : (m k : CommandMap) → put_all m (commands_of k) ≡ merge m k
+pub put_all-commands_of : (m k : CommandMap) → put_all m (listed_commands k) ≡ merge m k
 put_all-commands_of m k =
     put_all-entries m (entries k) ∙ put_entries-all m (entries k) (keys_sorted (entries k) (entries_sorted k))
     ∙ ap (merge m) (from_entries-entries k)

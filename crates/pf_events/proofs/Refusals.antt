@@ -10,7 +10,7 @@ use Rattle.pf_events.specs.declared.event.Event.{Event}
 use Rattle.pf_events.specs.declared.event.Event.TheVariants.{Issue, Take, Merge, Advance, Settle, Show, Seal}
 use Rattle.pf_events.specs.declared.event.Reply.{Reply}
 use Rattle.pf_events.specs.declared.event.Reply.TheVariants.{Issued, Took, Merged, Advanced, Sealed, Refused}
-use Rattle.pf_events.specs.Session.{Session, merge_of, other_peer_at, peer_answer, peer_at, peer_of, reply_and_peer, reply_to, session_after}
+use Rattle.pf_events.specs.Session.{Session, merge_of, other_peer_at, peer_answer, peer_in, event_peer, reply_and_peer, reply_to, session_after}
 
 -- the reply is no refusal
 abbrev IsNoRefusal : Reply → Type 0
@@ -54,13 +54,13 @@ refused_peer s q p (Seal peer tick) refusal = refused_call (λ done. Sealed peer
 
 -- the session is the same where the peer is
 pub same_after : (s : Session) (event : Event)
-    → (peer_answer s.scene (other_peer_at s event) (peer_at s (peer_of event)) event).1 ≡ peer_at s (peer_of event)
+    → (peer_answer s.scene (other_peer_at s event) (peer_in s (event_peer event)) event).1 ≡ peer_in s (event_peer event)
     → session_after s event ≡ s
 same_after s event same =
     let with_peers : List Peer → Session = λ ps. record s { peers = ps } in
-    let i = peer_of event in
+    let i = event_peer event in
     ap with_peers (ap (λ (p : Peer). slice_set s.peers i p) same ∙ set-get_or s.peers i (new_peer s.scene 0))
 
 pub refused_session : (s : Session) (event : Event) (refusal : Refusal) → reply_to s event ≡ Refused refusal → session_after s event ≡ s
 refused_session s event refusal refused =
-    same_after s event (refused_peer s.scene (other_peer_at s event) (peer_at s (peer_of event)) event refusal refused)
+    same_after s event (refused_peer s.scene (other_peer_at s event) (peer_in s (event_peer event)) event refusal refused)

@@ -29,7 +29,7 @@ use Rattle.pf_events.specs.declared.event.Event.TheVariants.{Issue, Take, Merge,
 use Rattle.pf_events.specs.declared.event.Reply.{Reply}
 use Rattle.pf_events.specs.declared.event.Reply.TheVariants.{Issued, Took, Merged, Advanced, Sealed}
 use Rattle.pf_events.specs.Laws.{if_taken}
-use Rattle.pf_events.specs.Session.{Session, merge_of, other_peer_at, peer_answer, peer_at, peer_of, replies_to, reply_and_peer, reply_to, session_after, session_after_all}
+use Rattle.pf_events.specs.Session.{Session, merge_of, other_peer_at, peer_answer, peer_in, event_peer, replies_to, reply_and_peer, reply_to, session_after, session_after_all}
 use Rattle.pf_events.proofs.Calls.{Brings, advances, asked_peer, issues, merges, other_peer, puts, scene-session_after_all}
 use Rattle.pf_events.proofs.Horizons.{IsFrom-earlier, IsFrom-singleton, commands_from-later}
 use Rattle.pf_events.proofs.Maps.{Absorbs, absorbs_before, absorbs_merged, absorbs_more}
@@ -42,7 +42,7 @@ settled_peer s q p i = refl
 
 pub settle_changes_nothing : (s : Session) (i : ℕ) (later : List Event) → replies_to (session_after s (Settle i)) later ≡ replies_to s later
 settle_changes_nothing s i later =
-    ap (λ (t : Session). replies_to t later) (same_after s (Settle i) (settled_peer s.scene (other_peer_at s (Settle i)) (peer_at s i) i))
+    ap (λ (t : Session). replies_to t later) (same_after s (Settle i) (settled_peer s.scene (other_peer_at s (Settle i)) (peer_in s i) i))
 
 -- ---- what a peer still has
 
@@ -107,24 +107,24 @@ on_answer s q p (Settle peer) = on_itself p
 on_answer s q p (Show peer tick) = on_itself p
 on_answer s q p (Seal peer tick) = on_sealed s p peer tick
 
-on_event : (s : Session) (event : Event) (i : ℕ) → i < length s.peers → IsOn (peer_at s i) (peer_at (session_after s event) i)
-on_event s event i within = by (peer_of event == i) refl
+on_event : (s : Session) (event : Event) (i : ℕ) → i < length s.peers → IsOn (peer_in s i) (peer_in (session_after s event) i)
+on_event s event i within = by (event_peer event == i) refl
   where
-    by : (b : Bool) → (peer_of event == i) ≡ b → IsOn (peer_at s i) (peer_at (session_after s event) i)
+    by : (b : Bool) → (event_peer event == i) ≡ b → IsOn (peer_in s i) (peer_in (session_after s event) i)
     by true test =
-        let same : peer_of event ≡ i = grind (arith, nat_tests) in
-        subst (λ (k : ℕ). IsOn (peer_at s k) (peer_at (session_after s event) k)) same
-        (subst (λ (q : Peer). IsOn (peer_at s (peer_of event)) q) (sym (asked_peer s event (omega (arith, same))))
-        (on_answer s.scene (other_peer_at s event) (peer_at s (peer_of event)) event))
+        let same : event_peer event ≡ i = grind (arith, nat_tests) in
+        subst (λ (k : ℕ). IsOn (peer_in s k) (peer_in (session_after s event) k)) same
+        (subst (λ (q : Peer). IsOn (peer_in s (event_peer event)) q) (sym (asked_peer s event (omega (arith, same))))
+        (on_answer s.scene (other_peer_at s event) (peer_in s (event_peer event)) event))
     by false test =
-        let other : i ≢ peer_of event = λ same. grind (arith, nat_tests) in
-        subst (λ (q : Peer). IsOn (peer_at s i) q) (sym (other_peer s event i other)) (on_itself (peer_at s i))
+        let other : i ≢ event_peer event = λ same. grind (arith, nat_tests) in
+        subst (λ (q : Peer). IsOn (peer_in s i) q) (sym (other_peer s event i other)) (on_itself (peer_in s i))
 
-on_events : (s : Session) (events : List Event) (i : ℕ) → i < length s.peers → IsOn (peer_at s i) (peer_at (session_after_all s events) i)
+on_events : (s : Session) (events : List Event) (i : ℕ) → i < length s.peers → IsOn (peer_in s i) (peer_in (session_after_all s events) i)
 unfolding session_after_all
-on_events s [] i within = on_itself (peer_at s i)
+on_events s [] i within = on_itself (peer_in s i)
 on_events s (event ∷ events) i within =
-    on_more (peer_at s i) (peer_at (session_after s event) i) (peer_at (session_after_all (session_after s event) events) i)
+    on_more (peer_in s i) (peer_in (session_after s event) i) (peer_in (session_after_all (session_after s event) events) i)
     (on_event s event i within) (on_events (session_after s event) events i (omega (arith, length-session_after s event)))
 
 -- ---- a frame that is taken again
@@ -307,13 +307,13 @@ merge_again s r u p q i j horizon base same_horizon same_base same_commands = by
 -- ---- a session
 
 -- a peer after an event and others
-still_on : (s : Session) (event : Event) (between : List Event) → peer_of event < length s.peers
-    → IsOn (peer_answer s.scene (other_peer_at s event) (peer_at s (peer_of event)) event).1
-    (peer_at (session_after_all (session_after s event) between) (peer_of event))
+still_on : (s : Session) (event : Event) (between : List Event) → event_peer event < length s.peers
+    → IsOn (peer_answer s.scene (other_peer_at s event) (peer_in s (event_peer event)) event).1
+    (peer_in (session_after_all (session_after s event) between) (event_peer event))
 still_on s event between within =
-    let i = peer_of event in
+    let i = event_peer event in
     let t = session_after s event in
-    subst (λ (p : Peer). IsOn p (peer_at (session_after_all t between) i)) (asked_peer s event within)
+    subst (λ (p : Peer). IsOn p (peer_in (session_after_all t between) i)) (asked_peer s event within)
     (on_events t between i (omega (arith, length-session_after s event)))
 
 pub taken_again : (s : Session) (i : ℕ) (frame : Result Command FrameFault) (between later : List Event) → i < length s.peers
@@ -323,23 +323,23 @@ taken_again s i frame between later within =
     let event = Take i frame in
     let t = session_after_all (session_after s event) between in
     let same_scene : t.scene ≡ s.scene = scene-session_after_all (session_after s event) between in
-    let again = take_again s.scene (other_peer_at s event) (other_peer_at t event) (peer_at s i) (peer_at t i) i frame (still_on s event between within) in
+    let again = take_again s.scene (other_peer_at s event) (other_peer_at t event) (peer_in s i) (peer_in t i) i frame (still_on s event between within) in
     ap (λ (u : Session). replies_to u later) (same_after t event
-    (subst (λ (scene : Scene). (peer_answer scene (other_peer_at t event) (peer_at t i) event).1 ≡ peer_at t i) (sym same_scene) again))
+    (subst (λ (scene : Scene). (peer_answer scene (other_peer_at t event) (peer_in t i) event).1 ≡ peer_in t i) (sym same_scene) again))
 
 pub merged_again : (s : Session) (i j : ℕ) (between later : List Event) → i < length s.peers
-    → (peer_at s i).horizon ≡ (peer_at s j).horizon → (peer_at s i).base ≡ (peer_at s j).base
+    → (peer_in s i).horizon ≡ (peer_in s j).horizon → (peer_in s i).base ≡ (peer_in s j).base
     → let t = session_after_all (session_after s (Merge i j)) between in
-    (peer_at t j).horizon ≡ (peer_at s j).horizon → (peer_at t j).base ≡ (peer_at s j).base
-    → (peer_at t j).commands ≡ (peer_at s j).commands → replies_to (session_after t (Merge i j)) later ≡ replies_to t later
+    (peer_in t j).horizon ≡ (peer_in s j).horizon → (peer_in t j).base ≡ (peer_in s j).base
+    → (peer_in t j).commands ≡ (peer_in s j).commands → replies_to (session_after t (Merge i j)) later ≡ replies_to t later
 merged_again s i j between later within horizon base same_horizon same_base same_commands =
     let event = Merge i j in
     let t = session_after_all (session_after s event) between in
     let same_scene : t.scene ≡ s.scene = scene-session_after_all (session_after s event) between in
-    let again = merge_again s.scene (peer_at s j) (peer_at t j) (peer_at s i) (peer_at t i) i j horizon base same_horizon same_base same_commands
+    let again = merge_again s.scene (peer_in s j) (peer_in t j) (peer_in s i) (peer_in t i) i j horizon base same_horizon same_base same_commands
     (still_on s event between within) in
     ap (λ (u : Session). replies_to u later) (same_after t event
-    (subst (λ (scene : Scene). (peer_answer scene (other_peer_at t event) (peer_at t i) event).1 ≡ peer_at t i) (sym same_scene) again))
+    (subst (λ (scene : Scene). (peer_answer scene (other_peer_at t event) (peer_in t i) event).1 ≡ peer_in t i) (sym same_scene) again))
 
 pub taken_again_is_no_news : (s : Session) (i : ℕ) (c : Command) (between : List Event) (put : Put) → i < length s.peers
     → let t = session_after_all (session_after s (Take i (Ok c))) between in
@@ -349,8 +349,8 @@ taken_again_is_no_news s i c between put within same =
     let event = Take i (Ok c) in
     let t = session_after_all (session_after s event) between in
     let one_scene : t.scene ≡ s.scene = scene-session_after_all (session_after s event) between in
-    let p = peer_at s i in
-    reply_again p (peer_at t i) c i (put_outcome (get p.commands c.name) c.payload) put
+    let p = peer_in s i in
+    reply_again p (peer_in t i) c i (put_outcome (get p.commands c.name) c.payload) put
     (check s.scene c.name c.payload)
-    (same_on p (peer_at t i) (Rattle.pf_rollback.specs.Peer.put s.scene p c) (λ outcome. Took i outcome) (λ outcome. Took 0 outcome) (still_on s event between within))
-    (subst (λ (scene : Scene). (peer_answer scene (other_peer_at t event) (peer_at t i) event).0 ≡ Took i put) one_scene same)
+    (same_on p (peer_in t i) (Rattle.pf_rollback.specs.Peer.put s.scene p c) (λ outcome. Took i outcome) (λ outcome. Took 0 outcome) (still_on s event between within))
+    (subst (λ (scene : Scene). (peer_answer scene (other_peer_at t event) (peer_in t i) event).0 ≡ Took i put) one_scene same)

@@ -21,7 +21,7 @@ use Rattle.pf_events.specs.declared.event.Reply.{Reply}
 use Rattle.pf_events.specs.declared.event.Reply.TheVariants.{Merged}
 use Rattle.pf_events.specs.Answers.{IsMergeReply}
 use Rattle.pf_events.specs.Crews.{IsCoreAt}
-use Rattle.pf_events.specs.Session.{AreCores, IsAmong, NeedsNoMemory, Session, answer, merge_of, other_peer_of, other_peer_at, peer_answer, peer_at, peer_of, replies_to, reply_and_peer, reply_to, session_after}
+use Rattle.pf_events.specs.Session.{AreCores, IsAmong, NeedsNoMemory, Session, answer, merge_of, other_peer_of, other_peer_at, peer_answer, peer_in, event_peer, replies_to, reply_and_peer, reply_to, session_after}
 
 -- the core of a peer that begins
 abbrev pub new_core : Scene → ℕ → PeerCore
@@ -45,7 +45,7 @@ scene_of-new_core scene (player ∷ players) (suc k) d h = scene_of-new_core sce
 
 -- the peer of a core among others of one scene
 peer_of_core : (scene : Scene) (cores : List PeerCore) (i : ℕ) (core : PeerCore) → i < length cores → core ≡ get_or cores i core
-    → peer_at (record { scene = scene; peers = peers_of cores }) i ≡ core.peer
+    → peer_in (record { scene = scene; peers = peers_of cores }) i ≡ core.peer
 peer_of_core scene cores i core within is =
     get_or-map (λ (core : PeerCore). core.peer) cores i core (new_peer scene 0) within ∙ ap (λ (core : PeerCore). core.peer) (sym is)
 
@@ -60,19 +60,19 @@ core_at scene cores i core within is scenes = record {
 
 -- the reply of one peer is that of the session, and its core after it goes to its place
 pub peer_answer_is : (scene : Scene) (cores : List PeerCore) (event : Event) (old other new : PeerCore) (reply : Reply)
-    → peer_of event < length cores → old ≡ get_or cores (peer_of event) old
+    → event_peer event < length cores → old ≡ get_or cores (event_peer event) old
     → other_peer_of event < length cores → other ≡ get_or cores (other_peer_of event) other
     → ((k : ℕ) (d : PeerCore) → k < length cores → (get_or cores k d).scene ≡ scene)
     → ◌≡◌ {A = Reply × Peer} (reply, new.peer) (peer_answer old.scene other.peer old.peer event)
-    → ◌≡◌ {A = Reply × Session} (reply, record { scene = scene; peers = peers_of (slice_set cores (peer_of event) new) })
+    → ◌≡◌ {A = Reply × Session} (reply, record { scene = scene; peers = peers_of (slice_set cores (event_peer event) new) })
     (answer (record { scene = scene; peers = peers_of cores }) event)
 peer_answer_is scene cores event old other new reply within is other_within other_is scenes called =
-    let i = peer_of event in
+    let i = event_peer event in
     let s : Session = record { scene = scene; peers = peers_of cores } in
     let same_scene : old.scene ≡ scene = ap (λ (core : PeerCore). core.scene) is ∙ scenes i old within in
-    let same_peer : peer_at s i ≡ old.peer = peer_of_core scene cores i old within is in
+    let same_peer : peer_in s i ≡ old.peer = peer_of_core scene cores i old within is in
     let same_other : other_peer_at s event ≡ other.peer = peer_of_core scene cores (other_peer_of event) other other_within other_is in
-    let called_there : ◌≡◌ {A = Reply × Peer} (reply, new.peer) (peer_answer scene (other_peer_at s event) (peer_at s i) event) =
+    let called_there : ◌≡◌ {A = Reply × Peer} (reply, new.peer) (peer_answer scene (other_peer_at s event) (peer_in s i) event) =
     called ∙ ap (λ (s : Scene). peer_answer s other.peer old.peer event) same_scene
     ∙ ap (λ (q : Peer). peer_answer scene q old.peer event) (sym same_other)
     ∙ ap (λ (p : Peer). peer_answer scene (other_peer_at s event) p event) (sym same_peer) in
@@ -96,8 +96,8 @@ same_peers cores i old new is same =
 -- ---- events on two peers, which are merges
 
 -- the reply of a peer to one
-merge_answer : (s : Scene) (q p : Peer) (event : Event) → other_peer_of event ≢ peer_of event
-    → peer_answer s q p event ≡ reply_and_peer (λ count. Merged (peer_of event) count) p (merge_of s p q)
+merge_answer : (s : Scene) (q p : Peer) (event : Event) → other_peer_of event ≢ event_peer event
+    → peer_answer s q p event ≡ reply_and_peer (λ count. Merged (event_peer event) count) p (merge_of s p q)
 unfolding peer_answer
 merge_answer s q p (Issue peer payload) two = absurd (two refl)
 merge_answer s q p (Take peer frame) two = absurd (two refl)
@@ -107,7 +107,7 @@ merge_answer s q p (Settle peer) two = absurd (two refl)
 merge_answer s q p (Show peer tick) two = absurd (two refl)
 merge_answer s q p (Seal peer tick) two = absurd (two refl)
 
-merge_needs_none : (s : Scene) (q p : Peer) (event : Event) → other_peer_of event ≢ peer_of event → NeedsNoMemory s q p event
+merge_needs_none : (s : Scene) (q p : Peer) (event : Event) → other_peer_of event ≢ event_peer event → NeedsNoMemory s q p event
     → IsErr (merge_of s p q) ⊎ (news p.commands q.commands ≡ [])
 merge_needs_none s q p (Issue peer payload) two none = absurd (two refl)
 merge_needs_none s q p (Take peer frame) two none = absurd (two refl)
@@ -128,7 +128,7 @@ pub record AreCoresAfter (scene : Scene) (cores after : List PeerCore) (event : 
   pub count : length after ≡ length cores
   pub reply : IfOk result (λ reply. ◌≡◌ {A = Reply × Session} (reply, session_of scene after) (answer (session_of scene cores) event))
   pub no_memory : let s = session_of scene cores in
-      NeedsNoMemory scene (other_peer_at s event) (peer_at s (peer_of event)) event → IsOk result
+      NeedsNoMemory scene (other_peer_at s event) (peer_in s (event_peer event)) event → IsOk result
   pub err : OnErr result (session_of scene after ≡ session_of scene cores)
 
 pub on_err : {A E : Type 0} (result : Result A E) (P Q : Type 0) → (P → Q) → OnErr result P → OnErr result Q
@@ -140,13 +140,13 @@ err_anyway (Ok value) P is = tt
 err_anyway (Err error) P is = is
 
 pub merged_cores : (scene : Scene) (cores after : List PeerCore) (event : Event) (result : Result Reply AllocError)
-    → AreCores scene cores → IsAmong (length cores) event → other_peer_of event ≢ peer_of event
-    → ((old others : PeerCore) → slice_get cores (peer_of event) ≡ Some old → slice_get cores (other_peer_of event) ≡ Some others
-    → (new : PeerCore) × (after ≡ slice_set cores (peer_of event) new) × IsMergeReply (peer_of event) others.peer old new result)
+    → AreCores scene cores → IsAmong (length cores) event → other_peer_of event ≢ event_peer event
+    → ((old others : PeerCore) → slice_get cores (event_peer event) ≡ Some old → slice_get cores (other_peer_of event) ≡ Some others
+    → (new : PeerCore) × (after ≡ slice_set cores (event_peer event) new) × IsMergeReply (event_peer event) others.peer old new result)
     → AreCoresAfter scene cores after event result
 merged_cores scene cores after event result are among two merged =
     let d = new_core scene 0 in
-    let i = peer_of event in
+    let i = event_peer event in
     let s = session_of scene cores in
     let old = get_or cores i d in
     let others = get_or cores (other_peer_of event) d in
@@ -154,7 +154,7 @@ merged_cores scene cores after event result are among two merged =
     let old_is : old ≡ get_or cores i old = get_or_default cores i d old among.0 in
     let others_is : others ≡ get_or cores (other_peer_of event) others = get_or_default cores (other_peer_of event) d others among.1 in
     let same_scene : old.scene ≡ scene = are.scenes i d among.0 in
-    let same_peer : peer_at s i ≡ old.peer = peer_of_core scene cores i old among.0 old_is in
+    let same_peer : peer_in s i ≡ old.peer = peer_of_core scene cores i old among.0 old_is in
     let same_others : other_peer_at s event ≡ others.peer = peer_of_core scene cores (other_peer_of event) others among.1 others_is in
     let session : List PeerCore → Session = session_of scene in
     record {
@@ -170,7 +170,7 @@ merged_cores scene cores after event result are among two merged =
           let N : Scene → Peer → Peer → Type 0 = λ s q p. IsErr (merge_of s p q) ⊎ (news p.commands q.commands ≡ []) in
           subst (λ (x : Scene). N x others.peer old.peer) (sym same_scene)
           (subst (λ (q : Peer). N scene q old.peer) same_others
-          (subst (λ (p : Peer). N scene (other_peer_at s event) p) same_peer (merge_needs_none scene (other_peer_at s event) (peer_at s i) event two none)))
+          (subst (λ (p : Peer). N scene (other_peer_at s event) p) same_peer (merge_needs_none scene (other_peer_at s event) (peer_in s i) event two none)))
           );
       err = on_err result _ _ (λ (same : step.0 ≡ old). ap session step.1 ∙ ap (λ (ps : List Peer). let s : Session = record { scene = scene; peers = ps } in s)
           (same_peers cores i old step.0 old_is (ap (λ (core : PeerCore). core.peer) same))) step.2.err;
@@ -201,4 +201,4 @@ replies_to-all s events i h = rw (drop_all i events h) (replies_to-nil s)
 
 -- no event changes how many peers there are
 pub length-session_after : (s : Session) (event : Event) → length (session_after s event).peers ≡ length s.peers
-length-session_after s event = length-set s.peers (peer_of event) (peer_answer s.scene (other_peer_at s event) (peer_at s (peer_of event)) event).1
+length-session_after s event = length-set s.peers (event_peer event) (peer_answer s.scene (other_peer_at s event) (peer_in s (event_peer event)) event).1

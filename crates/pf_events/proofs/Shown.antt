@@ -17,7 +17,7 @@ use Rattle.pf_events.specs.declared.event.Event.{Event}
 use Rattle.pf_events.specs.declared.event.Event.TheVariants.{Show}
 use Rattle.pf_events.specs.declared.event.Reply.TheVariants.{Shown}
 use Rattle.pf_events.specs.Laws.{commands_for}
-use Rattle.pf_events.specs.Session.{Session, other_peer_at, peer_answer, peer_at, reply_to, session_after_all, world_reply}
+use Rattle.pf_events.specs.Session.{Session, other_peer_at, peer_answer, peer_in, reply_to, session_after_all, world_reply}
 use Rattle.pf_events.proofs.Calls.{peer_after_all, scene-session_after_all}
 
 shown : (s : Scene) (q p : Peer) (i tick : ℕ) → p.horizon ≤ tick → tick ≤ p.reached → (peer_answer s q p (Show i tick)).0 ≡ Shown i tick (world_of s p tick)
@@ -25,17 +25,17 @@ unfolding peer_answer
 shown s q p i tick low reached =
     ap (λ (r : Result World Refusal). world_reply i tick r) (world_at-held s p tick (record { later = low; reached = reached }))
 
-pub shown_after : (s : Session) (sealed : CommandMap) (events : List Event) (i tick : ℕ) → i < length s.peers → HasSealed s.scene sealed (peer_at s i)
-    → (peer_at (session_after_all s events) i).horizon ≤ tick
-    → tick ≤ (peer_at (session_after_all s events) i).reached
+pub shown_after : (s : Session) (sealed : CommandMap) (events : List Event) (i tick : ℕ) → i < length s.peers → HasSealed s.scene sealed (peer_in s i)
+    → (peer_in (session_after_all s events) i).horizon ≤ tick
+    → tick ≤ (peer_in (session_after_all s events) i).reached
     → reply_to (session_after_all s events) (Show i tick)
-    ≡ Shown i tick (sim s.scene (put_all (merge sealed (peer_at s i).commands) (commands_for s i events)) tick)
+    ≡ Shown i tick (sim s.scene (put_all (merge sealed (peer_in s i).commands) (commands_for s i events)) tick)
 shown_after s sealed events i tick within has low reached =
     let t = session_after_all s events in
     let after = peer_after_all s sealed events i within has in
-    shown t.scene (other_peer_at t (Show i tick)) (peer_at t i) i tick low reached
-    ∙ ap (λ (scene : Scene). Shown i tick (world_of scene (peer_at t i) tick)) (scene-session_after_all s events)
-    ∙ ap (λ (w : World). Shown i tick w) (world_of-sealed s.scene after.later (peer_at t i) tick after.has low)
+    shown t.scene (other_peer_at t (Show i tick)) (peer_in t i) i tick low reached
+    ∙ ap (λ (scene : Scene). Shown i tick (world_of scene (peer_in t i) tick)) (scene-session_after_all s events)
+    ∙ ap (λ (w : World). Shown i tick w) (world_of-sealed s.scene after.later (peer_in t i) tick after.has low)
     ∙ ap (λ (m : CommandMap). Shown i tick (sim s.scene m tick)) after.all
 
 -- peers that have sealed and hold the same
@@ -47,13 +47,13 @@ same_worlds s p q tick horizon base same =
     ∙ ap (λ (m : CommandMap). sim_at s q.base q.horizon m tick) (same_commands p.commands q.commands same)
 
 pub shown_alike : (s : Session) (i j tick : ℕ)
-    → (peer_at s i).horizon ≡ (peer_at s j).horizon → (peer_at s i).base ≡ (peer_at s j).base
-    → ((name : Name) → get (peer_at s i).commands name ≡ get (peer_at s j).commands name)
-    → (peer_at s i).horizon ≤ tick → tick ≤ (peer_at s i).reached → tick ≤ (peer_at s j).reached
+    → (peer_in s i).horizon ≡ (peer_in s j).horizon → (peer_in s i).base ≡ (peer_in s j).base
+    → ((name : Name) → get (peer_in s i).commands name ≡ get (peer_in s j).commands name)
+    → (peer_in s i).horizon ≤ tick → tick ≤ (peer_in s i).reached → tick ≤ (peer_in s j).reached
     → (world : World) × (reply_to s (Show i tick) ≡ Shown i tick world) × (reply_to s (Show j tick) ≡ Shown j tick world)
 shown_alike s i j tick horizon base same low reached_i reached_j = (
-  world_of s.scene (peer_at s i) tick,
-  shown s.scene (other_peer_at s (Show i tick)) (peer_at s i) i tick low reached_i,
-  shown s.scene (other_peer_at s (Show j tick)) (peer_at s j) j tick (subst (λ h. h ≤ tick) horizon low) reached_j
-      ∙ ap (λ (w : World). Shown j tick w) (sym (same_worlds s.scene (peer_at s i) (peer_at s j) tick horizon base same)),
+  world_of s.scene (peer_in s i) tick,
+  shown s.scene (other_peer_at s (Show i tick)) (peer_in s i) i tick low reached_i,
+  shown s.scene (other_peer_at s (Show j tick)) (peer_in s j) j tick (subst (λ h. h ≤ tick) horizon low) reached_j
+      ∙ ap (λ (w : World). Shown j tick w) (sym (same_worlds s.scene (peer_in s i) (peer_in s j) tick horizon base same)),
 )

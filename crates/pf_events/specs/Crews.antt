@@ -9,7 +9,7 @@ use Rattle.pf_rollback.specs.Settling.{AreCalls, FailsAfter}
 use Rattle.pf_events.specs.declared.event.Event.{Event}
 use Rattle.pf_events.specs.declared.event.Event.TheVariants.{Settle}
 use Rattle.pf_events.specs.declared.event.Reply.{Reply}
-use Rattle.pf_events.specs.Session.{Session, peer_at}
+use Rattle.pf_events.specs.Session.{Session, peer_in}
 
 -- some call of a crew of this kind may fail with this error
 abbrev pub CanFail : {A : Type 0} → (A → List Island → CrewError → A → Type 0) → CrewError → Type 0
@@ -19,7 +19,7 @@ CanFail {A} may_fail error =
 -- the core of the peer of this number
 pub record IsCoreAt (s : Session) (i : ℕ) (core : PeerCore) : Type 0 where
   pub scene : core.scene ≡ s.scene
-  pub peer : core.peer ≡ peer_at s i
+  pub peer : core.peer ≡ peer_in s i
 
 -- What an event does to the crew, which is `first` before it and `last` after it. A settle calls it
 -- once for each tick that the core of the event's peer misses, with the islands of that tick, and

@@ -11,7 +11,7 @@ use Rattle.pf_rollback.specs.Core.{AreAllowed}
 use Rattle.pf_rollback.specs.Peer.{Peer, issue, next_command, put}
 use Rattle.pf_events.specs.declared.event.Event.{Event}
 use Rattle.pf_events.specs.declared.event.Event.TheVariants.{Issue, Take, Merge, Advance, Settle, Show, Seal}
-use Rattle.pf_events.specs.Session.{Session, merge_of, other_peer_at, peer_at, peer_of, session_after}
+use Rattle.pf_events.specs.Session.{Session, merge_of, other_peer_at, peer_in, event_peer, session_after}
 
 -- the commands of a call, unless the call is refused
 abbrev pub if_taken : {A : Type 0} → Result A Refusal → List Command → List Command
@@ -19,8 +19,8 @@ if_taken (Ok answer) commands = commands
 if_taken (Err refusal) commands = []
 
 -- the commands of a map
-abbrev pub commands_of : CommandMap → List Command
-commands_of m = map (λ e. record { name = e.0; payload = e.1 }) (entries m)
+abbrev pub listed_commands : CommandMap → List Command
+listed_commands m = map (λ e. record { name = e.0; payload = e.1 }) (entries m)
 
 -- the commands that an event brings to its peer
 abbrev pub new_commands : Scene → Peer → Peer → Event → List Command
@@ -29,7 +29,7 @@ new_commands s q p (Issue peer payload) =
 new_commands s q p (Take peer (Ok c)) = if_taken (put s p c) (c ∷ [])
 new_commands s q p (Take peer (Err fault)) = []
 new_commands s q p (Merge peer other) =
-    if other == peer then [] else if_taken (merge_of s p q) (commands_of q.commands)
+    if other == peer then [] else if_taken (merge_of s p q) (listed_commands q.commands)
 new_commands s q p (Advance peer ticks) = []
 new_commands s q p (Settle peer) = []
 new_commands s q p (Show peer tick) = []
@@ -39,8 +39,8 @@ new_commands s q p (Seal peer tick) = []
 unfoldable pub commands_for : Session → ℕ → List Event → List Command
 commands_for s i [] = []
 commands_for s i (event ∷ events) =
-    (if peer_of event == i
-    then new_commands s.scene (other_peer_at s event) (peer_at s i) event else [])
+    (if event_peer event == i
+    then new_commands s.scene (other_peer_at s event) (peer_in s i) event else [])
     ++ commands_for (session_after s event) i events
 
 -- two peers of one player have the same horizon and the same world there, hold the same commands

@@ -31,18 +31,18 @@ new_session scene count =
     record { scene = scene; peers = map (new_peer scene) (range_with_len 0 count) }
 
 -- the peer of a number
-abbrev pub peer_at : Session → ℕ → Peer
-peer_at s i = slice_index_or s.peers i (new_peer s.scene 0)
+abbrev pub peer_in : Session → ℕ → Peer
+peer_in s i = slice_index_or s.peers i (new_peer s.scene 0)
 
 -- the number of an event's peer
-abbrev pub peer_of : Event → ℕ
-peer_of (Issue peer payload) = peer
-peer_of (Take peer decoded) = peer
-peer_of (Merge peer other) = peer
-peer_of (Advance peer ticks) = peer
-peer_of (Settle peer) = peer
-peer_of (Show peer tick) = peer
-peer_of (Seal peer tick) = peer
+abbrev pub event_peer : Event → ℕ
+event_peer (Issue peer payload) = peer
+event_peer (Take peer decoded) = peer
+event_peer (Merge peer other) = peer
+event_peer (Advance peer ticks) = peer
+event_peer (Settle peer) = peer
+event_peer (Show peer tick) = peer
+event_peer (Seal peer tick) = peer
 
 -- the number of the peer whose commands are merged; for other events that of their peer
 abbrev pub other_peer_of : Event → ℕ
@@ -107,14 +107,14 @@ NeedsNoMemory s q p (Seal peer tick) =
 
 -- the other peer of an event
 abbrev pub other_peer_at : Session → Event → Peer
-other_peer_at s event = peer_at s (other_peer_of event)
+other_peer_at s event = peer_in s (other_peer_of event)
 
 -- the reply to an event on a session, and the session after it
 abbrev pub answer : Session → Event → Reply × Session
 answer s event =
-    let p = peer_at s (peer_of event) in
+    let p = peer_in s (event_peer event) in
     let a = peer_answer s.scene (other_peer_at s event) p event in
-    (a.0, record s { peers = slice_set s.peers (peer_of event) a.1 })
+    (a.0, record s { peers = slice_set s.peers (event_peer event) a.1 })
 
 abbrev pub reply_to : Session → Event → Reply
 reply_to s event = (answer s event).0
@@ -136,4 +136,4 @@ session_after_all s (event ∷ events) = session_after_all (session_after s even
 
 -- the event is on one of so many peers, and so is the other peer of a merge
 abbrev pub IsAmong : ℕ → Event → Type 0
-IsAmong peers event = (peer_of event < peers) × (other_peer_of event < peers)
+IsAmong peers event = (event_peer event < peers) × (other_peer_of event < peers)

@@ -4,7 +4,7 @@ ghost use Rattle.std.specs.Prelude.{◌≡◌, ◌≢◌, ◌<◌, ℕ, Ok, Some
 ghost use Rattle.std.specs.FinMap.{get};
 ghost use Rattle.pf_events.specs.Answers.{IsMergeReply, IsReplyOf};
 ghost use Rattle.pf_events.specs.Crews.{UsesCrew};
-ghost use Rattle.pf_events.specs.Session.{NeedsNoMemory, other_peer_of, peer_answer, peer_of, reply_and_peer, world_reply};
+ghost use Rattle.pf_events.specs.Session.{NeedsNoMemory, other_peer_of, peer_answer, event_peer, reply_and_peer, world_reply};
 ghost use Rattle.pf_events.specs.declared.event.Event.TheVariants.{Settle};
 ghost use Rattle.pf_events.specs.declared.event.Reply.TheVariants.{Advanced, Issued, Sealed, Settled, Took};
 ghost use Rattle.pf_commands.specs.declared.payload.Command.{Command};
@@ -178,7 +178,7 @@ pub(crate) fn answer_of_peer<P: Collider, C: Crew>(
     crew: &mut C,
 ) -> Result<Reply, StepError>
     requires can { P.can_collide collider.now }
-    requires one_peer { other_peer_of event ≡ peer_of event }
+    requires one_peer { other_peer_of event ≡ event_peer event }
     ensures reply { let p = core.old.peer in IfOk result (λ reply.
         (reply, core.new.peer) ≡ peer_answer core.old.scene p p event) }
     ensures settled { (peer : ℕ) → event ≡ Settle peer

@@ -47,11 +47,11 @@ pub enum Event {
 
 impl Event {
     ghost use Rattle.std.specs.Prelude.{◌≡◌};
-    ghost use Rattle.pf_events.specs.Session.{other_peer_of, peer_of};
+    ghost use Rattle.pf_events.specs.Session.{other_peer_of, event_peer};
 
     /// The number of the peer.
     pub fn peer(&self) -> u8
-        ensures { result ≡ peer_of self.now }
+        ensures { result ≡ event_peer self.now }
     {
         match self {
             Event::Issue { peer, .. }

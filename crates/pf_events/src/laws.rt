@@ -16,7 +16,7 @@ ghost use Rattle.pf_events.specs.declared.event.Event.{Event};
 ghost use Rattle.pf_events.specs.declared.event.Event.TheVariants.{Merge, Settle, Show, Take};
 ghost use Rattle.pf_events.specs.declared.event.Reply.TheVariants.{Refused, Shown, Took};
 ghost use Rattle.pf_events.specs.Laws.{IsAlike, IsAllowedPeer, commands_for};
-ghost use Rattle.pf_events.specs.Session.{Session, peer_at, replies_to, reply_to, session_after, session_after_all};
+ghost use Rattle.pf_events.specs.Session.{Session, peer_in, replies_to, reply_to, session_after, session_after_all};
 
 use crate::session::RING;
 
@@ -26,12 +26,12 @@ use crate::session::RING;
 /// the tick that it has reached. A new peer has sealed nothing, and its horizon is tick 0.
 pub fn shown_worlds_are_simulated()
     ensures { (s : Session) (sealed : CommandMap) (events : List Event) (i tick : ℕ)
-        → i < length s.peers → HasSealed s.scene sealed (peer_at s i)
-        → (peer_at (session_after_all s events) i).horizon ≤ tick
-        → tick ≤ (peer_at (session_after_all s events) i).reached
+        → i < length s.peers → HasSealed s.scene sealed (peer_in s i)
+        → (peer_in (session_after_all s events) i).horizon ≤ tick
+        → tick ≤ (peer_in (session_after_all s events) i).reached
         → reply_to (session_after_all s events) (Show i tick)
         ≡ Shown i tick (sim s.scene
-        (put_all (merge sealed (peer_at s i).commands) (commands_for s i events)) tick) }
+        (put_all (merge sealed (peer_in s i).commands) (commands_for s i events)) tick) }
 {}
 
 /// A refused event changes nothing, and so no later reply.
@@ -44,7 +44,7 @@ pub fn refused_events_change_nothing()
 pub fn same_commands_same_replies()
     ensures { (s t : Session) (later : List Event) → s.scene ≡ t.scene
         → length s.peers ≡ length t.peers
-        → ((i : ℕ) → i < length s.peers → IsAlike (peer_at s i) (peer_at t i))
+        → ((i : ℕ) → i < length s.peers → IsAlike (peer_in s i) (peer_in t i))
         → replies_to s later ≡ replies_to t later }
 {}
 
@@ -53,16 +53,16 @@ pub fn same_commands_same_replies()
 /// events, worlds among them.
 pub fn order_and_repeats_do_not_matter()
     ensures { (s : Session) (sealed : ℕ → CommandMap) (events others later : List Event)
-        → ((i : ℕ) → i < length s.peers → HasSealed s.scene (sealed i) (peer_at s i))
+        → ((i : ℕ) → i < length s.peers → HasSealed s.scene (sealed i) (peer_in s i))
         → ((i : ℕ) → i < length s.peers
-        → IsCommandMap (merge (sealed i) (peer_at s i).commands))
+        → IsCommandMap (merge (sealed i) (peer_in s i).commands))
         → ((i : ℕ) → i < length s.peers → All IsCommand (commands_for s i events))
         → ((i : ℕ) → i < length s.peers → (c : Command)
         → Contains (commands_for s i events) c ↔ Contains (commands_for s i others) c)
-        → ((i : ℕ) → i < length s.peers → (peer_at (session_after_all s events) i).horizon
-        ≡ (peer_at (session_after_all s others) i).horizon)
-        → ((i : ℕ) → i < length s.peers → (peer_at (session_after_all s events) i).reached
-        ≡ (peer_at (session_after_all s others) i).reached)
+        → ((i : ℕ) → i < length s.peers → (peer_in (session_after_all s events) i).horizon
+        ≡ (peer_in (session_after_all s others) i).horizon)
+        → ((i : ℕ) → i < length s.peers → (peer_in (session_after_all s events) i).reached
+        ≡ (peer_in (session_after_all s others) i).reached)
         → replies_to (session_after_all s events) later
         ≡ replies_to (session_after_all s others) later }
 {}
@@ -82,11 +82,11 @@ pub fn repeats_change_no_reply()
         → let t = session_after_all (session_after s (Take i frame)) between in
         replies_to (session_after t (Take i frame)) later ≡ replies_to t later }
     ensures merged { (s : Session) (i j : ℕ) (between later : List Event) → i < length s.peers
-        → (peer_at s i).horizon ≡ (peer_at s j).horizon → (peer_at s i).base ≡ (peer_at s j).base
+        → (peer_in s i).horizon ≡ (peer_in s j).horizon → (peer_in s i).base ≡ (peer_in s j).base
         → let t = session_after_all (session_after s (Merge i j)) between in
-        (peer_at t j).horizon ≡ (peer_at s j).horizon
-        → (peer_at t j).base ≡ (peer_at s j).base
-        → (peer_at t j).commands ≡ (peer_at s j).commands
+        (peer_in t j).horizon ≡ (peer_in s j).horizon
+        → (peer_in t j).base ≡ (peer_in s j).base
+        → (peer_in t j).commands ≡ (peer_in s j).commands
         → replies_to (session_after t (Merge i j)) later ≡ replies_to t later }
     ensures no_news { (s : Session) (i : ℕ) (c : Command) (between : List Event) (put : Put)
         → i < length s.peers
@@ -99,20 +99,20 @@ pub fn repeats_change_no_reply()
 /// `Session::core` ensures the premise on each peer of a session.
 pub fn merging_both_ways_makes_maps_equal()
     ensures { (s : Session) (i j : ℕ) → i < length s.peers → j < length s.peers
-        → IsAllowedPeer s.scene (peer_at s i) → IsAllowedPeer s.scene (peer_at s j)
-        → (peer_at s i).horizon ≡ (peer_at s j).horizon → (peer_at s i).base ≡ (peer_at s j).base
+        → IsAllowedPeer s.scene (peer_in s i) → IsAllowedPeer s.scene (peer_in s j)
+        → (peer_in s i).horizon ≡ (peer_in s j).horizon → (peer_in s i).base ≡ (peer_in s j).base
         → let t = session_after (session_after s (Merge i j)) (Merge j i) in
-        (peer_at t i).commands ≡ (peer_at t j).commands }
+        (peer_in t i).commands ≡ (peer_in t j).commands }
 {}
 
 /// Two peers that have the same horizon and the same world there, and hold the same commands, show
 /// one world at a tick that is not before the horizon and that both have reached.
 pub fn same_commands_show_one_world()
     ensures { (s : Session) (i j tick : ℕ)
-        → (peer_at s i).horizon ≡ (peer_at s j).horizon → (peer_at s i).base ≡ (peer_at s j).base
-        → ((name : Name) → get (peer_at s i).commands name ≡ get (peer_at s j).commands name)
-        → (peer_at s i).horizon ≤ tick
-        → tick ≤ (peer_at s i).reached → tick ≤ (peer_at s j).reached
+        → (peer_in s i).horizon ≡ (peer_in s j).horizon → (peer_in s i).base ≡ (peer_in s j).base
+        → ((name : Name) → get (peer_in s i).commands name ≡ get (peer_in s j).commands name)
+        → (peer_in s i).horizon ≤ tick
+        → tick ≤ (peer_in s i).reached → tick ≤ (peer_in s j).reached
         → (world : World) × (reply_to s (Show i tick) ≡ Shown i tick world)
         × (reply_to s (Show j tick) ≡ Shown j tick world) }
 {}

@@ -46,7 +46,7 @@ impl Session {
     ghost use Rattle.std.specs.Prelude.{◌≡◌, ◌≤◌, ◌<◌, length, IfOk, IsOk, OnErr};
     ghost use Rattle.pf_events.specs.Crews.{IsCoreAt, UsesCrew};
     ghost use Rattle.pf_events.specs.Laws.{IsAllowedPeer};
-    ghost use Rattle.pf_events.specs.Session.{IsAmong, NeedsNoMemory, answer, new_session, other_peer_at, peer_at, peer_of};
+    ghost use Rattle.pf_events.specs.Session.{IsAmong, NeedsNoMemory, answer, new_session, other_peer_at, peer_in, event_peer};
 
     /// So many peers of the scene, at tick 0 and without commands. Takes no memory for none.
     pub fn new(alloc: Global, scene: Scene, peers: u8) -> Result<Session, AllocError>
@@ -72,9 +72,9 @@ impl Session {
     /// The core of a peer, to read. Its commands are in range, and the scene allows each of them.
     pub fn core(&self, peer: u8) -> &PeerCore
         requires { peer < length self.now.peers }
-        ensures peer { result.now.peer ≡ peer_at self.now peer }
+        ensures peer { result.now.peer ≡ peer_in self.now peer }
         ensures scene { result.now.scene ≡ self.now.scene }
-        ensures allowed { IsAllowedPeer self.now.scene (peer_at self.now peer) }
+        ensures allowed { IsAllowedPeer self.now.scene (peer_in self.now peer) }
     {
         let core = &self.cores[usize::from(peer)];
         // What these calls ensure is that the commands are allowed and in range.
@@ -96,7 +96,7 @@ impl Session {
         requires { IsAmong (length self.old.peers) event }
         ensures reply { IfOk result (λ reply. (reply, self.new) ≡ answer self.old event) }
         ensures no_memory { let s = self.old in
-            NeedsNoMemory s.scene (other_peer_at s event) (peer_at s (peer_of event)) event
+            NeedsNoMemory s.scene (other_peer_at s event) (peer_in s (event_peer event)) event
             → IsOk result }
         ensures err { OnErr result (self.new ≡ self.old) }
     {
@@ -121,10 +121,10 @@ impl Session {
         requires among { IsAmong (length self.old.peers) event }
         ensures reply { IfOk result (λ reply. (reply, self.new) ≡ answer self.old event) }
         ensures no_memory { let s = self.old in
-            NeedsNoMemory s.scene (other_peer_at s event) (peer_at s (peer_of event)) event
+            NeedsNoMemory s.scene (other_peer_at s event) (peer_in s (event_peer event)) event
             → IsOk result }
         ensures err { OnErr result (self.new ≡ self.old) }
-        ensures crew { UsesCrew C.is_called C.may_fail (IsCoreAt self.old (peer_of event)) event
+        ensures crew { UsesCrew C.is_called C.may_fail (IsCoreAt self.old (event_peer event)) event
             crew.old result crew.new }
     {
         let peer = event.peer();

@@ -8,8 +8,8 @@ use Rattle.std.proofs.lemmas.Option.{get_or_from_slice_get, slice_get-get_or}
 use Rattle.std.specs.List.{concat, range_with_len}
 use Rattle.std.specs.Prelude.{⊤, All, slice_get}
 use Rattle.pf_rows.specs.declared.row.Side.TheVariants.{Static}
-use Rattle.pf_levels.specs.Levels.{AreLevels, ArePairsOf, IsLevel, IsPairOf, IsReordering, Pair, ShareNoBodyAt}
-use Rattle.pf_levels.specs.Order.{pair_at, place_at}
+use Rattle.pf_levels.specs.Levels.{AreLevels, ArePairsOf, IsLevel, IsRowPairOf, IsReordering, RowPair, ShareNoBodyAt}
+use Rattle.pf_levels.specs.Order.{row_pair_at, place_at}
 use Rattle.pf_levels.specs.Overlap.{AreLevelsInOrder, late_then_early}
 use Rattle.pf_levels.proofs.Insert.{range_below}
 use Rattle.pf_levels.proofs.Places.{All-left, All-levels, All-reordering, All-right, All-swapped}
@@ -84,7 +84,7 @@ pub below_end : (n : ℕ) → All (λ p. p < n) (range_with_len 0 n)
 below_end n =
     let same : 0 + n ≡ n = omega arith in subst (λ end. All (λ p. p < end) (range_with_len 0 n)) same (range_below n 0)
 
-module _ (pairs : List Pair) (levels : List (List ℕ)) (are : AreLevels pairs levels) (early : ℕ) where
+module _ (pairs : List RowPair) (levels : List (List ℕ)) (are : AreLevels pairs levels) (early : ℕ) where
   -- they are rows of the list
   pub late_early_within : All (λ p. p < length pairs) (late_then_early early levels)
   late_early_within =
@@ -103,43 +103,43 @@ module _ (pairs : List Pair) (levels : List (List ℕ)) (are : AreLevels pairs l
 -- ---- levels by numbers and by places
 
 -- the pairs of rows in another order name bodies of the list
-pub pairs_in_order : (bodies : ℕ) (pairs : List Pair) (order : List ℕ) → ArePairsOf bodies pairs → All (λ p. p < length pairs) order
-    → ArePairsOf bodies (map (pair_at pairs) order)
-pairs_in_order bodies pairs [] of within = All-nil (IsPairOf bodies)
+pub pairs_in_order : (bodies : ℕ) (pairs : List RowPair) (order : List ℕ) → ArePairsOf bodies pairs → All (λ p. p < length pairs) order
+    → ArePairsOf bodies (map (row_pair_at pairs) order)
+pairs_in_order bodies pairs [] of within = All-nil (IsRowPairOf bodies)
 pairs_in_order bodies pairs (p ∷ order) of within =
-    All-cons (IsPairOf bodies) (pair_at pairs p) (map (pair_at pairs) order)
-    (All-get_or (IsPairOf bodies) pairs p (record { first = Static; second = Static }) (All-head (λ q. q < length pairs) p order within) of)
+    All-cons (IsRowPairOf bodies) (row_pair_at pairs p) (map (row_pair_at pairs) order)
+    (All-get_or (IsRowPairOf bodies) pairs p (record { first = Static; second = Static }) (All-head (λ q. q < length pairs) p order within) of)
     (pairs_in_order bodies pairs order of (All-tail (λ q. q < length pairs) p order within))
 
 -- levels have numbers of rows
-pub numbers_within : (pairs : List Pair) (levels : List (List ℕ)) → AreLevels pairs levels → All (All (λ k. k < length pairs)) levels
+pub numbers_within : (pairs : List RowPair) (levels : List (List ℕ)) → AreLevels pairs levels → All (All (λ k. k < length pairs)) levels
 numbers_within pairs levels are =
     All-levels (λ k. k < length pairs) levels
     (All-reordering (λ k. k < length pairs) (range_with_len 0 (length pairs)) (concat levels) are.order.all (below_end (length pairs)))
 
-module _ (pairs : List Pair) (order : List ℕ) where
+module _ (pairs : List RowPair) (order : List ℕ) where
   -- so many rows are in the order
-  pub within_order : (levels : List (List ℕ)) → AreLevels (map (pair_at pairs) order) levels → All (All (λ k. k < length order)) levels
+  pub within_order : (levels : List (List ℕ)) → AreLevels (map (row_pair_at pairs) order) levels → All (All (λ k. k < length order)) levels
   within_order levels are =
-      subst (λ n. All (All (λ k. k < n)) levels) (length-map order (pair_at pairs)) (numbers_within (map (pair_at pairs) order) levels are)
+      subst (λ n. All (All (λ k. k < n)) levels) (length-map order (row_pair_at pairs)) (numbers_within (map (row_pair_at pairs) order) levels are)
 
   -- the pair of a row by its number
-  pair_in_order : (k : ℕ) (a : Pair) → k < length order → slice_get pairs (place_at order k) ≡ Some a
-      → slice_get (map (pair_at pairs) order) k ≡ Some a
+  pair_in_order : (k : ℕ) (a : RowPair) → k < length order → slice_get pairs (place_at order k) ≡ Some a
+      → slice_get (map (row_pair_at pairs) order) k ≡ Some a
   pair_in_order k a within at =
-      let none : Pair = record { first = Static; second = Static } in
-      slice_get-get_or (map (pair_at pairs) order) k none (omega (arith, within, length-map order (pair_at pairs)))
-      ∙ ap (λ x. Some x) (get_or-map (pair_at pairs) order k 0 none within ∙ get_or_from_slice_get pairs (place_at order k) a none at)
+      let none : RowPair = record { first = Static; second = Static } in
+      slice_get-get_or (map (row_pair_at pairs) order) k none (omega (arith, within, length-map order (row_pair_at pairs)))
+      ∙ ap (λ x. Some x) (get_or-map (row_pair_at pairs) order k 0 none within ∙ get_or_from_slice_get pairs (place_at order k) a none at)
 
   -- two rows that are apart by their numbers are apart by their places
-  pub apart_by_places : (p q : ℕ) → p < length order → q < length order → ShareNoBodyAt (map (pair_at pairs) order) p q
+  pub apart_by_places : (p q : ℕ) → p < length order → q < length order → ShareNoBodyAt (map (row_pair_at pairs) order) p q
       → ShareNoBodyAt pairs (place_at order p) (place_at order q)
   apart_by_places p q here there apart a b at_p at_q =
       apart a b (pair_in_order p a here at_p) (pair_in_order q b there at_q)
 
   module _ (distinct : AreDistinct order) where
     -- a level by places
-    level_by_places : (level : List ℕ) → All (λ k. k < length order) level → IsLevel (map (pair_at pairs) order) level
+    level_by_places : (level : List ℕ) → All (λ k. k < length order) level → IsLevel (map (row_pair_at pairs) order) level
         → IsLevel pairs (map (place_at order) level)
     level_by_places [] within is = tt
     level_by_places (p ∷ level) within is =
@@ -150,25 +150,25 @@ module _ (pairs : List Pair) (order : List ℕ) where
         )
       where
         far : (p : ℕ) → p < length order → (level : List ℕ) → All (λ k. k < length order) level
-            → All (λ q. (p ≢ q) × ShareNoBodyAt (map (pair_at pairs) order) p q) level
+            → All (λ q. (p ≢ q) × ShareNoBodyAt (map (row_pair_at pairs) order) p q) level
             → All (λ q. (place_at order p ≢ place_at order q) × ShareNoBodyAt pairs (place_at order p) (place_at order q)) level
         far p here [] within apart = All-nil (λ q. (place_at order p ≢ place_at order q) × ShareNoBodyAt pairs (place_at order p) (place_at order q))
         far p here (q ∷ level) within apart =
             let there = All-head (λ k. k < length order) q level within in
-            let one = All-head (λ x. (p ≢ x) × ShareNoBodyAt (map (pair_at pairs) order) p x) q level apart in
+            let one = All-head (λ x. (p ≢ x) × ShareNoBodyAt (map (row_pair_at pairs) order) p x) q level apart in
             All-cons (λ x. (place_at order p ≢ place_at order x) × ShareNoBodyAt pairs (place_at order p) (place_at order x)) q level
             (places_apart order p q distinct one.0 here there, apart_by_places p q here there one.1)
             (far p here level (All-tail (λ k. k < length order) q level within)
-            (All-tail (λ x. (p ≢ x) × ShareNoBodyAt (map (pair_at pairs) order) p x) q level apart))
+            (All-tail (λ x. (p ≢ x) × ShareNoBodyAt (map (row_pair_at pairs) order) p x) q level apart))
 
     -- all levels by places
     pub levels_by_places : (levels : List (List ℕ)) → All (All (λ k. k < length order)) levels
-        → All (IsLevel (map (pair_at pairs) order)) levels → All (IsLevel pairs) (map (map (place_at order)) levels)
+        → All (IsLevel (map (row_pair_at pairs) order)) levels → All (IsLevel pairs) (map (map (place_at order)) levels)
     levels_by_places [] within are = All-nil (IsLevel pairs)
     levels_by_places (g ∷ levels) within are =
         All-cons (IsLevel pairs) (map (place_at order) g) (map (map (place_at order)) levels)
-        (level_by_places g (All-head (All (λ k. k < length order)) g levels within) (All-head (IsLevel (map (pair_at pairs) order)) g levels are))
-        (levels_by_places levels (All-tail (All (λ k. k < length order)) g levels within) (All-tail (IsLevel (map (pair_at pairs) order)) g levels are))
+        (level_by_places g (All-head (All (λ k. k < length order)) g levels within) (All-head (IsLevel (map (row_pair_at pairs) order)) g levels are))
+        (levels_by_places levels (All-tail (All (λ k. k < length order)) g levels within) (All-tail (IsLevel (map (row_pair_at pairs) order)) g levels are))
 
 -- the rows of levels by places are those by numbers
 pub concat_places : (order : List ℕ) (levels : List (List ℕ)) → concat (map (map (place_at order)) levels) ≡ map (place_at order) (concat levels)
@@ -177,7 +177,7 @@ concat_places order (g ∷ levels) =
     ap (λ rest. map (place_at order) g ++ rest) (concat_places order levels) ∙ sym (map-append (place_at order) g (concat levels))
 
 -- levels by places have places of rows
-pub in_order_within : (pairs : List Pair) (order : List ℕ) (levels : List (List ℕ)) → All (λ p. p < length pairs) order
+pub in_order_within : (pairs : List RowPair) (order : List ℕ) (levels : List (List ℕ)) → All (λ p. p < length pairs) order
     → AreLevelsInOrder pairs order levels → All (All (λ p. p < length pairs)) levels
 in_order_within pairs order levels within are =
     subst (All (All (λ p. p < length pairs))) (sym are.places) (by are.numbered (within_order pairs order are.numbered are.are))

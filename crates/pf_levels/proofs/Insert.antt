@@ -7,7 +7,7 @@ use Rattle.std.specs.Prelude.{All, ◌⊎◌, slice_get}
 use Rattle.pf_rows.specs.declared.row.Side.{Side}
 use Rattle.pf_rows.specs.declared.row.Side.TheVariants.{Dynamic, Static}
 use Rattle.pf_rows.specs.Row.{AreApart, IsSide}
-use Rattle.pf_levels.specs.Levels.{IsLevel, IsReordering, KeepsOrder, Pair, ShareNoBody, ShareNoBodyAt}
+use Rattle.pf_levels.specs.Levels.{IsLevel, IsReordering, KeepsOrder, RowPair, ShareNoBody, ShareNoBodyAt}
 use Rattle.pf_levels.proofs.Places.{All-left, All-reordering, All-right}
 use Rattle.pf_levels.specs.SoFar.{AreBelow, AreLevelsUpTo, EachBelow, IsBelow, next_level, with_both, with_next, with_place}
 
@@ -103,7 +103,7 @@ range_more zero a = ap (λ x. x ∷ []) (omega arith)
 range_more (suc n) a =
     ap (λ rest. a ∷ rest) (range_more n (a + 1) ∙ ap (λ x. range_with_len (a + 1) n ++ x ∷ []) (omega arith))
 
-module _ (pairs : List Pair) where
+module _ (pairs : List RowPair) where
   -- ---- the order of each body's rows
 
   keeps_with : (front back : List ℕ) (k : ℕ) → KeepsOrder pairs (front ++ back) → All (λ q. q < k) front
@@ -176,7 +176,7 @@ module _ (pairs : List Pair) where
         (All-right (λ q. q < k) level (concat levels) less) (λ h q more. far h q (omega (arith, more))))
 
     -- a row that shares a body with the next row lies in a level before the next row's
-    pub far_apart : (g : ℕ) (pair : Pair) → slice_get pairs k ≡ Some pair → next_level next pair.first ≤ g → next_level next pair.second ≤ g
+    pub far_apart : (g : ℕ) (pair : RowPair) → slice_get pairs k ≡ Some pair → next_level next pair.first ≤ g → next_level next pair.second ≤ g
         → (h q : ℕ) → g ≤ h → AreBelow pairs next h q → ShareNoBodyAt pairs q k
     far_apart g pair at first second h q above below a b at_q at_k =
         let same : b ≡ pair = cc in
@@ -249,7 +249,7 @@ with_length [] g k = refl
 with_length (level ∷ levels) zero k = refl
 with_length (level ∷ levels) (suc g) k = ap suc (with_length levels g k)
 
-module _ (pairs : List Pair) where
+module _ (pairs : List RowPair) where
   each_still : (next then : List ℕ) → ((m : ℕ) → get_or next m 0 ≤ get_or then m 0) → (number : ℕ) (levels : List (List ℕ))
       → EachBelow pairs next number levels → EachBelow pairs then number levels
   each_still next then more number [] below = tt
@@ -274,7 +274,7 @@ module _ (pairs : List Pair) where
       (below.0, each_with next k (suc number) g levels below.1 (subst (λ n. AreBelow pairs next n k) (omega arith) here))
 
   -- a row more, in a level that both its bodies may go to
-  pub row_more : (next : List ℕ) (k g : ℕ) (levels : List (List ℕ)) (pair : Pair) → AreLevelsUpTo pairs k next levels
+  pub row_more : (next : List ℕ) (k g : ℕ) (levels : List (List ℕ)) (pair : RowPair) → AreLevelsUpTo pairs k next levels
       → slice_get pairs k ≡ Some pair → IsSide (length next) pair.first → IsSide (length next) pair.second
       → next_level next pair.first ≤ g → next_level next pair.second ≤ g → g < length levels
       → AreLevelsUpTo pairs (suc k) (with_both next pair (suc g)) (with_place levels g k)
@@ -340,7 +340,7 @@ module _ (pairs : List Pair) where
       own : AreBelow pairs then g k
       own c at_k =
           let same : pair ≡ c = cc in
-          subst (λ (x : Pair). IsBelow then g x.first × IsBelow then g x.second) same (
+          subst (λ (x : RowPair). IsBelow then g x.first × IsBelow then g x.second) same (
             still_below half then up_half g pair.first (own_below next pair.first g one),
             own_below half pair.second g (subst (λ n. IsSide n pair.second) (sym (next_length next pair.first (suc g))) two),
           )

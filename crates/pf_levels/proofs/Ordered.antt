@@ -9,8 +9,8 @@ use Rattle.std.specs.Prelude.{◌⊎◌, All, slice_get}
 use Rattle.pf_rows.specs.declared.row.Side.{Side}
 use Rattle.pf_rows.specs.declared.row.Side.TheVariants.{Dynamic, Static}
 use Rattle.pf_rows.specs.Row.{AreApart}
-use Rattle.pf_levels.specs.Levels.{AreLevels, IsOrder, IsReordering, KeepsOrder, Pair, ShareNoBody, ShareNoBodyAt}
-use Rattle.pf_levels.specs.Order.{pair_at, place_at, place_from_end}
+use Rattle.pf_levels.specs.Levels.{AreLevels, IsOrder, IsReordering, KeepsOrder, RowPair, ShareNoBody, ShareNoBodyAt}
+use Rattle.pf_levels.specs.Order.{row_pair_at, place_at, place_from_end}
 use Rattle.pf_levels.proofs.InOrder.{all_places, apart_by_places, below_end, concat_places, levels_by_places, reordering_distinct, within_order}
 use Rattle.pf_levels.proofs.Places.{All-reordering}
 use Rattle.pf_levels.proofs.Reordered.{range_from_end, reordering_again, reordering_mapped, reordering_of_reversed, reordering_reversed}
@@ -18,12 +18,12 @@ use Rattle.pf_levels.proofs.Reordered.{range_from_end, reordering_again, reorder
 -- ---- an order by its places
 
 -- of two rows the one that comes first in the list comes first in the order, if they share a body
-abbrev pub KeepsAt : List Pair → List ℕ → Type 0
+abbrev pub KeepsAt : List RowPair → List ℕ → Type 0
 KeepsAt pairs order =
     (i j : ℕ) → i < j → j < length order → get_or order j 0 < get_or order i 0
     → ShareNoBodyAt pairs (get_or order j 0) (get_or order i 0)
 
-pub keeps_at : (pairs : List Pair) (order : List ℕ) → KeepsOrder pairs order → KeepsAt pairs order
+pub keeps_at : (pairs : List RowPair) (order : List ℕ) → KeepsOrder pairs order → KeepsAt pairs order
 keeps_at pairs [] keeps i j before within less = absurd (omega (arith, within))
 keeps_at pairs (p ∷ order) keeps zero zero before within less = absurd (omega (arith, before))
 keeps_at pairs (p ∷ order) keeps zero (suc j) before within less =
@@ -32,7 +32,7 @@ keeps_at pairs (p ∷ order) keeps (suc i) zero before within less = absurd (ome
 keeps_at pairs (p ∷ order) keeps (suc i) (suc j) before within less =
     keeps_at pairs order keeps.1 i j (omega (arith, before)) (omega (arith, within)) less
 
-pub keeps_from : (pairs : List Pair) (order : List ℕ) → KeepsAt pairs order → KeepsOrder pairs order
+pub keeps_from : (pairs : List RowPair) (order : List ℕ) → KeepsAt pairs order → KeepsOrder pairs order
 keeps_from pairs [] keeps = tt
 keeps_from pairs (p ∷ order) keeps = (
   λ k d within.
@@ -49,7 +49,7 @@ apart_swapped (Dynamic m) Static apart = tt
 apart_swapped Static (Dynamic n) apart = tt
 apart_swapped Static Static apart = tt
 
-none_swapped : (a b : Pair) → ShareNoBody a b → ShareNoBody b a
+none_swapped : (a b : RowPair) → ShareNoBody a b → ShareNoBody b a
 none_swapped a b h = record {
   firsts = apart_swapped a.first b.first h.firsts;
   first_second = apart_swapped a.second b.first h.second_first;
@@ -58,21 +58,21 @@ none_swapped a b h = record {
 }
 
 -- the row that has a number from the end
-row_from_end : (pairs : List Pair) (k : ℕ) (x : Pair) → k < length pairs
+row_from_end : (pairs : List RowPair) (k : ℕ) (x : RowPair) → k < length pairs
     → slice_get pairs (place_from_end (length pairs) k) ≡ Some x → slice_get (reverse pairs) k ≡ Some x
 row_from_end pairs k x within at =
-    let none : Pair = record { first = Static; second = Static } in
+    let none : RowPair = record { first = Static; second = Static } in
     let long = length-reverse pairs in
     slice_get-get_or (reverse pairs) k none (omega (arith, within, long))
     ∙ ap Some (get_or-reverse pairs k none within ∙ get_or_from_slice_get pairs (place_from_end (length pairs) k) x none at)
 
-apart_from_end : (pairs : List Pair) (a b : ℕ) → a < length pairs → b < length pairs → ShareNoBodyAt (reverse pairs) a b
+apart_from_end : (pairs : List RowPair) (a b : ℕ) → a < length pairs → b < length pairs → ShareNoBodyAt (reverse pairs) a b
     → ShareNoBodyAt pairs (place_from_end (length pairs) b) (place_from_end (length pairs) a)
 apart_from_end pairs a b first second apart x y at_x at_y =
     none_swapped y x (apart y x (row_from_end pairs a y first at_y) (row_from_end pairs b x second at_x))
 
 -- its numbers are those of rows
-pub from_end_within : (pairs : List Pair) (numbers : List ℕ) → IsOrder (reverse pairs) numbers
+pub from_end_within : (pairs : List RowPair) (numbers : List ℕ) → IsOrder (reverse pairs) numbers
     → All (λ k. k < length pairs) (reverse numbers)
 from_end_within pairs numbers is =
     let n = length pairs in
@@ -82,7 +82,7 @@ from_end_within pairs numbers is =
     (below_end n)
 
 -- an order of the rows from the last to the first is one of the rows, if it is read from its end
-pub order_from_end : (pairs : List Pair) (numbers : List ℕ) → IsOrder (reverse pairs) numbers
+pub order_from_end : (pairs : List RowPair) (numbers : List ℕ) → IsOrder (reverse pairs) numbers
     → IsOrder pairs (map (place_from_end (length pairs)) (reverse numbers))
 order_from_end pairs numbers is = record {
   all = reordering_of_reversed (range_with_len 0 n) (map f (reverse numbers))
@@ -137,12 +137,12 @@ order_from_end pairs numbers is = record {
 -- ---- levels of rows in such an order
 
 -- it has places of rows
-pub order_within : (pairs : List Pair) (order : List ℕ) → IsOrder pairs order → All (λ p. p < length pairs) order
+pub order_within : (pairs : List RowPair) (order : List ℕ) → IsOrder pairs order → All (λ p. p < length pairs) order
 order_within pairs order is =
     All-reordering (λ p. p < length pairs) (range_with_len 0 (length pairs)) order is.all (below_end (length pairs))
 
-pub levels_in_order : (pairs : List Pair) (order : List ℕ) (levels : List (List ℕ)) → IsOrder pairs order
-    → AreLevels (map (pair_at pairs) order) levels → AreLevels pairs (map (map (place_at order)) levels)
+pub levels_in_order : (pairs : List RowPair) (order : List ℕ) (levels : List (List ℕ)) → IsOrder pairs order
+    → AreLevels (map (row_pair_at pairs) order) levels → AreLevels pairs (map (map (place_at order)) levels)
 levels_in_order pairs order levels is are = record {
   order = record {
     all = subst (IsReordering (range_with_len 0 (length pairs))) (sym flat)
@@ -162,7 +162,7 @@ levels_in_order pairs order levels is are = record {
     flat = concat_places order levels
 
     all : IsReordering (range_with_len 0 (length order)) numbers
-    all = subst (λ k. IsReordering (range_with_len 0 k) numbers) (length-map order (pair_at pairs)) are.order.all
+    all = subst (λ k. IsReordering (range_with_len 0 k) numbers) (length-map order (row_pair_at pairs)) are.order.all
 
     within : All (λ k. k < length order) numbers
     within = All-reordering (λ k. k < length order) (range_with_len 0 (length order)) numbers all (below_end (length order))
@@ -183,7 +183,7 @@ levels_in_order pairs order levels is are = record {
         let at_j = at j j_low in
         let less_too : get_or order b 0 < get_or order a 0 = omega (arith, less, at_i, at_j) in
         let apart : ShareNoBodyAt pairs (place_at order b) (place_at order a) =
-        by a b a_low b_low less_too (λ first. keeps_at (map (pair_at pairs) order) numbers are.order.keeps i j before j_low first) (nat_order a b) in
+        by a b a_low b_low less_too (λ first. keeps_at (map (row_pair_at pairs) order) numbers are.order.keeps i j before j_low first) (nat_order a b) in
         subst (λ p. ShareNoBodyAt pairs p (get_or (map (place_at order) numbers) i 0)) (sym at_j)
         (subst (λ q. ShareNoBodyAt pairs (place_at order b) q) (sym at_i) apart)
       where
@@ -199,7 +199,7 @@ levels_in_order pairs order levels is are = record {
             next (inr (inr less)) = inr (inr (omega (arith, less)))
 
         by : (a b : ℕ) → a < length order → b < length order → get_or order b 0 < get_or order a 0
-            → (b < a → ShareNoBodyAt (map (pair_at pairs) order) b a) → (b < a) ⊎ ((a ≡ b) ⊎ (a < b))
+            → (b < a → ShareNoBodyAt (map (row_pair_at pairs) order) b a) → (b < a) ⊎ ((a ≡ b) ⊎ (a < b))
             → ShareNoBodyAt pairs (place_at order b) (place_at order a)
         by a b a_low b_low less own (inl first) = apart_by_places pairs order b a b_low a_low (own first)
         by a b a_low b_low less own (inr (inl same)) =

@@ -4,7 +4,7 @@ use Rattle.std.proofs.lemmas.List.Elements.{All-append, All-cons, All-head, All-
 use Rattle.std.specs.List.{concat, range_with_len}
 use Rattle.std.specs.Prelude.{All, ◌⊎◌, slice_get}
 use Rattle.pf_rows.specs.Row.{IsSide}
-use Rattle.pf_levels.specs.Levels.{AreLevels, IsLevel, IsReordering, KeepsOrder, Pair}
+use Rattle.pf_levels.specs.Levels.{AreLevels, IsLevel, IsReordering, KeepsOrder, RowPair}
 use Rattle.pf_levels.specs.SoFar.{AreLevelsUpTo, EachBelow, next_level, with_both, with_place}
 use Rattle.pf_levels.proofs.Insert.{row_more}
 
@@ -19,7 +19,7 @@ concat_more [] = refl
 concat_more (level ∷ levels) = ap (λ rest. level ++ rest) (concat_more levels)
 
 -- an empty level more
-pub level_more : (pairs : List Pair) (k : ℕ) (next : List ℕ) (levels : List (List ℕ)) → AreLevelsUpTo pairs k next levels
+pub level_more : (pairs : List RowPair) (k : ℕ) (next : List ℕ) (levels : List (List ℕ)) → AreLevelsUpTo pairs k next levels
     → AreLevelsUpTo pairs k next (levels ++ [] ∷ [])
 level_more pairs k next levels so_far = record {
   all = subst (IsReordering (range_with_len 0 k)) (sym (concat_more levels)) so_far.all;
@@ -45,13 +45,13 @@ level_more pairs k next levels so_far = record {
         (weaker ns (All-tail (λ x. x ≤ length levels) n ns all))
 
 -- the levels, or one more
-pub grown : (pairs : List Pair) (k : ℕ) (next : List ℕ) (old new : List (List ℕ)) → (new ≡ old) ⊎ (new ≡ old ++ [] ∷ [])
+pub grown : (pairs : List RowPair) (k : ℕ) (next : List ℕ) (old new : List (List ℕ)) → (new ≡ old) ⊎ (new ≡ old ++ [] ∷ [])
     → AreLevelsUpTo pairs k next old → AreLevelsUpTo pairs k next new
 grown pairs k next old new (inl same) so_far = subst (AreLevelsUpTo pairs k next) (sym same) so_far
 grown pairs k next old new (inr more) so_far = subst (AreLevelsUpTo pairs k next) (sym more) (level_more pairs k next old so_far)
 
 -- a row more, as it is stored
-pub added : (pairs : List Pair) (next : List ℕ) (k g : ℕ) (levels : List (List ℕ)) (pair : Pair) → AreLevelsUpTo pairs k next levels
+pub added : (pairs : List RowPair) (next : List ℕ) (k g : ℕ) (levels : List (List ℕ)) (pair : RowPair) → AreLevelsUpTo pairs k next levels
     → slice_get pairs k ≡ Some pair → IsSide (length next) pair.first → IsSide (length next) pair.second
     → next_level next pair.first ≤ g → next_level next pair.second ≤ g → g < length levels
     → AreLevelsUpTo pairs (k + 1) (with_both next pair (g + 1)) (set levels g (get_or levels g [] ++ k ∷ []))
@@ -63,7 +63,7 @@ added pairs next k g levels pair so_far at one two first second within =
     (subst (λ v. AreLevelsUpTo pairs (suc k) (with_both next pair v) (with_place levels g k)) g_is more))
 
 -- no rows, and no levels
-pub none_yet : (pairs : List Pair) (next : List ℕ) → All (λ n. n ≤ 0) next → AreLevelsUpTo pairs 0 next []
+pub none_yet : (pairs : List RowPair) (next : List ℕ) → All (λ n. n ≤ 0) next → AreLevelsUpTo pairs 0 next []
 none_yet pairs next zeros = record {
   all = refl;
   keeps = tt;
@@ -73,7 +73,7 @@ none_yet pairs next zeros = record {
 }
 
 -- all rows
-pub all_done : (pairs : List Pair) (next : List ℕ) (levels : List (List ℕ)) → AreLevelsUpTo pairs (length pairs) next levels
+pub all_done : (pairs : List RowPair) (next : List ℕ) (levels : List (List ℕ)) → AreLevelsUpTo pairs (length pairs) next levels
     → AreLevels pairs levels
 all_done pairs next levels so_far = record {
   order = record { all = so_far.all; keeps = so_far.keeps };

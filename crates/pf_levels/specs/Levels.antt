@@ -6,32 +6,32 @@ use Rattle.pf_rows.specs.declared.row.Side.{Side}
 use Rattle.pf_rows.specs.Row.{AreApart, IsSide, Row}
 
 -- the two bodies of a row
-pub record Pair : Type 0 where
+pub record RowPair : Type 0 where
   pub first : Side
   pub second : Side
 
-abbrev pub pair_of : Row → Pair
+abbrev pub pair_of : Row → RowPair
 pair_of r = record { first = r.entry.first; second = r.entry.second }
 
 -- each body is static or one of so many bodies
-pub record IsPairOf (bodies : ℕ) (pair : Pair) : Type 0 where
+pub record IsRowPairOf (bodies : ℕ) (pair : RowPair) : Type 0 where
   pub first : IsSide bodies pair.first
   pub second : IsSide bodies pair.second
 
-abbrev pub ArePairsOf : ℕ → List Pair → Type 0
-ArePairsOf bodies pairs = All (IsPairOf bodies) pairs
+abbrev pub ArePairsOf : ℕ → List RowPair → Type 0
+ArePairsOf bodies pairs = All (IsRowPairOf bodies) pairs
 
 -- two rows have no dynamic body in common
-pub record ShareNoBody (a b : Pair) : Type 0 where
+pub record ShareNoBody (a b : RowPair) : Type 0 where
   pub firsts : AreApart a.first b.first
   pub first_second : AreApart a.first b.second
   pub second_first : AreApart a.second b.first
   pub seconds : AreApart a.second b.second
 
 -- so it is of the rows at two places, if there are such rows
-abbrev pub ShareNoBodyAt : List Pair → ℕ → ℕ → Type 0
+abbrev pub ShareNoBodyAt : List RowPair → ℕ → ℕ → Type 0
 ShareNoBodyAt pairs p q =
-    (a b : Pair) → slice_get pairs p ≡ Some a → slice_get pairs q ≡ Some b → ShareNoBody a b
+    (a b : RowPair) → slice_get pairs p ≡ Some a → slice_get pairs q ≡ Some b → ShareNoBody a b
 
 -- the same places, in any order
 abbrev pub IsReordering : List ℕ → List ℕ → Type 0
@@ -41,30 +41,30 @@ IsReordering (p ∷ places) order =
     × IsReordering places (front ++ back)
 
 -- of two rows with a common dynamic body the one that comes first in the list is solved first
-abbrev pub KeepsOrder : List Pair → List ℕ → Type 0
+abbrev pub KeepsOrder : List RowPair → List ℕ → Type 0
 KeepsOrder pairs [] = ⊤
 KeepsOrder pairs (p ∷ order) =
     All (λ q. q < p → ShareNoBodyAt pairs q p) order × KeepsOrder pairs order
 
 -- all rows, in an order that keeps that of the rows of each body
-pub record IsOrder (pairs : List Pair) (order : List ℕ) : Type 0 where
+pub record IsOrder (pairs : List RowPair) (order : List ℕ) : Type 0 where
   pub all : IsReordering (range_with_len 0 (length pairs)) order
   pub keeps : KeepsOrder pairs order
 
 -- places of rows of which no two have a dynamic body in common
-abbrev pub IsLevel : List Pair → List ℕ → Type 0
+abbrev pub IsLevel : List RowPair → List ℕ → Type 0
 IsLevel pairs [] = ⊤
 IsLevel pairs (p ∷ level) = All (λ q. (p ≢ q) × ShareNoBodyAt pairs p q) level × IsLevel pairs level
 
 -- levels that are all rows, in an order that keeps that of the rows of each body
-pub record AreLevels (pairs : List Pair) (levels : List (List ℕ)) : Type 0 where
+pub record AreLevels (pairs : List RowPair) (levels : List (List ℕ)) : Type 0 where
   pub order : IsOrder pairs (concat levels)
   pub apart : All (IsLevel pairs) levels
 
 -- levels, the pairs of the rows that they were made of, and whether no fewer ones are searched for
 -- any more
 pub record Leveling : Type 0 where
-  pub pairs : List Pair
+  pub pairs : List RowPair
   pub levels : List (List ℕ)
   pub are_final : Bool
 

@@ -3,7 +3,7 @@ use Rattle.std.specs.Prelude.{All, List, Some, [], length, slice_get, slice_inde
 use Rattle.std.specs.List.{concat, range_with_len}
 use Rattle.pf_rows.specs.declared.row.Side.{Side}
 use Rattle.pf_rows.specs.declared.row.Side.TheVariants.{Dynamic, Static}
-use Rattle.pf_levels.specs.Levels.{IsLevel, IsReordering, KeepsOrder, Pair}
+use Rattle.pf_levels.specs.Levels.{IsLevel, IsReordering, KeepsOrder, RowPair}
 
 -- the first level that the next row of the body on a side may go to
 abbrev pub next_level : List ℕ → Side → ℕ
@@ -16,20 +16,20 @@ IsBelow next level Static = ⊤
 IsBelow next level (Dynamic n) = level < slice_index_or next n 0
 
 -- so have both bodies of the row at a place
-abbrev pub AreBelow : List Pair → List ℕ → ℕ → ℕ → Type 0
+abbrev pub AreBelow : List RowPair → List ℕ → ℕ → ℕ → Type 0
 AreBelow pairs next level p =
-    (pair : Pair) → slice_get pairs p ≡ Some pair
+    (pair : RowPair) → slice_get pairs p ≡ Some pair
     → IsBelow next level pair.first × IsBelow next level pair.second
 
 -- so it is of the rows of each level; the first one has this number
-abbrev pub EachBelow : List Pair → List ℕ → ℕ → List (List ℕ) → Type 0
+abbrev pub EachBelow : List RowPair → List ℕ → ℕ → List (List ℕ) → Type 0
 EachBelow pairs next number [] = ⊤
 EachBelow pairs next number (level ∷ levels) =
     All (AreBelow pairs next number) level × EachBelow pairs next (suc number) levels
 
 -- the levels of the first rows
 pub record AreLevelsUpTo
-    (pairs : List Pair) (count : ℕ) (next : List ℕ) (levels : List (List ℕ)) : Type 0 where
+    (pairs : List RowPair) (count : ℕ) (next : List ℕ) (levels : List (List ℕ)) : Type 0 where
   pub all : IsReordering (range_with_len 0 count) (concat levels)
   pub keeps : KeepsOrder pairs (concat levels)
   pub apart : All (IsLevel pairs) levels
@@ -48,5 +48,5 @@ with_next next Static level = next
 with_next next (Dynamic n) level = slice_set next n level
 
 -- the same for both bodies of a row
-abbrev pub with_both : List ℕ → Pair → ℕ → List ℕ
+abbrev pub with_both : List ℕ → RowPair → ℕ → List ℕ
 with_both next pair level = with_next (with_next next pair.first level) pair.second level

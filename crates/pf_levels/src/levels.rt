@@ -6,7 +6,7 @@ ghost use Rattle.pf_levels.specs.Levels.{ArePairsOf, AreLevels, IsOrder, Levelin
 use crate::level::{Level, WIDTH};
 use crate::listing::{add_places, list_levels, list_pairs, number_from_end};
 use crate::packing::Packing;
-use crate::pair::{Pair, are_same};
+use crate::pair::{RowPair, are_same};
 use std::alloc::{AllocError, Global};
 use std::marker::Model;
 use std::mem;
@@ -15,9 +15,9 @@ use std::mem;
 /// So a row that many others wait for comes early.
 fn list_from_end(
     order: &mut Vec<usize>,
-    listed: &mut Vec<Pair>,
+    listed: &mut Vec<RowPair>,
     packing: &mut Packing,
-    pairs: &[Pair],
+    pairs: &[RowPair],
     bodies: usize,
 ) -> Result<(), AllocError>
     requires { ArePairsOf bodies pairs.now }
@@ -49,9 +49,9 @@ fn improve_levels(
     levels: &mut Vec<Level>,
     others: &mut Vec<Level>,
     order: &mut Vec<usize>,
-    listed: &mut Vec<Pair>,
+    listed: &mut Vec<RowPair>,
     packing: &mut Packing,
-    pairs: &[Pair],
+    pairs: &[RowPair],
     bodies: usize,
 ) -> Result<(), AllocError>
     requires pairs { ArePairsOf bodies pairs.now }
@@ -71,10 +71,10 @@ fn improve_levels(
 
 /// Keeps these pairs, and finds levels of their rows in one pass.
 fn find_levels(
-    kept: &mut Vec<Pair>,
+    kept: &mut Vec<RowPair>,
     levels: &mut Vec<Level>,
     packing: &mut Packing,
-    pairs: &[Pair],
+    pairs: &[RowPair],
     bodies: usize,
 ) -> Result<(), AllocError>
     requires { ArePairsOf bodies pairs.now }
@@ -95,13 +95,13 @@ fn find_levels(
 /// Contracts see the pairs, the levels as lists of places, and whether these are final.
 #[derive(Debug, Drop)]
 pub struct Levels {
-    pairs: Vec<Pair>,
+    pairs: Vec<RowPair>,
     levels: Vec<Level>,
     /// Whether no fewer levels are searched for any more.
     are_final: bool,
     others: Vec<Level>,
     order: Vec<usize>,
-    listed: Vec<Pair>,
+    listed: Vec<RowPair>,
     packing: Packing,
 }
 
@@ -138,7 +138,7 @@ impl Levels {
     /// The levels of the rows of these pairs of so many bodies. Where the pairs are those that are
     /// kept, fewer levels are searched for once, if that may pay, and then the levels are kept; it
     /// can't fail then. Where they are others, out of memory there are no levels.
-    pub fn update(&mut self, pairs: &[Pair], bodies: usize) -> Result<(), AllocError>
+    pub fn update(&mut self, pairs: &[RowPair], bodies: usize) -> Result<(), AllocError>
         requires { ArePairsOf bodies pairs.now }
         ensures pairs { OnOk result (self.new.pairs ≡ pairs.now) }
         ensures levels { IfOk result (λ done. AreLevels pairs.now self.new.levels) }

@@ -15,4 +15,4 @@ mod pair;
 pub use level::{Level, WIDTH};
 pub use levels::Levels;
 pub use overlap::Overlap;
-pub use pair::Pair;
+pub use pair::RowPair;

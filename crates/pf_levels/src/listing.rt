@@ -2,10 +2,10 @@
 
 ghost use Rattle.std.specs.Prelude.{◌≡◌, ◌-◌, ◌<◌, ◌++◌, All, OnOk, length, map};
 ghost use Rattle.std.specs.List.{concat};
-ghost use Rattle.pf_levels.specs.Order.{pair_at, place_at, place_from_end};
+ghost use Rattle.pf_levels.specs.Order.{row_pair_at, place_at, place_from_end};
 
 use crate::level::Level;
-use crate::pair::Pair;
+use crate::pair::RowPair;
 use std::alloc::AllocError;
 
 /// Adds the places of the rows of levels, one level after the other.
@@ -30,12 +30,12 @@ pub(crate) fn number_from_end(order: &mut [usize], count: usize)
 
 /// Lists the pairs of the rows at these places.
 pub(crate) fn list_pairs(
-    found: &mut Vec<Pair>,
-    pairs: &[Pair],
+    found: &mut Vec<RowPair>,
+    pairs: &[RowPair],
     order: &[usize],
 ) -> Result<(), AllocError>
     requires { All (λ place. place < length pairs.now) order.now }
-    ensures { OnOk result (found.new.items ≡ map (pair_at pairs.now) order.now) }
+    ensures { OnOk result (found.new.items ≡ map (row_pair_at pairs.now) order.now) }
 {
     found.clear();
     for place in order {

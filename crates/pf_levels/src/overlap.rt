@@ -9,7 +9,7 @@ ghost use Rattle.pf_levels.specs.declared.level.TheConstants.{WIDTH};
 use crate::level::Level;
 use crate::levels::Levels;
 use crate::listing::{add_places, list_levels, list_pairs};
-use crate::pair::Pair;
+use crate::pair::RowPair;
 use std::alloc::{AllocError, Global};
 use std::marker::Model;
 
@@ -31,7 +31,7 @@ fn list_rows(order: &mut Vec<usize>, levels: &[Level], early: usize) -> Result<(
 #[derive(Debug, Drop)]
 pub struct Overlap {
     order: Vec<usize>,
-    pairs: Vec<Pair>,
+    pairs: Vec<RowPair>,
     numbered: Levels,
     levels: Vec<Level>,
 }
@@ -63,7 +63,7 @@ impl Overlap {
     #[tactic(auto, using(crate::proofs::InOrder::late_early_within, crate::proofs::InOrder::within_order))]
     pub fn update(
         &mut self,
-        pairs: &[Pair],
+        pairs: &[RowPair],
         bodies: usize,
         levels: &[Level],
         early: usize,

@@ -2,13 +2,13 @@
 
 ghost use Rattle.std.specs.Prelude.{◌≡◌, ◌≤◌, ◌+◌, [], All, IfOk, List, Some, length, slice_get};
 ghost use Rattle.pf_rows.specs.Row.{IsSide};
-ghost use Rattle.pf_levels.specs.Levels.{ArePairsOf, AreLevels, IsPairOf, Pair};
+ghost use Rattle.pf_levels.specs.Levels.{ArePairsOf, AreLevels, IsRowPairOf, RowPair};
 ghost use Rattle.pf_levels.specs.Links.{AreLinks};
 ghost use Rattle.pf_levels.specs.SoFar.{AreLevelsUpTo, next_level, with_next};
 
 use crate::level::Level;
 use crate::links::level_with_room;
-use crate::pair::Pair;
+use crate::pair::RowPair;
 use pf_rows::Side;
 use std::alloc::{AllocError, Global};
 use std::marker::Model;
@@ -42,14 +42,14 @@ fn add_row(
     links: &mut Vec<usize>,
     next: &mut [usize],
     place: usize,
-    pair: Pair,
+    pair: RowPair,
 ) -> Result<(), AllocError>
-    requires pair { IsPairOf (length next.old) pair }
+    requires pair { IsRowPairOf (length next.old) pair }
     requires within { All (λ n. n ≤ length levels.old.items) next.old }
     requires links { AreLinks (length levels.old.items) links.old.items }
     ensures length { length next.new ≡ length next.old }
     ensures links { IfOk result (λ done. AreLinks (length levels.new.items) links.new.items) }
-    ensures levels { IfOk result (λ done. (pairs : List Pair)
+    ensures levels { IfOk result (λ done. (pairs : List RowPair)
         → slice_get pairs place ≡ Some pair
         → AreLevelsUpTo pairs place next.old levels.old.items
         → AreLevelsUpTo pairs (place + 1) next.new levels.new.items) }
@@ -67,7 +67,7 @@ fn add_rows(
     levels: &mut Vec<Level>,
     links: &mut Vec<usize>,
     next: &mut [usize],
-    pairs: &[Pair],
+    pairs: &[RowPair],
 ) -> Result<(), AllocError>
     requires pairs { ArePairsOf (length next.old) pairs.now }
     requires levels { levels.old.items ≡ [] }
@@ -113,7 +113,7 @@ impl Packing {
 
     /// Finds the levels of the rows of these pairs of so many bodies. Out of memory the levels are
     /// of no use.
-    pub(crate) fn pack(&mut self, pairs: &[Pair], bodies: usize) -> Result<(), AllocError>
+    pub(crate) fn pack(&mut self, pairs: &[RowPair], bodies: usize) -> Result<(), AllocError>
         requires { ArePairsOf bodies pairs.now }
         ensures { IfOk result (λ done. AreLevels pairs.now self.new) }
     {

@@ -7,17 +7,17 @@ use std::marker::Model;
 
 /// The sides of the two bodies of a row.
 #[derive(Clone, Copy, Debug)]
-pub struct Pair {
+pub struct RowPair {
     /// Where the first body stands.
     pub first: Side,
     /// Where the second body stands.
     pub second: Side,
 }
 
-impl Model for Pair {
-    ghost use Rattle.pf_levels.specs.Levels.{Pair};
+impl Model for RowPair {
+    ghost use Rattle.pf_levels.specs.Levels.{RowPair};
 
-    ghost Value = { Pair };
+    ghost Value = { RowPair };
 
     ghost view = { λ p. record { first = p.first; second = p.second } };
 
@@ -35,9 +35,9 @@ fn is_same_side(side: Side, other: Side) -> bool
     }
 }
 
-impl Pair {
+impl RowPair {
     /// Whether both sides are those of another pair.
-    fn is_same(self, other: Pair) -> bool
+    fn is_same(self, other: RowPair) -> bool
         ensures { IsTrue result ↔ (self ≡ other) }
     {
         is_same_side(self.first, other.first) && is_same_side(self.second, other.second)
@@ -45,7 +45,7 @@ impl Pair {
 }
 
 /// Whether two lists of pairs are the same.
-pub(crate) fn are_same(pairs: &[Pair], others: &[Pair]) -> bool
+pub(crate) fn are_same(pairs: &[RowPair], others: &[RowPair]) -> bool
     ensures { IsTrue result ↔ (pairs.now ≡ others.now) }
 {
     if pairs.len() != others.len() {

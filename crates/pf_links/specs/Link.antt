@@ -9,8 +9,8 @@ abbrev pub Frame : Type 0
 Frame = List ℕ
 
 -- the frames that were pushed on the ring
-abbrev pub pushed : LinkOut → List Frame
-pushed l = sent l.ring
+abbrev pub pushed_frames : LinkOut → List Frame
+pushed_frames l = sent l.ring
 
 -- the frames for which the ring had no room yet
 abbrev pub backlog_of : LinkOut → List Frame
@@ -18,7 +18,7 @@ backlog_of l = l.backlog.items
 
 -- the frames that were handed in, in their order
 abbrev pub handed : LinkOut → List Frame
-handed l = pushed l ++ backlog_of l
+handed l = pushed_frames l ++ backlog_of l
 
 -- how many frames more the ring has room for, as far as its sender knows
 abbrev pub room_of : LinkOut → ℕ

@@ -13,7 +13,7 @@ pub struct LinkIn {
 
 impl LinkIn {
     ghost use Rattle.std.specs.Prelude.{◌≡◌, ◌↔◌, ◌<◌, ◌∷◌, [], ◌++◌, IfNone, IfSome, IsNone, IsSome, length};
-    ghost use Rattle.pf_links.specs.Link.{AreEnds, LeavesFrames, SameIn, backlog_of, got, handed, known, pushed};
+    ghost use Rattle.pf_links.specs.Link.{AreEnds, LeavesFrames, SameIn, backlog_of, got, handed, known, pushed_frames};
 
     /// The receiver's end of a ring.
     pub(crate) fn new(ring: Consumer<[u8; FRAME_LEN], Global>) -> LinkIn
@@ -37,7 +37,7 @@ impl LinkIn {
     pub fn ready(&mut self, from: &mut LinkOut) -> usize
         requires { AreEnds from.old self.old }
         ensures value { result ≡ length (known self.new) }
-        ensures rest { pushed from.new ≡ got self.new ++ known self.new }
+        ensures rest { pushed_frames from.new ≡ got self.new ++ known self.new }
         ensures got { got self.new ≡ got self.old }
         ensures frames { LeavesFrames from.old from.new }
         ensures ends { AreEnds from.new self.new }
@@ -54,7 +54,7 @@ impl LinkIn {
         ensures none { IfNone result (got self.new ≡ got self.old) }
         ensures end { IsNone result
             ↔ (handed from.old ≡ got self.old ++ backlog_of from.old) }
-        ensures rest { pushed from.new ≡ got self.new ++ known self.new }
+        ensures rest { pushed_frames from.new ≡ got self.new ++ known self.new }
         ensures frames { LeavesFrames from.old from.new }
         ensures ends { AreEnds from.new self.new }
         ensures same { SameIn self.old self.new }

@@ -108,8 +108,8 @@ impl<R: Wait, T: Task> Pool<R, T> {
         self.workers.len()
     }
 
-    /// Into how many parts work is best cut: into one for each worker, or, where nobody watches, for
-    /// each processor, if there are fewer, but into two.
+    /// Into how many parts work is best cut: into one for each worker, or, where nobody watches,
+    /// for each processor, if there are fewer, but into two.
     pub fn part_count(&self) -> usize
         ensures some { 0 < result }
         ensures most { result ≤ length self.now }
@@ -131,9 +131,9 @@ impl<R: Wait, T: Task> Pool<R, T> {
     }
 
     /// A pool of the same workers, which does not join them. After this pool has dismissed one, or
-    /// was closed, the other fails where somebody watches, and else does those parts itself. Neither
-    /// may be done while the other runs, nor may the other dismiss: one of the two may then wait for
-    /// ever.
+    /// was closed, the other fails where somebody watches, and else does those parts itself.
+    /// Neither may be done while the other runs, nor may the other dismiss: one of the two may then
+    /// wait for ever.
     pub fn another(&self) -> Result<Pool<R, T>, AllocError>
     where
         R: Copy,
@@ -216,8 +216,8 @@ impl<R: Wait, T: Task> Pool<R, T> {
     }
 
     /// Asks one worker after the other to do its part, from the last to the first, up to the first
-    /// error. Returns the least number of those that were asked, or how many parts there are if none
-    /// was. The first part is put into `own` in place of that, if the caller may do it.
+    /// error. Returns the least number of those that were asked, or how many parts there are if
+    /// none was. The first part is put into `own` in place of that, if the caller may do it.
     fn ask_each(
         &self,
         turn: usize,
@@ -287,8 +287,8 @@ impl<R: Wait, T: Task> Pool<R, T> {
         unreachable!()
     }
 
-    /// Has all parts done that can be asked for, and waits until those who were asked have answered.
-    /// Returns the least number of those.
+    /// Has all parts done that can be asked for, and waits until those who were asked have
+    /// answered. Returns the least number of those.
     fn have_done(
         &self,
         turn: usize,

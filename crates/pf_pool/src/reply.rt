@@ -42,8 +42,8 @@ pub(crate) enum Message<P> {
     Answer(Answer<P>),
 }
 
-/// What one who holds a pass knows: the number of a run, what was dealt in it, and whether it is the
-/// caller, who deals. Only contracts see it.
+/// What one who holds a pass knows: the number of a run, what was dealt in it, and whether it is
+/// the caller, who deals. Only contracts see it.
 pub(crate) struct Known<P> {
     pub(crate) deals: bool,
     pub(crate) run: usize,

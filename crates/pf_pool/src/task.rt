@@ -14,7 +14,7 @@ pub trait Task {
     fn run(&self, worker: usize, turn: usize, part: Self::Part) -> Self::Part
         ensures { is_done part result };
 
-    /// Whether each part has to be done by the worker of its number. If not, the caller of a pool does
-    /// the first part, and those that no worker has begun. The answer is always the same.
+    /// Whether each part has to be done by the worker of its number. If not, the caller of a pool
+    /// does the first part, and those that no worker has begun. The answer is always the same.
     fn is_watched(&self) -> bool;
 }

@@ -5,7 +5,7 @@ ghost use Rattle.std.specs.Process.{exit_status};
 ghost use Rattle.pf_pool.specs.declared.pool.TheConstants.{MAX_WORKERS};
 ghost use Rattle.pf_workers.specs.Crew.{IsStartError, new_crew};
 ghost use Rattle.pf_console.specs.Report.{Reports};
-ghost use Rattle.pf_console.specs.Text.{CountsReads, CountsWrites};
+ghost use Rattle.pf_console.specs.Text.{CountsReading, CountsWriting};
 ghost use Rattle.pf_program.specs.Options.{FailsByWordsOrMemory, HasCrewSize};
 ghost use Rattle.pf_program.specs.Program.{Ends, IsCrewStartError, Plays, crew_for};
 
@@ -69,8 +69,8 @@ fn play<
       after = W.contents writer.new;
     })
         result }
-    ensures reads_counted { CountsReads (R.failures reader.old) result (R.failures reader.new) }
-    ensures writes_counted { CountsWrites (W.failures writer.old) result (W.failures writer.new) }
+    ensures reads_counted { CountsReading (R.failures reader.old) result (R.failures reader.new) }
+    ensures writes_counted { CountsWriting (W.failures writer.old) result (W.failures writer.new) }
 {
     let words = words?;
     let request = options(alloc, words.as_slice())?;
@@ -120,8 +120,8 @@ pub fn program_by_gate<
           before = W.contents writer.old;
           after = W.contents writer.new;
         }))
-        (λ outcome. CountsReads (R.failures reader.old) outcome (R.failures reader.new)
-        × CountsWrites (W.failures writer.old) outcome (W.failures writer.new))
+        (λ outcome. CountsReading (R.failures reader.old) outcome (R.failures reader.new)
+        × CountsWriting (W.failures writer.old) outcome (W.failures writer.new))
         (Reports (record {
           before = E.contents errors.old;
           after = E.contents errors.new;
@@ -159,8 +159,8 @@ pub fn program<
           before = W.contents writer.old;
           after = W.contents writer.new;
         }))
-        (λ outcome. CountsReads (R.failures reader.old) outcome (R.failures reader.new)
-        × CountsWrites (W.failures writer.old) outcome (W.failures writer.new))
+        (λ outcome. CountsReading (R.failures reader.old) outcome (R.failures reader.new)
+        × CountsWriting (W.failures writer.old) outcome (W.failures writer.new))
         (Reports (record {
           before = E.contents errors.old;
           after = E.contents errors.new;

@@ -24,10 +24,10 @@ Refines (Err (Refused refusal)) old new call = (call ≡ Err refusal) × (new �
 Refines (Err OutOfMemory) old new call = IsOk call × (new ≡ old)
 
 -- the same of a call that changes nothing
-abbrev pub Returns : {A : Type 0} → Result A PeerError → Result A Refusal → Type 0
-Returns (Ok answer) call = call ≡ Ok answer
-Returns (Err (Refused refusal)) call = call ≡ Err refusal
-Returns (Err OutOfMemory) call = IsOk call
+abbrev pub OnlyReturns : {A : Type 0} → Result A PeerError → Result A Refusal → Type 0
+OnlyReturns (Ok answer) call = call ≡ Ok answer
+OnlyReturns (Err (Refused refusal)) call = call ≡ Err refusal
+OnlyReturns (Err OutOfMemory) call = IsOk call
 
 -- the tick of the command of a frame, where it encodes one that is new or greater to a map
 abbrev pub news_of_frame : CommandMap → Result Command FrameFault → Option ℕ
@@ -60,8 +60,9 @@ Puts command old =
     (IsSome (get old.peer.commands command.name)) old
 
 -- a peer takes the command of a frame, or there is none
-abbrev pub Takes : Result Command FrameFault → PeerCore → PeerCore → Result Put PeerError → Type 0
-Takes command old =
+abbrev pub TakesFrame : Result Command FrameFault → PeerCore → PeerCore → Result Put PeerError
+    → Type 0
+TakesFrame command old =
     TakesCommands (take old.scene old.peer command) (news_of_frame old.peer.commands command)
     (IsHeld old.peer.commands command) old
 

@@ -9,7 +9,7 @@ use Rattle.pf_step.specs.Meter.{saturating_sum}
 use Rattle.pf_links.specs.Link.{Frame}
 use Rattle.pf_rollback.specs.declared.error.Refusal.{Refusal}
 use Rattle.pf_scripts.specs.Frames.{refusal_of}
-use Rattle.pf_scripts.specs.Script.{bytes_of, first_fault, frame_fault, frames_in, frames_of, place_after, script_fault, ticks_of, turn_fault}
+use Rattle.pf_scripts.specs.Script.{frame_bytes, first_fault, frame_fault, frames_in, script_frames, place_after, script_fault, script_ticks, turn_fault}
 use Rattle.pf_scripts.specs.declared.turn.Turn.{Turn}
 use Rattle.pf_scripts.specs.declared.error.SessionError.{SessionError}
 use Rattle.pf_scripts.specs.declared.error.SessionError.TheVariants as errors
@@ -74,9 +74,9 @@ module _ (s : Setting) (player first place : ℕ) (all : List Frame) (n : ℕ) (
 
 -- the bytes of a frame in a list
 pub bytes_at : (frames : List (Vec ℕ Global)) (n : ℕ) (v : Vec ℕ Global) (frame : Frame) → n < length frames → frame ≡ (get_or frames n v).items
-    → get_or (bytes_of frames) n frame ≡ frame
+    → get_or (frame_bytes frames) n frame ≡ frame
 bytes_at frames n v frame low is =
-    get_or_default (bytes_of frames) n frame v.items (omega (arith, low, length-map frames (λ (f : Vec ℕ Global). f.items)))
+    get_or_default (frame_bytes frames) n frame v.items (omega (arith, low, length-map frames (λ (f : Vec ℕ Global). f.items)))
     ∙ get_or-map (λ (f : Vec ℕ Global). f.items) frames n v v.items low ∙ sym is
 
 -- ---- the turns of a script
@@ -108,13 +108,13 @@ module _ (s : Setting) (player first place from reached : ℕ) (script : List Tu
 
 -- the frames and the ticks of one turn more
 pub frames_more : (script : List Turn) (n : ℕ) (turn : Turn) → n < length script → get_or script n turn ≡ turn
-    → frames_of (take (n + 1) script) ≡ frames_of (take n script) ++ frames_in turn
+    → script_frames (take (n + 1) script) ≡ script_frames (take n script) ++ frames_in turn
 frames_more script n turn low at =
-    ap frames_of (take_more script n turn low ∙ ap (λ t. take n script ++ t ∷ []) at)
-    ∙ flat_map-append frames_in (take n script) (turn ∷ []) ∙ ap (λ fs. frames_of (take n script) ++ fs) (append-nil (frames_in turn))
+    ap script_frames (take_more script n turn low ∙ ap (λ t. take n script ++ t ∷ []) at)
+    ∙ flat_map-append frames_in (take n script) (turn ∷ []) ∙ ap (λ fs. script_frames (take n script) ++ fs) (append-nil (frames_in turn))
 
 pub ticks_more : (script : List Turn) (n : ℕ) (turn : Turn) → n < length script → get_or script n turn ≡ turn
-    → ticks_of (take (n + 1) script) ≡ ticks_of (take n script) + turn.ticks
+    → script_ticks (take (n + 1) script) ≡ script_ticks (take n script) + turn.ticks
 ticks_more script n turn low at =
-    let whole = ap ticks_of (take_more script n turn low ∙ ap (λ t. take n script ++ t ∷ []) at) in
+    let whole = ap script_ticks (take_more script n turn low ∙ ap (λ t. take n script ++ t ∷ []) at) in
     omega (arith, whole, sum_by-append (λ (t : Turn). t.ticks) (take n script) (turn ∷ []))

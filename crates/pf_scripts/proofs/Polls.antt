@@ -13,7 +13,7 @@ use Rattle.pf_links.specs.Link.{Frame, SameIn, got}
 use Rattle.pf_links.specs.declared.input.LinkIn.{LinkIn}
 use Rattle.pf_rollback.specs.Peer.{Peer}
 use Rattle.pf_scripts.specs.Frames.{AreCounts, Setting, commands_in, core_setting, refusal_of, refused_count, with_frames}
-use Rattle.pf_scripts.specs.Peer.{HasLooked, HasPolled, IsLaterByOne, all_fresh, fresh, kept_of, peer_of, setting_of}
+use Rattle.pf_scripts.specs.Peer.{HasLooked, HasPolled, IsLaterByOne, all_fresh, fresh, kept_of, scripted_player, setting_of}
 use Rattle.pf_scripts.specs.declared.peer.Peer.{Peer as LinkedPeer}
 use Rattle.pf_scripts.specs.declared.peer.Polled.{Polled}
 use Rattle.pf_scripts.proofs.Fresh.{all_fresh-append, all_fresh_same, fresh_same}
@@ -178,26 +178,26 @@ module _ (s : Setting) (first : Peer) (start : List Frame) (olds : List LinkIn) 
 -- a poll that stops at a link, whose frame it keeps
 pub stops : (old now new : LinkedPeer) (k : ℕ) (l : LinkIn) (polled : Polled) (frame : Frame)
     → k < length old.inputs.items
-    → ArePolled (setting_of old) (peer_of old) (kept_of old) old.inputs.items k (peer_of now) now.inputs.items polled
+    → ArePolled (setting_of old) (scripted_player old) (kept_of old) old.inputs.items k (scripted_player now) now.inputs.items polled
     → IsLaterByOne (get_or old.inputs.items k l) l → fresh (get_or old.inputs.items k l) l ≡ frame ∷ []
     → setting_of now ≡ setting_of old → now.outputs ≡ old.outputs
     → new.core ≡ now.core → new.inputs.items ≡ set now.inputs.items k l → new.outputs ≡ now.outputs → new.kept ≡ Some frame
     → All IsCommand (commands_in (setting_of old) (frame ∷ []))
-    → HasPolled old new (taken_by (setting_of old) (peer_of old) (kept_of old) old.inputs.items k now.inputs.items)
+    → HasPolled old new (taken_by (setting_of old) (scripted_player old) (kept_of old) old.inputs.items k now.inputs.items)
 stops old now new k l polled frame low is later came setting outputs core inputs out kept ranges =
     let s = setting_of old in
     let olds = old.inputs.items in
     let start = kept_of old in record {
       peer = ap (λ c. c.peer) core ∙ is.peer;
       setting = ap core_setting core ∙ setting;
-      all = ap (λ fs. taken_by s (peer_of old) start olds k now.inputs.items ++ fs) (ap option_to_list kept)
-          ∙ stopped s (peer_of old) start olds k (peer_of now) now.inputs.items l polled frame low is later came
+      all = ap (λ fs. taken_by s (scripted_player old) start olds k now.inputs.items ++ fs) (ap option_to_list kept)
+          ∙ stopped s (scripted_player old) start olds k (scripted_player now) now.inputs.items l polled frame low is later came
           ∙ ap (λ ls. start ++ all_fresh olds ls) (sym inputs);
-      ranges = subst (λ fs. All IsCommand (commands_in s (taken_by s (peer_of old) start olds k now.inputs.items ++ fs))) (sym (ap option_to_list kept))
-          (subst (All IsCommand) (sym (flat_map-append _ (taken_by s (peer_of old) start olds k now.inputs.items) (frame ∷ [])))
-          (all_append IsCommand (commands_in s (taken_by s (peer_of old) start olds k now.inputs.items)) (commands_in s (frame ∷ [])) is.ranges ranges));
+      ranges = subst (λ fs. All IsCommand (commands_in s (taken_by s (scripted_player old) start olds k now.inputs.items ++ fs))) (sym (ap option_to_list kept))
+          (subst (All IsCommand) (sym (flat_map-append _ (taken_by s (scripted_player old) start olds k now.inputs.items) (frame ∷ [])))
+          (all_append IsCommand (commands_in s (taken_by s (scripted_player old) start olds k now.inputs.items)) (commands_in s (frame ∷ [])) is.ranges ranges));
       inputs = subst (AllZip IsLaterByOne olds) (sym inputs)
-          (stopped_inputs s (peer_of old) start olds k (peer_of now) now.inputs.items l polled low is later);
+          (stopped_inputs s (scripted_player old) start olds k (scripted_player now) now.inputs.items l polled low is later);
       outputs = out ∙ outputs;
     }
 

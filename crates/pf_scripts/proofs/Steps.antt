@@ -21,7 +21,7 @@ use Rattle.pf_commands.proofs.Lists.{put_all-same}
 use Rattle.pf_links.specs.Link.{Frame}
 use Rattle.pf_rollback.specs.Peer.{Peer as Player, advance}
 use Rattle.pf_scripts.specs.Frames.{Setting, commands_in, core_setting, with_frames}
-use Rattle.pf_scripts.specs.Peer.{HasPolled, IsLater, WereHanded, all_fresh, commands_of, kept_of, peer_of, setting_of}
+use Rattle.pf_scripts.specs.Peer.{HasPolled, IsLater, WereHanded, all_fresh, commands_of, kept_of, scripted_player, setting_of}
 use Rattle.pf_scripts.specs.Play.{HasMoved}
 use Rattle.pf_scripts.specs.declared.peer.Peer.{Peer}
 use Rattle.pf_scripts.proofs.Fresh.{all_fresh_same}
@@ -34,7 +34,7 @@ use Rattle.pf_scripts.proofs.Polls.{all_later_same}
 pub moved_polled : (old new : Peer) (frames : List Frame) → HasPolled old new frames → HasMoved [] 0 old new
 moved_polled old new frames is =
     let s = setting_of old in
-    let m = (peer_of old).commands in
+    let m = (scripted_player old).commands in
     let cs = commands_in s in
     let fresh = all_fresh old.inputs.items new.inputs.items in
     let split : (xs ys : List Frame) → cs (xs ++ ys) ≡ cs xs ++ cs ys = λ xs ys. flat_map-append _ xs ys in record {
@@ -54,7 +54,7 @@ moved_polled old new frames is =
 
 -- a step that leaves commands and links as they are
 pub moved_alone : (old new : Peer) (ticks : ℕ) → setting_of new ≡ setting_of old
-    → peer_of new ≡ record (peer_of old) { reached = (peer_of old).reached + ticks }
+    → scripted_player new ≡ record (scripted_player old) { reached = (scripted_player old).reached + ticks }
     → new.kept ≡ old.kept → new.inputs ≡ old.inputs → new.outputs ≡ old.outputs → HasMoved [] ticks old new
 moved_alone old new ticks setting peer kept inputs outputs =
     let none : all_fresh old.inputs.items new.inputs.items ≡ [] =
@@ -64,7 +64,7 @@ moved_alone old new ticks setting peer kept inputs outputs =
       player = ap (λ (p : Player). p.player) peer;
       reached = ap (λ (p : Player). p.reached) peer;
       commands = ap₂ (λ (p : Player) z. put_all p.commands (commands_in z (kept_of new))) peer setting
-          ∙ ap (λ k. put_all (peer_of old).commands (commands_in (setting_of old) (option_to_list k))) kept
+          ∙ ap (λ k. put_all (scripted_player old).commands (commands_in (setting_of old) (option_to_list k))) kept
           ∙ ap (λ fs. put_all (commands_of old) (commands_in (setting_of old) fs)) (sym none);
       ranges = subst (λ fs. All IsCommand (commands_in (setting_of old) fs)) (sym none) (λ i d low. absurd (omega (arith, low)));
       inputs = subst (λ l. AllZip IsLater old.inputs.items l.items) (sym inputs) (all_later old.inputs.items old.inputs.items (all_later_same old.inputs.items));
@@ -106,14 +106,14 @@ module _ (p : Player) (ticks : ℕ) where
   not_advanced q (Err OutOfMemory) refines memory err = absurd (memory refl)
 
 -- a frame of its own, which is taken before the one that is kept
-pub moved_own : (old new : Peer) (frame : Frame) → IsCommandMap (peer_of old).commands
+pub moved_own : (old new : Peer) (frame : Frame) → IsCommandMap (scripted_player old).commands
     → All IsCommand (commands_in (setting_of old) (kept_of old)) → All IsCommand (commands_in (setting_of old) (frame ∷ []))
-    → setting_of new ≡ setting_of old → peer_of new ≡ with_frames (setting_of old) (peer_of old) (frame ∷ [])
+    → setting_of new ≡ setting_of old → scripted_player new ≡ with_frames (setting_of old) (scripted_player old) (frame ∷ [])
     → new.kept ≡ old.kept → new.inputs ≡ old.inputs → AllZip (WereHanded (frame ∷ [])) old.outputs.items new.outputs.items
     → HasMoved (frame ∷ []) 0 old new
 moved_own old new frame map kept_ranges ranges setting peer kept inputs outputs =
     let s = setting_of old in
-    let m = (peer_of old).commands in
+    let m = (scripted_player old).commands in
     let cs = commands_in s in
     let own = frame ∷ [] in
     let none : all_fresh old.inputs.items new.inputs.items ≡ [] =

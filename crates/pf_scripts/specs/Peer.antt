@@ -12,16 +12,16 @@ use Rattle.pf_scripts.specs.Frames.{Setting, commands_in, core_setting, refusal_
 use Rattle.pf_scripts.specs.declared.peer.Peer.{Peer}
 
 -- the scene that a peer plays
-abbrev pub scene_of : Peer → Scene
-scene_of p = p.core.scene
+abbrev pub played_scene : Peer → Scene
+played_scene p = p.core.scene
 
 -- the scene, and the peer's horizon
 abbrev pub setting_of : Peer → Setting
 setting_of p = core_setting p.core
 
 -- its player, horizon, commands and reached tick
-abbrev pub peer_of : Peer → Player
-peer_of p = p.core.peer
+abbrev pub scripted_player : Peer → Player
+scripted_player p = p.core.peer
 
 -- the frame that found no memory, if there is one
 abbrev pub kept_of : Peer → List Frame
@@ -29,7 +29,7 @@ kept_of p = option_to_list p.kept
 
 -- the commands that a peer holds, and the one in the frame that it keeps
 abbrev pub commands_of : Peer → CommandMap
-commands_of p = put_all (peer_of p).commands (commands_in (setting_of p) (kept_of p))
+commands_of p = put_all (scripted_player p).commands (commands_in (setting_of p) (kept_of p))
 
 -- ---- what came over links
 
@@ -64,7 +64,7 @@ WereHanded frames old new = SameOut old new × (handed new ≡ handed old ++ fra
 -- A peer has taken these frames: one that it kept, and then, link by link, those that have come.
 -- One more may have come, for which there was no memory: that one it keeps.
 pub record HasPolled (old new : Peer) (frames : List Frame) : Type 0 where
-  pub peer : peer_of new ≡ with_frames (setting_of old) (peer_of old) frames
+  pub peer : scripted_player new ≡ with_frames (setting_of old) (scripted_player old) frames
   pub setting : setting_of new ≡ setting_of old
   pub all : frames ++ kept_of new ≡ kept_of old ++ all_fresh old.inputs.items new.inputs.items
   pub ranges : All IsCommand (commands_in (setting_of old) (frames ++ kept_of new))

@@ -7,8 +7,8 @@ use Rattle.pf_rollback.specs.Kept.{settled_tick}
 use Rattle.pf_step.specs.declared.crew.CrewError.{CrewError}
 use Rattle.pf_step.specs.declared.crew.CrewError.TheVariants.{OutOfMemory, NoThread, GateShut, CrewLost}
 use Rattle.pf_scripts.specs.Frames.{commands_in}
-use Rattle.pf_scripts.specs.Peer.{IsLater, WereHanded, all_fresh, commands_of, peer_of, setting_of}
-use Rattle.pf_scripts.specs.Script.{frames_of, script_fault, ticks_of}
+use Rattle.pf_scripts.specs.Peer.{IsLater, WereHanded, all_fresh, commands_of, scripted_player, setting_of}
+use Rattle.pf_scripts.specs.Script.{script_frames, script_fault, script_ticks}
 use Rattle.pf_scripts.specs.declared.error.SessionError.{SessionError}
 use Rattle.pf_scripts.specs.declared.error.SessionError.TheVariants as errors
 use Rattle.pf_scripts.specs.declared.peer.Peer.{Peer}
@@ -18,9 +18,9 @@ use Rattle.pf_scripts.specs.declared.turn.Turn.{Turn}
 -- It has handed its own into all its links, and has gone on by so many ticks.
 pub record HasMoved (own : List Frame) (ticks : ℕ) (old new : Peer) : Type 0 where
   pub setting : setting_of new ≡ setting_of old
-  pub base : (peer_of new).base ≡ (peer_of old).base
-  pub player : (peer_of new).player ≡ (peer_of old).player
-  pub reached : (peer_of new).reached ≡ (peer_of old).reached + ticks
+  pub base : (scripted_player new).base ≡ (scripted_player old).base
+  pub player : (scripted_player new).player ≡ (scripted_player old).player
+  pub reached : (scripted_player new).reached ≡ (scripted_player old).reached + ticks
   pub commands : commands_of new
       ≡ put_all (commands_of old)
       (commands_in (setting_of old) (own ++ all_fresh old.inputs.items new.inputs.items))
@@ -32,11 +32,11 @@ pub record HasMoved (own : List Frame) (ticks : ℕ) (old new : Peer) : Type 0 w
 -- A peer has played a script that has no fault. If it had a turn, the peer keeps no frame, and each
 -- tick up to the reached one is settled; if not, nothing has changed.
 pub record HasPlayed (script : List Turn) (old new : Peer) : Type 0 where
-  pub moved : HasMoved (frames_of script) (ticks_of script) old new
-  pub no_fault : let p = peer_of old in
+  pub moved : HasMoved (script_frames script) (script_ticks script) old new
+  pub no_fault : let p = scripted_player old in
       script_fault (setting_of old) p.player 0 p.reached script ≡ None
   pub done : 0 < length script
-      → (new.kept ≡ None) × (settled_tick new.core.kept ≡ (peer_of new).reached)
+      → (new.kept ≡ None) × (settled_tick new.core.kept ≡ (scripted_player new).reached)
   pub idle : script ≡ [] → new ≡ old
 
 -- an error with which a play may end, whatever the script. A gate that lets everybody through is

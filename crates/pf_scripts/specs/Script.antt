@@ -11,20 +11,20 @@ use Rattle.pf_scripts.specs.declared.error.SessionError.TheVariants as errors
 use Rattle.pf_scripts.specs.declared.turn.Turn.{Turn}
 
 -- the bytes of each frame
-abbrev pub bytes_of : List (Vec ℕ Global) → List Frame
-bytes_of frames = map (λ frame. frame.items) frames
+abbrev pub frame_bytes : List (Vec ℕ Global) → List Frame
+frame_bytes frames = map (λ frame. frame.items) frames
 
 -- the frames of a turn
 abbrev pub frames_in : Turn → List Frame
-frames_in turn = bytes_of turn.frames.items
+frames_in turn = frame_bytes turn.frames.items
 
 -- the frames of a script, in their order
-abbrev pub frames_of : List Turn → List Frame
-frames_of script = flat_map frames_in script
+abbrev pub script_frames : List Turn → List Frame
+script_frames script = flat_map frames_in script
 
 -- by how many ticks a script goes on
-abbrev pub ticks_of : List Turn → ℕ
-ticks_of script = sum_by (λ turn. turn.ticks) script
+abbrev pub script_ticks : List Turn → ℕ
+script_ticks script = sum_by (λ turn. turn.ticks) script
 
 -- the first of two faults
 abbrev pub first_fault : Option SessionError → Option SessionError → Option SessionError

@@ -37,7 +37,7 @@ impl Peer {
     ghost use Rattle.pf_links.specs.Link.{Frame};
     ghost use Rattle.std.specs.List.{AllZip};
     ghost use Rattle.pf_scripts.specs.Frames.{AreCounts, commands_in, refusal_of, refused_count, with_frames};
-    ghost use Rattle.pf_scripts.specs.Peer.{HasLooked, HasPolled, KeepsFrame, peer_of, setting_of};
+    ghost use Rattle.pf_scripts.specs.Peer.{HasLooked, HasPolled, KeepsFrame, scripted_player, setting_of};
 
     /// A peer with its links.
     pub fn new(core: PeerCore, outputs: Vec<LinkOut>, inputs: Vec<LinkIn>) -> Peer
@@ -66,8 +66,8 @@ impl Peer {
         polled: &mut Polled,
     ) -> Result<(), AllocError>
         requires { (polled.old.taken < 2 ^ 63) × (polled.old.refused < 2 ^ 63) }
-        ensures peer { OnOk result (peer_of self.new
-            ≡ with_frames (setting_of self.old) (peer_of self.old) (frame ∷ [])) }
+        ensures peer { OnOk result (scripted_player self.new
+            ≡ with_frames (setting_of self.old) (scripted_player self.old) (frame ∷ [])) }
         ensures setting { setting_of self.new ≡ setting_of self.old }
         ensures ranges { All IsCommand (commands_in (setting_of self.old) (frame ∷ [])) }
         ensures kept { OnOk result (self.new.kept ≡ None) }

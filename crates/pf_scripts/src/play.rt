@@ -37,15 +37,15 @@ impl Peer {
     ghost use Rattle.pf_rollback.specs.Kept.{settled_tick};
     ghost use Rattle.pf_step.specs.declared.crew.CrewError.TheVariants.{GateShut, OutOfMemory};
     ghost use Rattle.pf_scripts.specs.Frames.{commands_in, refusal_of};
-    ghost use Rattle.pf_scripts.specs.Peer.{commands_of, kept_of, peer_of, setting_of};
+    ghost use Rattle.pf_scripts.specs.Peer.{commands_of, kept_of, scripted_player, setting_of};
     ghost use Rattle.pf_scripts.specs.Play.{HasMoved, HasPlayed, IsPeerError, IsCrewErrorOfPlay};
     ghost use Rattle.pf_events.specs.Crews.{CanFail};
-    ghost use Rattle.pf_scripts.specs.Script.{bytes_of, frame_fault, frames_in, place_after, script_fault, tick_fault, turn_fault};
+    ghost use Rattle.pf_scripts.specs.Script.{frame_bytes, frame_fault, frames_in, place_after, script_fault, tick_fault, turn_fault};
     ghost use Rattle.pf_scripts.specs.declared.error.SessionError.TheVariants as errors;
 
     /// Does nothing. What its clauses say is what the types of the core and of the peer ensure.
     fn in_range(&self)
-        ensures core { IsCommandMap (peer_of self.now).commands }
+        ensures core { IsCommandMap (scripted_player self.now).commands }
         ensures all { IsCommandMap (commands_of self.now) }
         ensures kept { All IsCommand (commands_in (setting_of self.now) (kept_of self.now)) }
     {
@@ -56,7 +56,7 @@ impl Peer {
     fn take_own(&mut self, place: usize, frame: &[u8]) -> Result<(), SessionError>
         ensures moved { OnOk result (HasMoved (frame.now ∷ []) 0 self.old self.new) }
         ensures no_fault { OnOk result (refusal_of (setting_of self.old) frame.now ≡ None) }
-        ensures fault { let p = peer_of self.old in IfErr result (λ fault.
+        ensures fault { let p = scripted_player self.old in IfErr result (λ fault.
             IsPeerError (λ error. error ≡ OutOfMemory) p.player fault
             ⊎ (frame_fault (setting_of self.old) p.player place (frame.now ∷ []) ≡ Some fault)) }
     {
@@ -79,13 +79,13 @@ impl Peer {
     /// Takes the frames of a turn. `place` is the number of the first one in the script; returns
     /// the number behind the last one.
     fn take_all_own(&mut self, place: usize, frames: &[Vec<u8>]) -> Result<usize, SessionError>
-        ensures moved { OnOk result (HasMoved (bytes_of frames.now) 0 self.old self.new) }
-        ensures place { IfOk result (λ after. after ≡ place_after place (bytes_of frames.now)) }
-        ensures no_fault { let p = peer_of self.old in OnOk result
-            (frame_fault (setting_of self.old) p.player place (bytes_of frames.now) ≡ None) }
-        ensures fault { let p = peer_of self.old in IfErr result (λ fault.
+        ensures moved { OnOk result (HasMoved (frame_bytes frames.now) 0 self.old self.new) }
+        ensures place { IfOk result (λ after. after ≡ place_after place (frame_bytes frames.now)) }
+        ensures no_fault { let p = scripted_player self.old in OnOk result
+            (frame_fault (setting_of self.old) p.player place (frame_bytes frames.now) ≡ None) }
+        ensures fault { let p = scripted_player self.old in IfErr result (λ fault.
             IsPeerError (λ error. error ≡ OutOfMemory) p.player fault
-            ⊎ (frame_fault (setting_of self.old) p.player place (bytes_of frames.now)
+            ⊎ (frame_fault (setting_of self.old) p.player place (frame_bytes frames.now)
             ≡ Some fault)) }
     {
         self.in_range();
@@ -102,7 +102,7 @@ impl Peer {
         ensures moved { OnOk result (HasMoved [] 0 self.old self.new) }
         ensures kept { OnOk result (self.new.kept ≡ None) }
         ensures fault { IfErr result
-            (IsPeerError (λ error. error ≡ OutOfMemory) (peer_of self.old).player) }
+            (IsPeerError (λ error. error ≡ OutOfMemory) (scripted_player self.old).player) }
     {
         self.in_range();
         let player = self.core.player();
@@ -120,9 +120,9 @@ impl Peer {
     fn go_on(&mut self, ticks: u32) -> Result<(), SessionError>
         ensures moved { OnOk result (HasMoved [] ticks self.old self.new) }
         ensures kept { self.new.kept ≡ self.old.kept }
-        ensures no_fault { let p = peer_of self.old in
+        ensures no_fault { let p = scripted_player self.old in
             OnOk result (tick_fault p.player p.reached ticks ≡ None) }
-        ensures fault { let p = peer_of self.old in
+        ensures fault { let p = scripted_player self.old in
             IfErr result (λ fault. tick_fault p.player p.reached ticks ≡ Some fault) }
     {
         let player = self.core.player();
@@ -143,9 +143,10 @@ impl Peer {
         ensures moved { OnOk result (HasMoved [] 0 self.old self.new) }
         ensures kept { self.new.kept ≡ self.old.kept }
         ensures settled { OnOk result
-            (settled_tick self.new.core.kept ≡ (peer_of self.new).reached) }
+            (settled_tick self.new.core.kept ≡ (scripted_player self.new).reached) }
         ensures fault { IfErr result (IsPeerError
-            (λ error. (error ≡ OutOfMemory) ⊎ CanFail C.may_fail error) (peer_of self.old).player) }
+            (λ error. (error ≡ OutOfMemory) ⊎ CanFail C.may_fail error)
+            (scripted_player self.old).player) }
     {
         let player = self.core.player();
         match self.core.settle_by(collider, alloc, crew) {
@@ -172,11 +173,11 @@ impl Peer {
             (HasMoved (frames_in turn.now) turn.now.ticks self.old self.new) }
         ensures kept { OnOk result (self.new.kept ≡ None) }
         ensures settled { OnOk result
-            (settled_tick self.new.core.kept ≡ (peer_of self.new).reached) }
+            (settled_tick self.new.core.kept ≡ (scripted_player self.new).reached) }
         ensures place { IfOk result (λ after. after ≡ place_after place (frames_in turn.now)) }
-        ensures no_fault { let p = peer_of self.old in OnOk result
+        ensures no_fault { let p = scripted_player self.old in OnOk result
             (turn_fault (setting_of self.old) p.player place p.reached turn.now ≡ None) }
-        ensures fault { let p = peer_of self.old in IfErr result (λ fault.
+        ensures fault { let p = scripted_player self.old in IfErr result (λ fault.
             IsPeerError (λ error. (error ≡ OutOfMemory) ⊎ CanFail C.may_fail error) p.player fault
             ⊎ (turn_fault (setting_of self.old) p.player place p.reached turn.now ≡ Some fault)) }
     {
@@ -199,7 +200,7 @@ impl Peer {
     ) -> Result<Peer, SessionError>
         requires { P.can_collide collider.now }
         ensures played { IfOk result (HasPlayed script.now self) }
-        ensures fault { let p = peer_of self in IfErr result (λ fault.
+        ensures fault { let p = scripted_player self in IfErr result (λ fault.
             IsPeerError (λ error. ((error ≡ OutOfMemory) ⊎ CanFail C.may_fail error)
             ⊎ ((error ≡ GateShut) × (G.ALWAYS ≡ false))) p.player fault
             ⊎ (script_fault (setting_of self) p.player 0 p.reached script.now ≡ Some fault)) }
@@ -240,7 +241,7 @@ impl Peer {
         G: Gate,
         requires { IfSome crew (λ workers. (0 < workers) × (workers ≤ MAX_WORKERS)) }
         ensures played { IfOk result (HasPlayed script.now self) }
-        ensures fault { let p = peer_of self in IfErr result (λ fault.
+        ensures fault { let p = scripted_player self in IfErr result (λ fault.
             IsPeerError (IsCrewErrorOfPlay G.ALWAYS crew) p.player fault
             ⊎ (script_fault (setting_of self) p.player 0 p.reached script.now ≡ Some fault)) }
     {

@@ -11,7 +11,7 @@ use Rattle.pf_rollback.specs.Core.{PeerCore}
 use Rattle.pf_scripts.specs.declared.peer.Peer.{Peer}
 use Rattle.pf_step.specs.World.{World}
 use Rattle.pf_sessions.specs.Ending.{AllFinished, AreEnded, AreFinished, HasFinished, ShowsLast, inputs_in, receiver_of}
-use Rattle.pf_sessions.specs.Links.{AreLinked, IsDelivered, inputs_of, outputs_of, rows_of}
+use Rattle.pf_sessions.specs.Links.{AreLinked, IsDelivered, inputs_of, outputs_of, table_rows}
 use Rattle.pf_sessions.specs.Rest.{KeepsHanded}
 use Rattle.pf_sessions.specs.Table.{IsTable, transpose}
 use Rattle.pf_sessions.specs.declared.ending.Receiver.{Receiver}
@@ -48,7 +48,7 @@ module _ (peers : List Peer) (linked : AreLinked AreEnds (outputs_of peers) (inp
 
   -- as many rows as receivers
   pub rows_many : (senders after : List (List LinkOut)) (outputs : List (Vec LinkOut Global)) (receivers : List Receiver) → senders ≡ transpose (outputs_of peers)
-      → AllZip (AllZip KeepsHanded) senders after → rows_of outputs ≡ transpose after → AllZip (AllZip IsDelivered) after (inputs_in receivers)
+      → AllZip (AllZip KeepsHanded) senders after → table_rows outputs ≡ transpose after → AllZip (AllZip IsDelivered) after (inputs_in receivers)
       → length outputs ≡ length receivers
   rows_many senders after outputs receivers is kept outputs_are delivered =
       sym (length-map outputs (λ (r : Vec LinkOut Global). r.items)) ∙ ap length outputs_are

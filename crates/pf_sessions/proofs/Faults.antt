@@ -5,7 +5,7 @@ use Rattle.std.specs.List.{AllZip, range_with_len}
 use Rattle.std.specs.Prelude.{◌⊎◌, Err, IfErr, IfOk, Ok, Result}
 use Rattle.pf_shapes.specs.Scene.{Scene}
 use Rattle.pf_rollback.specs.Core.{PeerCore}
-use Rattle.pf_scripts.specs.Peer.{peer_of, setting_of}
+use Rattle.pf_scripts.specs.Peer.{scripted_player, setting_of}
 use Rattle.pf_scripts.specs.Play.{HasPlayed, IsCrewErrorOfPlay, IsPeerError}
 use Rattle.pf_scripts.specs.Frames.{core_setting}
 use Rattle.pf_scripts.specs.Script.{first_fault, script_fault}
@@ -52,8 +52,8 @@ played_faultless (s ∷ scripts) (o ∷ olds) (n ∷ news) all = (all.0.no_fault
 pub outcome_of : (always : Bool) (crew : Option ℕ) (script : List Turn) (p : Peer) (result : Result Peer SessionError)
     → IfOk result (HasPlayed script p)
     → IfErr result (λ fault.
-    IsPeerError (IsCrewErrorOfPlay always crew) (peer_of p).player fault
-    ⊎ (script_fault (setting_of p) (peer_of p).player 0 (peer_of p).reached script ≡ Some fault))
+    IsPeerError (IsCrewErrorOfPlay always crew) (scripted_player p).player fault
+    ⊎ (script_fault (setting_of p) (scripted_player p).player 0 (scripted_player p).reached script ≡ Some fault))
     → IsPlayOutcome always crew script p result
 outcome_of always crew script p (Ok played) has_played fails = has_played
 outcome_of always crew script p (Err fault) has_played fails = fails

@@ -7,7 +7,7 @@ use Rattle.pf_links.specs.Link.{AreEnds, SameIn, SameOut, got, handed}
 use Rattle.pf_links.specs.declared.input.LinkIn.{LinkIn}
 use Rattle.pf_links.specs.declared.output.LinkOut.{LinkOut}
 use Rattle.pf_scripts.specs.Peer.{IsLater, WereHanded}
-use Rattle.pf_scripts.specs.Script.{frames_of}
+use Rattle.pf_scripts.specs.Script.{script_frames}
 use Rattle.pf_scripts.specs.declared.peer.Peer.{Peer}
 use Rattle.pf_scripts.specs.declared.turn.Turn.{Turn}
 use Rattle.pf_sessions.specs.Session.{HasCarried}
@@ -55,7 +55,7 @@ outputs_on [] (o ∷ olds) news all = absurd all
 outputs_on (s ∷ scripts) [] news all = absurd all
 outputs_on (s ∷ scripts) (o ∷ olds) [] all = absurd all
 outputs_on (s ∷ scripts) (o ∷ olds) (n ∷ news) all = (
-  zip_weaker (WereHanded (frames_of s)) SameOut (λ a b is. is.0) o.outputs.items n.outputs.items all.0.moved.outputs,
+  zip_weaker (WereHanded (script_frames s)) SameOut (λ a b is. is.0) o.outputs.items n.outputs.items all.0.moved.outputs,
   outputs_on scripts olds news all.1,
 )
 

@@ -12,9 +12,9 @@ use Rattle.pf_links.specs.declared.input.LinkIn.{LinkIn}
 use Rattle.pf_rollback.specs.Core.{PeerCore}
 use Rattle.pf_step.specs.World.{start_of}
 use Rattle.pf_scripts.specs.Frames.{commands_in, core_setting}
-use Rattle.pf_scripts.specs.Peer.{IsLater, WereHanded, all_fresh, commands_of, peer_of, setting_of}
+use Rattle.pf_scripts.specs.Peer.{IsLater, WereHanded, all_fresh, commands_of, scripted_player, setting_of}
 use Rattle.pf_scripts.specs.Play.{HasPlayed}
-use Rattle.pf_scripts.specs.Script.{frames_of, ticks_of}
+use Rattle.pf_scripts.specs.Script.{script_frames, script_ticks}
 use Rattle.pf_scripts.specs.declared.peer.Peer.{Peer}
 use Rattle.pf_scripts.specs.declared.turn.Turn.{Turn}
 use Rattle.pf_sessions.specs.Session.{HasCarried}
@@ -26,13 +26,13 @@ use Rattle.pf_sessions.proofs.Zips.{all_on}
 -- a peer of the scene that has played this script as its first
 pub record IsPlayed (s : Scene) (player : ℕ) (script : List Turn) (p : Peer) : Type 0 where
   pub setting : setting_of p ≡ unsealed s
-  pub base : (peer_of p).base ≡ start_of s
-  pub player_is : (peer_of p).player ≡ player
-  pub reached : (peer_of p).reached ≡ ticks_of script
+  pub base : (scripted_player p).base ≡ start_of s
+  pub player_is : (scripted_player p).player ≡ player
+  pub reached : (scripted_player p).reached ≡ script_ticks script
   pub kept : p.kept ≡ None
-  pub commands : (peer_of p).commands ≡ put_all empty (commands_in (unsealed s) (frames_of script ++ flat_map got p.inputs.items))
-  pub ranges : All IsCommand (commands_in (unsealed s) (frames_of script ++ flat_map got p.inputs.items))
-  pub sent : All (HasCarried (frames_of script)) p.outputs.items
+  pub commands : (scripted_player p).commands ≡ put_all empty (commands_in (unsealed s) (script_frames script ++ flat_map got p.inputs.items))
+  pub ranges : All IsCommand (commands_in (unsealed s) (script_frames script ++ flat_map got p.inputs.items))
+  pub sent : All (HasCarried (script_frames script)) p.outputs.items
 
 abbrev pub ArePlayed : Scene → ℕ → List (List Turn) → List Peer → Type 0
 ArePlayed s first [] [] = Unit {0}
@@ -65,17 +65,17 @@ module _ (s : Scene) (player : ℕ) (script : List Turn) (old new : Peer) (is : 
   came = all_came old.inputs.items new.inputs.items got_none has.moved.inputs
 
   -- the frames that it took, as the play counts them and as they are counted here
-  frames_same : commands_in (setting_of old) (frames_of script ++ all_fresh old.inputs.items new.inputs.items)
-      ≡ commands_in (unsealed s) (frames_of script ++ flat_map got new.inputs.items)
-  frames_same = ap₂ (λ z (fs : List Frame). commands_in z (frames_of script ++ fs)) setting_old came
+  frames_same : commands_in (setting_of old) (script_frames script ++ all_fresh old.inputs.items new.inputs.items)
+      ≡ commands_in (unsealed s) (script_frames script ++ flat_map got new.inputs.items)
+  frames_same = ap₂ (λ z (fs : List Frame). commands_in z (script_frames script ++ fs)) setting_old came
 
   pub has_played : IsPlayed s player script new
   has_played =
       let none_old : commands_of old ≡ empty =
       ap₂ (λ (c : PeerCore) k. put_all c.peer.commands (commands_in (core_setting c) (option_to_list k))) is.core is.kept in
-      let none_new : commands_of new ≡ (peer_of new).commands =
-      ap (λ k. put_all (peer_of new).commands (commands_in (setting_of new) (option_to_list k))) kept_none in
-      let zero_old : (peer_of old).reached ≡ 0 = ap (λ (c : PeerCore). c.peer.reached) is.core in record {
+      let none_new : commands_of new ≡ (scripted_player new).commands =
+      ap (λ k. put_all (scripted_player new).commands (commands_in (setting_of new) (option_to_list k))) kept_none in
+      let zero_old : (scripted_player old).reached ≡ 0 = ap (λ (c : PeerCore). c.peer.reached) is.core in record {
         setting = has.moved.setting ∙ setting_old;
         base = has.moved.base ∙ ap (λ (c : PeerCore). c.peer.base) is.core;
         player_is = has.moved.player ∙ ap (λ (c : PeerCore). c.peer.player) is.core;
@@ -83,9 +83,9 @@ module _ (s : Scene) (player : ℕ) (script : List Turn) (old new : Peer) (is : 
         kept = kept_none;
         commands = sym none_new ∙ has.moved.commands ∙ ap₂ (λ m cs. put_all m cs) none_old frames_same;
         ranges = subst (All IsCommand) frames_same has.moved.ranges;
-        sent = all_on (HasCarried []) (WereHanded (frames_of script)) (HasCarried (frames_of script))
+        sent = all_on (HasCarried []) (WereHanded (script_frames script)) (HasCarried (script_frames script))
             (λ o p none more. record {
-              handed = more.1 ∙ ap (λ l. l ++ frames_of script) none.handed;
+              handed = more.1 ∙ ap (λ l. l ++ script_frames script) none.handed;
               capacity = more.0.1 ∙ none.capacity;
             })
             old.outputs.items new.outputs.items sent_none has.moved.outputs;

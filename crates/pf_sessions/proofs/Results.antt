@@ -16,8 +16,8 @@ use Rattle.pf_links.specs.declared.output.LinkOut.{LinkOut}
 use Rattle.pf_rollback.specs.Peer.{Peer as Player, world_of}
 use Rattle.pf_rollback.proofs.Simulation.{sim_at_start}
 use Rattle.pf_scripts.specs.Frames.{Setting, commands_in, core_setting}
-use Rattle.pf_scripts.specs.Peer.{peer_of}
-use Rattle.pf_scripts.specs.Script.{frames_of, ticks_of}
+use Rattle.pf_scripts.specs.Peer.{scripted_player}
+use Rattle.pf_scripts.specs.Script.{script_frames, script_ticks}
 use Rattle.pf_scripts.specs.declared.peer.Peer.{Peer}
 use Rattle.pf_scripts.specs.declared.turn.Turn.{Turn}
 use Rattle.pf_scripts.proofs.Maps.{all_append, put_all-append}
@@ -62,39 +62,39 @@ abbrev pair_of : Player → World → PeerResult
 pair_of q w = record { peer = q; world = w }
 
 module _ (s : Scene) (scripts : List (List Turn)) where
-  frames_joined : (all : List (List Turn)) → flat_map (λ frames. frames) (map frames_of all) ≡ flat_map frames_of all
+  frames_joined : (all : List (List Turn)) → flat_map (λ frames. frames) (map script_frames all) ≡ flat_map script_frames all
   frames_joined [] = refl
-  frames_joined (script ∷ all) = ap (λ l. frames_of script ++ l) (frames_joined all)
+  frames_joined (script ∷ all) = ap (λ l. script_frames script ++ l) (frames_joined all)
 
   module _ (player : ℕ) (script : List Turn) (played : Peer) (senders : List LinkOut) (column : List (List Frame)) (e : Peer × World)
       (is : IsPlayed s player script played) (finished : HasFinished (receiver_of played) senders (receiver_of e.0)) (shown : ShowsLast e)
-      (carried : AllZip CarriesFrames senders column) (complete : SameMembers (frames_of script ∷ column) (map frames_of scripts)) where
+      (carried : AllZip CarriesFrames senders column) (complete : SameMembers (script_frames script ∷ column) (map script_frames scripts)) where
     abbrev z : Setting
     z = unsealed s
 
     -- the frames that it had taken when it ended, and those that were left for it
     had : List Frame
-    had = frames_of script ++ flat_map got played.inputs.items
+    had = script_frames script ++ flat_map got played.inputs.items
 
     left : List Frame
     left = all_left senders played.inputs.items
 
     every : List Frame
-    every = flat_map frames_of scripts
+    every = flat_map script_frames scripts
 
     frames_same : SameMembers (had ++ left) every
     unfolding had left every
     frames_same =
-        let f = frames_of script in
+        let f = script_frames script in
         let later = flat_map got played.inputs.items in
         let joined = flat_map (λ (frames : List Frame). frames) column in
         members_then ((f ++ later) ++ left) (f ++ joined) every
         (members_then ((f ++ later) ++ left) (f ++ (later ++ left)) (f ++ joined)
         (members_refl ((f ++ later) ++ left) (f ++ (later ++ left)) (append_assoc f later left))
         (members_append f f (later ++ left) joined (members_refl f f refl) (taken_and_left senders played.inputs.items column finished.all carried)))
-        (members_then (f ++ joined) (flat_map (λ (frames : List Frame). frames) (map frames_of scripts)) every
-        (members_joined (λ (frames : List Frame). frames) (f ∷ column) (map frames_of scripts) complete)
-        (members_refl (flat_map (λ (frames : List Frame). frames) (map frames_of scripts)) every (frames_joined scripts)))
+        (members_then (f ++ joined) (flat_map (λ (frames : List Frame). frames) (map script_frames scripts)) every
+        (members_joined (λ (frames : List Frame). frames) (f ∷ column) (map script_frames scripts) complete)
+        (members_refl (flat_map (λ (frames : List Frame). frames) (map script_frames scripts)) every (frames_joined scripts)))
 
     commands_same : SameMembers (commands_in z had ++ commands_in z left) (commands_in z every)
     commands_same =
@@ -110,7 +110,7 @@ module _ (s : Scene) (scripts : List (List Turn)) where
     ranges = all_append IsCommand (commands_in z had) (commands_in z left) is.ranges (subst (λ x. All IsCommand (commands_in x left)) setting_same finished.ranges)
 
     -- the peer holds the commands of all scripts
-    commands_are : (peer_of e.0).commands ≡ all_commands s scripts
+    commands_are : (scripted_player e.0).commands ≡ all_commands s scripts
     unfolding had left every
     commands_are =
         ap (λ (p : Player). p.commands) finished.peer
@@ -124,11 +124,11 @@ module _ (s : Scene) (scripts : List (List Turn)) where
 
     pub result_is : shown_by e ≡ result_of s (all_commands s scripts) player script
     result_is =
-        let who : (peer_of e.0).player ≡ player = ap (λ (p : Player). p.player) finished.peer ∙ is.player_is in
-        let when : (peer_of e.0).reached ≡ ticks_of script = ap (λ (p : Player). p.reached) finished.peer ∙ is.reached in
-        let from : (peer_of e.0).horizon ≡ 0 = ap (λ (x : Setting). x.horizon) (finished.setting ∙ is.setting) in
-        let base : (peer_of e.0).base ≡ start_of s = ap (λ (p : Player). p.base) finished.peer ∙ is.base in
-        let peer : peer_of e.0 ≡ (result_of s (all_commands s scripts) player script).peer = λ i. record {
+        let who : (scripted_player e.0).player ≡ player = ap (λ (p : Player). p.player) finished.peer ∙ is.player_is in
+        let when : (scripted_player e.0).reached ≡ script_ticks script = ap (λ (p : Player). p.reached) finished.peer ∙ is.reached in
+        let from : (scripted_player e.0).horizon ≡ 0 = ap (λ (x : Setting). x.horizon) (finished.setting ∙ is.setting) in
+        let base : (scripted_player e.0).base ≡ start_of s = ap (λ (p : Player). p.base) finished.peer ∙ is.base in
+        let peer : scripted_player e.0 ≡ (result_of s (all_commands s scripts) player script).peer = λ i. record {
           player = who i;
           horizon = from i;
           base = base i;
@@ -137,15 +137,15 @@ module _ (s : Scene) (scripts : List (List Turn)) where
         } in
         ap₂ pair_of peer
         (shown.world
-        ∙ ap (λ (of : Scene). world_of of (peer_of e.0) (peer_of e.0).reached) (ap (λ (x : Setting). x.scene) (finished.setting ∙ is.setting))
+        ∙ ap (λ (of : Scene). world_of of (scripted_player e.0) (scripted_player e.0).reached) (ap (λ (x : Setting). x.scene) (finished.setting ∙ is.setting))
         ∙ ap (λ (p : Player). world_of s p p.reached) peer
-        ∙ sim_at_start s (all_commands s scripts) (ticks_of script))
+        ∙ sim_at_start s (all_commands s scripts) (script_ticks script))
 
   -- ---- all peers
 
   pub results_are : (first : ℕ) (rest : List (List Turn)) (played : List Peer) (rows : List (List LinkOut)) (ended : List (Peer × World)) (columns : List (List (List Frame)))
       → ArePlayed s first rest played → AllFinished (map receiver_of played) rows (map (λ e. receiver_of e.0) ended) → All ShowsLast ended
-      → AllZip (AllZip CarriesFrames) rows columns → AllZip (λ f column. SameMembers (f ∷ column) (map frames_of scripts)) (map frames_of rest) columns
+      → AllZip (AllZip CarriesFrames) rows columns → AllZip (λ f column. SameMembers (f ∷ column) (map script_frames scripts)) (map script_frames rest) columns
       → (map shown_by ended ≡ results_from s (all_commands s scripts) first rest) × All (λ e. HasEnded s e.0) ended
   unfolding results_from
   results_are first [] [] [] [] columns are finished shown carried complete = (refl, λ k d low. absurd (omega (arith, low)))
@@ -178,12 +178,12 @@ carried_rows (row ∷ rows) = (carried_row row, carried_rows rows)
 
 -- each peer's row carries its script
 rows_carry : (s : Scene) (first : ℕ) (scripts : List (List Turn)) (played : List Peer) → ArePlayed s first scripts played
-    → AllZip HasFor (map frames_of scripts) (frames_handed played)
+    → AllZip HasFor (map script_frames scripts) (frames_handed played)
 rows_carry s first [] [] are = tt
 rows_carry s first [] (p ∷ played) are = absurd are
 rows_carry s first (script ∷ scripts) [] are = absurd are
 rows_carry s first (script ∷ scripts) (p ∷ played) are =
-    (All-map (λ (frames : List Frame). frames ≡ frames_of script) handed p.outputs.items (λ k d low. (are.0.sent k d low).handed), rows_carry s (first + 1) scripts played are.1)
+    (All-map (λ (frames : List Frame). frames ≡ script_frames script) handed p.outputs.items (λ k d low. (are.0.sent k d low).handed), rows_carry s (first + 1) scripts played are.1)
 
 -- and so it does at the end
 pub sent_still : (s : Scene) (first : ℕ) (scripts : List (List Turn)) (played ended : List Peer) → ArePlayed s first scripts played
@@ -194,7 +194,7 @@ sent_still s first [] (p ∷ played) ended are kept = absurd are
 sent_still s first (script ∷ scripts) [] ended are kept = absurd are
 sent_still s first (script ∷ scripts) (p ∷ played) [] are kept = absurd kept
 sent_still s first (script ∷ scripts) (p ∷ played) (e ∷ ended) are kept = (
-  all_on (HasCarried (frames_of script)) KeepsHanded (HasCarried (frames_of script))
+  all_on (HasCarried (script_frames script)) KeepsHanded (HasCarried (script_frames script))
       (λ o q is keeps. record { handed = keeps.handed ∙ is.handed; capacity = keeps.same.1 ∙ is.capacity }) p.outputs.items e.outputs.items are.0.sent kept.0,
   sent_still s (first + 1) scripts played ended are.1 kept.1,
 )
@@ -217,7 +217,7 @@ module _ (s : Scene) (count : ℕ) (scripts : List (List Turn)) (peers played : 
   of_all =
       results_are s scripts 0 scripts played (transpose (outputs_of played)) ended (transpose (frames_handed played)) are end.finished end.shown
       (zip-transpose CarriesFrames (outputs_of played) (frames_handed played) (carried_rows (outputs_of played)))
-      (columns_complete (map frames_of scripts) (frames_handed played) table (rows_carry s 0 scripts played are))
+      (columns_complete (map script_frames scripts) (frames_handed played) table (rows_carry s 0 scripts played are))
 
   pub all_sent : AllZip HasSent scripts (map (λ e. e.0) ended)
   all_sent = sent_still s 0 scripts played (map (λ e. e.0) ended) are end.handed

@@ -6,16 +6,16 @@ use Rattle.std.proofs.lemmas.List.Elements.{All-cons, All-head, All-map, All-tai
 use Rattle.std.specs.List.{AllZip}
 use Rattle.std.specs.Global.{Global}
 use Rattle.std.specs.Prelude.{All, Vec, remove, option_and_then, slice_get}
-use Rattle.pf_sessions.specs.Links.{rows_of}
-use Rattle.pf_sessions.specs.Table.{IsTable, entry_of, first_entries, other_entries, place_of, transpose, transpose_of, with_entries}
+use Rattle.pf_sessions.specs.Links.{table_rows}
+use Rattle.pf_sessions.specs.Table.{IsTable, entry_of, first_entries, other_entries, entry_place, transpose, transpose_of, with_entries}
 
-next_place : (a b : ℕ) → a ≢ b → place_of (suc a) (suc b) ≡ suc (place_of a b)
+next_place : (a b : ℕ) → a ≢ b → entry_place (suc a) (suc b) ≡ suc (entry_place a b)
 next_place a b other = grind (arith, nat_tests)
 
-front_place : (b : ℕ) → place_of (suc b) 0 ≡ 0
+front_place : (b : ℕ) → entry_place (suc b) 0 ≡ 0
 front_place b = grind (arith, nat_tests)
 
-first_place : (b : ℕ) → place_of 0 (suc b) ≡ b
+first_place : (b : ℕ) → entry_place 0 (suc b) ≡ b
 first_place b = grind (arith, nat_tests)
 
 module _ {X : Type 0} where
@@ -227,9 +227,9 @@ module _ {X : Type 0} where
       let T = transpose_of m others in
       let apart : a ≢ b = λ same. other (ap suc same) in
       ap (λ p. option_and_then (λ r. slice_get r p) (slice_get (with_entries row T) b)) (next_place b a (λ same. apart (sym same)))
-      ∙ behind_front row T b (place_of b a) (head_wide m row rows wide ∙ sym inner)
+      ∙ behind_front row T b (entry_place b a) (head_wide m row rows wide ∙ sym inner)
       ∙ exchanged m others a b many rest_wide apart (omega (arith, low_a)) (omega (arith, low_b))
-      ∙ other_at rows a (place_of a b)
+      ∙ other_at rows a (entry_place a b)
       ∙ ap (λ p. option_and_then (λ r. slice_get r p) (slice_get rows a)) (sym (next_place a b apart))
 
   pub entries_exchanged : (rows : List (List X)) (own other : ℕ) → IsTable rows → own ≢ other → own < length rows → other < length rows
@@ -304,37 +304,37 @@ pub front_and_rest : {X : Type 0} (xs : List X) (x : X) (rest : List X) → 0 < 
 front_and_rest [] x rest some first rest_is = absurd (omega (arith, some))
 front_and_rest (y ∷ ys) x rest some first rest_is = ap₂ (λ z zs. z ∷ zs) (sym first) (sym rest_is)
 
-pub rows_have : {X : Type 0} (rows : List (Vec X Global)) → HaveEntries (rows_of rows) → All (λ row. 0 < length row.items) rows
+pub rows_have : {X : Type 0} (rows : List (Vec X Global)) → HaveEntries (table_rows rows) → All (λ row. 0 < length row.items) rows
 rows_have [] have = λ k d low. absurd (omega (arith, low))
 rows_have {X} (row ∷ rows) have =
     let P : List X → Type 0 = λ r. 0 < length r in
-    All-cons (λ (r : Vec X Global). 0 < length r.items) row rows (All-head P row.items (rows_of rows) have) (rows_have rows (All-tail P row.items (rows_of rows) have))
+    All-cons (λ (r : Vec X Global). 0 < length r.items) row rows (All-head P row.items (table_rows rows) have) (rows_have rows (All-tail P row.items (table_rows rows) have))
 
 module _ {X : Type 0} (all : List (Vec X Global)) (first : Vec X Global) (rest : List (Vec X Global)) (split : all ≡ first ∷ rest) where
   -- the rows without their first entries are fewer
-  pub others_fewer : (others : List (Vec X Global)) → rows_of others ≡ other_entries (rows_of rest) → length others < length all
+  pub others_fewer : (others : List (Vec X Global)) → table_rows others ≡ other_entries (table_rows rest) → length others < length all
   others_fewer others same =
       omega (
         arith,
         ap length split,
-        sym (length-map others (λ (r : Vec X Global). r.items)) ∙ ap length same ∙ length-other_entries (rows_of rest)
+        sym (length-map others (λ (r : Vec X Global). r.items)) ∙ ap length same ∙ length-other_entries (table_rows rest)
             ∙ length-map rest (λ (r : Vec X Global). r.items),
       )
 
   -- the transpose, put together again
-  pub joined : (column : List X) (others columns result : List (Vec X Global)) → IsTable (rows_of all) → column ≡ first_entries (rows_of rest)
-      → rows_of others ≡ other_entries (rows_of rest) → rows_of columns ≡ transpose (rows_of others)
-      → rows_of result ≡ column ∷ with_entries first.items (rows_of columns) → rows_of result ≡ transpose (rows_of all)
+  pub joined : (column : List X) (others columns result : List (Vec X Global)) → IsTable (table_rows all) → column ≡ first_entries (table_rows rest)
+      → table_rows others ≡ other_entries (table_rows rest) → table_rows columns ≡ transpose (table_rows others)
+      → table_rows result ≡ column ∷ with_entries first.items (table_rows columns) → table_rows result ≡ transpose (table_rows all)
   joined column others columns result table column_is others_are columns_are result_is =
-      let front : IsTable (first.items ∷ rows_of rest) = subst (λ l. IsTable (rows_of l)) split table in
+      let front : IsTable (first.items ∷ table_rows rest) = subst (λ l. IsTable (table_rows l)) split table in
       result_is
       ∙ ap₂ (λ c t. c ∷ with_entries first.items t) column_is (columns_are ∙ ap transpose others_are)
-      ∙ sym (transpose_split first.items (rows_of rest) front)
-      ∙ ap (λ l. transpose (rows_of l)) (sym split)
+      ∙ sym (transpose_split first.items (table_rows rest) front)
+      ∙ ap (λ l. transpose (table_rows l)) (sym split)
 
-  pub columns_fit : (others columns : List (Vec X Global)) → IsTable (rows_of all) → rows_of others ≡ other_entries (rows_of rest)
-      → rows_of columns ≡ transpose (rows_of others) → length first.items ≡ length columns
+  pub columns_fit : (others columns : List (Vec X Global)) → IsTable (table_rows all) → table_rows others ≡ other_entries (table_rows rest)
+      → table_rows columns ≡ transpose (table_rows others) → length first.items ≡ length columns
   columns_fit others columns table others_are columns_are =
-      let front : IsTable (first.items ∷ rows_of rest) = subst (λ l. IsTable (rows_of l)) split table in
-      row_fits first.items (rows_of rest) front
+      let front : IsTable (first.items ∷ table_rows rest) = subst (λ l. IsTable (table_rows l)) split table in
+      row_fits first.items (table_rows rest) front
       ∙ ap length (sym (columns_are ∙ ap transpose others_are)) ∙ length-map columns (λ (r : Vec X Global). r.items)

@@ -8,7 +8,7 @@ use Rattle.pf_links.specs.declared.output.LinkOut.{LinkOut}
 use Rattle.pf_rollback.specs.Kept.{settled_tick}
 use Rattle.pf_rollback.specs.Peer.{world_of}
 use Rattle.pf_scripts.specs.Frames.{commands_in, core_setting, with_frames}
-use Rattle.pf_scripts.specs.Peer.{peer_of, scene_of}
+use Rattle.pf_scripts.specs.Peer.{scripted_player, played_scene}
 use Rattle.pf_scripts.specs.declared.peer.Peer.{Peer}
 use Rattle.pf_step.specs.World.{World}
 use Rattle.pf_sessions.specs.Links.{AreLinked, IsDelivered, inputs_of, outputs_of}
@@ -58,7 +58,7 @@ pub record AreFinished
 -- a peer keeps no frame, and its world is that of the tick that it has reached
 pub record ShowsLast (e : Peer × World) : Type 0 where
   pub kept : e.0.kept ≡ None
-  pub world : e.1 ≡ world_of (scene_of e.0) (peer_of e.0) (peer_of e.0).reached
+  pub world : e.1 ≡ world_of (played_scene e.0) (scripted_player e.0) (scripted_player e.0).reached
 
 -- peers that have played, and what they are at the end
 pub record AreEnded (played : List Peer) (ended : List (Peer × World)) : Type 0 where

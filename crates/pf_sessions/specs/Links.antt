@@ -10,8 +10,8 @@ use Rattle.pf_sessions.specs.Table.{IsTable, transpose}
 use Rattle.pf_sessions.specs.declared.links.TheConstants.{LINK_CAPACITY}
 
 -- the rows of a table
-abbrev pub rows_of : {X : Type 0} → List (Vec X Global) → List (List X)
-rows_of rows = map (λ row. row.items) rows
+abbrev pub table_rows : {X : Type 0} → List (Vec X Global) → List (List X)
+table_rows rows = map (λ row. row.items) rows
 
 -- for each peer the ends of its links to the others
 abbrev pub outputs_of : List Peer → List (List LinkOut)

@@ -3,7 +3,7 @@ use Rattle.std.specs.Prelude.{◌≡◌, ◌⊎◌, ℕ, ⊤, Bool, List, [], �
 use Rattle.std.specs.List.{AllZip, range_with_len}
 use Rattle.pf_shapes.specs.Scene.{Scene}
 use Rattle.pf_rollback.specs.Core.{new_core}
-use Rattle.pf_scripts.specs.Peer.{peer_of, setting_of}
+use Rattle.pf_scripts.specs.Peer.{scripted_player, setting_of}
 use Rattle.pf_scripts.specs.Play.{HasPlayed, IsPeerError, IsCrewErrorOfPlay}
 use Rattle.pf_scripts.specs.Script.{script_fault}
 use Rattle.pf_scripts.specs.declared.error.SessionError.{SessionError}
@@ -33,12 +33,12 @@ AllPlayed scripts olds news = ⊥
 -- the fault of a peer's script, if it has one
 abbrev pub own_fault : List Turn → Peer → Option SessionError
 own_fault script p =
-    script_fault (setting_of p) (peer_of p).player 0 (peer_of p).reached script
+    script_fault (setting_of p) (scripted_player p).player 0 (scripted_player p).reached script
 
 -- with which fault a peer's play may end
 abbrev pub IsPlayError : Bool → Option ℕ → List Turn → Peer → SessionError → Type 0
 IsPlayError always crew script p fault =
-    IsPeerError (IsCrewErrorOfPlay always crew) (peer_of p).player fault
+    IsPeerError (IsCrewErrorOfPlay always crew) (scripted_player p).player fault
     ⊎ (own_fault script p ≡ Some fault)
 
 -- what a peer's play may return

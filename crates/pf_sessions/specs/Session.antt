@@ -13,9 +13,9 @@ use Rattle.pf_step.specs.declared.crew.CrewError.{CrewError}
 use Rattle.pf_rollback.specs.Kept.{settled_tick}
 use Rattle.pf_rollback.specs.Peer.{Peer as Player}
 use Rattle.pf_scripts.specs.Frames.{Setting, commands_in}
-use Rattle.pf_scripts.specs.Peer.{peer_of, setting_of}
+use Rattle.pf_scripts.specs.Peer.{scripted_player, setting_of}
 use Rattle.pf_scripts.specs.Play.{IsCrewErrorOfPlay}
-use Rattle.pf_scripts.specs.Script.{first_fault, frames_of, script_fault, ticks_of}
+use Rattle.pf_scripts.specs.Script.{first_fault, script_frames, script_fault, script_ticks}
 use Rattle.pf_scripts.specs.declared.error.SessionError.{SessionError}
 use Rattle.pf_scripts.specs.declared.error.SessionError.TheVariants as errors
 use Rattle.pf_scripts.specs.declared.peer.Peer.{Peer}
@@ -39,7 +39,7 @@ session_fault s first (script ∷ scripts) =
 -- the commands of all scripts, merged
 abbrev pub all_commands : Scene → List (List Turn) → CommandMap
 all_commands s scripts =
-    put_all empty (commands_in (unsealed s) (flat_map frames_of scripts))
+    put_all empty (commands_in (unsealed s) (flat_map script_frames scripts))
 
 -- ---- at the end
 
@@ -57,9 +57,9 @@ result_of s commands player script = record {
     horizon = 0;
     base = start_of s;
     commands = commands;
-    reached = ticks_of script;
+    reached = script_ticks script;
   };
-  world = sim s commands (ticks_of script);
+  world = sim s commands (script_ticks script);
 }
 
 -- the same of the peers of these scripts, the first of which has this number
@@ -74,14 +74,14 @@ session_results s scripts = results_from s (all_commands s scripts) 0 scripts
 
 -- what a contract sees of a peer and its world
 abbrev pub shown_by : Peer × World → PeerResult
-shown_by e = record { peer = peer_of e.0; world = e.1 }
+shown_by e = record { peer = scripted_player e.0; world = e.1 }
 
 -- a peer of the scene that keeps no frame, has sealed nothing, and has settled each tick up to the
 -- reached one
 pub record HasEnded (s : Scene) (p : Peer) : Type 0 where
   pub setting : setting_of p ≡ unsealed s
   pub kept : p.kept ≡ None
-  pub settled : settled_tick p.core.kept ≡ (peer_of p).reached
+  pub settled : settled_tick p.core.kept ≡ (scripted_player p).reached
 
 -- these frames were handed into a link, and no others; its ring has room for `LINK_CAPACITY` of
 -- them
@@ -91,7 +91,7 @@ pub record HasCarried (frames : List Frame) (link : LinkOut) : Type 0 where
 
 -- a peer has handed the frames of its script to each other peer, and no others
 abbrev pub HasSent : List Turn → Peer → Type 0
-HasSent script p = All (HasCarried (frames_of script)) p.outputs.items
+HasSent script p = All (HasCarried (script_frames script)) p.outputs.items
 
 -- ---- faults
 

@@ -34,10 +34,10 @@ abbrev pub IsTable : {X : Type 0} → List (List X) → Type 0
 IsTable rows = All (λ row. length row + 1 ≡ length rows) rows
 
 -- the place of another peer's entry in a peer's row, which has none for itself
-abbrev pub place_of : ℕ → ℕ → ℕ
-place_of own other = if nat_lt own other then other - 1 else other
+abbrev pub entry_place : ℕ → ℕ → ℕ
+entry_place own other = if nat_lt own other then other - 1 else other
 
 -- what a peer has for another one
 abbrev pub entry_of : {X : Type 0} → List (List X) → ℕ → ℕ → Option X
 entry_of rows own other =
-    option_and_then (λ row. slice_get row (place_of own other)) (slice_get rows own)
+    option_and_then (λ row. slice_get row (entry_place own other)) (slice_get rows own)

@@ -6,7 +6,7 @@ ghost use Rattle.std.specs.Thread.{IsSync};
 ghost use Rattle.pf_links.specs.Link.{AreEnds};
 ghost use Rattle.pf_rollback.specs.Peer.{world_of};
 ghost use Rattle.pf_sessions.specs.Ending.{AreEnded, AreFinished, HasFinished, ShowsLast, inputs_in, receiver_of};
-ghost use Rattle.pf_sessions.specs.Links.{AreLinked, IsDelivered, inputs_of, outputs_of, rows_of};
+ghost use Rattle.pf_sessions.specs.Links.{AreLinked, IsDelivered, inputs_of, outputs_of, table_rows};
 ghost use Rattle.pf_sessions.specs.Rest.{KeepsHanded};
 
 use crate::rest::take_rest;
@@ -31,7 +31,7 @@ fn take_apart(
     peers: Vec<Peer>,
 ) -> Result<(Vec<Receiver>, Vec<Vec<LinkOut>>), AllocError>
     ensures receivers { IfOk result (λ parts. parts.0.items ≡ map receiver_of peers.items) }
-    ensures outputs { IfOk result (λ parts. rows_of parts.1.items ≡ outputs_of peers.items) }
+    ensures outputs { IfOk result (λ parts. table_rows parts.1.items ≡ outputs_of peers.items) }
 {
     let mut peers = peers;
     let mut receivers = Vec::with_capacity(alloc, peers.len())?;
@@ -69,9 +69,10 @@ fn finish_all<R: Threads + Sync>(
     receivers: Vec<Receiver>,
     senders: Vec<Vec<LinkOut>>,
 ) -> Result<(Vec<Receiver>, Vec<Vec<LinkOut>>), AllocError>
-    requires { AllZip (AllZip AreEnds) (rows_of senders.items) (inputs_in receivers.items) }
+    requires { AllZip (AllZip AreEnds) (table_rows senders.items) (inputs_in receivers.items) }
     ensures { IfOk result (λ ends.
-        AreFinished receivers.items (rows_of senders.items) ends.0.items (rows_of ends.1.items)) }
+        AreFinished receivers.items (table_rows senders.items)
+        ends.0.items (table_rows ends.1.items)) }
 {
     let (mut receivers, mut senders) = (receivers, senders);
     if receivers.is_empty() {
@@ -90,10 +91,10 @@ fn finish_all<R: Threads + Sync>(
         { finish(alloc, receiver, row) },
         move || -> Result<(Vec<Receiver>, Vec<Vec<LinkOut>>), AllocError>
             requires sync { IsSync R.row }
-            requires ends { AllZip (AllZip AreEnds) (rows_of senders.items)
+            requires ends { AllZip (AllZip AreEnds) (table_rows senders.items)
                 (inputs_in receivers.items) }
             ensures { IfOk result (λ ends. AreFinished receivers.items
-                (rows_of senders.items) ends.0.items (rows_of ends.1.items)) }
+                (table_rows senders.items) ends.0.items (table_rows ends.1.items)) }
         { finish_all(rt, alloc, receivers, senders) },
     );
     let (receiver, row) = finished?;
@@ -126,7 +127,7 @@ fn show_all(
     ensures receivers { IfOk result (λ ended.
         map (λ e. receiver_of e.0) ended.items ≡ receivers.items) }
     ensures outputs { IfOk result (λ ended.
-        outputs_of (map (λ e. e.0) ended.items) ≡ rows_of outputs.items) }
+        outputs_of (map (λ e. e.0) ended.items) ≡ table_rows outputs.items) }
     ensures shown { IfOk result (λ ended. All ShowsLast ended.items) }
 {
     let mut receivers = receivers;

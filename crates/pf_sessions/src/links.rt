@@ -3,7 +3,7 @@
 ghost use Rattle.std.specs.Prelude.{◌≡◌, ◌+◌, ◌-◌, ◌<◌, ◌≤◌, ℕ, IfOk, length};
 ghost use Rattle.std.specs.List.{AllZip, range_with_len};
 ghost use Rattle.pf_shapes.specs.declared.fixture.TheConstants.{PLAYERS};
-ghost use Rattle.pf_sessions.specs.Links.{AreLinked, IsNewLink, inputs_of, outputs_of, rows_of};
+ghost use Rattle.pf_sessions.specs.Links.{AreLinked, IsNewLink, inputs_of, outputs_of, table_rows};
 ghost use Rattle.pf_sessions.specs.Playing.{AreNewPeers};
 
 use crate::table::transpose;
@@ -41,7 +41,7 @@ fn links_among(
     peers: usize,
 ) -> Result<(Vec<Vec<LinkOut>>, Vec<Vec<LinkIn>>), AllocError>
     ensures links { IfOk result (λ links.
-        AreLinked IsNewLink (rows_of links.0.items) (rows_of links.1.items)) }
+        AreLinked IsNewLink (table_rows links.0.items) (table_rows links.1.items)) }
     ensures counts { IfOk result (λ links.
         (length links.0.items ≡ peers) × (length links.1.items ≡ peers)) }
 {

@@ -1,7 +1,7 @@
 //! The table of the links between peers, by sender and by receiver.
 
 ghost use Rattle.std.specs.Prelude.{◌≡◌, ◌<◌, ◌∷◌, ◌++◌, All, IfOk, OnOk, length};
-ghost use Rattle.pf_sessions.specs.Links.{rows_of};
+ghost use Rattle.pf_sessions.specs.Links.{table_rows};
 ghost use Rattle.pf_sessions.specs.Table.{IsTable, first_entries, other_entries, transpose, with_entries};
 
 use pf_links::LinkOut;
@@ -14,8 +14,8 @@ fn take_first_entries(
 ) -> Result<(), AllocError>
     requires { All (λ row. 0 < length row.items) rows.old }
     ensures column { OnOk result (column.new.items
-        ≡ column.old.items ++ first_entries (rows_of rows.old)) }
-    ensures rows { OnOk result (rows_of rows.new ≡ other_entries (rows_of rows.old)) }
+        ≡ column.old.items ++ first_entries (table_rows rows.old)) }
+    ensures rows { OnOk result (table_rows rows.new ≡ other_entries (table_rows rows.old)) }
 {
     let Some((row, others)) = rows.split_first_mut() else {
         return Ok(());
@@ -27,7 +27,8 @@ fn take_first_entries(
 /// Moves the entries of a row to the fronts of columns.
 fn add_first_entries(row: Vec<LinkOut>, columns: &mut [Vec<LinkOut>]) -> Result<(), AllocError>
     requires { length row.items ≡ length columns.old }
-    ensures { OnOk result (rows_of columns.new ≡ with_entries row.items (rows_of columns.old)) }
+    ensures { OnOk result
+        (table_rows columns.new ≡ with_entries row.items (table_rows columns.old)) }
 {
     let Some((column, others)) = columns.split_first_mut() else {
         return Ok(());
@@ -43,9 +44,9 @@ fn split_first_entries(
     rows: Vec<Vec<LinkOut>>,
 ) -> Result<(Vec<LinkOut>, Vec<Vec<LinkOut>>), AllocError>
     requires { All (λ row. 0 < length row.items) rows.items }
-    ensures column { IfOk result (λ parts. parts.0.items ≡ first_entries (rows_of rows.items)) }
+    ensures column { IfOk result (λ parts. parts.0.items ≡ first_entries (table_rows rows.items)) }
     ensures rows { IfOk result (λ parts.
-        rows_of parts.1.items ≡ other_entries (rows_of rows.items)) }
+        table_rows parts.1.items ≡ other_entries (table_rows rows.items)) }
 {
     let mut rows = rows;
     let mut column = Vec::with_capacity(alloc, rows.len())?;
@@ -60,8 +61,8 @@ fn join_first_entries(
     columns: Vec<Vec<LinkOut>>,
 ) -> Result<Vec<Vec<LinkOut>>, AllocError>
     requires { length row.items ≡ length columns.items }
-    ensures { IfOk result (λ joined. rows_of joined.items
-        ≡ column.items ∷ with_entries row.items (rows_of columns.items)) }
+    ensures { IfOk result (λ joined. table_rows joined.items
+        ≡ column.items ∷ with_entries row.items (table_rows columns.items)) }
 {
     let mut columns = columns;
     add_first_entries(row, &mut columns)?;
@@ -71,8 +72,8 @@ fn join_first_entries(
 
 /// The table turned over: by receiver where it was by sender, and back.
 pub fn transpose(alloc: Global, table: Vec<Vec<LinkOut>>) -> Result<Vec<Vec<LinkOut>>, AllocError>
-    requires { IsTable (rows_of table.items) }
-    ensures { IfOk result (λ other. rows_of other.items ≡ transpose (rows_of table.items)) }
+    requires { IsTable (table_rows table.items) }
+    ensures { IfOk result (λ other. table_rows other.items ≡ transpose (table_rows table.items)) }
 {
     let mut rows = table;
     if rows.is_empty() {

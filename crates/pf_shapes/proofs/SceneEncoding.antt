@@ -22,7 +22,7 @@ use Rattle.pf_shapes.specs.declared.fixture.Shape.TheVariants.{Circle, Box}
 use Rattle.pf_shapes.specs.Fixture.{Fixture, IsFixture, IsSize, IsMass, IsOwner, IsWithin}
 use Rattle.pf_shapes.specs.Scene.{Scene, IsGravity, IsPosition, empty_scene, with_body}
 use Rattle.pf_shapes.specs.Numbers.{checked_body, checked_box, checked_circle, checked_fixture, checked_mass, checked_number, checked_rotation, checked_vector, turned_transform, upright_transform}
-use Rattle.pf_shapes.specs.SceneText.{number_of, owner_of, circle_of, box_of, scene_in_progress, gravity_line, line_of}
+use Rattle.pf_shapes.specs.SceneText.{field_number, owner_of, circle_parts, box_parts, scene_in_progress, gravity_line, line_of}
 use Rattle.pf_shapes.specs.SceneEncoding.{owner_field, shape_word, shape_fields, body_fields, start_rotation, gravity_fields, IsDirection}
 
 -- ---- numbers
@@ -31,7 +31,7 @@ clamp_small : (z : ℤ) → unsigned_abs z < 2 ^ 56 → clamp_whole z ≡ z
 clamp_small z small = omega (arith, ints, clamps, small)
 
 -- the number of a text that encodes it
-number_text : (z : ℤ) → unsigned_abs z < 2 ^ 56 → number_of (signed_decimal z) ≡ Some z
+number_text : (z : ℤ) → unsigned_abs z < 2 ^ 56 → field_number (signed_decimal z) ≡ Some z
 number_text z small =
     let short : unsigned_abs z < 2 ^ 64 = omega (arith, small) in
     ap (option_map clamp_whole) (whole-signed_decimal z short) ∙ ap Some (clamp_small z small)
@@ -41,11 +41,11 @@ checked_within outside low high z h =
     let e : (int_le low z && int_le z high) ≡ true = (let l = h.0 in let k = h.1 in grind (arith, ints, nat_tests)) in rw e refl
 
 read_number : (outside : SceneFault) (low high z : ℤ) → unsigned_abs z < 2 ^ 56 → IsWithin low high z
-    → checked_number outside low high (number_of (signed_decimal z)) ≡ Ok z
+    → checked_number outside low high (field_number (signed_decimal z)) ≡ Ok z
 read_number outside low high z small h = ap (checked_number outside low high) (number_text z small) ∙ checked_within outside low high z h
 
 read_vector : (limit x y : ℤ) → limit <ℤ pos (2 ^ 56) → IsWithin (neg_ℤ limit) limit x → IsWithin (neg_ℤ limit) limit y
-    → checked_vector limit (number_of (signed_decimal x)) (number_of (signed_decimal y)) ≡ Ok (record { x = x; y = y })
+    → checked_vector limit (field_number (signed_decimal x)) (field_number (signed_decimal y)) ≡ Ok (record { x = x; y = y })
 unfolding checked_vector
 read_vector limit x y small h k =
     rw (
@@ -53,10 +53,10 @@ read_vector limit x y small h k =
       read_number BadNumber (neg_ℤ limit) limit y (let l = k.0 in let m = k.1 in omega (arith, ints, small)) k,
     ) refl
 
-read_size : (z : ℤ) → IsSize z → checked_number BadSize (pos 1048576) (pos 17179869184) (number_of (signed_decimal z)) ≡ Ok z
+read_size : (z : ℤ) → IsSize z → checked_number BadSize (pos 1048576) (pos 17179869184) (field_number (signed_decimal z)) ≡ Ok z
 read_size z h = read_number BadSize _ _ z (let l = h.0 in let k = h.1 in omega (arith, ints)) h
 
-read_friction : (z : ℤ) → IsWithin (pos 0) (pos 67108864) z → checked_number BadNumber (pos 0) (pos 67108864) (number_of (signed_decimal z)) ≡ Ok z
+read_friction : (z : ℤ) → IsWithin (pos 0) (pos 67108864) z → checked_number BadNumber (pos 0) (pos 67108864) (field_number (signed_decimal z)) ≡ Ok z
 read_friction z h = read_number BadNumber _ _ z (let l = h.0 in let k = h.1 in omega (arith, ints)) h
 
 mass_small : (z : ℤ) → IsMass z → unsigned_abs z < 2 ^ 56
@@ -76,7 +76,7 @@ checked_mass_is : (z : ℤ) → IsMass z → checked_mass (Some z) ≡ Ok z
 unfolding checked_mass
 checked_mass_is z h = ⊎_elim (λ (none : z ≡ pos 0). rw none refl) (dynamic_mass z) h
 
-read_mass : (z : ℤ) → IsMass z → checked_mass (number_of (signed_decimal z)) ≡ Ok z
+read_mass : (z : ℤ) → IsMass z → checked_mass (field_number (signed_decimal z)) ≡ Ok z
 read_mass z h = ap checked_mass (number_text z (mass_small z h)) ∙ checked_mass_is z h
 
 -- ---- a field that may be a word
@@ -109,9 +109,9 @@ read_owner (Some player) h =
 -- ---- bodies
 
 read_circle : (f : Fixture) (r : ℤ) (position : V2) → f.shape ≡ Circle r → IsFixture f → IsPosition position
-    → circle_of (owner_field f.owner ∷ signed_decimal f.mass ∷ signed_decimal f.friction ∷ signed_decimal r ∷ signed_decimal position.x ∷ signed_decimal position.y ∷ [])
+    → circle_parts (owner_field f.owner ∷ signed_decimal f.mass ∷ signed_decimal f.friction ∷ signed_decimal r ∷ signed_decimal position.x ∷ signed_decimal position.y ∷ [])
     ≡ Ok (f, (position, upright))
-unfolding circle_of checked_body checked_fixture checked_circle upright_transform
+unfolding circle_parts checked_body checked_fixture checked_circle upright_transform
 read_circle f r position e h at =
     let size : IsSize r = rw e at h.size in
     let same : record { shape = Circle r; mass = f.mass; friction = f.friction; owner = f.owner } ≡ f = rw (sym e) refl in
@@ -125,10 +125,10 @@ read_circle f r position e h at =
     ) refl
 
 read_box : (f : Fixture) (hx hy : ℤ) (position : V2) (to : Rot) → f.shape ≡ Box hx hy → IsFixture f → IsPosition position → IsDirection to
-    → box_of (owner_field f.owner ∷ signed_decimal f.mass ∷ signed_decimal f.friction ∷ signed_decimal hx ∷ signed_decimal hy ∷ signed_decimal position.x
+    → box_parts (owner_field f.owner ∷ signed_decimal f.mass ∷ signed_decimal f.friction ∷ signed_decimal hx ∷ signed_decimal hy ∷ signed_decimal position.x
     ∷ signed_decimal position.y ∷ signed_decimal to.c ∷ signed_decimal to.s ∷ [])
     ≡ Ok (f, (position, unit to.c to.s))
-unfolding box_of checked_body checked_fixture checked_box turned_transform checked_rotation
+unfolding box_parts checked_body checked_fixture checked_box turned_transform checked_rotation
 read_box f hx hy position to e h at facing =
     let size : IsSize hx × IsSize hy = rw e at h.size in
     let same : record { shape = Box hx hy; mass = f.mass; friction = f.friction; owner = f.owner } ≡ f = rw (sym e) refl in

@@ -2,7 +2,7 @@
 use Rattle.std.proofs.Common.{◌≡◌, ℕ, ◌<◌, ◌++◌, Bool, true, false, List, [], length, Result, Ok, Err, refl, sym, ap, subst, ◌∙◌, arith, if◌then◌else◌}
 use Rattle.pf_text.specs.declared.fault.LineFault.{LineFault}
 use Rattle.pf_text.specs.declared.fault.LineFault.TheVariants as line_faults
-use Rattle.pf_text.specs.Driver.{StopsForWrite, step, fields_step, is_plain, is_skipped, without_output}
+use Rattle.pf_text.specs.Driver.{StopsForWrite, line_step, fields_step, is_plain, is_skipped, without_output}
 use Rattle.pf_text.specs.Fields.{fields_of}
 use Rattle.pf_text.specs.Streams.{Transfer}
 use Rattle.pf_shapes.specs.declared.reader.Progress.{Progress}
@@ -30,8 +30,8 @@ unfolding output
 output-fields_step state (Ok fields) = output-transition state fields
 output-fields_step state (Err fault) = refl
 
-output-step : (state : Progress) (line : List ℕ) → output (step scene_rules state line) ≡ []
-unfolding step output
+output-step : (state : Progress) (line : List ℕ) → output (line_step scene_rules state line) ≡ []
+unfolding line_step output
 output-step state line = plain (is_plain line)
   where
     skipped : (t : Bool) → output (if t then Ok ([], state) else fields_step scene_rules state (fields_of line)) ≡ []

@@ -36,8 +36,8 @@ Reads (Err (take_errors.Fault fault)) expected = expected ≡ Err fault
 
 -- the number that a field encodes; one beyond 2^56 in magnitude, which no range reaches, counts as
 -- that
-abbrev pub number_of : List ℕ → Option ℤ
-number_of field = option_map clamp_whole (whole_of field)
+abbrev pub field_number : List ℕ → Option ℤ
+field_number field = option_map clamp_whole (whole_of field)
 
 abbrev pub player_of : ParsedNumber → Result (Option ℕ) SceneFault
 player_of (InRange z) = Ok (Some (unsigned_abs z))
@@ -60,28 +60,30 @@ word_of field =
 
 -- `gravity GX GY`
 abbrev pub gravity_of : List ℕ → List ℕ → Result V2 SceneFault
-gravity_of x y = checked_vector MAX_GRAVITY (number_of x) (number_of y)
+gravity_of x y = checked_vector MAX_GRAVITY (field_number x) (field_number y)
 
 -- `circle OWNER MASS FRICTION R X Y`
-unfoldable pub circle_of : List (List ℕ) → Result (Fixture × (V2 × Rot)) SceneFault
-circle_of (owner ∷ mass ∷ friction ∷ r ∷ x ∷ y ∷ []) =
-    let shape = checked_circle (number_of r) in
-    checked_body (checked_fixture (owner_of owner) (number_of mass) (number_of friction) shape)
-    (upright_transform (number_of x) (number_of y))
-circle_of args = Err BadLine
+unfoldable pub circle_parts : List (List ℕ) → Result (Fixture × (V2 × Rot)) SceneFault
+circle_parts (owner ∷ mass ∷ friction ∷ r ∷ x ∷ y ∷ []) =
+    let shape = checked_circle (field_number r) in
+    checked_body
+    (checked_fixture (owner_of owner) (field_number mass) (field_number friction) shape)
+    (upright_transform (field_number x) (field_number y))
+circle_parts args = Err BadLine
 
 -- `box OWNER MASS FRICTION HX HY X Y C S`
-unfoldable pub box_of : List (List ℕ) → Result (Fixture × (V2 × Rot)) SceneFault
-box_of (owner ∷ mass ∷ friction ∷ hx ∷ hy ∷ x ∷ y ∷ c ∷ s ∷ []) =
-    let shape = checked_box (number_of hx) (number_of hy) in
-    checked_body (checked_fixture (owner_of owner) (number_of mass) (number_of friction) shape)
-    (turned_transform (number_of x) (number_of y) (number_of c) (number_of s))
-box_of args = Err BadLine
+unfoldable pub box_parts : List (List ℕ) → Result (Fixture × (V2 × Rot)) SceneFault
+box_parts (owner ∷ mass ∷ friction ∷ hx ∷ hy ∷ x ∷ y ∷ c ∷ s ∷ []) =
+    let shape = checked_box (field_number hx) (field_number hy) in
+    checked_body
+    (checked_fixture (owner_of owner) (field_number mass) (field_number friction) shape)
+    (turned_transform (field_number x) (field_number y) (field_number c) (field_number s))
+box_parts args = Err BadLine
 
 -- the fields of a body behind its word
-abbrev pub body_of : BodyWord → List (List ℕ) → Result (Fixture × (V2 × Rot)) SceneFault
-body_of bodies.Circle args = circle_of args
-body_of bodies.Box args = box_of args
+abbrev pub body_parts : BodyWord → List (List ℕ) → Result (Fixture × (V2 × Rot)) SceneFault
+body_parts bodies.Circle args = circle_parts args
+body_parts bodies.Box args = box_parts args
 
 -- how many fields a body has behind its word
 abbrev pub field_count : BodyWord → ℕ
@@ -112,7 +114,7 @@ abbrev pub with_body_line : ℕ → Scene → BodyWord → List (List ℕ) → R
 with_body_line limit s word args =
     if length args == field_count word
     then (
-    if nat_lt (length s.fixtures) limit then with_read_body limit s (body_of word args)
+    if nat_lt (length s.fixtures) limit then with_read_body limit s (body_parts word args)
     else Err TooMany
     )
     else Err BadLine

@@ -16,7 +16,7 @@ ghost use Rattle.pf_shapes.specs.Bounds.{Bounds, IsOrdered, overlaps, shape_boun
 ghost use Rattle.pf_shapes.specs.Laws.{Covers, IsInBox, IsInCircle, IsInBounds, IsInner, exact_position, bounds_to_fine_units};
 ghost use Rattle.pf_shapes.specs.SceneEncoding.{body_fields, gravity_fields, start_rotation, IsDirection};
 ghost use Rattle.pf_shapes.specs.Scene.{Scene, IsGravity, IsPosition, empty_scene, with_body};
-ghost use Rattle.pf_shapes.specs.SceneText.{line_of, number_of, scene_in_progress};
+ghost use Rattle.pf_shapes.specs.SceneText.{line_of, field_number, scene_in_progress};
 
 use crate::fixture::{MAX_FRICTION, MAX_MASS, MAX_SIZE, MIN_MASS, MIN_SIZE, PLAYERS, Shape};
 use crate::numbers::MAX_DIRECTION;
@@ -38,7 +38,7 @@ pub fn scene_lines_are_read()
 /// A number of a field is checked as it is, however long it is.
 pub fn long_numbers_are_out_of_range()
     ensures { (outside : SceneFault) (low high : ℤ) (field : List ℕ) → IsRaw low → IsRaw high
-        → checked_number outside low high (number_of field)
+        → checked_number outside low high (field_number field)
         ≡ checked_number outside low high (whole_of field) }
 {}
 

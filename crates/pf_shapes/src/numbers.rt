@@ -1,5 +1,5 @@
-//! Numbers from outside, of a text or of a call, as the parts of a scene that they make. A number is
-//! `None` where a field of a text encodes none. Each is checked, from the left.
+//! Numbers from outside, of a text or of a call, as the parts of a scene that they make. A number
+//! is `None` where a field of a text encodes none. Each is checked, from the left.
 
 ghost use Rattle.std.specs.Prelude.{◌≡◌, pos, neg_ℤ, ◌≤ℤ◌, IfOk};
 ghost use Rattle.pf_num.specs.Fx.{IsRaw};

@@ -4,7 +4,7 @@ ghost use Rattle.std.specs.Prelude.{◌≡◌, IfOk, map};
 ghost use Rattle.pf_shapes.specs.Numbers.{checked_body};
 ghost use Rattle.pf_shapes.specs.Fixture.{IsOwner};
 ghost use Rattle.pf_shapes.specs.Scene.{IsGravity, IsTransform};
-ghost use Rattle.pf_shapes.specs.SceneText.{body_of, box_of, circle_of, gravity_of, owner_of};
+ghost use Rattle.pf_shapes.specs.SceneText.{body_parts, box_parts, circle_parts, gravity_of, owner_of};
 
 use crate::fault::SceneFault;
 use crate::fixture::{Fixture, PLAYERS};
@@ -37,7 +37,7 @@ pub fn read_gravity(x: &[u8], y: &[u8]) -> Result<V2, SceneFault>
 
 /// A body's fixture and where it starts, from the fields behind its word.
 pub fn read_body(word: BodyWord, arguments: &[&[u8]]) -> Result<(Fixture, (V2, Rot)), SceneFault>
-    ensures value { result ≡ body_of word (map (λ field. field.now) arguments.now) }
+    ensures value { result ≡ body_parts word (map (λ field. field.now) arguments.now) }
     ensures range { IfOk result (λ body. IsTransform body.1) }
 {
     match word {
@@ -47,9 +47,9 @@ pub fn read_body(word: BodyWord, arguments: &[&[u8]]) -> Result<(Fixture, (V2, R
 }
 
 /// `circle OWNER MASS FRICTION R X Y`.
-#[tactic(auto, unfolding(crate::specs::SceneText::circle_of))]
+#[tactic(auto, unfolding(crate::specs::SceneText::circle_parts))]
 fn read_circle(arguments: &[&[u8]]) -> Result<(Fixture, (V2, Rot)), SceneFault>
-    ensures value { result ≡ circle_of (map (λ field. field.now) arguments.now) }
+    ensures value { result ≡ circle_parts (map (λ field. field.now) arguments.now) }
     ensures range { IfOk result (λ body. IsTransform body.1) }
 {
     match arguments {
@@ -64,9 +64,9 @@ fn read_circle(arguments: &[&[u8]]) -> Result<(Fixture, (V2, Rot)), SceneFault>
 }
 
 /// `box OWNER MASS FRICTION HX HY X Y C S`.
-#[tactic(auto, unfolding(crate::specs::SceneText::box_of))]
+#[tactic(auto, unfolding(crate::specs::SceneText::box_parts))]
 fn read_box(arguments: &[&[u8]]) -> Result<(Fixture, (V2, Rot)), SceneFault>
-    ensures value { result ≡ box_of (map (λ field. field.now) arguments.now) }
+    ensures value { result ≡ box_parts (map (λ field. field.now) arguments.now) }
     ensures range { IfOk result (λ body. IsTransform body.1) }
 {
     match arguments {

@@ -1,6 +1,6 @@
 -- The laws of the output for lines.
 use Rattle.std.proofs.Common.{◌≡◌, ℕ, ◌+◌, true, List, [], ◌∷◌, ◌++◌, Result, Ok, Err, refl, sym, ap, ◌∙◌, append_assoc}
-use Rattle.pf_text.specs.Driver.{Rules, Output, step, lines_output, and_then, is_plain, is_skipped}
+use Rattle.pf_text.specs.Driver.{Rules, Output, line_step, lines_output, and_then, is_plain, is_skipped}
 use Rattle.pf_text.specs.Laws.{ending_then, output_then, output_a_line_later}
 
 module _ {S F : Type 0} (rules : Rules S F) where
@@ -19,7 +19,7 @@ module _ {S F : Type 0} (rules : Rules S F) where
   unfolding lines_output
   answers-append number state [] more = refl
   answers-append number state (line ∷ lines) more =
-      followed-and_then number (step rules state line) (λ next. lines_output rules (number + 1) next lines) (λ next. lines_output rules (number + 1) next (lines ++ more)) (λ number state. lines_output rules number state more) (λ next. answers-append (number + 1) next lines more)
+      followed-and_then number (line_step rules state line) (λ next. lines_output rules (number + 1) next lines) (λ next. lines_output rules (number + 1) next (lines ++ more)) (λ number state. lines_output rules number state more) (λ next. answers-append (number + 1) next lines more)
 
   -- one line, with a number more
   later-and_then : (number : ℕ) (answer : Result (List ℕ × S) F) (first later : S → Output S F) → ((next : S) → later next ≡ output_a_line_later (first next))
@@ -32,9 +32,9 @@ module _ {S F : Type 0} (rules : Rules S F) where
   unfolding lines_output
   answers-later number state [] = refl
   answers-later number state (line ∷ lines) =
-      later-and_then number (step rules state line) (λ next. lines_output rules (number + 1) next lines) (λ next. lines_output rules ((number + 1) + 1) next lines) (λ next. answers-later (number + 1) next lines)
+      later-and_then number (line_step rules state line) (λ next. lines_output rules (number + 1) next lines) (λ next. lines_output rules ((number + 1) + 1) next lines) (λ next. answers-later (number + 1) next lines)
 
   -- a skipped line
   pub answers-skipped : (number : ℕ) (state : S) (line : List ℕ) (lines : List (List ℕ)) → is_plain line ≡ true → is_skipped line ≡ true → lines_output rules number state (line ∷ lines) ≡ output_a_line_later (lines_output rules number state lines)
-  unfolding lines_output step
+  unfolding lines_output line_step
   answers-skipped number state line lines plain skipped = rw (plain, skipped) (answers-later number state lines)

@@ -17,7 +17,7 @@ use Rattle.pf_text.specs.Lines.{AppendsPrefix, AreLines, Takes, terminated_line,
 use Rattle.pf_text.specs.Streams.{Transfer}
 use Rattle.pf_text.proofs.Taking.{appends_known}
 use Rattle.pf_text.proofs.LinesOf.{lines_of-AreLines, lines_of-terminated_line, lines_of-last, lines_of-front}
-use Rattle.pf_text.specs.Driver.{Rules, Output, TakesLine, LeadTo, StopsForMemory, Drives, CountsReads, CountsWrites, Produces, fault_at, line_allocates, step, lines_output, and_then, text_output}
+use Rattle.pf_text.specs.Driver.{Rules, Output, TakesLine, LeadTo, StopsForMemory, Drives, CountsReads, CountsWrites, Produces, fault_at, line_allocates, line_step, lines_output, and_then, text_output}
 
 -- an output behind what was written
 abbrev pub joined : {S F : Type 0} → List ℕ → Output S F → Output S F
@@ -52,10 +52,10 @@ Progress-none rules start input before left after left_is after_is = record {
 }
 
 -- a line that is too long is invalid, whatever it is
-step-long : {S F : Type 0} (rules : Rules S F) (state : S) (line : List ℕ) → 4096 < length line
-    → step rules state line ≡ Err (rules.line_error BadLine)
-unfolding step
-step-long rules state line lt = rw (lt-leb (length line) 4096 lt) refl
+line_step-long : {S F : Type 0} (rules : Rules S F) (state : S) (line : List ℕ) → 4096 < length line
+    → line_step rules state line ≡ Err (rules.line_error BadLine)
+unfolding line_step
+line_step-long rules state line lt = rw (lt-leb (length line) 4096 lt) refl
 
 -- the transfer of a run that has come so far
 abbrev pub transfer : List ℕ → List ℕ → Option (List ℕ) → Option (List ℕ) → Transfer
@@ -94,7 +94,7 @@ module _ {S F : Type 0} {rules : Rules S F} {start : S} {input before : List ℕ
 
   -- where the machine ran out of memory at a valid line
   Drives-memory : (taken : Taken) (line : List ℕ) (left' : Option (List ℕ)) → Takes p.rest line left' (Ok taken)
-      → (taken ≡ End → ⊥) → line_allocates rules state line ≡ true → IsOk (step rules state line)
+      → (taken ≡ End → ⊥) → line_allocates rules state line ≡ true → IsOk (line_step rules state line)
       → StopsForMemory rules start (transfer input before left' after)
   Drives-memory taken line left' t ne some ok = record {
     lines = p.taken;
@@ -151,10 +151,10 @@ module _ {S F : Type 0} {rules : Rules S F} {start : S} {input before : List ℕ
         ending_is = ap (λ (o : Output S F). o.ending) output;
       }
 
-  -- what was taken is the first line of what was left, or of one step with it
+  -- what was taken is the first line of what was left, or of one line_step with it
   output_at : (taken : Taken) (line : List ℕ) (left' : Option (List ℕ)) → Takes p.rest line left' (Ok taken) → (taken ≡ End → ⊥)
       → (others : List (List ℕ)) × (text_output rules start input
-      ≡ joined p.written (and_then number (step rules state line) (λ next. lines_output rules (number + 1) next others)))
+      ≡ joined p.written (and_then number (line_step rules state line) (λ next. lines_output rules (number + 1) next others)))
   unfolding lines_output
   output_at Line line left' t ne = (
     lines_of t.0.rest,
@@ -171,8 +171,8 @@ module _ {S F : Type 0} {rules : Rules S F} {start : S} {input before : List ℕ
       let long : 4096 < length line = omega (arith, t.2) in
       let found = lines_of-front line t.0.rest t.1 (omega arith) in
       let longer : 4096 < length (line ++ found.0) = omega (arith, length-append line found.0) in
-      let same : step rules state (line ++ found.0) ≡ step rules state line =
-      step-long rules state (line ++ found.0) longer ∙ sym (step-long rules state line long) in
+      let same : line_step rules state (line ++ found.0) ≡ line_step rules state line =
+      line_step-long rules state (line ++ found.0) longer ∙ sym (line_step-long rules state line long) in
       let first = output_is ∙ ap (λ lines. joined p.written (lines_output rules number state lines))
       (ap lines_of t.0.bytes_are ∙ found.2) in (
         found.1,
@@ -182,7 +182,7 @@ module _ {S F : Type 0} {rules : Rules S F} {start : S} {input before : List ℕ
 
   -- where a line is invalid
   Drives-fault : (taken : Taken) (line : List ℕ) (left' : Option (List ℕ)) (fault : F) → Takes p.rest line left' (Ok taken)
-      → (taken ≡ End → ⊥) → step rules state line ≡ Err fault
+      → (taken ≡ End → ⊥) → line_step rules state line ≡ Err fault
       → Drives rules start (transfer input before left' after) (Err (errors.Line number fault))
   Drives-fault taken line left' fault t ne said =
       let found = output_at taken line left' t ne in
@@ -199,7 +199,7 @@ module _ {S F : Type 0} {rules : Rules S F} {start : S} {input before : List ℕ
 
   -- where the machine did not take a line
   pub Drives-refused : (taken : Taken) (line : List ℕ) (left' : Option (List ℕ)) (refusal : TakeError F)
-      → Takes p.rest line left' (Ok taken) → (taken ≡ End → ⊥) → Produces (Err refusal) (step rules state line)
+      → Takes p.rest line left' (Ok taken) → (taken ≡ End → ⊥) → Produces (Err refusal) (line_step rules state line)
       → (refusal ≡ take_errors.Memory → line_allocates rules state line ≡ true)
       → Drives rules start (transfer input before left' after) (Err (fault_at number refusal))
   Drives-refused taken line left' take_errors.Memory t ne said some = Drives-memory taken line left' t ne (some refl) said
@@ -214,7 +214,7 @@ module _ {S F : Type 0} {rules : Rules S F} {start : S} {input before : List ℕ
 
   -- where the writer failed
   pub Drives-write : (taken : Taken) (line : List ℕ) (left' after' : Option (List ℕ)) (text : List ℕ) (next : S)
-      → Takes p.rest line left' (Ok taken) → (taken ≡ End → ⊥) → step rules state line ≡ Ok (text, next)
+      → Takes p.rest line left' (Ok taken) → (taken ≡ End → ⊥) → line_step rules state line ≡ Ok (text, next)
       → AppendsPrefix after after' text → 0 < length text
       → Drives rules start (transfer input before left' after') (Err errors.Write)
   Drives-write taken line left' after' text next t ne said parts some =
@@ -245,7 +245,7 @@ module _ {S F : Type 0} {rules : Rules S F} {start : S} {input before : List ℕ
 
   -- at a last line without a LF
   pub Drives-last : (line : List ℕ) (left' after' : Option (List ℕ)) (text : List ℕ) (next : S)
-      → Takes p.rest line left' (Ok Last) → step rules state line ≡ Ok (text, next) → Appends after after' text
+      → Takes p.rest line left' (Ok Last) → line_step rules state line ≡ Ok (text, next) → Appends after after' text
       → Drives rules start (transfer input before left' after') (Ok (number + 1, next))
   unfolding lines_output
   Drives-last line left' after' text next t said written =
@@ -262,13 +262,13 @@ module _ {S F : Type 0} {rules : Rules S F} {start : S} {input before : List ℕ
       }
 
   -- a line further
-  pub Progress-next : (taken : Taken) (line : List ℕ) (left' after' : Option (List ℕ)) (text : List ℕ) (next : S) → Takes p.rest line left' (Ok taken) → (taken ≡ End → ⊥) → (taken ≡ Last → ⊥) → step rules state line ≡ Ok (text, next)
+  pub Progress-next : (taken : Taken) (line : List ℕ) (left' after' : Option (List ℕ)) (text : List ℕ) (next : S) → Takes p.rest line left' (Ok taken) → (taken ≡ End → ⊥) → (taken ≡ Last → ⊥) → line_step rules state line ≡ Ok (text, next)
       → Appends after after' text → Progress rules start input before left' after' (number + 1) next
   unfolding lines_output
   Progress-next End line left' after' text next t ne nl said written = absurd (ne refl)
   Progress-next Last line left' after' text next t ne nl said written = absurd (nl refl)
   Progress-next TooLong line left' after' text next t ne nl said written =
-      let refused = step-long rules state line (omega (arith, t.2)) in absurd cc
+      let refused = line_step-long rules state line (omega (arith, t.2)) in absurd cc
   Progress-next Line line left' after' text next t ne nl said written = record {
     taken = p.taken ++ line ∷ [];
     written = p.written ++ text;

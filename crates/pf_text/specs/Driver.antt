@@ -47,8 +47,8 @@ fields_step rules state (Ok fields) = rules.transition state fields
 fields_step rules state (Err fault) = Err (rules.line_error fault)
 
 -- the output for a line, and the next state
-unfoldable pub step : {S F : Type 0} → Rules S F → S → List ℕ → Result (List ℕ × S) F
-step rules state line =
+unfoldable pub line_step : {S F : Type 0} → Rules S F → S → List ℕ → Result (List ℕ × S) F
+line_step rules state line =
     if is_plain line
     then (if is_skipped line then Ok ([], state) else fields_step rules state (fields_of line))
     else Err (rules.line_error BadLine)
@@ -79,7 +79,8 @@ and_then number (Ok reply) others =
 unfoldable pub lines_output : {S F : Type 0} → Rules S F → ℕ → S → List (List ℕ) → Output S F
 lines_output rules number state [] = record { text = []; ending = Ok (number, state) }
 lines_output rules number state (line ∷ lines) =
-    and_then number (step rules state line) (λ next. lines_output rules (number + 1) next lines)
+    and_then number (line_step rules state line)
+    (λ next. lines_output rules (number + 1) next lines)
 
 -- the output for a text
 abbrev pub text_output : {S F : Type 0} → Rules S F → S → List ℕ → Output S F
@@ -121,7 +122,7 @@ module _ {S F : Type 0} (rules : Rules S F) (start : S) (t : Transfer) where
     pub line : List ℕ
     pub takes : TakesLine t.input lines line t.left
     pub allocates : line_allocates rules state line ≡ true
-    pub valid : IsOk (step rules state line)
+    pub valid : IsOk (line_step rules state line)
 
   -- so many lines were taken that no number is left for the next, and none behind them
   pub record SpendsNumbers (lines : List (List ℕ)) : Type 0 where
@@ -166,7 +167,7 @@ module _ {S F : Type 0} (rules : Rules S F) (start : S) (t : Transfer) where
     pub unwritten : List ℕ
     pub next : S
     pub some : 0 < length (part ++ unwritten)
-    pub reply : step rules state line ≡ Ok (part ++ unwritten, next)
+    pub reply : line_step rules state line ≡ Ok (part ++ unwritten, next)
     pub after_is : t.after ≡ Some (t.before ++ text ++ part)
     pub rest : List ℕ
     pub output_is : text ++ part ++ rest ≡ (text_output rules start t.input).text

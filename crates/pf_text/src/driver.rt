@@ -7,7 +7,7 @@ ghost use Rattle.std.specs.Io.KnownBytes.{Appends};
 ghost use Rattle.pf_text.specs.Fields.{parts_of};
 ghost use Rattle.pf_text.specs.Lines.{AppendsPrefix, Counts};
 ghost use Rattle.pf_text.specs.Streams.{IfExposed};
-ghost use Rattle.pf_text.specs.Driver.{Rules, Produces, Drives, CountsReads, CountsWrites, fault_at, step, line_allocates, is_ascii, is_plain, is_skipped};
+ghost use Rattle.pf_text.specs.Driver.{Rules, Produces, Drives, CountsReads, CountsWrites, fault_at, line_step, line_allocates, is_ascii, is_plain, is_skipped};
 
 use crate::fault::LineFault;
 use crate::fields::{field_count, split_into};
@@ -152,14 +152,14 @@ fn take_many_fields<L, M: Machine<L>>(
 
 /// The output for a line, and the next state. Only the machine takes memory, and only for a valid
 /// line.
-#[tactic(auto, unfolding(crate::specs::Driver::step))]
+#[tactic(auto, unfolding(crate::specs::Driver::line_step))]
 fn output<L, M: Machine<L>>(
     alloc: Global,
     lent: &mut L,
     machine: M,
     line: &[u8],
 ) -> Result<(String, M), TakeError<M::Fault>>
-    ensures reply { Produces result (step M.rules machine line.now) }
+    ensures reply { Produces result (line_step M.rules machine line.now) }
     ensures memory { result ≡ Err take_errors.Memory
         → line_allocates M.rules machine line.now ≡ true }
 {

@@ -175,7 +175,8 @@ impl<R: Wait, G: Gate> StandingCrew<R, G> {
     fn run(&mut self, scene: &Scene, turn: usize, piles: &mut [Pile]) -> Result<(), CrewError>
         requires count { length piles.old ≤ length self.old.workers }
         requires islands { All (All (IsIslandOf scene.now)) piles.old }
-        ensures solved { OnOk result (piles.new ≡ map (map (island_after_tick scene.now)) piles.old) }
+        ensures solved { OnOk result
+            (piles.new ≡ map (map (island_after_tick scene.now)) piles.old) }
         ensures same { self.new ≡ self.old }
         ensures failed { IfErr result (IsStandingError G.ALWAYS) }
     {

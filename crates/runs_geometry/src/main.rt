@@ -7,8 +7,8 @@
 //!
 //! Or two lines are a pair of bodies, each `circle R X Y C S` or `box HX HY X Y C S`, of raw
 //! numbers; C and S are the cosine and sine of the body's rotation, as they are. The output is
-//! `apart` or `overlap`, by the bounds, a line `point FEATURE X Y NX NY SEPARATION` for each contact
-//! point, and `end`.
+//! `apart` or `overlap`, by the bounds, a line `point FEATURE X Y NX NY SEPARATION` for each
+//! contact point, and `end`.
 //!
 //! The stored run has thousands of operations, random ones and some at the ends of ranges, and 470
 //! pairs: random ones, and some of each kind of clipping, of each region of a box, and with

@@ -35,12 +35,12 @@
 //! what contacts have accumulated. A call that is refused prints `refused` and why.
 //!
 //! LIFE is `scoped` or `standing`. GATE is `open`; `meeting`, where each worker waits in each
-//! solve until each other worker has come; `counting`, as `meeting`, but open also where one did not
-//! come; `unwatched`, as `counting`, but the crew is told that nobody watches, so that its caller
-//! works too; `counted`, where nobody watches, and nobody waits; `shut WORKER TURN`, which is shut
-//! for this worker in this turn; or `shut-from WORKER TURN`, for this one and those of greater
-//! numbers. NOTED is `shut COUNT`, how often the gate should have been shut, and for each worker how
-//! often it came, and for how many turns. The open gate notes nothing.
+//! solve until each other worker has come; `counting`, as `meeting`, but open also where one did
+//! not come; `unwatched`, as `counting`, but the crew is told that nobody watches, so that its
+//! caller works too; `counted`, where nobody watches, and nobody waits; `shut WORKER TURN`, which
+//! is shut for this worker in this turn; or `shut-from WORKER TURN`, for this one and those of
+//! greater numbers. NOTED is `shut COUNT`, how often the gate should have been shut, and for each
+//! worker how often it came, and for how many turns. The open gate notes nothing.
 //!
 //! After each call stands a line `state N PLAYER BODIES COMMANDS REACHED SETTLED TICKS COLLIDES`:
 //! the last two are the counts of the peer's meter.

@@ -1,6 +1,6 @@
-//! Tests by public calls of what stands above the tick: links, sessions, keys and contexts, texts and
-//! the command line. They stand in a crate of their own, so that those crates are proved without
-//! them. What a stored run can show stands in those of `runs_peers` and `runs_texts`.
+//! Tests by public calls of what stands above the tick: links, sessions, keys and contexts, texts
+//! and the command line. They stand in a crate of their own, so that those crates are proved
+//! without them. What a stored run can show stands in those of `runs_peers` and `runs_texts`.
 #![tactic(auto)]
 
 #[cfg(test)]

@@ -2,7 +2,7 @@
 //! stand in the stored runs of `runs_texts` and `runs_peers`.
 
 ghost use Rattle.std.specs.Prelude.{◌≡◌};
-ghost use Rattle.pf_events.specs.Session.{other_peer_of, peer_of};
+ghost use Rattle.pf_events.specs.Session.{other_peer_of, event_peer};
 
 use pf_commands::Payload;
 use pf_peers::{Event, Reply, Session, run};
@@ -55,7 +55,7 @@ fn events_have_replies(rt: HostRuntime) -> Result<(), Fail> {
 
 /// Has a session answer an event on its first peer.
 fn answer_first(session: &mut Session, alloc: Global, event: Event) -> Result<(), Fail>
-    requires peer { peer_of event ≡ 0 }
+    requires peer { event_peer event ≡ 0 }
     requires other { other_peer_of event ≡ 0 }
 {
     if session.peer_count() == 0 {

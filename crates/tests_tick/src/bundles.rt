@@ -5,7 +5,7 @@ ghost use Rattle.std.specs.Prelude.{◌≡◌};
 
 use pf_bundles::{Bundle, LaneRow, laws};
 use pf_lanes::Lanes;
-use pf_levels::Pair;
+use pf_levels::RowPair;
 use pf_manifold::{ContactPoint, Touch};
 use pf_num::Fx;
 use pf_rot::V2;
@@ -60,10 +60,10 @@ fn entry(normal: V2) -> Entry {
 }
 
 /// A row of a static body and this one.
-fn ground(second: usize) -> Pair
+fn ground(second: usize) -> RowPair
     ensures { result ≡ record { first = Side.Static; second = Side.Dynamic second } }
 {
-    Pair {
+    RowPair {
         first: Side::Static,
         second: Side::Dynamic(second),
     }

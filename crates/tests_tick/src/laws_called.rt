@@ -1,5 +1,5 @@
-//! Each law of a tick is called once, and named limits are those of docs/FORMATS.md. Laws compute nothing:
-//! their clauses are the statements.
+//! Each law of a tick is called once, and named limits are those of docs/FORMATS.md. Laws compute
+//! nothing: their clauses are the statements.
 
 use pf_commands::{MAX_TICK, NUMBERS};
 use pf_num::Fx;

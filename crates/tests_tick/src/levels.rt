@@ -3,26 +3,26 @@
 ghost use Rattle.std.specs.Prelude.{◌≡◌, ◌≤◌, IfOk};
 ghost use Rattle.pf_levels.specs.Levels.{ArePairsOf};
 
-use pf_levels::{Level, Levels, Pair, laws};
+use pf_levels::{Level, Levels, RowPair, laws};
 use pf_rows::Side;
 use std::alloc::AllocError;
 use std::test::Fail;
 
 /// A row of two dynamic bodies.
-fn pair(first: usize, second: usize) -> Pair
+fn pair(first: usize, second: usize) -> RowPair
     ensures { result ≡ record { first = Side.Dynamic first; second = Side.Dynamic second } }
 {
-    Pair {
+    RowPair {
         first: Side::Dynamic(first),
         second: Side::Dynamic(second),
     }
 }
 
 /// A row of a static body and a dynamic one.
-fn ground(second: usize) -> Pair
+fn ground(second: usize) -> RowPair
     ensures { result ≡ record { first = Side.Static; second = Side.Dynamic second } }
 {
-    Pair {
+    RowPair {
         first: Side::Static,
         second: Side::Dynamic(second),
     }
@@ -40,7 +40,7 @@ fn are(levels: &[Level], expected: &[&[usize]]) -> bool {
 /// Finds the levels of pairs of bodies, and says whether they have rows at these places.
 fn are_found(
     levels: &mut Levels,
-    pairs: &[Pair],
+    pairs: &[RowPair],
     bodies: usize,
     expected: &[&[usize]],
 ) -> Result<bool, AllocError>
@@ -51,7 +51,7 @@ fn are_found(
 }
 
 /// Adds rows of a static body and these bodies.
-fn add_grounds(pairs: &mut Vec<Pair>, first: usize, end: usize) -> Result<(), AllocError>
+fn add_grounds(pairs: &mut Vec<RowPair>, first: usize, end: usize) -> Result<(), AllocError>
     requires end { end ≤ 19 }
     requires pairs { ArePairsOf 19 pairs.old.items }
     ensures { IfOk result (λ done. ArePairsOf 19 pairs.new.items) }
@@ -63,7 +63,7 @@ fn add_grounds(pairs: &mut Vec<Pair>, first: usize, end: usize) -> Result<(), Al
 }
 
 /// Whether rows go to the first level that has room for them.
-fn are_passed_over(levels: &mut Levels, pairs: &mut Vec<Pair>) -> Result<bool, AllocError>
+fn are_passed_over(levels: &mut Levels, pairs: &mut Vec<RowPair>) -> Result<bool, AllocError>
     requires { ArePairsOf 19 pairs.old.items }
 {
     add_grounds(pairs, 0, 13)?;

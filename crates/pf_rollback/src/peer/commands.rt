@@ -8,7 +8,7 @@ ghost use Rattle.pf_commands.specs.News.{news, put_outcome, is_change};
 ghost use Rattle.pf_commands.specs.declared.payload.Command.{Command};
 ghost use Rattle.pf_rollback.specs.Peer.{put, take, next_number, with_command, IsNextNumber, issue, merge_map, merge_sealed};
 ghost use Rattle.pf_rollback.specs.Core.{KeepsBefore, news_tick};
-ghost use Rattle.pf_rollback.specs.Calls.{Issues, Merges, MergesSealed, Puts, Takes};
+ghost use Rattle.pf_rollback.specs.Calls.{Issues, Merges, MergesSealed, Puts, TakesFrame};
 
 use crate::error::{PeerError, Refusal};
 use crate::peer::PeerCore;
@@ -68,7 +68,7 @@ impl PeerCore {
     /// Takes the command that a frame of bytes encodes, as [`PeerCore::put`] does. Returns an error
     /// where the bytes encode none.
     pub fn take(&mut self, frame: &[u8]) -> Result<Put, PeerError>
-        ensures { Takes (decode frame.now) self.old self.new result }
+        ensures { TakesFrame (decode frame.now) self.old self.new result }
     {
         match decode(frame) {
             Ok(command) => self.put(&command),

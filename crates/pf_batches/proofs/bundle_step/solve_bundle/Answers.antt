@@ -2,7 +2,7 @@ use Rattle.std.proofs.Common.{◌∙◌, ◌+◌, ap₂, arith, subst, sym}
 use Rattle.std.specs.Prelude.{All}
 use Rattle.pf_bundles.specs.Seats.{numbers_with_all, taken_seats}
 use Rattle.pf_bundles.proofs.Seats.{stored_taken}
-use Rattle.pf_batches.specs.Contact.{IsWithin}
+use Rattle.pf_batches.specs.Contact.{IsSeatWithin}
 use Rattle.pf_batches.specs.declared.bundle_step.TheConstants.{GROWTH}
 use Rattle.pf_batches.specs.Numbers.{AreAllWithin}
 use Rattle.pf_batches.proofs.AtOnce.{bundle_at_once}
@@ -25,4 +25,4 @@ returns-in-Some-clause-within g c = λ done.
     subst (AreAllWithin most) (sym (c.store.ensures.value ∙ stored_taken seats c.states.result c.args.numbers.now c.seats.ensures.first))
     (rows_within most (taken_seats seats) c.states.result c.args.numbers.now
     (all_within_more c.args.most most c.args.numbers.now (omega arith) c.requires.within)
-    (subst (λ states. All (IsWithin most) states) (sym c.states.ensures) (states_within most c.in-Some.after c.in-Some.ensures.size)))
+    (subst (λ states. All (IsSeatWithin most) states) (sym c.states.ensures) (states_within most c.in-Some.after c.in-Some.ensures.size)))

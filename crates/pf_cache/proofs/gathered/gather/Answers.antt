@@ -1,7 +1,7 @@
 use Rattle.std.proofs.Common.{rules, ◌≡◌, ◌+◌, ◌-◌, ◌∙◌, ◌++◌, ◌∷◌, [], ◌&&◌, ap, ap₂, length, map, refl, sym, arith}
 use Rattle.std.specs.Prelude.{not, is_some}
 use Rattle.pf_cache.specs.Gathered.{GatheredPoints}
-use Rattle.pf_cache.specs.Manifolds.{has_pair, points_of_pair}
+use Rattle.pf_cache.specs.Manifolds.{lists_pair, points_of_pair}
 use Rattle.pf_cache.specs.Spans.{Span, are_unmoved}
 use Rattle.pf_cache.proofs.Refreshing.{missing_more, missing_same}
 use Rattle.pf_cache.proofs.Spanned.{pairs_rise}
@@ -43,7 +43,7 @@ loop-pair-preserved c =
     let added : c.add.new.self.points ≡ c.loop-pair.points.points ++ points_of_pair shapes p =
     ap (λ (g : GatheredPoints). g.points) c.in_ok-add.ensures in
     let start_is : c.in_ok-start.start ≡ c.args.done.now.points + c.in_ok-before.before = search rules in
-    let test : c.is_none.result ≡ not (has_pair (map (λ (s : Span). s.pair) own) p && are_unmoved unmoved p) =
+    let test : c.is_none.result ≡ not (lists_pair (map (λ (s : Span). s.pair) own) p && are_unmoved unmoved p) =
     opposite _ _ c.is_none.ensures ∙ ap (λ o. not (is_some o)) c.unmoved_span-span.ensures
     ∙ ap not (kept_test shapes unmoved kept own p looked c.requires.kept bodies found) in
     record {

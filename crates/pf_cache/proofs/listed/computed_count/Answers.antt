@@ -1,6 +1,6 @@
 use Rattle.std.proofs.Common.{◌≡◌, ◌∙◌, ◌&&◌, ap, arith, map, refl, sym}
 use Rattle.std.specs.Prelude.{is_some, not}
-use Rattle.pf_cache.specs.Manifolds.{has_pair}
+use Rattle.pf_cache.specs.Manifolds.{lists_pair}
 use Rattle.pf_cache.specs.Spans.{Span, are_unmoved}
 use Rattle.pf_cache.proofs.Refreshing.{missing_more, missing_same}
 use Rattle.pf_cache.proofs.Spanned.{pairs_rise}
@@ -20,7 +20,7 @@ loop-pair-preserved c =
     let looked = c.span_of-span.result.0 in
     let found = looked_up own own pairs i c.loop-pair.place p p within c.pair-item.is refl c.loop-pair.invariant.behind
     looked c.span_of-span.ensures.span in
-    let test : c.is_none.result ≡ not (has_pair kept p && are_unmoved unmoved p) =
+    let test : c.is_none.result ≡ not (lists_pair kept p && are_unmoved unmoved p) =
     opposite _ _ c.is_none.ensures ∙ ap (λ o. not (is_some o)) c.unmoved_span.ensures
     ∙ ap not (reused_test unmoved own p looked c.requires.bodies
     (pair_at pairs i p c.requires.pairs within c.pair-item.is) found) in

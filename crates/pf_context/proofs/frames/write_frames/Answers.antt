@@ -3,7 +3,7 @@ use Rattle.std.specs.FinMap.{entries}
 use Rattle.std.specs.Map.Iter.{deref_pair}
 use Rattle.std.proofs.lemmas.List.{length-map, map-append}
 use Rattle.std.proofs.lemmas.Map.Iter.{iter_end, rest_so_far}
-use Rattle.pf_context.specs.Frames.{frame_of, later_commands}
+use Rattle.pf_context.specs.Frames.{command_frame, later_commands}
 use Rattle.pf_context.proofs.Buffers.{front_more}
 use Rattle.pf_context.proofs.Later.{allowed_between, later_before, later_more}
 use Rattle.pf_context.proofs.frames.write_frames.Goals as goal
@@ -45,11 +45,11 @@ loop-name-preserved-then-tick c =
     let before = later_before c.args.tick es done c.next.new.self e whole late in
     let more : later_commands c.args.tick (map deref_pair (c.loop-name.yielded ++ (c.in-Some.name, c.in-Some.payload) ∷ [])) ≡ front ++ e ∷ [] =
     ap (later_commands c.args.tick) (map-append deref_pair c.loop-name.yielded ((c.in-Some.name, c.in-Some.payload) ∷ [])) ∙ later_more c.args.tick done e late in
-    let long : length (map frame_of front) ≡ c.loop-name.place = length-map front frame_of ∙ sym c.loop-name.invariant.0 in
+    let long : length (map command_frame front) ≡ c.loop-name.place = length-map front command_frame ∙ sym c.loop-name.invariant.0 in
     let room : c.loop-name.place < length c.args.frames.now = omega (arith, before, c.requires.room, c.loop-name.invariant.0) in
-    let stored = front_more (map frame_of front) c.args.frames.now (frame_of e) c.loop-name.place long room in
-    let shown : map frame_of (front ++ e ∷ []) ≡ map frame_of front ++ frame_of e ∷ [] = map-append frame_of front (e ∷ []) in
-    let item : c.frame.result ≡ frame_of e = c.frame.ensures in (
+    let stored = front_more (map command_frame front) c.args.frames.now (command_frame e) c.loop-name.place long room in
+    let shown : map command_frame (front ++ e ∷ []) ≡ map command_frame front ++ command_frame e ∷ [] = map-append command_frame front (e ∷ []) in
+    let item : c.frame.result ≡ command_frame e = c.frame.ensures in (
       rw more (omega (arith, length-append front (e ∷ []), c.loop-name.invariant.0)),
       rw (more, shown, item, c.loop-name.invariant.1) stored,
     )

@@ -1,16 +1,16 @@
 use Rattle.std.proofs.Common.{rules, ◌≡◌, ◌∙◌, ◌≤◌, ◌++◌, ◌∷◌, [], Some, length, ap, get_or, subst, sym}
 use Rattle.std.proofs.lemmas.List.{get_or_default}
 use Rattle.std.specs.Prelude.{slice_get}
-use Rattle.pf_levels.specs.Levels.{IsPairOf, Pair}
+use Rattle.pf_levels.specs.Levels.{IsRowPairOf, RowPair}
 use Rattle.pf_levels.specs.SoFar.{next_level}
 use Rattle.pf_levels.proofs.Steps.{added, grown}
 use Rattle.pf_levels.proofs.packing.add_row.Goals as goal
 
 pub returns-clause-levels : goal.returns-clause-levels
 returns-clause-levels c = λ pairs at so_far.
-    let pair : Pair = record { first = c.pair.inside.first; second = c.pair.inside.second } in
+    let pair : RowPair = record { first = c.pair.inside.first; second = c.pair.inside.second } in
     let here : slice_get pairs c.args.place ≡ Some pair = at ∙ ap Some (sym c.pair.view_is) in
-    let fits : IsPairOf (length c.args.next.now) pair = subst (IsPairOf (length c.args.next.now)) (sym c.pair.view_is) c.requires.pair in
+    let fits : IsRowPairOf (length c.args.next.now) pair = subst (IsRowPairOf (length c.args.next.now)) (sym c.pair.view_is) c.requires.pair in
     let first : next_level c.args.next.now pair.first ≤ c.in_ok-number.number = search rules in
     let second : next_level c.args.next.now pair.second ≤ c.in_ok-number.number = search rules in
     let after = grown pairs c.args.place c.args.next.now c.args.levels.now.items c.level_with_room.new.levels.items (search rules) so_far in

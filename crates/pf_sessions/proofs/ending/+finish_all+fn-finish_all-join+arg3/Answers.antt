@@ -4,7 +4,7 @@ use Rattle.std.specs.Prelude.{IfOk}
 use Rattle.std.specs.List.{AllZip}
 use Rattle.pf_links.specs.declared.output.LinkOut.{LinkOut}
 use Rattle.pf_sessions.specs.Ending.{AreFinished, HasFinished}
-use Rattle.pf_sessions.specs.Links.{IsDelivered, rows_of}
+use Rattle.pf_sessions.specs.Links.{IsDelivered, table_rows}
 use Rattle.pf_sessions.specs.Rest.{KeepsHanded}
 use Rattle.pf_sessions.specs.declared.ending.Receiver.{Receiver}
 use Rattle.pf_sessions.proofs.Ends.{none_finished, one_finished}
@@ -14,7 +14,7 @@ use Rattle.pf_sessions.proofs.ending.+finish_all+fn-finish_all-join+arg3.Goals a
 pub returns-then-is_empty : goal.returns-then-is_empty
 returns-then-is_empty g t c =
     let none : length c.args.receivers.items ≡ 0 = search rules in
-    none_finished c.args.receivers.items (rows_of c.args.senders.items) none c.requires
+    none_finished c.args.receivers.items (table_rows c.args.senders.items) none c.requires
 
 pub returns : goal.returns
 returns g t c =
@@ -34,10 +34,10 @@ returns g t c =
     let ends = c.in_ok-receiver in
     let is = ends.was in
     let all_ends = c.in_ok-receivers in
-    let all = subst (λ r. IfOk r (λ (e : AllEnds). AreFinished others (rows_of other_rows) e.0.items (rows_of e.1.items))) all_ends.was c.join-finished.ensures.second in
+    let all = subst (λ r. IfOk r (λ (e : AllEnds). AreFinished others (table_rows other_rows) e.0.items (table_rows e.1.items))) all_ends.was c.join-finished.ensures.second in
     rw (c.in_ok-insert.ensures.items, c.in_ok-insert-2.ensures.items)
-    (one_finished receivers others receiver (rows_of rows) (rows_of other_rows) row.items ends.receiver all_ends.receivers.items ends.row.items
-    (rows_of all_ends.senders.items) first (ap rows_of first_row)
+    (one_finished receivers others receiver (table_rows rows) (table_rows other_rows) row.items ends.receiver all_ends.receivers.items ends.row.items
+    (table_rows all_ends.senders.items) first (ap table_rows first_row)
     (subst (λ r. IfOk r (λ (e : Ends). HasFinished receiver row.items e.0)) is one.0)
     (subst (λ r. IfOk r (λ (e : Ends). AllZip IsDelivered e.1.items e.0.inputs.items)) is one.1.0)
     (subst (λ r. IfOk r (λ (e : Ends). AllZip KeepsHanded row.items e.1.items)) is one.1.1)

@@ -1,5 +1,5 @@
 use Rattle.std.proofs.Common.{◌-◌, length}
-use Rattle.pf_links.specs.Link.{AreEnds, LeavesFrames, got, pushed}
+use Rattle.pf_links.specs.Link.{AreEnds, LeavesFrames, got, pushed_frames}
 use Rattle.pf_scripts.specs.Peer.{IsLater, fresh}
 use Rattle.pf_sessions.specs.Rest.{HasTaken}
 use Rattle.pf_sessions.proofs.rest.take_ring.Given as goal
@@ -13,4 +13,4 @@ invariant-loop-frame l = record {
 }
 
 abbrev pub decreases-loop-frame : goal.decreases-loop-frame
-decreases-loop-frame l = length (pushed l.sender) - length (got l.input)
+decreases-loop-frame l = length (pushed_frames l.sender) - length (got l.input)

@@ -5,7 +5,7 @@ use Rattle.std.proofs.lemmas.Result.{IfOk-weaker}
 use Rattle.pf_rollback.specs.Core.{PeerCore}
 use Rattle.pf_rollback.specs.Peer.{Peer}
 use Rattle.pf_events.specs.Crews.{IsCoreAt}
-use Rattle.pf_events.specs.Session.{NeedsNoMemory, Session, other_peer_of, other_peer_at, peer_at, peer_of}
+use Rattle.pf_events.specs.Session.{NeedsNoMemory, Session, other_peer_of, other_peer_at, peer_in, event_peer}
 use Rattle.pf_events.proofs.Crews.{uses_weaker}
 use Rattle.pf_events.proofs.Sessions.{AreCoresAfter, core_at, err_anyway, merged_cores, on_err, peer_answer_is, same_peers}
 use Rattle.pf_events.proofs.session.Session.answer_by.Goals as goal
@@ -46,7 +46,7 @@ invariant_of-self-then-other-peer g c =
 pub returns-in_err-merge_among-clause-no_memory : goal.returns-in_err-merge_among-clause-no_memory
 returns-in_err-merge_among-clause-no_memory g c = λ none.
     let s = c.args.self.now in
-    let needs : NeedsNoMemory s.scene (other_peer_at s c.args.event) (peer_at s (peer_of c.args.event)) c.args.event → IsOk c.merge_among.result =
+    let needs : NeedsNoMemory s.scene (other_peer_at s c.args.event) (peer_in s (event_peer c.args.event)) c.args.event → IsOk c.merge_among.result =
     rw (← c.self.view_is) (merged_err g c).no_memory in
     let ok : IsOk c.merge_among.result = needs none in
     let bad : false ≡ true = rw c.in_err-merge_among.was at ok in
@@ -67,19 +67,19 @@ returns-then-other-peer-clause-reply g c =
 
 -- the event is on one peer, whose core is at its place
 core_is : (g : _) (c : goal.After-self-2-1 g)
-    → (c.from.result ≡ peer_of c.args.event) × (peer_of c.args.event < length c.self.inside.cores.items)
-    × (c.index_mut-core.result.now ≡ get_or c.self.inside.cores.items (peer_of c.args.event) c.index_mut-core.result.now)
+    → (c.from.result ≡ event_peer c.args.event) × (event_peer c.args.event < length c.self.inside.cores.items)
+    × (c.index_mut-core.result.now ≡ get_or c.self.inside.cores.items (event_peer c.args.event) c.index_mut-core.result.now)
 core_is g c =
-    let at : c.from.result ≡ peer_of c.args.event = c.from.ensures ∙ c.peer-peer.ensures in
+    let at : c.from.result ≡ event_peer c.args.event = c.from.ensures ∙ c.peer-peer.ensures in
     let count : length c.args.self.now.peers ≡ length c.self.inside.cores.items =
     ap (λ (s : Session). length s.peers) (sym c.self.view_is) ∙ length-map c.self.inside.cores.items (λ (core : PeerCore). core.peer) in
-    let within : peer_of c.args.event < length c.self.inside.cores.items = omega (arith, count, c.requires.among.0) in
+    let within : event_peer c.args.event < length c.self.inside.cores.items = omega (arith, count, c.requires.among.0) in
     (at, within, c.index_mut-core.ensures.value ∙ ap (λ (i : ℕ). get_or c.self.inside.cores.items i c.index_mut-core.result.now) at)
 
 pub returns-clause-reply : goal.returns-clause-reply
 returns-clause-reply g c =
     let core = core_is g c in
-    let same : other_peer_of c.args.event ≡ peer_of c.args.event = sym c.other_peer-other.ensures ∙ c.if-other-peer.false ∙ c.peer-peer.ensures in
+    let same : other_peer_of c.args.event ≡ event_peer c.args.event = sym c.other_peer-other.ensures ∙ c.if-other-peer.false ∙ c.peer-peer.ensures in
     let old = c.index_mut-core.result.now in
     rw (← c.self.view_is, core.0) (IfOk-weaker c.answer_of_peer.result _ _
     (λ reply called. peer_answer_is c.self.inside.scene c.self.inside.cores.items c.args.event old old c.answer_of_peer.new.core reply core.1 core.2
@@ -92,14 +92,14 @@ returns-clause-err g c =
     let old = c.index_mut-core.result.now in
     let with_peers : List Peer → Session = λ ps. record { scene = c.self.inside.scene; peers = ps } in
     rw (← c.self.view_is, core.0) (on_err c.answer_of_peer.result _ _
-    (λ same. ap with_peers (same_peers c.self.inside.cores.items (peer_of c.args.event) old c.answer_of_peer.new.core core.2 same))
+    (λ same. ap with_peers (same_peers c.self.inside.cores.items (event_peer c.args.event) old c.answer_of_peer.new.core core.2 same))
     c.answer_of_peer.ensures.err)
 
 pub returns-clause-crew : goal.returns-clause-crew
 returns-clause-crew g c =
     let core = core_is g c in
     let old = c.index_mut-core.result.now in
-    let at : IsCoreAt c.args.self.now (peer_of c.args.event) old =
-    rw (← c.self.view_is) (core_at c.self.inside.scene c.self.inside.cores.items (peer_of c.args.event) old core.1 core.2 c.self.invariant.scenes) in
-    uses_weaker g.C.Crew.is_called g.C.Crew.may_fail (λ used. used ≡ old) (IsCoreAt c.args.self.now (peer_of c.args.event))
+    let at : IsCoreAt c.args.self.now (event_peer c.args.event) old =
+    rw (← c.self.view_is) (core_at c.self.inside.scene c.self.inside.cores.items (event_peer c.args.event) old core.1 core.2 c.self.invariant.scenes) in
+    uses_weaker g.C.Crew.is_called g.C.Crew.may_fail (λ used. used ≡ old) (IsCoreAt c.args.self.now (event_peer c.args.event))
     (λ used is. rw is at) c.args.event c.args.crew.now c.answer_of_peer.result c.answer_of_peer.new.crew c.answer_of_peer.ensures.crew

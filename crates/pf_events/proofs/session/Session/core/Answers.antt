@@ -5,14 +5,14 @@ use Rattle.pf_commands.specs.Merge.{CommandMap, IsCommandMap}
 use Rattle.pf_commands.specs.Ticks.{IsFrom}
 use Rattle.pf_rollback.specs.Core.{AreAllowed}
 use Rattle.pf_rollback.specs.Peer.{Peer}
-use Rattle.pf_events.specs.Session.{peer_at}
+use Rattle.pf_events.specs.Session.{peer_in}
 use Rattle.pf_events.proofs.session.Session.core.Goals as goal
 
 pub returns-clause-allowed : goal.returns-clause-allowed
 returns-clause-allowed c =
     let core = c.index-core.result.now in
     let s = c.args.self.now in
-    let peer : core.peer ≡ peer_at s c.args.peer = grind (arith, common_steps) in
+    let peer : core.peer ≡ peer_in s c.args.peer = grind (arith, common_steps) in
     let scene : core.scene ≡ s.scene = grind (arith, common_steps) in
     let commands = ap (λ (p : Peer). p.commands) peer in
     record {

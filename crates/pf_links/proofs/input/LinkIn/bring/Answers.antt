@@ -1,7 +1,7 @@
 use Rattle.std.proofs.Common.{◌<◌, ap, arith, length}
 use Rattle.std.proofs.lemmas.Bool.{true≢false}
 use Rattle.std.proofs.lemmas.List.{length-append}
-use Rattle.pf_links.specs.Link.{backlog_of, got, known, pushed}
+use Rattle.pf_links.specs.Link.{backlog_of, got, known, pushed_frames}
 use Rattle.pf_links.proofs.input.LinkIn.bring.Goals as goal
 
 -- a known frame was not got yet
@@ -16,7 +16,7 @@ returns-clause-end c = (
         arith,
         some,
         ap length all,
-        length-append (pushed out) (backlog_of out),
+        length-append (pushed_frames out) (backlog_of out),
         length-append (got c.args.self.now) (backlog_of out),
         ap length c.ready.ensures.rest,
         length-append (got seen) (known seen),

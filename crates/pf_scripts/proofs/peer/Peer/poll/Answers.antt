@@ -6,7 +6,7 @@ use Rattle.std.specs.Prelude.{IsSome, All, ◌<◌}
 use Rattle.pf_commands.specs.Merge.{IsCommand}
 use Rattle.pf_links.specs.Link.{SameIn, got, known}
 use Rattle.pf_scripts.specs.Frames.{commands_in, refused_count, with_frames}
-use Rattle.pf_scripts.specs.Peer.{kept_of, peer_of, setting_of}
+use Rattle.pf_scripts.specs.Peer.{kept_of, scripted_player, setting_of}
 use Rattle.pf_scripts.proofs.Polls.{ArePolled, later_none, later_one, nothing_polled, polled_more, polled_none, same_at, stops}
 use Rattle.pf_scripts.proofs.peer.Peer.poll.Goals as goal
 use Rattle.pf_scripts.proofs.peer.Peer.poll.Goals.{in-Some+in_ok-take_or_keep, in-Some-look+in_ok-take_or_keep-2, in_default, in_default-look}
@@ -26,10 +26,10 @@ loop-number-init c =
           let e = w.in_ok-take_or_keep.ensures in
           let start : kept_of old ≡ w.in-Some.frame ∷ [] = ap option_to_list w.in-Some.is in
           rw (w.self-is, w.polled-is) (record {
-            polled = subst (λ ls. ArePolled s (peer_of old) (kept_of old) olds 0 (peer_of w.take_or_keep.new.self) ls.items w.take_or_keep.new.polled)
+            polled = subst (λ ls. ArePolled s (scripted_player old) (kept_of old) olds 0 (scripted_player w.take_or_keep.new.self) ls.items w.take_or_keep.new.polled)
                 (sym e.inputs)
-                (polled_none s (peer_of old) (kept_of old) olds (peer_of w.take_or_keep.new.self) w.take_or_keep.new.polled
-                (e.peer ∙ ap (with_frames s (peer_of old)) (sym start))
+                (polled_none s (scripted_player old) (kept_of old) olds (scripted_player w.take_or_keep.new.self) w.take_or_keep.new.polled
+                (e.peer ∙ ap (with_frames s (scripted_player old)) (sym start))
                 (omega (arith, e.taken, ap length start))
                 (omega (arith, e.refused, ap (refused_count s) start))
                 (omega (arith, ap length start))
@@ -41,8 +41,8 @@ loop-number-init c =
       | in_default w ↦
           let start : kept_of old ≡ [] = ap option_to_list w.in_default.is in
           rw (w.self-is, w.polled-is) (record {
-            polled = polled_none s (peer_of old) (kept_of old) olds (peer_of old) (record { taken = 0; refused = 0 })
-                (sym (ap (with_frames s (peer_of old)) start))
+            polled = polled_none s (scripted_player old) (kept_of old) olds (scripted_player old) (record { taken = 0; refused = 0 })
+                (sym (ap (with_frames s (scripted_player old)) start))
                 (sym (ap length start))
                 (sym (ap (refused_count s) start))
                 (omega (arith, ap length start))
@@ -66,7 +66,7 @@ returns-in_err-take_or_keep-2-clause-polled c =
     let low : k < length olds = omega (arith, c.loop-number-test.true, many) in
     let at : c.index_mut.result.now ≡ get_or olds k l =
     c.index_mut.ensures.value ∙ get_or_default news k _ l (omega (arith, low, is.polled.long))
-    ∙ same_at (setting_of old) (peer_of old) (kept_of old) olds k news l low is.polled.long is.polled.rest in
+    ∙ same_at (setting_of old) (scripted_player old) (kept_of old) olds k news l low is.polled.long is.polled.rest in
     let later = later_one (get_or olds k l) l c.in-Some-look.frame (subst (λ x. SameIn x l) at c.look.ensures.same)
     (subst (λ x. got l ≡ got x ++ c.in-Some-look.frame ∷ []) at c.in-Some-look.ensures.some) in
     let e = c.in_err-take_or_keep-2.ensures in
@@ -91,7 +91,7 @@ loop-number-preserved c =
     let low : k < length olds = omega (arith, c.loop-number-test.true, many) in
     let at : c.index_mut.result.now ≡ get_or olds k l =
     c.index_mut.ensures.value ∙ get_or_default news k _ l (omega (arith, low, is.polled.long))
-    ∙ same_at s (peer_of old) (kept_of old) olds k news l low is.polled.long is.polled.rest in
+    ∙ same_at s (scripted_player old) (kept_of old) olds k news l low is.polled.long is.polled.rest in
     let same = subst (λ x. SameIn x l) at c.look.ensures.same in
     let seen = subst (λ x. 0 < length (known x) → IsSome c.look.result) at c.look.ensures.known in
     elim c.match-look.branch [
@@ -104,10 +104,10 @@ loop-number-preserved c =
           let came = sym later.1 in
           let inputs : set news k l ≡ new.inputs.items = search rules in
           rw (w.self-is, w.polled-is) (record {
-            polled = subst (λ ls. ArePolled s (peer_of old) (kept_of old) olds (k + 1) (peer_of new) ls counted) inputs
-                (polled_more s (peer_of old) (kept_of old) olds k (peer_of now) (peer_of new) news l c.loop-number.polled counted low is.polled later.0
+            polled = subst (λ ls. ArePolled s (scripted_player old) (kept_of old) olds (k + 1) (scripted_player new) ls counted) inputs
+                (polled_more s (scripted_player old) (kept_of old) olds k (scripted_player now) (scripted_player new) news l c.loop-number.polled counted low is.polled later.0
                 (λ some. ap length later.1)
-                (e.peer ∙ ap₂ (λ z fs. with_frames z (peer_of now) fs) is.setting came)
+                (e.peer ∙ ap₂ (λ z fs. with_frames z (scripted_player now) fs) is.setting came)
                 (omega (arith, e.taken, ap length later.1))
                 (e.refused ∙ ap₂ (λ z fs. c.loop-number.polled.refused + refused_count z fs) is.setting came)
                 (subst (λ fs. All IsCommand (commands_in s fs)) came (subst (λ z. All IsCommand (commands_in z (frame ∷ []))) is.setting e.ranges)));
@@ -119,9 +119,9 @@ loop-number-preserved c =
           let later = later_none (get_or olds k l) l same (subst (λ x. got l ≡ got x) at (w.in_default-look.ensures.none)) in
           let came = sym later.1 in
           rw (w.self-is, w.polled-is) (record {
-            polled = polled_more s (peer_of old) (kept_of old) olds k (peer_of now) (peer_of now) news l c.loop-number.polled c.loop-number.polled low is.polled later.0
+            polled = polled_more s (scripted_player old) (kept_of old) olds k (scripted_player now) (scripted_player now) news l c.loop-number.polled c.loop-number.polled low is.polled later.0
                 (λ some. absurd (true≢false (sym (subst IsSome w.in_default-look.is (seen some)))))
-                (ap (with_frames s (peer_of now)) came)
+                (ap (with_frames s (scripted_player now)) came)
                 (omega (arith, ap length later.1))
                 (omega (arith, ap (refused_count s) later.1))
                 (subst (λ fs. All IsCommand (commands_in s fs)) came (λ i d none. absurd (omega (arith, none))));

@@ -3,7 +3,7 @@ use Rattle.std.specs.Prelude.{All}
 use Rattle.pf_commands.specs.Merge.{IsCommand}
 use Rattle.pf_rollback.specs.Core.{PeerCore}
 use Rattle.pf_scripts.specs.Frames.{commands_in, core_setting}
-use Rattle.pf_scripts.specs.Peer.{kept_of, peer_of}
+use Rattle.pf_scripts.specs.Peer.{kept_of, scripted_player}
 use Rattle.pf_scripts.proofs.Steps.{moved_alone, setting_settled}
 use Rattle.pf_scripts.proofs.peer.Peer.settle.Goals as goal
 
@@ -15,7 +15,7 @@ invariant_of-self g c =
 
 pub returns-in-Ok-clause-moved : goal.returns-in-Ok-clause-moved
 returns-in-Ok-clause-moved g c =
-    let p = peer_of c.args.self.now in
+    let p = scripted_player c.args.self.now in
     let rest = c.in-Ok.ensures.settle.ok.rest in
     let stays : p.reached ≡ p.reached + 0 = omega arith in
     moved_alone c.args.self.now _ 0 (ap core_setting rest)

@@ -4,9 +4,9 @@ use Rattle.std.proofs.lemmas.Result.{err_from_is_err_and}
 use Rattle.std.specs.Prelude.{◌⊎◌, IfErr}
 use Rattle.pf_step.specs.declared.crew.CrewError.TheVariants.{OutOfMemory}
 use Rattle.pf_scripts.specs.Frames.{refusal_of}
-use Rattle.pf_scripts.specs.Peer.{peer_of, setting_of}
+use Rattle.pf_scripts.specs.Peer.{scripted_player, setting_of}
 use Rattle.pf_scripts.specs.Play.{HasMoved, IsPeerError}
-use Rattle.pf_scripts.specs.Script.{bytes_of, frame_fault, place_after}
+use Rattle.pf_scripts.specs.Script.{frame_bytes, frame_fault, place_after}
 use Rattle.pf_scripts.proofs.Faults.{bytes_at, fault_here, fault_later, frame_fault_end, place_after_end, place_later}
 use Rattle.pf_scripts.proofs.Moves.{moved_none, moved_then}
 use Rattle.pf_scripts.proofs.peer.Peer.take_all_own.Goals as goal
@@ -17,8 +17,8 @@ loop-number-init c = record { moved = moved_none c.args.self.now; place = refl; 
 pub returns-in_err-take_own-clause-fault : goal.returns-in_err-take_own-clause-fault
 returns-in_err-take_own-clause-fault c =
     let s = setting_of c.args.self.now in
-    let player = (peer_of c.args.self.now).player in
-    let all = bytes_of c.args.frames.now in
+    let player = (scripted_player c.args.self.now).player in
+    let all = frame_bytes c.args.frames.now in
     let n = c.loop-number.number in
     let is = c.loop-number.invariant in
     let frame = c.deref.result.now in
@@ -39,8 +39,8 @@ returns-in_err-take_own-clause-fault c =
 pub loop-number-preserved : goal.loop-number-preserved
 loop-number-preserved c =
     let s = setting_of c.args.self.now in
-    let player = (peer_of c.args.self.now).player in
-    let all = bytes_of c.args.frames.now in
+    let player = (scripted_player c.args.self.now).player in
+    let all = frame_bytes c.args.frames.now in
     let n = c.loop-number.number in
     let is = c.loop-number.invariant in
     let frame = c.deref.result.now in
@@ -61,7 +61,7 @@ loop-number-preserved c =
 
 pub returns-clause-place : goal.returns-clause-place
 returns-clause-place c =
-    let all = bytes_of c.args.frames.now in
+    let all = frame_bytes c.args.frames.now in
     let over : length c.args.frames.now ≤ c.loop-number.number = search rules in
     let none : drop c.loop-number.number all ≡ [] =
     drop_all c.loop-number.number all (omega (arith, over, length-map c.args.frames.now (λ (f : Vec ℕ Global). f.items))) in
@@ -70,8 +70,8 @@ returns-clause-place c =
 pub returns-clause-no_fault : goal.returns-clause-no_fault
 returns-clause-no_fault c =
     let s = setting_of c.args.self.now in
-    let player = (peer_of c.args.self.now).player in
-    let all = bytes_of c.args.frames.now in
+    let player = (scripted_player c.args.self.now).player in
+    let all = frame_bytes c.args.frames.now in
     let over : length c.args.frames.now ≤ c.loop-number.number = search rules in
     let none : drop c.loop-number.number all ≡ [] =
     drop_all c.loop-number.number all (omega (arith, over, length-map c.args.frames.now (λ (f : Vec ℕ Global). f.items))) in

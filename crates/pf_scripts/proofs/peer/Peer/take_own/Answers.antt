@@ -5,7 +5,7 @@ use Rattle.std.specs.Prelude.{All}
 use Rattle.pf_commands.specs.Merge.{IsCommand}
 use Rattle.pf_pool.proofs.Lists.{written_back}
 use Rattle.pf_scripts.specs.Frames.{commands_in}
-use Rattle.pf_scripts.specs.Peer.{WereHanded, kept_of, peer_of, setting_of}
+use Rattle.pf_scripts.specs.Peer.{WereHanded, kept_of, scripted_player, setting_of}
 use Rattle.pf_scripts.specs.declared.error.SessionError.TheVariants as errors
 use Rattle.pf_scripts.proofs.Faults.{frame_fault_here}
 use Rattle.pf_scripts.proofs.Steps.{moved_own}
@@ -19,7 +19,7 @@ invariant_of-self-in-Err c =
 pub returns-in-Ok-Some-clause-fault : goal.returns-in-Ok-Some-clause-fault
 returns-in-Ok-Some-clause-fault c =
     let p = c.args.self.now in
-    inr (frame_fault_here (setting_of p) (peer_of p).player c.args.place c.args.frame.now [] c.in-Ok-Some.refusal (sym c.in-Ok-Some.ensures.refusal ∙ c.in-Ok-Some.field-0-is)
+    inr (frame_fault_here (setting_of p) (scripted_player p).player c.args.place c.args.frame.now [] c.in-Ok-Some.refusal (sym c.in-Ok-Some.ensures.refusal ∙ c.in-Ok-Some.field-0-is)
     ∙ ap (λ player. Some (errors.Frame player c.args.place c.in-Ok-Some.refusal)) (sym c.player-player.ensures.value))
 
 pub returns-in-Ok-hand_to_all-clause-moved : goal.returns-in-Ok-hand_to_all-clause-moved
