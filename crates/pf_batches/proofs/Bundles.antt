@@ -38,36 +38,36 @@ read_holds P [] i d all here = here
 read_holds P (x ∷ xs) zero d all here = All-head P x xs all
 read_holds P (x ∷ xs) (suc i) d all here = read_holds P xs i d (All-tail P x xs all) here
 
-velocity_within : (most : ℕ) (velocities : List Velocity) (side : Side) → All (λ v. IsShort most v.velocity) velocities
-    → IsShort most (velocity_at velocities side).velocity
-velocity_within most velocities Static all = record { x = omega arith; y = omega arith }
-velocity_within most velocities (Dynamic place) all =
-    read_holds (λ (v : Velocity). IsShort most v.velocity) velocities place no_velocity all
+velocity_within : (limit : ℕ) (velocities : List Velocity) (side : Side) → All (λ v. IsShort limit v.velocity) velocities
+    → IsShort limit (velocity_at velocities side).velocity
+velocity_within limit velocities Static all = record { x = omega arith; y = omega arith }
+velocity_within limit velocities (Dynamic place) all =
+    read_holds (λ (v : Velocity). IsShort limit v.velocity) velocities place no_velocity all
     (record { x = omega arith; y = omega arith })
 
-pub seat_within : (most : ℕ) (n : Numbers) (o : Option Seat) → AreAllWithin most n → IsSeatWithin most (seat_state_or n o)
-seat_within most n None all = record {
+pub seat_within : (limit : ℕ) (n : Numbers) (o : Option Seat) → AreAllWithin limit n → IsSeatWithin limit (seat_state_or n o)
+seat_within limit n None all = record {
   first = record { x = omega arith; y = omega arith };
   second = record { x = omega arith; y = omega arith };
   normal = omega arith;
   tangent = omega arith;
 }
-seat_within most n (Some seat) all =
-    let pulls = read_holds (λ (p : Impulses). (unsigned_abs p.normal ≤ most) × (unsigned_abs p.tangent ≤ most))
+seat_within limit n (Some seat) all =
+    let pulls = read_holds (λ (p : Impulses). (unsigned_abs p.normal ≤ limit) × (unsigned_abs p.tangent ≤ limit))
     n.impulses seat.place no_impulses all.impulses (omega arith, omega arith) in
     record {
-      first = velocity_within most n.velocities seat.first all.velocities;
-      second = velocity_within most n.velocities seat.second all.velocities;
+      first = velocity_within limit n.velocities seat.first all.velocities;
+      second = velocity_within limit n.velocities seat.second all.velocities;
       normal = pulls.0;
       tangent = pulls.1;
     }
 
 -- so they are after a step that makes them greater by some number
-grown_within : (most by : ℕ) (p : PreparedLanes) (k : Lane) (before after : ContactLanes) (s : SeatState)
-    → seat_state_in k before ≡ s → IsSeatWithin most s → AreGrown by (state_in k p before) (state_in k p after)
-    → IsSeatWithin (most + by) (seat_state_in k after)
-grown_within most by p k before after s read within grown =
-    let h : IsSeatWithin most (seat_state_in k before) = subst (IsSeatWithin most) (sym read) within in
+grown_within : (limit by : ℕ) (p : PreparedLanes) (k : Lane) (before after : ContactLanes) (s : SeatState)
+    → seat_state_in k before ≡ s → IsSeatWithin limit s → AreGrown by (state_in k p before) (state_in k p after)
+    → IsSeatWithin (limit + by) (seat_state_in k after)
+grown_within limit by p k before after s read within grown =
+    let h : IsSeatWithin limit (seat_state_in k before) = subst (IsSeatWithin limit) (sym read) within in
     record {
       first = record { x = omega (arith, h.first.x, grown.first.x); y = omega (arith, h.first.y, grown.first.y) };
       second = record { x = omega (arith, h.second.x, grown.second.x); y = omega (arith, h.second.y, grown.second.y) };
@@ -75,14 +75,14 @@ grown_within most by p k before after s read within grown =
       tangent = omega (arith, h.tangent, grown.tangent);
     }
 
-pub all_grown_within : (most by : ℕ) (p : PreparedLanes) (n : Numbers) (seats : List Seat) (before : ContactLanes) (result : Option ContactLanes)
-    → AreAllWithin most n → ((k : Lane) → seat_state_in k before ≡ seat_state_or n (slice_get seats (lane_number k)))
+pub all_grown_within : (limit by : ℕ) (p : PreparedLanes) (n : Numbers) (seats : List Seat) (before : ContactLanes) (result : Option ContactLanes)
+    → AreAllWithin limit n → ((k : Lane) → seat_state_in k before ≡ seat_state_or n (slice_get seats (lane_number k)))
     → IfSome result (λ after. (k : Lane) → AreGrown by (state_in k p before) (state_in k p after))
-    → IfSome result (λ after. (k : Lane) → IsSeatWithin (most + by) (seat_state_in k after))
-all_grown_within most by p n seats before None all read grown = grown
-all_grown_within most by p n seats before (Some after) all read grown = λ k.
+    → IfSome result (λ after. (k : Lane) → IsSeatWithin (limit + by) (seat_state_in k after))
+all_grown_within limit by p n seats before None all read grown = grown
+all_grown_within limit by p n seats before (Some after) all read grown = λ k.
     let o = slice_get seats (lane_number k) in
-    grown_within most by p k before after (seat_state_or n o) (read k) (seat_within most n o all) (grown k)
+    grown_within limit by p k before after (seat_state_or n o) (read k) (seat_within limit n o all) (grown k)
 
 -- ---- rows that are stored one after the other
 
@@ -155,55 +155,55 @@ seats_stay before after seats many all = All-weaker (IsSeatIn before) (IsSeatIn 
 
 -- ---- how great the numbers are where rows are stored
 
-velocities_within : (most : ℕ) (velocities : List Velocity) (side : Side) (v : Velocity) → All (λ v. IsShort most v.velocity) velocities
-    → IsShort most v.velocity → All (λ v. IsShort most v.velocity) (with_velocity velocities side v)
-velocities_within most velocities Static v all here = all
-velocities_within most velocities (Dynamic place) v all here =
-    All-set (λ (v : Velocity). IsShort most v.velocity) velocities place v here all
+velocities_within : (limit : ℕ) (velocities : List Velocity) (side : Side) (v : Velocity) → All (λ v. IsShort limit v.velocity) velocities
+    → IsShort limit v.velocity → All (λ v. IsShort limit v.velocity) (with_velocity velocities side v)
+velocities_within limit velocities Static v all here = all
+velocities_within limit velocities (Dynamic place) v all here =
+    All-set (λ (v : Velocity). IsShort limit v.velocity) velocities place v here all
 
-row_within : (most : ℕ) (seat : Seat) (s : SeatState) (n : Numbers) → AreAllWithin most n → IsSeatWithin most s
-    → AreAllWithin most (numbers_with seat s n)
-row_within most seat s n all here = record {
+row_within : (limit : ℕ) (seat : Seat) (s : SeatState) (n : Numbers) → AreAllWithin limit n → IsSeatWithin limit s
+    → AreAllWithin limit (numbers_with seat s n)
+row_within limit seat s n all here = record {
   velocities =
-      velocities_within most (with_velocity n.velocities seat.first s.first) seat.second s.second
-      (velocities_within most n.velocities seat.first s.first all.velocities here.first) here.second;
+      velocities_within limit (with_velocity n.velocities seat.first s.first) seat.second s.second
+      (velocities_within limit n.velocities seat.first s.first all.velocities here.first) here.second;
   impulses =
-      All-set (λ (p : Impulses). (unsigned_abs p.normal ≤ most) × (unsigned_abs p.tangent ≤ most)) n.impulses seat.place s.impulses
+      All-set (λ (p : Impulses). (unsigned_abs p.normal ≤ limit) × (unsigned_abs p.tangent ≤ limit)) n.impulses seat.place s.impulses
       (here.normal, here.tangent) all.impulses;
 }
 
-pub rows_within : (most : ℕ) (seats : List Seat) (states : List SeatState) (n : Numbers) → AreAllWithin most n
-    → All (IsSeatWithin most) states → AreAllWithin most (numbers_with_all seats states n)
-rows_within most [] states n all here = all
-rows_within most (seat ∷ seats) [] n all here = all
-rows_within most (seat ∷ seats) (s ∷ states) n all here =
-    rows_within most seats states (numbers_with seat s n)
-    (row_within most seat s n all (All-head (IsSeatWithin most) s states here)) (All-tail (IsSeatWithin most) s states here)
+pub rows_within : (limit : ℕ) (seats : List Seat) (states : List SeatState) (n : Numbers) → AreAllWithin limit n
+    → All (IsSeatWithin limit) states → AreAllWithin limit (numbers_with_all seats states n)
+rows_within limit [] states n all here = all
+rows_within limit (seat ∷ seats) [] n all here = all
+rows_within limit (seat ∷ seats) (s ∷ states) n all here =
+    rows_within limit seats states (numbers_with seat s n)
+    (row_within limit seat s n all (All-head (IsSeatWithin limit) s states here)) (All-tail (IsSeatWithin limit) s states here)
 
 -- a greater limit
-pub all_within_more : (most more : ℕ) (n : Numbers) → most ≤ more → AreAllWithin most n → AreAllWithin more n
-all_within_more most more n h all = record {
+pub all_within_more : (limit more : ℕ) (n : Numbers) → limit ≤ more → AreAllWithin limit n → AreAllWithin more n
+all_within_more limit more n h all = record {
   velocities =
-      All-weaker (λ (v : Velocity). IsShort most v.velocity) (λ (v : Velocity). IsShort more v.velocity)
+      All-weaker (λ (v : Velocity). IsShort limit v.velocity) (λ (v : Velocity). IsShort more v.velocity)
       (λ v short. record { x = omega (arith, h, short.x); y = omega (arith, h, short.y) }) n.velocities all.velocities;
   impulses =
-      All-weaker (λ (p : Impulses). (unsigned_abs p.normal ≤ most) × (unsigned_abs p.tangent ≤ most))
+      All-weaker (λ (p : Impulses). (unsigned_abs p.normal ≤ limit) × (unsigned_abs p.tangent ≤ limit))
       (λ (p : Impulses). (unsigned_abs p.normal ≤ more) × (unsigned_abs p.tangent ≤ more))
       (λ p short. (omega (arith, h, short.0), omega (arith, h, short.1))) n.impulses all.impulses;
 }
 
 -- the states of four lanes
-pub states_within : (most : ℕ) (after : ContactLanes) → ((k : Lane) → IsSeatWithin most (seat_state_in k after))
-    → All (IsSeatWithin most) (seat_state_in First after ∷ seat_state_in Second after ∷ seat_state_in Third after ∷ seat_state_in Fourth after ∷ [])
-states_within most after each =
+pub states_within : (limit : ℕ) (after : ContactLanes) → ((k : Lane) → IsSeatWithin limit (seat_state_in k after))
+    → All (IsSeatWithin limit) (seat_state_in First after ∷ seat_state_in Second after ∷ seat_state_in Third after ∷ seat_state_in Fourth after ∷ [])
+states_within limit after each =
     let first = seat_state_in First after in
     let second = seat_state_in Second after in
     let third = seat_state_in Third after in
     let fourth = seat_state_in Fourth after in
-    All-cons (IsSeatWithin most) first (second ∷ third ∷ fourth ∷ []) (each First)
-    (All-cons (IsSeatWithin most) second (third ∷ fourth ∷ []) (each Second)
-    (All-cons (IsSeatWithin most) third (fourth ∷ []) (each Third)
-    (All-cons (IsSeatWithin most) fourth [] (each Fourth) (All-nil (IsSeatWithin most)))))
+    All-cons (IsSeatWithin limit) first (second ∷ third ∷ fourth ∷ []) (each First)
+    (All-cons (IsSeatWithin limit) second (third ∷ fourth ∷ []) (each Second)
+    (All-cons (IsSeatWithin limit) third (fourth ∷ []) (each Third)
+    (All-cons (IsSeatWithin limit) fourth [] (each Fourth) (All-nil (IsSeatWithin limit)))))
 
 -- what follows from what holds of a value, if there is one
 pub some_weaker : {A : Type 0} {P Q : A → Type 0} (o : Option A) → ((a : A) → P a → Q a) → IfSome o P → IfSome o Q

@@ -22,10 +22,10 @@ spin_products spin s arm h limit = record {
 }
 
 -- and so has an impulse
-pub exact_products : (spin most : ℤ) (n : ℕ) (c : Constraint) → unsigned_abs most ≡ 2 * unsigned_abs spin
-    → pos n ≤ℤ most → IsSpinLimit c (unsigned_abs spin)
+pub exact_products : (spin twice : ℤ) (n : ℕ) (c : Constraint) → unsigned_abs twice ≡ 2 * unsigned_abs spin
+    → pos n ≤ℤ twice → IsSpinLimit c (unsigned_abs spin)
     → HasShortProducts n c.first_arm × HasShortProducts n c.second_arm
-exact_products spin most n c e h limit =
+exact_products spin twice n c e h limit =
     let within : n ≤ 2 * unsigned_abs spin = omega (arith, ints, e, h) in (
       spin_products (unsigned_abs spin) n c.first_arm within limit.first_arm,
       spin_products (unsigned_abs spin) n c.second_arm within limit.second_arm,
@@ -132,7 +132,7 @@ spins_grown c m after impulse spin push pushes short e =
 ready : (c : Constraint) (m : ContactState) (spin : ℕ) → IsSmallConstraint c → IsSpinLimit c spin → SpinsWithin (2 * spin) m → IsReady c m
 ready c m spin small limit spins = record {
   small = small;
-  spins = record { first = omega (arith, spins.first, limit.most); second = omega (arith, spins.second, limit.most) };
+  spins = record { first = omega (arith, spins.first, limit.twice); second = omega (arith, spins.second, limit.twice) };
   first = spin_products spin (unsigned_abs m.first.spin) c.first_arm spins.first limit.first_arm;
   second = spin_products spin (unsigned_abs m.second.spin) c.second_arm spins.second limit.second_arm;
 }

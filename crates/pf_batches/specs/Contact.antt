@@ -71,8 +71,8 @@ state_of first_mass second_mass s = record {
 }
 
 -- velocities and accumulated impulses are at most this
-pub record IsSeatWithin (most : ℕ) (s : SeatState) : Type 0 where
-  pub first : IsShort most s.first.velocity
-  pub second : IsShort most s.second.velocity
-  pub normal : unsigned_abs s.impulses.normal ≤ most
-  pub tangent : unsigned_abs s.impulses.tangent ≤ most
+pub record IsSeatWithin (limit : ℕ) (s : SeatState) : Type 0 where
+  pub first : IsShort limit s.first.velocity
+  pub second : IsShort limit s.second.velocity
+  pub normal : unsigned_abs s.impulses.normal ≤ limit
+  pub tangent : unsigned_abs s.impulses.tangent ≤ limit

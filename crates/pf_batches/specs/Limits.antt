@@ -11,11 +11,11 @@ use Rattle.pf_bundles.specs.Limits.{HasShortProducts, IsSmallConstraint}
 use Rattle.pf_solver.specs.Impulse.{ContactState}
 
 -- the velocity of a body is at most this, and so are accumulated impulses
-pub record IsContactWithin (most : ℕ) (m : ContactState) : Type 0 where
-  pub first : IsShort most m.first.velocity
-  pub second : IsShort most m.second.velocity
-  pub normal : unsigned_abs m.impulses.normal ≤ most
-  pub tangent : unsigned_abs m.impulses.tangent ≤ most
+pub record IsContactWithin (limit : ℕ) (m : ContactState) : Type 0 where
+  pub first : IsShort limit m.first.velocity
+  pub second : IsShort limit m.second.velocity
+  pub normal : unsigned_abs m.impulses.normal ≤ limit
+  pub tangent : unsigned_abs m.impulses.tangent ≤ limit
 
 -- both spins of a contact are at most this
 pub record SpinsWithin (limit : ℕ) (m : ContactState) : Type 0 where
@@ -44,9 +44,9 @@ pub record IsImpulseExact (c : Constraint) (m : ContactState) (impulse : V2) : T
   pub second : IsExactOn m.second.mass c.second_arm impulse
 
 -- both velocities of a contact are at most this
-pub record AreShort (most : ℕ) (m : ContactState) : Type 0 where
-  pub first : IsShort most m.first.velocity
-  pub second : IsShort most m.second.velocity
+pub record AreShort (limit : ℕ) (m : ContactState) : Type 0 where
+  pub first : IsShort limit m.first.velocity
+  pub second : IsShort limit m.second.velocity
 
 -- how much greater an impulse makes spins
 pub record SpinsGrown (by : ℕ) (before after : ContactState) : Type 0 where
@@ -66,6 +66,6 @@ pub record AreGrown (by : ℕ) (before after : ContactState) : Type 0 where
   pub tangent : unsigned_abs after.impulses.tangent ≤ unsigned_abs before.impulses.tangent + by
 
 -- what is added to a number is small enough for doubles, and so is the sum
-pub record IsAddition (old added : ℤ) (most : ℕ) : Type 0 where
-  pub change : unsigned_abs added ≤ unsigned_abs old + most
-  pub total : unsigned_abs (sum old added) ≤ most
+pub record IsAddition (old added : ℤ) (limit : ℕ) : Type 0 where
+  pub change : unsigned_abs added ≤ unsigned_abs old + limit
+  pub total : unsigned_abs (sum old added) ≤ limit

@@ -77,10 +77,10 @@ seats_of (p ∷ places) [] = []
 seats_of (p ∷ places) (r ∷ rows) = seat_of p r ∷ seats_of places rows
 
 -- velocities and accumulated impulses are at most this
-pub record AreAllWithin (most : ℕ) (n : Numbers) : Type 0 where
-  pub velocities : All (λ v. IsShort most v.velocity) n.velocities
+pub record AreAllWithin (limit : ℕ) (n : Numbers) : Type 0 where
+  pub velocities : All (λ v. IsShort limit v.velocity) n.velocities
   pub impulses :
-      All (λ p. (unsigned_abs p.normal ≤ most) × (unsigned_abs p.tangent ≤ most)) n.impulses
+      All (λ p. (unsigned_abs p.normal ≤ limit) × (unsigned_abs p.tangent ≤ limit)) n.impulses
 
 -- the numbers of a contact
 abbrev pub seat_state_from : ContactState → SeatState

@@ -114,12 +114,12 @@ fn read(numbers: &Numbers, seats: &[LaneSeat; 4]) -> ContactLanes
     }
 }
 
-/// The numbers of a row after the step, by scalars; `None` where one is above `most`, or doubles do
-/// not hold a spin.
-fn exact_state<L: ContactStep>(row: &LaneRow, state: &SeatState, most: u64) -> Option<SeatState>
-    requires { most ≤ EXACT_LIMIT }
+/// The numbers of a row after the step, by scalars; `None` where one is above `limit`, or doubles
+/// do not hold a spin.
+fn exact_state<L: ContactStep>(row: &LaneRow, state: &SeatState, limit: u64) -> Option<SeatState>
+    requires { limit ≤ EXACT_LIMIT }
     ensures value { IfSome result (λ after. after ≡ lane_result L.step row.now state.now) }
-    ensures size { IfSome result (λ after. IsSeatWithin most after) }
+    ensures size { IfSome result (λ after. IsSeatWithin limit after) }
 {
     let prepared = row.prepared();
     let before = contact_of(state, prepared.first_mass(), prepared.second_mass());
@@ -127,7 +127,7 @@ fn exact_state<L: ContactStep>(row: &LaneRow, state: &SeatState, most: u64) -> O
         Some(after) => after,
         None => L::after(prepared.constraint(), &before),
     };
-    seat_state_of(&after, most)
+    seat_state_of(&after, limit)
 }
 
 /// The numbers of a lane after the step, by scalars; zeros where the lane has no row. `None` as in
@@ -136,25 +136,25 @@ fn exact_lane<L: ContactStep>(
     rows: &[LaneRow],
     seat: &LaneSeat,
     numbers: &Numbers,
-    most: u64,
+    limit: u64,
 ) -> Option<SeatState>
-    requires most { most ≤ EXACT_LIMIT }
+    requires limit { limit ≤ EXACT_LIMIT }
     requires seat { HasSeatIn numbers.now seat.now }
     requires row { IfSome seat.now (λ own. own.place < length rows.now) }
     ensures value { IfSome result (λ after. (own : Seat) → seat.now ≡ Some own
         → after ≡ lane_result L.step (slice_index_or rows.now own.place no_lane_row)
         (seat_state_at numbers.now own)) }
-    ensures size { IfSome result (λ after. IsSeatWithin most after) }
+    ensures size { IfSome result (λ after. IsSeatWithin limit after) }
 {
     let state = numbers.read(seat);
     match seat.place() {
-        Some(place) => exact_state::<L>(&rows[place], &state, most),
+        Some(place) => exact_state::<L>(&rows[place], &state, limit),
         None => Some(state),
     }
 }
 
 /// The contacts of a bundle after the step, each by scalars; `None` where a number of one is above
-/// `most`, or doubles do not hold a spin.
+/// `limit`, or doubles do not hold a spin.
 #[cold]
 #[inline(never)]
 #[tactic(auto, using(pf_bundles::proofs::Seats::has_seat))]
@@ -162,9 +162,9 @@ fn after_exact<L: ContactStep>(
     rows: &[LaneRow],
     seats: &[LaneSeat; 4],
     numbers: &Numbers,
-    most: u64,
+    limit: u64,
 ) -> Option<ContactLanes>
-    requires most { most ≤ EXACT_LIMIT }
+    requires limit { limit ≤ EXACT_LIMIT }
     requires first { AreFirst seats.now }
     requires seats { All (IsSeatIn numbers.now) (taken_seats seats.now) }
     requires rows { All (λ seat. seat.place < length rows.now) (taken_seats seats.now) }
@@ -172,13 +172,14 @@ fn after_exact<L: ContactStep>(
         → lane_seat k seats.now ≡ Some seat → seat_state_in k after
         ≡ lane_result L.step (slice_index_or rows.now seat.place no_lane_row)
         (seat_state_at numbers.now seat)) }
-    ensures size { IfSome result (λ after. (k : Lane) → IsSeatWithin most (seat_state_in k after)) }
+    ensures size { IfSome result
+        (λ after. (k : Lane) → IsSeatWithin limit (seat_state_in k after)) }
 {
     let [a, b, c, d] = seats;
-    let first = exact_lane::<L>(rows, a, numbers, most)?;
-    let second = exact_lane::<L>(rows, b, numbers, most)?;
-    let third = exact_lane::<L>(rows, c, numbers, most)?;
-    let fourth = exact_lane::<L>(rows, d, numbers, most)?;
+    let first = exact_lane::<L>(rows, a, numbers, limit)?;
+    let second = exact_lane::<L>(rows, b, numbers, limit)?;
+    let third = exact_lane::<L>(rows, c, numbers, limit)?;
+    let fourth = exact_lane::<L>(rows, d, numbers, limit)?;
     Some(ContactLanes::of(&first, &second, &third, &fourth))
 }
 
@@ -188,71 +189,71 @@ fn after_fast<L: LaneStep>(
     prepared: &PreparedLanes,
     seats: &[LaneSeat; 4],
     numbers: &Numbers,
-    most: u64,
+    limit: u64,
 ) -> Option<ContactLanes>
-    requires most { most ≤ NUMBER_LIMIT }
+    requires limit { limit ≤ NUMBER_LIMIT }
     requires first { AreFirst seats.now }
     requires seats { All (IsSeatIn numbers.now) (taken_seats seats.now) }
-    requires within { AreAllWithin most numbers.now }
+    requires within { AreAllWithin limit numbers.now }
     ensures value { IfSome result (λ after. (k : Lane) (seat : Seat)
         → lane_seat k seats.now ≡ Some seat → seat_state_in k after
         ≡ lane_result L.step (lane_row_in k prepared.now) (seat_state_at numbers.now seat)) }
     ensures size { IfSome result (λ after. (k : Lane)
-        → IsSeatWithin (most + GROWTH) (seat_state_in k after)) }
+        → IsSeatWithin (limit + GROWTH) (seat_state_in k after)) }
 {
     let state = read(numbers, seats);
     L::after_lanes(prepared, &state)
 }
 
 /// The contacts of a bundle after the step: in lanes, or else each by scalars; `None` where a
-/// number is then above `most` by more than [`GROWTH`], or doubles do not hold a spin.
+/// number is then above `limit` by more than [`GROWTH`], or doubles do not hold a spin.
 #[inline(always)]
 fn after_step<L: LaneStep>(
     bundle: &Bundle,
     rows: &[LaneRow],
     numbers: &Numbers,
-    most: u64,
+    limit: u64,
 ) -> Option<ContactLanes>
-    requires most { most ≤ NUMBER_LIMIT }
+    requires limit { limit ≤ NUMBER_LIMIT }
     requires seats { All (IsSeatIn numbers.now) bundle.now.seats }
     requires rows { All (λ seat. seat.place < length rows.now) bundle.now.seats }
     requires held { (k : Lane) → HoldsSeatRow rows.now bundle.now.seats bundle.now.prepared k }
-    requires within { AreAllWithin most numbers.now }
+    requires within { AreAllWithin limit numbers.now }
     ensures value { IfSome result (λ after. (k : Lane) (seat : Seat)
         → slice_get bundle.now.seats (lane_number k) ≡ Some seat → seat_state_in k after
         ≡ lane_result L.step (slice_index_or rows.now seat.place no_lane_row)
         (seat_state_at numbers.now seat)) }
     ensures size { IfSome result (λ after. (k : Lane)
-        → IsSeatWithin (most + GROWTH) (seat_state_in k after)) }
+        → IsSeatWithin (limit + GROWTH) (seat_state_in k after)) }
 {
     let seats = bundle.seats();
-    match after_fast::<L>(bundle.prepared(), seats, numbers, most) {
+    match after_fast::<L>(bundle.prepared(), seats, numbers, limit) {
         Some(after) => Some(after),
-        None => after_exact::<L>(rows, seats, numbers, most + GROWTH),
+        None => after_exact::<L>(rows, seats, numbers, limit + GROWTH),
     }
 }
 
 /// The step of the rows of a bundle, all of them by the numbers as they were before; `false` where
-/// a number is then above `most` by more than [`GROWTH`], or doubles do not hold a spin.
+/// a number is then above `limit` by more than [`GROWTH`], or doubles do not hold a spin.
 #[inline(always)]
 pub(crate) fn solve_bundle<L: LaneStep>(
     bundle: &Bundle,
     rows: &[LaneRow],
     numbers: &mut Numbers,
-    most: u64,
+    limit: u64,
 ) -> bool
-    requires most { most ≤ NUMBER_LIMIT }
+    requires limit { limit ≤ NUMBER_LIMIT }
     requires seats { All (IsSeatIn numbers.old) bundle.now.seats }
     requires rows { All (λ seat. seat.place < length rows.now) bundle.now.seats }
     requires held { (k : Lane) → HoldsSeatRow rows.now bundle.now.seats bundle.now.prepared k }
-    requires within { AreAllWithin most numbers.old }
+    requires within { AreAllWithin limit numbers.old }
     ensures value { IsTrue result → (b : Batch) (level : List ℕ) → AreNumbersOf b numbers.old
         → AreSeatsOf b.rows level bundle.now.seats → HoldEach rows.now b.rows
         → numbers.new ≡ numbers_at_once level L.step b.rows numbers.old }
-    ensures within { IsTrue result → AreAllWithin (most + GROWTH) numbers.new }
+    ensures within { IsTrue result → AreAllWithin (limit + GROWTH) numbers.new }
     ensures many { AreAsMany numbers.old numbers.new }
 {
-    match after_step::<L>(bundle, rows, numbers, most) {
+    match after_step::<L>(bundle, rows, numbers, limit) {
         Some(after) => {
             numbers.store(bundle.seats(), &after.states());
             true

@@ -5,7 +5,7 @@ ghost use Rattle.pf_lanes.specs.Lanes.{First, Fourth, Second, Third};
 ghost use Rattle.pf_batches.specs.Contact.{impulses_in_lane, velocity_in_lane};
 
 use pf_bundles::{SeatState, VectorLanes, WholeImpulses, WholeVector, WholeVelocity};
-use pf_lanes::{Lanes, Raised};
+use pf_lanes::{Lanes, ShiftedLanes};
 use std::marker::Model;
 
 /// The velocities and the angular velocities of bodies side by side.
@@ -31,11 +31,11 @@ impl Model for MotionLanes {
 #[derive(Clone, Copy)]
 pub(crate) struct MotionChange {
     /// The changes of the velocities along the x axis.
-    pub x: Raised,
+    pub x: ShiftedLanes,
     /// Along the y axis.
-    pub y: Raised,
+    pub y: ShiftedLanes,
     /// The changes of the angular velocities.
-    pub spin: Raised,
+    pub spin: ShiftedLanes,
 }
 
 impl Model for MotionChange {

@@ -18,7 +18,7 @@ use pf_bundles::limits::{
     QUARTER_ARM_SPIN,
 };
 use pf_bundles::{MassLanes, PreparedLanes, ScaledVectors, VectorLanes};
-use pf_lanes::{Lanes, Raised, Scaled};
+use pf_lanes::{Lanes, Scaled, ShiftedLanes};
 
 /// Whether the spins are within the limits of the lanes.
 #[inline(always)]
@@ -56,7 +56,7 @@ fn product_differences(a: Lanes, b: Scaled, c: Lanes, d: Scaled) -> Lanes
         (product (number_in k a) (number_in k b)) (product (number_in k c) (number_in k d)) }
     ensures size { (k : Lane) → unsigned_abs (number_in k result) ≤ 2 ^ 30 }
 {
-    a.raised_product(b).minus(c.raised_product(d))
+    a.shifted_product(b).minus(c.shifted_product(d))
 }
 
 /// The velocities of points of second bodies along an axis, as seen from the points of first
@@ -117,8 +117,8 @@ pub(crate) fn speed_along(velocity: &VectorLanes, direction: &ScaledVectors) -> 
     ensures size { (k : Lane) → unsigned_abs (number_in k result) ≤ 2 ^ 30 }
 {
     let (x, y) = (velocity.x, velocity.y);
-    x.raised_product(direction.x)
-        .minus(y.raised_opposite(direction.y))
+    x.shifted_product(direction.x)
+        .minus(y.shifted_opposite(direction.y))
 }
 
 /// A component of an impulse along each direction.
@@ -179,14 +179,14 @@ pub(crate) fn times(factors: Scaled, numbers: Lanes) -> Lanes
 /// Factors times numbers, for a sum or a difference.
 #[inline(always)]
 #[tactic(auto, using(pf_num::proofs::Operations::product_comm))]
-fn raised_times(factors: Scaled, numbers: Lanes) -> Raised
+fn shifted_times(factors: Scaled, numbers: Lanes) -> ShiftedLanes
     requires { (k : Lane)
         → unsigned_abs (number_in k numbers) * unsigned_abs (number_in k factors) < PRODUCT_LIMIT }
     ensures value { (k : Lane) → number_in k result
         ≡ product (number_in k factors) (number_in k numbers) }
     ensures size { (k : Lane) → unsigned_abs (number_in k result) ≤ 2 ^ 29 }
 {
-    numbers.raised_product(factors)
+    numbers.shifted_product(factors)
 }
 
 /// How impulses at these arms turn bodies.
@@ -201,7 +201,7 @@ fn turn_of(arm: &ScaledVectors, impulse: &VectorLanes) -> Lanes
         ≡ cross (vector_in k arm.now) (vector_in k impulse.now) }
 {
     let (x, y) = (impulse.x, impulse.y);
-    raised_times(arm.x, y).minus(raised_times(arm.y, x))
+    shifted_times(arm.x, y).minus(shifted_times(arm.y, x))
 }
 
 /// What impulses change of bodies of these masses, which they turn so.
@@ -220,9 +220,9 @@ fn changes(mass: &MassLanes, impulse: &VectorLanes, turn: Lanes) -> MotionChange
         ≡ product (number_in k mass.now.inverse_inertia) (number_in k turn) }
 {
     MotionChange {
-        x: raised_times(mass.inverse_mass, impulse.x),
-        y: raised_times(mass.inverse_mass, impulse.y),
-        spin: raised_times(mass.inverse_inertia, turn),
+        x: shifted_times(mass.inverse_mass, impulse.x),
+        y: shifted_times(mass.inverse_mass, impulse.y),
+        spin: shifted_times(mass.inverse_inertia, turn),
     }
 }
 
@@ -244,10 +244,10 @@ fn second_after(body: &MotionLanes, change: MotionChange) -> MotionLanes
     let spin = body.spin;
     MotionLanes {
         velocity: VectorLanes {
-            x: velocity.x.plus_raised(change.x),
-            y: velocity.y.plus_raised(change.y),
+            x: velocity.x.plus_shifted(change.x),
+            y: velocity.y.plus_shifted(change.y),
         },
-        spin: spin.plus_raised(change.spin),
+        spin: spin.plus_shifted(change.spin),
     }
 }
 
@@ -269,10 +269,10 @@ fn first_after(body: &MotionLanes, change: MotionChange) -> MotionLanes
     let spin = body.spin;
     MotionLanes {
         velocity: VectorLanes {
-            x: velocity.x.minus_raised(change.x),
-            y: velocity.y.minus_raised(change.y),
+            x: velocity.x.minus_shifted(change.x),
+            y: velocity.y.minus_shifted(change.y),
         },
-        spin: spin.minus_raised(change.spin),
+        spin: spin.minus_shifted(change.spin),
     }
 }
 

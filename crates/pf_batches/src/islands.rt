@@ -98,23 +98,23 @@ pub(crate) fn load_rows(islands: &[Island], lanes: &mut Vec<LaneRow>) -> Result<
     Ok(true)
 }
 
-/// Adds the velocities of bodies. Returns `false` where one is above `most`, or doubles do not hold
-/// a spin.
+/// Adds the velocities of bodies. Returns `false` where one is above `limit`, or doubles do not
+/// hold a spin.
 fn add_velocities(
     bodies: &[BodyState],
-    most: u64,
+    limit: u64,
     numbers: &mut Numbers,
 ) -> Result<bool, AllocError>
-    requires { most ≤ EXACT_LIMIT }
+    requires { limit ≤ EXACT_LIMIT }
     ensures value { IfOk result (λ all. IsTrue all
         → numbers.new.velocities ≡ numbers.old.velocities ++ map velocity_of bodies.now) }
     ensures size { IfOk result (λ all. IsTrue all
-        → All (λ v. IsShort most v.velocity) numbers.old.velocities
-        → All (λ v. IsShort most v.velocity) numbers.new.velocities) }
+        → All (λ v. IsShort limit v.velocity) numbers.old.velocities
+        → All (λ v. IsShort limit v.velocity) numbers.new.velocities) }
     ensures impulses { IfOk result (λ all. numbers.new.impulses ≡ numbers.old.impulses) }
 {
     for body in bodies {
-        match WholeVelocity::of(body.velocity, body.spin, most) {
+        match WholeVelocity::of(body.velocity, body.spin, limit) {
             Some(velocity) => numbers.push_velocity(velocity)?,
             None => return Ok(false),
         }
@@ -122,20 +122,20 @@ fn add_velocities(
     Ok(true)
 }
 
-/// Adds the accumulated impulses of rows. Returns `false` where one is above `most`.
-fn add_impulses(rows: &[Row], most: u64, numbers: &mut Numbers) -> Result<bool, AllocError>
-    requires { most ≤ EXACT_LIMIT }
+/// Adds the accumulated impulses of rows. Returns `false` where one is above `limit`.
+fn add_impulses(rows: &[Row], limit: u64, numbers: &mut Numbers) -> Result<bool, AllocError>
+    requires { limit ≤ EXACT_LIMIT }
     ensures value { IfOk result (λ all. IsTrue all
         → numbers.new.impulses ≡ numbers.old.impulses ++ map (λ r. r.entry.impulses) rows.now) }
     ensures size { IfOk result (λ all. IsTrue all
-        → All (λ p. (unsigned_abs p.normal ≤ most) × (unsigned_abs p.tangent ≤ most))
+        → All (λ p. (unsigned_abs p.normal ≤ limit) × (unsigned_abs p.tangent ≤ limit))
         numbers.old.impulses
-        → All (λ p. (unsigned_abs p.normal ≤ most) × (unsigned_abs p.tangent ≤ most))
+        → All (λ p. (unsigned_abs p.normal ≤ limit) × (unsigned_abs p.tangent ≤ limit))
         numbers.new.impulses) }
     ensures velocities { IfOk result (λ all. numbers.new.velocities ≡ numbers.old.velocities) }
 {
     for row in rows {
-        match WholeImpulses::of(&row.entry.impulses, most) {
+        match WholeImpulses::of(&row.entry.impulses, limit) {
             Some(whole) => numbers.push_impulses(whole)?,
             None => return Ok(false),
         }
@@ -144,23 +144,23 @@ fn add_impulses(rows: &[Row], most: u64, numbers: &mut Numbers) -> Result<bool, 
 }
 
 /// Loads the velocities and the accumulated impulses of islands side by side. Returns `false` where
-/// one is above `most`, or doubles do not hold a spin.
+/// one is above `limit`, or doubles do not hold a spin.
 pub(crate) fn load_numbers(
     islands: &[Island],
     numbers: &mut Numbers,
-    most: u64,
+    limit: u64,
 ) -> Result<bool, AllocError>
-    requires { most ≤ EXACT_LIMIT }
+    requires { limit ≤ EXACT_LIMIT }
     ensures value { IfOk result (λ all. IsTrue all
         → numbers.new ≡ batch_numbers (batch_of islands.now)) }
-    ensures size { IfOk result (λ all. IsTrue all → AreAllWithin most numbers.new) }
+    ensures size { IfOk result (λ all. IsTrue all → AreAllWithin limit numbers.new) }
 {
     numbers.clear();
     for island in islands {
-        if !add_velocities(island.bodies.as_slice(), most, numbers)? {
+        if !add_velocities(island.bodies.as_slice(), limit, numbers)? {
             return Ok(false);
         }
-        if !add_impulses(island.rows.as_slice(), most, numbers)? {
+        if !add_impulses(island.rows.as_slice(), limit, numbers)? {
             return Ok(false);
         }
     }

@@ -9,8 +9,8 @@ ghost use Rattle.pf_solver.specs.Velocities.{Batch, Step, passes};
 ghost use Rattle.pf_bundles.specs.Numbers.{Numbers};
 ghost use Rattle.pf_batches.specs.Numbers.{AreNumbersOf, AreResults, AreRowsOfPlaces, numbered_batch, numbers_after_all, numbers_in_levels, seats_of};
 
+use crate::batch::START_LIMIT;
 use crate::bundle_step::GROWTH;
-use crate::together::START_LIMIT;
 
 /// Velocities and accumulated impulses may be held in two lists of their own while rows are solved
 /// level by level. Where each row of a level is read from the lists as they were before the level,

@@ -3,6 +3,7 @@
 //! one row after the other.
 #![tactic(auto)]
 
+mod batch;
 mod bundle_step;
 mod contact;
 mod impulse;
@@ -11,8 +12,7 @@ pub mod laws;
 mod passes;
 mod round;
 mod seat_state;
-mod together;
 mod warm_start;
 
+pub use batch::{START_LIMIT, solve_islands};
 pub use bundle_step::GROWTH;
-pub use together::{START_LIMIT, solve_islands};

@@ -15,7 +15,7 @@ use pf_bundles::limits::NUMBER_LIMIT;
 use pf_bundles::{Bundle, LaneRow, Numbers};
 use pf_solver::{ROUNDS, Round, WarmStart};
 
-/// The step of each bundle, one after the other. Before it no number is above `most`. Returns what
+/// The step of each bundle, one after the other. Before it no number is above `limit`. Returns what
 /// no number is above after it, or `None` where that is too great, as after 2^19 steps of bundles
 /// in all, or where a number becomes too great.
 #[inline(never)]
@@ -23,27 +23,27 @@ fn solve_bundles<L: LaneStep>(
     bundles: &[Bundle],
     rows: &[LaneRow],
     numbers: &mut Numbers,
-    most: u64,
+    limit: u64,
 ) -> Option<u64>
     requires bundles { All (IsBundleOn rows.now numbers.old) bundles.now }
-    requires within { AreAllWithin most numbers.old }
+    requires within { AreAllWithin limit numbers.old }
     ensures value { IfSome result (λ more. (b after : Batch) (levels : List (List ℕ))
         → AreBundlesFor b levels rows.now bundles.now → AreNumbersAfter b after numbers.old
         → AreNumbersAfter b (solved_by_levels levels L.step after) numbers.new) }
     ensures within { IfSome result (λ more. AreAllWithin more numbers.new) }
     ensures many { AreAsMany numbers.old numbers.new }
 {
-    let mut most = most;
+    let mut limit = limit;
     for bundle in bundles {
-        if most > NUMBER_LIMIT || !solve_bundle::<L>(bundle, rows, numbers, most) {
+        if limit > NUMBER_LIMIT || !solve_bundle::<L>(bundle, rows, numbers, limit) {
             return None;
         }
-        most += GROWTH;
+        limit += GROWTH;
     }
-    Some(most)
+    Some(limit)
 }
 
-/// All rounds, after a warm start that left the numbers at most `most`: the early levels of the
+/// All rounds, after a warm start that left the numbers at most `limit`: the early levels of the
 /// first round, then nine times the levels across two rounds, and the late levels of the last
 /// round. `false` where numbers become too great.
 fn rounds(
@@ -52,12 +52,12 @@ fn rounds(
     late_bundles: &[Bundle],
     rows: &[LaneRow],
     numbers: &mut Numbers,
-    most: u64,
+    limit: u64,
 ) -> bool
     requires first { All (IsBundleOn rows.now numbers.old) early_bundles.now }
     requires across { All (IsBundleOn rows.now numbers.old) overlap_bundles.now }
     requires last { All (IsBundleOn rows.now numbers.old) late_bundles.now }
-    requires within { AreAllWithin most numbers.old }
+    requires within { AreAllWithin limit numbers.old }
     ensures { IsTrue result → (b after : Batch) (first across last : List (List ℕ))
         → AreBundlesFor b first rows.now early_bundles.now
         → AreBundlesFor b across rows.now overlap_bundles.now
@@ -66,17 +66,17 @@ fn rounds(
         → AreNumbersAfter b
         (after_overlapping_passes (ROUNDS - 1) first across last after_round after) numbers.new }
 {
-    let mut most = match solve_bundles::<Round>(early_bundles, rows, numbers, most) {
+    let mut limit = match solve_bundles::<Round>(early_bundles, rows, numbers, limit) {
         Some(more) => more,
         None => return false,
     };
     for _round in 0..ROUNDS - 1 {
-        match solve_bundles::<Round>(overlap_bundles, rows, numbers, most) {
-            Some(more) => most = more,
+        match solve_bundles::<Round>(overlap_bundles, rows, numbers, limit) {
+            Some(more) => limit = more,
             None => return false,
         }
     }
-    match solve_bundles::<Round>(late_bundles, rows, numbers, most) {
+    match solve_bundles::<Round>(late_bundles, rows, numbers, limit) {
         Some(_) => true,
         None => false,
     }
@@ -92,12 +92,12 @@ pub(crate) fn solve_numbers(
     overlap_bundles: &[Bundle],
     rows: &[LaneRow],
     numbers: &mut Numbers,
-    most: u64,
+    limit: u64,
 ) -> bool
     requires bundles { All (IsBundleOn rows.now numbers.old) bundles.now }
     requires early_levels { early_levels ≤ length bundles.now }
     requires overlap_bundles { All (IsBundleOn rows.now numbers.old) overlap_bundles.now }
-    requires within { AreAllWithin most numbers.old }
+    requires within { AreAllWithin limit numbers.old }
     ensures value { IsTrue result → (b : Batch) (levels across : List (List ℕ))
         → AreLevelsOf b levels
         → DoLateAndEarly (map pair_of b.rows) (take early_levels levels)
@@ -110,7 +110,7 @@ pub(crate) fn solve_numbers(
         → AreBundlesFor b across rows.now overlap_bundles.now
         → numbers.old ≡ batch_numbers b → AreNumbersOf b numbers.new }
 {
-    match solve_bundles::<WarmStart>(bundles, rows, numbers, most) {
+    match solve_bundles::<WarmStart>(bundles, rows, numbers, limit) {
         Some(more) => rounds(
             &bundles[..early_levels],
             overlap_bundles,

@@ -186,8 +186,8 @@ fn tangent_pushes(prepared: &PreparedLanes, state: &ContactLanes) -> Option<Lane
     let limit = times(constraint.friction, normal);
     let change = times(constraint.tangent_mass, speed).negated();
     let least = limit.negated().minus(state.tangent);
-    let most = limit.minus(state.tangent);
-    Some(least.greatest(most.least(change)))
+    let room = limit.minus(state.tangent);
+    Some(least.greatest(room.least(change)))
 }
 
 /// The step of friction, or `None` where a number is above a limit.

@@ -40,17 +40,17 @@ pub(crate) fn contact_of(
     }
 }
 
-/// The numbers of a contact, or `None` where a velocity or an impulse is above `most`, or doubles
+/// The numbers of a contact, or `None` where a velocity or an impulse is above `limit`, or doubles
 /// do not hold a spin.
-pub(crate) fn seat_state_of(state: &ContactState, most: u64) -> Option<SeatState>
-    requires { most ≤ EXACT_LIMIT }
+pub(crate) fn seat_state_of(state: &ContactState, limit: u64) -> Option<SeatState>
+    requires { limit ≤ EXACT_LIMIT }
     ensures value { IfSome result (λ seat. seat ≡ seat_state_from state.now) }
-    ensures size { IfSome result (λ seat. IsSeatWithin most seat) }
+    ensures size { IfSome result (λ seat. IsSeatWithin limit seat) }
 {
     let (first, second) = (&state.first, &state.second);
     Some(SeatState {
-        first: WholeVelocity::of(first.velocity, first.spin, most)?,
-        second: WholeVelocity::of(second.velocity, second.spin, most)?,
-        impulses: WholeImpulses::of(&state.impulses, most)?,
+        first: WholeVelocity::of(first.velocity, first.spin, limit)?,
+        second: WholeVelocity::of(second.velocity, second.spin, limit)?,
+        impulses: WholeImpulses::of(&state.impulses, limit)?,
     })
 }

@@ -23,9 +23,9 @@ add_step x i =
 
 -- a product, or the first number again where it is above a limit
 unfoldable pub mul_step : ℤ → ℤ → ℤ → ℕ → ℤ
-mul_step most first x i =
+mul_step limit first x i =
     let y = product x (factor_near_one i) in
-    if int_lt most y then first else y
+    if int_lt limit y then first else y
 
 -- a quotient, raised where it is below a limit
 unfoldable pub div_step : ℤ → ℤ → ℤ → ℕ → ℤ

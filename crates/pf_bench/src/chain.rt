@@ -44,14 +44,14 @@ fn add_step(x: Fx, i: u64) -> Fx
     if sum < Fx::MAX { sum } else { Fx::MAX.neg() }
 }
 
-/// A product, or `first` again where it is above `most`.
+/// A product, or `first` again where it is above `limit`.
 #[inline]
 #[tactic(auto, unfolding(crate::specs::Chain::mul_step))]
-fn mul_step(x: Fx, i: u64, most: Fx, first: Fx) -> Fx
-    ensures { result ≡ mul_step most first x i }
+fn mul_step(x: Fx, i: u64, limit: Fx, first: Fx) -> Fx
+    ensures { result ≡ mul_step limit first x i }
 {
     let product = x.mul(factor_near_one(i));
-    if product > most { first } else { product }
+    if product > limit { first } else { product }
 }
 
 /// A quotient, raised by `back` where it is below `least`.
@@ -79,14 +79,14 @@ fn add_chain(count: u64) -> Fx
     x
 }
 
-/// Products with numbers near 1, none of them above `most`.
+/// Products with numbers near 1, none of them above `limit`.
 #[inline]
-fn mul_chain(count: u64, first: Fx, most: Fx) -> Fx
-    ensures { result ≡ chain (mul_step most first) first count }
+fn mul_chain(count: u64, first: Fx, limit: Fx) -> Fx
+    ensures { result ≡ chain (mul_step limit first) first count }
 {
     let mut x = first;
     for i in 0..count {
-        x = mul_step(x, i, most, first);
+        x = mul_step(x, i, limit, first);
     }
     x
 }

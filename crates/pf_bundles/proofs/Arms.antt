@@ -11,24 +11,24 @@ use Rattle.pf_bundles.specs.Limits.{AreGreatest, HasShortArms, HasShortProducts,
 
 -- ---- arms that are short enough for a limit of spins, and the other way round
 
-vector_with : (most spin : ℕ) (v : V2) → ((x : ℕ) → x ≤ most → 2 * spin * x < 9007199254740992) → IsShort most v → HasShortProducts (2 * spin) v
-vector_with most spin v exact short = record { x = exact _ short.x; y = exact _ short.y }
+vector_with : (bound spin : ℕ) (v : V2) → ((x : ℕ) → x ≤ bound → 2 * spin * x < 9007199254740992) → IsShort bound v → HasShortProducts (2 * spin) v
+vector_with bound spin v exact short = record { x = exact _ short.x; y = exact _ short.y }
 
-vector_of : (most spin : ℕ) (v : V2) → ((x : ℕ) → 2 * spin * x < 9007199254740992 → x ≤ most) → HasShortProducts (2 * spin) v → IsShort most v
-vector_of most spin v short exact = record { x = short _ exact.x; y = short _ exact.y }
+vector_of : (bound spin : ℕ) (v : V2) → ((x : ℕ) → 2 * spin * x < 9007199254740992 → x ≤ bound) → HasShortProducts (2 * spin) v → IsShort bound v
+vector_of bound spin v short exact = record { x = short _ exact.x; y = short _ exact.y }
 
-limit_with : (most spin : ℕ) (c : Constraint) → spin ≤ 1073741824 → ((x : ℕ) → x ≤ most → 2 * spin * x < 9007199254740992)
-    → HasShortArms most c → IsSpinLimit c spin
-limit_with most spin c small exact arms = record {
-  most = small;
-  first_arm = vector_with most spin c.first_arm exact arms.first;
-  second_arm = vector_with most spin c.second_arm exact arms.second;
+limit_with : (bound spin : ℕ) (c : Constraint) → spin ≤ 1073741824 → ((x : ℕ) → x ≤ bound → 2 * spin * x < 9007199254740992)
+    → HasShortArms bound c → IsSpinLimit c spin
+limit_with bound spin c small exact arms = record {
+  limit = small;
+  first_arm = vector_with bound spin c.first_arm exact arms.first;
+  second_arm = vector_with bound spin c.second_arm exact arms.second;
 }
 
-arms_of : (most spin : ℕ) (c : Constraint) → ((x : ℕ) → 2 * spin * x < 9007199254740992 → x ≤ most) → IsSpinLimit c spin → HasShortArms most c
-arms_of most spin c short limit = record {
-  first = vector_of most spin c.first_arm short limit.first_arm;
-  second = vector_of most spin c.second_arm short limit.second_arm;
+arms_of : (bound spin : ℕ) (c : Constraint) → ((x : ℕ) → 2 * spin * x < 9007199254740992 → x ≤ bound) → IsSpinLimit c spin → HasShortArms bound c
+arms_of bound spin c short limit = record {
+  first = vector_of bound spin c.first_arm short limit.first_arm;
+  second = vector_of bound spin c.second_arm short limit.second_arm;
 }
 
 pub quarter_limit : (c : Constraint) → HasShortArms 4194303 c → IsSpinLimit c 1073741824
@@ -68,8 +68,8 @@ longest_arms : (c : Constraint) → IsSpinLimit c 8388608 → HasShortArms 53687
 longest_arms c h = arms_of 536870911 8388608 c (λ x l. omega (arith, l)) h
 
 -- arms that are shorter are short
-pub shorter_arms : (less most : ℕ) (c : Constraint) → less ≤ most → HasShortArms less c → HasShortArms most c
-shorter_arms less most c h arms = record {
+pub shorter_arms : (less bound : ℕ) (c : Constraint) → less ≤ bound → HasShortArms less c → HasShortArms bound c
+shorter_arms less bound c h arms = record {
   first = record { x = omega (arith, h, arms.first.x); y = omega (arith, h, arms.first.y) };
   second = record { x = omega (arith, h, arms.second.x); y = omega (arith, h, arms.second.y) };
 }
@@ -79,7 +79,7 @@ shorter_arms less most c h arms = record {
 -- impulses that change a spin by less change it by no more than that
 pub more_spin : (c : Constraint) (a b : InverseMass) (less spin push : ℕ) → less ≤ spin → IsPushLimit c a b less push → IsPushLimit c a b spin push
 more_spin c a b less spin push h limit = record {
-  most = limit.most;
+  limit = limit.limit;
   first = of_body a c.first_arm limit.first;
   second = of_body b c.second_arm limit.second;
 }

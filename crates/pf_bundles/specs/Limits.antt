@@ -20,16 +20,16 @@ pub record IsSmallConstraint (c : Constraint) : Type 0 where
   pub bias : unsigned_abs c.bias ≤ NUMBER_LIMIT
 
 -- both arms are at most this along each axis
-pub record HasShortArms (most : ℕ) (c : Constraint) : Type 0 where
-  pub first : IsShort most c.first_arm
-  pub second : IsShort most c.second_arm
+pub record HasShortArms (limit : ℕ) (c : Constraint) : Type 0 where
+  pub first : IsShort limit c.first_arm
+  pub second : IsShort limit c.second_arm
 
 -- ---- spins
 
 -- spins up to this have exact products with the arms of a constraint, and so have spins up to twice
 -- this, which they are after a step
 pub record IsSpinLimit (c : Constraint) (spin : ℕ) : Type 0 where
-  pub most : spin ≤ QUARTER_ARM_SPIN
+  pub limit : spin ≤ QUARTER_ARM_SPIN
   pub first_arm : HasShortProducts (2 * spin) c.first_arm
   pub second_arm : HasShortProducts (2 * spin) c.second_arm
 
@@ -56,7 +56,7 @@ pub record IsPushLimitOf (m : InverseMass) (arm : V2) (spin push : ℕ) : Type 0
 
 -- and so for both bodies of a constraint
 pub record IsPushLimit (c : Constraint) (a b : InverseMass) (spin push : ℕ) : Type 0 where
-  pub most : push ≤ LANE_LIMIT
+  pub limit : push ≤ LANE_LIMIT
   pub first : IsPushLimitOf a c.first_arm spin push
   pub second : IsPushLimitOf b c.second_arm spin push
 

@@ -12,7 +12,7 @@ use crate::limits::{
     PRODUCT_LIMIT, QUARTER_ARM, QUARTER_ARM_SPIN, SHORT_ARM, SHORT_ARM_SPIN, SMALL_PUSH,
 };
 use crate::whole::{WholeMass, WholeVector, number_of, whole_of};
-use pf_lanes::Whole;
+use pf_lanes::WholeNumber;
 use pf_num::Fx;
 use pf_rot::V2;
 use pf_rows::{Constraint, InverseMass, Prepared, Row, Side, is_short, is_within};
@@ -30,13 +30,13 @@ pub struct WholeConstraint {
     /// The arm of the second body.
     pub second_arm: WholeVector,
     /// The effective mass along the normal.
-    pub normal_mass: Whole,
+    pub normal_mass: WholeNumber,
     /// The effective mass along the tangent.
-    pub tangent_mass: Whole,
+    pub tangent_mass: WholeNumber,
     /// The separating speed aimed at.
-    pub bias: Whole,
+    pub bias: WholeNumber,
     /// The coefficient of friction.
-    pub friction: Whole,
+    pub friction: WholeNumber,
 }
 
 impl Model for WholeConstraint {
@@ -73,8 +73,8 @@ pub struct LaneRow {
     pub(crate) first_mass: WholeMass,
     pub(crate) second_mass: WholeMass,
     pub(crate) constraint: WholeConstraint,
-    pub(crate) spin_limit: Whole,
-    pub(crate) push_limit: Whole,
+    pub(crate) spin_limit: WholeNumber,
+    pub(crate) push_limit: WholeNumber,
 }
 
 impl Model for LaneRow {
@@ -276,7 +276,7 @@ impl WholeConstraint {
     fn none() -> WholeConstraint
         ensures { result ≡ no_constraint }
     {
-        let zero = Whole::zero();
+        let zero = WholeNumber::zero();
         WholeConstraint {
             normal: WholeVector::zero(),
             tangent: WholeVector::zero(),
@@ -304,7 +304,7 @@ impl WholeConstraint {
             second_arm: WholeVector::new(c.second_arm),
             normal_mass: whole_of(c.normal_mass)?,
             tangent_mass: whole_of(c.tangent_mass)?,
-            bias: Whole::of(c.bias.raw()),
+            bias: WholeNumber::of(c.bias.raw()),
             friction: whole_of(c.friction)?,
         })
     }
@@ -341,8 +341,8 @@ impl LaneRow {
             first_mass: WholeMass::none(),
             second_mass: WholeMass::none(),
             constraint: WholeConstraint::none(),
-            spin_limit: Whole::of(QUARTER_ARM_SPIN as i64),
-            push_limit: Whole::of(LANE_LIMIT as i64),
+            spin_limit: WholeNumber::of(QUARTER_ARM_SPIN as i64),
+            push_limit: WholeNumber::of(LANE_LIMIT as i64),
         }
     }
 
@@ -372,8 +372,8 @@ impl LaneRow {
             first_mass: WholeMass::of(*first_mass)?,
             second_mass: WholeMass::of(*second_mass)?,
             constraint: WholeConstraint::of(constraint)?,
-            spin_limit: Whole::of(spin as i64),
-            push_limit: Whole::of(push as i64),
+            spin_limit: WholeNumber::of(spin as i64),
+            push_limit: WholeNumber::of(push as i64),
         })
     }
 

@@ -6,7 +6,7 @@ ghost use Rattle.pf_bundles.specs.Seats.{AreFirst, HasSeatIn, HaveFirst, IsSeatI
 
 use crate::seat::LaneSeat;
 use crate::whole::{WholeVector, number_of, whole_of};
-use pf_lanes::{EXACT_LIMIT, Whole};
+use pf_lanes::{EXACT_LIMIT, WholeNumber};
 use pf_num::Fx;
 use pf_rot::V2;
 use pf_rows::Impulses;
@@ -15,13 +15,13 @@ use std::marker::Model;
 
 /// A number as a double, or `None` where it is above this in magnitude.
 #[inline]
-fn whole_within(x: Fx, most: u64) -> Option<Whole>
-    requires { most ≤ EXACT_LIMIT }
+fn whole_within(x: Fx, limit: u64) -> Option<WholeNumber>
+    requires { limit ≤ EXACT_LIMIT }
     ensures value { IfSome result (λ whole. whole ≡ x) }
-    ensures size { IfSome result (λ whole. unsigned_abs whole ≤ most) }
-    ensures fits { IsSome result ↔ (unsigned_abs x ≤ most) }
+    ensures size { IfSome result (λ whole. unsigned_abs whole ≤ limit) }
+    ensures fits { IsSome result ↔ (unsigned_abs x ≤ limit) }
 {
-    if x.raw().unsigned_abs() <= most {
+    if x.raw().unsigned_abs() <= limit {
         whole_of(x)
     } else {
         None
@@ -34,7 +34,7 @@ pub struct WholeVelocity {
     /// The velocity.
     pub velocity: WholeVector,
     /// The angular velocity.
-    pub spin: Whole,
+    pub spin: WholeNumber,
 }
 
 impl Model for WholeVelocity {
@@ -60,24 +60,24 @@ impl WholeVelocity {
     {
         WholeVelocity {
             velocity: WholeVector::zero(),
-            spin: Whole::zero(),
+            spin: WholeNumber::zero(),
         }
     }
 
-    /// This velocity and this spin, or `None` where the velocity is above `most` along an axis, or
+    /// This velocity and this spin, or `None` where the velocity is above `limit` along an axis, or
     /// doubles do not hold the spin.
     #[inline]
-    pub fn of(velocity: V2, spin: Fx, most: u64) -> Option<WholeVelocity>
-        requires { most ≤ EXACT_LIMIT }
+    pub fn of(velocity: V2, spin: Fx, limit: u64) -> Option<WholeVelocity>
+        requires { limit ≤ EXACT_LIMIT }
         ensures value { IfSome result (λ whole.
             whole ≡ record { velocity = velocity; spin = spin }) }
-        ensures size { IfSome result (λ whole. IsShort most whole.velocity) }
+        ensures size { IfSome result (λ whole. IsShort limit whole.velocity) }
         ensures fits { IsSome result
-            ↔ (IsShort most velocity × (unsigned_abs spin ≤ EXACT_LIMIT)) }
+            ↔ (IsShort limit velocity × (unsigned_abs spin ≤ EXACT_LIMIT)) }
     {
         let velocity = WholeVector {
-            x: whole_within(velocity.x, most)?,
-            y: whole_within(velocity.y, most)?,
+            x: whole_within(velocity.x, limit)?,
+            y: whole_within(velocity.y, limit)?,
         };
         let spin = whole_of(spin)?;
         Some(WholeVelocity { velocity, spin })
@@ -104,9 +104,9 @@ impl WholeVelocity {
 #[derive(Clone, Copy)]
 pub struct WholeImpulses {
     /// Along the normal.
-    pub normal: Whole,
+    pub normal: WholeNumber,
     /// Along the tangent.
-    pub tangent: Whole,
+    pub tangent: WholeNumber,
 }
 
 impl Model for WholeImpulses {
@@ -130,23 +130,23 @@ impl WholeImpulses {
         ensures { result ≡ no_impulses }
     {
         WholeImpulses {
-            normal: Whole::zero(),
-            tangent: Whole::zero(),
+            normal: WholeNumber::zero(),
+            tangent: WholeNumber::zero(),
         }
     }
 
-    /// These impulses, or `None` where one is above `most`.
+    /// These impulses, or `None` where one is above `limit`.
     #[inline]
-    pub fn of(impulses: &Impulses, most: u64) -> Option<WholeImpulses>
-        requires { most ≤ EXACT_LIMIT }
+    pub fn of(impulses: &Impulses, limit: u64) -> Option<WholeImpulses>
+        requires { limit ≤ EXACT_LIMIT }
         ensures value { IfSome result (λ whole. whole ≡ impulses.now) }
-        ensures normal { IfSome result (λ whole. unsigned_abs whole.normal ≤ most) }
-        ensures tangent { IfSome result (λ whole. unsigned_abs whole.tangent ≤ most) }
-        ensures fits { IsSome result ↔ ((unsigned_abs impulses.now.normal ≤ most)
-            × (unsigned_abs impulses.now.tangent ≤ most)) }
+        ensures normal { IfSome result (λ whole. unsigned_abs whole.normal ≤ limit) }
+        ensures tangent { IfSome result (λ whole. unsigned_abs whole.tangent ≤ limit) }
+        ensures fits { IsSome result ↔ ((unsigned_abs impulses.now.normal ≤ limit)
+            × (unsigned_abs impulses.now.tangent ≤ limit)) }
     {
-        let normal = whole_within(impulses.normal, most)?;
-        let tangent = whole_within(impulses.tangent, most)?;
+        let normal = whole_within(impulses.normal, limit)?;
+        let tangent = whole_within(impulses.tangent, limit)?;
         Some(WholeImpulses { normal, tangent })
     }
 

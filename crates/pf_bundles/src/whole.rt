@@ -3,7 +3,7 @@
 ghost use Rattle.std.specs.Prelude.{◌≡◌, ◌≤◌, ◌↔◌, IfSome, IsSome};
 ghost use Rattle.std.specs.Int.RustNames.{unsigned_abs};
 
-use pf_lanes::{EXACT_LIMIT, Whole};
+use pf_lanes::{EXACT_LIMIT, WholeNumber};
 use pf_num::Fx;
 use pf_rot::V2;
 use pf_rows::InverseMass;
@@ -11,13 +11,13 @@ use std::marker::Model;
 
 /// A number as a double, or `None` where a double does not hold it.
 #[inline]
-pub(crate) fn whole_of(x: Fx) -> Option<Whole>
+pub(crate) fn whole_of(x: Fx) -> Option<WholeNumber>
     ensures value { IfSome result (λ whole. whole ≡ x) }
     ensures fits { IsSome result ↔ (unsigned_abs x ≤ EXACT_LIMIT) }
 {
     let raw = x.raw();
     if raw.unsigned_abs() <= EXACT_LIMIT {
-        Some(Whole::of(raw))
+        Some(WholeNumber::of(raw))
     } else {
         None
     }
@@ -25,7 +25,7 @@ pub(crate) fn whole_of(x: Fx) -> Option<Whole>
 
 /// A number in range as a fixed-point number.
 #[inline]
-pub(crate) fn number_of(whole: Whole) -> Fx
+pub(crate) fn number_of(whole: WholeNumber) -> Fx
     ensures { result ≡ whole }
 {
     Fx::from_raw(whole.raw()).unwrap()
@@ -35,9 +35,9 @@ pub(crate) fn number_of(whole: Whole) -> Fx
 #[derive(Clone, Copy)]
 pub struct WholeVector {
     /// Its x.
-    pub x: Whole,
+    pub x: WholeNumber,
     /// Its y.
-    pub y: Whole,
+    pub y: WholeNumber,
 }
 
 impl Model for WholeVector {
@@ -61,8 +61,8 @@ impl WholeVector {
         ensures { result ≡ zero_vector }
     {
         WholeVector {
-            x: Whole::zero(),
-            y: Whole::zero(),
+            x: WholeNumber::zero(),
+            y: WholeNumber::zero(),
         }
     }
 
@@ -73,8 +73,8 @@ impl WholeVector {
         ensures { result ≡ vector }
     {
         WholeVector {
-            x: Whole::of(vector.x.raw()),
-            y: Whole::of(vector.y.raw()),
+            x: WholeNumber::of(vector.x.raw()),
+            y: WholeNumber::of(vector.y.raw()),
         }
     }
 
@@ -94,9 +94,9 @@ impl WholeVector {
 #[derive(Clone, Copy)]
 pub struct WholeMass {
     /// 1 / mass.
-    pub inverse_mass: Whole,
+    pub inverse_mass: WholeNumber,
     /// 1 / inertia.
-    pub inverse_inertia: Whole,
+    pub inverse_inertia: WholeNumber,
 }
 
 impl Model for WholeMass {
@@ -126,8 +126,8 @@ impl WholeMass {
         ensures { result ≡ no_mass }
     {
         WholeMass {
-            inverse_mass: Whole::zero(),
-            inverse_inertia: Whole::zero(),
+            inverse_mass: WholeNumber::zero(),
+            inverse_inertia: WholeNumber::zero(),
         }
     }
 

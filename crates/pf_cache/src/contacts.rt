@@ -72,18 +72,18 @@ fn has_key_of(contact: &Contact, touch: &Touch) -> bool
     key.a == touch.a && key.b == touch.b && key.feature == touch.point.feature
 }
 
-/// How many of the first contacts, at most `most`, have the keys of the first points, one after
+/// How many of the first contacts, at most `limit`, have the keys of the first points, one after
 /// the other. The first `known` are known to have them, and are not compared. No clause says that
 /// it does not stop earlier.
 #[inline]
-fn same_keys(contacts: &[Contact], touches: &[Touch], known: usize, most: usize) -> usize
+fn same_keys(contacts: &[Contact], touches: &[Touch], known: usize, limit: usize) -> usize
     requires { HaveSameFirst known (map (λ c. c.key) contacts.now) (map key_of touches.now) }
     ensures contacts { result ≤ length contacts.now }
     ensures touches { result ≤ length touches.now }
     ensures same { map (λ c. c.key) (take result contacts.now)
         ≡ map key_of (take result touches.now) }
 {
-    let end = most.min(contacts.len()).min(touches.len());
+    let end = limit.min(contacts.len()).min(touches.len());
     let mut count = known.min(end);
     while count < end {
         if !has_key_of(&contacts[count], &touches[count]) {
@@ -201,10 +201,10 @@ impl Contacts {
 
     /// Makes of these contacts those of the points, as Box2D-Lite's `Arbiter::Update`: a key of the
     /// old contacts keeps its impulses, a new key has none, and a contact without a point is gone.
-    /// The points are in the order of their keys. At most `most` first contacts, as long as they
+    /// The points are in the order of their keys. At most `limit` first contacts, as long as they
     /// have the keys of the first points, stay where they are; no clause says that they do. The
     /// first `known` have these keys, and are not compared. The contacts behind those that stay go
-    /// to `change`, which then undoes this. With `most` 0 all contacts are made anew, and none has
+    /// to `change`, which then undoes this. With `limit` 0 all contacts are made anew, and none has
     /// to be noted. An error leaves the contacts as they are, and no contacts in `change`, which is
     /// of no use then.
     #[inline(never)]
@@ -212,7 +212,7 @@ impl Contacts {
         &mut self,
         touches: &[Touch],
         known: usize,
-        most: usize,
+        limit: usize,
         change: &mut ContactsChange,
     ) -> Result<(), AllocError>
         requires touches { AreTouches touches.now }
@@ -223,7 +223,7 @@ impl Contacts {
         ensures gone { OnErr result (change.new ≡ record change.old { behind = [] }) }
         ensures no_memory { touches.now ≡ [] → IsOk result }
     {
-        let same = same_keys(&self.list, touches, known, most);
+        let same = same_keys(&self.list, touches, known, limit);
         split_into(&mut self.list, &mut change.behind, same, touches.len())?;
         change.same = same;
         change.noted.clear();

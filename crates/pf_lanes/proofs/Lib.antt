@@ -4,11 +4,11 @@ pub mod Values
 pub mod Sums
 pub mod Rounding
 pub mod Products
-pub mod Raising
+pub mod Shifting
 pub mod Limits
 pub mod Masks
 pub mod Casts
 pub mod Holding
 pub mod Tests
 pub mod Numbers
-pub mod RaisedLanes
+pub mod ShiftedLanes

@@ -1,4 +1,4 @@
 -- What the contracts of this crate cite.
 pub mod Lanes
 pub mod Doubles
-pub mod Raised
+pub mod Shifted

@@ -1,7 +1,7 @@
 //! Whole numbers four at a time.
 
 use crate::scaled::{Scaled, UNIT};
-use crate::whole::Whole;
+use crate::whole::WholeNumber;
 use std::marker::Model;
 use std::simd::prelude::*;
 
@@ -68,7 +68,7 @@ impl Lanes {
 
     /// These four whole numbers, which are doubles already.
     #[inline]
-    pub fn gather(numbers: [Whole; 4]) -> Lanes
+    pub fn gather(numbers: [WholeNumber; 4]) -> Lanes
         ensures { result ≡ lanes_of numbers }
     {
         let [first, second, third, fourth] = numbers;
@@ -80,15 +80,15 @@ impl Lanes {
 
     /// The four whole numbers.
     #[inline]
-    pub fn parts(self) -> [Whole; 4]
+    pub fn parts(self) -> [WholeNumber; 4]
         ensures { result ≡ list_of self }
     {
         let [first, second, third, fourth] = self.doubles.to_array();
         [
-            Whole { double: first },
-            Whole { double: second },
-            Whole { double: third },
-            Whole { double: fourth },
+            WholeNumber { double: first },
+            WholeNumber { double: second },
+            WholeNumber { double: third },
+            WholeNumber { double: fourth },
         ]
     }
 

@@ -4,11 +4,11 @@
 
 mod lanes;
 pub mod laws;
-mod raised;
 mod scaled;
+mod shifted;
 mod whole;
 
 pub use lanes::{EXACT_LIMIT, Lanes};
-pub use raised::Raised;
 pub use scaled::Scaled;
-pub use whole::Whole;
+pub use shifted::ShiftedLanes;
+pub use whole::WholeNumber;

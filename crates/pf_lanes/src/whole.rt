@@ -7,11 +7,11 @@ use std::marker::Model;
 ///
 /// Contracts see it as that whole number.
 #[derive(Clone, Copy)]
-pub struct Whole {
+pub struct WholeNumber {
     pub(crate) double: f64,
 }
 
-impl Model for Whole {
+impl Model for WholeNumber {
     ghost use Rattle.std.specs.Prelude.{ℤ};
     ghost use Rattle.pf_lanes.specs.Doubles.{numerator, double_of, IsWhole};
 
@@ -26,25 +26,25 @@ impl Model for Whole {
     ghost inverse_ok = { λ a h i. record { double = h.double i } };
 }
 
-impl Whole {
+impl WholeNumber {
     ghost use Rattle.std.specs.Prelude.{◌≡◌, ◌≤◌, pos};
     ghost use Rattle.std.specs.Int.RustNames.{unsigned_abs};
 
     /// 0.
     #[inline]
-    pub fn zero() -> Whole
+    pub fn zero() -> WholeNumber
         ensures { result ≡ pos 0 }
     {
-        Whole { double: 0.0 }
+        WholeNumber { double: 0.0 }
     }
 
     /// This whole number.
     #[inline]
-    pub fn of(raw: i64) -> Whole
+    pub fn of(raw: i64) -> WholeNumber
         requires { unsigned_abs raw ≤ EXACT_LIMIT }
         ensures { result ≡ raw }
     {
-        Whole { double: raw as f64 }
+        WholeNumber { double: raw as f64 }
     }
 
     /// The whole number.

@@ -36,7 +36,8 @@ AreCalls {A} call core (suc n) first last =
 -- why a settle with a crew failed: after so many ticks, each settled with one call of the crew, the
 -- step of the next tick failed
 abbrev pub FailsAfter : {A : Type 0} → (A → List Island → A → Type 0)
-    → (A → List Island → CrewError → A → Type 0) → PeerCore → PeerCore → A → StepError → A → Type 0
+    → (A → List Island → CrewError → A → Type 0)
+    → PeerCore → PeerCore → A → StepError → A → Type 0
 FailsAfter {A} call may_fail old new first error last =
     (more : ℕ) × (more < missing_count old) × HasSettled more old new
     × ((before : A) × AreCalls call old more first before

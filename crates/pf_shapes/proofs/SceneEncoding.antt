@@ -145,23 +145,23 @@ read_box f hx hy position to e h at facing =
 
 -- ---- lines
 
-pub read_gravity : (most : ℕ) (g : V2) → IsGravity g
-    → line_of (record { max_bodies = most; scene = None }) (gravity_fields g) ≡ Ok (scene_in_progress most (empty_scene g))
+pub read_gravity : (limit : ℕ) (g : V2) → IsGravity g
+    → line_of (record { max_bodies = limit; scene = None }) (gravity_fields g) ≡ Ok (scene_in_progress limit (empty_scene g))
 unfolding line_of gravity_line
-read_gravity most g h = rw (read_vector (pos 17179869184) g.x g.y (omega (arith, ints)) h.x h.y) refl
+read_gravity limit g h = rw (read_vector (pos 17179869184) g.x g.y (omega (arith, ints)) h.x h.y) refl
 
-pub read_body : (most : ℕ) (s : Scene) (f : Fixture) (position : V2) (to : Rot) → length s.fixtures < most
+pub read_body : (limit : ℕ) (s : Scene) (f : Fixture) (position : V2) (to : Rot) → length s.fixtures < limit
     → IsFixture f → IsPosition position → IsDirection to
-    → line_of (record { max_bodies = most; scene = Some s }) (body_fields f position to) ≡ Ok (scene_in_progress most (with_body s f position (start_rotation f.shape to)))
+    → line_of (record { max_bodies = limit; scene = Some s }) (body_fields f position to) ≡ Ok (scene_in_progress limit (with_body s f position (start_rotation f.shape to)))
 unfolding line_of
-read_body most s f position to room h at facing = by f.shape refl
+read_body limit s f position to room h at facing = by f.shape refl
   where
-    few : nat_lt (length s.fixtures) most ≡ true
+    few : nat_lt (length s.fixtures) limit ≡ true
     few = grind (arith, nat_tests)
 
     by : (shape : Shape) → f.shape ≡ shape
-        → line_of (record { max_bodies = most; scene = Some s })
+        → line_of (record { max_bodies = limit; scene = Some s })
         (shape_word shape ∷ owner_field f.owner ∷ signed_decimal f.mass ∷ signed_decimal f.friction ∷ shape_fields shape position to)
-        ≡ Ok (scene_in_progress most (with_body s f position (start_rotation shape to)))
+        ≡ Ok (scene_in_progress limit (with_body s f position (start_rotation shape to)))
     by (Circle r) e = rw (few, read_circle f r position e h at) refl
     by (Box hx hy) e = rw (few, read_box f hx hy position to e h at facing) refl

@@ -25,14 +25,14 @@ use crate::scene::{MAX_BODIES, MAX_GRAVITY, MAX_POSITION};
 /// The fields of gravity, and those of a body for which the scene has room, parse as that, where
 /// their numbers are in range.
 pub fn scene_lines_are_read()
-    ensures gravity { (most : ℕ) (g : V2) → IsGravity g
-        → line_of (record { max_bodies = most; scene = None }) (gravity_fields g)
-        ≡ Ok (scene_in_progress most (empty_scene g)) }
-    ensures body { (most : ℕ) (s : Scene) (f : Fixture) (position : V2) (to : Rot)
-        → length s.fixtures < most
+    ensures gravity { (limit : ℕ) (g : V2) → IsGravity g
+        → line_of (record { max_bodies = limit; scene = None }) (gravity_fields g)
+        ≡ Ok (scene_in_progress limit (empty_scene g)) }
+    ensures body { (limit : ℕ) (s : Scene) (f : Fixture) (position : V2) (to : Rot)
+        → length s.fixtures < limit
         → IsFixture f → IsPosition position → IsDirection to
-        → line_of (record { max_bodies = most; scene = Some s }) (body_fields f position to)
-        ≡ Ok (scene_in_progress most (with_body s f position (start_rotation f.shape to))) }
+        → line_of (record { max_bodies = limit; scene = Some s }) (body_fields f position to)
+        ≡ Ok (scene_in_progress limit (with_body s f position (start_rotation f.shape to))) }
 {}
 
 /// A number of a field is checked as it is, however long it is.

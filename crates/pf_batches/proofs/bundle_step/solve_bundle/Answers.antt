@@ -20,9 +20,9 @@ returns-in-Some-clause-value g c = λ done b level fit seats hold.
 
 pub returns-in-Some-clause-within : goal.returns-in-Some-clause-within
 returns-in-Some-clause-within g c = λ done.
-    let most = c.args.most + GROWTH in
+    let limit = c.args.limit + GROWTH in
     let seats = c.seats.result.now in
-    subst (AreAllWithin most) (sym (c.store.ensures.value ∙ stored_taken seats c.states.result c.args.numbers.now c.seats.ensures.first))
-    (rows_within most (taken_seats seats) c.states.result c.args.numbers.now
-    (all_within_more c.args.most most c.args.numbers.now (omega arith) c.requires.within)
-    (subst (λ states. All (IsSeatWithin most) states) (sym c.states.ensures) (states_within most c.in-Some.after c.in-Some.ensures.size)))
+    subst (AreAllWithin limit) (sym (c.store.ensures.value ∙ stored_taken seats c.states.result c.args.numbers.now c.seats.ensures.first))
+    (rows_within limit (taken_seats seats) c.states.result c.args.numbers.now
+    (all_within_more c.args.limit limit c.args.numbers.now (omega arith) c.requires.within)
+    (subst (λ states. All (IsSeatWithin limit) states) (sym c.states.ensures) (states_within limit c.in-Some.after c.in-Some.ensures.size)))

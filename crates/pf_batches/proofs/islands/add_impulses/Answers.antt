@@ -12,7 +12,7 @@ pub loop-row-preserved : goal.loop-row-preserved
 loop-row-preserved c =
     let now = c.loop-row.numbers.impulses in
     let own = c.in-Some.whole in
-    let P = λ (p : Impulses). (unsigned_abs p.normal ≤ c.args.most) × (unsigned_abs p.tangent ≤ c.args.most) in
+    let P = λ (p : Impulses). (unsigned_abs p.normal ≤ c.args.limit) × (unsigned_abs p.tangent ≤ c.args.limit) in
     let pushed = c.in_ok-push_impulses-in-Some.ensures.ok in
     let impulses = ap (λ (n : Numbers). n.impulses) pushed in
     record {

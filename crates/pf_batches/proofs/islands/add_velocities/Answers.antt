@@ -11,7 +11,7 @@ pub loop-body-preserved : goal.loop-body-preserved
 loop-body-preserved c =
     let now = c.loop-body.numbers.velocities in
     let own = c.in-Some.velocity in
-    let P = λ (v : Velocity). IsShort c.args.most v.velocity in
+    let P = λ (v : Velocity). IsShort c.args.limit v.velocity in
     let pushed = c.in_ok-push_velocity-in-Some.ensures.ok in
     let velocities = ap (λ (n : Numbers). n.velocities) pushed in
     record {

@@ -13,8 +13,8 @@ use Rattle.pf_batches.proofs.islands.load_numbers.Goals as goal
 
 pub loop-island-init : goal.loop-island-init
 loop-island-init c =
-    let IsSmall = λ (p : Impulses). (unsigned_abs p.normal ≤ c.args.most) × (unsigned_abs p.tangent ≤ c.args.most) in
-    let IsSlow = λ (v : Velocity). IsShort c.args.most v.velocity in
+    let IsSmall = λ (p : Impulses). (unsigned_abs p.normal ≤ c.args.limit) × (unsigned_abs p.tangent ≤ c.args.limit) in
+    let IsSlow = λ (v : Velocity). IsShort c.args.limit v.velocity in
     record {
       velocities = ap (λ (n : Numbers). n.velocities) c.clear.ensures;
       impulses = ap (λ (n : Numbers). n.impulses) c.clear.ensures;
@@ -39,7 +39,7 @@ loop-island-preserved c =
           ∙ ap₂ (λ front rest. front ++ rest) (slow.impulses ∙ c.loop-island.invariant.impulses)
           (ap (map (λ (r : Row). r.entry.impulses)) (c.as_slice-in-loop-island.ensures.value ∙ ap (λ (i : Island). i.rows) own))
           ∙ sym (ap (λ (n : Numbers). n.impulses) more);
-      short = subst (All (λ (v : Velocity). IsShort c.args.most v.velocity)) (sym small.velocities) (slow.size (search rules) c.loop-island.invariant.short);
+      short = subst (All (λ (v : Velocity). IsShort c.args.limit v.velocity)) (sym small.velocities) (slow.size (search rules) c.loop-island.invariant.short);
       small = small.size (search rules)
-          (subst (All (λ (p : Impulses). (unsigned_abs p.normal ≤ c.args.most) × (unsigned_abs p.tangent ≤ c.args.most))) (sym slow.impulses) c.loop-island.invariant.small);
+          (subst (All (λ (p : Impulses). (unsigned_abs p.normal ≤ c.args.limit) × (unsigned_abs p.tangent ≤ c.args.limit))) (sym slow.impulses) c.loop-island.invariant.small);
     }

@@ -10,6 +10,6 @@ invariant-loop-island l = record {
   velocities : l.numbers.velocities ≡ map velocity_of (batch_of (take l.island-index l.islands)).bodies;
   impulses : l.numbers.impulses
       ≡ map (λ r. r.entry.impulses) (batch_of (take l.island-index l.islands)).rows;
-  short : All (λ v. IsShort l.most v.velocity) l.numbers.velocities;
-  small : All (λ p. (unsigned_abs p.normal ≤ l.most) × (unsigned_abs p.tangent ≤ l.most)) l.numbers.impulses;
+  short : All (λ v. IsShort l.limit v.velocity) l.numbers.velocities;
+  small : All (λ p. (unsigned_abs p.normal ≤ l.limit) × (unsigned_abs p.tangent ≤ l.limit)) l.numbers.impulses;
 }

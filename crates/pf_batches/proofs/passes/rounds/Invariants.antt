@@ -11,12 +11,12 @@ use Rattle.pf_batches.proofs.passes.rounds.Given as goal
 
 -- the early levels are solved, and so many times the levels across two rounds
 pub record AreRoundsDone
-    (rows : List LaneRow) (early_bundles overlap_bundles : List Bundle) (before now : Numbers) (most done : ℕ) : Type 0 where
+    (rows : List LaneRow) (early_bundles overlap_bundles : List Bundle) (before now : Numbers) (limit done : ℕ) : Type 0 where
   pub value : (b after : Batch) (first across : List (List ℕ)) → AreBundlesFor b first rows early_bundles
       → AreBundlesFor b across rows overlap_bundles → AreNumbersAfter b after before
       → AreNumbersAfter b (passes_in_levels done across after_round (solved_by_levels first after_round after)) now
-  pub within : AreAllWithin most now
+  pub within : AreAllWithin limit now
   pub many : AreAsMany before now
 
 abbrev pub invariant-loop-round : goal.invariant-loop-round
-invariant-loop-round l = AreRoundsDone l.rows l.early_bundles l.overlap_bundles l.fn.numbers l.numbers l.most l._round
+invariant-loop-round l = AreRoundsDone l.rows l.early_bundles l.overlap_bundles l.fn.numbers l.numbers l.limit l._round

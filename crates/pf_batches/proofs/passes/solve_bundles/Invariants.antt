@@ -9,10 +9,10 @@ use Rattle.pf_batches.proofs.InBundles.{AreSolvedTo}
 use Rattle.pf_batches.proofs.passes.solve_bundles.Given as goal
 
 -- the bundles before this one are solved
-pub record AreSolved (step : Step) (rows : List LaneRow) (bundles : List Bundle) (before now : Numbers) (most done : ℕ) : Type 0 where
+pub record AreSolved (step : Step) (rows : List LaneRow) (bundles : List Bundle) (before now : Numbers) (limit done : ℕ) : Type 0 where
   pub value : AreSolvedTo step rows bundles before done now
-  pub within : AreAllWithin most now
+  pub within : AreAllWithin limit now
   pub many : AreAsMany before now
 
 abbrev pub invariant-loop-bundle : goal.invariant-loop-bundle
-invariant-loop-bundle g l = AreSolved g.L.ContactStep.step l.rows l.bundles l.initial.numbers l.numbers l.most l.bundle-index
+invariant-loop-bundle g l = AreSolved g.L.ContactStep.step l.rows l.bundles l.initial.numbers l.numbers l.limit l.bundle-index

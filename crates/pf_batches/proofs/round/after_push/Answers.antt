@@ -39,4 +39,4 @@ impulse_along-impulse-requires-clause-impulse c = λ k.
     let within : pos (unsigned_abs (number_in k c.twice.result)) ≤ℤ number_in k p.push_limit =
     subst (λ l. pos (unsigned_abs (number_in k c.twice.result)) ≤ℤ number_in k l) c.push_limit.ensures.value
     (c.are_within_each.ensures.0 (grind (arith, rules, c.if-not-are_within_each.false)) k) in
-    omega (arith, ints, c.twice.ensures k, within, (c.push_limit.ensures.limits k).limits.pushes.most)
+    omega (arith, ints, c.twice.ensures k, within, (c.push_limit.ensures.limits k).limits.pushes.limit)
