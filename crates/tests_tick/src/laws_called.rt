@@ -27,6 +27,7 @@ fn laws_of_shapes(_rt: HostRuntime) {
     use pf_broad::laws as pairs;
     use pf_shapes::laws;
     laws::scene_lines_are_read();
+    laws::long_numbers_are_out_of_range();
     laws::inertias_are_positive();
     laws::overlapping_is_symmetric();
     laws::bounds_that_share_a_position_overlap();
