@@ -1,4 +1,4 @@
--- The machine words of a loose box: its pointer, and its allocator. What it owns is opened and closed
+-- The machine words of a raw box: its pointer, and its allocator. What it owns is opened and closed
 -- here, so that the walks speak of the box that lies at the pointer.
 use Rattle.std.proofs.Common.{◌≡◌, ℕ, List, [], ◌∷◌, ◌++◌, refl, sym, subst}
 use mathlib.Core.Bool.{◌&&◌, true}
@@ -28,7 +28,7 @@ use Rattle.std.specs.Prelude.{IsSome, Option, Some, None}
 use Rattle.pf_context.specs.Context.{Context}
 use Rattle.pf_context.specs.contracts.context.Context as context
 use Rattle.pf_c.specs.Held.{held, is_freed_by}
-use Rattle.pf_c.specs.contracts.loose.Loose as loose
+use Rattle.pf_c.specs.contracts.raw_box.RawBox as raw_box
 
 -- a struct of two words
 abbrev pub two : Val → Val → Val
@@ -36,8 +36,8 @@ two v w = vstruct (vcons v (vcons w vnil))
 
 -- of a value type and an allocator
 module _ (R A : RattleType) (L : Laws A) (g : Ghosts A.Denot) where
-  abbrev pub Loose : RattleType
-  Loose = loose.the_row R A g
+  abbrev pub RawBox : RattleType
+  RawBox = raw_box.the_row R A g
 
   -- what the allocator's lemmas take of it
   abbrev pub allocator : Al
@@ -48,11 +48,11 @@ module _ (R A : RattleType) (L : Laws A) (g : Ghosts A.Denot) where
   two_good b o h good = (and_tt (has_ty (layout A) h) good.0, (tt, (good.1, tt)))
 
   module _ {M : Type 1} {𝓤 : Ura M} {𝓛 : Logic 𝓤} {K : Type 0} {Γ : List (Item 𝓤)} {G : Goal 𝓤 𝓛.H} where
-    -- a loose box is a pointer into a block, an allocator, and the box that lies there
-    pub opened : K → (d : Loose.Denot) (vs : List Val)
+    -- a raw box is a pointer into a block, an allocator, and the box that lies there
+    pub opened : K → (d : RawBox.Denot) (vs : List Val)
         → ((b o : ℕ) (h : Val) → d.at ≡ block_ptr b o → vs ≡ two (vptr b o) h ∷ [] → Good (layout A) h
         → Seq K 𝓛 (‵ (box_owns (g.dealloc_token d.alloc) R (block_ptr b o) d.value) ∷ ‵ (A.own_val d.alloc (h ∷ [])) ∷ Γ) G)
-        → Seq K 𝓛 (‵ (Loose.own_val d vs) ∷ Γ) G
+        → Seq K 𝓛 (‵ (RawBox.own_val d vs) ∷ Γ) G
     opened t d vs go =
         let words : List Val → List Val → Type 0 = λ ps hs. vs ≡ vstruct (of_list (ps ++ (hs ++ []))) ∷ [] in
         let unowned = fst∗ 𝓤 (never 𝓤) (sem 𝓛 (g.dealloc_token d.alloc (bare (lone R.mir)) null_ptr)) in
@@ -64,14 +64,14 @@ module _ (R A : RattleType) (L : Laws A) (g : Ghosts A.Denot) where
         go b o h at (subst (λ (p : Ptr). words (ptr_val p ∷ []) (h ∷ [])) at known) good)))))
 
     pub closed : K → (b o : ℕ) (h : Val) (a : A.Denot) (x : R.Denot)
-        → Step K 𝓛 (‵ (Loose.own_val (record { at = block_ptr b o; alloc = a; value = x }) (two (vptr b o) h ∷ [])) ∷ Γ) G
+        → Step K 𝓛 (‵ (RawBox.own_val (record { at = block_ptr b o; alloc = a; value = x }) (two (vptr b o) h ∷ [])) ∷ Γ) G
         (‵ (box_owns (g.dealloc_token a) R (block_ptr b o) x) ∷ ‵ (A.own_val a (h ∷ [])) ∷ Γ) G
     closed t b o h a x = step (λ rest.
         let whole : List Val = two (vptr b o) h ∷ [] in
         nothing t $ move t (2 ∷ 0 ∷ []) $ fjoin t $
         feq_i t (List Val) (vptr b o ∷ []) (vptr b o ∷ []) refl $ fjoin t $
         feq_i t (List Val) whole whole refl $ fjoin t $
-        fpack t (Valss (RawPtr ∷ A ∷ [])) (within (shape (loose.the_type R A g)) (block_ptr b o, (a, tt)) whole) (vptr b o ∷ [], (h ∷ [], tt)) $
+        fpack t (Valss (RawPtr ∷ A ∷ [])) (within (shape (raw_box.the_type R A g)) (block_ptr b o, (a, tt)) whole) (vptr b o ∷ [], (h ∷ [], tt)) $
         fjoin t $ rest)
 
 -- a handle that has a value owns a box of it

@@ -5,7 +5,7 @@ ghost use Rattle.std.specs.Coded.{coded_option};
 ghost use Rattle.pf_context.specs.Context.{Context};
 ghost use Rattle.pf_context.specs.contracts.context.Context.{the_row};
 
-use crate::loose::Loose;
+use crate::raw_box::RawBox;
 use pf_context::Context;
 use std::alloc::Global;
 use std::marker::Model;
@@ -34,19 +34,19 @@ impl Handle {
         Handle { at: null_mut() }
     }
 
-    pub(crate) fn of(loose: Loose<Context, Global>) -> Handle
-        ensures { result.value ≡ Some loose.value }
+    pub(crate) fn of(raw_box: RawBox<Context, Global>) -> Handle
+        ensures { result.value ≡ Some raw_box.value }
     {
-        let Loose { at, alloc: _ } = loose;
+        let RawBox { at, alloc: _ } = raw_box;
         Handle { at: at as *mut u8 }
     }
 
-    pub(crate) fn into_loose(self, alloc: Global) -> Loose<Context, Global>
+    pub(crate) fn into_raw_box(self, alloc: Global) -> RawBox<Context, Global>
         requires { IsSome self.value }
         ensures { self.value ≡ Some result.value }
     {
         let Handle { at } = self;
-        Loose {
+        RawBox {
             at: at as *mut Context,
             alloc,
         }

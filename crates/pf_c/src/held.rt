@@ -6,7 +6,7 @@ ghost use Rattle.pf_context.specs.Context.{Context};
 ghost use Rattle.pf_c.specs.Calls.{CallsOpen};
 
 use crate::handle::Handle;
-use crate::loose::Loose;
+use crate::raw_box::RawBox;
 use pf_context::{Context, ContextError};
 use std::alloc::Global;
 use std::mem;
@@ -38,7 +38,7 @@ impl PfContext {
     {
         PfContext {
             is_open: true,
-            handle: Handle::of(Loose::of(context)),
+            handle: Handle::of(RawBox::of(context)),
         }
     }
 
@@ -50,7 +50,7 @@ impl PfContext {
     {
         let PfContext { is_open, handle } = mem::replace(self, PfContext::closed());
         if is_open {
-            Some(handle.into_loose(alloc).into_box())
+            Some(handle.into_raw_box(alloc).into_box())
         } else {
             None
         }

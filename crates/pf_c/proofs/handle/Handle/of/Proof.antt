@@ -25,7 +25,7 @@ use Rattle.std.specs.contracts.impls.GlobalAllocator.TheImpl.{ghosts}
 use Rattle.std.proofs.alloc.Global.TheLaws as heap_laws
 use Rattle.std.proofs.raw_atomic.Walks.{proved_at, leaves}
 use Rattle.pf_context.specs.contracts.context.Context as context
-use Rattle.pf_c.proofs.Words.{Loose, two, two_good, opened}
+use Rattle.pf_c.proofs.Words.{RawBox, two, two_good, opened}
 use Rattle.pf_c.specs.contracts.handle.Handle as handle
 use Rattle.pf_c.specs.contracts.handle.Handle.of as f
 use Rattle.pf_c.proofs.handle.Handle.of.Statement.{statement}
@@ -38,7 +38,7 @@ of_spec 𝓤 𝓛 𝓜 𝓡 wired =
     let R : RattleType = context.the_row in
     let Z : RattleType = heap.the_row in
     let LZ = heap_laws.the_row_laws in
-    let Lr : RattleType = Loose R Z LZ ghosts in
+    let Lr : RattleType = RawBox R Z LZ ghosts in
     let En = f.ended in
     let c = f.clauses 𝓛 𝓜.mem 𝓡.returns in
     let fn = code.function in

@@ -1,4 +1,4 @@
--- `into_loose` gives the pointer its type back: a handle that has a value owns a box of it.
+-- `into_raw_box` gives the pointer its type back: a handle that has a value owns a box of it.
 use Rattle.std.proofs.Common.{◌≡◌, ◌∙◌, List, [], ◌∷◌, ◌++◌, refl, sym, ap, subst}
 use Rattle.std.specs.Prelude.{IsSome, Some}
 use mir.Raw.{raw as bare}
@@ -30,9 +30,9 @@ use Rattle.std.proofs.raw_atomic.Walks.{proved_at, leaves}
 use Rattle.pf_context.specs.contracts.context.Context as context
 use Rattle.pf_c.proofs.Words.{allocator, two, two_good, closed, held_box}
 use Rattle.pf_c.specs.contracts.handle.Handle as handle
-use Rattle.pf_c.specs.contracts.handle.Handle.into_loose as f
-use Rattle.pf_c.proofs.handle.Handle.into_loose.Statement.{statement}
-use Rattle.pf_c.proofs.handle.Handle.into_loose.Code as code
+use Rattle.pf_c.specs.contracts.handle.Handle.into_raw_box as f
+use Rattle.pf_c.proofs.handle.Handle.into_raw_box.Statement.{statement}
+use Rattle.pf_c.proofs.handle.Handle.into_raw_box.Code as code
 
 pub into_loose_spec : {M : Type 1} → statement M
 into_loose_spec 𝓤 𝓛 𝓜 𝓡 wired =

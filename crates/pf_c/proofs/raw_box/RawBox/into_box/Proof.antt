@@ -33,10 +33,10 @@ use Rattle.std.proofs.cell.Inside.{Good}
 use Rattle.std.proofs.raw_atomic.Walks.{proved_at, leaves}
 use Rattle.std.proofs.BoxSteps.Form as box
 use Rattle.std.proofs.BoxSteps.Steps.{box_out, box_in}
-use Rattle.pf_c.proofs.Words.{Loose, two, two_good, opened}
-use Rattle.pf_c.specs.contracts.loose.Loose.into_box as f
-use Rattle.pf_c.proofs.loose.Loose.into_box.Statement.{statement}
-use Rattle.pf_c.proofs.loose.Loose.into_box.Code as code
+use Rattle.pf_c.proofs.Words.{RawBox, two, two_good, opened}
+use Rattle.pf_c.specs.contracts.raw_box.RawBox.into_box as f
+use Rattle.pf_c.proofs.raw_box.RawBox.into_box.Statement.{statement}
+use Rattle.pf_c.proofs.raw_box.RawBox.into_box.Code as code
 
 pub into_box_spec : {M : Type 1} → statement M
 into_box_spec 𝓤 𝓛 𝓜 𝓡 wired T A L LA g d dx dd allocator glue glued =
@@ -50,8 +50,8 @@ into_box_spec 𝓤 𝓛 𝓜 𝓡 wired T A L LA g d dx dd allocator glue glued 
     let E : box.Bx = record { row = T; laws = L; al = record { row = A; laws = LA; g = g; d = d; drops = dd } } in
     let types = bounded (a_type ∷ a_type ∷ []) (T, (A, tt)) (dcons d (dcons dx (dcons dd dnil))) in
     let fn = inst_fn types code.function in
-    let stayed : Stays En.signature.params En.kept = (stay_dropped (plain (λ _. Loose R Z LZ g)) no, tt) in
-    proved_at 𝓛 En stayed c 𝓜 𝓡 (Goes-blank 𝓛 2 (plain (λ _. Loose R Z LZ g)) no (λ κs x w. tt), tt)
+    let stayed : Stays En.signature.params En.kept = (stay_dropped (plain (λ _. RawBox R Z LZ g)) no, tt) in
+    proved_at 𝓛 En stayed c 𝓜 𝓡 (Goes-blank 𝓛 2 (plain (λ _. RawBox R Z LZ g)) no (λ κs x w. tt), tt)
     (f.Key.name types) fn (code.unfolded 𝓤 H 𝓜 𝓡 wired (T, (A, tt)) d dx dd) (λ z are.
     let κs = z.0.0 in
     let qs = z.0.1 in

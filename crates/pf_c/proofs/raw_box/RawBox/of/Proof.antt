@@ -35,9 +35,9 @@ use Rattle.std.proofs.raw_atomic.Walks.{proved_at, leaves}
 use Rattle.std.proofs.BoxSteps.Form as box
 use Rattle.std.proofs.BoxSteps.Steps.{box_out, box_in}
 use Rattle.pf_c.proofs.Words.{two, two_good, closed}
-use Rattle.pf_c.specs.contracts.loose.Loose.of as f
-use Rattle.pf_c.proofs.loose.Loose.of.Statement.{statement}
-use Rattle.pf_c.proofs.loose.Loose.of.Code as code
+use Rattle.pf_c.specs.contracts.raw_box.RawBox.of as f
+use Rattle.pf_c.proofs.raw_box.RawBox.of.Statement.{statement}
+use Rattle.pf_c.proofs.raw_box.RawBox.of.Code as code
 
 pub of_spec : {M : Type 1} → statement M
 of_spec 𝓤 𝓛 𝓜 𝓡 wired T A L LA g d dx dd allocator glued glue =
