@@ -34,8 +34,8 @@ use Rattle.pf_c.specs.contracts.handle.Handle.into_raw_box as f
 use Rattle.pf_c.proofs.handle.Handle.into_raw_box.Statement.{statement}
 use Rattle.pf_c.proofs.handle.Handle.into_raw_box.Code as code
 
-pub into_loose_spec : {M : Type 1} → statement M
-into_loose_spec 𝓤 𝓛 𝓜 𝓡 wired =
+pub into_raw_box_spec : {M : Type 1} → statement M
+into_raw_box_spec 𝓤 𝓛 𝓜 𝓡 wired =
     let H = 𝓛.H in
     let 𝓣 = tables 𝓤 H 𝓜 𝓡 𝓡.env in
     let R : RattleType = context.the_row in
