@@ -8,7 +8,7 @@ use Rattle.pf_rot.specs.Vector.{V2, add, cross_sv, sub}
 use Rattle.pf_rows.specs.Small.{IsShort}
 use Rattle.pf_bundles.specs.Limits.{HasShortProducts}
 use Rattle.pf_lanes.proofs.Numbers.{difference_is, sum_is}
-use Rattle.pf_lanes.proofs.ShiftedLanes.{product_small}
+use Rattle.pf_lanes.proofs.ShiftedNumbers.{product_small}
 use Rattle.pf_batches.proofs.Sizes.{differences}
 
 -- ---- the other sign

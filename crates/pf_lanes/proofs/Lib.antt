@@ -11,4 +11,4 @@ pub mod Casts
 pub mod Holding
 pub mod Tests
 pub mod Numbers
-pub mod ShiftedLanes
+pub mod ShiftedNumbers

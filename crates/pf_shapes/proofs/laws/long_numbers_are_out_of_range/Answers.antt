@@ -1,5 +1,5 @@
 use Rattle.std.proofs.Common.{◌≡◌, ℤ, Bool, true, false, ◌&&◌, Some, None, Option, refl, arith}
-use Rattle.std.specs.Prelude.{int_le, if◌then◌else◌, Ok, Err}
+use Rattle.std.specs.Prelude.{int_le}
 use Rattle.std.specs.Option.{option_map}
 use Rattle.std.proofs.lemmas.Bool.Decides.{nat_tests}
 use Rattle.std.proofs.lemmas.Int.{ints, clamps}

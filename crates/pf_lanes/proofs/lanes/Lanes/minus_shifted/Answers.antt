@@ -3,7 +3,7 @@ use Rattle.pf_num.specs.Fx.{difference}
 use Rattle.pf_lanes.specs.Lanes.{number_in}
 use Rattle.pf_lanes.proofs.Sums.{whole_scale}
 use Rattle.pf_lanes.proofs.Holding.{view_is, exact_is, holds_view}
-use Rattle.pf_lanes.proofs.ShiftedLanes.{minus_shifted_holds, minus_shifted_in, minus_shifted_size}
+use Rattle.pf_lanes.proofs.ShiftedNumbers.{minus_shifted_holds, minus_shifted_in, minus_shifted_size}
 use Rattle.pf_lanes.proofs.lanes.Lanes.minus_shifted.Goals as goal
 
 pub invariant_of-result : goal.invariant_of-result

@@ -1,6 +1,6 @@
 use Rattle.pf_lanes.proofs.Sums.{whole_scale}
 use Rattle.pf_lanes.proofs.Holding.{view_is, exact_is, holds_view}
-use Rattle.pf_lanes.proofs.ShiftedLanes.{shifted_opposite_holds, opposite_in, opposites_are_shifted}
+use Rattle.pf_lanes.proofs.ShiftedNumbers.{shifted_opposite_holds, opposite_in, opposites_are_shifted}
 use Rattle.pf_lanes.proofs.lanes.Lanes.shifted_opposite.Goals as goal
 
 pub invariant_of-result : goal.invariant_of-result

@@ -1,6 +1,6 @@
 use Rattle.pf_lanes.proofs.Sums.{whole_scale}
 use Rattle.pf_lanes.proofs.Holding.{view_is, exact_is, holds_view}
-use Rattle.pf_lanes.proofs.ShiftedLanes.{shifted_product_holds, product_in, products_are_shifted}
+use Rattle.pf_lanes.proofs.ShiftedNumbers.{shifted_product_holds, product_in, products_are_shifted}
 use Rattle.pf_lanes.proofs.lanes.Lanes.shifted_product.Goals as goal
 
 pub invariant_of-result : goal.invariant_of-result

@@ -3,7 +3,7 @@ use Rattle.pf_num.specs.Fx.{difference}
 use Rattle.pf_lanes.specs.Lanes.{number_in}
 use Rattle.pf_lanes.proofs.Sums.{whole_scale}
 use Rattle.pf_lanes.proofs.Holding.{view_is, exact_is, holds_view}
-use Rattle.pf_lanes.proofs.ShiftedLanes.{both_hold, both_in, both_size_in}
+use Rattle.pf_lanes.proofs.ShiftedNumbers.{both_hold, both_in, both_size_in}
 use Rattle.pf_lanes.proofs.shifted.ShiftedLanes.minus.Goals as goal
 
 pub invariant_of-result : goal.invariant_of-result
