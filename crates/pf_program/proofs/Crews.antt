@@ -3,7 +3,7 @@ use Rattle.std.proofs.Common.{◌≡◌, ◌≢◌, List, true, None, Some, Resu
 use Rattle.std.specs.Prelude.{is_some}
 use Rattle.std.proofs.lemmas.Bool.{true≢false}
 use Rattle.pf_step.specs.declared.crew.CrewError.TheVariants.{OutOfMemory, NoThread, GateShut, CrewLost}
-use Rattle.pf_workers.specs.Crew.{FailsStanding, IsStartError, StandingCrew}
+use Rattle.pf_workers.specs.Crew.{FailsStanding, IsStartFailure, StandingCrew}
 use Rattle.pf_console.specs.declared.request.Request.{Request}
 use Rattle.pf_console.specs.declared.request.Request.TheVariants.{Help, Run, Version}
 use Rattle.pf_console.specs.declared.request.Request.TheVariants as requests
@@ -41,7 +41,7 @@ wants (Help text) crew is = absurd (true≢false (ap is_some is))
 wants Version crew is = absurd (true≢false (ap is_some is))
 
 -- a crew that could not be started did not fail by its gate
-pub start_not_shut : (error : CrewError) → IsStartError error → error ≢ GateShut
+pub start_not_shut : (error : CrewError) → IsStartFailure error → error ≢ GateShut
 start_not_shut OutOfMemory is = λ e. absurd cc
 start_not_shut NoThread is = λ e. absurd cc
 start_not_shut GateShut is = absurd is

@@ -4,7 +4,7 @@ use Rattle.clap.specs.Words.{fault_of, subcommand_of}
 use Rattle.pf_text.specs.Streams.{Streams, IfExposed}
 use Rattle.pf_step.specs.declared.crew.CrewError.{CrewError}
 use Rattle.pf_step.specs.declared.crew.CrewError.TheVariants.{GateShut}
-use Rattle.pf_workers.specs.Crew.{IsStartError, StandingCrew, new_crew}
+use Rattle.pf_workers.specs.Crew.{IsStartFailure, StandingCrew, new_crew}
 use Rattle.pf_console.specs.declared.request.Request.{Request}
 use Rattle.pf_console.specs.declared.request.Request.TheVariants.{Run, Session}
 use Rattle.pf_console.specs.declared.error.ProgramError.{ProgramError}
@@ -35,7 +35,7 @@ crew_for request = None
 -- the error with which the crew that a request asks for could not be started
 abbrev pub IsCrewStartError : Request → ProgramError → Type 0
 IsCrewStartError request fault =
-    WantsCrew request × ((error : CrewError) × (fault ≡ Crew error) × IsStartError error)
+    WantsCrew request × ((error : CrewError) × (fault ≡ Crew error) × IsStartFailure error)
 
 -- an error of the crew that a request asks for, whose gates are open, or of the threads of a
 -- session

@@ -5,7 +5,7 @@ use Rattle.pf_step.specs.Split.{Island}
 use Rattle.pf_step.specs.declared.crew.CrewError.{CrewError}
 use Rattle.pf_step.specs.declared.crew.CrewError.TheVariants.{OutOfMemory, NoThread, GateShut, CrewLost}
 use Rattle.pf_events.specs.Crews.{CanFail}
-use Rattle.pf_workers.specs.Crew.{FailsStanding, IsStartError, StandingCrew}
+use Rattle.pf_workers.specs.Crew.{FailsStanding, IsStartFailure, StandingCrew}
 use Rattle.pf_scripts.specs.Play.{IsPeerError, IsCrewErrorOfPlay}
 use Rattle.pf_scripts.specs.declared.error.SessionError.{SessionError}
 
@@ -33,7 +33,7 @@ module _ (always : Bool) (workers : ℕ) where
       → IsCrewErrorOfPlay always (Some workers) error
   standing_error error can = standing can.0 error can.2 can.3
 
-  pub start_error : (error : CrewError) → IsStartError error → IsCrewErrorOfPlay always (Some workers) error
+  pub start_error : (error : CrewError) → IsStartFailure error → IsCrewErrorOfPlay always (Some workers) error
   start_error OutOfMemory start = tt
   start_error NoThread start = refl
   start_error GateShut start = absurd start

@@ -17,9 +17,9 @@ abbrev pub chunk : List Fixture → List BodyState → List Pair → Chunk
 chunk fixtures bodies pairs = record { fixtures = fixtures; bodies = bodies; pairs = pairs }
 
 -- the contact points of a worker's pairs
-abbrev pub points_of : Chunk → List Touch
-points_of c = touches c.fixtures c.bodies c.pairs
+abbrev pub chunk_points : Chunk → List Touch
+chunk_points c = touches c.fixtures c.bodies c.pairs
 
 -- a worker that succeeds returns the contact points of its pairs
 abbrev pub IsFound : Chunk → Result (Vec Touch Global) AllocError → Type 0
-IsFound c found = IfOk found (λ points. points.items ≡ points_of c)
+IsFound c found = IfOk found (λ points. points.items ≡ chunk_points c)

@@ -34,8 +34,8 @@ abbrev pub new_crew : ℕ → StandingCrew
 new_crew workers = record { workers = replicate workers true; turn = 0; lost = false }
 
 -- no worker was dismissed
-abbrev pub HasAllWorkers : StandingCrew → Type 0
-HasAllWorkers c = All (λ there. there ≡ true) c.workers
+abbrev pub IsWholeCrew : StandingCrew → Type 0
+IsWholeCrew c = All (λ there. there ≡ true) c.workers
 
 -- the error of a crew whose pool failed
 abbrev pub crew_error : PoolError → CrewError
@@ -44,11 +44,11 @@ crew_error pools.NoThread = NoThread
 crew_error pools.WorkerLost = CrewLost
 
 -- an error with which a crew may fail to start
-abbrev pub IsStartError : CrewError → Type 0
-IsStartError OutOfMemory = ⊤
-IsStartError NoThread = ⊤
-IsStartError GateShut = ⊥
-IsStartError CrewLost = ⊥
+abbrev pub IsStartFailure : CrewError → Type 0
+IsStartFailure OutOfMemory = ⊤
+IsStartFailure NoThread = ⊤
+IsStartFailure GateShut = ⊥
+IsStartFailure CrewLost = ⊥
 
 -- an error that a solve by standing workers may return: a gate that lets everybody through is never
 -- shut, and no thread is started

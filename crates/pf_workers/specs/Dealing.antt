@@ -7,11 +7,11 @@ share n w k [] = []
 share n w k (x ∷ xs) =
     if k % n == w then share n w (k + 1) xs ++ x ∷ [] else share n w (k + 1) xs
 
--- these piles are what the workers have of a list whose first element has the number k
+-- these queues are what the workers have of a list whose first element has the number k
 abbrev pub AreSharesFrom : {X : Type 0} → ℕ → List X → List (List X) → Type 0
-AreSharesFrom k all piles =
-    (w : ℕ) → w < length piles → slice_index_or piles w [] ≡ share (length piles) w k all
+AreSharesFrom k all queues =
+    (w : ℕ) → w < length queues → slice_index_or queues w [] ≡ share (length queues) w k all
 
--- these piles are what the workers have of all
+-- these queues are what the workers have of all
 abbrev pub AreShares : {X : Type 0} → List X → List (List X) → Type 0
-AreShares all piles = AreSharesFrom 0 all piles
+AreShares all queues = AreSharesFrom 0 all queues

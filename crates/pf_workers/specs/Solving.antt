@@ -12,9 +12,9 @@ pub record Share : Type 0 where
   pub islands : List Island
 
 abbrev pub share_of : Scene → List Island → Share
-share_of s pile = record { scene = s; islands = pile }
+share_of s queue = record { scene = s; islands = queue }
 
 -- what a worker returns of its own islands: each after a tick, or that its gate was shut
 abbrev pub IsSolved : Bool → Scene → List Island → Result (List Island) CrewError → Type 0
-IsSolved always s pile (Ok after) = after ≡ map (island_after_tick s) pile
-IsSolved always s pile (Err error) = (error ≡ GateShut) × (always ≡ false)
+IsSolved always s queue (Ok after) = after ≡ map (island_after_tick s) queue
+IsSolved always s queue (Err error) = (error ≡ GateShut) × (always ≡ false)

@@ -4,15 +4,15 @@ use Rattle.std.specs.List.{flat_map}
 use Rattle.pf_manifold.specs.Touches.{Touch}
 use Rattle.pf_workers.specs.declared.work.Part.{Part}
 use Rattle.pf_workers.specs.declared.work.Part.TheVariants.{Islands, Solved, Pairs, Found}
-use Rattle.pf_workers.specs.Colliding.{Chunk, IsFound, points_of}
+use Rattle.pf_workers.specs.Colliding.{Chunk, IsFound, chunk_points}
 use Rattle.pf_step.specs.declared.crew.CrewError.TheVariants.{GateShut}
 use Rattle.pf_workers.specs.Solving.{IsSolved}
 
 -- what a worker makes of a part: of islands what they are after a tick, of pairs their contact
 -- points; what is done stays
 abbrev pub IsDone : Bool → Part → Part → Type 0
-IsDone always (Islands share) (Solved piles) =
-    IsSolved always share.scene share.islands piles
+IsDone always (Islands share) (Solved queues) =
+    IsSolved always share.scene share.islands queues
 IsDone always (Islands share) done = ⊥
 IsDone always (Pairs chunk) (Found found) = IsFound chunk found
 IsDone always (Pairs chunk) done = ⊥
@@ -20,12 +20,12 @@ IsDone always part done = done ≡ part
 
 -- islands that are done, which fails only where a gate was shut
 abbrev pub AreIslandsDone : Bool → Option Part → Type 0
-AreIslandsDone always (Some (Solved piles)) =
-    IfErr piles (λ error. (error ≡ GateShut) × (always ≡ false))
+AreIslandsDone always (Some (Solved queues)) =
+    IfErr queues (λ error. (error ≡ GateShut) × (always ≡ false))
 AreIslandsDone always other = ⊥
 
 -- these parts are chunks of pairs that have these contact points
 abbrev pub ArePointsOf : List (Option Part) → List Touch → Type 0
 ArePointsOf parts points =
     (chunks : List Chunk) × (parts ≡ map (λ c. Some (Pairs c)) chunks)
-    × (flat_map points_of chunks ≡ points)
+    × (flat_map chunk_points chunks ≡ points)

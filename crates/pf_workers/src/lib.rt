@@ -4,7 +4,7 @@
 
 mod colliding;
 mod gate;
-mod pile;
+mod queue;
 mod scene;
 mod scoped;
 mod solving;

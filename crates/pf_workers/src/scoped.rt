@@ -7,7 +7,7 @@ ghost use Rattle.pf_workers.specs.Crew.{IsScopedError};
 
 use crate::MAX_WORKERS;
 use crate::gate::{Gate, OpenGate};
-use crate::pile::{Pile, deal, empty_piles, gather};
+use crate::queue::{IslandQueue, deal, empty_queues, gather};
 use crate::work::solve;
 use pf_islands::Island;
 use pf_shapes::Scene;
@@ -23,19 +23,19 @@ use std::{mem, thread};
 #[derive(Drop)]
 struct WorkerPromise<G> {
     scene: Snapshot<Scene>,
-    pile: Snapshot<Pile>,
+    queue: Snapshot<IslandQueue>,
     gate: PhantomData<G>,
 }
 
-impl<G: Gate> Promise<Result<Pile, CrewError>> for WorkerPromise<G> {
+impl<G: Gate> Promise<Result<IslandQueue, CrewError>> for WorkerPromise<G> {
     ghost use Rattle.pf_workers.specs.Solving.{IsSolved};
 
-    ghost kept_by = { λ p r. IsSolved G.ALWAYS p.scene.value p.pile.value r };
+    ghost kept_by = { λ p r. IsSolved G.ALWAYS p.scene.value p.queue.value r };
 }
 
-/// Starts a worker for each pile, from the last to the first, and joins those that it started. Each
-/// pile then holds its islands after a tick. Returns an error where a thread could not be started,
-/// and else that of the least worker that failed.
+/// Starts a worker for each queue, from the last to the first, and joins those that it started.
+/// Each queue then holds its islands after a tick. Returns an error where a thread could not be
+/// started, and else that of the least worker that failed.
 fn run_workers<'s, 'e: 's, R: Threads, G: Gate + Sync>(
     rt: &R,
     alloc: Global,
@@ -43,21 +43,21 @@ fn run_workers<'s, 'e: 's, R: Threads, G: Gate + Sync>(
     scene: &'e Scene,
     gate: &'e G,
     turn: usize,
-    piles: &mut [Pile],
+    queues: &mut [IslandQueue],
 ) -> Result<(), CrewError>
-    requires { All (All (IsIslandOf scene.now)) piles.old }
+    requires { All (All (IsIslandOf scene.now)) queues.old }
     ensures solved { OnOk result
-        (piles.new ≡ map (map (island_after_tick scene.now)) piles.old) }
+        (queues.new ≡ map (map (island_after_tick scene.now)) queues.old) }
     ensures failed { IfErr result (IsScopedError G.ALWAYS) }
 {
-    let Some((pile, others)) = piles.split_last_mut() else {
+    let Some((queue, others)) = queues.split_last_mut() else {
         return Ok(());
     };
     let worker = others.len();
-    let given = mem::replace(pile, Pile::new(alloc));
+    let given = mem::replace(queue, IslandQueue::new(alloc));
     let promise = WorkerPromise::<G> {
         scene: Snapshot::of(scene),
-        pile: Snapshot::of(&given),
+        queue: Snapshot::of(&given),
         gate: PhantomData,
     };
     let started = scope.spawn_with(promise, move || solve(scene, gate, worker, turn, given));
@@ -67,7 +67,7 @@ fn run_workers<'s, 'e: 's, R: Threads, G: Gate + Sync>(
     let lesser = run_workers(rt, alloc, scope, scene, gate, turn, others);
     let done = thread.join(rt);
     lesser?;
-    *pile = done?;
+    *queue = done?;
     Ok(())
 }
 
@@ -116,11 +116,16 @@ impl<'r, R: Threads + Wait, G: Gate + Sync> ScopedCrew<'r, R, G> {
         }
     }
 
-    /// Lets the workers solve their piles in a scope of their own.
-    fn run(&self, scene: &Scene, turn: usize, piles: Vec<Pile>) -> Result<Vec<Pile>, CrewError>
-        requires { All (All (IsIslandOf scene.now)) piles.items }
+    /// Lets the workers solve their queues in a scope of their own.
+    fn run(
+        &self,
+        scene: &Scene,
+        turn: usize,
+        queues: Vec<IslandQueue>,
+    ) -> Result<Vec<IslandQueue>, CrewError>
+        requires { All (All (IsIslandOf scene.now)) queues.items }
         ensures solved { IfOk result
-            (λ solved. solved.items ≡ map (map (island_after_tick scene.now)) piles.items) }
+            (λ solved. solved.items ≡ map (map (island_after_tick scene.now)) queues.items) }
         ensures failed { IfErr result (IsScopedError G.ALWAYS) }
     {
         let rt = self.rt;
@@ -129,16 +134,16 @@ impl<'r, R: Threads + Wait, G: Gate + Sync> ScopedCrew<'r, R, G> {
         thread::scope(
             thread::scope_env(),
             rt,
-            |scope| -> Result<Vec<Pile>, CrewError>
-                requires { All (All (IsIslandOf scene.now)) piles.items }
+            |scope| -> Result<Vec<IslandQueue>, CrewError>
+                requires { All (All (IsIslandOf scene.now)) queues.items }
                 ensures solved { IfOk result
                     (λ solved. solved.items
-                    ≡ map (map (island_after_tick scene.entry.now)) piles.items) }
+                    ≡ map (map (island_after_tick scene.entry.now)) queues.items) }
                 ensures failed { IfErr result (IsScopedError G.ALWAYS) }
             {
-                let mut piles = piles;
-                run_workers(rt, alloc, scope, scene, gate, turn, &mut piles)?;
-                Ok(piles)
+                let mut queues = queues;
+                run_workers(rt, alloc, scope, scene, gate, turn, &mut queues)?;
+                Ok(queues)
             },
         )
     }
@@ -158,9 +163,9 @@ impl<'r, R: Threads + Wait, G: Gate + Sync> ScopedCrew<'r, R, G> {
         self.turn = turn.saturating_add(1);
         let mut islands = islands;
         let count = islands.len();
-        let empty = empty_piles(self.alloc, self.workers)?;
-        let piles = deal(&mut islands, empty)?;
-        let solved = self.run(scene, turn, piles)?;
+        let empty = empty_queues(self.alloc, self.workers)?;
+        let queues = deal(&mut islands, empty)?;
+        let solved = self.run(scene, turn, queues)?;
         let _empty = gather(solved, count, &mut islands)?;
         Ok(islands)
     }

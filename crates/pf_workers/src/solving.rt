@@ -9,7 +9,7 @@ ghost use Rattle.pf_workers.specs.Work.{AreIslandsDone};
 ghost use Rattle.pf_workers.specs.declared.work.Part.TheVariants.{Islands, Solved};
 
 use crate::gate::Gate;
-use crate::pile::Pile;
+use crate::queue::IslandQueue;
 use crate::work::{Part, solve};
 use pf_shapes::Scene;
 use pf_step::CrewError;
@@ -22,7 +22,7 @@ use std::sync::Arc;
 #[derive(Drop)]
 pub(crate) struct Share {
     scene: Arc<Scene, Global>,
-    pile: Pile,
+    queue: IslandQueue,
 }
 
 impl Model for Share {
@@ -33,9 +33,9 @@ impl Model for Share {
 
     ghost Value = { Share };
 
-    ghost view = { λ s. record { scene = arc_value s.scene; islands = s.pile } };
+    ghost view = { λ s. record { scene = arc_value s.scene; islands = s.queue } };
 
-    ghost invariant = { λ s. All (IsIslandOf (arc_value s.scene)) s.pile };
+    ghost invariant = { λ s. All (IsIslandOf (arc_value s.scene)) s.queue };
 }
 
 impl Share {
@@ -47,49 +47,49 @@ impl Share {
         gate: &G,
         worker: usize,
         turn: usize,
-    ) -> Result<Pile, CrewError>
+    ) -> Result<IslandQueue, CrewError>
         ensures { IsSolved G.ALWAYS self.scene self.islands result }
     {
-        let Share { scene, pile } = self;
-        solve(&scene, gate, worker, turn, pile)
+        let Share { scene, queue } = self;
+        solve(&scene, gate, worker, turn, queue)
     }
 }
 
-/// Makes a part of each pile, with the scene.
+/// Makes a part of each queue, with the scene.
 pub(crate) fn hand_out(
     alloc: Global,
     scene: &Arc<Scene, Global>,
-    piles: &mut [Pile],
+    queues: &mut [IslandQueue],
     parts: &mut Vec<Option<Part>>,
 ) -> Result<(), AllocError>
-    requires { All (All (IsIslandOf (arc_value scene.now))) piles.old }
+    requires { All (All (IsIslandOf (arc_value scene.now))) queues.old }
     ensures parts { OnOk result (parts.new.items
-        ≡ map (λ pile. Some (Islands (share_of (arc_value scene.now) pile))) piles.old) }
-    ensures count { length piles.new ≡ length piles.old }
+        ≡ map (λ queue. Some (Islands (share_of (arc_value scene.now) queue))) queues.old) }
+    ensures count { length queues.new ≡ length queues.old }
 {
     parts.clear();
-    for number in 0..piles.len() {
-        let pile = mem::replace(&mut piles[number], Pile::new(alloc));
+    for number in 0..queues.len() {
+        let queue = mem::replace(&mut queues[number], IslandQueue::new(alloc));
         let scene = Arc::try_clone(scene)?;
-        parts.push(Some(Part::Islands(Share { scene, pile })))?;
+        parts.push(Some(Part::Islands(Share { scene, queue })))?;
     }
     Ok(())
 }
 
-/// Takes the solved piles out of the parts, or returns the error of the least worker that has one.
+/// Takes the solved queues out of the parts, or returns the error of the least worker that has one.
 pub(crate) fn take_in<G: Gate>(
     parts: &mut [Option<Part>],
-    piles: &mut [Pile],
+    queues: &mut [IslandQueue],
 ) -> Result<(), CrewError>
-    requires count { length parts.old ≡ length piles.old }
+    requires count { length parts.old ≡ length queues.old }
     requires done { All (AreIslandsDone G.ALWAYS) parts.old }
-    ensures piles { OnOk result (map (λ pile. Some (Solved (Ok pile))) piles.new ≡ parts.old) }
-    ensures count { length piles.new ≡ length piles.old }
+    ensures queues { OnOk result (map (λ queue. Some (Solved (Ok queue))) queues.new ≡ parts.old) }
+    ensures count { length queues.new ≡ length queues.old }
     ensures failed { IfErr result (λ error. (error ≡ GateShut) × (G.ALWAYS ≡ false)) }
 {
-    for number in 0..piles.len() {
+    for number in 0..queues.len() {
         match parts[number].take() {
-            Some(Part::Solved(pile)) => piles[number] = pile?,
+            Some(Part::Solved(queue)) => queues[number] = queue?,
             _ => unreachable!(),
         }
     }

@@ -6,7 +6,7 @@ ghost use Rattle.pf_workers.specs.Crew.{crew_error};
 use crate::MAX_WORKERS;
 use crate::colliding::StandingCollider;
 use crate::gate::Gate;
-use crate::pile::{Pile, contact_counts, deal, empty_piles, gather};
+use crate::queue::{IslandQueue, contact_counts, deal, empty_queues, gather};
 use crate::scene::SharedScene;
 use crate::solving::{hand_out, take_in};
 use crate::work::{Part, Work};
@@ -53,8 +53,8 @@ pub struct StandingCrew<R, G: Gate> {
     alloc: Global,
     pool: Pool<R, Work<G>>,
     scene: SharedScene,
-    /// The memory for the piles of the next solve, and for their way to the workers and back.
-    piles: Vec<Pile>,
+    /// The memory for the queues of the next solve, and for their way to the workers and back.
+    queues: Vec<IslandQueue>,
     parts: Vec<Option<Part>>,
     turn: usize,
     lost: bool,
@@ -70,14 +70,14 @@ impl<R, G: Gate> Model for StandingCrew<R, G> {
     ghost view = { λ c. record { workers = c.pool; turn = c.turn; lost = c.lost } };
 
     ghost invariant = { λ c. (0 < length c.pool) × (length c.pool ≤ MAX_WORKERS)
-        × All (λ pile. pile ≡ []) c.piles.items };
+        × All (λ queue. queue ≡ []) c.queues.items };
 }
 
 impl<R: Wait, G: Gate> StandingCrew<R, G> {
     ghost use Rattle.std.specs.Prelude.{◌≡◌, ◌<◌, ◌≤◌, [], All, IfErr, IfOk, IsTrue, OnOk, false, length, map, slice_set, true};
     ghost use Rattle.pf_islands.specs.Split.{IsIslandOf};
     ghost use Rattle.pf_solver.specs.Alone.{island_after_tick};
-    ghost use Rattle.pf_workers.specs.Crew.{HasAllWorkers, IsStandingError, IsStartError, new_crew};
+    ghost use Rattle.pf_workers.specs.Crew.{IsWholeCrew, IsStandingError, IsStartFailure, new_crew};
 
     /// A crew of so many workers, which pass the gate in each solve. Returns an error where it is
     /// out of memory or a thread could not be started; the workers that were started end by
@@ -93,14 +93,14 @@ impl<R: Wait, G: Gate> StandingCrew<R, G> {
         G: Send + Sync + Drop + 'static,
         requires { (0 < workers) × (workers ≤ MAX_WORKERS) }
         ensures crew { IfOk result (λ crew. crew ≡ new_crew workers) }
-        ensures failed { IfErr result IsStartError }
+        ensures failed { IfErr result IsStartFailure }
     {
         match Pool::new(rt, alloc, workers, Work { alloc, gate }) {
             Ok(pool) => Ok(StandingCrew {
                 alloc,
                 pool,
                 scene: SharedScene::new(),
-                piles: Vec::new(alloc),
+                queues: Vec::new(alloc),
                 parts: Vec::new(alloc),
                 turn: 0,
                 lost: false,
@@ -171,25 +171,30 @@ impl<R: Wait, G: Gate> StandingCrew<R, G> {
         Ok(islands)
     }
 
-    /// Lets the workers solve their piles.
-    fn run(&mut self, scene: &Scene, turn: usize, piles: &mut [Pile]) -> Result<(), CrewError>
-        requires count { length piles.old ≤ length self.old.workers }
-        requires islands { All (All (IsIslandOf scene.now)) piles.old }
+    /// Lets the workers solve their queues.
+    fn run(
+        &mut self,
+        scene: &Scene,
+        turn: usize,
+        queues: &mut [IslandQueue],
+    ) -> Result<(), CrewError>
+        requires count { length queues.old ≤ length self.old.workers }
+        requires islands { All (All (IsIslandOf scene.now)) queues.old }
         ensures solved { OnOk result
-            (piles.new ≡ map (map (island_after_tick scene.now)) piles.old) }
+            (queues.new ≡ map (map (island_after_tick scene.now)) queues.old) }
         ensures same { self.new ≡ self.old }
         ensures failed { IfErr result (IsStandingError G.ALWAYS) }
     {
         let shared = self.scene.shared(self.alloc, scene)?;
-        hand_out(self.alloc, &shared, piles, &mut self.parts)?;
+        hand_out(self.alloc, &shared, queues, &mut self.parts)?;
         match self.pool.run(turn, &mut self.parts) {
-            Ok(()) => take_in::<G>(&mut self.parts, piles),
+            Ok(()) => take_in::<G>(&mut self.parts, queues),
             Err(error) => Err(crew_error(error)),
         }
     }
 
-    /// How many piles pay for so many islands.
-    fn pile_count(&self, islands: usize) -> usize
+    /// How many queues pay for so many islands.
+    fn queue_count(&self, islands: usize) -> usize
         ensures some { 0 < result }
         ensures most { result ≤ length self.now.workers }
     {
@@ -200,21 +205,21 @@ impl<R: Wait, G: Gate> StandingCrew<R, G> {
         most.min(islands.max(1))
     }
 
-    /// So many piles without islands, in the memory of the last ones.
-    fn take_piles(&mut self, count: usize) -> Result<Vec<Pile>, AllocError>
-        ensures count { IfOk result (λ piles. length piles.items ≡ count) }
-        ensures empty { IfOk result (λ piles. All (λ pile. pile ≡ []) piles.items) }
+    /// So many queues without islands, in the memory of the last ones.
+    fn take_queues(&mut self, count: usize) -> Result<Vec<IslandQueue>, AllocError>
+        ensures count { IfOk result (λ queues. length queues.items ≡ count) }
+        ensures empty { IfOk result (λ queues. All (λ queue. queue ≡ []) queues.items) }
         ensures same { self.new ≡ self.old }
     {
-        let piles = mem::replace(&mut self.piles, Vec::new(self.alloc));
-        if piles.len() == count {
-            return Ok(piles);
+        let queues = mem::replace(&mut self.queues, Vec::new(self.alloc));
+        if queues.len() == count {
+            return Ok(queues);
         }
-        empty_piles(self.alloc, count)
+        empty_queues(self.alloc, count)
     }
 
-    /// Solves each island by the workers, in a turn that was counted. Passes the gate for those that
-    /// have no part.
+    /// Solves each island by the workers, in a turn that was counted. Passes the gate for those
+    /// that have no part.
     fn solve_by_workers(
         &mut self,
         scene: &Scene,
@@ -227,16 +232,16 @@ impl<R: Wait, G: Gate> StandingCrew<R, G> {
         ensures same { self.new ≡ self.old }
         ensures failed { IfErr result (IsStandingError G.ALWAYS) }
     {
-        let pile_count = self.pile_count(islands.len());
-        if !self.pass_from(pile_count, turn) {
+        let queue_count = self.queue_count(islands.len());
+        if !self.pass_from(queue_count, turn) {
             return Err(CrewError::GateShut);
         }
         let mut islands = islands;
         let count = islands.len();
-        let empty = self.take_piles(pile_count)?;
-        let mut piles = deal(&mut islands, empty)?;
-        self.run(scene, turn, &mut piles)?;
-        self.piles = gather(piles, count, &mut islands)?;
+        let empty = self.take_queues(queue_count)?;
+        let mut queues = deal(&mut islands, empty)?;
+        self.run(scene, turn, &mut queues)?;
+        self.queues = gather(queues, count, &mut islands)?;
         Ok(islands)
     }
 
@@ -251,7 +256,7 @@ impl<R: Wait, G: Gate> StandingCrew<R, G> {
         ensures solved { IfOk result
             (λ solved. solved.items ≡ map (island_after_tick scene.now) islands.items) }
         ensures same { self.new ≡ self.old }
-        ensures there { OnOk result (HasAllWorkers self.old) }
+        ensures there { OnOk result (IsWholeCrew self.old) }
         ensures failed { IfErr result (IsStandingError G.ALWAYS) }
     {
         if !self.pool.has_all_workers() {
@@ -266,10 +271,10 @@ impl<R: Wait, G: Gate> StandingCrew<R, G> {
 
 impl<R: Wait, G: Gate> Crew for StandingCrew<R, G> {
     ghost use Rattle.std.specs.Prelude.{◌≡◌, false};
-    ghost use Rattle.pf_workers.specs.Crew.{HasAllWorkers, FailsStanding, next_turn};
+    ghost use Rattle.pf_workers.specs.Crew.{IsWholeCrew, FailsStanding, next_turn};
 
     ghost is_called = { λ before islands after.
-        (before.lost ≡ false) × HasAllWorkers before
+        (before.lost ≡ false) × IsWholeCrew before
         × (after ≡ record before { turn = next_turn before.turn }) };
 
     ghost may_fail = { λ before islands error after. FailsStanding G.ALWAYS before error after };

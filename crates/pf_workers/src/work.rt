@@ -6,7 +6,7 @@ ghost use Rattle.pf_workers.specs.Solving.{IsSolved};
 
 use crate::colliding::Chunk;
 use crate::gate::Gate;
-use crate::pile::Pile;
+use crate::queue::IslandQueue;
 use crate::solving::Share;
 use pf_manifold::Touch;
 use pf_pool::Task;
@@ -20,17 +20,17 @@ pub(crate) fn solve<G: Gate>(
     gate: &G,
     worker: usize,
     turn: usize,
-    pile: Pile,
-) -> Result<Pile, CrewError>
-    requires { All (IsIslandOf scene.now) pile }
-    ensures { IsSolved G.ALWAYS scene.now pile result }
+    queue: IslandQueue,
+) -> Result<IslandQueue, CrewError>
+    requires { All (IsIslandOf scene.now) queue }
+    ensures { IsSolved G.ALWAYS scene.now queue result }
 {
     if !gate.pass(worker, turn) {
         return Err(CrewError::GateShut);
     }
-    let mut pile = pile;
-    pile.solve(scene);
-    Ok(pile)
+    let mut queue = queue;
+    queue.solve(scene);
+    Ok(queue)
 }
 
 /// What a worker is asked to do, and what it comes back as.
@@ -39,7 +39,7 @@ pub(crate) enum Part {
     /// Islands that are to be solved.
     Islands(Share),
     /// The islands after a tick, or that the gate was shut.
-    Solved(Result<Pile, CrewError>),
+    Solved(Result<IslandQueue, CrewError>),
     /// Pairs whose contact points are to be computed.
     Pairs(Chunk),
     /// The contact points, or out of memory.

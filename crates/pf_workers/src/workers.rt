@@ -18,7 +18,7 @@ pub struct Workers<R, G: Gate> {
 impl<R: Wait, G: Gate> Workers<R, G> {
     ghost use Rattle.std.specs.Prelude.{◌≡◌, ◌<◌, ◌≤◌, IfErr, IfOk};
     ghost use Rattle.pf_pool.specs.declared.pool.TheConstants.{MAX_WORKERS};
-    ghost use Rattle.pf_workers.specs.Crew.{IsStartError, new_crew};
+    ghost use Rattle.pf_workers.specs.Crew.{IsStartFailure, new_crew};
 
     /// Starts so many workers, which pass the gate in each solve. Returns an error where it is out
     /// of memory or a thread could not be started; the workers that were started end by themselves.
@@ -29,7 +29,7 @@ impl<R: Wait, G: Gate> Workers<R, G> {
         requires { (0 < workers) × (workers ≤ MAX_WORKERS) }
         ensures crew { IfOk result (λ made. made.crew ≡ new_crew workers) }
         ensures collider { IfOk result (λ made. made.collider ≡ (new_crew workers).workers) }
-        ensures failed { IfErr result IsStartError }
+        ensures failed { IfErr result IsStartFailure }
     {
         let crew = StandingCrew::new(rt, alloc, workers, gate)?;
         let collider = crew.collider()?;

@@ -2,7 +2,7 @@ use Rattle.std.proofs.Common.{◌≡◌, ◌∙◌, ◌++◌, Ok, Some, ap, arit
 use Rattle.std.proofs.lemmas.List.{take_all}
 use Rattle.std.specs.List.{flat_map}
 use Rattle.pf_pool.specs.Pool.{AreDone}
-use Rattle.pf_workers.specs.Colliding.{points_of}
+use Rattle.pf_workers.specs.Colliding.{chunk_points}
 use Rattle.pf_workers.specs.Work.{IsDone}
 use Rattle.pf_workers.specs.declared.work.Part.TheVariants.{Found}
 use Rattle.pf_workers.proofs.Chunks.{count, joined_more}
@@ -22,6 +22,6 @@ returns g c parts points cut outcomes =
     let chunks = cut.0 in
     let of = subst (λ l. AreDone (IsDone always) l c.args.found.now) cut.1 outcomes in
     c.loop-number.invariant chunks of
-    ∙ ap (flat_map points_of)
+    ∙ ap (flat_map chunk_points)
     (take_all c.loop-number.number chunks (omega (arith, c.loop-number-test.false, count always chunks c.args.found.now of)))
     ∙ cut.2

@@ -12,11 +12,11 @@ use std::marker::Model;
 
 /// The islands of a worker, from last to first.
 #[derive(Debug, Drop)]
-pub(crate) struct Pile {
+pub(crate) struct IslandQueue {
     islands: Vec<Island>,
 }
 
-impl Model for Pile {
+impl Model for IslandQueue {
     ghost use Rattle.std.specs.Prelude.{List};
     ghost use Rattle.pf_islands.specs.Split.{Island};
 
@@ -25,17 +25,17 @@ impl Model for Pile {
     ghost view = { λ p. p.islands.items };
 }
 
-impl Pile {
+impl IslandQueue {
     ghost use Rattle.std.specs.Prelude.{◌≡◌, ◌+◌, ◌<◌, ◌≤◌, ◌++◌, ◌∷◌, [], All, IfOk, IfSome, IsNone, OnOk, drop, length, map, take};
     ghost use Rattle.pf_islands.specs.Split.{IsIslandOf};
     ghost use Rattle.pf_solver.specs.Alone.{island_after_tick};
     ghost use Rattle.pf_workers.specs.Dealing.{share};
 
     /// Without islands. Takes no memory.
-    pub(crate) fn new(alloc: Global) -> Pile
+    pub(crate) fn new(alloc: Global) -> IslandQueue
         ensures { result ≡ [] }
     {
-        Pile {
+        IslandQueue {
             islands: Vec::new(alloc),
         }
     }
@@ -48,7 +48,7 @@ impl Pile {
         Ok(())
     }
 
-    /// Takes the first island, which is the last of the pile.
+    /// Takes the first island, which is the last of the queue.
     fn pop(&mut self) -> Option<Island>
         ensures some { IfSome result (λ island. self.old ≡ self.new ++ island ∷ []) }
         ensures none { IsNone result → self.old ≡ [] }
@@ -77,55 +77,58 @@ pub(crate) fn contact_counts(islands: &[Island]) -> (usize, usize) {
     (all, greatest)
 }
 
-/// So many piles without islands.
-pub(crate) fn empty_piles(alloc: Global, count: usize) -> Result<Vec<Pile>, AllocError>
-    ensures count { IfOk result (λ piles. length piles.items ≡ count) }
-    ensures empty { IfOk result (λ piles. All (λ pile. pile ≡ []) piles.items) }
+/// So many queues without islands.
+pub(crate) fn empty_queues(alloc: Global, count: usize) -> Result<Vec<IslandQueue>, AllocError>
+    ensures count { IfOk result (λ queues. length queues.items ≡ count) }
+    ensures empty { IfOk result (λ queues. All (λ queue. queue ≡ []) queues.items) }
 {
-    let mut piles = Vec::with_capacity(alloc, count)?;
+    let mut queues = Vec::with_capacity(alloc, count)?;
     for _made in 0..count {
-        piles.push(Pile::new(alloc))?;
+        queues.push(IslandQueue::new(alloc))?;
     }
-    Ok(piles)
+    Ok(queues)
 }
 
-/// Deals islands to the workers, whose piles are empty.
-pub(crate) fn deal(islands: &mut Vec<Island>, piles: Vec<Pile>) -> Result<Vec<Pile>, AllocError>
-    requires some { 0 < length piles.items }
-    requires empty { All (λ pile. pile ≡ []) piles.items }
+/// Deals islands to the workers, whose queues are empty.
+pub(crate) fn deal(
+    islands: &mut Vec<Island>,
+    queues: Vec<IslandQueue>,
+) -> Result<Vec<IslandQueue>, AllocError>
+    requires some { 0 < length queues.items }
+    requires empty { All (λ queue. queue ≡ []) queues.items }
     ensures shares { IfOk result (λ dealt. AreShares islands.old.items dealt.items) }
-    ensures count { IfOk result (λ dealt. length dealt.items ≡ length piles.items) }
+    ensures count { IfOk result (λ dealt. length dealt.items ≡ length queues.items) }
     ensures rest { OnOk result (islands.new.items ≡ []) }
 {
-    let mut piles = piles;
+    let mut queues = queues;
     while let Some(island) = islands.pop() {
-        let worker = islands.len() % piles.len();
-        piles[worker].push(island)?;
+        let worker = islands.len() % queues.len();
+        queues[worker].push(island)?;
     }
-    Ok(piles)
+    Ok(queues)
 }
 
 /// Puts so many islands of the workers behind those of a list, in the order in which they were
-/// dealt. Returns the piles, which are empty then.
+/// dealt. Returns the queues, which are empty then.
 pub(crate) fn gather(
-    piles: Vec<Pile>,
+    queues: Vec<IslandQueue>,
     count: usize,
     islands: &mut Vec<Island>,
-) -> Result<Vec<Pile>, AllocError>
-    requires { 0 < length piles.items }
-    ensures gathered { (all : List Island) → AreShares all piles.items → length all ≡ count
+) -> Result<Vec<IslandQueue>, AllocError>
+    requires { 0 < length queues.items }
+    ensures gathered { (all : List Island) → AreShares all queues.items → length all ≡ count
         → OnOk result (islands.new.items ≡ islands.old.items ++ all) }
-    ensures count { IfOk result (λ rest. length rest.items ≡ length piles.items) }
-    ensures empty { (all : List Island) → AreShares all piles.items → length all ≡ count
-        → IfOk result (λ rest. All (λ pile. pile ≡ []) rest.items) }
+    ensures count { IfOk result (λ rest. length rest.items ≡ length queues.items) }
+    ensures empty { (all : List Island) → AreShares all queues.items → length all ≡ count
+        → IfOk result (λ rest. All (λ queue. queue ≡ []) rest.items) }
 {
-    let mut piles = piles;
+    let mut queues = queues;
     for number in 0..count {
-        let worker = number % piles.len();
-        match piles[worker].pop() {
+        let worker = number % queues.len();
+        match queues[worker].pop() {
             Some(island) => islands.push(island)?,
-            None => return Ok(piles),
+            None => return Ok(queues),
         }
     }
-    Ok(piles)
+    Ok(queues)
 }
