@@ -4,15 +4,16 @@ ghost use Rattle.std.specs.Prelude.{◌≡◌, ◌↔◌, ◌+◌, ◌≤◌, �
 ghost use Rattle.pf_manifold.specs.Key.{AreTouches, IsKey, key_of, rank};
 ghost use Rattle.pf_cache.specs.Contact.{AreContacts, HaveSameFirst, impulses_at, next_contacts};
 ghost use Rattle.pf_cache.specs.ContactRows.{AreRowsAt, IsRowAt, with_rows};
-ghost use Rattle.pf_cache.specs.ContactsChange.{contacts_below};
+ghost use Rattle.pf_cache.specs.ContactsChange.{contact_of_row};
 
 use crate::contact::Contact;
-use crate::contacts_change::{ContactsChange, NotedContact, restore_first, split_into};
+use crate::contacts_change::{ContactsChange, NotedContact, restore_all};
 use crate::ranked::{Ranked, find_from};
 use pf_manifold::{Key, Touch};
 use pf_rows::{Impulses, Row};
 use std::alloc::{AllocError, Global};
 use std::marker::Model;
+use std::mem;
 
 /// What is kept of the contacts of a world from tick to tick: the accumulated impulses of each, in
 /// the order of their keys, each key once.
@@ -72,18 +73,18 @@ fn has_key_of(contact: &Contact, touch: &Touch) -> bool
     key.a == touch.a && key.b == touch.b && key.feature == touch.point.feature
 }
 
-/// How many of the first contacts, at most `limit`, have the keys of the first points, one after
-/// the other. The first `known` are known to have them, and are not compared. No clause says that
-/// it does not stop earlier.
+/// How many of the first contacts have the keys of the first points, one after the other. The
+/// first `known` are known to have them, and are not compared. No clause says that it does not stop
+/// earlier.
 #[inline]
-fn same_keys(contacts: &[Contact], touches: &[Touch], known: usize, limit: usize) -> usize
+fn same_keys(contacts: &[Contact], touches: &[Touch], known: usize) -> usize
     requires { HaveSameFirst known (map (λ c. c.key) contacts.now) (map key_of touches.now) }
     ensures contacts { result ≤ length contacts.now }
     ensures touches { result ≤ length touches.now }
     ensures same { map (λ c. c.key) (take result contacts.now)
         ≡ map key_of (take result touches.now) }
 {
-    let end = limit.min(contacts.len()).min(touches.len());
+    let end = contacts.len().min(touches.len());
     let mut count = known.min(end);
     while count < end {
         if !has_key_of(&contacts[count], &touches[count]) {
@@ -92,6 +93,16 @@ fn same_keys(contacts: &[Contact], touches: &[Touch], known: usize, limit: usize
         count += 1;
     }
     count
+}
+
+/// Whether the contacts have the keys of the points. The first `known` are known to have them. No
+/// clause says that it is found where they have.
+#[inline]
+fn have_keys_of(contacts: &[Contact], touches: &[Touch], known: usize) -> bool
+    requires { HaveSameFirst known (map (λ c. c.key) contacts.now) (map key_of touches.now) }
+    ensures { IsTrue result → map (λ c. c.key) contacts.now ≡ map key_of touches.now }
+{
+    contacts.len() == touches.len() && same_keys(contacts, touches, known) == contacts.len()
 }
 
 /// Adds these contacts. There is room for them.
@@ -118,7 +129,7 @@ fn add_next(list: &mut Vec<Contact>, old: &[Contact], touches: &[Touch])
     let mut place = 0;
     let mut done = 0;
     while done < touches.len() {
-        let run = same_keys(&old[place..], &touches[done..], 0, usize::MAX);
+        let run = same_keys(&old[place..], &touches[done..], 0);
         add_all(list, &old[place..place + run]);
         place += run;
         done += run;
@@ -132,29 +143,25 @@ fn add_next(list: &mut Vec<Contact>, old: &[Contact], touches: &[Touch])
     }
 }
 
-/// Notes the contacts of rows whose places are below `same`, and after an error those of the first
-/// rows.
+/// Notes the contacts of rows, and after an error those of the first rows.
 fn note_rows(
     contacts: &[Contact],
     noted: &mut Vec<NotedContact>,
-    same: usize,
     rows: &[Row],
 ) -> Result<(), AllocError>
     requires { All (IsRowAt contacts.now) rows.now }
     ensures all { OnOk result (noted.new.items
-        ≡ noted.old.items ++ contacts_below contacts.now same rows.now) }
+        ≡ noted.old.items ++ map (contact_of_row contacts.now) rows.now) }
     ensures first { (count : ℕ) × (noted.new.items
-        ≡ noted.old.items ++ contacts_below contacts.now same (take count rows.now)) }
+        ≡ noted.old.items ++ map (contact_of_row contacts.now) (take count rows.now)) }
     ensures no_memory { rows.now ≡ [] → IsOk result }
 {
     for row in rows {
         let place = row.entry.place;
-        if place < same {
-            noted.push(NotedContact {
-                contact: contacts[place],
-                place,
-            })?;
-        }
+        noted.push(NotedContact {
+            contact: contacts[place],
+            place,
+        })?;
     }
     Ok(())
 }
@@ -179,7 +186,7 @@ impl Contacts {
     ghost use Rattle.pf_manifold.specs.Key.{AreTouches, key_of, rank};
     ghost use Rattle.pf_cache.specs.Contact.{HaveSameFirst, next_contacts};
     ghost use Rattle.pf_cache.specs.ContactRows.{AreRowsAt, with_rows};
-    ghost use Rattle.pf_cache.specs.ContactsChange.{contacts_before, may_change};
+    ghost use Rattle.pf_cache.specs.ContactsChange.{contacts_before, may_change, no_contacts_before};
     ghost use Rattle.pf_cache.specs.Same.{same_contacts};
 
     /// No contacts. Takes no memory.
@@ -201,18 +208,17 @@ impl Contacts {
 
     /// Makes of these contacts those of the points, as Box2D-Lite's `Arbiter::Update`: a key of the
     /// old contacts keeps its impulses, a new key has none, and a contact without a point is gone.
-    /// The points are in the order of their keys. At most `limit` first contacts, as long as they
-    /// have the keys of the first points, stay where they are; no clause says that they do. The
-    /// first `known` have these keys, and are not compared. The contacts behind those that stay go
-    /// to `change`, which then undoes this. With `limit` 0 all contacts are made anew, and none has
-    /// to be noted. An error leaves the contacts as they are, and no contacts in `change`, which is
-    /// of no use then.
+    /// The points are in the order of their keys. `change` then undoes this. With `may_stay`,
+    /// contacts that have the keys of the points stay as they are, and impulses that change have to
+    /// be noted. Otherwise all contacts are made anew, and `change` has those before. The first
+    /// `known` have the keys of the first points, and are not compared. An error leaves the
+    /// contacts as they are, and none in `change`, which is of no use then.
     #[inline(never)]
     pub fn update(
         &mut self,
         touches: &[Touch],
         known: usize,
-        limit: usize,
+        may_stay: bool,
         change: &mut ContactsChange,
     ) -> Result<(), AllocError>
         requires touches { AreTouches touches.now }
@@ -220,14 +226,18 @@ impl Contacts {
         ensures value { OnOk result (self.new ≡ next_contacts self.old touches.now) }
         ensures before { OnOk result (contacts_before change.new self.new ≡ self.old) }
         ensures unchanged { OnErr result (self.new ≡ self.old) }
-        ensures gone { OnErr result (change.new ≡ record change.old { behind = [] }) }
+        ensures gone { OnErr result (change.new ≡ no_contacts_before) }
         ensures no_memory { touches.now ≡ [] → IsOk result }
     {
-        let same = same_keys(&self.list, touches, known, limit);
-        split_into(&mut self.list, &mut change.behind, same, touches.len())?;
-        change.same = same;
         change.noted.clear();
-        add_next(&mut self.list, &change.behind, &touches[same..]);
+        change.before.clear();
+        change.keeps_keys = may_stay && have_keys_of(&self.list, touches, known);
+        if change.keeps_keys {
+            return Ok(());
+        }
+        change.before.reserve(touches.len())?;
+        mem::swap(&mut self.list, &mut change.before);
+        add_next(&mut self.list, &change.before, touches);
         Ok(())
     }
 
@@ -235,28 +245,30 @@ impl Contacts {
     /// change. After an error those of some rows may be noted.
     pub fn note(&self, rows: &[Row], change: &mut ContactsChange) -> Result<(), AllocError>
         requires { AreRowsAt self.now rows.now }
-        ensures noted { OnOk result (All (λ r.
-            may_change change.new self.now (rank (key_of r.entry.touch)) ≡ true) rows.now) }
-        ensures others { (n : ℕ) → may_change change.old self.now n ≡ true
-            → may_change change.new self.now n ≡ true }
+        ensures noted { OnOk result
+            (All (λ r. may_change change.new (rank (key_of r.entry.touch)) ≡ true) rows.now) }
+        ensures others { (n : ℕ) → may_change change.old n ≡ true
+            → may_change change.new n ≡ true }
         ensures same { contacts_before change.new self.now ≡ contacts_before change.old self.now }
         ensures no_memory { rows.now ≡ [] → IsOk result }
     {
-        note_rows(&self.list, &mut change.noted, change.same, rows)
+        if !change.keeps_keys {
+            return Ok(());
+        }
+        note_rows(&self.list, &mut change.noted, rows)
     }
 
-    /// Undoes what `change` holds. Takes time for the contacts before, and no memory. If `change`
-    /// is of other contacts, those that are noted get their noted impulses, and the first ones
-    /// stay only if they are in front of those behind; else none stays.
+    /// Undoes what `change` holds. Takes time for the contacts that are noted, and no memory. If
+    /// `change` is of other contacts, those that are noted get their noted impulses, or all become
+    /// those of `change`.
     pub fn undo(&mut self, change: ContactsChange)
         ensures { self.new ≡ contacts_before change self.old }
     {
-        restore_first(&mut self.list, &change);
-        let mut list = change.behind;
-        let count = list.len();
-        add_all(&mut list, &self.list);
-        list.rotate_left(count);
-        self.list = list;
+        if change.keeps_keys {
+            restore_all(&mut self.list, &change.noted);
+        } else {
+            self.list = change.before;
+        }
     }
 
     /// Undoes what `change` holds as [`Contacts::undo`] does, and leaves the change as it is. Out
@@ -266,9 +278,13 @@ impl Contacts {
         ensures unchanged { OnErr result (self.new ≡ self.old) }
         ensures no_memory { contacts_before change.now self.old ≡ [] → IsOk result }
     {
-        self.list.reserve(change.behind.len())?;
-        restore_first(&mut self.list, change);
-        add_all(&mut self.list, &change.behind);
+        if change.keeps_keys {
+            restore_all(&mut self.list, &change.noted);
+            return Ok(());
+        }
+        self.list.reserve(change.before.len())?;
+        self.list.clear();
+        add_all(&mut self.list, &change.before);
         Ok(())
     }
 

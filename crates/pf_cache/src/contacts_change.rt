@@ -1,16 +1,14 @@
 //! What a tick changes in the contacts of a world.
 
-ghost use Rattle.std.specs.Prelude.{◌≡◌, ◌≢◌, ◌+◌, ◌≤◌, ◌<◌, ◌∷◌, [], All, IfSome, IsOk, None, OnErr, OnOk, drop, length, slice_index_or, take, true, vec_capacity, vec_len};
-ghost use Rattle.std.specs.List.{list_all};
+ghost use Rattle.std.specs.Prelude.{◌≡◌, ◌≢◌, ◌<◌, ◌∷◌, [], All, IfSome, None, length, slice_index_or};
 ghost use Rattle.pf_manifold.specs.Key.{IsKey, rank};
 ghost use Rattle.pf_cache.specs.Contact.{AreContacts, no_contact};
-ghost use Rattle.pf_cache.specs.ContactsChange.{first_before, precedes, with_noted};
+ghost use Rattle.pf_cache.specs.ContactsChange.{with_noted};
 
 use crate::contact::Contact;
 use crate::ranked::Ranked;
-use std::alloc::{AllocError, Global};
+use std::alloc::Global;
 use std::marker::Model;
-use std::mem;
 
 /// A contact as it was before its impulses changed.
 #[derive(Debug, Drop)]
@@ -29,19 +27,19 @@ impl Model for NotedContact {
 }
 
 /// What a tick changed in the contacts of a world, with which
-/// [`Contacts::undo`](crate::Contacts::undo) restores the contacts before: how many of the first
-/// ones kept their keys, impulses that some of these had, and the old contacts behind them. Where
-/// most bodies sleep these are few in most ticks; no clause says how few.
+/// [`Contacts::undo`](crate::Contacts::undo) restores the contacts before: impulses that some of
+/// them had, where all kept their keys; else all contacts before. Where most bodies sleep, few
+/// impulses change in most ticks; no clause says how few.
 #[derive(Debug, Drop)]
 pub struct ContactsChange {
-    pub(crate) same: usize,
+    pub(crate) keeps_keys: bool,
     pub(crate) noted: Vec<NotedContact>,
-    /// The old contacts behind the first ones. The capacity is enough for all old contacts.
-    pub(crate) behind: Vec<Contact>,
+    /// All contacts before, where they did not keep their keys.
+    pub(crate) before: Vec<Contact>,
 }
 
 impl Model for ContactsChange {
-    ghost use Rattle.std.specs.Prelude.{◌+◌, ◌≤◌, All, vec_capacity, vec_len};
+    ghost use Rattle.std.specs.Prelude.{All};
     ghost use Rattle.pf_manifold.specs.Key.{IsKey};
     ghost use Rattle.pf_cache.specs.Contact.{AreContacts};
     ghost use Rattle.pf_cache.specs.ContactsChange.{ContactsChange};
@@ -49,27 +47,26 @@ impl Model for ContactsChange {
     ghost Value = { ContactsChange };
 
     ghost view = { λ c. record {
-      same = c.same;
+      keeps_keys = c.keeps_keys;
       noted = c.noted.items;
-      behind = c.behind.items;
+      before = c.before.items;
     } };
 
-    ghost invariant = { λ c. All (λ n. IsKey n.key) c.noted.items
-        × AreContacts c.behind.items
-        × (c.same + vec_len c.behind ≤ vec_capacity c.behind) };
+    ghost invariant = { λ c. All (λ n. IsKey n.key) c.noted.items × AreContacts c.before.items };
 }
 
 impl ContactsChange {
-    ghost use Rattle.std.specs.Prelude.{◌≡◌, []};
+    ghost use Rattle.std.specs.Prelude.{◌≡◌};
+    ghost use Rattle.pf_cache.specs.ContactsChange.{no_contacts_before};
 
     /// A change that undoes to no contacts. Takes no memory.
     pub fn new(alloc: Global) -> ContactsChange
-        ensures { result ≡ record { same = 0; noted = []; behind = [] } }
+        ensures { result ≡ no_contacts_before }
     {
         ContactsChange {
-            same: 0,
+            keeps_keys: false,
             noted: Vec::new(alloc),
-            behind: Vec::new(alloc),
+            before: Vec::new(alloc),
         }
     }
 }
@@ -107,7 +104,7 @@ fn restore(contacts: &mut [Contact], noted: &NotedContact)
 }
 
 /// Gives each contact that is noted its noted impulses.
-fn restore_all(contacts: &mut [Contact], noted: &[NotedContact])
+pub(crate) fn restore_all(contacts: &mut [Contact], noted: &[NotedContact])
     requires contacts { AreContacts contacts.old }
     requires keys { All (λ n. IsKey n.key) noted.now }
     ensures value { contacts.new ≡ with_noted contacts.old noted.now }
@@ -116,87 +113,4 @@ fn restore_all(contacts: &mut [Contact], noted: &[NotedContact])
     for contact in noted.iter().rev() {
         restore(contacts, contact);
     }
-}
-
-/// Whether each contact has a lower rank than the first of those behind.
-fn all_precede(contacts: &[Contact], behind: &[Contact]) -> bool
-    requires contacts { AreContacts contacts.now }
-    requires behind { AreContacts behind.now }
-    ensures { result ≡ list_all (precedes behind.now) contacts.now }
-{
-    if behind.is_empty() {
-        return true;
-    }
-    let least = behind[0].rank();
-    for contact in contacts {
-        if contact.rank() >= least {
-            return false;
-        }
-    }
-    true
-}
-
-/// Restores noted impulses, and then keeps as many first contacts as stayed. They are found at
-/// their places only before the cut.
-fn restore_and_cut(contacts: &mut Vec<Contact>, change: &ContactsChange)
-    requires { AreContacts contacts.old.items }
-    ensures value { contacts.new.items
-        ≡ take change.now.same (with_noted contacts.old.items change.now.noted) }
-    ensures contacts { AreContacts contacts.new.items }
-    ensures few { vec_len contacts.new ≤ change.now.same }
-    ensures shorter { vec_len contacts.new ≤ vec_len contacts.old }
-    ensures room { vec_capacity contacts.new ≡ vec_capacity contacts.old }
-{
-    restore_all(contacts, &change.noted);
-    contacts.truncate(change.same);
-}
-
-/// Restores the first contacts before a change, of those after it. None is left if they do not
-/// precede those behind.
-pub(crate) fn restore_first(contacts: &mut Vec<Contact>, change: &ContactsChange)
-    requires { AreContacts contacts.old.items }
-    ensures value { contacts.new.items ≡ first_before change.now contacts.old.items }
-    ensures contacts { AreContacts contacts.new.items }
-    ensures order { list_all (precedes change.now.behind) contacts.new.items ≡ true }
-    ensures few { vec_len contacts.new ≤ change.now.same }
-    ensures shorter { vec_len contacts.new ≤ vec_len contacts.old }
-    ensures room { vec_capacity contacts.new ≡ vec_capacity contacts.old }
-{
-    restore_and_cut(contacts, change);
-    if !all_precede(contacts, &change.behind) {
-        contacts.clear();
-    }
-}
-
-/// Splits the list at `same`: the contacts from there on replace those of `behind`. Then there is
-/// room for `count` contacts in the list, and in `behind` for as many as the list had. An error
-/// leaves the list as it is, and none in `behind`. Where `same` is 0 the two lists are exchanged.
-pub(crate) fn split_into(
-    contacts: &mut Vec<Contact>,
-    behind: &mut Vec<Contact>,
-    same: usize,
-    count: usize,
-) -> Result<(), AllocError>
-    requires place { same ≤ length contacts.old.items }
-    requires count { same ≤ count }
-    ensures first { OnOk result (contacts.new.items ≡ take same contacts.old.items) }
-    ensures moved { OnOk result (behind.new.items ≡ drop same contacts.old.items) }
-    ensures room { OnOk result (count ≤ vec_capacity contacts.new) }
-    ensures room_behind { OnOk result (same + vec_len behind.new ≤ vec_capacity behind.new) }
-    ensures unchanged { OnErr result (contacts.new.items ≡ contacts.old.items) }
-    ensures gone { OnErr result (behind.new.items ≡ []) }
-    ensures no_less { OnErr result (vec_capacity behind.old ≤ vec_capacity behind.new) }
-    ensures no_memory { count ≡ 0 → IsOk result }
-{
-    behind.clear();
-    if same == 0 {
-        behind.reserve(count)?;
-        mem::swap(contacts, behind);
-        return Ok(());
-    }
-    behind.reserve(contacts.len())?;
-    contacts.reserve(count - same)?;
-    behind.extend_from_slice(&contacts[same..])?;
-    contacts.truncate(same);
-    Ok(())
 }

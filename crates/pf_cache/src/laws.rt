@@ -46,7 +46,7 @@ pub fn first_notes_decide()
 /// store there.
 pub fn stored_impulses_are_undone()
     ensures { (change : ContactsChange) (contacts : List Contact) (rows : List Row)
-        → All (λ r. may_change change contacts (rank (key_of r.entry.touch)) ≡ true) rows
+        → All (λ r. may_change change (rank (key_of r.entry.touch)) ≡ true) rows
         → contacts_before change (with_rows contacts rows) ≡ contacts_before change contacts }
 {}
 

@@ -10,8 +10,8 @@ use Rattle.pf_manifold.specs.Touches.{Touch}
 use Rattle.pf_rows.specs.Row.{Row}
 use Rattle.pf_cache.specs.Contact.{Contact}
 use Rattle.pf_cache.specs.ContactRows.{AreRowsAt, with_rows}
-use Rattle.pf_cache.specs.ContactsChange.{ContactsChange, contacts_before, has_rank, may_change, with_noted}
-use Rattle.pf_cache.proofs.Restoring.{before_stored, own_ranks, stored_there, stored_undone, take_noted, take_stored}
+use Rattle.pf_cache.specs.ContactsChange.{ContactsChange, contacts_before, may_change}
+use Rattle.pf_cache.proofs.Restoring.{before_rows}
 use Rattle.pf_islands.specs.Group.{groups}
 use Rattle.pf_islands.specs.Join.{joined_contacts}
 use Rattle.pf_islands.specs.Rows.{active_rows}
@@ -59,41 +59,31 @@ unmapped P (r ∷ rows) all =
     (unmapped P rows (All-tail P r.entry.touch touches all))
 
 -- so their impulses may change as well
-ended_may : (s : Scene) (change : ContactsChange) (contacts : List Contact) (islands : List Island)
-    → All (λ (i : Island). MayChange change contacts i.rows) islands
-    → All (λ (i : Island). MayChange change contacts i.rows) (map (island_after_tick s) islands)
-ended_may s change contacts islands all =
-    let P : Touch → Type 0 = λ t. may_change change contacts (rank (key_of t)) ≡ true in
-    All-map (λ (i : Island). MayChange change contacts i.rows) (island_after_tick s) islands
-    (All-weaker (λ (i : Island). MayChange change contacts i.rows)
-    (λ i. MayChange change contacts (island_after_tick s i).rows)
+ended_may : (s : Scene) (change : ContactsChange) (islands : List Island)
+    → All (λ (i : Island). MayChange change i.rows) islands
+    → All (λ (i : Island). MayChange change i.rows) (map (island_after_tick s) islands)
+ended_may s change islands all =
+    let P : Touch → Type 0 = λ t. may_change change (rank (key_of t)) ≡ true in
+    All-map (λ (i : Island). MayChange change i.rows) (island_after_tick s) islands
+    (All-weaker (λ (i : Island). MayChange change i.rows)
+    (λ i. MayChange change (island_after_tick s i).rows)
     (λ i own.
     unmapped P (island_after_tick s i).rows
     (subst (All P) (sym (solved_touches s i.bodies i.rows)) (All-map P (λ (r : Row). r.entry.touch) i.rows own)))
     islands all)
 
--- what islands store in the first contacts is undone
-joined_undone : (change : ContactsChange) (contacts : List Contact) (islands : List Island) (now : List Contact)
-    → All (λ (i : Island). MayChange change contacts i.rows) islands
-    → All (λ (c : Contact). has_rank (take change.same contacts) (rank c.key) ≡ true) (take change.same now)
-    → take change.same (with_noted (joined_contacts islands now) change.noted) ≡ take change.same (with_noted now change.noted)
-joined_undone change contacts [] now all there = refl
-joined_undone change contacts (i ∷ islands) now all there =
-    let first = take change.same contacts in
-    let own = All-head (λ (x : Island). MayChange change contacts x.rows) i islands all in
-    let stored = take_stored change.same now i.rows in
-    joined_undone change contacts islands (with_rows now i.rows) (All-tail (λ (x : Island). MayChange change contacts x.rows) i islands all)
-    (subst (All (λ (c : Contact). has_rank first (rank c.key) ≡ true)) (sym stored)
-    (stored_there i.rows change.noted first own (take change.same now) there))
-    ∙ take_noted change.same (with_rows now i.rows) change.noted ∙ ap (λ cs. with_noted cs change.noted) stored
-    ∙ stored_undone i.rows change.noted first own (take change.same now) there
-    ∙ sym (take_noted change.same now change.noted)
+-- what islands store is undone
+joined_undone : (change : ContactsChange) (islands : List Island) (now : List Contact)
+    → All (λ (i : Island). MayChange change i.rows) islands
+    → contacts_before change (joined_contacts islands now) ≡ contacts_before change now
+joined_undone change [] now all = refl
+joined_undone change (i ∷ islands) now all =
+    joined_undone change islands (with_rows now i.rows) (All-tail (λ (x : Island). MayChange change x.rows) i islands all)
+    ∙ before_rows change now i.rows (All-head (λ (x : Island). MayChange change x.rows) i islands all)
 
 -- so the contacts before a tick are those before its islands were put back
 pub contacts_restored : (s : Scene) (contacts : List Contact) (islands : List Island) (change : ContactsChange)
-    → All (λ (i : Island). MayChange change contacts i.rows) islands
+    → All (λ (i : Island). MayChange change i.rows) islands
     → contacts_before change (joined_contacts (map (island_after_tick s) islands) contacts) ≡ contacts_before change contacts
 contacts_restored s contacts found change all =
-    before_stored change contacts (joined_contacts (map (island_after_tick s) found) contacts)
-    (joined_undone change contacts (map (island_after_tick s) found) contacts (ended_may s change contacts found all)
-    (own_ranks (take change.same contacts)))
+    joined_undone change (map (island_after_tick s) found) contacts (ended_may s change found all)

@@ -72,6 +72,5 @@ changes_of_awake bodies =
 
 -- the impulses of the contacts of these rows may change, so that the contacts before can still be
 -- restored
-abbrev pub MayChange : ContactsChange → List Contact → List Row → Type 0
-MayChange change contacts rows =
-    All (λ r. may_change change contacts (rank (key_of r.entry.touch)) ≡ true) rows
+abbrev pub MayChange : ContactsChange → List Row → Type 0
+MayChange change rows = All (λ r. may_change change (rank (key_of r.entry.touch)) ≡ true) rows

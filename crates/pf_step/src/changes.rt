@@ -140,15 +140,12 @@ impl Changes {
     ghost use Rattle.pf_manifold.specs.Key.{AreTouches, key_of};
     ghost use Rattle.pf_cache.specs.Contact.{HaveSameFirst, next_contacts};
     ghost use Rattle.pf_cache.specs.ContactRows.{AreRowsAt};
-    ghost use Rattle.pf_cache.specs.ContactsChange.{contacts_before};
+    ghost use Rattle.pf_cache.specs.ContactsChange.{contacts_before, no_contacts_before};
     ghost use Rattle.pf_step.specs.Changes.{bodies_before, changes_by_commands, changes_of_awake, changes_of_islands, MayChange};
 
     /// No changes of a world without contacts. Takes no memory.
     pub(crate) fn new(alloc: Global) -> Changes
-        ensures { result ≡ record {
-          bodies = [];
-          contacts = record { same = 0; noted = []; behind = [] };
-        } }
+        ensures { result ≡ record { bodies = []; contacts = no_contacts_before } }
     {
         Changes {
             bodies: Vec::new(alloc),
@@ -224,15 +221,15 @@ impl Changes {
     }
 
     /// Makes of the contacts of the last tick those of these points, and keeps what that changes.
-    /// At most `most` of them stay where they are; the first `known` have the keys of the first
-    /// points. An error leaves the contacts as they are, and what is kept of them is of no use
-    /// then.
+    /// With `may_stay` they stay where they are if all have the keys of the points; the first
+    /// `known` have those of the first points. An error leaves the contacts as they are, and what
+    /// is kept of them is of no use then.
     pub(crate) fn update_contacts(
         &mut self,
         contacts: &mut Contacts,
         touches: &[Touch],
         known: usize,
-        most: usize,
+        may_stay: bool,
     ) -> Result<(), AllocError>
         requires touches { AreTouches touches.now }
         requires known { HaveSameFirst known (map (λ c. c.key) contacts.old)
@@ -244,7 +241,7 @@ impl Changes {
         ensures bodies { self.new.bodies ≡ self.old.bodies }
         ensures no_memory { touches.now ≡ [] → IsOk result }
     {
-        contacts.update(touches, known, most, &mut self.contacts)
+        contacts.update(touches, known, may_stay, &mut self.contacts)
     }
 
     /// Notes the impulses of the contacts of islands, so that they may change. After an error some
@@ -256,7 +253,7 @@ impl Changes {
     ) -> Result<(), AllocError>
         requires { All (λ i. AreRowsAt contacts.now i.rows) islands.now }
         ensures noted { OnOk result
-            (All (λ i. MayChange self.new.contacts contacts.now i.rows) islands.now) }
+            (All (λ i. MayChange self.new.contacts i.rows) islands.now) }
         ensures same { contacts_before self.new.contacts contacts.now
             ≡ contacts_before self.old.contacts contacts.now }
         ensures bodies { self.new.bodies ≡ self.old.bodies }
@@ -272,7 +269,7 @@ impl Changes {
     pub(crate) fn undo_contacts(&mut self, alloc: Global, contacts: &mut Contacts)
         ensures contacts { contacts.new ≡ contacts_before self.old.contacts contacts.old }
         ensures bodies { self.new.bodies ≡ self.old.bodies }
-        ensures gone { self.new.contacts ≡ record { same = 0; noted = []; behind = [] } }
+        ensures gone { self.new.contacts ≡ no_contacts_before }
     {
         let change = mem::replace(&mut self.contacts, ContactsChange::new(alloc));
         contacts.undo(change);

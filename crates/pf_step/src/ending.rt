@@ -25,10 +25,10 @@ use pf_shapes::Scene;
 use pf_solver::solve_untouched;
 use std::alloc::{AllocError, Global};
 
-/// How many contacts stay where they are at most, where so many of the bodies may have moved: none
-/// where most may have, since a copy of all contacts then takes less time than their notes.
-fn most_in_place(moved: usize, bodies: usize) -> usize {
-    if moved < bodies / 2 { usize::MAX } else { 0 }
+/// Whether contacts may stay where they are, where so many of the bodies may have moved: not where
+/// half of them may have, since to make all contacts anew then takes less time than to note them.
+fn may_stay(moved: usize, bodies: usize) -> bool {
+    moved < bodies / 2
 }
 
 /// The islands of a tick in the world after its phases Commands and Points, whose contacts are
@@ -64,7 +64,7 @@ fn prepare(
         ++ changes_of_islands world.now.bodies
         (islands_with scene.now world.now.contacts world.now.bodies)) }
     ensures impulses { OnOk result
-        (All (λ i. MayChange changes.new.contacts world.now.contacts i.rows)
+        (All (λ i. MayChange changes.new.contacts i.rows)
         (islands_with scene.now world.now.contacts world.now.bodies)) }
     ensures same { bodies_before changes.new.bodies world.now.bodies
         ≡ bodies_before changes.old.bodies world.now.bodies }
@@ -112,7 +112,7 @@ fn finish_untouched(
 {
     changes.note_awake(&world.bodies)?;
     work.set_moved(changes.bodies())?;
-    changes.update_contacts(&mut world.contacts, &[], 0, 0)?;
+    changes.update_contacts(&mut world.contacts, &[], 0, false)?;
     solve_untouched(scene, &mut world.bodies);
     Ok(())
 }
@@ -158,8 +158,8 @@ pub(crate) fn finish<C: Crew>(
         finish_untouched(scene, world, work, changes)?;
         return Ok(());
     }
-    let most = most_in_place(work.moved().len(), world.bodies.as_slice().len());
-    changes.update_contacts(&mut world.contacts, touches, known, most)?;
+    let may_stay = may_stay(work.moved().len(), world.bodies.as_slice().len());
+    changes.update_contacts(&mut world.contacts, touches, known, may_stay)?;
     let islands = match prepare(alloc, scene, world, found, work, changes) {
         Ok(islands) => islands,
         Err(error) => {

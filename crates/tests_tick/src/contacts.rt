@@ -45,7 +45,7 @@ fn update(
     text: &[u8],
 ) -> Result<(), Fail> {
     let touches = touches_of(alloc, text)?;
-    contacts.update(&touches, 0, 0, change)?;
+    contacts.update(&touches, 0, false, change)?;
     Ok(())
 }
 

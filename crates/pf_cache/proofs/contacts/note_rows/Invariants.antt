@@ -1,7 +1,7 @@
-use Rattle.std.proofs.Common.{◌≡◌, ◌++◌, take}
-use Rattle.pf_cache.specs.ContactsChange.{contacts_below}
+use Rattle.std.proofs.Common.{◌≡◌, ◌++◌, map, take}
+use Rattle.pf_cache.specs.ContactsChange.{contact_of_row}
 use Rattle.pf_cache.proofs.contacts.note_rows.Given as goal
 
 abbrev pub invariant-loop-row : goal.invariant-loop-row
 invariant-loop-row l =
-    l.noted.items ≡ l.initial.noted.items ++ contacts_below l.contacts l.same (take l.row-index l.rows)
+    l.noted.items ≡ l.initial.noted.items ++ map (contact_of_row l.contacts) (take l.row-index l.rows)

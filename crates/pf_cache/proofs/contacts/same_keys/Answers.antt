@@ -4,7 +4,7 @@ use Rattle.pf_cache.proofs.contacts.same_keys.Goals as goal
 
 pub loop-count-init : goal.loop-count-init
 loop-count-init c = record {
-  contacts = omega (arith, c.min-count.ensures, c.min-end.ensures, c.min.ensures);
+  contacts = omega (arith, c.min-count.ensures, c.min-end.ensures);
   touches = omega (arith, c.min-count.ensures, c.min-end.ensures);
   same = keys_known c.args.contacts.now c.args.touches.now c.min-count.result c.args.known (omega (arith, c.min-count.ensures)) c.requires;
 }
@@ -12,9 +12,9 @@ loop-count-init c = record {
 pub loop-count-preserved : goal.loop-count-preserved
 loop-count-preserved c =
     let inside : c.loop-count.count < length c.args.contacts.now =
-    grind (arith, c.loop-count-test.true, c.min-end.ensures, c.min.ensures) in
+    grind (arith, c.loop-count-test.true, c.min-end.ensures) in
     let within : c.loop-count.count < length c.args.touches.now =
-    grind (arith, c.loop-count-test.true, c.min-end.ensures, c.min.ensures) in
+    grind (arith, c.loop-count-test.true, c.min-end.ensures) in
     record {
       contacts = omega (arith, inside);
       touches = omega (arith, within);

@@ -42,9 +42,7 @@ returns-clause-impulses c =
     (c.deref-2.ensures.value ∙ ap (λ (w : World). w.bodies) c.world.view_is)
     (c.as_slice.ensures.value ∙ ap (λ (w : World). w.contacts) c.world.view_is) in
     let change = c.note_impulses.new.self.contacts in
-    subst (λ cs. All (λ (x : Island). MayChange change cs x.rows) (islands_with c.args.scene.now c.args.world.now.contacts c.args.world.now.bodies))
-    (ap (λ (v : World). v.contacts) c.world.view_is)
-    (subst (All (λ (x : Island). MayChange change c.world.inside.contacts x.rows)) found c.in_ok-note_impulses.ensures.noted)
+    subst (All (λ (x : Island). MayChange change x.rows)) found c.in_ok-note_impulses.ensures.noted
 
 pub returns-clause-same_contacts : goal.returns-clause-same_contacts
 returns-clause-same_contacts c =
