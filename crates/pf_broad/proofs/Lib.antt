@@ -20,3 +20,6 @@ pub mod Partnering
 pub mod SharedCells
 pub mod Loosening
 pub mod Leaving
+pub mod Searching
+pub mod Merging
+pub mod Carrying

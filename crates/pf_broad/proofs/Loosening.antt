@@ -71,11 +71,11 @@ again-is_pair loose bounds is i j hi hj =
     (contains-may_touch (bounds_at loose i) (bounds_at loose j) (bounds_at bounds i) (bounds_at bounds j)
     (is.each i (omega (arith, is.as_many))) (is.each j (omega (arith, is.as_many))))
 
-filter-flat_map : {X Y : Type 0} (t : Y → Bool) (f : X → List Y) (xs : List X) → filter t (flat_map f xs) ≡ flat_map (λ x. filter t (f x)) xs
+pub filter-flat_map : {X Y : Type 0} (t : Y → Bool) (f : X → List Y) (xs : List X) → filter t (flat_map f xs) ≡ flat_map (λ x. filter t (f x)) xs
 filter-flat_map t f [] = refl
 filter-flat_map t f (x ∷ xs) = filter-append t (f x) (flat_map f xs) ∙ ap (λ l. filter t (f x) ++ l) (filter-flat_map t f xs)
 
-filter-map : (t : Pair → Bool) (i : ℕ) (xs : List ℕ) → filter t (map (pair i) xs) ≡ map (pair i) (filter (λ j. t (pair i j)) xs)
+pub filter-map : (t : Pair → Bool) (i : ℕ) (xs : List ℕ) → filter t (map (pair i) xs) ≡ map (pair i) (filter (λ j. t (pair i j)) xs)
 filter-map t i [] = refl
 filter-map t i (x ∷ xs) =
     elim (t (pair i x)) as (λ b. cond b (pair i x ∷ filter t (map (pair i) xs)) (filter t (map (pair i) xs))

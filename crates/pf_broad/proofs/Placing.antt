@@ -11,7 +11,7 @@ use Rattle.pf_broad.specs.Kept.{moved_places}
 use Rattle.pf_broad.proofs.Ranges.{filter-range_suc}
 
 -- tests that agree on a range
-filter-same : (p q : ℕ → Bool) (a n : ℕ) → ((k : ℕ) → k < a + n → p k ≡ q k) → filter p (range_with_len a n) ≡ filter q (range_with_len a n)
+pub filter-same : (p q : ℕ → Bool) (a n : ℕ) → ((k : ℕ) → k < a + n → p k ≡ q k) → filter p (range_with_len a n) ≡ filter q (range_with_len a n)
 filter-same p q a zero h = refl
 filter-same p q a (suc n) h =
     ap (λ b. cond b (a ∷ filter p (range_with_len (a + 1) n)) (filter p (range_with_len (a + 1) n))) (h a (omega arith))

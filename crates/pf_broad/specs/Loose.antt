@@ -1,7 +1,7 @@
 -- Enlarged bounds, as the fat AABBs of Box2D's b2DynamicTree: pairs of bodies are searched for by
 -- them, and kept until a body has left its enlarged bounds.
-use Rattle.std.specs.Prelude.{◌≡◌, ℕ, ◌<◌, ◌≤◌, ℤ, Bool, true, false, not, ◌&&◌, ◌||◌, ◌==◌, List, [], ◌∷◌, length, filter, All, int_le, if◌then◌else◌}
-use Rattle.std.specs.List.{range_with_len}
+use Rattle.std.specs.Prelude.{◌≡◌, ℕ, ◌<◌, ◌≤◌, ℤ, Bool, true, false, not, ◌&&◌, ◌||◌, List, length, filter, All, int_le}
+use Rattle.std.specs.List.{range_with_len, zip}
 use Rattle.pf_shapes.specs.Bounds.{Bounds, IsOrdered}
 use Rattle.pf_shapes.specs.Pair.{Pair}
 use Rattle.pf_shapes.specs.declared.scene.TheConstants.{MAX_BODIES}
@@ -39,12 +39,14 @@ pub record AreCandidates (loose : List Bounds) (candidates : List Pair) : Type 0
   pub ordered : All IsOrdered loose
   pub pairs : candidates ≡ pairs loose
 
--- the second bodies of the pairs of body i at the front
-abbrev pub seconds : ℕ → List Pair → List ℕ
-seconds i [] = []
-seconds i (p ∷ ps) = if p.a == i then p.b ∷ seconds i ps else []
+-- a pair has one of these bodies
+abbrev pub has_one : List ℕ → Pair → Bool
+has_one bodies p = has_body bodies p.a || has_body bodies p.b
 
--- and what stands behind these pairs
-abbrev pub behind : ℕ → List Pair → List Pair
-behind i [] = []
-behind i (p ∷ ps) = if p.a == i then behind i ps else p ∷ ps
+-- the pairs without these bodies
+abbrev pub pairs_without : List ℕ → List Pair → List Pair
+pairs_without bodies ps = filter (λ p. not (has_one bodies p)) ps
+
+-- the same, each with its flag
+abbrev pub flags_without : List ℕ → List Bool → List Pair → List (Bool × Pair)
+flags_without bodies flags ps = filter (λ both. not (has_one bodies both.1)) (zip flags ps)

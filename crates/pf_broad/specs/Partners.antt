@@ -1,6 +1,6 @@
 -- How the pairs of a body are found: by the cells in which it lies.
-use Rattle.std.specs.Prelude.{ℕ, ◌<◌, ℤ, Bool, not, ◌&&◌, ◌==◌, List, length, All, nat_lt}
-use Rattle.std.specs.List.{list_any}
+use Rattle.std.specs.Prelude.{◌≡◌, ℕ, ◌<◌, ℤ, Bool, not, ◌&&◌, ◌==◌, List, length, filter, All, nat_lt}
+use Rattle.std.specs.List.{list_any, range_with_len}
 use Rattle.pf_shapes.specs.Bounds.{Bounds, ranges_overlap}
 use Rattle.pf_broad.specs.declared.cell.CellRange.{CellRange}
 use Rattle.pf_broad.specs.Pairs.{bounds_at}
@@ -13,6 +13,10 @@ has_body bodies j = list_any (λ k. k == j) bodies
 -- all are bodies with bounds
 abbrev pub AreBodies : List Bounds → List ℕ → Type 0
 AreBodies bs bodies = All (λ k. k < length bs) bodies
+
+-- they are such bodies in ascending order, each once
+abbrev pub AreInOrder : List Bounds → List ℕ → Type 0
+AreInOrder bs bodies = bodies ≡ filter (has_body bodies) (range_with_len 0 (length bs))
 
 -- two ranges have a row in common
 abbrev pub share_row : CellRange → CellRange → Bool

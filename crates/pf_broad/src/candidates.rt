@@ -1,13 +1,14 @@
 //! Pairs of bodies whose enlarged bounds overlap, from tick to tick.
 
-ghost use Rattle.std.specs.Prelude.{◌≡◌, ℕ, ◌<◌, ◌≤◌, ◌&&◌, ◌||◌, ◌++◌, drop, false, filter, get_or, length, map, nat_lt, All, IfOk, IsTrue, OnOk};
+ghost use Rattle.std.specs.Prelude.{◌≡◌, ℕ, ◌<◌, ◌≤◌, false, filter, get_or, length, map, All, IfOk, IsTrue, OnOk};
 ghost use Rattle.std.specs.List.{range_with_len};
-ghost use Rattle.pf_shapes.specs.Pair.{IsPairOf};
-ghost use Rattle.pf_broad.specs.Pairs.{bounds_at, is_pair, may_touch, pair_may_touch, partners_of};
-ghost use Rattle.pf_broad.specs.Partners.{has_body, AreBodies};
-ghost use Rattle.pf_broad.specs.Loose.{behind, seconds};
+ghost use Rattle.pf_shapes.specs.Pair.{IsPairOf, is_before};
+ghost use Rattle.pf_broad.specs.Pairs.{pair_may_touch, pairs};
+ghost use Rattle.pf_broad.specs.Partners.{has_body, AreInOrder};
+ghost use Rattle.pf_broad.specs.Loose.{flags_without, has_one, pairs_without};
 ghost use Rattle.pf_broad.specs.Kept.{AreFlagged, flagged, moved_places};
 
+use crate::broad_phase::add_pairs;
 use crate::partners::{add_later, add_overlapping, may_touch};
 use pf_shapes::{Bounds, MAX_BODIES, Pair};
 use std::alloc::{AllocError, Global};
@@ -135,73 +136,111 @@ pub(crate) fn load_flagged(
     ensures { OnOk result (pairs.new.items ≡ flagged flags.now candidates.now) }
 {
     pairs.clear();
+    pairs.reserve(candidates.len())?;
     for i in 0..candidates.len() {
         if flags[i] {
-            pairs.push(candidates[i])?;
+            pairs.push_reserved(candidates[i]);
         }
     }
     Ok(())
 }
 
-/// Adds those partners of body `i` that are candidates, and whose enlarged bounds still overlap its
-/// own. The pairs of body `i` begin at `place`; returns the place behind the last of them.
-#[inline]
-pub(crate) fn add_candidates(
-    partners: &mut Vec<u16>,
-    candidates: &[Pair],
-    place: usize,
-    loose: &[Bounds],
-    i: usize,
-) -> Result<usize, AllocError>
-    requires few { length loose.now ≤ MAX_BODIES }
-    requires body { i < length loose.now }
-    requires pairs { All (IsPairOf (length loose.now)) candidates.now }
-    requires place { place ≤ length candidates.now }
-    ensures partners { OnOk result (partners.new.items ≡ partners.old.items
-        ++ filter (λ j. may_touch (bounds_at loose.now i) (bounds_at loose.now j))
-        (seconds i (drop place candidates.now))) }
-    ensures place { IfOk result (λ end. end ≤ length candidates.now) }
-    ensures rest { IfOk result
-        (λ end. drop end candidates.now ≡ behind i (drop place candidates.now)) }
+/// For each body whether it is one of `left`.
+fn left_flags(alloc: Global, count: usize, left: &[u16]) -> Result<Vec<bool>, AllocError>
+    requires { All (λ number. number < count) left.now }
+    ensures count { IfOk result (λ flags. length flags.items ≡ count) }
+    ensures each { IfOk result (λ flags. (k : ℕ) → k < count
+        → get_or flags.items k false ≡ has_body left.now k) }
 {
-    let body = &loose[i];
-    let mut end = place;
-    while end < candidates.len() {
-        let pair = &candidates[end];
-        if pair.a != i {
-            break;
-        }
-        if may_touch(body, &loose[pair.b]) {
-            partners.push(pair.b as u16)?;
-        }
-        end += 1;
+    let mut flags = Vec::with_capacity(alloc, count)?;
+    flags.resize(count, false)?;
+    for number in left {
+        flags[usize::from(*number)] = true;
     }
-    Ok(end)
+    Ok(flags)
 }
 
-/// Adds the partners of a body that left their enlarged bounds, and puts all in ascending order,
-/// each once. For a body that left its own, all partners are searched for again.
-#[inline]
-pub(crate) fn complete(
-    partners: &mut Vec<u16>,
+/// The pairs that have a body of `left`, in ascending order, by a test of each of these bodies with
+/// all others.
+#[inline(never)]
+fn pairs_of_left(
+    alloc: Global,
     loose: &[Bounds],
     left: &[u16],
-    i: usize,
-) -> Result<(), AllocError>
+    is_left: &[bool],
+) -> Result<Vec<Pair>, AllocError>
     requires few { length loose.now ≤ MAX_BODIES }
-    requires body { i < length loose.now }
-    requires left { AreBodies loose.now left.now }
-    requires kept { has_body left.now i ≡ false → (j : ℕ) → (has_body partners.old.items j
-        || (is_pair loose.now i j && has_body left.now j))
-        ≡ (is_pair loose.now i j && nat_lt j (length loose.now)) }
-    ensures { OnOk result (partners.new.items ≡ partners_of loose.now i) }
+    requires left { AreInOrder loose.now left.now }
+    requires count { length is_left.now ≡ length loose.now }
+    requires flags { (k : ℕ) → k < length loose.now
+        → get_or is_left.now k false ≡ has_body left.now k }
+    ensures { IfOk result (λ fresh. fresh.items ≡ filter (has_one left.now) (pairs loose.now)) }
 {
-    if left.contains(&(i as u16)) {
+    let mut fresh = Vec::new(alloc);
+    let mut partners = Vec::new(alloc);
+    for i in 0..loose.len() {
         partners.clear();
-        return add_later(partners, loose, i);
+        if is_left[i] {
+            add_later(&mut partners, loose, i)?;
+        } else {
+            add_overlapping(&mut partners, loose, i, left)?;
+        }
+        add_pairs(&mut fresh, i, &partners)?;
     }
-    add_overlapping(partners, loose, i, left)?;
-    partners.sort_unstable();
-    partners.dedup();
-    Ok(())
+    Ok(fresh)
+}
+
+/// Whether a pair is before another in ascending order.
+#[inline]
+fn is_before(first: &Pair, second: &Pair) -> bool
+    ensures { result ≡ is_before first.now second.now }
+{
+    (first.a < second.a) | ((first.a == second.a) & (first.b < second.b))
+}
+
+/// The pairs by new enlarged bounds, and a flag for each. Of the candidates those without a body of
+/// `left` must be pairs still: they are taken over with their flags. The others are searched for.
+#[inline(never)]
+pub(crate) fn merge(
+    alloc: Global,
+    candidates: &[Pair],
+    flags: &[bool],
+    loose: &[Bounds],
+    left: &[u16],
+) -> Result<(Vec<Pair>, Vec<bool>), AllocError>
+    requires few { length loose.now ≤ MAX_BODIES }
+    requires candidates { All (IsPairOf (length loose.now)) candidates.now }
+    requires flags { length flags.now ≡ length candidates.now }
+    requires left { AreInOrder loose.now left.now }
+    requires others { pairs_without left.now candidates.now
+        ≡ pairs_without left.now (pairs loose.now) }
+    ensures pairs { IfOk result (λ merged. merged.0.items ≡ pairs loose.now) }
+    ensures as_many { IfOk result (λ merged. length merged.1.items ≡ length (pairs loose.now)) }
+    ensures others { IfOk result (λ merged. flags_without left.now merged.1.items (pairs loose.now)
+        ≡ flags_without left.now flags.now candidates.now) }
+{
+    let is_left = left_flags(alloc, loose.len(), left)?;
+    let fresh = pairs_of_left(alloc, loose, left, &is_left)?;
+    let count = candidates.len() + fresh.len();
+    let mut merged = Vec::with_capacity(alloc, count)?;
+    let mut merged_flags = Vec::with_capacity(alloc, count)?;
+    let mut i = 0;
+    let mut next = 0;
+    while i < candidates.len() {
+        let pair = &candidates[i];
+        if is_left[pair.a] | is_left[pair.b] {
+            i += 1;
+        } else if next < fresh.len() && is_before(&fresh[next], pair) {
+            merged.push_reserved(fresh[next]);
+            merged_flags.push_reserved(false);
+            next += 1;
+        } else {
+            merged.push_reserved(*pair);
+            merged_flags.push_reserved(flags[i]);
+            i += 1;
+        }
+    }
+    merged.extend_from_slice(&fresh[next..])?;
+    merged_flags.resize(merged.len(), false)?;
+    Ok((merged, merged_flags))
 }

@@ -1,12 +1,11 @@
 //! The broad phase that is kept from tick to tick.
 
-use crate::broad_phase::{add_pairs, all_pairs};
+use crate::broad_phase::all_pairs;
 use crate::candidates::{
-    PairsUpdate, add_candidates, all_places, complete, load_flagged, moved_flags, test_all,
-    test_moved,
+    PairsUpdate, all_places, load_flagged, merge, moved_flags, test_all, test_moved,
 };
 use crate::grid::Grid;
-use crate::loose::{all_enlarged_bounds, has_left, left_bodies, refit};
+use crate::loose::{all_enlarged_bounds, left_bodies, refit};
 use crate::watched::{Watched, are_right, moved_among};
 use pf_shapes::{BodyState, Bounds, Pair};
 use std::alloc::{AllocError, Global};
@@ -54,13 +53,13 @@ impl Model for BroadPhase {
 }
 
 impl BroadPhase {
-    ghost use Rattle.std.specs.Prelude.{◌≡◌, ◌≢◌, ◌<◌, ◌≤◌, ◌||◌, [], Bool, false, true, get_or, length, All, IfOk, IsOk, IsTrue, OnErr, OnOk};
+    ghost use Rattle.std.specs.Prelude.{◌≡◌, ◌≢◌, ◌<◌, ◌≤◌, ◌↔◌, ◌||◌, [], Bool, false, true, get_or, length, All, IfOk, IsOk, IsTrue, OnErr, OnOk};
     ghost use Rattle.std.specs.List.{range_with_len};
     ghost use Rattle.pf_shapes.specs.Bounds.{IsOrdered};
     ghost use Rattle.pf_shapes.specs.Pair.{IsAscending, IsPairOf};
     ghost use Rattle.pf_shapes.specs.declared.scene.TheConstants.{MAX_BODIES};
     ghost use Rattle.pf_broad.specs.Pairs.{pairs};
-    ghost use Rattle.pf_broad.specs.Loose.{AreLoosened, AreSameBut};
+    ghost use Rattle.pf_broad.specs.Loose.{AreLoosened};
     ghost use Rattle.pf_broad.specs.Kept.{AreFlagged, FlagsHold, IsKeptOf, StillHolds, moved_places, nothing_kept};
     ghost use Rattle.pf_broad.specs.Partners.{AreBodies, has_body};
 
@@ -88,10 +87,10 @@ impl BroadPhase {
     /// Finds the pairs of bodies, at most one of them static, whose bounds overlap: in ascending
     /// order, each once, whatever is kept. `bodies` decides only how far bounds are enlarged, by
     /// how fast each body moves. Bodies that are not in `moved` must have the bounds of the last
-    /// update. Pairs of two of them are not tested again where flags are kept, no body has left its
-    /// enlarged bounds, and `moved` has fewer than half as many bodies as there are, rounded down.
-    /// For fewer than two bodies it takes no memory and can't fail, and nothing is kept. An error
-    /// drops what is kept.
+    /// update. Pairs of two of them are not tested again where flags are kept, at most 16 bodies
+    /// have left their enlarged bounds, and `moved` has fewer than half as many bodies as there
+    /// are, rounded down. For fewer than two bodies it takes no memory and can't fail, and nothing
+    /// is kept. An error drops what is kept.
     ///
     /// Also lists places of pairs, in ascending order: of those with a body of `moved`, or of all.
     /// Where no flags were kept it is all; else no clause says which of the two. `same` may be
@@ -129,10 +128,13 @@ impl BroadPhase {
                 moved_places: Vec::new(alloc),
             });
         }
-        let next = kept.refresh(alloc, bounds, bodies, moved)?;
+        let (next, are_same) = kept.refresh(alloc, bounds, bodies, moved)?;
         let (next, update) = next.test(alloc, bounds, moved)?;
         *self = next;
-        Ok(update)
+        Ok(PairsUpdate {
+            same: update.same & are_same,
+            moved_places: update.moved_places,
+        })
     }
 
     /// The same with the candidates tested whose bodies may have moved. All are tested where they
@@ -148,14 +150,13 @@ impl BroadPhase {
         requires moved { AreBodies bounds.now moved.now }
         requires flags { FlagsHold moved.now self bounds.now }
         ensures kept { IfOk result (λ tested. IsKeptOf tested.0 bounds.now) }
-        ensures same { IfOk result (λ tested. IsTrue tested.1.same
-            → self.flags ≢ [] × tested.0.pairs ≡ self.pairs) }
+        ensures same { IfOk result
+            (λ tested. IsTrue tested.1.same → tested.0.pairs ≡ self.pairs) }
         ensures places { IfOk result (λ tested. (all : Bool)
             × (self.flags ≡ [] → all ≡ true) × (tested.1.moved_places.items
             ≡ moved_places (λ k. all || has_body moved.now k) tested.0.pairs)) }
     {
-        let are_new = self.flags.is_empty() | (self.flags.len() != self.candidates.len());
-        if are_new | (moved.len() >= bounds.len() / 2) {
+        if !self.has_flags() || moved.len() >= bounds.len() / 2 {
             self.test_anew(alloc, bounds)
         } else {
             self.test_some(alloc, bounds, moved)
@@ -296,15 +297,16 @@ impl BroadPhase {
         Ok((next, update))
     }
 
-    /// Enlarged bounds that contain these, and their pairs. Where few bodies have left their
-    /// enlarged bounds, only these are searched for. Flags are kept only where no body has.
+    /// Enlarged bounds that contain these, and their pairs; and whether all is as it was. Where few
+    /// bodies have left their enlarged bounds, only the pairs of these are searched for, and the
+    /// flags of other pairs are kept.
     fn refresh(
         self,
         alloc: Global,
         bounds: &[Bounds],
         bodies: &[BodyState],
         moved: &[usize],
-    ) -> Result<BroadPhase, AllocError>
+    ) -> Result<(BroadPhase, bool), AllocError>
         requires many { 2 ≤ length bounds.now }
         requires bodies { length bodies.now ≡ length bounds.now }
         requires moved { AreBodies bounds.now moved.now }
@@ -312,60 +314,48 @@ impl BroadPhase {
             → StillHolds moved.now self bounds.now }
         requires few { length bounds.now ≤ MAX_BODIES }
         requires ordered { All IsOrdered bounds.now }
-        ensures loosened { IfOk result (λ kept. AreLoosened kept.loose bounds.now) }
-        ensures flags { IfOk result (λ kept. FlagsHold moved.now kept bounds.now) }
-        ensures pairs { IfOk result (λ kept. kept.flags ≢ [] → kept.pairs ≡ self.pairs) }
-        ensures none { IfOk result (λ kept. self.flags ≡ [] → kept.flags ≡ []) }
+        ensures loosened { IfOk result (λ kept. AreLoosened kept.0.loose bounds.now) }
+        ensures flags { IfOk result (λ kept. FlagsHold moved.now kept.0 bounds.now) }
+        ensures same { IfOk result (λ kept. IsTrue kept.1 → kept.0.pairs ≡ self.pairs) }
+        ensures none { IfOk result (λ kept. self.flags ≡ [] → kept.0.flags ≡ []) }
     {
         if self.loose.len() != bounds.len() {
-            return BroadPhase::of(alloc, bounds, bodies);
+            return Ok((BroadPhase::of(alloc, bounds, bodies)?, false));
         }
-        if !has_left(&self.loose, bounds, moved) {
-            return Ok(self);
+        let left = left_bodies(alloc, &self.loose, bounds, moved)?;
+        if left.is_empty() {
+            return Ok((self, true));
         }
-        let left = left_bodies(alloc, &self.loose, bounds)?;
-        if left.len() > MAX_LEFT {
-            return BroadPhase::of(alloc, bounds, bodies);
+        if !self.has_flags() || left.len() > MAX_LEFT {
+            return Ok((BroadPhase::of(alloc, bounds, bodies)?, false));
         }
-        let loose = refit(alloc, &self.loose, bounds, bodies)?;
-        let candidates = self.update_candidates(alloc, &loose, &left)?;
-        let mut found = self.found;
-        found.clear();
-        Ok(BroadPhase {
+        let BroadPhase {
+            mut loose,
+            candidates,
+            flags,
+            mut found,
+            mut watched,
+        } = self;
+        refit(&mut loose, &left, bounds, bodies);
+        let (candidates, flags) = merge(alloc, &candidates, &flags, &loose, &left)?;
+        load_flagged(&mut found, &candidates, &flags)?;
+        watched.clear();
+        let next = BroadPhase {
             loose,
             candidates,
-            flags: Vec::new(alloc),
+            flags,
             found,
-            watched: Watched::none(alloc),
-        })
+            watched,
+        };
+        Ok((next, false))
     }
 
-    /// The pairs by new enlarged bounds, which differ from the old ones only for the bodies of
-    /// `left`. Pairs of two other bodies are taken over.
-    #[inline(never)]
-    fn update_candidates(
-        &self,
-        alloc: Global,
-        loose: &[Bounds],
-        left: &[u16],
-    ) -> Result<Vec<Pair>, AllocError>
-        requires few { length loose.now ≤ MAX_BODIES }
-        requires as_many { length self.now.loose ≡ length loose.now }
-        requires left { AreBodies loose.now left.now }
-        requires same { AreSameBut left.now self.now.loose loose.now }
-        ensures { IfOk result (λ found. found.items ≡ pairs loose.now) }
+    /// Whether there are candidates, and each has a flag.
+    fn has_flags(&self) -> bool
+        ensures { IsTrue result ↔ ((self.now.flags ≢ [])
+            × (length self.now.flags ≡ length (pairs self.now.loose))) }
     {
-        let candidates = self.candidates.as_slice();
-        let mut found = Vec::with_capacity(alloc, candidates.len())?;
-        let mut partners = Vec::new(alloc);
-        let mut place = 0;
-        for i in 0..loose.len() {
-            partners.clear();
-            place = add_candidates(&mut partners, candidates, place, loose, i)?;
-            complete(&mut partners, loose, left, i)?;
-            add_pairs(&mut found, i, &partners)?;
-        }
-        Ok(found)
+        !self.flags.is_empty() & (self.flags.len() == self.candidates.len())
     }
 
     /// New enlarged bounds of all bodies, and their pairs by a grid, without flags.

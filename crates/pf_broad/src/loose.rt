@@ -1,10 +1,9 @@
 //! Enlarged bounds, which still contain those of a body some ticks later, as the fat AABBs of
 //! Box2D's `b2DynamicTree`.
 
-ghost use Rattle.std.specs.Prelude.{◌≡◌, ◌≤◌, ◌≤ℤ◌, length, not, true, IfOk};
-ghost use Rattle.std.specs.List.{list_any};
+ghost use Rattle.std.specs.Prelude.{◌≡◌, ℕ, ◌<◌, ◌≤◌, ◌≤ℤ◌, false, length, true, IfOk};
 ghost use Rattle.pf_broad.specs.Pairs.{bounds_at};
-ghost use Rattle.pf_broad.specs.Partners.{AreBodies};
+ghost use Rattle.pf_broad.specs.Partners.{has_body, AreBodies};
 ghost use Rattle.pf_broad.specs.Loose.{contains, is_within, left_bodies, AreLoosened, AreSameBut};
 
 use pf_num::Fx;
@@ -92,63 +91,43 @@ pub(crate) fn all_enlarged_bounds(
     Ok(loose)
 }
 
-/// Whether one of these bodies left its enlarged bounds.
-#[inline(never)]
-pub(crate) fn has_left(loose: &[Bounds], bounds: &[Bounds], moved: &[usize]) -> bool
-    requires loose { length loose.now ≡ length bounds.now }
-    requires moved { AreBodies bounds.now moved.now }
-    ensures { result ≡ list_any
-        (λ k. not (contains (bounds_at loose.now k) (bounds_at bounds.now k))) moved.now }
-{
-    for number in moved {
-        if !contains(&loose[*number], &bounds[*number]) {
-            return true;
-        }
-    }
-    false
-}
-
-/// The bodies that left their enlarged bounds.
+/// The bodies that left their enlarged bounds, in ascending order. Only those of `moved` are looked
+/// at: the others must be within theirs.
 #[inline(never)]
 pub(crate) fn left_bodies(
     alloc: Global,
     loose: &[Bounds],
     bounds: &[Bounds],
+    moved: &[usize],
 ) -> Result<Vec<u16>, AllocError>
     requires few { length bounds.now ≤ MAX_BODIES }
     requires loose { length loose.now ≡ length bounds.now }
+    requires moved { AreBodies bounds.now moved.now }
+    requires others { (k : ℕ) → k < length bounds.now → has_body moved.now k ≡ false
+        → contains (bounds_at loose.now k) (bounds_at bounds.now k) ≡ true }
     ensures { IfOk result (λ left. left.items ≡ left_bodies loose.now bounds.now) }
 {
     let mut left = Vec::new(alloc);
-    for i in 0..bounds.len() {
-        if !contains(&loose[i], &bounds[i]) {
-            left.push(i as u16)?;
+    for number in moved {
+        if !contains(&loose[*number], &bounds[*number]) {
+            left.push(*number as u16)?;
         }
     }
+    left.sort_unstable();
+    left.dedup();
     Ok(left)
 }
 
-/// Enlarged bounds of all bodies: the same, but new ones for those that left them.
-#[inline(never)]
-pub(crate) fn refit(
-    alloc: Global,
-    loose: &[Bounds],
-    bounds: &[Bounds],
-    bodies: &[BodyState],
-) -> Result<Vec<Bounds>, AllocError>
-    requires loose { length loose.now ≡ length bounds.now }
+/// Gives new enlarged bounds to the bodies that left theirs.
+pub(crate) fn refit(loose: &mut [Bounds], left: &[u16], bounds: &[Bounds], bodies: &[BodyState])
+    requires loose { length loose.old ≡ length bounds.now }
     requires bodies { length bodies.now ≡ length bounds.now }
-    ensures enlarged_bounds { IfOk result (λ next. AreLoosened next.items bounds.now) }
-    ensures others { IfOk result
-        (λ next. AreSameBut (left_bodies loose.now bounds.now) loose.now next.items) }
+    requires left { left.now ≡ left_bodies loose.old bounds.now }
+    ensures loosened { AreLoosened loose.new bounds.now }
+    ensures others { AreSameBut left.now loose.old loose.new }
 {
-    let mut next = Vec::with_capacity(alloc, bounds.len())?;
-    for i in 0..bounds.len() {
-        if contains(&loose[i], &bounds[i]) {
-            next.push(loose[i])?;
-        } else {
-            next.push(enlarged_bounds(&bounds[i], &bodies[i]))?;
-        }
+    for number in left {
+        let i = usize::from(*number);
+        loose[i] = enlarged_bounds(&bounds[i], &bodies[i]);
     }
-    Ok(next)
 }

@@ -1,11 +1,11 @@
-use Rattle.std.proofs.Common.{◌≡◌, ℕ, ◌<◌, length, true}
-use Rattle.pf_broad.specs.Pairs.{bounds_at}
+use Rattle.std.proofs.Common.{◌≡◌, ℕ, ◌<◌, false, length, take, true}
 use Rattle.pf_broad.specs.Loose.{contains}
+use Rattle.pf_broad.specs.Pairs.{bounds_at}
+use Rattle.pf_broad.specs.Partners.{has_body}
 use Rattle.pf_broad.proofs.loose.refit.Given as goal
 
-abbrev pub invariant-loop-i : goal.invariant-loop-i
-invariant-loop-i l = record {
-  count : length l.next.items ≡ l.i;
-  each : (k : ℕ) → k < l.i → contains (bounds_at l.next.items k) (bounds_at l.bounds k) ≡ true;
-  same : (k : ℕ) → k < l.i → contains (bounds_at l.loose k) (bounds_at l.bounds k) ≡ true → bounds_at l.next.items k ≡ bounds_at l.loose k;
+abbrev pub invariant-loop-number : goal.invariant-loop-number
+invariant-loop-number l = record {
+  each : (k : ℕ) → k < length l.bounds → has_body (take l.number-index l.left) k ≡ true → contains (bounds_at l.loose k) (bounds_at l.bounds k) ≡ true;
+  same : (k : ℕ) → has_body (take l.number-index l.left) k ≡ false → bounds_at l.loose k ≡ bounds_at l.fn.loose k;
 }

@@ -1,0 +1,197 @@
+use Rattle.std.proofs.Common.{◌≡◌, ◌+◌, ◌-◌, ◌<◌, ◌≤◌, ◌++◌, ◌||◌, ◌∷◌, [], false, true, List, length, length-drop, drop, get_or, replicate, vec_len, sym, subst, ap, ◌∙◌, arith, append_assoc}
+use Rattle.std.proofs.lemmas.List.{append-nil, drop_all, get_or_default, take_all}
+use Rattle.pf_shapes.specs.Pair.{is_before, Pair}
+use Rattle.pf_broad.specs.Loose.{flags_without, has_one, pairs_without}
+use Rattle.pf_broad.specs.Pairs.{pair, pairs}
+use Rattle.pf_broad.specs.Partners.{has_body}
+use Rattle.pf_broad.proofs.Ascending.{ascending}
+use Rattle.pf_broad.proofs.Flagging.{bodies_below}
+use Rattle.pf_broad.proofs.Carrying.{flags_from, flags_of_all, flags_push}
+use Rattle.pf_broad.proofs.Merging.{from_place, merge_fresh, merge_other, merge_rest, others_from, passes_first, IsMerged}
+use Rattle.pf_broad.proofs.Searching.{has_one_read}
+use Rattle.pf_broad.proofs.Partnering.{filter-AreBodies}
+use Rattle.pf_broad.proofs.candidates.merge.Goals.{After-loop-i, In_ok-extend_from_slice, After-pair, After-index-in-loop-i, else-next-len-via-then-next-len+else-is_before, else-next-len-via-else-next-len}
+use Rattle.pf_broad.proofs.candidates.merge.Goals as goal
+
+pub left_flags-requires : goal.left_flags-requires
+left_flags-requires c = filter-AreBodies c.args.loose.now (has_body c.args.left.now) c.args.left.now c.requires.left
+
+pub loop-i-init : goal.loop-i-init
+loop-i-init c =
+    let left = c.args.left.now in
+    let loose = c.args.loose.now in
+    let fs = c.args.flags.now in
+    let cs = c.args.candidates.now in
+    record {
+      within = omega arith;
+      next_within = omega arith;
+      pairs = record {
+        rest = pairs loose;
+        parts = ap (λ l. l ++ pairs loose) c.in_ok-merged.ensures.items;
+        ascending = ascending loose;
+        passing = sym c.in_ok-fresh.ensures;
+        failing = sym c.requires.others;
+      };
+      as_many = ap length c.in_ok-merged_flags.ensures.items ∙ sym (ap length c.in_ok-merged.ensures.items);
+      flags = (λ k. flags_without left (c.in_ok-merged_flags.ensures.items k) (c.in_ok-merged.ensures.items k) ++ flags_without left fs cs);
+      count = omega (arith, c.in_ok-merged.ensures.len);
+      room = omega (arith, c.in_ok-merged.ensures.exact, c.len.ensures);
+      flags_room = omega (arith, c.in_ok-merged_flags.ensures.exact, c.len.ensures);
+    }
+
+-- the next candidate is of two bodies that there are
+next_bodies : (c : After-pair) → (c.pair.inside.a < length c.args.loose.now) × (c.pair.inside.b < length c.args.loose.now)
+next_bodies c =
+    let cs = c.args.candidates.now in
+    bodies_below (length c.args.loose.now) cs c.loop-i.i (pair c.pair.inside.a c.pair.inside.b) c.index-candidates-i.result
+    c.requires.candidates c.loop-i-test.true c.pair.view_is c.index-candidates-i.is
+
+pub index-requires : goal.index-requires
+index-requires c = omega (arith, (next_bodies (goal.at.index-requires c).After-pair).0, c.in_ok-is_left.ensures.count)
+
+pub index-requires-in-loop-i : goal.index-requires-in-loop-i
+index-requires-in-loop-i c = omega (arith, (next_bodies (goal.at.index-requires-in-loop-i c).After-pair).1, c.in_ok-is_left.ensures.count)
+
+-- whether it has a body that left
+tested : (c : After-index-in-loop-i) → has_one c.args.left.now c.index-candidates-i.result ≡ (c.index.result.now || c.index-in-loop-i.result.now)
+tested c =
+    ap (has_one c.args.left.now) (sym c.pair.view_is)
+    ∙ has_one_read c.args.left.now c.in_ok-is_left.is_left.items (length c.args.loose.now) (pair c.pair.inside.a c.pair.inside.b)
+    c.index.result.now c.index-in-loop-i.result.now c.in_ok-is_left.ensures.count c.in_ok-is_left.ensures.each (next_bodies (goal.at.After-index-in-loop-i c).After-pair)
+    c.index.ensures c.index-in-loop-i.ensures
+
+pub loop-i-preserved-then-index : goal.loop-i-preserved-then-index
+loop-i-preserved-then-index c =
+    let here = (goal.at.loop-i-preserved-then-index c).After-index-in-loop-i in
+    let left = c.args.left.now in
+    let cs = c.args.candidates.now in
+    let fs = c.args.flags.now in
+    let i = c.loop-i.i in
+    let inv = c.loop-i.invariant in
+    let p = c.index-candidates-i.result in
+    let is : has_one left p ≡ true = tested here ∙ c.if-index.true in
+    record {
+      within = omega (arith, c.loop-i-test.true);
+      next_within = inv.next_within;
+      pairs = subst (λ l. IsMerged (has_one left) (pairs c.args.loose.now) c.loop-i.merged.items (drop c.loop-i.next c.in_ok-fresh.fresh.items) l)
+          (others_from left cs i true p c.loop-i-test.true c.index-candidates-i.is is) inv.pairs;
+      as_many = inv.as_many;
+      flags = ap (λ l. flags_without left c.loop-i.merged_flags.items c.loop-i.merged.items ++ l)
+          (sym (flags_from left fs cs i true p c.loop-i-test.true c.requires.flags c.index-candidates-i.is is)) ∙ inv.flags;
+      count = omega (arith, inv.count);
+      room = inv.room;
+      flags_room = inv.flags_room;
+    }
+
+pub loop-i-preserved-then-is_before : goal.loop-i-preserved-then-is_before
+loop-i-preserved-then-is_before c =
+    let here = (goal.at.loop-i-preserved-then-is_before c).After-index-in-loop-i in
+    let left = c.args.left.now in
+    let t = has_one left in
+    let cs = c.args.candidates.now in
+    let fresh = c.in_ok-fresh.fresh.items in
+    let inv = c.loop-i.invariant in
+    let h = c.index-candidates-i.result in
+    let p = c.index-then-is_before.result.now in
+    let q = c.index-then-next-len.result.now in
+    let below : c.loop-i.next < length fresh = omega (arith, c.if-next-len.true, c.len-else-index.ensures) in
+    let at_p : drop c.loop-i.next fresh ≡ p ∷ drop (c.loop-i.next + 1) fresh = from_place fresh c.loop-i.next p below c.index-then-is_before.ensures in
+    let same : q ≡ p = c.index-then-next-len.ensures ∙ get_or_default fresh c.loop-i.next q p below ∙ sym c.index-then-is_before.ensures in
+    let first : is_before p h ≡ true = subst (λ r. is_before r h ≡ true) same (sym c.is_before.ensures ∙ c.if-is_before.true) in
+    let is : t p ≡ true = passes_first t inv.pairs.rest (drop (c.loop-i.next + 1) fresh) p (inv.pairs.passing ∙ at_p) in
+    record {
+      within = inv.within;
+      next_within = omega (arith, below);
+      pairs = subst (λ l. IsMerged t (pairs c.args.loose.now) l (drop (c.loop-i.next + 1) fresh) (pairs_without left (drop c.loop-i.i cs))) (sym c.push_reserved.ensures.items)
+          (merge_fresh t (pairs c.args.loose.now) c.loop-i.merged.items _ _ _ _ p h at_p
+          (others_from left cs c.loop-i.i false h c.loop-i-test.true c.index-candidates-i.is (tested here ∙ c.if-index.false)) first inv.pairs);
+      as_many = omega (arith, inv.as_many, c.push_reserved.ensures.len, c.push_reserved-then-is_before.ensures.len);
+      flags = ap (λ l. l ++ flags_without left (drop c.loop-i.i c.args.flags.now) (drop c.loop-i.i cs))
+          ((λ k. flags_without left (c.push_reserved-then-is_before.ensures.items k) (c.push_reserved.ensures.items k))
+          ∙ flags_push left c.loop-i.merged_flags.items c.loop-i.merged.items false true p inv.as_many is ∙ append-nil _) ∙ inv.flags;
+      count = omega (arith, inv.count, c.push_reserved.ensures.len);
+      room = omega (arith, inv.room, c.push_reserved.ensures.capacity);
+      flags_room = omega (arith, inv.flags_room, c.push_reserved-then-is_before.ensures.capacity);
+    }
+
+pub loop-i-preserved : goal.loop-i-preserved
+loop-i-preserved c =
+    let here = (goal.at.loop-i-preserved c).After-index-in-loop-i in
+    let left = c.args.left.now in
+    let t = has_one left in
+    let cs = c.args.candidates.now in
+    let fs = c.args.flags.now in
+    let i = c.loop-i.i in
+    let fresh = c.in_ok-fresh.fresh.items in
+    let inv = c.loop-i.invariant in
+    let h = c.index-candidates-i.result in
+    let is : t h ≡ false = tested here ∙ c.if-index.false in
+    let after : (p : Pair) (ps : List Pair) → drop c.loop-i.next fresh ≡ p ∷ ps → is_before p h ≡ false = λ p ps at_p.
+    elim c.else-next-len.branch [
+      | else-next-len-via-then-next-len+else-is_before w ↦
+          (let q = w.index-then-next-len.result.now in
+          let below : c.loop-i.next < length fresh = omega (arith, w.if-next-len.true, c.len-else-index.ensures) in
+          let at_q : drop c.loop-i.next fresh ≡ q ∷ drop (c.loop-i.next + 1) fresh = from_place fresh c.loop-i.next q below w.index-then-next-len.ensures in
+          let same : q ≡ p = cc in
+          subst (λ r. is_before r h ≡ false) same (sym w.is_before.ensures ∙ w.if-is_before.false))
+      | else-next-len-via-else-next-len w ↦
+          absurd (let none = drop_all c.loop-i.next fresh (omega (arith, w.if-next-len.false, c.len-else-index.ensures)) in cc)
+    ] in
+    let pushed : c.push_reserved-else-next-len.new.self.items ≡ c.loop-i.merged.items ++ h ∷ [] =
+    c.push_reserved-else-next-len.ensures.items ∙ ap (λ r. c.loop-i.merged.items ++ r ∷ []) c.pair.view_is in
+    let rest = flags_without left (drop (i + 1) fs) (drop (i + 1) cs) in
+    record {
+      within = omega (arith, c.loop-i-test.true);
+      next_within = inv.next_within;
+      pairs = subst (λ l. IsMerged t (pairs c.args.loose.now) l (drop c.loop-i.next fresh) (pairs_without left (drop (i + 1) cs))) (sym pushed)
+          (merge_other t (pairs c.args.loose.now) c.loop-i.merged.items _ _ _ h
+          (others_from left cs i false h c.loop-i-test.true c.index-candidates-i.is is) after inv.pairs);
+      as_many = omega (arith, inv.as_many, c.push_reserved-else-next-len.ensures.len, c.push_reserved-else-next-len-2.ensures.len);
+      flags = ap (λ l. l ++ rest)
+          ((λ k. flags_without left (c.push_reserved-else-next-len-2.ensures.items k) (pushed k))
+          ∙ flags_push left c.loop-i.merged_flags.items c.loop-i.merged.items (get_or fs i false) false h inv.as_many is)
+          ∙ append_assoc (flags_without left c.loop-i.merged_flags.items c.loop-i.merged.items) ((get_or fs i false, h) ∷ []) rest
+          ∙ ap (λ l. flags_without left c.loop-i.merged_flags.items c.loop-i.merged.items ++ l)
+          (sym (flags_from left fs cs i false h c.loop-i-test.true c.requires.flags c.index-candidates-i.is is)) ∙ inv.flags;
+      count = omega (arith, inv.count, c.push_reserved-else-next-len.ensures.len);
+      room = omega (arith, inv.room, c.push_reserved-else-next-len.ensures.capacity);
+      flags_room = omega (arith, inv.flags_room, c.push_reserved-else-next-len-2.ensures.capacity);
+    }
+
+-- all others are merged
+all_merged : (c : After-loop-i) → length c.args.candidates.now ≤ c.loop-i.i
+    → IsMerged (has_one c.args.left.now) (pairs c.args.loose.now) c.loop-i.merged.items (drop c.loop-i.next c.in_ok-fresh.fresh.items) []
+all_merged c ended =
+    let t = has_one c.args.left.now in
+    subst (λ l. IsMerged t (pairs c.args.loose.now) c.loop-i.merged.items (drop c.loop-i.next c.in_ok-fresh.fresh.items) (pairs_without c.args.left.now l))
+    (drop_all c.loop-i.i c.args.candidates.now ended) c.loop-i.invariant.pairs
+
+-- and then the pairs with a body that left
+all_pairs : (c : In_ok-extend_from_slice) → c.extend_from_slice.new.self.items ≡ pairs c.args.loose.now
+all_pairs c =
+    let rest = drop c.loop-i.next c.deref-2.result.now in
+    c.in_ok-extend_from_slice.ensures.items
+    ∙ ap (λ (l : List Pair). c.loop-i.merged.items ++ l)
+    (take_all (length c.deref-2.result.now - c.loop-i.next) rest (omega (arith, length-drop c.loop-i.next c.deref-2.result.now))
+    ∙ ap (drop c.loop-i.next) c.deref-2.ensures.value)
+    ∙ merge_rest (has_one c.args.left.now) (pairs c.args.loose.now) c.loop-i.merged.items (drop c.loop-i.next c.in_ok-fresh.fresh.items)
+    (all_merged (goal.at.In_ok-extend_from_slice c).After-loop-i c.loop-i-test.false)
+
+pub returns-clause-pairs : goal.returns-clause-pairs
+returns-clause-pairs c = all_pairs (goal.at.returns-clause-pairs c).In_ok-extend_from_slice
+
+pub returns-clause-as_many : goal.returns-clause-as_many
+returns-clause-as_many c =
+    omega (arith, c.in_ok-resize.ensures.len, c.len-2.ensures, ap length (all_pairs (goal.at.returns-clause-as_many c).In_ok-extend_from_slice))
+
+pub returns-clause-others : goal.returns-clause-others
+returns-clause-others c =
+    let left = c.args.left.now in
+    let fs = c.args.flags.now in
+    let cs = c.args.candidates.now in
+    let inv = c.loop-i.invariant in
+    ap (λ l. flags_without left l (pairs c.args.loose.now))
+    (c.in_ok-resize.ensures.items ∙ ap (λ l. l ++ replicate (c.len-2.result - vec_len c.loop-i.merged_flags) false) (take_all _ c.loop-i.merged_flags.items
+    (omega (arith, inv.as_many, c.len-2.ensures, c.in_ok-extend_from_slice.ensures.len))))
+    ∙ flags_of_all left (pairs c.args.loose.now) c.loop-i.merged.items (drop c.loop-i.next c.in_ok-fresh.fresh.items) c.loop-i.merged_flags.items (replicate (c.len-2.result - vec_len c.loop-i.merged_flags) false)
+    fs cs c.loop-i.i (all_merged (goal.at.returns-clause-others c).After-loop-i c.loop-i-test.false) inv.as_many c.loop-i-test.false c.requires.flags inv.flags
