@@ -6,7 +6,7 @@ use Rattle.pf_shapes.specs.Bounds.{Bounds}
 use Rattle.pf_shapes.specs.Pair.{Pair}
 use Rattle.pf_broad.specs.Pairs.{pair_may_touch}
 use Rattle.pf_broad.specs.Partners.{has_body}
-use Rattle.pf_broad.specs.Loose.{flags_without, has_one}
+use Rattle.pf_broad.specs.Enlarged.{flags_without, has_one}
 use Rattle.pf_broad.specs.Kept.{AreFlagged}
 use Rattle.pf_broad.proofs.Flagging.{neither}
 use Rattle.pf_broad.proofs.Merging.{from_place, merge_rest, IsMerged}

@@ -6,7 +6,7 @@ use Rattle.std.proofs.Math.Bool.{and-or_distrib_left, and_comm}
 use Rattle.std.specs.List.{range_with_len, filter, flat_map}
 use Rattle.pf_shapes.specs.Bounds.{Bounds}
 use Rattle.pf_broad.specs.Pairs.{bounds_at, may_touch, is_pair, pair, pairs_of}
-use Rattle.pf_broad.specs.Laws.{has_pair, IsExact}
+use Rattle.pf_broad.specs.Laws.{has_pair, ArePairsExact}
 use Rattle.pf_shapes.specs.Pair.{Pair}
 use Rattle.pf_broad.specs.Partners.{has_body}
 use Rattle.pf_broad.proofs.Ranges.{at_equal, has_body-filter, has_body-below}
@@ -40,7 +40,7 @@ has_pair-pairs_of bs x i j =
     ∙ ap (λ b. nat_eq x i && b) (has_body-filter (is_pair bs x) (range_with_len 0 (length bs)) j
     ∙ ap (λ b. is_pair bs x j && b) (has_body-below (length bs) j))
 
-pub exact : (bs : List Bounds) → IsExact bs
+pub exact : (bs : List Bounds) → ArePairsExact bs
 exact bs i j =
     has_pair-flat_map (pairs_of bs) (λ x. is_pair bs x j && nat_lt j (length bs)) i j (λ x. has_pair-pairs_of bs x i j) (range_with_len 0 (length bs))
     ∙ ap (λ b. (is_pair bs i j && nat_lt j (length bs)) && b) (has_body-below (length bs) i)

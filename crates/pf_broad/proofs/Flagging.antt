@@ -8,7 +8,7 @@ use Rattle.pf_shapes.specs.Bounds.{Bounds}
 use Rattle.pf_shapes.specs.Pair.{IsPairOf, Pair}
 use Rattle.pf_broad.specs.Pairs.{bounds_at, may_touch, no_bounds, pair, pair_at, pair_may_touch, pairs}
 use Rattle.pf_broad.specs.Partners.{has_body}
-use Rattle.pf_broad.specs.Loose.{contains}
+use Rattle.pf_broad.specs.Enlarged.{contains}
 use Rattle.pf_broad.specs.Kept.{flagged, AreFlagged, BroadPhase, IsKeptOf, StillHolds}
 use Rattle.pf_broad.proofs.Within.{pairs-IsPairOf}
 
@@ -140,13 +140,13 @@ pub still_holds : (kept : BroadPhase) (old bounds : List Bounds) (moved : List �
     → ((k : ℕ) → k < length bounds → has_body moved k ≡ false → bounds_at old k ≡ bounds_at bounds k) → StillHolds moved kept bounds
 still_holds kept old bounds moved is as_many same = record {
   contained = λ k below other.
-      subst (λ b. contains (bounds_at kept.loose k) b ≡ true) (same k below other) (is.loose.each k (omega (arith, as_many, below)));
+      subst (λ b. contains (bounds_at kept.enlarged k) b ≡ true) (same k below other) (is.enlarged.each k (omega (arith, as_many, below)));
   flags = λ i below none.
-      let ps = pairs kept.loose in
+      let ps = pairs kept.enlarged in
       let p = pair_at ps i in
-      let as_many_loose : length kept.loose ≡ length bounds = is.loose.as_many ∙ as_many in
+      let as_many_enlarged : length kept.enlarged ≡ length bounds = is.enlarged.as_many ∙ as_many in
       let of : IsPairOf (length bounds) p =
-      All-get_or (IsPairOf (length bounds)) ps i (pair 0 0) below (pairs-IsPairOf kept.loose ps (length bounds) refl as_many_loose) in
+      All-get_or (IsPairOf (length bounds)) ps i (pair 0 0) below (pairs-IsPairOf kept.enlarged ps (length bounds) refl as_many_enlarged) in
       let others = neither (has_body moved p.a) (has_body moved p.b) none in
       ap (λ l. get_or l i false) is.flags ∙ get_or-map (pair_may_touch old) ps i (pair 0 0) false below
       ∙ (λ k. may_touch (same p.a (omega (arith, of.0, of.1)) others.0 k) (same p.b of.1 others.1 k));

@@ -6,7 +6,7 @@ use Rattle.std.specs.List.{range_with_len, filter}
 use Rattle.pf_shapes.specs.Bounds.{Bounds}
 use Rattle.pf_broad.specs.Pairs.{bounds_at}
 use Rattle.pf_broad.specs.Partners.{has_body, AreBodies, AreInOrder}
-use Rattle.pf_broad.specs.Loose.{contains, left_bodies, AreLoosened}
+use Rattle.pf_broad.specs.Enlarged.{contains, left_bodies, AreEnlarged}
 use Rattle.pf_broad.proofs.Placing.{filter-same}
 use Rattle.pf_broad.proofs.Watching.{All-has_body}
 use Rattle.pf_broad.proofs.Ranges.{has_body-filter, has_body-below}
@@ -15,30 +15,30 @@ has_body-filter_below : (p : ℕ → Bool) (n j : ℕ) → has_body (filter p (r
 has_body-filter_below p n j = has_body-filter p (range_with_len 0 n) j ∙ ap (λ b. p j && b) (has_body-below n j)
 
 -- one that is no body that left, in range, is contained
-pub left-contained : (loose bounds : List Bounds) (k : ℕ) → k < length bounds → has_body (left_bodies loose bounds) k ≡ false → contains (bounds_at loose k) (bounds_at bounds k) ≡ true
-left-contained loose bounds k below stayed =
-    let tested = has_body-filter_below (λ j. not (contains (bounds_at loose j) (bounds_at bounds j))) (length bounds) k in
+pub left-contained : (enlarged bounds : List Bounds) (k : ℕ) → k < length bounds → has_body (left_bodies enlarged bounds) k ≡ false → contains (bounds_at enlarged k) (bounds_at bounds k) ≡ true
+left-contained enlarged bounds k below stayed =
+    let tested = has_body-filter_below (λ j. not (contains (bounds_at enlarged j) (bounds_at bounds j))) (length bounds) k in
     let here : nat_lt k (length bounds) ≡ true = grind (arith, nat_tests) in
-    contained (contains (bounds_at loose k) (bounds_at bounds k)) (nat_lt k (length bounds)) here (sym tested ∙ stayed)
+    contained (contains (bounds_at enlarged k) (bounds_at bounds k)) (nat_lt k (length bounds)) here (sym tested ∙ stayed)
   where
     contained : (c n : Bool) → n ≡ true → (not c && n) ≡ false → c ≡ true
     contained true n h e = refl
     contained false n h e = sym e ∙ h
 
 -- where none left, all are contained
-pub none_left : (loose bounds : List Bounds) → length loose ≡ length bounds → left_bodies loose bounds ≡ [] → AreLoosened loose bounds
-none_left loose bounds as_many none = record {
+pub none_left : (enlarged bounds : List Bounds) → length enlarged ≡ length bounds → left_bodies enlarged bounds ≡ [] → AreEnlarged enlarged bounds
+none_left enlarged bounds as_many none = record {
   as_many = as_many;
-  each = λ k below. left-contained loose bounds k below (ap (λ l. has_body l k) none);
+  each = λ k below. left-contained enlarged bounds k below (ap (λ l. has_body l k) none);
 }
 
 -- those of the listed bodies that left are all that did
-pub left-listed : (loose bounds : List Bounds) (moved : List ℕ) → AreBodies bounds moved
-    → ((k : ℕ) → k < length bounds → has_body moved k ≡ false → contains (bounds_at loose k) (bounds_at bounds k) ≡ true)
-    → (k : ℕ) → (not (contains (bounds_at loose k) (bounds_at bounds k)) && has_body moved k)
-    ≡ (not (contains (bounds_at loose k) (bounds_at bounds k)) && nat_lt k (length bounds))
-left-listed loose bounds moved are contained k =
-    same (contains (bounds_at loose k) (bounds_at bounds k)) (has_body moved k) (nat_lt k (length bounds))
+pub left-listed : (enlarged bounds : List Bounds) (moved : List ℕ) → AreBodies bounds moved
+    → ((k : ℕ) → k < length bounds → has_body moved k ≡ false → contains (bounds_at enlarged k) (bounds_at bounds k) ≡ true)
+    → (k : ℕ) → (not (contains (bounds_at enlarged k) (bounds_at bounds k)) && has_body moved k)
+    ≡ (not (contains (bounds_at enlarged k) (bounds_at bounds k)) && nat_lt k (length bounds))
+left-listed enlarged bounds moved are contained k =
+    same (contains (bounds_at enlarged k) (bounds_at bounds k)) (has_body moved k) (nat_lt k (length bounds))
     (λ other is. contained k (ltb-true k (length bounds) is) other)
     (λ listed. (let below = All-has_body (λ j. j < length bounds) moved k are listed in grind (arith, nat_tests)))
   where
@@ -49,14 +49,14 @@ left-listed loose bounds moved are contained k =
     same false false false within listed = refl
 
 -- a body that left may have moved
-pub left-moved : (loose bounds : List Bounds) (moved : List ℕ)
-    → ((k : ℕ) → k < length bounds → has_body moved k ≡ false → contains (bounds_at loose k) (bounds_at bounds k) ≡ true)
-    → (k : ℕ) → has_body moved k ≡ false → has_body (left_bodies loose bounds) k ≡ false
-left-moved loose bounds moved contained k other =
-    has_body-filter_below (λ j. not (contains (bounds_at loose j) (bounds_at bounds j))) (length bounds) k
-    ∙ elim (nat_lt k (length bounds)) as (λ b. nat_lt k (length bounds) ≡ b → (not (contains (bounds_at loose k) (bounds_at bounds k)) && b) ≡ false) [
+pub left-moved : (enlarged bounds : List Bounds) (moved : List ℕ)
+    → ((k : ℕ) → k < length bounds → has_body moved k ≡ false → contains (bounds_at enlarged k) (bounds_at bounds k) ≡ true)
+    → (k : ℕ) → has_body moved k ≡ false → has_body (left_bodies enlarged bounds) k ≡ false
+left-moved enlarged bounds moved contained k other =
+    has_body-filter_below (λ j. not (contains (bounds_at enlarged j) (bounds_at bounds j))) (length bounds) k
+    ∙ elim (nat_lt k (length bounds)) as (λ b. nat_lt k (length bounds) ≡ b → (not (contains (bounds_at enlarged k) (bounds_at bounds k)) && b) ≡ false) [
       | true ↦ λ is. (let below : k < length bounds = ltb-true k (length bounds) is in ap (λ b. not b && true) (contained k below other))
-      | false ↦ λ _. and-false (not (contains (bounds_at loose k) (bounds_at bounds k)))
+      | false ↦ λ _. and-false (not (contains (bounds_at enlarged k) (bounds_at bounds k)))
     ] refl
 
 -- the bodies that pass a test are in order

@@ -18,7 +18,7 @@ pub mod StoredCells
 pub mod Gridding
 pub mod Partnering
 pub mod SharedCells
-pub mod Loosening
+pub mod Enlarging
 pub mod Leaving
 pub mod Searching
 pub mod Merging

@@ -4,7 +4,7 @@ use Rattle.std.proofs.lemmas.Bool.Decides.{nat_tests}
 use Rattle.std.proofs.Math.Seq.{drop-cons}
 use Rattle.std.specs.List.{filter, AllByRecursion}
 use Rattle.pf_shapes.specs.Pair.{is_before, IsAscending, Pair}
-use Rattle.pf_broad.specs.Loose.{has_one, pairs_without}
+use Rattle.pf_broad.specs.Enlarged.{has_one, pairs_without}
 
 -- what is merged so far of two lists: the pairs that pass a test, and the others, each from a place
 -- on, are those of the rest

@@ -7,8 +7,8 @@ use Rattle.pf_shapes.specs.Bounds.{Bounds}
 use Rattle.pf_shapes.specs.Pair.{Pair}
 use Rattle.pf_broad.specs.Pairs.{may_touch, is_pair, pair, partners_of, pairs_of, pairs}
 use Rattle.pf_broad.specs.Partners.{has_body, AreInOrder}
-use Rattle.pf_broad.specs.Loose.{has_one, pairs_without, AreSameBut}
-use Rattle.pf_broad.proofs.Loosening.{filter-flat_map, filter-map, flat_map-same}
+use Rattle.pf_broad.specs.Enlarged.{has_one, pairs_without, AreSameBut}
+use Rattle.pf_broad.proofs.Enlarging.{filter-flat_map, filter-map, flat_map-same}
 
 filter-both : (p q : ℕ → Bool) (xs : List ℕ) → filter p (filter q xs) ≡ filter (λ k. q k && p k) xs
 filter-both p q [] = refl

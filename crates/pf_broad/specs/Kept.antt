@@ -6,7 +6,7 @@ use Rattle.pf_shapes.specs.Bounds.{Bounds}
 use Rattle.pf_shapes.specs.Pair.{Pair}
 use Rattle.pf_broad.specs.Pairs.{bounds_at, pair_at, pair_may_touch, pairs}
 use Rattle.pf_broad.specs.Partners.{has_body}
-use Rattle.pf_broad.specs.Loose.{contains, AreLoosened}
+use Rattle.pf_broad.specs.Enlarged.{contains, AreEnlarged}
 
 -- the pair at this place has a body of this set
 abbrev pub has_body_of : (ℕ → Bool) → List Pair → ℕ → Bool
@@ -21,18 +21,18 @@ AreFlagged moved bounds candidates flags =
 -- what the broad phase keeps: enlarged bounds, the flags of the pairs whose enlarged bounds
 -- overlap, and the pairs that it found
 pub record BroadPhase : Type 0 where
-  pub loose : List Bounds
+  pub enlarged : List Bounds
   pub flags : List Bool
   pub pairs : List Pair
 
 abbrev pub nothing_kept : BroadPhase
-nothing_kept = record { loose = []; flags = []; pairs = [] }
+nothing_kept = record { enlarged = []; flags = []; pairs = [] }
 
 -- the enlarged bounds contain the bounds of each body, each flag says whether the bodies of its
 -- pair may touch, and the pairs are those of the bounds
 pub record IsKeptOf (kept : BroadPhase) (bounds : List Bounds) : Type 0 where
-  pub loose : AreLoosened kept.loose bounds
-  pub flags : kept.flags ≡ map (pair_may_touch bounds) (pairs kept.loose)
+  pub enlarged : AreEnlarged kept.enlarged bounds
+  pub flags : kept.flags ≡ map (pair_may_touch bounds) (pairs kept.enlarged)
   pub pairs : kept.pairs ≡ pairs bounds
 
 -- the pairs whose flags are set
@@ -53,11 +53,11 @@ moved_places bodies ps = filter (has_body_of bodies ps) (range_with_len 0 (lengt
 -- they may touch
 abbrev pub FlagsHold : List ℕ → BroadPhase → List Bounds → Type 0
 FlagsHold moved kept bounds =
-    length kept.flags ≡ length (pairs kept.loose)
-    → AreFlagged (has_body moved) bounds (pairs kept.loose) kept.flags
+    length kept.flags ≡ length (pairs kept.enlarged)
+    → AreFlagged (has_body moved) bounds (pairs kept.enlarged) kept.flags
 
 -- what is kept still holds for the bodies that are not listed
 pub record StillHolds (moved : List ℕ) (kept : BroadPhase) (bounds : List Bounds) : Type 0 where
   pub contained : (k : ℕ) → k < length bounds → has_body moved k ≡ false
-      → contains (bounds_at kept.loose k) (bounds_at bounds k) ≡ true
-  pub flags : AreFlagged (has_body moved) bounds (pairs kept.loose) kept.flags
+      → contains (bounds_at kept.enlarged k) (bounds_at bounds k) ≡ true
+  pub flags : AreFlagged (has_body moved) bounds (pairs kept.enlarged) kept.flags

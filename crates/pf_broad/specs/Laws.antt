@@ -10,6 +10,6 @@ abbrev pub has_pair : List Pair → ℕ → ℕ → Bool
 has_pair ps i j = list_any (λ p. (p.a == i) && (p.b == j)) ps
 
 -- the pairs are all those of two bodies that may touch, the lesser number first, and no others
-abbrev pub IsExact : List Bounds → Type 0
-IsExact bs = (i j : ℕ) → has_pair (pairs bs) i j
+abbrev pub ArePairsExact : List Bounds → Type 0
+ArePairsExact bs = (i j : ℕ) → has_pair (pairs bs) i j
     ≡ (nat_lt i j && (nat_lt j (length bs) && may_touch (bounds_at bs i) (bounds_at bs j)))

@@ -5,7 +5,7 @@ pub mod CellHasher
 pub mod Grid
 pub mod Stored
 pub mod Partners
-pub mod Loose
+pub mod Enlarged
 pub mod Kept
 pub mod Watched
 pub mod Laws

@@ -22,8 +22,8 @@ abbrev pub stored_in : Cells → Cell → Option (List ℕ)
 stored_in cells c = option_map (λ v. v.items) (get cell_eq cells c)
 
 -- the bodies of a cell with one more at the end, where it lies in that cell
-abbrev pub with_body : Bool → ℕ → Option (List ℕ) → Option (List ℕ)
-with_body lies body bodies = if lies then Some (unwrap_or bodies [] ++ body ∷ []) else bodies
+abbrev pub with_listed_body : Bool → ℕ → Option (List ℕ) → Option (List ℕ)
+with_listed_body lies body bodies = if lies then Some (unwrap_or bodies [] ++ body ∷ []) else bodies
 
 -- what is stored as a finite map
 abbrev pub stored_cells : Cells → FinMap cell_cmp (List ℕ)

@@ -5,7 +5,7 @@ ghost use Rattle.std.specs.List.{range_with_len};
 ghost use Rattle.pf_shapes.specs.Pair.{IsPairOf, is_before};
 ghost use Rattle.pf_broad.specs.Pairs.{pair_may_touch, pairs};
 ghost use Rattle.pf_broad.specs.Partners.{has_body, AreInOrder};
-ghost use Rattle.pf_broad.specs.Loose.{flags_without, has_one, pairs_without};
+ghost use Rattle.pf_broad.specs.Enlarged.{flags_without, has_one, pairs_without};
 ghost use Rattle.pf_broad.specs.Kept.{AreFlagged, flagged, moved_places};
 
 use crate::broad_phase::add_pairs;
@@ -165,25 +165,25 @@ fn left_flags(alloc: Global, count: usize, left: &[u16]) -> Result<Vec<bool>, Al
 #[inline(never)]
 fn pairs_of_left(
     alloc: Global,
-    loose: &[Bounds],
+    enlarged: &[Bounds],
     left: &[u16],
     is_left: &[bool],
 ) -> Result<Vec<Pair>, AllocError>
-    requires few { length loose.now ≤ MAX_BODIES }
-    requires left { AreInOrder loose.now left.now }
-    requires count { length is_left.now ≡ length loose.now }
-    requires flags { (k : ℕ) → k < length loose.now
+    requires few { length enlarged.now ≤ MAX_BODIES }
+    requires left { AreInOrder enlarged.now left.now }
+    requires count { length is_left.now ≡ length enlarged.now }
+    requires flags { (k : ℕ) → k < length enlarged.now
         → get_or is_left.now k false ≡ has_body left.now k }
-    ensures { IfOk result (λ fresh. fresh.items ≡ filter (has_one left.now) (pairs loose.now)) }
+    ensures { IfOk result (λ fresh. fresh.items ≡ filter (has_one left.now) (pairs enlarged.now)) }
 {
     let mut fresh = Vec::new(alloc);
     let mut partners = Vec::new(alloc);
-    for i in 0..loose.len() {
+    for i in 0..enlarged.len() {
         partners.clear();
         if is_left[i] {
-            add_later(&mut partners, loose, i)?;
+            add_later(&mut partners, enlarged, i)?;
         } else {
-            add_overlapping(&mut partners, loose, i, left)?;
+            add_overlapping(&mut partners, enlarged, i, left)?;
         }
         add_pairs(&mut fresh, i, &partners)?;
     }
@@ -205,22 +205,23 @@ pub(crate) fn merge(
     alloc: Global,
     candidates: &[Pair],
     flags: &[bool],
-    loose: &[Bounds],
+    enlarged: &[Bounds],
     left: &[u16],
 ) -> Result<(Vec<Pair>, Vec<bool>), AllocError>
-    requires few { length loose.now ≤ MAX_BODIES }
-    requires candidates { All (IsPairOf (length loose.now)) candidates.now }
+    requires few { length enlarged.now ≤ MAX_BODIES }
+    requires candidates { All (IsPairOf (length enlarged.now)) candidates.now }
     requires flags { length flags.now ≡ length candidates.now }
-    requires left { AreInOrder loose.now left.now }
+    requires left { AreInOrder enlarged.now left.now }
     requires others { pairs_without left.now candidates.now
-        ≡ pairs_without left.now (pairs loose.now) }
-    ensures pairs { IfOk result (λ merged. merged.0.items ≡ pairs loose.now) }
-    ensures as_many { IfOk result (λ merged. length merged.1.items ≡ length (pairs loose.now)) }
-    ensures others { IfOk result (λ merged. flags_without left.now merged.1.items (pairs loose.now)
+        ≡ pairs_without left.now (pairs enlarged.now) }
+    ensures pairs { IfOk result (λ merged. merged.0.items ≡ pairs enlarged.now) }
+    ensures as_many { IfOk result (λ merged. length merged.1.items ≡ length (pairs enlarged.now)) }
+    ensures others { IfOk result
+        (λ merged. flags_without left.now merged.1.items (pairs enlarged.now)
         ≡ flags_without left.now flags.now candidates.now) }
 {
-    let is_left = left_flags(alloc, loose.len(), left)?;
-    let fresh = pairs_of_left(alloc, loose, left, &is_left)?;
+    let is_left = left_flags(alloc, enlarged.len(), left)?;
+    let fresh = pairs_of_left(alloc, enlarged, left, &is_left)?;
     let count = candidates.len() + fresh.len();
     let mut merged = Vec::with_capacity(alloc, count)?;
     let mut merged_flags = Vec::with_capacity(alloc, count)?;

@@ -4,7 +4,7 @@ ghost use Rattle.std.specs.Prelude.{◌≡◌, ◌&&◌, OnOk};
 ghost use Rattle.std.specs.Ordering.{int_eq};
 ghost use Rattle.pf_broad.specs.declared.cell.Cell.{Cell};
 ghost use Rattle.pf_broad.specs.Cell.{has_cell, is_between, IsCellRange};
-ghost use Rattle.pf_broad.specs.Stored.{cell_eq, stored_in, with_body};
+ghost use Rattle.pf_broad.specs.Stored.{cell_eq, stored_in, with_listed_body};
 
 use crate::cell::{Cell, CellRange};
 use crate::hasher::CellHasher;
@@ -22,7 +22,7 @@ pub(crate) type Cells = IndexMap<Cell, SmallVec<u16, INLINE_BODIES>, CellHasher>
 #[inline]
 fn add_to_cell(alloc: Global, cells: &mut Cells, cell: Cell, body: u16) -> Result<(), AllocError>
     ensures { OnOk result ((c : Cell) → stored_in cells.new c
-        ≡ with_body (cell_eq cell c) body (stored_in cells.old c)) }
+        ≡ with_listed_body (cell_eq cell c) body (stored_in cells.old c)) }
 {
     if let Some(bodies) = cells.get_mut(&cell) {
         bodies.push(body)?;
@@ -45,7 +45,7 @@ fn add_to_column(
 ) -> Result<(), AllocError>
     requires { IsCellRange range }
     ensures { OnOk result ((c : Cell) → stored_in cells.new c
-        ≡ with_body (int_eq x c.x && is_between range.bottom range.top c.y) body
+        ≡ with_listed_body (int_eq x c.x && is_between range.bottom range.top c.y) body
         (stored_in cells.old c)) }
 {
     for y in range.bottom..range.top + 1 {
@@ -63,7 +63,7 @@ pub(crate) fn add_body(
 ) -> Result<(), AllocError>
     requires { IsCellRange range }
     ensures { OnOk result ((c : Cell) → stored_in cells.new c
-        ≡ with_body (has_cell range c) body (stored_in cells.old c)) }
+        ≡ with_listed_body (has_cell range c) body (stored_in cells.old c)) }
 {
     for x in range.left..range.right + 1 {
         add_to_column(alloc, cells, x, range, body)?;

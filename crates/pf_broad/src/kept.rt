@@ -4,8 +4,8 @@ use crate::broad_phase::all_pairs;
 use crate::candidates::{
     PairsUpdate, all_places, load_flagged, merge, moved_flags, test_all, test_moved,
 };
+use crate::enlarged::{all_enlarged_bounds, left_bodies, refit};
 use crate::grid::Grid;
-use crate::loose::{all_enlarged_bounds, left_bodies, refit};
 use crate::watched::{Watched, are_right, moved_among};
 use pf_shapes::{BodyState, Bounds, Pair};
 use std::alloc::{AllocError, Global};
@@ -24,7 +24,7 @@ const MAX_LEFT: usize = 16;
 /// Contracts see the enlarged bounds, the flags and the pairs.
 #[derive(Debug, Drop)]
 pub struct BroadPhase {
-    loose: Vec<Bounds>,
+    enlarged: Vec<Bounds>,
     candidates: Vec<Pair>,
     /// One for each candidate; none where the candidates are new.
     flags: Vec<bool>,
@@ -36,18 +36,18 @@ pub struct BroadPhase {
 
 impl Model for BroadPhase {
     ghost use Rattle.pf_broad.specs.Kept.{AreFound, BroadPhase};
-    ghost use Rattle.pf_broad.specs.Loose.{AreCandidates};
+    ghost use Rattle.pf_broad.specs.Enlarged.{AreCandidates};
     ghost use Rattle.pf_broad.specs.Watched.{ListsPlaces};
 
     ghost Value = { BroadPhase };
 
     ghost view = { λ b. record {
-      loose = b.loose.items;
+      enlarged = b.enlarged.items;
       flags = b.flags.items;
       pairs = b.found.items;
     } };
 
-    ghost invariant = { λ b. AreCandidates b.loose.items b.candidates.items
+    ghost invariant = { λ b. AreCandidates b.enlarged.items b.candidates.items
         × AreFound b.flags.items b.candidates.items b.found.items
         × ListsPlaces b.watched b.candidates.items b.found.items };
 }
@@ -59,7 +59,7 @@ impl BroadPhase {
     ghost use Rattle.pf_shapes.specs.Pair.{IsAscending, IsPairOf};
     ghost use Rattle.pf_shapes.specs.declared.scene.TheConstants.{MAX_BODIES};
     ghost use Rattle.pf_broad.specs.Pairs.{pairs};
-    ghost use Rattle.pf_broad.specs.Loose.{AreLoosened};
+    ghost use Rattle.pf_broad.specs.Enlarged.{AreEnlarged};
     ghost use Rattle.pf_broad.specs.Kept.{AreFlagged, FlagsHold, IsKeptOf, StillHolds, moved_places, nothing_kept};
     ghost use Rattle.pf_broad.specs.Partners.{AreBodies, has_body};
 
@@ -68,7 +68,7 @@ impl BroadPhase {
         ensures { result ≡ nothing_kept }
     {
         BroadPhase {
-            loose: Vec::new(alloc),
+            enlarged: Vec::new(alloc),
             candidates: Vec::new(alloc),
             flags: Vec::new(alloc),
             found: Vec::new(alloc),
@@ -104,7 +104,7 @@ impl BroadPhase {
     ) -> Result<PairsUpdate, AllocError>
         requires bodies { length bodies.now ≡ length bounds.now }
         requires moved { AreBodies bounds.now moved.now }
-        requires others { 2 ≤ length bounds.now → length self.old.loose ≡ length bounds.now
+        requires others { 2 ≤ length bounds.now → length self.old.enlarged ≡ length bounds.now
             → StillHolds moved.now self.old bounds.now }
         requires few { length bounds.now ≤ MAX_BODIES }
         requires ordered { All IsOrdered bounds.now }
@@ -146,7 +146,7 @@ impl BroadPhase {
         bounds: &[Bounds],
         moved: &[usize],
     ) -> Result<(BroadPhase, PairsUpdate), AllocError>
-        requires loosened { AreLoosened self.loose bounds.now }
+        requires enlarged { AreEnlarged self.enlarged bounds.now }
         requires moved { AreBodies bounds.now moved.now }
         requires flags { FlagsHold moved.now self bounds.now }
         ensures kept { IfOk result (λ tested. IsKeptOf tested.0 bounds.now) }
@@ -169,14 +169,14 @@ impl BroadPhase {
         alloc: Global,
         bounds: &[Bounds],
     ) -> Result<(BroadPhase, PairsUpdate), AllocError>
-        requires { AreLoosened self.loose bounds.now }
+        requires { AreEnlarged self.enlarged bounds.now }
         ensures kept { IfOk result (λ tested. IsKeptOf tested.0 bounds.now) }
         ensures same { IfOk result (λ tested. tested.1.same ≡ false) }
         ensures places { IfOk result (λ tested. tested.1.moved_places.items
             ≡ range_with_len 0 (length tested.0.pairs)) }
     {
         let BroadPhase {
-            loose,
+            enlarged,
             candidates,
             mut flags,
             mut found,
@@ -190,7 +190,7 @@ impl BroadPhase {
             moved_places: all_places(alloc, found.len())?,
         };
         let next = BroadPhase {
-            loose,
+            enlarged,
             candidates,
             flags,
             found,
@@ -208,10 +208,10 @@ impl BroadPhase {
         bounds: &[Bounds],
         moved: &[usize],
     ) -> Result<(BroadPhase, PairsUpdate), AllocError>
-        requires loosened { AreLoosened self.loose bounds.now }
+        requires enlarged { AreEnlarged self.enlarged bounds.now }
         requires moved { AreBodies bounds.now moved.now }
-        requires as_many { length self.flags ≡ length (pairs self.loose) }
-        requires flags { AreFlagged (has_body moved.now) bounds.now (pairs self.loose)
+        requires as_many { length self.flags ≡ length (pairs self.enlarged) }
+        requires flags { AreFlagged (has_body moved.now) bounds.now (pairs self.enlarged)
             self.flags }
         ensures kept { IfOk result (λ tested. IsKeptOf tested.0 bounds.now) }
         ensures same { IfOk result
@@ -254,11 +254,11 @@ impl BroadPhase {
         bounds: &[Bounds],
         may_have_moved: Vec<bool>,
     ) -> Result<(BroadPhase, PairsUpdate), AllocError>
-        requires loosened { AreLoosened self.loose bounds.now }
+        requires enlarged { AreEnlarged self.enlarged bounds.now }
         requires moved { length may_have_moved.items ≡ length bounds.now }
-        requires as_many { length self.flags ≡ length (pairs self.loose) }
+        requires as_many { length self.flags ≡ length (pairs self.enlarged) }
         requires flags { AreFlagged (λ k. get_or may_have_moved.items k false) bounds.now
-            (pairs self.loose) self.flags }
+            (pairs self.enlarged) self.flags }
         ensures kept { IfOk result (λ tested. IsKeptOf tested.0 bounds.now) }
         ensures same { IfOk result
             (λ tested. IsTrue tested.1.same → tested.0.pairs ≡ self.pairs) }
@@ -266,7 +266,7 @@ impl BroadPhase {
             ≡ moved_places (λ k. get_or may_have_moved.items k false) tested.0.pairs) }
     {
         let BroadPhase {
-            loose,
+            enlarged,
             candidates,
             mut flags,
             mut found,
@@ -288,7 +288,7 @@ impl BroadPhase {
         watched.pair_places.extend_from_slice(&update.moved_places)?;
         watched.body_flags = may_have_moved;
         let next = BroadPhase {
-            loose,
+            enlarged,
             candidates,
             flags,
             found,
@@ -310,19 +310,19 @@ impl BroadPhase {
         requires many { 2 ≤ length bounds.now }
         requires bodies { length bodies.now ≡ length bounds.now }
         requires moved { AreBodies bounds.now moved.now }
-        requires others { length self.loose ≡ length bounds.now
+        requires others { length self.enlarged ≡ length bounds.now
             → StillHolds moved.now self bounds.now }
         requires few { length bounds.now ≤ MAX_BODIES }
         requires ordered { All IsOrdered bounds.now }
-        ensures loosened { IfOk result (λ kept. AreLoosened kept.0.loose bounds.now) }
+        ensures enlarged { IfOk result (λ kept. AreEnlarged kept.0.enlarged bounds.now) }
         ensures flags { IfOk result (λ kept. FlagsHold moved.now kept.0 bounds.now) }
         ensures same { IfOk result (λ kept. IsTrue kept.1 → kept.0.pairs ≡ self.pairs) }
         ensures none { IfOk result (λ kept. self.flags ≡ [] → kept.0.flags ≡ []) }
     {
-        if self.loose.len() != bounds.len() {
+        if self.enlarged.len() != bounds.len() {
             return Ok((BroadPhase::of(alloc, bounds, bodies)?, false));
         }
-        let left = left_bodies(alloc, &self.loose, bounds, moved)?;
+        let left = left_bodies(alloc, &self.enlarged, bounds, moved)?;
         if left.is_empty() {
             return Ok((self, true));
         }
@@ -330,18 +330,18 @@ impl BroadPhase {
             return Ok((BroadPhase::of(alloc, bounds, bodies)?, false));
         }
         let BroadPhase {
-            mut loose,
+            mut enlarged,
             candidates,
             flags,
             mut found,
             mut watched,
         } = self;
-        refit(&mut loose, &left, bounds, bodies);
-        let (candidates, flags) = merge(alloc, &candidates, &flags, &loose, &left)?;
+        refit(&mut enlarged, &left, bounds, bodies);
+        let (candidates, flags) = merge(alloc, &candidates, &flags, &enlarged, &left)?;
         load_flagged(&mut found, &candidates, &flags)?;
         watched.clear();
         let next = BroadPhase {
-            loose,
+            enlarged,
             candidates,
             flags,
             found,
@@ -353,7 +353,7 @@ impl BroadPhase {
     /// Whether there are candidates, and each has a flag.
     fn has_flags(&self) -> bool
         ensures { IsTrue result ↔ ((self.now.flags ≢ [])
-            × (length self.now.flags ≡ length (pairs self.now.loose))) }
+            × (length self.now.flags ≡ length (pairs self.now.enlarged))) }
     {
         !self.flags.is_empty() & (self.flags.len() == self.candidates.len())
     }
@@ -363,14 +363,14 @@ impl BroadPhase {
         requires bodies { length bodies.now ≡ length bounds.now }
         requires few { length bounds.now ≤ MAX_BODIES }
         requires ordered { All IsOrdered bounds.now }
-        ensures loosened { IfOk result (λ kept. AreLoosened kept.loose bounds.now) }
+        ensures enlarged { IfOk result (λ kept. AreEnlarged kept.enlarged bounds.now) }
         ensures flags { IfOk result (λ kept. kept.flags ≡ []) }
     {
-        let loose = all_enlarged_bounds(alloc, bounds, bodies)?;
-        let grid = Grid::of_bounds(alloc, &loose)?;
-        let candidates = all_pairs(alloc, &grid, &loose)?;
+        let enlarged = all_enlarged_bounds(alloc, bounds, bodies)?;
+        let grid = Grid::of_bounds(alloc, &enlarged)?;
+        let candidates = all_pairs(alloc, &grid, &enlarged)?;
         Ok(BroadPhase {
-            loose,
+            enlarged,
             candidates,
             flags: Vec::new(alloc),
             found: Vec::new(alloc),

@@ -7,13 +7,13 @@ ghost use Rattle.pf_shapes.specs.Pair.{IsAscending};
 ghost use Rattle.pf_broad.specs.Pairs.{pairs};
 ghost use Rattle.pf_broad.specs.declared.cell.Cell.{Cell};
 ghost use Rattle.pf_broad.specs.Cell.{cell_number, cells_of, has_cell};
-ghost use Rattle.pf_broad.specs.Laws.{IsExact};
+ghost use Rattle.pf_broad.specs.Laws.{ArePairsExact};
 
 use crate::cell::{CELL_SIDE, MAX_CELLS};
 
 /// The pairs are exactly those of two bodies that may touch, in ascending order.
 pub fn pairs_are_exact()
-    ensures exact { (bounds : List Bounds) → IsExact bounds }
+    ensures exact { (bounds : List Bounds) → ArePairsExact bounds }
     ensures ascending { (bounds : List Bounds) → IsAscending (pairs bounds) }
 {}
 

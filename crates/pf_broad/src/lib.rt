@@ -6,11 +6,11 @@ mod broad_phase;
 mod candidates;
 mod cell;
 mod cells;
+mod enlarged;
 mod grid;
 mod hasher;
 mod kept;
 pub mod laws;
-mod loose;
 mod partners;
 mod watched;
 

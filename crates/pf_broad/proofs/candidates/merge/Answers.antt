@@ -1,7 +1,7 @@
 use Rattle.std.proofs.Common.{◌≡◌, ◌+◌, ◌-◌, ◌<◌, ◌≤◌, ◌++◌, ◌||◌, ◌∷◌, [], false, true, List, length, length-drop, drop, get_or, replicate, vec_len, sym, subst, ap, ◌∙◌, arith, append_assoc}
 use Rattle.std.proofs.lemmas.List.{append-nil, drop_all, get_or_default, take_all}
 use Rattle.pf_shapes.specs.Pair.{is_before, Pair}
-use Rattle.pf_broad.specs.Loose.{flags_without, has_one, pairs_without}
+use Rattle.pf_broad.specs.Enlarged.{flags_without, has_one, pairs_without}
 use Rattle.pf_broad.specs.Pairs.{pair, pairs}
 use Rattle.pf_broad.specs.Partners.{has_body}
 use Rattle.pf_broad.proofs.Ascending.{ascending}
@@ -14,21 +14,21 @@ use Rattle.pf_broad.proofs.candidates.merge.Goals.{After-loop-i, In_ok-extend_fr
 use Rattle.pf_broad.proofs.candidates.merge.Goals as goal
 
 pub left_flags-requires : goal.left_flags-requires
-left_flags-requires c = filter-AreBodies c.args.loose.now (has_body c.args.left.now) c.args.left.now c.requires.left
+left_flags-requires c = filter-AreBodies c.args.enlarged.now (has_body c.args.left.now) c.args.left.now c.requires.left
 
 pub loop-i-init : goal.loop-i-init
 loop-i-init c =
     let left = c.args.left.now in
-    let loose = c.args.loose.now in
+    let enlarged = c.args.enlarged.now in
     let fs = c.args.flags.now in
     let cs = c.args.candidates.now in
     record {
       within = omega arith;
       next_within = omega arith;
       pairs = record {
-        rest = pairs loose;
-        parts = ap (λ l. l ++ pairs loose) c.in_ok-merged.ensures.items;
-        ascending = ascending loose;
+        rest = pairs enlarged;
+        parts = ap (λ l. l ++ pairs enlarged) c.in_ok-merged.ensures.items;
+        ascending = ascending enlarged;
         passing = sym c.in_ok-fresh.ensures;
         failing = sym c.requires.others;
       };
@@ -40,10 +40,10 @@ loop-i-init c =
     }
 
 -- the next candidate is of two bodies that there are
-next_bodies : (c : After-pair) → (c.pair.inside.a < length c.args.loose.now) × (c.pair.inside.b < length c.args.loose.now)
+next_bodies : (c : After-pair) → (c.pair.inside.a < length c.args.enlarged.now) × (c.pair.inside.b < length c.args.enlarged.now)
 next_bodies c =
     let cs = c.args.candidates.now in
-    bodies_below (length c.args.loose.now) cs c.loop-i.i (pair c.pair.inside.a c.pair.inside.b) c.index-candidates-i.result
+    bodies_below (length c.args.enlarged.now) cs c.loop-i.i (pair c.pair.inside.a c.pair.inside.b) c.index-candidates-i.result
     c.requires.candidates c.loop-i-test.true c.pair.view_is c.index-candidates-i.is
 
 pub index-requires : goal.index-requires
@@ -56,7 +56,7 @@ index-requires-in-loop-i c = omega (arith, (next_bodies (goal.at.index-requires-
 tested : (c : After-index-in-loop-i) → has_one c.args.left.now c.index-candidates-i.result ≡ (c.index.result.now || c.index-in-loop-i.result.now)
 tested c =
     ap (has_one c.args.left.now) (sym c.pair.view_is)
-    ∙ has_one_read c.args.left.now c.in_ok-is_left.is_left.items (length c.args.loose.now) (pair c.pair.inside.a c.pair.inside.b)
+    ∙ has_one_read c.args.left.now c.in_ok-is_left.is_left.items (length c.args.enlarged.now) (pair c.pair.inside.a c.pair.inside.b)
     c.index.result.now c.index-in-loop-i.result.now c.in_ok-is_left.ensures.count c.in_ok-is_left.ensures.each (next_bodies (goal.at.After-index-in-loop-i c).After-pair)
     c.index.ensures c.index-in-loop-i.ensures
 
@@ -73,7 +73,7 @@ loop-i-preserved-then-index c =
     record {
       within = omega (arith, c.loop-i-test.true);
       next_within = inv.next_within;
-      pairs = subst (λ l. IsMerged (has_one left) (pairs c.args.loose.now) c.loop-i.merged.items (drop c.loop-i.next c.in_ok-fresh.fresh.items) l)
+      pairs = subst (λ l. IsMerged (has_one left) (pairs c.args.enlarged.now) c.loop-i.merged.items (drop c.loop-i.next c.in_ok-fresh.fresh.items) l)
           (others_from left cs i true p c.loop-i-test.true c.index-candidates-i.is is) inv.pairs;
       as_many = inv.as_many;
       flags = ap (λ l. flags_without left c.loop-i.merged_flags.items c.loop-i.merged.items ++ l)
@@ -102,8 +102,8 @@ loop-i-preserved-then-is_before c =
     record {
       within = inv.within;
       next_within = omega (arith, below);
-      pairs = subst (λ l. IsMerged t (pairs c.args.loose.now) l (drop (c.loop-i.next + 1) fresh) (pairs_without left (drop c.loop-i.i cs))) (sym c.push_reserved.ensures.items)
-          (merge_fresh t (pairs c.args.loose.now) c.loop-i.merged.items _ _ _ _ p h at_p
+      pairs = subst (λ l. IsMerged t (pairs c.args.enlarged.now) l (drop (c.loop-i.next + 1) fresh) (pairs_without left (drop c.loop-i.i cs))) (sym c.push_reserved.ensures.items)
+          (merge_fresh t (pairs c.args.enlarged.now) c.loop-i.merged.items _ _ _ _ p h at_p
           (others_from left cs c.loop-i.i false h c.loop-i-test.true c.index-candidates-i.is (tested here ∙ c.if-index.false)) first inv.pairs);
       as_many = omega (arith, inv.as_many, c.push_reserved.ensures.len, c.push_reserved-then-is_before.ensures.len);
       flags = ap (λ l. l ++ flags_without left (drop c.loop-i.i c.args.flags.now) (drop c.loop-i.i cs))
@@ -143,8 +143,8 @@ loop-i-preserved c =
     record {
       within = omega (arith, c.loop-i-test.true);
       next_within = inv.next_within;
-      pairs = subst (λ l. IsMerged t (pairs c.args.loose.now) l (drop c.loop-i.next fresh) (pairs_without left (drop (i + 1) cs))) (sym pushed)
-          (merge_other t (pairs c.args.loose.now) c.loop-i.merged.items _ _ _ h
+      pairs = subst (λ l. IsMerged t (pairs c.args.enlarged.now) l (drop c.loop-i.next fresh) (pairs_without left (drop (i + 1) cs))) (sym pushed)
+          (merge_other t (pairs c.args.enlarged.now) c.loop-i.merged.items _ _ _ h
           (others_from left cs i false h c.loop-i-test.true c.index-candidates-i.is is) after inv.pairs);
       as_many = omega (arith, inv.as_many, c.push_reserved-else-next-len.ensures.len, c.push_reserved-else-next-len-2.ensures.len);
       flags = ap (λ l. l ++ rest)
@@ -160,21 +160,21 @@ loop-i-preserved c =
 
 -- all others are merged
 all_merged : (c : After-loop-i) → length c.args.candidates.now ≤ c.loop-i.i
-    → IsMerged (has_one c.args.left.now) (pairs c.args.loose.now) c.loop-i.merged.items (drop c.loop-i.next c.in_ok-fresh.fresh.items) []
+    → IsMerged (has_one c.args.left.now) (pairs c.args.enlarged.now) c.loop-i.merged.items (drop c.loop-i.next c.in_ok-fresh.fresh.items) []
 all_merged c ended =
     let t = has_one c.args.left.now in
-    subst (λ l. IsMerged t (pairs c.args.loose.now) c.loop-i.merged.items (drop c.loop-i.next c.in_ok-fresh.fresh.items) (pairs_without c.args.left.now l))
+    subst (λ l. IsMerged t (pairs c.args.enlarged.now) c.loop-i.merged.items (drop c.loop-i.next c.in_ok-fresh.fresh.items) (pairs_without c.args.left.now l))
     (drop_all c.loop-i.i c.args.candidates.now ended) c.loop-i.invariant.pairs
 
 -- and then the pairs with a body that left
-all_pairs : (c : In_ok-extend_from_slice) → c.extend_from_slice.new.self.items ≡ pairs c.args.loose.now
+all_pairs : (c : In_ok-extend_from_slice) → c.extend_from_slice.new.self.items ≡ pairs c.args.enlarged.now
 all_pairs c =
     let rest = drop c.loop-i.next c.deref-2.result.now in
     c.in_ok-extend_from_slice.ensures.items
     ∙ ap (λ (l : List Pair). c.loop-i.merged.items ++ l)
     (take_all (length c.deref-2.result.now - c.loop-i.next) rest (omega (arith, length-drop c.loop-i.next c.deref-2.result.now))
     ∙ ap (drop c.loop-i.next) c.deref-2.ensures.value)
-    ∙ merge_rest (has_one c.args.left.now) (pairs c.args.loose.now) c.loop-i.merged.items (drop c.loop-i.next c.in_ok-fresh.fresh.items)
+    ∙ merge_rest (has_one c.args.left.now) (pairs c.args.enlarged.now) c.loop-i.merged.items (drop c.loop-i.next c.in_ok-fresh.fresh.items)
     (all_merged (goal.at.In_ok-extend_from_slice c).After-loop-i c.loop-i-test.false)
 
 pub returns-clause-pairs : goal.returns-clause-pairs
@@ -190,8 +190,8 @@ returns-clause-others c =
     let fs = c.args.flags.now in
     let cs = c.args.candidates.now in
     let inv = c.loop-i.invariant in
-    ap (λ l. flags_without left l (pairs c.args.loose.now))
+    ap (λ l. flags_without left l (pairs c.args.enlarged.now))
     (c.in_ok-resize.ensures.items ∙ ap (λ l. l ++ replicate (c.len-2.result - vec_len c.loop-i.merged_flags) false) (take_all _ c.loop-i.merged_flags.items
     (omega (arith, inv.as_many, c.len-2.ensures, c.in_ok-extend_from_slice.ensures.len))))
-    ∙ flags_of_all left (pairs c.args.loose.now) c.loop-i.merged.items (drop c.loop-i.next c.in_ok-fresh.fresh.items) c.loop-i.merged_flags.items (replicate (c.len-2.result - vec_len c.loop-i.merged_flags) false)
+    ∙ flags_of_all left (pairs c.args.enlarged.now) c.loop-i.merged.items (drop c.loop-i.next c.in_ok-fresh.fresh.items) c.loop-i.merged_flags.items (replicate (c.len-2.result - vec_len c.loop-i.merged_flags) false)
     fs cs c.loop-i.i (all_merged (goal.at.returns-clause-others c).After-loop-i c.loop-i-test.false) inv.as_many c.loop-i-test.false c.requires.flags inv.flags

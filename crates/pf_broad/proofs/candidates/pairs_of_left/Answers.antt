@@ -1,7 +1,7 @@
 use Rattle.std.proofs.Common.{◌≡◌, ◌++◌, ℕ, List, map, filter, sym, ap, ◌∙◌}
 use Rattle.std.proofs.lemmas.List.Elements.{filter-append}
 use Rattle.std.specs.List.{flat_map, range_with_len}
-use Rattle.pf_broad.specs.Loose.{has_one}
+use Rattle.pf_broad.specs.Enlarged.{has_one}
 use Rattle.pf_broad.specs.Pairs.{is_pair, pair, pairs_of, partners_of}
 use Rattle.pf_broad.specs.Partners.{has_body}
 use Rattle.pf_broad.proofs.Finding.{pairs-more}
@@ -12,11 +12,11 @@ use Rattle.pf_broad.proofs.candidates.pairs_of_left.Goals as goal
 
 pub add_overlapping-requires-clause-others : goal.add_overlapping-requires-clause-others
 add_overlapping-requires-clause-others c =
-    filter-AreBodies c.args.loose.now (has_body c.args.left.now) c.args.left.now c.requires.left
+    filter-AreBodies c.args.enlarged.now (has_body c.args.left.now) c.args.left.now c.requires.left
 
 pub loop-i-preserved : goal.loop-i-preserved
 loop-i-preserved c =
-    let bs = c.args.loose.now in
+    let bs = c.args.enlarged.now in
     let left = c.args.left.now in
     let i = c.loop-i.i in
     let is = c.requires.flags i c.loop-i-test.true in

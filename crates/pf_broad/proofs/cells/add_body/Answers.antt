@@ -2,7 +2,7 @@ use Rattle.std.proofs.Common.{◌≡◌, ◌&&◌, w64, ℤ, pos, ◌+ℤ◌, Fi
 use Rattle.std.proofs.lemmas.Int.{ints, to_z-of_z}
 use Rattle.std.specs.Ordering.{int_eq}
 use Rattle.pf_broad.specs.Cell.{is_between}
-use Rattle.pf_broad.specs.Stored.{stored_in, with_body}
+use Rattle.pf_broad.specs.Stored.{stored_in, with_listed_body}
 use Rattle.pf_broad.proofs.Listing.{columns-more, columns-end}
 use Rattle.pf_broad.proofs.cells.add_body.Goals as goal
 
@@ -15,7 +15,7 @@ loop-x-preserved c =
     record {
       from = omega (arith, ints);
       upto = omega (arith, ints);
-      listed = λ q. c.in_ok-add_to_column.ensures q ∙ ap (with_body (int_eq x q.x && rows q.y) c.args.body) (c.loop-x.invariant.listed q)
+      listed = λ q. c.in_ok-add_to_column.ensures q ∙ ap (with_listed_body (int_eq x q.x && rows q.y) c.args.body) (c.loop-x.invariant.listed q)
           ∙ columns-more c.args.range.left x q.x (rows q.y) c.args.body (stored_in c.args.cells.now q) c.loop-x.invariant.from;
     }
 

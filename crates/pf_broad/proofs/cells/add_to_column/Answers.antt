@@ -1,7 +1,7 @@
 use Rattle.std.proofs.Common.{◌≡◌, ◌&&◌, w64, pos, ◌+ℤ◌, FitsSigned, to_z, rules, arith, ap, ◌∙◌}
 use Rattle.std.proofs.lemmas.Int.{ints, to_z-of_z}
 use Rattle.std.specs.Ordering.{int_eq}
-use Rattle.pf_broad.specs.Stored.{stored_in, with_body}
+use Rattle.pf_broad.specs.Stored.{stored_in, with_listed_body}
 use Rattle.pf_broad.proofs.Listing.{rows-more, rows-end}
 use Rattle.pf_broad.proofs.cells.add_to_column.Goals as goal
 
@@ -16,7 +16,7 @@ loop-y-preserved c =
     record {
       from = omega (arith, ints);
       upto = omega (arith, ints);
-      listed = λ q. added q ∙ ap (with_body (int_eq c.args.x q.x && int_eq y q.y) c.args.body) (listed q)
+      listed = λ q. added q ∙ ap (with_listed_body (int_eq c.args.x q.x && int_eq y q.y) c.args.body) (listed q)
           ∙ rows-more (int_eq c.args.x q.x) c.args.range.bottom y q.y c.args.body (stored_in c.args.cells.now q) c.loop-y.invariant.from;
     }
 

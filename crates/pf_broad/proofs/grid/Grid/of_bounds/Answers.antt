@@ -3,7 +3,7 @@ use Rattle.std.proofs.lemmas.List.{get_or_read}
 use Rattle.pf_broad.specs.Pairs.{no_bounds, bounds_at}
 use Rattle.pf_broad.specs.Cell.{cells_of, has_cell, is_wide}
 use Rattle.pf_broad.specs.Grid.{unless_empty}
-use Rattle.pf_broad.specs.Stored.{stored_in, with_body}
+use Rattle.pf_broad.specs.Stored.{stored_in, with_listed_body}
 use Rattle.pf_broad.proofs.CellNumbers.{is_wide-cells}
 use Rattle.pf_broad.proofs.StoredCells.{get-stored_cells}
 use Rattle.pf_broad.proofs.Gridding.{first_members, first_wide, members-wide, members-listed, wide-wide, wide-listed}
@@ -30,7 +30,7 @@ loop-i-preserved c =
           let no = sym is ∙ w.if-is_wide.false in
           rw (w.cells-is, w.wide-is)
           record {
-            cells = λ q. w.in_ok-add_body.ensures q ∙ ap (λ r. with_body (has_cell r q) i (stored_in c.loop-i.cells q)) cells ∙ ap (with_body (has_cell (cells_of (bounds_at bs i)) q) i) (invariant.cells q) ∙ members-listed bs q i no;
+            cells = λ q. w.in_ok-add_body.ensures q ∙ ap (λ r. with_listed_body (has_cell r q) i (stored_in c.loop-i.cells q)) cells ∙ ap (with_listed_body (has_cell (cells_of (bounds_at bs i)) q) i) (invariant.cells q) ∙ members-listed bs q i no;
             wide = invariant.wide ∙ wide-listed bs i no;
           }
     ]

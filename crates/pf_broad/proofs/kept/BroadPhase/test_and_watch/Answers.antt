@@ -3,39 +3,39 @@ use Rattle.std.proofs.lemmas.List.{with_items_is}
 use Rattle.std.specs.Vec.{with_items}
 use Rattle.pf_shapes.specs.Pair.{Pair}
 use Rattle.pf_broad.specs.Pairs.{pair_may_touch, pairs}
-use Rattle.pf_broad.specs.Loose.{AreLoosened}
+use Rattle.pf_broad.specs.Enlarged.{AreEnlarged}
 use Rattle.pf_broad.specs.Kept.{flagged, moved_places, BroadPhase}
 use Rattle.pf_broad.proofs.Flagging.{flagged-map}
-use Rattle.pf_broad.proofs.Loosening.{overlapping-pairs}
+use Rattle.pf_broad.proofs.Enlarging.{overlapping-pairs}
 use Rattle.pf_broad.proofs.Within.{pairs-IsPairOf}
 use Rattle.pf_broad.proofs.kept.BroadPhase.test_and_watch.Goals.{After-deref-2, After-drop-watched-2, then-not-update+in_ok-load_flagged, else-not-update}
 use Rattle.pf_broad.proofs.kept.BroadPhase.test_and_watch.Goals as goal
 
 -- the candidates are the pairs of the enlarged bounds
-all_candidates : (c : After-deref-2) → c.deref.result.now ≡ pairs c.args.self.loose
-all_candidates c = c.deref.ensures.value ∙ c.self.invariant.0.pairs ∙ ap (λ (b : BroadPhase). pairs b.loose) c.self.view_is
+all_candidates : (c : After-deref-2) → c.deref.result.now ≡ pairs c.args.self.enlarged
+all_candidates c = c.deref.ensures.value ∙ c.self.invariant.0.pairs ∙ ap (λ (b : BroadPhase). pairs b.enlarged) c.self.view_is
 
 pub test_moved-requires-clause-candidates : goal.test_moved-requires-clause-candidates
-test_moved-requires-clause-candidates c = pairs-IsPairOf c.args.self.loose c.deref.result.now _ (all_candidates c) c.requires.loosened.as_many
+test_moved-requires-clause-candidates c = pairs-IsPairOf c.args.self.enlarged c.deref.result.now _ (all_candidates c) c.requires.enlarged.as_many
 
 -- all candidates, as they are kept
-kept_candidates : (c : After-drop-watched-2) → c.self.inside.candidates.items ≡ pairs c.args.self.loose
-kept_candidates c = c.self.invariant.0.pairs ∙ ap (λ (b : BroadPhase). pairs b.loose) c.self.view_is
+kept_candidates : (c : After-drop-watched-2) → c.self.inside.candidates.items ≡ pairs c.args.self.enlarged
+kept_candidates c = c.self.invariant.0.pairs ∙ ap (λ (b : BroadPhase). pairs b.enlarged) c.self.view_is
 
 -- the flags that are kept are those that were written
 written : (c : After-drop-watched-2) → (with_items c.self.inside.flags c.test_moved.new.flags).items ≡ c.test_moved.new.flags
 written c = with_items_is c.self.inside.flags c.test_moved.new.flags (omega (arith, c.test_moved.auto.flags, c.deref_mut.ensures.len, ap length c.deref_mut.ensures.value))
 
 -- each of them says whether the bodies of its candidate may touch
-flags_are : (c : After-drop-watched-2) → c.test_moved.new.flags ≡ map (pair_may_touch c.args.bounds.now) (pairs c.args.self.loose)
+flags_are : (c : After-drop-watched-2) → c.test_moved.new.flags ≡ map (pair_may_touch c.args.bounds.now) (pairs c.args.self.enlarged)
 flags_are c = c.in_ok-update.ensures.flags ∙ ap (map (pair_may_touch c.args.bounds.now)) (c.deref.ensures.value ∙ kept_candidates c)
 
 -- the candidates whose flags are set are the pairs of the bounds
-passed : (c : After-drop-watched-2) (flags : List Bool) (candidates : List Pair) → flags ≡ c.test_moved.new.flags → candidates ≡ pairs c.args.self.loose
+passed : (c : After-drop-watched-2) (flags : List Bool) (candidates : List Pair) → flags ≡ c.test_moved.new.flags → candidates ≡ pairs c.args.self.enlarged
     → flagged flags candidates ≡ pairs c.args.bounds.now
 passed c flags candidates new all =
-    (λ k. flagged ((new ∙ flags_are c) k) (all k)) ∙ flagged-map (pair_may_touch c.args.bounds.now) (pairs c.args.self.loose)
-    ∙ overlapping-pairs c.args.self.loose c.args.bounds.now c.requires.loosened
+    (λ k. flagged ((new ∙ flags_are c) k) (all k)) ∙ flagged-map (pair_may_touch c.args.bounds.now) (pairs c.args.self.enlarged)
+    ∙ overlapping-pairs c.args.self.enlarged c.args.bounds.now c.requires.enlarged
 
 -- the pairs that are kept are those of the bounds
 all_found : (c : After-drop-watched-2) → c.if-not-update.found.items ≡ pairs c.args.bounds.now
@@ -59,7 +59,7 @@ places_are c =
     let bs = c.args.bounds.now in
     c.in_ok-update.ensures.places
     ∙ (λ j. moved_places (λ k. get_or (c.deref-2.ensures.value j) k false) (filter (pair_may_touch bs) ((c.deref.ensures.value ∙ kept_candidates c) j)))
-    ∙ ap (moved_places (λ k. get_or c.args.may_have_moved.items k false)) (overlapping-pairs c.args.self.loose bs c.requires.loosened ∙ sym (all_found c))
+    ∙ ap (moved_places (λ k. get_or c.args.may_have_moved.items k false)) (overlapping-pairs c.args.self.enlarged bs c.requires.enlarged ∙ sym (all_found c))
 
 pub invariant_of-next : goal.invariant_of-next
 invariant_of-next c = (
@@ -75,9 +75,9 @@ invariant_of-next c = (
 pub returns-clause-kept : goal.returns-clause-kept
 returns-clause-kept c =
     let bs = c.args.bounds.now in
-    let loose : c.self.inside.loose.items ≡ c.args.self.loose = ap (λ (b : BroadPhase). b.loose) c.self.view_is in
+    let enlarged : c.self.inside.enlarged.items ≡ c.args.self.enlarged = ap (λ (b : BroadPhase). b.enlarged) c.self.view_is in
     record {
-      loose = subst (λ l. AreLoosened l bs) (sym loose) c.requires.loosened;
+      enlarged = subst (λ l. AreEnlarged l bs) (sym enlarged) c.requires.enlarged;
       flags = written c ∙ c.in_ok-update.ensures.flags ∙ ap (map (pair_may_touch bs)) (c.deref.ensures.value ∙ c.self.invariant.0.pairs);
       pairs = all_found c;
     }

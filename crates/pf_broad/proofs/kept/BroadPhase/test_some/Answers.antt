@@ -5,7 +5,7 @@ use Rattle.pf_broad.specs.Partners.{has_body}
 use Rattle.pf_broad.specs.Kept.{flagged, has_body_of, moved_places, AreFlagged, BroadPhase, IsKeptOf}
 use Rattle.pf_broad.specs.Watched.{IsRightWhereMoved}
 use Rattle.pf_broad.proofs.Flagging.{are_flagged, flagged-map}
-use Rattle.pf_broad.proofs.Loosening.{overlapping-pairs}
+use Rattle.pf_broad.proofs.Enlarging.{overlapping-pairs}
 use Rattle.pf_broad.proofs.Placing.{places-same}
 use Rattle.pf_broad.proofs.Watching.{flags_right, moved_of_watched, places_below, set_watched}
 use Rattle.pf_broad.proofs.Within.{pairs-IsPairOf}
@@ -20,15 +20,15 @@ are_right-requires-clause-places c =
 
 pub are_right-requires-clause-candidates : goal.are_right-requires-clause-candidates
 are_right-requires-clause-candidates c =
-    pairs-IsPairOf c.args.self.loose c.deref-else-not-has_all.result.now _
-    (c.deref-else-not-has_all.ensures.value ∙ c.self.invariant.0.pairs ∙ ap (λ (b : BroadPhase). pairs b.loose) c.self.view_is) c.requires.loosened.as_many
+    pairs-IsPairOf c.args.self.enlarged c.deref-else-not-has_all.result.now _
+    (c.deref-else-not-has_all.ensures.value ∙ c.self.invariant.0.pairs ∙ ap (λ (b : BroadPhase). pairs b.enlarged) c.self.view_is) c.requires.enlarged.as_many
 
 -- the flags are right but for the bodies that may have moved
 others_right : (c : In_ok-may_have_moved)
-    → AreFlagged (λ k. get_or c.in_ok-may_have_moved.may_have_moved.items k false) c.args.bounds.now (pairs c.args.self.loose) c.args.self.flags
+    → AreFlagged (λ k. get_or c.in_ok-may_have_moved.may_have_moved.items k false) c.args.bounds.now (pairs c.args.self.enlarged) c.args.self.flags
 others_right c =
-    are_flagged c.args.bounds.now c.args.moved.now c.in_ok-may_have_moved.may_have_moved.items (pairs c.args.self.loose) c.args.self.flags
-    (pairs-IsPairOf c.args.self.loose (pairs c.args.self.loose) _ refl c.requires.loosened.as_many) c.in_ok-may_have_moved.ensures.each c.requires.flags
+    are_flagged c.args.bounds.now c.args.moved.now c.in_ok-may_have_moved.may_have_moved.items (pairs c.args.self.enlarged) c.args.self.flags
+    (pairs-IsPairOf c.args.self.enlarged (pairs c.args.self.enlarged) _ refl c.requires.enlarged.as_many) c.in_ok-may_have_moved.ensures.each c.requires.flags
 
 pub test_and_watch-requires-clause-flags : goal.test_and_watch-requires-clause-flags
 test_and_watch-requires-clause-flags c = others_right (goal.at.test_and_watch-requires-clause-flags c).In_ok-may_have_moved
@@ -76,17 +76,17 @@ watched_right c =
     (subst (λ l. All (right l cs flags) places) c.deref-else-not-has_all-3.ensures.value (c.are_right.ensures.0 c.if-not-are_right.false))))
 
 -- all flags are right
-flags_stay : (c : After-deref-4) → c.self.inside.flags.items ≡ map (pair_may_touch c.args.bounds.now) (pairs c.args.self.loose)
+flags_stay : (c : After-deref-4) → c.self.inside.flags.items ≡ map (pair_may_touch c.args.bounds.now) (pairs c.args.self.enlarged)
 flags_stay c =
     let bs = c.args.bounds.now in
     let cs = c.self.inside.candidates.items in
     let may_move = c.in_ok-may_have_moved.may_have_moved.items in
     let moved : ℕ → Bool = λ k. get_or may_move k false in
-    let all = c.self.invariant.0.pairs ∙ ap (λ (b : BroadPhase). pairs b.loose) c.self.view_is in
+    let all = c.self.invariant.0.pairs ∙ ap (λ (b : BroadPhase). pairs b.enlarged) c.self.view_is in
     let flags : c.self.inside.flags.items ≡ c.args.self.flags = ap (λ (b : BroadPhase). b.flags) c.self.view_is in
     let others : AreFlagged moved bs cs c.self.inside.flags.items =
     subst (λ l. AreFlagged moved bs l c.self.inside.flags.items) (sym all)
-    (subst (AreFlagged moved bs (pairs c.args.self.loose)) (sym flags) (others_right (goal.at.After-deref-4 c).In_ok-may_have_moved)) in
+    (subst (AreFlagged moved bs (pairs c.args.self.enlarged)) (sym flags) (others_right (goal.at.After-deref-4 c).In_ok-may_have_moved)) in
     flags_right moved (λ k. get_or c.self.inside.watched.body_flags.items k false) bs cs c.self.inside.flags.items c.self.inside.watched.candidate_places.items
     (ap length flags ∙ c.requires.as_many ∙ ap length (sym all)) c.self.invariant.2.candidate_places (all_watched c) (watched_right c)
     others ∙ ap (map (pair_may_touch bs)) all
@@ -100,11 +100,11 @@ moved_among-requires-clause-places c =
 -- so the pairs stay
 pairs_stay : (c : After-deref-4) → c.self.inside.found.items ≡ pairs c.args.bounds.now
 pairs_stay c =
-    let all = c.self.invariant.0.pairs ∙ ap (λ (b : BroadPhase). pairs b.loose) c.self.view_is in
+    let all = c.self.invariant.0.pairs ∙ ap (λ (b : BroadPhase). pairs b.enlarged) c.self.view_is in
     let flags : c.self.inside.flags.items ≡ c.args.self.flags = ap (λ (b : BroadPhase). b.flags) c.self.view_is in
     c.self.invariant.1 (ap length flags ∙ c.requires.as_many ∙ ap length (sym all))
-    ∙ (λ k. flagged (flags_stay c k) (all k)) ∙ flagged-map (pair_may_touch c.args.bounds.now) (pairs c.args.self.loose)
-    ∙ overlapping-pairs c.args.self.loose c.args.bounds.now c.requires.loosened
+    ∙ (λ k. flagged (flags_stay c k) (all k)) ∙ flagged-map (pair_may_touch c.args.bounds.now) (pairs c.args.self.enlarged)
+    ∙ overlapping-pairs c.args.self.enlarged c.args.bounds.now c.requires.enlarged
 
 pub moved_among-requires-clause-pairs : goal.moved_among-requires-clause-pairs
 moved_among-requires-clause-pairs c =
@@ -123,7 +123,7 @@ pub returns-clause-kept : goal.returns-clause-kept
 returns-clause-kept c =
     let before = (goal.at.returns-clause-kept c).After-deref-4 in
     subst (λ b. IsKeptOf b c.args.bounds.now) (sym (same_kept c)) (record {
-      loose = c.requires.loosened;
+      enlarged = c.requires.enlarged;
       flags = ap (λ (b : BroadPhase). b.flags) (sym c.self.view_is) ∙ flags_stay before;
       pairs = ap (λ (b : BroadPhase). b.pairs) (sym c.self.view_is) ∙ pairs_stay before;
     })

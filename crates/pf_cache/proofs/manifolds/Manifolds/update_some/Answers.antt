@@ -54,7 +54,7 @@ update-requires-2-clause-others g c = λ many as_many.
     same_at old.bounds new k (stood placed_long k (omega (arith, below, long)) other).1 no_bounds
     ∙ ap (λ bs. bounds_at bs k) (sym now_are))))
     (λ differ.
-    absurd (omega (arith, many, as_many, ap (λ (b : BroadPhase). length b.loose) (c.kept_for-broad_phase.ensures.other differ))))
+    absurd (omega (arith, many, as_many, ap (λ (b : BroadPhase). length b.enlarged) (c.kept_for-broad_phase.ensures.other differ))))
     (cases_eq (length c.shapes-count.result.now) (length bodies))
 
 pub update-requires-2-clause-few : goal.update-requires-2-clause-few

@@ -19,14 +19,15 @@ contains a b =
     && (is_within a.low.x a.high.x b.low.x b.high.x && is_within a.low.y a.high.y b.low.y b.high.y)
 
 -- each body's enlarged bounds contain its bounds
-pub record AreLoosened (loose bounds : List Bounds) : Type 0 where
-  pub as_many : length loose ≡ length bounds
-  pub each : (k : ℕ) → k < length bounds → contains (bounds_at loose k) (bounds_at bounds k) ≡ true
+pub record AreEnlarged (enlarged bounds : List Bounds) : Type 0 where
+  pub as_many : length enlarged ≡ length bounds
+  pub each : (k : ℕ) → k < length bounds
+      → contains (bounds_at enlarged k) (bounds_at bounds k) ≡ true
 
 -- the bodies that left their enlarged bounds
 abbrev pub left_bodies : List Bounds → List Bounds → List ℕ
-left_bodies loose bounds =
-    filter (λ k. not (contains (bounds_at loose k) (bounds_at bounds k)))
+left_bodies enlarged bounds =
+    filter (λ k. not (contains (bounds_at enlarged k) (bounds_at bounds k)))
     (range_with_len 0 (length bounds))
 
 -- only these bodies have other bounds
@@ -34,10 +35,10 @@ abbrev pub AreSameBut : List ℕ → List Bounds → List Bounds → Type 0
 AreSameBut bodies old new = (k : ℕ) → has_body bodies k ≡ false → bounds_at new k ≡ bounds_at old k
 
 -- the pairs of bodies with these enlarged bounds are these
-pub record AreCandidates (loose : List Bounds) (candidates : List Pair) : Type 0 where
-  pub few : length loose ≤ MAX_BODIES
-  pub ordered : All IsOrdered loose
-  pub pairs : candidates ≡ pairs loose
+pub record AreCandidates (enlarged : List Bounds) (candidates : List Pair) : Type 0 where
+  pub few : length enlarged ≤ MAX_BODIES
+  pub ordered : All IsOrdered enlarged
+  pub pairs : candidates ≡ pairs enlarged
 
 -- a pair has one of these bodies
 abbrev pub has_one : List ℕ → Pair → Bool

@@ -4,7 +4,7 @@
 ghost use Rattle.std.specs.Prelude.{◌≡◌, ℕ, ◌<◌, ◌≤◌, ◌≤ℤ◌, false, length, true, IfOk};
 ghost use Rattle.pf_broad.specs.Pairs.{bounds_at};
 ghost use Rattle.pf_broad.specs.Partners.{has_body, AreBodies};
-ghost use Rattle.pf_broad.specs.Loose.{contains, is_within, left_bodies, AreLoosened, AreSameBut};
+ghost use Rattle.pf_broad.specs.Enlarged.{contains, is_within, left_bodies, AreEnlarged, AreSameBut};
 
 use pf_num::Fx;
 use pf_rot::V2;
@@ -13,13 +13,13 @@ use std::alloc::{AllocError, Global};
 
 /// Whether enlarged bounds contain these. Static ones contain only those of a static body.
 #[inline]
-#[tactic(auto, unfolding(crate::specs::Loose::contains))]
-fn contains(loose: &Bounds, bounds: &Bounds) -> bool
-    ensures { result ≡ contains loose.now bounds.now }
+#[tactic(auto, unfolding(crate::specs::Enlarged::contains))]
+fn contains(enlarged: &Bounds, bounds: &Bounds) -> bool
+    ensures { result ≡ contains enlarged.now bounds.now }
 {
-    (!loose.is_static | bounds.is_static)
-        & (is_within(loose.low.x, loose.high.x, bounds.low.x, bounds.high.x)
-            & is_within(loose.low.y, loose.high.y, bounds.low.y, bounds.high.y))
+    (!enlarged.is_static | bounds.is_static)
+        & (is_within(enlarged.low.x, enlarged.high.x, bounds.low.x, bounds.high.x)
+            & is_within(enlarged.low.y, enlarged.high.y, bounds.low.y, bounds.high.y))
 }
 
 /// Whether a closed range on one axis contains another.
@@ -57,7 +57,7 @@ fn enlarged_high(high: Fx, velocity: Fx) -> Fx
 
 /// Enlarged bounds of a body with these bounds. By how much is said by no clause: only time
 /// depends on it.
-#[tactic(auto, unfolding(crate::specs::Loose::contains))]
+#[tactic(auto, unfolding(crate::specs::Enlarged::contains))]
 fn enlarged_bounds(bounds: &Bounds, body: &BodyState) -> Bounds
     ensures { contains result bounds.now ≡ true }
 {
@@ -82,13 +82,13 @@ pub(crate) fn all_enlarged_bounds(
     bodies: &[BodyState],
 ) -> Result<Vec<Bounds>, AllocError>
     requires { length bodies.now ≡ length bounds.now }
-    ensures { IfOk result (λ loose. AreLoosened loose.items bounds.now) }
+    ensures { IfOk result (λ enlarged. AreEnlarged enlarged.items bounds.now) }
 {
-    let mut loose = Vec::with_capacity(alloc, bounds.len())?;
+    let mut enlarged = Vec::with_capacity(alloc, bounds.len())?;
     for i in 0..bounds.len() {
-        loose.push(enlarged_bounds(&bounds[i], &bodies[i]))?;
+        enlarged.push(enlarged_bounds(&bounds[i], &bodies[i]))?;
     }
-    Ok(loose)
+    Ok(enlarged)
 }
 
 /// The bodies that left their enlarged bounds, in ascending order. Only those of `moved` are looked
@@ -96,20 +96,20 @@ pub(crate) fn all_enlarged_bounds(
 #[inline(never)]
 pub(crate) fn left_bodies(
     alloc: Global,
-    loose: &[Bounds],
+    enlarged: &[Bounds],
     bounds: &[Bounds],
     moved: &[usize],
 ) -> Result<Vec<u16>, AllocError>
     requires few { length bounds.now ≤ MAX_BODIES }
-    requires loose { length loose.now ≡ length bounds.now }
+    requires enlarged { length enlarged.now ≡ length bounds.now }
     requires moved { AreBodies bounds.now moved.now }
     requires others { (k : ℕ) → k < length bounds.now → has_body moved.now k ≡ false
-        → contains (bounds_at loose.now k) (bounds_at bounds.now k) ≡ true }
-    ensures { IfOk result (λ left. left.items ≡ left_bodies loose.now bounds.now) }
+        → contains (bounds_at enlarged.now k) (bounds_at bounds.now k) ≡ true }
+    ensures { IfOk result (λ left. left.items ≡ left_bodies enlarged.now bounds.now) }
 {
     let mut left = Vec::new(alloc);
     for number in moved {
-        if !contains(&loose[*number], &bounds[*number]) {
+        if !contains(&enlarged[*number], &bounds[*number]) {
             left.push(*number as u16)?;
         }
     }
@@ -119,15 +119,15 @@ pub(crate) fn left_bodies(
 }
 
 /// Gives new enlarged bounds to the bodies that left theirs.
-pub(crate) fn refit(loose: &mut [Bounds], left: &[u16], bounds: &[Bounds], bodies: &[BodyState])
-    requires loose { length loose.old ≡ length bounds.now }
+pub(crate) fn refit(enlarged: &mut [Bounds], left: &[u16], bounds: &[Bounds], bodies: &[BodyState])
+    requires enlarged { length enlarged.old ≡ length bounds.now }
     requires bodies { length bodies.now ≡ length bounds.now }
-    requires left { left.now ≡ left_bodies loose.old bounds.now }
-    ensures loosened { AreLoosened loose.new bounds.now }
-    ensures others { AreSameBut left.now loose.old loose.new }
+    requires left { left.now ≡ left_bodies enlarged.old bounds.now }
+    ensures enlarged { AreEnlarged enlarged.new bounds.now }
+    ensures others { AreSameBut left.now enlarged.old enlarged.new }
 {
     for number in left {
         let i = usize::from(*number);
-        loose[i] = enlarged_bounds(&bounds[i], &bodies[i]);
+        enlarged[i] = enlarged_bounds(&bounds[i], &bodies[i]);
     }
 }

@@ -11,7 +11,7 @@ use Rattle.pf_shapes.specs.Bounds.{Bounds, IsOrdered, overlaps, ranges_overlap}
 use Rattle.pf_shapes.specs.Pair.{Pair}
 use Rattle.pf_broad.specs.Pairs.{no_bounds, bounds_at, may_touch, is_pair, pair, pair_may_touch, partners_of, pairs_of, pairs}
 use Rattle.pf_shapes.specs.declared.scene.TheConstants.{MAX_BODIES}
-use Rattle.pf_broad.specs.Loose.{contains, is_within, AreCandidates, AreLoosened}
+use Rattle.pf_broad.specs.Enlarged.{contains, is_within, AreCandidates, AreEnlarged}
 
 -- bounds that contain ordered ones are ordered
 contains-IsOrdered : (a b : Bounds) → contains a b ≡ true → IsOrdered b → IsOrdered a
@@ -24,11 +24,11 @@ contains-IsOrdered a b within ordered =
     ends_in_order : (low high lo hi : ℤ) → is_within low high lo hi ≡ true → lo ≤ℤ hi → low ≤ℤ high
     ends_in_order low high lo hi is order = grind (arith, ints, nat_tests)
 
-pub enlarged_bounds-IsOrdered : (loose bounds : List Bounds) → AreLoosened loose bounds → All IsOrdered bounds → All IsOrdered loose
-enlarged_bounds-IsOrdered loose bounds is ordered =
-    All-from_get_or IsOrdered loose no_bounds (λ k below.
+pub enlarged_bounds-IsOrdered : (enlarged bounds : List Bounds) → AreEnlarged enlarged bounds → All IsOrdered bounds → All IsOrdered enlarged
+enlarged_bounds-IsOrdered enlarged bounds is ordered =
+    All-from_get_or IsOrdered enlarged no_bounds (λ k below.
     let within : k < length bounds = omega (arith, is.as_many) in
-    contains-IsOrdered (bounds_at loose k) (bounds_at bounds k) (is.each k within) (All-get_or IsOrdered bounds k no_bounds within ordered))
+    contains-IsOrdered (bounds_at enlarged k) (bounds_at bounds k) (is.each k within) (All-get_or IsOrdered bounds k no_bounds within ordered))
 
 -- not both are static, so not both enlarged ones are
 not_both : (a a' b b' : Bool) → (not a || a') ≡ true → (not b || b') ≡ true → not (a' && b') ≡ true → not (a && b) ≡ true
@@ -64,11 +64,11 @@ test_again true true false h = refl
 test_again true false false h = refl
 
 -- of two bodies by their enlarged bounds, and then by their bounds
-again-is_pair : (loose bounds : List Bounds) → AreLoosened loose bounds → (i j : ℕ) → i < length loose → j < length loose
-    → (is_pair loose i j && may_touch (bounds_at bounds i) (bounds_at bounds j)) ≡ is_pair bounds i j
-again-is_pair loose bounds is i j hi hj =
-    test_again (nat_lt i j) (may_touch (bounds_at loose i) (bounds_at loose j)) (may_touch (bounds_at bounds i) (bounds_at bounds j))
-    (contains-may_touch (bounds_at loose i) (bounds_at loose j) (bounds_at bounds i) (bounds_at bounds j)
+again-is_pair : (enlarged bounds : List Bounds) → AreEnlarged enlarged bounds → (i j : ℕ) → i < length enlarged → j < length enlarged
+    → (is_pair enlarged i j && may_touch (bounds_at bounds i) (bounds_at bounds j)) ≡ is_pair bounds i j
+again-is_pair enlarged bounds is i j hi hj =
+    test_again (nat_lt i j) (may_touch (bounds_at enlarged i) (bounds_at enlarged j)) (may_touch (bounds_at bounds i) (bounds_at bounds j))
+    (contains-may_touch (bounds_at enlarged i) (bounds_at enlarged j) (bounds_at bounds i) (bounds_at bounds j)
     (is.each i (omega (arith, is.as_many))) (is.each j (omega (arith, is.as_many))))
 
 pub filter-flat_map : {X Y : Type 0} (t : Y → Bool) (f : X → List Y) (xs : List X) → filter t (flat_map f xs) ≡ flat_map (λ x. filter t (f x)) xs
@@ -105,15 +105,15 @@ flat_map-same f g a (suc n) h =
     ∙ ap (λ l. g a ++ l) (flat_map-same f g (a + 1) n (λ k l. h k (omega arith)))
 
 -- the candidates that may touch are the pairs
-pub overlapping-pairs : (loose bounds : List Bounds) → AreLoosened loose bounds
-    → filter (pair_may_touch bounds) (pairs loose) ≡ pairs bounds
-overlapping-pairs loose bounds is =
+pub overlapping-pairs : (enlarged bounds : List Bounds) → AreEnlarged enlarged bounds
+    → filter (pair_may_touch bounds) (pairs enlarged) ≡ pairs bounds
+overlapping-pairs enlarged bounds is =
     let t = pair_may_touch bounds in
-    filter-flat_map t (pairs_of loose) (range_with_len 0 (length loose))
-    ∙ flat_map-same (λ i. filter t (pairs_of loose i)) (pairs_of bounds) 0 (length loose) (λ i below.
-    filter-map t i (partners_of loose i)
-    ∙ ap (map (pair i)) (filter-filter (λ j. t (pair i j)) (is_pair loose i) (is_pair bounds i) 0 (length loose)
-    (λ j less. again-is_pair loose bounds is i j (omega arith) (omega arith))
+    filter-flat_map t (pairs_of enlarged) (range_with_len 0 (length enlarged))
+    ∙ flat_map-same (λ i. filter t (pairs_of enlarged i)) (pairs_of bounds) 0 (length enlarged) (λ i below.
+    filter-map t i (partners_of enlarged i)
+    ∙ ap (map (pair i)) (filter-filter (λ j. t (pair i j)) (is_pair enlarged i) (is_pair bounds i) 0 (length enlarged)
+    (λ j less. again-is_pair enlarged bounds is i j (omega arith) (omega arith))
     ∙ ap (λ n. filter (is_pair bounds i) (range_with_len 0 n)) is.as_many))
     ∙ ap (λ n. flat_map (pairs_of bounds) (range_with_len 0 n)) is.as_many
 
@@ -133,7 +133,7 @@ append-each P xs y i count here before k below =
     (cases_lt k i)
 
 -- enlarged bounds and their pairs are sound
-pub candidates_of : (loose bounds : List Bounds) (candidates : List Pair) → AreLoosened loose bounds → All IsOrdered bounds
-    → length bounds ≤ MAX_BODIES → candidates ≡ pairs loose → AreCandidates loose candidates
-candidates_of loose bounds candidates is ordered few all =
-    record { few = omega (arith, is.as_many, few); ordered = enlarged_bounds-IsOrdered loose bounds is ordered; pairs = all }
+pub candidates_of : (enlarged bounds : List Bounds) (candidates : List Pair) → AreEnlarged enlarged bounds → All IsOrdered bounds
+    → length bounds ≤ MAX_BODIES → candidates ≡ pairs enlarged → AreCandidates enlarged candidates
+candidates_of enlarged bounds candidates is ordered few all =
+    record { few = omega (arith, is.as_many, few); ordered = enlarged_bounds-IsOrdered enlarged bounds is ordered; pairs = all }
