@@ -21,4 +21,8 @@ pub mod Whole
 pub mod Exactly
 pub mod SettledGroups
 pub mod DealtRows
+pub mod Lone
+pub mod LoneGroups
+pub mod Parted
+pub mod Counted
 pub mod PutBack

@@ -70,7 +70,7 @@ merged_apart mark e x y label first second other =
     differ false h = true≢false h
 
 -- tests that agree choose the same
-filter_same : {X : Type 0} (p q : X → Bool) (xs : List X) → All (λ x. p x ≡ q x) xs → filter p xs ≡ filter q xs
+pub filter_same : {X : Type 0} (p q : X → Bool) (xs : List X) → All (λ x. p x ≡ q x) xs → filter p xs ≡ filter q xs
 filter_same p q [] all = refl
 filter_same p q (x ∷ xs) all =
     ap₂ (λ e rest. cond e (x ∷ rest) rest) (All-head (λ y. p y ≡ q y) x xs all)
@@ -324,7 +324,7 @@ module _ (s : Scene) (bodies : List BodyState) (touches : List Touch) (count : l
       (range_with_len 0 (length (groups s touches))) bodies_within)
 
   -- and these groups have the same members
-  same_members : (label : ℕ) → up label ≡ true → members (groups s chosen) label ≡ members (groups s touches) label
+  pub same_members : (label : ℕ) → up label ≡ true → members (groups s chosen) label ≡ members (groups s touches) label
   same_members label is =
       ap (filter (λ i. get_or (groups s chosen) i 0 == label)) range_is
       ∙ filter_same (λ i. get_or (groups s chosen) i 0 == label) (λ i. get_or (groups s touches) i 0 == label)

@@ -10,5 +10,6 @@ pub mod Flags
 pub mod Split
 pub mod Settled
 pub mod Dealing
+pub mod Lone
 pub mod Join
 pub mod Laws

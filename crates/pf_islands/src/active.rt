@@ -6,7 +6,7 @@ ghost use Rattle.std.specs.List.{list_all, range_with_len};
 ghost use Rattle.pf_shapes.specs.Pair.{IsPairOf};
 ghost use Rattle.pf_manifold.specs.Touches.{IsTouchOf};
 ghost use Rattle.pf_cache.specs.Spans.{AreListedPlaces, AreSpansOf};
-ghost use Rattle.pf_islands.specs.Flags.{ListsAwake, awake_numbers, is_active_by, simulated_flags};
+ghost use Rattle.pf_islands.specs.Flags.{ListsAwake, awake_numbers, is_active_by};
 ghost use Rattle.pf_islands.specs.Rows.{side_of};
 ghost use Rattle.pf_islands.specs.Settled.{active_places, touches_at, wakes_none};
 
@@ -58,8 +58,6 @@ fn push_places(places: &mut Vec<usize>, span: &Span)
 /// What is simulated in a tick.
 #[derive(Drop)]
 pub(crate) struct Active {
-    /// For each body, whether it is dynamic and awake.
-    pub simulated: Vec<bool>,
     /// The numbers of the awake bodies, in ascending order.
     pub numbers: Vec<usize>,
     /// The places of the contacts that are simulated.
@@ -84,8 +82,6 @@ pub(crate) fn active_of(
     requires awake { ListsAwake search.now.bodies.now bodies.now }
     requires places { AreListedPlaces search.now.bodies.now (map (λ s. s.pair) spans.now)
         search.now.pair_places.now }
-    ensures simulated { IfOk result
-        (λ found. found.simulated.items ≡ simulated_flags scene.now bodies.now) }
     ensures numbers { IfOk result (λ found. found.numbers.items ≡ awake_numbers bodies.now) }
     ensures places { IfOk result
         (λ found. found.places.items ≡ active_places scene.now bodies.now touches.now) }
@@ -102,11 +98,7 @@ pub(crate) fn active_of(
             push_places(&mut places, span);
         }
     }
-    Ok(Active {
-        simulated,
-        numbers,
-        places,
-    })
+    Ok(Active { numbers, places })
 }
 
 /// Whether a contact that is simulated wakes none of its bodies: one of them is static, or both are

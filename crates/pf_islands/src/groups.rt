@@ -1,11 +1,44 @@
 //! Groups of bodies that contacts connect.
 
+ghost use Rattle.std.specs.Prelude.{◌≡◌, length};
+ghost use Rattle.pf_rows.specs.Row.{IsSide};
+ghost use Rattle.pf_manifold.specs.Touches.{IsTouchOf};
+ghost use Rattle.pf_islands.specs.Dealing.{group_of_sides};
+ghost use Rattle.pf_islands.specs.Lone.{group_of_touch};
+
+use crate::active::side_of;
 use crate::forest::{flatten, link_all, singles};
 use crate::marks::{mark_active, wake_marked};
 use pf_manifold::Touch;
+use pf_rows::Side;
 use pf_shapes::{BodyState, Scene};
 use std::alloc::{AllocError, Global};
 use std::marker::Model;
+
+/// The label of the group of a contact: that of its first dynamic body.
+#[inline]
+pub(crate) fn group_of_sides(labels: &[usize], first: Side, second: Side) -> usize
+    requires first { IsSide (length labels.now) first }
+    requires second { IsSide (length labels.now) second }
+    ensures { result ≡ group_of_sides labels.now first second }
+{
+    match (first, second) {
+        (Side::Dynamic(number), _) | (Side::Static, Side::Dynamic(number)) => labels[number],
+        (Side::Static, Side::Static) => 0,
+    }
+}
+
+/// The label of the group of a contact point.
+#[inline]
+pub(crate) fn group_of_touch(scene: &Scene, labels: &[usize], touch: &Touch) -> usize
+    requires labels { length labels.now ≡ length scene.now.fixtures }
+    requires touch { IsTouchOf (length labels.now) touch.now }
+    ensures { result ≡ group_of_touch scene.now labels.now touch.now }
+{
+    let first = side_of(scene, usize::from(touch.a));
+    let second = side_of(scene, usize::from(touch.b));
+    group_of_sides(labels, first, second)
+}
 
 /// The groups of a scene's bodies that contacts connect, never through a static body. Contracts see
 /// the label of each body's group, which is the least body of the group.

@@ -17,4 +17,4 @@ pub use awake::AwakeSearch;
 pub use island::Island;
 pub use joining::join_back;
 pub use sleep::{fall_asleep, rest_alone};
-pub use splitting::{split, wake_and_split};
+pub use splitting::{LoneBodies, Parts, split, wake_and_split};

@@ -1,15 +1,22 @@
-//! How large the islands of a tick are, so that the memory of each is reserved once.
+//! How many contacts the groups of a tick have: which of them have any, and so that the memory of
+//! each island is reserved once.
 
-ghost use Rattle.std.specs.Prelude.{◌≡◌, ◌<◌, All, IfOk, IsOk, length};
+ghost use Rattle.std.specs.Prelude.{◌≡◌, ◌<◌, ◌==◌, not, All, IfOk, IsOk, ℕ, length, slice_index_or};
+ghost use Rattle.std.specs.List.{list_any};
 ghost use Rattle.pf_manifold.specs.Touches.{IsTouchOf};
+ghost use Rattle.pf_islands.specs.Lone.{group_of_touch};
+ghost use Rattle.pf_islands.specs.Settled.{touches_at};
 
+use crate::groups::group_of_touch;
 use pf_manifold::Touch;
+use pf_shapes::Scene;
 use std::alloc::{AllocError, Global};
 
-/// A list of so many numbers, all of them 0, which no clause says. They are small, since all are
-/// written in each tick: those of 1,000 bodies take 2 KB.
+/// A list of so many zeros. They are small, since all are written in each tick: those of 1,000
+/// bodies take 2 KB.
 pub fn zeros(alloc: Global, len: usize) -> Result<Vec<u16>, AllocError>
     ensures value { IfOk result (λ made. length made.items ≡ len) }
+    ensures zero { IfOk result (λ made. All (λ number. number ≡ 0) made.items) }
     ensures no_memory { len ≡ 0 → IsOk result }
 {
     let mut made = Vec::with_capacity(alloc, len)?;
@@ -17,53 +24,53 @@ pub fn zeros(alloc: Global, len: usize) -> Result<Vec<u16>, AllocError>
     Ok(made)
 }
 
-/// Counts the contacts of each group. A contact counts for the group of a body of it that is
-/// simulated.
+/// Counts the contacts of each group at its label.
 fn count_rows(
     rows: &mut [u16],
+    scene: &Scene,
     labels: &[usize],
-    simulated: &[bool],
     touches: &[Touch],
     places: &[usize],
 )
     requires rows { length rows.old ≡ length labels.now }
-    requires simulated { length simulated.now ≡ length labels.now }
+    requires labels { length labels.now ≡ length scene.now.fixtures }
     requires labelled { All (λ label. label < length labels.now) labels.now }
-    requires touches { All (IsTouchOf (length simulated.now)) touches.now }
+    requires touches { All (IsTouchOf (length labels.now)) touches.now }
     requires places { All (λ place. place < length touches.now) places.now }
+    requires zero { All (λ number. number ≡ 0) rows.old }
+    ensures { (label : ℕ) → label < length labels.now → (slice_index_or rows.new label 0 == 0)
+        ≡ not (list_any (λ t. group_of_touch scene.now labels.now t == label)
+        (touches_at touches.now places.now)) }
 {
     for place in places {
-        let touch = &touches[*place];
-        let first = usize::from(touch.a);
-        let number = if simulated[first] {
-            first
-        } else {
-            usize::from(touch.b)
-        };
-        let label = labels[number];
+        let label = group_of_touch(scene, labels, &touches[*place]);
         rows[label] = rows[label].saturating_add(1);
     }
 }
 
 /// How many contacts the island of each group has, by label. It has one body more at most, since
-/// contacts connect its bodies. Only memory depends on it: no contract says that the numbers are
-/// right, and more than 65,535 contacts count as so many. `simulated` says of each body whether it
-/// is, and `places` are those of the contacts that are.
+/// contacts connect its bodies. Contracts say for which groups the number is 0, and memory depends
+/// on the others: more than 65,535 contacts count as so many. `places` are those of the contacts
+/// that are simulated.
 pub fn row_counts(
     alloc: Global,
+    scene: &Scene,
     labels: &[usize],
-    simulated: &[bool],
     touches: &[Touch],
     places: &[usize],
 ) -> Result<Vec<u16>, AllocError>
-    requires simulated { length simulated.now ≡ length labels.now }
+    requires labels { length labels.now ≡ length scene.now.fixtures }
     requires labelled { All (λ label. label < length labels.now) labels.now }
-    requires touches { All (IsTouchOf (length simulated.now)) touches.now }
+    requires touches { All (IsTouchOf (length labels.now)) touches.now }
     requires places { All (λ place. place < length touches.now) places.now }
     ensures value { IfOk result (λ rows. length rows.items ≡ length labels.now) }
+    ensures none { IfOk result (λ rows. (label : ℕ) → label < length labels.now
+        → (slice_index_or rows.items label 0 == 0)
+        ≡ not (list_any (λ t. group_of_touch scene.now labels.now t == label)
+        (touches_at touches.now places.now))) }
     ensures no_memory { length labels.now ≡ 0 → IsOk result }
 {
     let mut rows = zeros(alloc, labels.len())?;
-    count_rows(&mut rows, labels, simulated, touches, places);
+    count_rows(&mut rows, scene, labels, touches, places);
     Ok(rows)
 }

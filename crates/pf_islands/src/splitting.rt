@@ -1,17 +1,20 @@
 //! The islands of a tick.
 
-ghost use Rattle.std.specs.Prelude.{◌≡◌, ◌<◌, ◌≤◌, ◌==◌, ◌+◌, ◌++◌, ◌∷◌, ◌&&◌, [], false, All, IfOk, IsOk, OnOk, length, map, slice_index_or, slice_set, take};
+ghost use Rattle.std.specs.Prelude.{◌≡◌, ◌<◌, ◌≤◌, ◌==◌, ◌+◌, ◌++◌, ◌∷◌, ◌&&◌, [], true, false, not, ℕ, All, IfOk, IsOk, OnOk, filter, length, map, slice_index_or, slice_set, take};
 ghost use Rattle.std.specs.List.{range_with_len};
+ghost use Rattle.pf_shapes.specs.Body.{no_state};
 ghost use Rattle.pf_shapes.specs.declared.scene.TheConstants.{MAX_BODIES};
 ghost use Rattle.pf_rows.specs.Row.{IsSide, new_row};
+ghost use Rattle.pf_manifold.specs.Key.{IsRising};
 ghost use Rattle.pf_manifold.specs.Touches.{IsTouchOf};
 ghost use Rattle.pf_cache.specs.Manifolds.{kept_touches};
 ghost use Rattle.pf_cache.specs.Spans.{AreListedPlaces};
 ghost use Rattle.pf_islands.specs.Group.{groups as groups_of};
 ghost use Rattle.pf_islands.specs.Island.{members};
-ghost use Rattle.pf_islands.specs.Rows.{active_rows, row_of};
-ghost use Rattle.pf_islands.specs.Flags.{ListsAwake, awake_numbers, simulated_flags};
-ghost use Rattle.pf_islands.specs.Settled.{AreSettled, active_places};
+ghost use Rattle.pf_islands.specs.Lone.{is_dealt, lone_bodies, made_islands, only_awake};
+ghost use Rattle.pf_islands.specs.Rows.{active_rows, is_awake_at, row_of};
+ghost use Rattle.pf_islands.specs.Flags.{ListsAwake, awake_numbers};
+ghost use Rattle.pf_islands.specs.Settled.{AreSettled, active_places, touches_at};
 ghost use Rattle.pf_islands.specs.Sleep.{woken_bodies};
 ghost use Rattle.pf_islands.specs.Split.{AreWoken, IsIslandOf, active_labels, is_active_label, island_of, islands, no_island};
 ghost use Rattle.pf_islands.specs.Dealing.{ArePlaces, AreSlots, HasIsland, group_of_row, group_of_sides, placed_row, placed_side, slot_of, with_body, with_row};
@@ -19,7 +22,7 @@ ghost use Rattle.pf_islands.specs.Dealing.{ArePlaces, AreSlots, HasIsland, group
 use crate::active::{Active, active_of, side_of, wake_none};
 use crate::awake::AwakeSearch;
 use crate::forest::singles;
-use crate::groups::Groups;
+use crate::groups::{Groups, group_of_sides};
 use crate::island::Island;
 use crate::marks::unmarked;
 use crate::sizes::{row_counts, zeros};
@@ -49,9 +52,10 @@ fn clear_at(
     island.clear(rows)
 }
 
-/// An empty island for each group that is simulated, in the order of their labels, made in the
+/// An empty island for each group that becomes one, in the order of their labels, made in the
 /// memory of the spare islands. `rows` holds at each label the number of its contacts; it is
-/// returned with the place of its island there instead. `numbers` are those of the awake bodies.
+/// returned with the place of its island there instead. `numbers` are those of the bodies of these
+/// groups: the awake ones among the bodies `seen`.
 fn empty_islands(
     alloc: Global,
     spare: Vec<Island>,
@@ -61,12 +65,12 @@ fn empty_islands(
     rows: Vec<u16>,
 ) -> Result<(Vec<Island>, Vec<u16>), AllocError>
     requires few { length labels.now ≤ MAX_BODIES }
-    requires bodies { length bodies.now ≡ length labels.now }
-    requires numbers { numbers.now ≡ awake_numbers bodies.now }
+    requires seen { length (only_awake numbers.now bodies.now) ≡ length labels.now }
+    requires numbers { numbers.now ≡ awake_numbers (only_awake numbers.now bodies.now) }
     requires rows { length rows.items ≡ length labels.now }
     ensures islands { IfOk result
-        (λ made. made.0.items ≡ map (λ label. no_island) (active_labels labels.now bodies.now)) }
-    ensures slots { IfOk result (λ made. AreSlots labels.now bodies.now made.1.items) }
+        (λ made. made.0.items ≡ map (λ label. no_island) (active_labels labels.now (only_awake numbers.now bodies.now))) }
+    ensures slots { IfOk result (λ made. AreSlots labels.now (only_awake numbers.now bodies.now) made.1.items) }
     ensures as_many { IfOk result (λ made. length made.1.items ≡ length labels.now) }
     ensures no_memory { length labels.now ≡ 0 → IsOk result }
 {
@@ -116,8 +120,8 @@ fn add_row(islands: &mut [Island], slot: usize, entry: Entry) -> Result<(), Allo
     island.add_row(entry)
 }
 
-/// Adds each awake body to the island of its group, and notes its place there. `numbers` are those
-/// of the awake bodies.
+/// Adds each body of these numbers to the island of its group, and notes its place there. They are
+/// the awake ones among the bodies `seen`.
 fn deal_bodies(
     islands: &mut [Island],
     places: &mut [u16],
@@ -128,18 +132,21 @@ fn deal_bodies(
 ) -> Result<(), AllocError>
     requires few { length labels.now ≤ MAX_BODIES }
     requires bodies { length bodies.now ≡ length labels.now }
-    requires numbers { numbers.now ≡ awake_numbers bodies.now }
+    requires seen { length (only_awake numbers.now bodies.now) ≡ length labels.now }
+    requires states { (k : ℕ) → is_awake_at (only_awake numbers.now bodies.now) k ≡ true
+        → slice_index_or bodies.now k no_state ≡ slice_index_or (only_awake numbers.now bodies.now) k no_state }
+    requires numbers { numbers.now ≡ awake_numbers (only_awake numbers.now bodies.now) }
     requires places { length places.old ≡ length labels.now }
-    requires slots { AreSlots labels.now bodies.now slots.now }
+    requires slots { AreSlots labels.now (only_awake numbers.now bodies.now) slots.now }
     requires as_many { length slots.now ≡ length labels.now }
     requires labelled { All (λ label. label < length labels.now) labels.now }
-    requires woken_bodies { AreWoken labels.now bodies.now }
-    requires empty { islands.old ≡ map (λ label. no_island) (active_labels labels.now bodies.now) }
+    requires woken_bodies { AreWoken labels.now (only_awake numbers.now bodies.now) }
+    requires empty { islands.old ≡ map (λ label. no_island) (active_labels labels.now (only_awake numbers.now bodies.now)) }
     ensures islands { OnOk result (islands.new
-        ≡ map (λ label. island_of bodies.now [] (members labels.now label))
-        (active_labels labels.now bodies.now)) }
-    ensures places { OnOk result (ArePlaces labels.now bodies.now places.new) }
-    ensures no_memory { bodies.now ≡ [] → IsOk result }
+        ≡ map (λ label. island_of (only_awake numbers.now bodies.now) [] (members labels.now label))
+        (active_labels labels.now (only_awake numbers.now bodies.now))) }
+    ensures places { OnOk result (ArePlaces labels.now (only_awake numbers.now bodies.now) places.new) }
+    ensures no_memory { (only_awake numbers.now bodies.now) ≡ [] → IsOk result }
 {
     for number in numbers {
         let number = *number;
@@ -158,19 +165,6 @@ fn placed_side(places: &[u16], side: Side) -> Side
     match side {
         Side::Static => Side::Static,
         Side::Dynamic(number) => Side::Dynamic(usize::from(places[number])),
-    }
-}
-
-/// The label of the group of a contact: that of its first dynamic body.
-#[inline]
-fn group_of_sides(labels: &[usize], first: Side, second: Side) -> usize
-    requires first { IsSide (length labels.now) first }
-    requires second { IsSide (length labels.now) second }
-    ensures { result ≡ group_of_sides labels.now first second }
-{
-    match (first, second) {
-        (Side::Dynamic(number), _) | (Side::Static, Side::Dynamic(number)) => labels[number],
-        (Side::Static, Side::Static) => 0,
     }
 }
 
@@ -216,6 +210,116 @@ fn deal_row(
     add_row(islands, slot, entry)
 }
 
+/// What becomes of awake bodies that no contact touches.
+#[derive(Clone, Copy, Debug, PartialEq, Eq)]
+pub enum LoneBodies {
+    /// Each is an island of its own.
+    AreIslands,
+    /// They are listed, and are in no island.
+    AreListed,
+}
+
+/// What a tick is split into.
+#[derive(Debug, Drop)]
+pub struct Parts {
+    /// The islands, in the order of their least bodies.
+    pub islands: Vec<Island>,
+    /// The awake bodies that are in none of them, in ascending order.
+    pub alone: Vec<usize>,
+}
+
+/// Whether the bodies of a group with so many contacts go into an island.
+#[inline]
+fn is_dealt(lone: LoneBodies, count: u16) -> bool
+    ensures { result ≡ is_dealt lone count }
+{
+    match lone {
+        LoneBodies::AreIslands => true,
+        LoneBodies::AreListed => count != 0,
+    }
+}
+
+/// The numbers of awake bodies in two lists: of those that go into islands, and of the others.
+/// `rows` holds at each label the number of contacts of the group.
+fn part(
+    alloc: Global,
+    labels: &[usize],
+    numbers: &[usize],
+    rows: &[u16],
+    lone: LoneBodies,
+) -> Result<(Vec<usize>, Vec<usize>), AllocError>
+    requires rows { length rows.now ≡ length labels.now }
+    requires labelled { All (λ label. label < length labels.now) labels.now }
+    requires numbers { All (λ number. number < length labels.now) numbers.now }
+    ensures dealt { IfOk result (λ parts. parts.0.items
+        ≡ filter (λ n. is_dealt lone (slice_index_or rows.now (slice_index_or labels.now n 0) 0))
+        numbers.now) }
+    ensures alone { IfOk result (λ parts. parts.1.items
+        ≡ filter
+        (λ n. not (is_dealt lone (slice_index_or rows.now (slice_index_or labels.now n 0) 0)))
+        numbers.now) }
+    ensures no_memory { length numbers.now ≡ 0 → IsOk result }
+{
+    let mut dealt = Vec::with_capacity(alloc, numbers.len())?;
+    let mut alone = Vec::with_capacity(alloc, numbers.len())?;
+    for number in numbers {
+        if is_dealt(lone, rows[labels[*number]]) {
+            dealt.push_reserved(*number);
+        } else {
+            alone.push_reserved(*number);
+        }
+    }
+    Ok((dealt, alone))
+}
+
+/// The islands of the groups of the bodies of these numbers, which are the awake ones among the
+/// bodies `seen`, made in the memory of the spare islands. `rows` holds at each label the number of
+/// contacts of the group, and `places` are those of the contacts.
+fn deal(
+    alloc: Global,
+    spare: Vec<Island>,
+    scene: &Scene,
+    bodies: &[BodyState],
+    touches: &[Touch],
+    contacts: &[Contact],
+    labels: &[usize],
+    places: &[usize],
+    numbers: &[usize],
+    rows: Vec<u16>,
+) -> Result<Vec<Island>, AllocError>
+    requires few { length labels.now ≤ MAX_BODIES }
+    requires bodies { length bodies.now ≡ length scene.now.fixtures }
+    requires seen { length (only_awake numbers.now bodies.now) ≡ length scene.now.fixtures }
+    requires states { (k : ℕ) → is_awake_at (only_awake numbers.now bodies.now) k ≡ true
+        → slice_index_or bodies.now k no_state ≡ slice_index_or (only_awake numbers.now bodies.now) k no_state }
+    requires touches { All (IsTouchOf (length (only_awake numbers.now bodies.now))) touches.now }
+    requires contacts { length contacts.now ≡ length touches.now }
+    requires settled { AreSettled scene.now (only_awake numbers.now bodies.now) touches.now }
+    requires labelled { labels.now ≡ groups_of scene.now (touches_at touches.now places.now) }
+    requires numbers { numbers.now ≡ awake_numbers (only_awake numbers.now bodies.now) }
+    requires active { places.now ≡ active_places scene.now (only_awake numbers.now bodies.now) touches.now }
+    requires within { All (λ place. place < length touches.now) places.now }
+    requires rows { length rows.items ≡ length labels.now }
+    ensures value { IfOk result (λ found. found.items
+        ≡ islands (groups_of scene.now touches.now) (only_awake numbers.now bodies.now)
+        (active_rows scene.now (only_awake numbers.now bodies.now) touches.now contacts.now)) }
+    ensures fit { IfOk result (λ found. All (IsIslandOf scene.now) found.items) }
+    ensures no_memory { (only_awake numbers.now bodies.now) ≡ [] → touches.now ≡ [] → IsOk result }
+{
+    let (mut made, slots) = empty_islands(alloc, spare, labels, bodies, numbers, rows)?;
+    let mut seats = zeros(alloc, labels.len())?;
+    deal_bodies(&mut made, &mut seats, &slots, labels, numbers, bodies)?;
+    for place in places {
+        let place = *place;
+        let touch = &touches[place];
+        let contact = &contacts[place];
+        deal_row(
+            &mut made, &slots, &seats, labels, scene, place, touch, contact,
+        )?;
+    }
+    Ok(made)
+}
+
 /// The islands of groups that are awake as wholes, made in the memory of the spare ones.
 #[inline(never)]
 fn split_settled(
@@ -226,38 +330,37 @@ fn split_settled(
     touches: &[Touch],
     contacts: &[Contact],
     active: &Active,
-) -> Result<Vec<Island>, AllocError>
+    lone: LoneBodies,
+) -> Result<Parts, AllocError>
     requires bodies { length bodies.now ≡ length scene.now.fixtures }
     requires touches { All (IsTouchOf (length bodies.now)) touches.now }
     requires contacts { length contacts.now ≡ length touches.now }
     requires settled { AreSettled scene.now bodies.now touches.now }
-    requires simulated { active.now.simulated.items ≡ simulated_flags scene.now bodies.now }
     requires numbers { active.now.numbers.items ≡ awake_numbers bodies.now }
     requires active { active.now.places.items ≡ active_places scene.now bodies.now touches.now }
     requires within { All (λ place. place < length touches.now) active.now.places.items }
-    ensures value { IfOk result (λ found. found.items
-        ≡ islands (groups_of scene.now touches.now) bodies.now
-        (active_rows scene.now bodies.now touches.now contacts.now)) }
-    ensures fit { IfOk result (λ found. All (IsIslandOf scene.now) found.items) }
+    ensures islands { IfOk result (λ found. found.islands.items
+        ≡ made_islands lone (islands (groups_of scene.now touches.now) bodies.now
+        (active_rows scene.now bodies.now touches.now contacts.now))) }
+    ensures alone { IfOk result (λ found. found.alone.items
+        ≡ lone_bodies lone (islands (groups_of scene.now touches.now) bodies.now
+        (active_rows scene.now bodies.now touches.now contacts.now))) }
+    ensures fit { IfOk result (λ found. All (IsIslandOf scene.now) found.islands.items) }
+    ensures order { IfOk result (λ found. IsRising 0 found.alone.items) }
+    ensures there { IfOk result
+        (λ found. All (λ number. number < length bodies.now) found.alone.items) }
     ensures no_memory { bodies.now ≡ [] → touches.now ≡ [] → IsOk result }
 {
+    let places = active.places.as_slice();
     let numbers = active.numbers.as_slice();
-    let active_places = active.places.as_slice();
-    let groups = Groups::new(alloc, scene, touches, active_places, numbers)?;
+    let groups = Groups::new(alloc, scene, touches, places, numbers)?;
     let labels = groups.labels();
-    let rows = row_counts(alloc, labels, &active.simulated, touches, active_places)?;
-    let (mut made, slots) = empty_islands(alloc, spare, labels, bodies, numbers, rows)?;
-    let mut places = zeros(alloc, labels.len())?;
-    deal_bodies(&mut made, &mut places, &slots, labels, numbers, bodies)?;
-    for place in active_places {
-        let place = *place;
-        let touch = &touches[place];
-        let contact = &contacts[place];
-        deal_row(
-            &mut made, &slots, &places, labels, scene, place, touch, contact,
-        )?;
-    }
-    Ok(made)
+    let rows = row_counts(alloc, scene, labels, touches, places)?;
+    let (dealt, alone) = part(alloc, labels, numbers, &rows, lone)?;
+    let islands = deal(
+        alloc, spare, scene, bodies, touches, contacts, labels, places, &dealt, rows,
+    )?;
+    Ok(Parts { islands, alone })
 }
 
 /// The phase Activity where a contact wakes a body: the bodies, where those of each group that has
@@ -290,7 +393,7 @@ fn woken_bodies(
 /// The phase Activity, and the islands of a tick, as Box2D 2.x's `b2World::Solve` makes them: an
 /// island for each group that has an awake body, in the order of their least bodies, with copies of
 /// the bodies of the group, all of them awake, and with the contacts that touch them. The bodies
-/// themselves stay as they are. The groups are those of the contact points that `manifolds` holds,
+/// themselves stay as they are. Of groups without contacts `lone` says whether islands are made. The groups are those of the contact points that `manifolds` holds,
 /// and the contacts are theirs. The islands are made in the memory of the spare ones, whose bodies
 /// and contacts are gone.
 pub fn split(
@@ -300,15 +403,25 @@ pub fn split(
     bodies: &[BodyState],
     manifolds: &Manifolds,
     contacts: &[Contact],
-) -> Result<Vec<Island>, AllocError>
+    lone: LoneBodies,
+) -> Result<Parts, AllocError>
     requires bodies { length bodies.now ≡ length scene.now.fixtures }
     requires touches { All (IsTouchOf (length bodies.now)) (kept_touches manifolds.now) }
     requires contacts { length contacts.now ≡ length (kept_touches manifolds.now) }
-    ensures value { let touches = kept_touches manifolds.now in
+    ensures islands { let touches = kept_touches manifolds.now in
         let woken = woken_bodies (groups_of scene.now touches) bodies.now in
-        IfOk result (λ found. found.items ≡ islands (groups_of scene.now touches) woken
-        (active_rows scene.now woken touches contacts.now)) }
-    ensures fit { IfOk result (λ found. All (IsIslandOf scene.now) found.items) }
+        IfOk result (λ found. found.islands.items
+        ≡ made_islands lone (islands (groups_of scene.now touches) woken
+        (active_rows scene.now woken touches contacts.now))) }
+    ensures alone { let touches = kept_touches manifolds.now in
+        let woken = woken_bodies (groups_of scene.now touches) bodies.now in
+        IfOk result (λ found. found.alone.items
+        ≡ lone_bodies lone (islands (groups_of scene.now touches) woken
+        (active_rows scene.now woken touches contacts.now))) }
+    ensures fit { IfOk result (λ found. All (IsIslandOf scene.now) found.islands.items) }
+    ensures order { IfOk result (λ found. IsRising 0 found.alone.items) }
+    ensures there { IfOk result
+        (λ found. All (λ number. number < length bodies.now) found.alone.items) }
 {
     let touches = manifolds.touches();
     let spans = manifolds.spans();
@@ -321,7 +434,9 @@ pub fn split(
         pair_places: &all_places,
     };
     let active = active_of(alloc, scene, bodies, touches, spans, &all)?;
-    split_settled(alloc, spare, scene, bodies, touches, contacts, &active)
+    split_settled(
+        alloc, spare, scene, bodies, touches, contacts, &active, lone,
+    )
 }
 
 /// As [`split`], where it is known which bodies may be awake: `search` says where to look for awake
@@ -336,7 +451,8 @@ pub fn wake_and_split(
     manifolds: &Manifolds,
     contacts: &[Contact],
     search: &AwakeSearch,
-) -> Result<Vec<Island>, AllocError>
+    lone: LoneBodies,
+) -> Result<Parts, AllocError>
     requires bodies { length bodies.now ≡ length scene.now.fixtures }
     requires touches { All (IsTouchOf (length bodies.now)) (kept_touches manifolds.now) }
     requires contacts { length contacts.now ≡ length (kept_touches manifolds.now) }
@@ -344,18 +460,29 @@ pub fn wake_and_split(
     requires awake { ListsAwake search.now.bodies.now bodies.now }
     requires places { AreListedPlaces search.now.bodies.now manifolds.now.pairs
         search.now.pair_places.now }
-    ensures value { let touches = kept_touches manifolds.now in
+    ensures islands { let touches = kept_touches manifolds.now in
         let woken = woken_bodies (groups_of scene.now touches) bodies.now in
-        IfOk result (λ found. found.items ≡ islands (groups_of scene.now touches) woken
-        (active_rows scene.now woken touches contacts.now)) }
-    ensures fit { IfOk result (λ found. All (IsIslandOf scene.now) found.items) }
+        IfOk result (λ found. found.islands.items
+        ≡ made_islands lone (islands (groups_of scene.now touches) woken
+        (active_rows scene.now woken touches contacts.now))) }
+    ensures alone { let touches = kept_touches manifolds.now in
+        let woken = woken_bodies (groups_of scene.now touches) bodies.now in
+        IfOk result (λ found. found.alone.items
+        ≡ lone_bodies lone (islands (groups_of scene.now touches) woken
+        (active_rows scene.now woken touches contacts.now))) }
+    ensures fit { IfOk result (λ found. All (IsIslandOf scene.now) found.islands.items) }
+    ensures order { IfOk result (λ found. IsRising 0 found.alone.items) }
+    ensures there { IfOk result
+        (λ found. All (λ number. number < length bodies.now) found.alone.items) }
     ensures no_memory { bodies.now ≡ [] → kept_touches manifolds.now ≡ [] → IsOk result }
 {
     let touches = manifolds.touches();
     let spans = manifolds.spans();
     let active = active_of(alloc, scene, bodies, touches, spans, search)?;
     if wake_none(scene, bodies, touches, &active.places) {
-        return split_settled(alloc, spare, scene, bodies, touches, contacts, &active);
+        return split_settled(
+            alloc, spare, scene, bodies, touches, contacts, &active, lone,
+        );
     }
-    split(alloc, spare, scene, bodies, manifolds, contacts)
+    split(alloc, spare, scene, bodies, manifolds, contacts, lone)
 }

@@ -17,3 +17,4 @@ pub mod AfterTick
 pub mod Beside
 pub mod Tick
 pub mod NoTurning
+pub mod OneByOne

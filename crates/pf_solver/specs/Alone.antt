@@ -1,10 +1,11 @@
 -- A tick of an island, as Box2D 2.x's b2Island::Solve, and a tick of a body that no contact
 -- touches.
-use Rattle.std.specs.Prelude.{ℕ, ◌==◌, ◌&&◌, List, if◌then◌else◌}
+use Rattle.std.specs.Prelude.{ℕ, ◌==◌, ◌&&◌, List, map, if◌then◌else◌}
+use Rattle.std.specs.List.{enumerate_from}
 use Rattle.pf_rot.specs.Vector.{V2}
 use Rattle.pf_shapes.specs.Body.{BodyState}
 use Rattle.pf_shapes.specs.Scene.{Scene}
-use Rattle.pf_islands.specs.Island.{rows_among, states_of}
+use Rattle.pf_islands.specs.Island.{has_number, rows_among, states_of}
 use Rattle.pf_islands.specs.Sleep.{at_sleep, island_after_sleep}
 use Rattle.pf_islands.specs.Split.{Island}
 use Rattle.pf_solver.specs.declared.bodies.TheConstants.{STILL_TICKS}
@@ -61,3 +62,8 @@ asleep_if_still b = if b.awake && (b.timer == STILL_TICKS) then at_sleep b else 
 -- a body that no contact touches, after a tick; `pull` is what gravity adds to a velocity in a tick
 unfoldable pub body_after_tick : V2 → BodyState → BodyState
 body_after_tick pull b = asleep_if_still (moved_freely pull b)
+
+-- the bodies, of which those with these numbers, which no contact touches, went through a tick
+abbrev pub after_tick_alone : V2 → List ℕ → List BodyState → List BodyState
+after_tick_alone pull numbers bodies =
+    map (λ m. if has_number numbers m.0 then body_after_tick pull m.1 else m.1) (enumerate_from 0 bodies)

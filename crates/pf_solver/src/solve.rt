@@ -3,7 +3,8 @@
 
 ghost use Rattle.std.specs.Prelude.{◌≡◌, ◌<◌, All, if◌then◌else◌, length, map};
 ghost use Rattle.pf_rows.specs.Row.{IsEntryOf, IsSide};
-ghost use Rattle.pf_solver.specs.Alone.{body_after_tick};
+ghost use Rattle.pf_manifold.specs.Key.{IsRising};
+ghost use Rattle.pf_solver.specs.Alone.{after_tick_alone, body_after_tick};
 ghost use Rattle.pf_solver.specs.Beside.{velocities_of};
 ghost use Rattle.pf_solver.specs.Bodies.{after_gravity, after_motion, after_timer, each_awake, gravity_per_tick};
 ghost use Rattle.pf_solver.specs.Solve.{pre_step_body, mass_of, prepared_batch, prepared_row};
@@ -148,16 +149,18 @@ fn solve_untouched_body(pull: V2, body: &mut BodyState)
     }
 }
 
-/// The phases Gravity to Sleep of bodies that no contact touches, one body after the other: each
-/// body is its own group. Takes no memory.
+/// The phases Gravity to Sleep of the bodies of these numbers, which no contact touches, one body
+/// after the other: each body is its own group. Takes no memory.
 #[inline(never)]
-pub fn solve_untouched(scene: &Scene, bodies: &mut [BodyState])
+pub fn solve_alone(scene: &Scene, bodies: &mut [BodyState], numbers: &[usize])
+    requires numbers { All (λ number. number < length bodies.old) numbers.now }
+    requires order { IsRising 0 numbers.now }
     ensures { bodies.new
-        ≡ map (body_after_tick (gravity_per_tick scene.now.gravity)) bodies.old }
+        ≡ after_tick_alone (gravity_per_tick scene.now.gravity) numbers.now bodies.old }
 {
     let pull = scene.gravity().scale(Fx::TICK);
-    for body in bodies.iter_mut() {
-        solve_untouched_body(pull, body);
+    for number in numbers {
+        solve_untouched_body(pull, &mut bodies[*number]);
     }
 }
 

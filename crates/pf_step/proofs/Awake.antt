@@ -16,7 +16,7 @@ use Rattle.pf_islands.specs.Flags.{ListsAwake}
 use Rattle.pf_islands.specs.Rows.{is_awake_at}
 use Rattle.pf_islands.specs.Split.{Island}
 use Rattle.pf_islands.proofs.Listed.{all_listed, awake_there}
-use Rattle.pf_step.specs.Changes.{BodyChange, bodies_before, change_if, change_of, changes_by_commands, changes_of, changes_of_awake, changes_of_islands, numbers_of}
+use Rattle.pf_step.specs.Changes.{BodyChange, bodies_before, change_if, change_of, changes_by_commands, changes_of, changes_of_islands, numbers_of}
 use Rattle.pf_step.specs.Commands.{after_commands}
 use Rattle.pf_step.specs.Work.{KnowsWorld, Work, moved_bodies}
 use Rattle.pf_step.specs.World.{World}
@@ -81,17 +81,6 @@ noted_number bodies (n ∷ numbers) k within listed =
     by true same all others =
         or_first _ (has_body (numbers_of (changes_of bodies numbers)) k) (own (slice_get bodies n) refl (grind (arith, nat_tests)))
     by false other rest others = or_true (has_body (numbers_of (change_of bodies n)) k) _ (others rest)
-
--- all awake bodies are noted
-pub awake_noted : (bodies : List BodyState) → ListsAwake (numbers_of (changes_of_awake bodies)) bodies
-awake_noted bodies k wakes =
-    let within = awake_there bodies k wakes in
-    noted_number bodies (filter (is_awake_at bodies) (range_with_len 0 (length bodies))) k within
-    (has_body-filter (is_awake_at bodies) (range_with_len 0 (length bodies)) k
-    ∙ ap₂ (λ a b. a && b) wakes (has_body-below (length bodies) k ∙ below (length bodies) within))
-  where
-    below : (n : ℕ) → k < n → nat_lt k n ≡ true
-    below n less = grind (arith, nat_tests)
 
 -- those of islands are noted, where the islands have all awake ones
 pub islands_noted : (bodies : List BodyState) (islands : List Island)

@@ -1,5 +1,5 @@
 -- Bodies before changes.
-use Rattle.std.proofs.Common.{◌≡◌, ◌≢◌, ◌∙◌, ℕ, ◌+◌, ◌<◌, ◌==◌, ◌||◌, Bool, true, false, List, [], ◌∷◌, ◌++◌, Option, Some, None, length, get_or, refl, sym, ap, arith, slice_get, slice_set, append-nil, cond, filter, if◌then◌else◌}
+use Rattle.std.proofs.Common.{◌≡◌, ◌≢◌, ◌∙◌, ℕ, ◌<◌, ◌==◌, ◌||◌, Bool, true, false, List, [], ◌∷◌, ◌++◌, Option, Some, None, length, get_or, refl, sym, ap, arith, slice_get, slice_set}
 use Rattle.std.specs.Prelude.{All}
 use Rattle.std.proofs.lemmas.Bool.Decides.{nat_tests}
 use Rattle.std.proofs.lemmas.Grind.{flat_map-append}
@@ -7,13 +7,11 @@ use Rattle.std.proofs.lemmas.List.{length-set, ext_get_or, get_or-set_same, get_
 use Rattle.std.proofs.lemmas.List.Elements.{All-head, All-tail}
 use Rattle.std.proofs.lemmas.List.Folds.{list_any-append}
 use Rattle.std.proofs.lemmas.Option.{get_or_from_slice_get, slice_get-get_or}
-use Rattle.std.specs.List.{flat_map, list_any, range_with_len}
+use Rattle.std.specs.List.{flat_map, list_any}
 use Rattle.pf_shapes.specs.Body.{BodyState, no_state}
 use Rattle.pf_islands.specs.Island.{has_number}
-use Rattle.pf_islands.specs.Rows.{is_awake_at}
 use Rattle.pf_islands.specs.Split.{Island}
 use Rattle.pf_islands.proofs.Elements.{set_other, set_same}
-use Rattle.pf_islands.proofs.Members.{range_more}
 use Rattle.pf_step.specs.Changes.{BodyChange, bodies_before, change_if, change_of, changes_of, changes_of_islands}
 
 -- changes after others
@@ -108,23 +106,6 @@ pub island_notes_undo_nothing : (changes : List BodyChange) (bodies : List BodyS
 island_notes_undo_nothing changes bodies islands =
     ap (λ cs. bodies_before (changes ++ cs) bodies) (notes_of_all bodies (λ (i : Island). i.numbers) islands)
     ∙ notes_undo_nothing changes bodies (flat_map (λ (i : Island). i.numbers) islands)
-
--- the notes of the awake bodies up to a number
-abbrev pub awake_up_to : List BodyState → ℕ → List BodyChange
-awake_up_to bodies n = changes_of bodies (filter (is_awake_at bodies) (range_with_len 0 n))
-
-pub awake_more : (bodies : List BodyState) (n : ℕ)
-    → awake_up_to bodies (n + 1) ≡ awake_up_to bodies n ++ (if is_awake_at bodies n then change_of bodies n else [])
-awake_more bodies n =
-    let none : 0 + n ≡ n = omega arith in
-    ap (changes_of bodies) (range_more (is_awake_at bodies) 0 n)
-    ∙ ap (λ m. changes_of bodies (filter (is_awake_at bodies) (range_with_len 0 n) ++ cond (is_awake_at bodies m) (m ∷ []) [])) none
-    ∙ flat_map-append (change_of bodies) (filter (is_awake_at bodies) (range_with_len 0 n)) (cond (is_awake_at bodies n) (n ∷ []) [])
-    ∙ ap (λ cs. changes_of bodies (filter (is_awake_at bodies) (range_with_len 0 n)) ++ cs) (by (is_awake_at bodies n))
-  where
-    by : (t : Bool) → changes_of bodies (cond t (n ∷ []) []) ≡ (if t then change_of bodies n else [])
-    by true = append-nil (change_of bodies n)
-    by false = refl
 
 -- a number of islands
 pub number_of_all : (islands : List Island) (j : ℕ)

@@ -44,7 +44,7 @@ use Rattle.pf_step.specs.Changes.{bodies_before, changes_of_islands}
 use Rattle.pf_step.proofs.Changing.{noted_before, notes_of_all, number_of_all}
 
 -- a test of mapped elements
-any_mapped : {X Y : Type 0} (p : Y → Bool) (f : X → Y) (xs : List X) → list_any p (map f xs) ≡ list_any (λ x. p (f x)) xs
+pub any_mapped : {X Y : Type 0} (p : Y → Bool) (f : X → Y) (xs : List X) → list_any p (map f xs) ≡ list_any (λ x. p (f x)) xs
 any_mapped p f [] = refl
 any_mapped p f (x ∷ xs) = ap (λ t. p (f x) || t) (any_mapped p f xs)
 
@@ -53,26 +53,26 @@ module _ (s : Scene) (before : List Contact) (commanded : List BodyState) (count
   abbrev w : World
   w = record { bodies = commanded; contacts = before }
 
-  abbrev points : List Touch
+  abbrev pub points : List Touch
   points = touches_of_scene s commanded
 
-  abbrev labels : List ℕ
+  abbrev pub labels : List ℕ
   labels = labels_of_bodies s commanded
 
-  abbrev batch : Batch
+  abbrev pub batch : Batch
   batch = batch_of_bodies s before commanded
 
-  abbrev contacts : List Contact
+  abbrev pub contacts : List Contact
   contacts = contacts_of_bodies s before commanded
 
-  abbrev after : Batch
+  abbrev pub after : Batch
   after = solved_batch s batch.bodies batch.rows
 
-  abbrev found : List Island
+  abbrev pub found : List Island
   found = islands_of_bodies s before commanded
 
   -- the islands of the tick after it
-  abbrev ended : List Island
+  abbrev pub ended : List Island
   ended = map (island_after_tick s) found
 
   pub awake_long : length batch.bodies ≡ length s.fixtures
@@ -81,7 +81,7 @@ module _ (s : Scene) (before : List Contact) (commanded : List BodyState) (count
   are_woken : AreWoken labels batch.bodies
   are_woken = groups_woken s points commanded count
 
-  are_active : All (IsActiveRow labels batch.bodies) batch.rows
+  pub are_active : All (IsActiveRow labels batch.bodies) batch.rows
   are_active =
       rows_are_active s points batch.bodies contacts awake_long
       (subst (λ n. All (IsTouchOf n) points) (count ∙ sym awake_long) (points_of_bodies s commanded count))
@@ -117,7 +117,7 @@ module _ (s : Scene) (before : List Contact) (commanded : List BodyState) (count
       (chosen_pass (is_active_label labels batch.bodies) (range_with_len 0 (length labels)) k d within)))
 
   -- a group that is simulated has an awake body after the commands
-  active_group : (name : ℕ) → name < length s.fixtures → is_active_label labels batch.bodies name ≡ true
+  pub active_group : (name : ℕ) → name < length s.fixtures → is_active_label labels batch.bodies name ≡ true
       → is_active labels commanded name ≡ true
   active_group name within active =
       let parts = and_parts (get_or labels name 0 == name) (is_awake_at batch.bodies name) active in
@@ -125,21 +125,21 @@ module _ (s : Scene) (before : List Contact) (commanded : List BodyState) (count
       ∙ sym (woken_at s points commanded count name within) ∙ parts.1
 
   -- the states of the world after the tick
-  states_ended : All (λ (i : Island). i.bodies ≡ states_of i.numbers (world_after s before commanded).bodies) ended
+  pub states_ended : All (λ (i : Island). i.bodies ≡ states_of i.numbers (world_after s before commanded).bodies) ended
   unfolding step after_commands
   states_ended =
       all_ended (λ (i : Island). i.bodies ≡ states_of i.numbers (world_after s before commanded).bodies)
       (λ name within active. sym (group_after s w [] name count (active_group name within active)))
 
   -- and the rows of the one list
-  rows_ended : All (λ (i : Island). i.rows ≡ rows_among i.numbers after.rows) ended
+  pub rows_ended : All (λ (i : Island). i.rows ≡ rows_among i.numbers after.rows) ended
   unfolding after_commands
   rows_ended =
       all_ended (λ (i : Island). i.rows ≡ rows_among i.numbers after.rows)
       (λ name within active. ap (λ (b : Batch). b.rows) (groups_alone s w [] name count))
 
   -- each of these rows is of an island
-  rows_are_ended : All (λ r. list_any (λ (i : Island). touches_one i.numbers r) ended ≡ true) after.rows
+  pub rows_are_ended : All (λ r. list_any (λ (i : Island). touches_one i.numbers r) ended ≡ true) after.rows
   rows_are_ended =
       solved_sides s batch.bodies batch.rows
       (λ first second. list_any (λ (i : Island). is_among i.numbers first || is_among i.numbers second) ended ≡ true)
@@ -228,17 +228,6 @@ module _ (s : Scene) (before : List Contact) (commanded : List BodyState) (count
         joined_contacts_are after.rows ended contacts
             (subst AreTouches (sym (solved_touches s batch.bodies batch.rows)) rows) rows_ended rows_are_ended,
       )
-
-  -- undoing what was noted of the islands gives the bodies after the commands
-  pub islands_before : bodies_before (changes_of_islands commanded found) (world_after s before commanded).bodies ≡ commanded
-  islands_before =
-      let final = (world_after s before commanded).bodies in
-      let numbers = flat_map (λ (i : Island). i.numbers) found in
-      ap (λ cs. bodies_before cs final) (notes_of_all commanded (λ (i : Island). i.numbers) found)
-      ∙ noted_before commanded final (world_after_length s before commanded count ∙ sym count) numbers
-      (λ j within none.
-      sym (others_stay j (omega (arith, within, count))
-      (any_mapped (λ (i : Island). has_number i.numbers j) (island_after_tick s) found ∙ sym (number_of_all found j) ∙ none)))
 
   -- the islands have all awake bodies
   pub islands_have_awake : (j : ℕ) → j < length commanded → is_awake_at commanded j ≡ true

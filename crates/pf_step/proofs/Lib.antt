@@ -17,6 +17,7 @@ pub mod Alone
 pub mod AloneContacts
 pub mod Restored
 pub mod Joined
-pub mod Untouched
 pub mod Following
 pub mod Awake
+pub mod Parted
+pub mod Calling

@@ -1,6 +1,6 @@
 -- What a step changed in a world, so that the world before the step can be restored.
-use Rattle.std.specs.Prelude.{◌≡◌, ℕ, ◌<◌, List, [], ◌∷◌, ◌++◌, All, true, map, Option, Some, None, filter, length, slice_get, slice_set}
-use Rattle.std.specs.List.{flat_map, range_with_len}
+use Rattle.std.specs.Prelude.{◌≡◌, ℕ, ◌<◌, List, [], ◌∷◌, ◌++◌, All, true, map, Option, Some, None, slice_get, slice_set}
+use Rattle.std.specs.List.{flat_map}
 use Rattle.pf_shapes.specs.Body.{BodyState}
 use Rattle.pf_manifold.specs.Key.{key_of, rank}
 use Rattle.pf_rows.specs.Row.{Row}
@@ -8,7 +8,6 @@ use Rattle.pf_cache.specs.Contact.{Contact}
 use Rattle.pf_cache.specs.ContactsChange.{ContactsChange, contacts_before, may_change}
 use Rattle.pf_commands.specs.declared.payload.Payload.{Payload}
 use Rattle.pf_commands.specs.Payload.{body_of}
-use Rattle.pf_islands.specs.Rows.{is_awake_at}
 use Rattle.pf_islands.specs.Split.{Island}
 use Rattle.pf_step.specs.World.{World}
 
@@ -64,11 +63,6 @@ changes_by_commands bodies payloads = flat_map (λ p. change_of bodies (body_of 
 -- the bodies of islands
 abbrev pub changes_of_islands : List BodyState → List Island → List BodyChange
 changes_of_islands bodies islands = flat_map (λ i. changes_of bodies i.numbers) islands
-
--- the awake bodies
-abbrev pub changes_of_awake : List BodyState → List BodyChange
-changes_of_awake bodies =
-    changes_of bodies (filter (is_awake_at bodies) (range_with_len 0 (length bodies)))
 
 -- the impulses of the contacts of these rows may change, so that the contacts before can still be
 -- restored

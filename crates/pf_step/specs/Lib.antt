@@ -5,6 +5,7 @@ pub mod WorldLaws
 pub mod Commands
 pub mod Step
 pub mod Changes
+pub mod Crew
 pub mod Stepping
 pub mod Simulation
 pub mod Activity

@@ -141,7 +141,7 @@ impl Changes {
     ghost use Rattle.pf_cache.specs.Contact.{HaveSameFirst, next_contacts};
     ghost use Rattle.pf_cache.specs.ContactRows.{AreRowsAt};
     ghost use Rattle.pf_cache.specs.ContactsChange.{contacts_before, no_contacts_before};
-    ghost use Rattle.pf_step.specs.Changes.{bodies_before, changes_by_commands, changes_of_awake, changes_of_islands, MayChange};
+    ghost use Rattle.pf_step.specs.Changes.{bodies_before, changes_by_commands, changes_of, changes_of_islands, MayChange};
 
     /// No changes of a world without contacts. Takes no memory.
     pub(crate) fn new(alloc: Global) -> Changes
@@ -204,20 +204,21 @@ impl Changes {
         Ok(())
     }
 
-    /// Notes the awake bodies. After an error some of them may be noted.
-    pub(crate) fn note_awake(&mut self, bodies: &[BodyState]) -> Result<(), AllocError>
+    /// Notes the bodies of these numbers. After an error some of them may be noted.
+    pub(crate) fn note_bodies(
+        &mut self,
+        bodies: &[BodyState],
+        numbers: &[usize],
+    ) -> Result<(), AllocError>
         ensures noted { OnOk result
-            (self.new.bodies ≡ self.old.bodies ++ changes_of_awake bodies.now) }
+            (self.new.bodies ≡ self.old.bodies ++ changes_of bodies.now numbers.now) }
+        ensures contacts { self.new.contacts ≡ self.old.contacts }
         ensures same { bodies_before self.new.bodies bodies.now
             ≡ bodies_before self.old.bodies bodies.now }
         ensures no_memory { bodies.now ≡ [] → IsOk result }
     {
-        for (number, body) in bodies.iter().enumerate() {
-            if body.awake {
-                note(&mut self.bodies, bodies, number)?;
-            }
-        }
-        Ok(())
+        make_room(&mut self.bodies, bodies, numbers.len())?;
+        note_all(&mut self.bodies, bodies, numbers)
     }
 
     /// Makes of the contacts of the last tick those of these points, and keeps what that changes.

@@ -5,7 +5,7 @@ ghost use Rattle.pf_islands.specs.Split.{IsIslandOf};
 ghost use Rattle.pf_solver.specs.Alone.{island_after_tick};
 
 use pf_batches::solve_islands;
-use pf_islands::Island;
+use pf_islands::{Island, LoneBodies};
 use pf_manifold::OneThread;
 use pf_shapes::Scene;
 use std::alloc::{AllocError, AllocFailed};
@@ -41,9 +41,11 @@ pub enum StepError {
 
 /// Solves the islands of a tick, in whatever order and with whatever threads.
 pub trait Crew {
-    ghost use Rattle.std.specs.Prelude.{◌≡◌, ⊤, List, All, IfErr, IfOk, IsTrue, OnOk, map};
+    ghost use Rattle.std.specs.Prelude.{◌≡◌, ⊤, List, All, IfErr, IfOk, OnOk, map};
     ghost use Rattle.pf_islands.specs.Split.{Island, IsIslandOf};
     ghost use Rattle.pf_solver.specs.Alone.{island_after_tick};
+    ghost use Rattle.pf_islands.specs.declared.splitting.LoneBodies.TheVariants.{AreListed};
+    ghost use Rattle.pf_step.specs.Crew.{IgnoresIslands};
     ghost use Rattle.pf_step.specs.declared.crew.CrewError.{CrewError};
 
     /// What a call that solved these islands does to the crew itself. By default it says nothing.
@@ -62,13 +64,13 @@ pub trait Crew {
         ensures called { OnOk result (is_called self.old islands.items self.new) }
         ensures failed { IfErr result (λ error. may_fail self.old islands.items error self.new) };
 
-    /// Whether the step may advance the bodies itself, without a call, in a tick where nothing
-    /// touches. By default it may not.
-    fn skips_untouched(&self) -> bool
-        ensures { IsTrue result
-            → (islands : List Island) → is_called self.now islands self.now }
+    /// Whether the step may advance bodies that nothing touches by itself. Then the crew is called
+    /// with the islands that have contacts, and not at all where there are none. By default it may
+    /// not: each lone body is an island.
+    fn lone_bodies(&self) -> LoneBodies
+        ensures { result ≡ AreListed → IgnoresIslands is_called may_fail self.now }
     {
-        false
+        LoneBodies::AreIslands
     }
 }
 
@@ -92,8 +94,8 @@ impl Crew for OneThread {
         Ok(islands)
     }
 
-    fn skips_untouched(&self) -> bool {
-        true
+    fn lone_bodies(&self) -> LoneBodies {
+        LoneBodies::AreListed
     }
 }
 

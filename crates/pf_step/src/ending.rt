@@ -1,28 +1,32 @@
 //! A tick from its contact points on.
 
-ghost use Rattle.std.specs.Prelude.{◌≡◌, ◌≢◌, ◌<◌, ◌++◌, [], Err, All, IfOk, IsOk, OnOk, length, map};
-ghost use Rattle.pf_manifold.specs.Key.{AreTouches, key_of};
+ghost use Rattle.std.specs.Prelude.{◌≡◌, ◌≢◌, ◌<◌, ◌++◌, [], Err, All, IfErr, IfOk, IsOk, List, OnOk, length, map};
+ghost use Rattle.pf_manifold.specs.Key.{AreTouches, IsRising, key_of};
 ghost use Rattle.pf_manifold.specs.Touches.{IsTouchOf};
 ghost use Rattle.pf_cache.specs.Contact.{HaveSameFirst};
 ghost use Rattle.pf_cache.specs.ContactsChange.{contacts_before};
 ghost use Rattle.pf_cache.specs.Manifolds.{kept_touches};
 ghost use Rattle.pf_cache.specs.Spans.{AreListedPlaces};
 ghost use Rattle.pf_islands.specs.Flags.{ListsAwake};
-ghost use Rattle.pf_islands.specs.Split.{IsIslandOf};
+ghost use Rattle.pf_islands.specs.declared.splitting.LoneBodies.TheVariants.{AreListed};
+ghost use Rattle.pf_islands.specs.Lone.{lone_bodies, made_islands};
+ghost use Rattle.pf_islands.specs.Split.{IsIslandOf, Island};
+ghost use Rattle.pf_solver.specs.Alone.{island_after_tick};
+ghost use Rattle.pf_step.specs.Crew.{IgnoresIslands};
 ghost use Rattle.pf_step.specs.declared.crew.StepError.TheVariants.{OutOfMemory};
 ghost use Rattle.pf_step.specs.Activity.{islands_of_bodies, islands_with};
-ghost use Rattle.pf_step.specs.Changes.{bodies_before, changes_of_islands, numbers_of, MayChange};
+ghost use Rattle.pf_step.specs.Changes.{bodies_before, changes_of, changes_of_islands, numbers_of, MayChange};
 ghost use Rattle.pf_step.specs.Stepping.{CallsCrew, IsEnding};
 ghost use Rattle.pf_step.specs.Step.{touches_of_scene};
 
 use crate::changes::Changes;
-use crate::crew::{Crew, StepError};
+use crate::crew::{Crew, CrewError, StepError};
 use crate::work::Work;
 use crate::world::World;
 use pf_cache::FoundCollisions;
-use pf_islands::{AwakeSearch, Island, join_back, wake_and_split};
+use pf_islands::{AwakeSearch, Island, LoneBodies, Parts, join_back, wake_and_split};
 use pf_shapes::Scene;
-use pf_solver::solve_untouched;
+use pf_solver::solve_alone;
 use std::alloc::{AllocError, Global};
 
 /// Whether contacts may stay where they are, where so many of the bodies may have moved: not where
@@ -32,7 +36,7 @@ fn may_stay(moved: usize, bodies: usize) -> bool {
 }
 
 /// The islands of a tick in the world after its phases Commands and Points, whose contacts are
-/// already those of the tick. Awake bodies are looked for among those that may have moved, which
+/// already those of the tick, and the awake bodies that are in none. Awake bodies are looked for among those that may have moved, which
 /// `work` lists, and contacts among those of their pairs. Notes the bodies and impulses of the
 /// islands, and then lists all noted bodies as those that may have moved. After an error some of
 /// them may be noted.
@@ -44,7 +48,8 @@ fn prepare(
     found: &FoundCollisions,
     work: &mut Work,
     changes: &mut Changes,
-) -> Result<Vec<Island>, AllocError>
+    lone: LoneBodies,
+) -> Result<Parts, AllocError>
     requires bodies { length world.now.bodies ≡ length scene.now.fixtures }
     requires points { kept_touches found.now.collisions.manifolds
         ≡ touches_of_scene scene.now world.now.bodies }
@@ -57,15 +62,22 @@ fn prepare(
         × ListsAwake work.old.moved world.now.bodies }
     requires places { AreListedPlaces work.old.moved found.now.collisions.manifolds.pairs
         found.now.moved_places.items }
-    ensures islands { IfOk result (λ islands. islands.items
-        ≡ islands_with scene.now world.now.contacts world.now.bodies) }
-    ensures fit { IfOk result (λ islands. All (IsIslandOf scene.now) islands.items) }
-    ensures noted { OnOk result (changes.new.bodies ≡ changes.old.bodies
-        ++ changes_of_islands world.now.bodies
-        (islands_with scene.now world.now.contacts world.now.bodies)) }
+    ensures islands { IfOk result (λ parts. parts.islands.items
+        ≡ made_islands lone (islands_with scene.now world.now.contacts world.now.bodies)) }
+    ensures alone { IfOk result (λ parts. parts.alone.items
+        ≡ lone_bodies lone (islands_with scene.now world.now.contacts world.now.bodies)) }
+    ensures fit { IfOk result (λ parts. All (IsIslandOf scene.now) parts.islands.items) }
+    ensures order { IfOk result (λ parts. IsRising 0 parts.alone.items) }
+    ensures there { IfOk result
+        (λ parts. All (λ number. number < length world.now.bodies) parts.alone.items) }
+    ensures noted { OnOk result (
+        let islands = islands_with scene.now world.now.contacts world.now.bodies in
+        changes.new.bodies ≡ changes.old.bodies
+        ++ changes_of_islands world.now.bodies (made_islands lone islands)
+        ++ changes_of world.now.bodies (lone_bodies lone islands)) }
     ensures impulses { OnOk result
         (All (λ i. MayChange changes.new.contacts i.rows)
-        (islands_with scene.now world.now.contacts world.now.bodies)) }
+        (made_islands lone (islands_with scene.now world.now.contacts world.now.bodies))) }
     ensures same { bodies_before changes.new.bodies world.now.bodies
         ≡ bodies_before changes.old.bodies world.now.bodies }
     ensures same_contacts { contacts_before changes.new.contacts world.now.contacts
@@ -80,7 +92,7 @@ fn prepare(
         pair_places: &found.moved_places,
     };
     let collisions = &found.collisions;
-    let islands = wake_and_split(
+    let parts = wake_and_split(
         alloc,
         spare,
         scene,
@@ -88,40 +100,43 @@ fn prepare(
         &collisions.manifolds,
         world.contacts.as_slice(),
         &search,
+        lone,
     )?;
-    changes.note_islands(&world.bodies, &islands)?;
-    changes.note_impulses(&world.contacts, &islands)?;
+    changes.note_islands(&world.bodies, &parts.islands)?;
+    changes.note_bodies(&world.bodies, &parts.alone)?;
+    changes.note_impulses(&world.contacts, &parts.islands)?;
     work.set_moved(changes.bodies())?;
-    Ok(islands)
+    Ok(parts)
 }
 
-/// The end of a tick without contact points: each body is simulated on its own.
-fn finish_untouched(
+/// Has the islands of a tick solved by a call of the crew, or without one where there are none and
+/// the crew allows that. `lone` says which islands were made of all.
+fn solve_by<C: Crew>(
+    crew: &mut C,
     scene: &Scene,
-    world: &mut World,
-    work: &mut Work,
-    changes: &mut Changes,
-) -> Result<(), AllocError>
-    requires bodies { length world.old.bodies ≡ length scene.now.fixtures }
-    requires untouched { touches_of_scene scene.now world.old.bodies ≡ [] }
-    ensures ending { IsEnding scene.now world.old changes.old.bodies world.new changes.new result }
-    ensures awake { OnOk result (ListsAwake (numbers_of changes.new.bodies) world.new.bodies) }
-    ensures moved { OnOk result (work.new.moved ≡ numbers_of changes.new.bodies) }
-    ensures work { work.new ≡ record work.old { moved = work.new.moved } }
-    ensures no_memory { world.old.bodies ≡ [] → changes.old.bodies ≡ [] → IsOk result }
+    islands: Vec<Island>,
+    lone: LoneBodies,
+) -> Result<Vec<Island>, CrewError>
+    requires fit { All (IsIslandOf scene.now) islands.items }
+    requires ignores { lone ≡ AreListed → IgnoresIslands C.is_called C.may_fail crew.old }
+    ensures solved { IfOk result
+        (λ solved. solved.items ≡ map (island_after_tick scene.now) islands.items) }
+    ensures called { (all : List Island) → islands.items ≡ made_islands lone all
+        → OnOk result (C.is_called crew.old all crew.new) }
+    ensures failed { (all : List Island) → islands.items ≡ made_islands lone all
+        → IfErr result (λ error. C.may_fail crew.old all error crew.new) }
 {
-    changes.note_awake(&world.bodies)?;
-    work.set_moved(changes.bodies())?;
-    changes.update_contacts(&mut world.contacts, &[], 0, false)?;
-    solve_untouched(scene, &mut world.bodies);
-    Ok(())
+    if islands.is_empty() && lone == LoneBodies::AreListed {
+        return Ok(islands);
+    }
+    crew.solve(scene, islands)
 }
 
 /// A tick from its contact points on, in the world after its commands. `found` is what the narrow
 /// phase found for its bodies, and the first `known` contacts have the keys of the first points
-/// found. Makes its islands, has them solved by one call of the crew, and puts them back; where
-/// nothing touches, a crew that allows it is not called. Notes what changes, and lists these bodies
-/// as those that may have moved. An error leaves the world as it is. Takes no memory of its own
+/// found. Makes its islands, has them solved by one call of the crew, and puts them back; where the
+/// crew allows it, bodies that nothing touches are in none of them and go through the tick in their
+/// place. Notes what changes, and lists these bodies as those that may have moved. An error leaves the world as it is. Takes no memory of its own
 /// where there are no bodies.
 pub(crate) fn finish<C: Crew>(
     alloc: Global,
@@ -154,26 +169,24 @@ pub(crate) fn finish<C: Crew>(
         → result ≢ Err OutOfMemory }
 {
     let touches = found.collisions.manifolds.touches();
-    if touches.is_empty() && crew.skips_untouched() {
-        finish_untouched(scene, world, work, changes)?;
-        return Ok(());
-    }
+    let lone = crew.lone_bodies();
     let may_stay = may_stay(work.moved().len(), world.bodies.as_slice().len());
     changes.update_contacts(&mut world.contacts, touches, known, may_stay)?;
-    let islands = match prepare(alloc, scene, world, found, work, changes) {
-        Ok(islands) => islands,
+    let Parts { islands, alone } = match prepare(alloc, scene, world, found, work, changes, lone) {
+        Ok(parts) => parts,
         Err(error) => {
             changes.undo_contacts(alloc, &mut world.contacts);
             return Err(StepError::from(error));
         }
     };
-    let solved = match crew.solve(scene, islands) {
+    let solved = match solve_by(crew, scene, islands, lone) {
         Ok(solved) => solved,
         Err(error) => {
             changes.undo_contacts(alloc, &mut world.contacts);
             return Err(StepError::Crew(error));
         }
     };
+    solve_alone(scene, &mut world.bodies, &alone);
     join_back(&solved, &mut world.bodies, &mut world.contacts);
     work.keep_islands(solved);
     Ok(())

@@ -62,7 +62,8 @@ fn find_collisions<P: Collider>(
 /// Makes of a world the one that is one tick of 1/64 s later, with the payloads of the tick's
 /// commands in order of player, then number, and returns what changed. The world has one state for
 /// each body of the scene. The collider computes contact points. The crew is called once, with the
-/// islands of the tick, or not at all where nothing touches and the crew allows that. Counts in
+/// islands of the tick; where it allows that, with those alone that have contacts, and not at all
+/// where there are none. Counts in
 /// `work` the tick and the pairs that cannot reuse kept points, and leaves the points there, with
 /// the bodies that may have moved since. An error leaves the world as it was; then no points are
 /// kept, and nothing is counted. Takes no memory of its own where there are no bodies.
@@ -201,8 +202,7 @@ pub fn step_alone(
     step_copy(&OneThread, alloc, scene, world, payloads, work, &mut alone)
 }
 
-/// As [`step_alone`], with a crew, which is called once with the islands of the tick, or not at all
-/// where nothing touches and the crew allows that. If [`pf_manifold::PAIRS_FOR_THREADS`] pairs or
+/// As [`step_alone`], with a crew, which is called as by [`step_next`]. If [`pf_manifold::PAIRS_FOR_THREADS`] pairs or
 /// more cannot reuse kept points, several threads compute the points.
 pub fn step_with<R: Threads + Sync, C: Crew>(
     rt: &R,
@@ -229,7 +229,7 @@ pub fn step_with<R: Threads + Sync, C: Crew>(
     )
 }
 
-/// [`step_by`] on one thread, without a runtime. Where nothing touches, no islands are made.
+/// [`step_by`] on one thread, without a runtime. Bodies that nothing touches are in no islands.
 pub fn step_on_one_thread(
     alloc: Global,
     scene: &Scene,

@@ -5,7 +5,7 @@ ghost use Rattle.std.specs.Prelude.{◌≡◌, length};
 
 use crate::scenes::scene_of;
 use pf_cache::Manifolds;
-use pf_islands::{Island, split};
+use pf_islands::{Island, LoneBodies, split};
 use pf_manifold::OneThread;
 use pf_shapes::Scene;
 use pf_solver::Solve;
@@ -28,7 +28,9 @@ fn motion_of(island: &Island) -> [i64; 2] {
 /// The same of the only body of a scene, after a tick of its island.
 fn motion_after_tick(alloc: Global, scene: &Scene) -> Result<[i64; 2], AllocError> {
     let none = Manifolds::new(alloc);
-    let mut islands = split(alloc, Vec::new(alloc), scene, scene.starts(), &none, &[])?;
+    let lone = LoneBodies::AreIslands;
+    let parts = split(alloc, Vec::new(alloc), scene, scene.starts(), &none, &[], lone)?;
+    let mut islands = parts.islands;
     match islands.pop() {
         Some(island) => Ok(motion_of(&island.solve(scene))),
         None => Ok([0, 0]),

@@ -96,10 +96,9 @@ impl PeerCore {
         }
     }
 
-    /// As [`PeerCore::settle_alone`], with a crew, which is called once for each tick, with its
-    /// islands, or not at all in a tick where nothing touches, if the crew allows that. If
-    /// [`pf_manifold::PAIRS_FOR_THREADS`] pairs or more cannot reuse kept points, several threads
-    /// compute the points.
+    /// As [`PeerCore::settle_alone`], with a crew, which each tick calls as
+    /// [`pf_step::step_next`] does. If [`pf_manifold::PAIRS_FOR_THREADS`] pairs or more cannot reuse
+    /// kept points, several threads compute the points.
     pub fn settle_with<R: Threads + Sync, C: Crew>(
         &mut self,
         rt: &R,

@@ -9,7 +9,7 @@ use Rattle.pf_islands.specs.Settled.{active_places}
 use Rattle.pf_islands.proofs.ActiveRows.{places_within}
 use Rattle.pf_islands.proofs.ActiveSpans.{ends_inside, few_places, has_room, no_points, not_active, pair_within, places_added, places_of_spans, places_same, spans_have_places}
 use Rattle.pf_islands.proofs.Listed.{LeadTo, all_made, from_first, place_low, to_here, to_next}
-use Rattle.pf_islands.proofs.active.active_of.Goals.{then-span-gt0+then-is_active_by, else-span-gt0, else-span-gt0-via-then-span-gt0+else-is_active_by, else-span-gt0-via-else-span-gt0}
+use Rattle.pf_islands.proofs.active.active_of.Goals.{After-loop-place, then-span-gt0+then-is_active_by, else-span-gt0, else-span-gt0-via-then-span-gt0+else-is_active_by, else-span-gt0-via-else-span-gt0}
 use Rattle.pf_islands.proofs.active.active_of.Goals as goal
 
 pub loop-place-init : goal.loop-place-init
@@ -126,7 +126,7 @@ loop-place-preserved c =
     }
 
 -- all places are made
-made : (c : goal.After-loop-place) → length c.args.search.now.pair_places.now ≤ c.loop-place.place-index
+made : (c : After-loop-place) → length c.args.search.now.pair_places.now ≤ c.loop-place.place-index
     → c.loop-place.places.items ≡ active_places c.args.scene.now c.args.bodies.now c.args.touches.now
 made c over =
     let listed = c.args.search.now in
@@ -135,9 +135,9 @@ made c over =
     c.loop-place.place-index over c.loop-place.invariant.made
 
 pub returns-clause-places : goal.returns-clause-places
-returns-clause-places c = made c c.loop-place-test.false
+returns-clause-places c = made (goal.at.returns-clause-places c).After-loop-place c.loop-place-test.false
 
 pub returns-clause-within : goal.returns-clause-within
 returns-clause-within c =
-    subst (All (λ place. place < length c.args.touches.now)) (sym (made c c.loop-place-test.false))
+    subst (All (λ place. place < length c.args.touches.now)) (sym (made (goal.at.returns-clause-within c).After-loop-place c.loop-place-test.false))
     (places_within c.args.scene.now c.args.bodies.now c.args.touches.now [])

@@ -3,6 +3,7 @@ use Rattle.std.proofs.lemmas.List.{get_or_read}
 use Rattle.pf_shapes.specs.Body.{no_state}
 use Rattle.pf_islands.specs.Dealing.{with_body}
 use Rattle.pf_islands.specs.Split.{Island, no_island}
+use Rattle.pf_islands.specs.Lone.{only_awake}
 use Rattle.pf_islands.specs.Rows.{is_awake_at}
 use Rattle.pf_islands.proofs.AwakeNumbers.{AreDealt, dealt_asleep}
 use Rattle.pf_islands.proofs.Dealing.{dealt_more, first_part, island_at, placed_more, slot_within}
@@ -13,54 +14,55 @@ use Rattle.pf_islands.proofs.splitting.deal_bodies.Goals as goal
 pub loop-number-init : goal.loop-number-init
 loop-number-init c =
     let labels = c.args.labels.now in
-    let bodies = c.args.bodies.now in
+    let bodies = (only_awake c.args.numbers.now c.args.bodies.now) in
     record {
       dealt = at_first (is_awake_at bodies) (length bodies) c.args.numbers.now c.requires.numbers (AreDealt labels bodies c.args.islands.now c.args.places.now)
           (λ j below asleep h.
-          dealt_asleep labels bodies _ _ j (omega (arith, below, c.requires.bodies)) c.requires.woken_bodies asleep h)
+          dealt_asleep labels bodies _ _ j (omega (arith, below, c.requires.seen)) c.requires.woken_bodies asleep h)
           (record { parts = c.requires.empty; noted = λ i below. absurd (omega (arith, below)) });
       long = c.requires.places;
     }
 
 pub offset_bounds-labels-number : goal.offset_bounds-labels-number
 offset_bounds-labels-number c =
-    let low = number_low (is_awake_at c.args.bodies.now) (length c.args.bodies.now) c.args.numbers.now c.requires.numbers c.loop-number.number-index 0 c.loop-number-test.true in
-    search (rules, low, c.requires.bodies)
+    let low = number_low (is_awake_at (only_awake c.args.numbers.now c.args.bodies.now)) (length (only_awake c.args.numbers.now c.args.bodies.now)) c.args.numbers.now c.requires.numbers c.loop-number.number-index 0 c.loop-number-test.true in
+    search (rules, low, c.requires.seen)
 
 pub bounds-labels-number : goal.bounds-labels-number
 bounds-labels-number c =
-    let low = number_low (is_awake_at c.args.bodies.now) (length c.args.bodies.now) c.args.numbers.now c.requires.numbers c.loop-number.number-index 0 c.loop-number-test.true in
-    omega (arith, low, c.requires.bodies)
+    let low = number_low (is_awake_at (only_awake c.args.numbers.now c.args.bodies.now)) (length (only_awake c.args.numbers.now c.args.bodies.now)) c.args.numbers.now c.requires.numbers c.loop-number.number-index 0 c.loop-number-test.true in
+    omega (arith, low, c.requires.seen)
 
 pub offset_bounds-bodies-number : goal.offset_bounds-bodies-number
 offset_bounds-bodies-number c =
-    let low = number_low (is_awake_at c.args.bodies.now) (length c.args.bodies.now) c.args.numbers.now c.requires.numbers c.loop-number.number-index 0 c.loop-number-test.true in
-    search (rules, low)
+    let low = number_low (is_awake_at (only_awake c.args.numbers.now c.args.bodies.now)) (length (only_awake c.args.numbers.now c.args.bodies.now)) c.args.numbers.now c.requires.numbers c.loop-number.number-index 0 c.loop-number-test.true in
+    search (rules, low, c.requires.seen, c.requires.bodies)
 
 pub bounds-bodies-number : goal.bounds-bodies-number
 bounds-bodies-number c =
-    number_low (is_awake_at c.args.bodies.now) (length c.args.bodies.now) c.args.numbers.now c.requires.numbers c.loop-number.number-index 0 c.loop-number-test.true
+    let low = number_low (is_awake_at (only_awake c.args.numbers.now c.args.bodies.now)) (length (only_awake c.args.numbers.now c.args.bodies.now)) c.args.numbers.now c.requires.numbers c.loop-number.number-index 0 c.loop-number-test.true in
+    omega (arith, low, c.requires.seen, c.requires.bodies)
 
 pub offset_bounds-places-number : goal.offset_bounds-places-number
 offset_bounds-places-number c =
-    let low = number_low (is_awake_at c.args.bodies.now) (length c.args.bodies.now) c.args.numbers.now c.requires.numbers c.loop-number.number-index 0 c.loop-number-test.true in
-    search (rules, low, c.requires.bodies)
+    let low = number_low (is_awake_at (only_awake c.args.numbers.now c.args.bodies.now)) (length (only_awake c.args.numbers.now c.args.bodies.now)) c.args.numbers.now c.requires.numbers c.loop-number.number-index 0 c.loop-number-test.true in
+    search (rules, low, c.requires.seen)
 
 pub bounds-places-number : goal.bounds-places-number
 bounds-places-number c =
-    let low = number_low (is_awake_at c.args.bodies.now) (length c.args.bodies.now) c.args.numbers.now c.requires.numbers c.loop-number.number-index 0 c.loop-number-test.true in
-    omega (arith, low, c.requires.bodies, c.loop-number.invariant.long)
+    let low = number_low (is_awake_at (only_awake c.args.numbers.now c.args.bodies.now)) (length (only_awake c.args.numbers.now c.args.bodies.now)) c.args.numbers.now c.requires.numbers c.loop-number.number-index 0 c.loop-number-test.true in
+    omega (arith, low, c.requires.seen, c.loop-number.invariant.long)
 
 pub overflow_cast-places : goal.overflow_cast-places
 overflow_cast-places c =
     let labels = c.args.labels.now in
-    let bodies = c.args.bodies.now in
+    let bodies = (only_awake c.args.numbers.now c.args.bodies.now) in
     let numbers = c.args.numbers.now in
     let i = c.loop-number.number-index in
     let k = get_or numbers i 0 in
     let test = c.loop-number-test.true in
     let low = number_low (is_awake_at bodies) (length bodies) numbers c.requires.numbers i 0 test in
-    let inside : k < length labels = omega (arith, low, c.requires.bodies) in
+    let inside : k < length labels = omega (arith, low, c.requires.seen) in
     let label = get_or labels k 0 in
     let labelled = c.requires.labelled k 0 inside in
     let active = c.requires.woken_bodies.active k inside (number_chosen (is_awake_at bodies) (length bodies) numbers c.requires.numbers i 0 test) in
@@ -76,13 +78,13 @@ overflow_cast-places c =
 pub add_body-requires : goal.add_body-requires
 add_body-requires c =
     let labels = c.args.labels.now in
-    let bodies = c.args.bodies.now in
+    let bodies = (only_awake c.args.numbers.now c.args.bodies.now) in
     let numbers = c.args.numbers.now in
     let i = c.loop-number.number-index in
     let k = get_or numbers i 0 in
     let test = c.loop-number-test.true in
     let low = number_low (is_awake_at bodies) (length bodies) numbers c.requires.numbers i 0 test in
-    let inside : k < length labels = omega (arith, low, c.requires.bodies) in
+    let inside : k < length labels = omega (arith, low, c.requires.seen) in
     let label = get_or labels k 0 in
     let labelled = c.requires.labelled k 0 inside in
     let active = c.requires.woken_bodies.active k inside (number_chosen (is_awake_at bodies) (length bodies) numbers c.requires.numbers i 0 test) in
@@ -95,14 +97,14 @@ add_body-requires c =
 pub loop-number-preserved : goal.loop-number-preserved
 loop-number-preserved c =
     let labels = c.args.labels.now in
-    let bodies = c.args.bodies.now in
+    let bodies = (only_awake c.args.numbers.now c.args.bodies.now) in
     let numbers = c.args.numbers.now in
     let i = c.loop-number.number-index in
     let k = get_or numbers i 0 in
     let test = c.loop-number-test.true in
     let low = number_low (is_awake_at bodies) (length bodies) numbers c.requires.numbers i 0 test in
     let awake = number_chosen (is_awake_at bodies) (length bodies) numbers c.requires.numbers i 0 test in
-    let inside : k < length labels = omega (arith, low, c.requires.bodies) in
+    let inside : k < length labels = omega (arith, low, c.requires.seen) in
     let label = get_or labels k 0 in
     let labelled = c.requires.labelled k 0 inside in
     let active = c.requires.woken_bodies.active k inside awake in
@@ -115,11 +117,13 @@ loop-number-preserved c =
     record {
       dealt = at_next (is_awake_at bodies) (length bodies) numbers c.requires.numbers (AreDealt labels bodies _ _)
           (λ j below asleep h.
-          dealt_asleep labels bodies _ _ j (omega (arith, below, c.requires.bodies)) c.requires.woken_bodies asleep h)
+          dealt_asleep labels bodies _ _ j (omega (arith, below, c.requires.seen)) c.requires.woken_bodies asleep h)
           i test
           (record {
             parts = dealt_more labels bodies k body islands c.add_body.new.islands inside labelled c.requires.woken_bodies awake
-                (get_or_read bodies k body low c.index-bodies-number.is no_state) before.parts
+                (get_or_read c.args.bodies.now k body (omega (arith, inside, c.requires.bodies)) c.index-bodies-number.is no_state
+                ∙ c.requires.states k awake)
+                before.parts
                 (c.in_ok-places.ensures.added
                 ∙ ap (λ n. set islands n (with_body k body (get_or islands n no_island))) slot);
             noted = placed_more labels bodies k places c.in_ok-places.field-0 inside c.loop-number.invariant.long

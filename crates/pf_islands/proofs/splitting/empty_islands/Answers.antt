@@ -1,5 +1,6 @@
 use Rattle.std.proofs.Common.{rules, ◌∙◌, ◌+◌, get_or, length, set, length-set, arith, true, false}
 use Rattle.std.proofs.lemmas.Bool.{eq-eqb, ne_eqb}
+use Rattle.pf_islands.specs.Lone.{only_awake}
 use Rattle.pf_islands.specs.Rows.{is_awake_at}
 use Rattle.pf_islands.proofs.AwakeNumbers.{AreEmptied, asleep_inactive, awake_active, emptied_more, emptied_same, none_emptied}
 use Rattle.pf_islands.specs.Split.{is_active_label}
@@ -11,7 +12,7 @@ use Rattle.pf_islands.proofs.splitting.empty_islands.Goals as goal
 pub loop-number-init : goal.loop-number-init
 loop-number-init c =
     let labels = c.args.labels.now in
-    let bodies = c.args.bodies.now in
+    let bodies = (only_awake c.args.numbers.now c.args.bodies.now) in
     let islands = c.args.spare.items in
     let slots = c.args.rows.items in
     record {
@@ -24,18 +25,18 @@ loop-number-init c =
 
 pub offset_bounds-labels-number : goal.offset_bounds-labels-number
 offset_bounds-labels-number c =
-    let low = number_low (is_awake_at c.args.bodies.now) (length c.args.bodies.now) c.args.numbers.now c.requires.numbers c.loop-number.number-index 0 c.loop-number-test.true in
-    search (rules, low, c.requires.bodies)
+    let low = number_low (is_awake_at (only_awake c.args.numbers.now c.args.bodies.now)) (length (only_awake c.args.numbers.now c.args.bodies.now)) c.args.numbers.now c.requires.numbers c.loop-number.number-index 0 c.loop-number-test.true in
+    search (rules, low, c.requires.seen)
 
 pub bounds-labels-number : goal.bounds-labels-number
 bounds-labels-number c =
-    let low = number_low (is_awake_at c.args.bodies.now) (length c.args.bodies.now) c.args.numbers.now c.requires.numbers c.loop-number.number-index 0 c.loop-number-test.true in
-    omega (arith, low, c.requires.bodies)
+    let low = number_low (is_awake_at (only_awake c.args.numbers.now c.args.bodies.now)) (length (only_awake c.args.numbers.now c.args.bodies.now)) c.args.numbers.now c.requires.numbers c.loop-number.number-index 0 c.loop-number-test.true in
+    omega (arith, low, c.requires.seen)
 
 pub overflow_cast-count : goal.overflow_cast-count
 overflow_cast-count c =
     let labels = c.args.labels.now in
-    let bodies = c.args.bodies.now in
+    let bodies = (only_awake c.args.numbers.now c.args.bodies.now) in
     let numbers = c.args.numbers.now in
     let i = c.loop-number.number-index in
     let test = c.loop-number-test.true in
@@ -45,12 +46,12 @@ overflow_cast-count c =
     c.loop-number.invariant.emptied in
     let number = before.number in
     let few = few_chosen (is_active_label labels bodies) (get_or numbers i 0) in
-    search (rules, number, few, low, c.requires.bodies, c.requires.few)
+    search (rules, number, few, low, c.requires.seen, c.requires.few)
 
 pub loop-number-preserved : goal.loop-number-preserved
 loop-number-preserved c =
     let labels = c.args.labels.now in
-    let bodies = c.args.bodies.now in
+    let bodies = (only_awake c.args.numbers.now c.args.bodies.now) in
     let numbers = c.args.numbers.now in
     let i = c.loop-number.number-index in
     let k = get_or numbers i 0 in
@@ -68,7 +69,7 @@ loop-number-preserved c =
             (set c.loop-number.slots.items k c.loop-number.count))
             (λ j below asleep h. emptied_same labels bodies _ _ _ j (asleep_inactive labels bodies j asleep) h) i test
             (emptied_more labels bodies c.loop-number.islands.items w.clear_at.new.islands.items c.loop-number.count
-            c.loop-number.slots.items k (omega (arith, low, c.requires.bodies, c.loop-number.invariant.long))
+            c.loop-number.slots.items k (omega (arith, low, c.requires.seen, c.loop-number.invariant.long))
             (awake_active labels bodies k true awake (eq-eqb (get_or labels k 0) k w.if-labels-number.true))
             w.in_ok-clear_at.ensures.cleared before))))
         | else-labels-number w ↦ rw w.islands-is (rw w.slots-is (rw w.count-is

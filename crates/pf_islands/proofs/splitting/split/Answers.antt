@@ -10,6 +10,7 @@ use Rattle.pf_cache.specs.Contact.{Contact}
 use Rattle.pf_cache.specs.Spans.{Span}
 use Rattle.pf_cache.proofs.ChosenNumbers.{range_within}
 use Rattle.pf_islands.specs.Group.{groups}
+use Rattle.pf_islands.specs.Lone.{lone_bodies, made_islands}
 use Rattle.pf_islands.specs.Rows.{active_rows}
 use Rattle.pf_islands.specs.Settled.{AreSettled}
 use Rattle.pf_islands.specs.Sleep.{woken_bodies}
@@ -51,13 +52,24 @@ split_settled-requires-clause-settled c =
     (woken_settled c.args.scene.now touches c.args.bodies.now c.requires.bodies
     (subst (All (IsTouchOf (length c.args.bodies.now))) (sym c.touches-touches.ensures.value) c.requires.touches))
 
-pub returns-clause-value : goal.returns-clause-value
-returns-clause-value c =
+pub returns-clause-islands : goal.returns-clause-islands
+returns-clause-islands c =
     let s = c.args.scene.now in
     let touches = c.touches-touches.result.now in
     IfOk-weaker c.split_settled.result _ _
     (λ found is.
-    is ∙ ap (λ bs. islands (groups s touches) bs (active_rows s bs touches c.args.contacts.now))
+    is ∙ ap (λ bs. made_islands c.args.lone (islands (groups s touches) bs (active_rows s bs touches c.args.contacts.now)))
     (c.as_slice-bodies.ensures.value ∙ c.in_ok-woken.ensures.bodies)
-    ∙ ap (λ ts. woken_islands s ts c.args.bodies.now c.args.contacts.now) c.touches-touches.ensures.value)
-    c.split_settled.ensures.value
+    ∙ ap (λ ts. made_islands c.args.lone (woken_islands s ts c.args.bodies.now c.args.contacts.now)) c.touches-touches.ensures.value)
+    c.split_settled.ensures.islands
+
+pub returns-clause-alone : goal.returns-clause-alone
+returns-clause-alone c =
+    let s = c.args.scene.now in
+    let touches = c.touches-touches.result.now in
+    IfOk-weaker c.split_settled.result _ _
+    (λ found is.
+    is ∙ ap (λ bs. lone_bodies c.args.lone (islands (groups s touches) bs (active_rows s bs touches c.args.contacts.now)))
+    (c.as_slice-bodies.ensures.value ∙ c.in_ok-woken.ensures.bodies)
+    ∙ ap (λ ts. lone_bodies c.args.lone (woken_islands s ts c.args.bodies.now c.args.contacts.now)) c.touches-touches.ensures.value)
+    c.split_settled.ensures.alone

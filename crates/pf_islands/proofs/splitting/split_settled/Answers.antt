@@ -1,128 +1,111 @@
-use Rattle.std.proofs.Common.{◌≡◌, ◌∙◌, refl, List, ap, length, map, subst, sym, take}
-use Rattle.std.specs.Prelude.{All}
-use Rattle.std.proofs.lemmas.List.{with_items_is}
-use Rattle.std.proofs.lemmas.List.FromFn.{length-map-range_with_len}
+use Rattle.std.proofs.Common.{◌≡◌, ◌∙◌, ◌<◌, ◌==◌, ℕ, List, All, arith, ap, filter, get_or, length, not, subst, sym}
+use Rattle.std.proofs.lemmas.List.Elements.{All-filter}
+use Rattle.std.specs.List.{list_any, range_with_len}
+use Rattle.pf_manifold.specs.Key.{IsRising}
 use Rattle.pf_manifold.specs.Touches.{IsTouchOf}
-use Rattle.pf_rows.specs.Row.{Row}
-use Rattle.pf_islands.specs.Dealing.{ArePlaces, AreSlots}
-use Rattle.pf_islands.specs.Rows.{active_rows, is_simulated_at}
-use Rattle.pf_islands.specs.Split.{IsIslandOf, active_labels}
-use Rattle.pf_islands.proofs.ActiveRows.{all_made, row_at, rows_fit}
-use Rattle.pf_islands.proofs.Dealing.{full_part}
-use Rattle.pf_islands.proofs.DealtRows.{has_island, one_dealt}
-use Rattle.pf_islands.proofs.SettledGroups.{labels_islands, labels_long, labels_rows, labels_woken, others_alone}
-use Rattle.pf_islands.proofs.Whole.{islands_fit}
+use Rattle.pf_cache.proofs.ChosenNumbers.{number_low}
+use Rattle.pf_islands.specs.Lone.{group_of_touch, is_dealt}
+use Rattle.pf_islands.specs.Rows.{is_awake_at}
+use Rattle.pf_islands.specs.Settled.{touches_at}
+use Rattle.pf_islands.proofs.Members.{filter_rises, range_rises}
+use Rattle.pf_islands.proofs.Parted.{IsParted, parted}
+use Rattle.pf_islands.proofs.SettledGroups.{labels_long, others_alone}
 use Rattle.pf_islands.proofs.splitting.split_settled.Goals as goal
+use Rattle.pf_islands.proofs.splitting.split_settled.Goals.{After-labels-labels, After-deref-2}
+
+-- there is a label for each body
+as_many : (c : After-labels-labels) → length c.labels-labels.result.now ≡ length c.args.bodies.now
+as_many c =
+    labels_long c.args.scene.now c.args.bodies.now c.args.touches.now c.requires.bodies c.requires.settled
+    c.labels-labels.result.now c.as_slice-places.result.now (c.as_slice-places.ensures.value ∙ c.requires.active)
+    (c.labels-labels.ensures.value ∙ c.in_ok-groups.ensures.value)
+
+-- the bodies that go into islands, and the others
+parts : (c : After-deref-2)
+    → IsParted c.args.scene.now c.args.bodies.now c.args.touches.now c.args.contacts.now c.args.lone c.deref-2.result.now
+    c.in_ok-dealt.alone.items
+parts c =
+    let labels = c.labels-labels.result.now in
+    let places = c.as_slice-places.result.now in
+    let counts = c.deref.result.now in
+    let awake = c.as_slice-numbers.ensures.value ∙ c.requires.numbers in
+    parted c.args.scene.now c.args.bodies.now c.args.touches.now c.args.contacts.now c.args.lone c.requires.bodies
+    c.requires.settled c.requires.touches labels places counts c.deref-2.result.now c.in_ok-dealt.alone.items
+    (c.as_slice-places.ensures.value ∙ c.requires.active) (c.labels-labels.ensures.value ∙ c.in_ok-groups.ensures.value)
+    (subst
+    (λ (ns : List ℕ). (label : ℕ) → label < length labels → (get_or ns label 0 == 0)
+    ≡ not (list_any (λ t. group_of_touch c.args.scene.now labels t == label) (touches_at c.args.touches.now places)))
+    (sym c.deref.ensures.value) c.in_ok-rows.ensures.none)
+    (c.deref-2.ensures.value ∙ c.in_ok-dealt.ensures.dealt
+    ∙ ap (filter (λ n. is_dealt c.args.lone (get_or counts (get_or labels n 0) 0))) awake)
+    (c.in_ok-dealt.ensures.alone
+    ∙ ap (filter (λ n. not (is_dealt c.args.lone (get_or counts (get_or labels n 0) 0)))) awake)
 
 pub new-requires-clause-numbers : goal.new-requires-clause-numbers
 new-requires-clause-numbers c =
     others_alone c.args.scene.now c.args.bodies.now c.args.touches.now c.requires.bodies c.requires.settled
-    c.as_slice-active_places.result.now c.as_slice-numbers.result.now (c.as_slice-active_places.ensures.value ∙ c.requires.active)
+    c.as_slice-places.result.now c.as_slice-numbers.result.now (c.as_slice-places.ensures.value ∙ c.requires.active)
     (c.as_slice-numbers.ensures.value ∙ c.requires.numbers)
+
+pub row_counts-requires-clause-labels : goal.row_counts-requires-clause-labels
+row_counts-requires-clause-labels c =
+    as_many (goal.at.row_counts-requires-clause-labels c).After-labels-labels ∙ c.requires.bodies
 
 pub row_counts-requires-clause-touches : goal.row_counts-requires-clause-touches
 row_counts-requires-clause-touches c =
-    let bodies = c.args.bodies.now in
-    let flags : length c.deref.result.now ≡ length bodies = ap length (c.deref.ensures.value ∙ c.requires.simulated)
-    ∙ length-map-range_with_len (is_simulated_at c.args.scene.now bodies) 0 (length bodies) in
-    subst (λ n. All (IsTouchOf n) c.args.touches.now) (sym flags) c.requires.touches
+    subst (λ n. All (IsTouchOf n) c.args.touches.now)
+    (sym (as_many (goal.at.row_counts-requires-clause-touches c).After-labels-labels)) c.requires.touches
 
-pub row_counts-requires-clause-simulated : goal.row_counts-requires-clause-simulated
-row_counts-requires-clause-simulated c =
-    ap length (c.deref.ensures.value ∙ c.requires.simulated)
-    ∙ length-map-range_with_len (is_simulated_at c.args.scene.now c.args.bodies.now) 0 (length c.args.bodies.now)
-    ∙ sym
-    (labels_long c.args.scene.now c.args.bodies.now c.args.touches.now c.requires.bodies c.requires.settled
-    c.labels-labels.result.now c.as_slice-active_places.result.now (c.as_slice-active_places.ensures.value ∙ c.requires.active)
-    (c.labels-labels.ensures.value ∙ c.in_ok-groups.ensures.value))
+pub part-requires-clause-numbers : goal.part-requires-clause-numbers
+part-requires-clause-numbers c =
+    let many = as_many (goal.at.part-requires-clause-numbers c).After-labels-labels in
+    let low = number_low (is_awake_at c.args.bodies.now) (length c.args.bodies.now) c.as_slice-numbers.result.now
+    (c.as_slice-numbers.ensures.value ∙ c.requires.numbers) in
+    subst (λ n. All (λ number. number < n) c.as_slice-numbers.result.now) (sym many) low
 
-pub empty_islands-requires-clause-bodies : goal.empty_islands-requires-clause-bodies
-empty_islands-requires-clause-bodies c =
-    sym
-    (labels_long c.args.scene.now c.args.bodies.now c.args.touches.now c.requires.bodies c.requires.settled
-    c.labels-labels.result.now c.as_slice-active_places.result.now (c.as_slice-active_places.ensures.value ∙ c.requires.active) (c.labels-labels.ensures.value ∙ c.in_ok-groups.ensures.value))
+pub deal-requires-clause-seen : goal.deal-requires-clause-seen
+deal-requires-clause-seen c = (parts (goal.at.deal-requires-clause-seen c).After-deref-2).long ∙ c.requires.bodies
 
-pub deal_bodies-requires-clause-bodies : goal.deal_bodies-requires-clause-bodies
-deal_bodies-requires-clause-bodies c =
-    sym
-    (labels_long c.args.scene.now c.args.bodies.now c.args.touches.now c.requires.bodies c.requires.settled
-    c.labels-labels.result.now c.as_slice-active_places.result.now (c.as_slice-active_places.ensures.value ∙ c.requires.active) (c.labels-labels.ensures.value ∙ c.in_ok-groups.ensures.value))
+pub deal-requires-clause-states : goal.deal-requires-clause-states
+deal-requires-clause-states c = (parts (goal.at.deal-requires-clause-states c).After-deref-2).states
 
-pub loop-place-init : goal.loop-place-init
-loop-place-init c =
-    with_items_is c.in_ok-made.made c.deal_bodies.new.islands (c.deal_bodies.auto.islands ∙ c.deref_mut.ensures.len)
-    ∙ c.in_ok-deal_bodies.ensures.islands
+pub deal-requires-clause-touches : goal.deal-requires-clause-touches
+deal-requires-clause-touches c =
+    subst (λ n. All (IsTouchOf n) c.args.touches.now)
+    (sym (parts (goal.at.deal-requires-clause-touches c).After-deref-2).long) c.requires.touches
 
-pub deal_row-requires-clause-slots : goal.deal_row-requires-clause-slots
-deal_row-requires-clause-slots c = ap length c.deref-in-loop-place.ensures.value ∙ c.in_ok-made.ensures.as_many
+pub deal-requires-clause-settled : goal.deal-requires-clause-settled
+deal-requires-clause-settled c = (parts (goal.at.deal-requires-clause-settled c).After-deref-2).settled
 
-pub deal_row-requires-clause-island : goal.deal_row-requires-clause-island
-deal_row-requires-clause-island c =
-    let slots = c.deref-in-loop-place.result.now in
-    has_island c.args.scene.now c.args.bodies.now c.args.touches.now c.args.contacts.now c.labels-labels.result.now
-    c.as_slice-active_places.result.now slots c.requires.bodies c.requires.settled c.requires.touches c.requires.contacts
-    (c.as_slice-active_places.ensures.value ∙ c.requires.active) (c.labels-labels.ensures.value ∙ c.in_ok-groups.ensures.value)
-    (subst (AreSlots c.labels-labels.result.now c.args.bodies.now) (sym c.deref-in-loop-place.ensures.value)
-    c.in_ok-made.ensures.slots)
-    c.loop-place.place-index c.index-touches-place.result c.index-contacts-place.result c.loop-place-test.true
-    c.index-touches-place.is c.index-contacts-place.is
-    c.deref_mut-in-loop-place.result.now (c.deref_mut-in-loop-place.ensures.value ∙ c.loop-place.invariant)
+pub deal-requires-clause-numbers : goal.deal-requires-clause-numbers
+deal-requires-clause-numbers c = (parts (goal.at.deal-requires-clause-numbers c).After-deref-2).numbers_are
 
-pub loop-place-preserved : goal.loop-place-preserved
-loop-place-preserved c =
-    let labels = c.labels-labels.result.now in
-    let bodies = c.args.bodies.now in
-    let noted = subst (ArePlaces labels bodies)
-    (sym (c.deref-in-loop-place-2.ensures.value
-    ∙ with_items_is c.in_ok-places.places c.deal_bodies.new.places (c.deal_bodies.auto.places ∙ c.deref_mut-2.ensures.len)))
-    c.in_ok-deal_bodies.ensures.places in
-    with_items_is c.loop-place.made c.deal_row.new.islands (c.deal_row.auto.islands ∙ c.deref_mut-in-loop-place.ensures.len)
-    ∙ one_dealt c.args.scene.now bodies c.args.touches.now c.args.contacts.now labels
-    c.as_slice-active_places.result.now c.deref-in-loop-place.result.now
-    c.requires.bodies c.requires.settled c.requires.touches c.requires.contacts
-    (c.as_slice-active_places.ensures.value ∙ c.requires.active) (c.labels-labels.ensures.value ∙ c.in_ok-groups.ensures.value)
-    (subst (AreSlots labels bodies) (sym c.deref-in-loop-place.ensures.value) c.in_ok-made.ensures.slots)
-    c.loop-place.place-index c.index-touches-place.result c.index-contacts-place.result c.loop-place-test.true
-    c.index-touches-place.is c.index-contacts-place.is
-    c.deref_mut-in-loop-place.result.now (c.deref_mut-in-loop-place.ensures.value ∙ c.loop-place.invariant)
-    c.deref-in-loop-place-2.result.now c.deal_row.new.islands noted c.in_ok-deal_row.ensures
+pub deal-requires-clause-active : goal.deal-requires-clause-active
+deal-requires-clause-active c =
+    c.as_slice-places.ensures.value ∙ c.requires.active
+    ∙ (parts (goal.at.deal-requires-clause-active c).After-deref-2).places
 
-pub deal_bodies-requires-clause-woken_bodies : goal.deal_bodies-requires-clause-woken_bodies
-deal_bodies-requires-clause-woken_bodies c =
-    labels_woken c.args.scene.now c.args.bodies.now c.args.touches.now c.requires.bodies c.requires.settled
-    c.labels-labels.result.now c.as_slice-active_places.result.now (c.as_slice-active_places.ensures.value ∙ c.requires.active) (c.labels-labels.ensures.value ∙ c.in_ok-groups.ensures.value)
+pub returns-clause-islands : goal.returns-clause-islands
+returns-clause-islands c =
+    c.in_ok-islands.ensures.value ∙ (parts (goal.at.returns-clause-islands c).After-deref-2).made
 
-pub returns-clause-value : goal.returns-clause-value
-returns-clause-value c =
-    let s = c.args.scene.now in
-    let touches = c.args.touches.now in
-    let contacts = c.args.contacts.now in
-    let bodies = c.args.bodies.now in
-    let items = c.as_slice-active_places.result.now in
-    let labels = c.labels-labels.result.now in
-    let k = c.loop-place.place-index in
-    let rows : List Row = map (row_at s touches contacts) (take k items) in
-    let all : rows ≡ active_rows s bodies touches contacts =
-    all_made s bodies touches contacts items k rows c.loop-place-test.false (c.as_slice-active_places.ensures.value ∙ c.requires.active) refl in
-    c.loop-place.invariant
-    ∙ ap (λ (rs : List Row). map (full_part labels bodies rs) (active_labels labels bodies)) all
-    ∙ labels_islands s bodies touches c.requires.bodies c.requires.settled labels items (c.as_slice-active_places.ensures.value ∙ c.requires.active)
-    (c.labels-labels.ensures.value ∙ c.in_ok-groups.ensures.value) (active_rows s bodies touches contacts)
+pub returns-clause-alone : goal.returns-clause-alone
+returns-clause-alone c = (parts (goal.at.returns-clause-alone c).After-deref-2).alone_are
 
-pub returns-clause-fit : goal.returns-clause-fit
-returns-clause-fit c =
-    let s = c.args.scene.now in
-    let touches = c.args.touches.now in
-    let contacts = c.args.contacts.now in
-    let bodies = c.args.bodies.now in
-    let labels = c.labels-labels.result.now in
-    let items = c.as_slice-active_places.result.now in
-    let labelled_by = c.labels-labels.ensures.value ∙ c.in_ok-groups.ensures.value in
-    let rows = active_rows s bodies touches contacts in
-    let active = labels_rows s bodies touches c.requires.bodies c.requires.settled labels items (c.as_slice-active_places.ensures.value ∙ c.requires.active) labelled_by
-    contacts c.requires.touches in
-    subst (All (IsIslandOf s))
-    (sym
-    (returns-clause-value c
-    ∙ sym (labels_islands s bodies touches c.requires.bodies c.requires.settled labels items (c.as_slice-active_places.ensures.value ∙ c.requires.active) labelled_by rows)))
-    (islands_fit labels bodies rows s active (rows_fit s bodies touches contacts c.requires.bodies c.requires.touches))
+pub returns-clause-order : goal.returns-clause-order
+returns-clause-order c =
+    let awake = c.as_slice-numbers.ensures.value ∙ c.requires.numbers in
+    let numbers = range_with_len 0 (length c.args.bodies.now) in
+    let dealt = λ (n : ℕ). is_dealt c.args.lone (get_or c.deref.result.now (get_or c.labels-labels.result.now n 0) 0) in
+    subst (IsRising 0) (sym (c.in_ok-dealt.ensures.alone ∙ ap (filter (λ n. not (dealt n))) awake))
+    (filter_rises (λ n. not (dealt n)) 0 (filter (is_awake_at c.args.bodies.now) numbers)
+    (filter_rises (is_awake_at c.args.bodies.now) 0 numbers (range_rises 0 (length c.args.bodies.now))))
+
+pub returns-clause-there : goal.returns-clause-there
+returns-clause-there c =
+    let count = length c.args.bodies.now in
+    let low = number_low (is_awake_at c.args.bodies.now) count c.as_slice-numbers.result.now
+    (c.as_slice-numbers.ensures.value ∙ c.requires.numbers) in
+    let dealt = λ (n : ℕ). is_dealt c.args.lone (get_or c.deref.result.now (get_or c.labels-labels.result.now n 0) 0) in
+    subst (All (λ n. n < count)) (sym c.in_ok-dealt.ensures.alone)
+    (All-filter (λ n. not (dealt n)) (λ n. n < count) c.as_slice-numbers.result.now low)

@@ -1,0 +1,12 @@
+use Rattle.std.proofs.Common.{◌≡◌, map, take}
+use Rattle.pf_islands.specs.Lone.{only_awake}
+use Rattle.pf_islands.specs.Split.{active_labels}
+use Rattle.pf_islands.proofs.ActiveRows.{row_at}
+use Rattle.pf_islands.proofs.Dealing.{full_part}
+use Rattle.pf_islands.proofs.splitting.deal.Given as goal
+
+abbrev pub invariant-loop-place : goal.invariant-loop-place
+invariant-loop-place l =
+    l.made.items
+    ≡ map (full_part l.labels (only_awake l.numbers l.bodies) (map (row_at l.scene l.touches l.contacts) (take l.place-index l.places)))
+    (active_labels l.labels (only_awake l.numbers l.bodies))
