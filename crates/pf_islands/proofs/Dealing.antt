@@ -12,8 +12,8 @@ use Rattle.pf_manifold.specs.Key.{IsRising}
 use Rattle.pf_rows.specs.declared.row.Side.{Side}
 use Rattle.pf_rows.specs.declared.row.Side.TheVariants.{Static, Dynamic}
 use Rattle.pf_rows.specs.Row.{IsSide, Row}
-use Rattle.pf_islands.specs.Dealing.{ArePlaces, group_of_row, group_of_sides, placed_row, placed_side, slot_of, with_body, with_row}
-use Rattle.pf_islands.specs.Island.{has_number, is_among, members, place_of, row_among, rows_among, side_among, states_of, touches_one}
+use Rattle.pf_islands.specs.Dealing.{ArePlaces, group_of_row, group_of_sides, placed_row, placed_side, slot_of, with_island_body, with_row}
+use Rattle.pf_islands.specs.Island.{has_number, is_among, group_members, place_of, row_among, rows_among, side_among, states_of, touches_one}
 use Rattle.pf_islands.specs.Rows.{is_awake_at}
 use Rattle.pf_islands.specs.Split.{AreTogether, AreWoken, IsActiveRow, Island, active_labels, is_active_label, is_awake_side, island_of, no_island}
 use Rattle.pf_islands.proofs.ActiveRows.{map_where}
@@ -58,7 +58,7 @@ module _ (labels : List ℕ) (bodies : List BodyState) where
 
   -- ---- bodies
 
-  -- the members of a group among the first k bodies
+  -- the group_members of a group among the first k bodies
   abbrev pub first_members : ℕ → ℕ → List ℕ
   first_members k label = filter (λ j. get_or labels j 0 == label) (range_with_len 0 k)
 
@@ -86,7 +86,7 @@ module _ (labels : List ℕ) (bodies : List BodyState) where
 
   -- a body of the group is added
   part_more : (k label : ℕ) (b : BodyState) → (get_or labels k 0 == label) ≡ true → b ≡ get_or bodies k no_state
-      → with_body k b (first_part k label) ≡ first_part (k + 1) label
+      → with_island_body k b (first_part k label) ≡ first_part (k + 1) label
   part_more k label b own is =
       let more = members_more k label true own in
       ap₂ (λ (ns : List ℕ) (bs : List BodyState). record { numbers = ns; bodies = bs; rows = [] }) (sym more)
@@ -126,17 +126,17 @@ module _ (labels : List ℕ) (bodies : List BodyState) where
       → AreWoken labels bodies → is_awake_at bodies k ≡ true → b ≡ get_or bodies k no_state
       → now ≡ map (first_part k) (active_labels labels bodies)
       → after ≡ set now (slot_of labels bodies (get_or labels k 0))
-      (with_body k b (get_or now (slot_of labels bodies (get_or labels k 0)) no_island))
+      (with_island_body k b (get_or now (slot_of labels bodies (get_or labels k 0)) no_island))
       → after ≡ map (first_part (k + 1)) (active_labels labels bodies)
   dealt_more k b now after inside within woken_bodies awake is now_is after_is =
       let label = get_or labels k 0 in
       let slot = slot_of labels bodies label in
       let active = woken_bodies.active k inside awake in
       after_is
-      ∙ ap (λ xs. set xs slot (with_body k b (get_or xs slot no_island))) now_is
+      ∙ ap (λ xs. set xs slot (with_island_body k b (get_or xs slot no_island))) now_is
       ∙ set_mapped (first_part k) (first_part (k + 1)) 0 (active_labels labels bodies) slot label _ names_rise
       (name_at label within active)
-      (ap (with_body k b) (island_at (first_part k) label within active) ∙ part_more k label b (eq-eqb label label refl) is)
+      (ap (with_island_body k b) (island_at (first_part k) label within active) ∙ part_more k label b (eq-eqb label label refl) is)
       (λ m apart. part_same k m (ne_eqb label m (λ same. apart (sym same))))
 
   -- a sleeping body is of no island
@@ -154,17 +154,17 @@ module _ (labels : List ℕ) (bodies : List BodyState) where
 
   -- the place of a body that is dealt
   pub dealt_place : (k : ℕ) → k < length labels
-      → length (first_members k (get_or labels k 0)) ≡ place_of (members labels (get_or labels k 0)) k
+      → length (first_members k (get_or labels k 0)) ≡ place_of (group_members labels (get_or labels k 0)) k
   dealt_place k inside =
       let from_zero : 0 + k ≡ k = omega arith in
       let own = λ (j : ℕ). get_or labels j 0 == get_or labels k 0 in
       sym (chosen_place own 0 (length labels) k inside (ap own from_zero ∙ eq-eqb (get_or labels k 0) (get_or labels k 0) refl))
-      ∙ ap (place_of (members labels (get_or labels k 0))) from_zero
+      ∙ ap (place_of (group_members labels (get_or labels k 0))) from_zero
 
   -- a body has the place of its group's island
   abbrev pub HasPlace : List ℕ → ℕ → Type 0
   HasPlace places i =
-      is_awake_at bodies i ≡ true → get_or places i 0 ≡ place_of (members labels (get_or labels i 0)) i
+      is_awake_at bodies i ≡ true → get_or places i 0 ≡ place_of (group_members labels (get_or labels i 0)) i
 
   -- the place of one body more is noted
   pub placed_more : (k : ℕ) (old : List ℕ) (place : ℕ) → k < length labels → length old ≡ length labels
@@ -191,23 +191,23 @@ module _ (labels : List ℕ) (bodies : List BodyState) where
 
   -- what an island has of all bodies and of these contacts
   abbrev pub full_part : List Row → ℕ → Island
-  full_part rows label = island_of bodies rows (members labels label)
+  full_part rows label = island_of bodies rows (group_members labels label)
 
   -- a body is a member of the group of its label
-  pub is_member : (label i : ℕ) → i < length labels → has_number (members labels label) i ≡ (get_or labels i 0 == label)
+  pub is_member : (label i : ℕ) → i < length labels → has_number (group_members labels label) i ≡ (get_or labels i 0 == label)
   is_member label i within =
       has_filter (λ k. get_or labels k 0 == label) (range_with_len 0 (length labels)) i
       ∙ ap (λ t. t && (get_or labels i 0 == label))
       (has_range 0 (length labels) i (omega arith) (omega (arith, within)))
 
   side_member : (label : ℕ) (side : Side) → IsSide (length labels) side
-      → is_among (members labels label) side ≡ side_in label side
+      → is_among (group_members labels label) side ≡ side_in label side
   side_member label Static is = refl
   side_member label (Dynamic n) is = is_member label n is
 
   -- a contact touches the bodies of its group alone
   pub touches_group : (label : ℕ) (r : Row) → IsActiveRow labels bodies r
-      → touches_one (members labels label) r ≡ (group_of_row labels r == label)
+      → touches_one (group_members labels label) r ≡ (group_of_row labels r == label)
   touches_group label r is =
       ap₂ (λ s t. s || t) (side_member label r.entry.first is.first) (side_member label r.entry.second is.second)
       ∙ by r.entry.first r.entry.second is.together is.active
@@ -260,23 +260,23 @@ module _ (labels : List ℕ) (bodies : List BodyState) where
   -- its sides have the places of their bodies in the island
   pub row_placed : (places : List ℕ) (r : Row) → All (λ label. label < length labels) labels → AreWoken labels bodies
       → ArePlaces labels bodies places → IsActiveRow labels bodies r
-      → placed_row places r ≡ row_among (members labels (group_of_row labels r)) r
+      → placed_row places r ≡ row_among (group_members labels (group_of_row labels r)) r
   row_placed places r labelled woken_bodies noted is =
       let active = (group_active r labelled woken_bodies is).1 in
       let sides = by r.entry.first r.entry.second is.first is.second is.together active in
       ap₂ (λ (f s : Side). record r { entry = record r.entry { first = f; second = s } }) sides.0 sides.1
     where
       at : (n label : ℕ) → n < length labels → get_or labels n 0 ≡ label → is_active_label labels bodies label ≡ true
-          → placed_side places (Dynamic n) ≡ side_among (members labels label) (Dynamic n)
+          → placed_side places (Dynamic n) ≡ side_among (group_members labels label) (Dynamic n)
       at n label within same active =
           ap (λ k. Dynamic k)
           (noted n within (woken_bodies.whole n within (ap (is_active_label labels bodies) same ∙ active))
-          ∙ ap (λ m. place_of (members labels m) n) same)
+          ∙ ap (λ m. place_of (group_members labels m) n) same)
 
       by : (first second : Side) → IsSide (length labels) first → IsSide (length labels) second → AreTogether labels first second
           → is_active_label labels bodies (group_of_sides labels first second) ≡ true
-          → (placed_side places first ≡ side_among (members labels (group_of_sides labels first second)) first)
-          × (placed_side places second ≡ side_among (members labels (group_of_sides labels first second)) second)
+          → (placed_side places first ≡ side_among (group_members labels (group_of_sides labels first second)) first)
+          × (placed_side places second ≡ side_among (group_members labels (group_of_sides labels first second)) second)
       by (Dynamic a) (Dynamic b) one two same active =
           (at a (get_or labels a 0) one refl active, at b (get_or labels a 0) two (sym same) active)
       by (Dynamic a) Static one two same active = (at a (get_or labels a 0) one refl active, refl)
@@ -313,8 +313,8 @@ module _ (labels : List ℕ) (bodies : List BodyState) where
       (names_rise labels bodies) (name_at labels bodies label own.0 own.1)
       (ap₂ with_row (row_placed places r labelled woken_bodies noted active) (island_at labels bodies (full_part rows) label own.0 own.1)
       ∙ ap (λ (rs : List Row). record (full_part rows label) { rows = rs })
-      (sym (rows_more rows r (members labels label) true (touches_group label r active ∙ eq-eqb label label refl))))
+      (sym (rows_more rows r (group_members labels label) true (touches_group label r active ∙ eq-eqb label label refl))))
       (λ m apart.
       ap (λ (rs : List Row). record (full_part rows m) { rows = rs })
       (sym (append-nil _)
-      ∙ sym (rows_more rows r (members labels m) false (touches_group m r active ∙ ne_eqb label m (λ same. apart (sym same))))))
+      ∙ sym (rows_more rows r (group_members labels m) false (touches_group m r active ∙ ne_eqb label m (λ same. apart (sym same))))))

@@ -16,7 +16,7 @@ use Rattle.pf_cache.specs.Contact.{Contact}
 use Rattle.pf_rows.specs.Row.{AreRows, Row}
 use Rattle.pf_islands.specs.Dealing.{group_of_row, slot_of}
 use Rattle.pf_islands.specs.Group.{group, groups}
-use Rattle.pf_islands.specs.Island.{members, rows_among, states_of, touches_one}
+use Rattle.pf_islands.specs.Island.{group_members, rows_among, states_of, touches_one}
 use Rattle.pf_islands.specs.Laws.{HasBody, HasRow, active_bodies, islands_of, rows_of}
 use Rattle.pf_islands.specs.Reach.{Reaches}
 use Rattle.pf_islands.specs.Rows.{is_awake_at}
@@ -71,7 +71,7 @@ module _ (s : Scene) (touches : List Touch) (bodies : List BodyState) (contacts 
   rows = rows_of s touches bodies contacts
 
   abbrev island_named : ℕ → Island
-  island_named label = island_of awake rows (members labels label)
+  island_named label = island_of awake rows (group_members labels label)
 
   abbrev chosen : List ℕ
   chosen = active_labels labels awake
@@ -90,13 +90,13 @@ module _ (s : Scene) (touches : List Touch) (bodies : List BodyState) (contacts 
       × (b ≡ get_or awake n no_state)
   named_body k n b has =
       let at = island_at k has.island has.is_there in
-      let numbers : slice_get (members labels at.0) has.place ≡ Some n =
+      let numbers : slice_get (group_members labels at.0) has.place ≡ Some n =
       ap (λ (i : Island). slice_get i.numbers has.place) at.2 ∙ has.number in
-      let state : slice_get (states_of (members labels at.0) awake) has.place ≡ Some b =
+      let state : slice_get (states_of (group_members labels at.0) awake) has.place ≡ Some b =
       ap (λ (i : Island). slice_get i.bodies has.place) at.2 ∙ has.state in
-      let own = all_at (λ i. (get_or labels i 0 == at.0) ≡ true) (members labels at.0) has.place n
+      let own = all_at (λ i. (get_or labels i 0 == at.0) ≡ true) (group_members labels at.0) has.place n
       (chosen_pass (λ i. get_or labels i 0 == at.0) (range_with_len 0 (length labels))) numbers in
-      let within = all_at (λ i. i < length labels) (members labels at.0) has.place n
+      let within = all_at (λ i. i < length labels) (group_members labels at.0) has.place n
       (All-filter (λ i. get_or labels i 0 == at.0) (λ i. i < length labels) (range_with_len 0 (length labels))
       (range_within 0 (length labels) (length labels) (omega arith))) numbers in (
         at.0,
@@ -104,7 +104,7 @@ module _ (s : Scene) (touches : List Touch) (bodies : List BodyState) (contacts 
         within,
         eqb-true (get_or labels n 0) at.0 own,
         same_Some b (get_or awake n no_state)
-            (sym state ∙ slice_get-map (λ m. get_or awake m no_state) (members labels at.0) has.place
+            (sym state ∙ slice_get-map (λ m. get_or awake m no_state) (group_members labels at.0) has.place
             ∙ ap (option_map (λ m. get_or awake m no_state)) numbers),
       )
 
@@ -137,7 +137,7 @@ module _ (s : Scene) (touches : List Touch) (bodies : List BodyState) (contacts 
         let labelled = groups_named s touches n 0 inside in
         let from_zero : 0 + n ≡ n = omega arith in
         let own = λ (j : ℕ). get_or labels j 0 == label in
-        let number : slice_get (members labels label) (length (filter own (range_with_len 0 n))) ≡ Some n =
+        let number : slice_get (group_members labels label) (length (filter own (range_with_len 0 n))) ≡ Some n =
         chosen_at own 0 (length labels) n inside (ap own from_zero ∙ eq-eqb label label refl) ∙ ap Some from_zero in (
           slot_of labels awake label,
           record {
@@ -146,7 +146,7 @@ module _ (s : Scene) (touches : List Touch) (bodies : List BodyState) (contacts 
             is_there = slice_get-map island_named chosen (slot_of labels awake label)
                 ∙ ap (option_map island_named) (name_at labels awake label labelled active);
             number = number;
-            state = slice_get-map (λ m. get_or awake m no_state) (members labels label) _
+            state = slice_get-map (λ m. get_or awake m no_state) (group_members labels label) _
                 ∙ ap (option_map (λ m. get_or awake m no_state)) number ∙ ap Some read;
           },
         )
@@ -183,7 +183,7 @@ module _ (s : Scene) (touches : List Touch) (bodies : List BodyState) (contacts 
           → slice_get chosen k ≡ Some (group_of_row labels r)
       row_named k r active has =
           let at = island_at k has.island has.is_there in
-          let touched : touches_one (members labels at.0) r ≡ true =
+          let touched : touches_one (group_members labels at.0) r ≡ true =
           ap (λ (i : Island). touches_one i.numbers r) at.2 ∙ has.touched in
           at.1
           ∙ ap Some (sym (eqb-true (group_of_row labels r) at.0 (sym (touches_group labels awake at.0 r active) ∙ touched)))
@@ -224,7 +224,7 @@ module _ (s : Scene) (touches : List Touch) (bodies : List BodyState) (contacts 
   rows_of_islands_rise order =
       All-map (λ (i : Island). AreRows i.rows) island_named chosen
       (λ k d within.
-      rows_in_order_among (members labels (get_or chosen k d)) rows (rows_in_order s awake touches contacts order))
+      rows_in_order_among (group_members labels (get_or chosen k d)) rows (rows_in_order s awake touches contacts order))
 
   -- ---- order
 
@@ -253,13 +253,13 @@ module _ (s : Scene) (touches : List Touch) (bodies : List BodyState) (contacts 
 
   -- so the least body of an island is the label of its group
   least_is : (label : ℕ) → label < length s.fixtures → is_active_label labels awake label ≡ true
-      → get_or (members labels label) 0 0 ≡ label
+      → get_or (group_members labels label) 0 0 ≡ label
   least_is label within active =
       let own = λ (i : ℕ). get_or labels i 0 == label in
       let from_zero : 0 + label ≡ label = omega arith in
       let is_own = (and_parts (own label) (is_awake_at awake label) active).0 in
-      get_or_from_slice_get (members labels label) 0 label 0
-      (ap (λ (ns : List ℕ). slice_get (members labels label) (length ns)) (sym (none_below label 0 label (omega arith) within))
+      get_or_from_slice_get (group_members labels label) 0 label 0
+      (ap (λ (ns : List ℕ). slice_get (group_members labels label) (length ns)) (sym (none_below label 0 label (omega arith) within))
       ∙ chosen_at own 0 (length labels) label (omega (arith, within, groups_long s touches)) (ap own from_zero ∙ is_own)
       ∙ ap Some from_zero)
 
@@ -269,7 +269,7 @@ module _ (s : Scene) (touches : List Touch) (bodies : List BodyState) (contacts 
       subst (IsRising 0)
       (sym (map-map (λ (i : Island). get_or i.numbers 0 0) island_named chosen
       ∙ map_where (λ label. (label < length labels) × (is_active_label labels awake label ≡ true))
-      (λ label. get_or (members labels label) 0 0) (λ label. label)
+      (λ label. get_or (group_members labels label) 0 0) (λ label. label)
       (λ label is. least_is label (omega (arith, is.0, groups_long s touches)) is.1) chosen
       (λ k d within. (
         All-filter (is_active_label labels awake) (λ i. i < length labels) (range_with_len 0 (length labels))

@@ -7,7 +7,7 @@ use Rattle.std.proofs.lemmas.Slice.Zip.{get_or-zip, length-zip}
 use Rattle.std.specs.List.{range_with_len, zip}
 use Rattle.std.specs.Prelude.{All}
 use Rattle.pf_shapes.specs.Body.{BodyState}
-use Rattle.pf_islands.specs.Marks.{each_labelled, woken_body}
+use Rattle.pf_islands.specs.Marks.{each_labelled, marked_body}
 use Rattle.pf_islands.specs.Sleep.{is_active, woken_bodies}
 
 -- the first i bodies are changed, each by its label
@@ -77,10 +77,10 @@ module _ (labels : List ℕ) (marks : List Bool) (bodies : List BodyState) (labe
 
   -- bodies that are woken by these marks are woken
   pub woken_is : marks ≡ map (is_active labels bodies) (range_with_len 0 (length labels))
-      → each_labelled (woken_body marks) labels bodies ≡ woken_bodies labels bodies
+      → each_labelled (marked_body marks) labels bodies ≡ woken_bodies labels bodies
   unfolding woken_bodies
   woken_is are =
-      changes_agree (woken_body marks) (λ m. record m.1 { awake = is_active labels bodies m.0 }) (length labels)
+      changes_agree (marked_body marks) (λ m. record m.1 { awake = is_active labels bodies m.0 }) (length labels)
       (λ label b small. ap (λ mark. record b { awake = mark }) (mark_is (is_active labels bodies) are label small))
       labels bodies labelled
 

@@ -13,7 +13,7 @@ use Rattle.pf_shapes.specs.Body.{BodyState, no_state}
 use Rattle.pf_rows.specs.Row.{Row}
 use Rattle.pf_islands.specs.Dealing.{group_of_row}
 use Rattle.pf_islands.specs.Flags.{awake_numbers}
-use Rattle.pf_islands.specs.Island.{has_number, members, row_among, rows_among, states_of, touches_one}
+use Rattle.pf_islands.specs.Island.{has_number, group_members, row_among, rows_among, states_of, touches_one}
 use Rattle.pf_islands.specs.Lone.{is_touched, only_awake}
 use Rattle.pf_islands.specs.Rows.{is_awake_at}
 use Rattle.pf_islands.specs.Split.{AreWoken, IsActiveRow, Island, active_labels, is_active_label, island_of, islands}
@@ -72,7 +72,7 @@ map_same f g (x ∷ xs) all =
 module _ (labels : List ℕ) (bodies : List BodyState) (rows : List Row)
     (active : All (IsActiveRow labels bodies) rows) where
   abbrev island_named : ℕ → Island
-  island_named label = island_of bodies rows (members labels label)
+  island_named label = island_of bodies rows (group_members labels label)
 
   abbrev pub has_rows : ℕ → Bool
   has_rows label = list_any (λ r. group_of_row labels r == label) rows
@@ -80,10 +80,10 @@ module _ (labels : List ℕ) (bodies : List BodyState) (rows : List Row)
   -- the island of a group has a contact where a contact is of the group
   pub touched_named : (label : ℕ) → is_touched (island_named label) ≡ has_rows label
   touched_named label =
-      any_chosen (touches_one (members labels label)) (row_among (members labels label)) rows
-      ∙ any_same (touches_one (members labels label)) (λ r. group_of_row labels r == label) rows
+      any_chosen (touches_one (group_members labels label)) (row_among (group_members labels label)) rows
+      ∙ any_same (touches_one (group_members labels label)) (λ r. group_of_row labels r == label) rows
       (All-weaker (IsActiveRow labels bodies)
-      (λ r. touches_one (members labels label) r ≡ (group_of_row labels r == label))
+      (λ r. touches_one (group_members labels label) r ≡ (group_of_row labels r == label))
       (λ r is. touches_group labels bodies label r is) rows active)
 
   -- so these islands are those of some labels
@@ -99,7 +99,7 @@ module _ (labels : List ℕ) (bodies : List BodyState) (rows : List Row)
   -- and the bodies of the others are those of the other labels
   pub lone_numbers : (q : ℕ → Bool) → All (λ label. q label ≡ has_rows label) (active_labels labels bodies)
       → flat_map (λ (i : Island). i.numbers) (filter (λ i. not (is_touched i)) (islands labels bodies rows))
-      ≡ flat_map (members labels) (filter (λ label. not (q label)) (active_labels labels bodies))
+      ≡ flat_map (group_members labels) (filter (λ label. not (q label)) (active_labels labels bodies))
   lone_numbers q are =
       ap (flat_map (λ (i : Island). i.numbers))
       (filter_map_is (λ (i : Island). not (is_touched i)) island_named (active_labels labels bodies)
@@ -110,9 +110,9 @@ module _ (labels : List ℕ) (bodies : List BodyState) (rows : List Row)
       (λ label is. ap not (touched_named label ∙ sym is)) (active_labels labels bodies) are)))
       ∙ flat_mapped (filter (λ label. not (q label)) (active_labels labels bodies))
     where
-      flat_mapped : (ns : List ℕ) → flat_map (λ (i : Island). i.numbers) (map island_named ns) ≡ flat_map (members labels) ns
+      flat_mapped : (ns : List ℕ) → flat_map (λ (i : Island). i.numbers) (map island_named ns) ≡ flat_map (group_members labels) ns
       flat_mapped [] = refl
-      flat_mapped (n ∷ ns) = ap (λ xs. members labels n ++ xs) (flat_mapped ns)
+      flat_mapped (n ∷ ns) = ap (λ xs. group_members labels n ++ xs) (flat_mapped ns)
 
 -- ---- the bodies, as if only those of these groups were awake
 
@@ -191,11 +191,11 @@ module _ (labels : List ℕ) (bodies : List BodyState) (q : ℕ → Bool) (numbe
   -- their islands
   module _ (woken : AreWoken labels bodies) where
     seen_states : (label : ℕ) → is_active_label labels bodies label ≡ true → q label ≡ true
-        → states_of (members labels label) seen ≡ states_of (members labels label) bodies
+        → states_of (group_members labels label) seen ≡ states_of (group_members labels label) bodies
     seen_states label active chosen =
-        map_same (λ n. get_or seen n no_state) (λ n. get_or bodies n no_state) (members labels label)
+        map_same (λ n. get_or seen n no_state) (λ n. get_or bodies n no_state) (group_members labels label)
         (λ i d within.
-        let k = get_or (members labels label) i d in
+        let k = get_or (group_members labels label) i d in
         let inside = All-filter (λ n. get_or labels n 0 == label) (λ n. n < length labels) (range_with_len 0 (length labels))
         (range_within 0 (length labels) (length labels) (omega arith)) i d within in
         let own : get_or labels k 0 ≡ label =
@@ -206,15 +206,15 @@ module _ (labels : List ℕ) (bodies : List BodyState) (q : ℕ → Bool) (numbe
 
     pub seen_islands : (rows : List Row)
         → islands labels seen rows
-        ≡ map (λ label. island_of bodies rows (members labels label)) (filter q (active_labels labels bodies))
+        ≡ map (λ label. island_of bodies rows (group_members labels label)) (filter q (active_labels labels bodies))
     seen_islands rows =
-        ap (map (λ label. island_of seen rows (members labels label))) seen_labels
-        ∙ map_same (λ label. island_of seen rows (members labels label)) (λ label. island_of bodies rows (members labels label))
+        ap (map (λ label. island_of seen rows (group_members labels label))) seen_labels
+        ∙ map_same (λ label. island_of seen rows (group_members labels label)) (λ label. island_of bodies rows (group_members labels label))
         (filter q (active_labels labels bodies))
         (λ i d within.
         let label = get_or (filter q (active_labels labels bodies)) i d in
         let active = All-filter q (λ n. is_active_label labels bodies n ≡ true) (active_labels labels bodies)
         (chosen_pass (is_active_label labels bodies) (range_with_len 0 (length labels))) i d within in
         let chosen = chosen_pass q (active_labels labels bodies) i d within in
-        ap (λ (bs : List BodyState). record { numbers = members labels label; bodies = bs; rows = rows_among (members labels label) rows })
+        ap (λ (bs : List BodyState). record { numbers = group_members labels label; bodies = bs; rows = rows_among (group_members labels label) rows })
         (seen_states label active chosen))

@@ -13,7 +13,7 @@ use Rattle.pf_cache.proofs.ChosenNumbers.{chosen_pass, range_within}
 use Rattle.pf_islands.specs.Dealing.{group_of_row, group_of_sides}
 use Rattle.pf_islands.specs.Flags.{awake_numbers}
 use Rattle.pf_islands.specs.Group.{group, groups}
-use Rattle.pf_islands.specs.Island.{members}
+use Rattle.pf_islands.specs.Island.{group_members}
 use Rattle.pf_islands.specs.Lone.{group_of_touch, only_awake}
 use Rattle.pf_islands.specs.Reach.{AreNeighbours, IsChain, connects}
 use Rattle.pf_islands.specs.Rows.{active_points, active_rows, is_active_contact, is_awake_at, row_of, side_of}
@@ -300,7 +300,7 @@ module _ (s : Scene) (bodies : List BodyState) (touches : List Touch) (count : l
         (λ some. true≢false (sym (has (get_or labels i 0) (low i within) some) ∙ other)))
 
     pub lone_members : (label : ℕ) → label < length s.fixtures → get_or labels label 0 ≡ label → q label ≡ false
-        → members labels label ≡ label ∷ []
+        → group_members labels label ≡ label ∷ []
     lone_members label within own other =
         filter_same (λ k. get_or labels k 0 == label) (λ k. k == label) (range_with_len 0 (length labels))
         (λ i d inside.
@@ -322,7 +322,7 @@ module _ (s : Scene) (bodies : List BodyState) (touches : List Touch) (count : l
 
     -- the awake bodies of the other groups
     pub lone_are : filter (λ n. not (q (get_or labels n 0))) (awake_numbers bodies)
-        ≡ flat_map (members labels) (filter (λ label. not (q label)) (active_labels labels bodies))
+        ≡ flat_map (group_members labels) (filter (λ label. not (q label)) (active_labels labels bodies))
     lone_are =
         filter_twice (is_awake_at bodies) (λ n. not (q (get_or labels n 0))) (range_with_len 0 (length bodies))
         ∙ ap (λ n. filter (λ k. is_awake_at bodies k && not (q (get_or labels k 0))) (range_with_len 0 n)) (count ∙ sym long)
@@ -347,11 +347,11 @@ module _ (s : Scene) (bodies : List BodyState) (touches : List Touch) (count : l
         others : List ℕ
         others = filter (λ k. not (q k)) (active_labels labels bodies)
 
-        singles : (ns : List ℕ) → All (λ n. members labels n ≡ n ∷ []) ns → flat_map (members labels) ns ≡ ns
+        singles : (ns : List ℕ) → All (λ n. group_members labels n ≡ n ∷ []) ns → flat_map (group_members labels) ns ≡ ns
         singles [] all = refl
         singles (n ∷ ns) all =
-            ap₂ (λ xs ys. xs ++ ys) (All-head (λ m. members labels m ≡ m ∷ []) n ns all)
-            (singles ns (All-tail (λ m. members labels m ≡ m ∷ []) n ns all))
+            ap₂ (λ xs ys. xs ++ ys) (All-head (λ m. group_members labels m ≡ m ∷ []) n ns all)
+            (singles ns (All-tail (λ m. group_members labels m ≡ m ∷ []) n ns all))
 
         by : (k : ℕ) → k < length s.fixtures → (e : Bool) → (get_or labels k 0 == k) ≡ e → (a : Bool)
             → (a && not (q (get_or labels k 0))) ≡ (((get_or labels k 0 == k) && a) && not (q k))

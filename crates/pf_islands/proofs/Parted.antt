@@ -14,7 +14,7 @@ use Rattle.pf_islands.specs.declared.splitting.LoneBodies.{LoneBodies}
 use Rattle.pf_islands.specs.declared.splitting.LoneBodies.TheVariants.{AreIslands, AreListed}
 use Rattle.pf_islands.specs.Flags.{awake_numbers}
 use Rattle.pf_islands.specs.Group.{groups}
-use Rattle.pf_islands.specs.Island.{members}
+use Rattle.pf_islands.specs.Island.{group_members}
 use Rattle.pf_islands.specs.Lone.{group_of_touch, is_dealt, is_made, is_touched, lone_bodies, made_islands, only_awake}
 use Rattle.pf_islands.specs.Rows.{active_rows, is_active_contact, is_awake_at}
 use Rattle.pf_islands.specs.Settled.{AreSettled, active_places, touches_at}
@@ -76,7 +76,7 @@ module _ (s : Scene) (bodies : List BodyState) (touches : List Touch) (contacts 
         has AreListed label within some = ap not (counted label within ∙ ap not some)
 
         abbrev named : ℕ → Island
-        named label = island_of bodies rows (members labels label)
+        named label = island_of bodies rows (group_members labels label)
 
         -- a label of a group that is simulated is low
         labels_within : All (λ label. label < length labels) (active_labels labels bodies)

@@ -17,7 +17,7 @@ use Rattle.pf_rows.specs.Row.{IsSide, Row}
 use Rattle.pf_cache.specs.Contact.{Contact}
 use Rattle.pf_islands.specs.Flags.{awake_numbers}
 use Rattle.pf_islands.specs.Group.{OthersAreAlone, group, groups, merged_label}
-use Rattle.pf_islands.specs.Island.{members}
+use Rattle.pf_islands.specs.Island.{group_members}
 use Rattle.pf_islands.specs.Reach.{connects}
 use Rattle.pf_islands.specs.Rows.{active_points, active_rows, is_active_contact, is_awake_at}
 use Rattle.pf_islands.specs.Settled.{AreSettled, no_touch, touches_at, wakes_none}
@@ -323,8 +323,8 @@ module _ (s : Scene) (bodies : List BodyState) (touches : List Touch) (count : l
       (λ i. is_active_label (groups s chosen) bodies i ≡ is_active_label (groups s touches) bodies i) same_active
       (range_with_len 0 (length (groups s touches))) bodies_within)
 
-  -- and these groups have the same members
-  pub same_members : (label : ℕ) → up label ≡ true → members (groups s chosen) label ≡ members (groups s touches) label
+  -- and these groups have the same group_members
+  pub same_members : (label : ℕ) → up label ≡ true → group_members (groups s chosen) label ≡ group_members (groups s touches) label
   same_members label is =
       ap (filter (λ i. get_or (groups s chosen) i 0 == label)) range_is
       ∙ filter_same (λ i. get_or (groups s chosen) i 0 == label) (λ i. get_or (groups s touches) i 0 == label)
@@ -345,9 +345,9 @@ module _ (s : Scene) (bodies : List BodyState) (touches : List Touch) (count : l
   -- so the islands are the same
   pub islands_same : (rows : List Row) → islands (groups s chosen) bodies rows ≡ islands (groups s touches) bodies rows
   islands_same rows =
-      ap (map (λ label. island_of bodies rows (members (groups s chosen) label))) same_active_labels
-      ∙ map_where (λ label. up label ≡ true) (λ label. island_of bodies rows (members (groups s chosen) label))
-      (λ label. island_of bodies rows (members (groups s touches) label))
+      ap (map (λ label. island_of bodies rows (group_members (groups s chosen) label))) same_active_labels
+      ∙ map_where (λ label. up label ≡ true) (λ label. island_of bodies rows (group_members (groups s chosen) label))
+      (λ label. island_of bodies rows (group_members (groups s touches) label))
       (λ label is. ap (island_of bodies rows) (same_members label is))
       (active_labels (groups s touches) bodies)
       (All-weaker (λ label. is_active_label (groups s touches) bodies label ≡ true) (λ label. up label ≡ true)

@@ -13,7 +13,7 @@ use Rattle.pf_rows.specs.declared.row.Side.TheVariants.{Static, Dynamic}
 use Rattle.pf_cache.specs.Contact.{Contact}
 use Rattle.pf_rows.specs.Row.{IsSide}
 use Rattle.pf_islands.specs.Group.{group, groups}
-use Rattle.pf_islands.specs.Reach.{AreNeighbours, IsBetween, connects}
+use Rattle.pf_islands.specs.Reach.{AreNeighbours, ConnectsBodies, connects}
 use Rattle.pf_islands.specs.Rows.{active_points, active_rows, is_active_contact, is_awake_at, is_simulated_at, row_of, side_of}
 use Rattle.pf_islands.specs.Sleep.{is_active, woken_bodies}
 use Rattle.pf_islands.specs.Split.{AreTogether, AreWoken, IsActiveRow, is_active_label, is_awake_side}
@@ -24,10 +24,10 @@ use Rattle.pf_islands.proofs.Starting.{group_low, groups_long}
 
 -- a contact point that connects two bodies makes them neighbours
 pub neighbours_at : (s : Scene) (touches : List Touch) (k : ℕ) (t : Touch) (a b : ℕ) → slice_get touches k ≡ Some t
-    → IsBetween s t a b → AreNeighbours s touches a b
+    → ConnectsBodies s t a b → AreNeighbours s touches a b
 neighbours_at s [] k t a b here between = absurd cc
 neighbours_at s (x ∷ touches) zero t a b here between =
-    inl (subst (λ (y : Touch). IsBetween s y a b) (sym (same_element x t here)) between)
+    inl (subst (λ (y : Touch). ConnectsBodies s y a b) (sym (same_element x t here)) between)
 neighbours_at s (x ∷ touches) (suc k) t a b here between = inr (neighbours_at s touches k t a b here between)
 
 module _ (s : Scene) (touches : List Touch) where
@@ -95,7 +95,7 @@ module _ (s : Scene) (touches : List Touch) where
       → group s touches t.a ≡ group s touches t.b
   one_group k t stands a_moves b_moves =
       let joins : connects s t ≡ true = rw (a_moves, b_moves) refl in
-      let between : IsBetween s t t.a t.b = (joins, inl (refl, refl)) in
+      let between : ConnectsBodies s t t.a t.b = (joins, inl (refl, refl)) in
       one_name s touches t.a t.b (t.b ∷ [], (neighbours_at s touches k t t.a t.b stands between, refl))
 
   -- the dynamic bodies of a contact are in one group

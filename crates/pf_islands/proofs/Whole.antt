@@ -17,7 +17,7 @@ use Rattle.pf_cache.specs.Contact.{Contact}
 use Rattle.pf_rows.specs.Row.{AreApart, AreRows, IsSide, Row}
 use Rattle.pf_cache.specs.ContactRows.{AreRowsAt, IsRowAt}
 use Rattle.pf_islands.specs.Dealing.{group_of_row, group_of_sides}
-use Rattle.pf_islands.specs.Island.{IsOwnOrOther, IsOwnSide, has_number, is_among, members, place_of, row_among, rows_among, side_among, states_of, touches_one}
+use Rattle.pf_islands.specs.Island.{IsOwnOrOther, IsOwnSide, has_number, is_among, group_members, place_of, row_among, rows_among, side_among, states_of, touches_one}
 use Rattle.pf_islands.specs.Join.{IsAtHome}
 use Rattle.pf_islands.specs.Rows.{IsRowOf, is_awake_at}
 use Rattle.pf_islands.specs.Split.{AreTogether, AreWoken, IsActiveRow, IsIslandOf, Island, active_labels, is_active_label, island_of, islands}
@@ -134,7 +134,7 @@ rows_among_at contacts numbers rows are = record {
 
 module _ (labels : List ℕ) (bodies : List BodyState) where
   -- a contact touches the bodies of one group alone
-  pub own_or_other : (label : ℕ) (r : Row) → IsActiveRow labels bodies r → IsOwnOrOther (members labels label) r
+  pub own_or_other : (label : ℕ) (r : Row) → IsActiveRow labels bodies r → IsOwnOrOther (group_members labels label) r
   own_or_other label r is = by r.entry.first r.entry.second is.first is.second is.together
     where
       left : (x : Bool) → (x || false) ≡ true → x ≡ true
@@ -147,13 +147,13 @@ module _ (labels : List ℕ) (bodies : List BodyState) where
 
       by : (first second : Side) → IsSide (length labels) first → IsSide (length labels) second
           → AreTogether labels first second
-          → (is_among (members labels label) first || is_among (members labels label) second) ≡ true
-          → IsOwnSide (members labels label) first × IsOwnSide (members labels label) second
+          → (is_among (group_members labels label) first || is_among (group_members labels label) second) ≡ true
+          → IsOwnSide (group_members labels label) first × IsOwnSide (group_members labels label) second
       by Static Static one two same h = (tt, tt)
       by Static (Dynamic b) one two same h = (tt, h)
-      by (Dynamic a) Static one two same h = (left (has_number (members labels label) a) h, tt)
+      by (Dynamic a) Static one two same h = (left (has_number (group_members labels label) a) h, tt)
       by (Dynamic a) (Dynamic b) one two same h =
-          both (has_number (members labels label) a) (has_number (members labels label) b)
+          both (has_number (group_members labels label) a) (has_number (group_members labels label) b)
           (is_member labels bodies label a one ∙ ap (λ n. n == label) same ∙ sym (is_member labels bodies label b two)) h
 
   -- a dynamic body of a contact that is simulated is awake
@@ -180,15 +180,15 @@ module _ (labels : List ℕ) (bodies : List BodyState) where
       by Static Static one two same active (inl here) = absurd cc
       by Static Static one two same active (inr here) = absurd cc
 
-  -- members are bodies
-  pub members_within : (label : ℕ) → All (λ n. n < length labels) (members labels label)
+  -- group_members are bodies
+  pub members_within : (label : ℕ) → All (λ n. n < length labels) (group_members labels label)
   members_within label =
       All-filter (λ i. get_or labels i 0 == label) (λ n. n < length labels) (range_with_len 0 (length labels))
       (range_within 0 (length labels) (length labels) (omega arith))
 
   module _ (rows : List Row) where
     abbrev island_named : ℕ → Island
-    island_named label = island_of bodies rows (members labels label)
+    island_named label = island_of bodies rows (group_members labels label)
 
     -- each island fits the scene
     pub islands_fit : (s : Scene) → All (IsActiveRow labels bodies) rows → All (IsRowOf s (length bodies)) rows
@@ -199,7 +199,7 @@ module _ (labels : List ℕ) (bodies : List BodyState) where
       where
         fit : (label : ℕ) → IsIslandOf s (island_named label)
         fit label =
-            let numbers = members labels label in
+            let numbers = group_members labels label in
             let long : length (states_of numbers bodies) ≡ length numbers = length-map numbers _ in
             record {
               paired = long;
@@ -215,7 +215,7 @@ module _ (labels : List ℕ) (bodies : List BodyState) where
     islands_at_home =
         All-map (IsAtHome (length labels)) island_named (active_labels labels bodies)
         (λ k d within. record {
-          paired = length-map (members labels (get_or (active_labels labels bodies) k d)) _;
+          paired = length-map (group_members labels (get_or (active_labels labels bodies) k d)) _;
           within = members_within (get_or (active_labels labels bodies) k d);
         })
 
@@ -224,7 +224,7 @@ module _ (labels : List ℕ) (bodies : List BodyState) where
         → All (λ (i : Island). AreRowsAt contacts i.rows) (islands labels bodies rows)
     islands_at_contacts contacts are =
         All-map (λ (i : Island). AreRowsAt contacts i.rows) island_named (active_labels labels bodies)
-        (λ k d within. rows_among_at contacts (members labels (get_or (active_labels labels bodies) k d)) rows are)
+        (λ k d within. rows_among_at contacts (group_members labels (get_or (active_labels labels bodies) k d)) rows are)
 
     -- the group of this label has an island
     any_island : (q : Island → Bool) (label : ℕ) → label < length labels → is_active_label labels bodies label ≡ true

@@ -5,7 +5,7 @@ use Rattle.pf_shapes.specs.Body.{BodyState}
 use Rattle.pf_rows.specs.declared.row.Side.{Side}
 use Rattle.pf_rows.specs.declared.row.Side.TheVariants.{Static, Dynamic}
 use Rattle.pf_rows.specs.Row.{IsSide, Row}
-use Rattle.pf_islands.specs.Island.{members, place_of}
+use Rattle.pf_islands.specs.Island.{group_members, place_of}
 use Rattle.pf_islands.specs.Rows.{is_awake_at}
 use Rattle.pf_islands.specs.Split.{Island, is_active_label}
 
@@ -21,8 +21,8 @@ AreSlots labels bodies slots =
     → slice_index_or slots i 0 ≡ slot_of labels bodies i
 
 -- an island with one body more
-abbrev pub with_body : ℕ → BodyState → Island → Island
-with_body number body i = record i {
+abbrev pub with_island_body : ℕ → BodyState → Island → Island
+with_island_body number body i = record i {
   numbers = i.numbers ++ number ∷ [];
   bodies = i.bodies ++ body ∷ [];
 }
@@ -65,4 +65,4 @@ placed_row places r = record r {
 abbrev pub ArePlaces : List ℕ → List BodyState → List ℕ → Type 0
 ArePlaces labels bodies places =
     (i : ℕ) → i < length labels → is_awake_at bodies i ≡ true
-    → slice_index_or places i 0 ≡ place_of (members labels (slice_index_or labels i 0)) i
+    → slice_index_or places i 0 ≡ place_of (group_members labels (slice_index_or labels i 0)) i

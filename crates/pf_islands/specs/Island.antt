@@ -8,8 +8,8 @@ use Rattle.pf_rows.specs.declared.row.Side.TheVariants.{Static, Dynamic}
 use Rattle.pf_rows.specs.Row.{Row}
 
 -- the bodies of the group of this label, by their numbers
-abbrev pub members : List ℕ → ℕ → List ℕ
-members labels label =
+abbrev pub group_members : List ℕ → ℕ → List ℕ
+group_members labels label =
     filter (λ i. slice_index_or labels i 0 == label) (range_with_len 0 (length labels))
 
 -- a body is one of these

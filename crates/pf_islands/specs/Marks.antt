@@ -4,8 +4,8 @@ use Rattle.std.specs.List.{zip}
 use Rattle.pf_shapes.specs.Body.{BodyState}
 
 -- a body is awake where its group has a mark
-abbrev pub woken_body : List Bool → ℕ × BodyState → BodyState
-woken_body marks m = record m.1 { awake = slice_index_or marks m.0 false }
+abbrev pub marked_body : List Bool → ℕ × BodyState → BodyState
+marked_body marks m = record m.1 { awake = slice_index_or marks m.0 false }
 
 -- the bodies, each changed by its state and the label of its group
 abbrev pub each_labelled : (ℕ × BodyState → BodyState) → List ℕ → List BodyState → List BodyState

@@ -9,13 +9,13 @@ abbrev pub connects : Scene → Touch → Bool
 connects s t = not (is_static_at s t.a) && not (is_static_at s t.b)
 
 -- a contact point connects these two bodies
-abbrev pub IsBetween : Scene → Touch → ℕ → ℕ → Type 0
-IsBetween s t a b = (connects s t ≡ true) × (((t.a ≡ a) × (t.b ≡ b)) ⊎ ((t.a ≡ b) × (t.b ≡ a)))
+abbrev pub ConnectsBodies : Scene → Touch → ℕ → ℕ → Type 0
+ConnectsBodies s t a b = (connects s t ≡ true) × (((t.a ≡ a) × (t.b ≡ b)) ⊎ ((t.a ≡ b) × (t.b ≡ a)))
 
 -- two bodies are neighbours: one of the contact points connects them
 abbrev pub AreNeighbours : Scene → List Touch → ℕ → ℕ → Type 0
 AreNeighbours s [] a b = ⊥
-AreNeighbours s (t ∷ touches) a b = IsBetween s t a b ⊎ AreNeighbours s touches a b
+AreNeighbours s (t ∷ touches) a b = ConnectsBodies s t a b ⊎ AreNeighbours s touches a b
 
 -- a chain from one body to another, in which each body is a neighbour of the next
 abbrev pub IsChain : Scene → List Touch → ℕ → List ℕ → ℕ → Type 0

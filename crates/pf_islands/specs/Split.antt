@@ -7,7 +7,7 @@ use Rattle.pf_shapes.specs.Scene.{Scene}
 use Rattle.pf_rows.specs.declared.row.Side.{Side}
 use Rattle.pf_rows.specs.declared.row.Side.TheVariants.{Static, Dynamic}
 use Rattle.pf_rows.specs.Row.{IsSide, Row}
-use Rattle.pf_islands.specs.Island.{members, rows_among, states_of}
+use Rattle.pf_islands.specs.Island.{group_members, rows_among, states_of}
 use Rattle.pf_islands.specs.Rows.{IsRowOf, is_awake_at}
 
 -- some bodies by their numbers, their states, and the contacts that touch them
@@ -46,7 +46,7 @@ island_of bodies rows numbers = record {
 -- one island for each group that is simulated, in the order of their least bodies
 abbrev pub islands : List ℕ → List BodyState → List Row → List Island
 islands labels bodies rows =
-    map (λ label. island_of bodies rows (members labels label)) (active_labels labels bodies)
+    map (λ label. island_of bodies rows (group_members labels label)) (active_labels labels bodies)
 
 -- groups are awake as wholes: the awake bodies are those of the groups that are simulated
 pub record AreWoken (labels : List ℕ) (bodies : List BodyState) : Type 0 where

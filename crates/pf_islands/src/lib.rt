@@ -16,5 +16,5 @@ mod splitting;
 pub use awake::AwakeSearch;
 pub use island::Island;
 pub use joining::join_back;
-pub use sleep::{fall_asleep, rest_alone};
+pub use sleep::{fall_asleep, sleep_if_still};
 pub use splitting::{LoneBodies, Parts, split, wake_and_split};

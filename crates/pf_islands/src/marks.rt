@@ -2,7 +2,7 @@
 
 ghost use Rattle.std.specs.Prelude.{◌≡◌, ◌<◌, All, IfOk, IsOk, length, map};
 ghost use Rattle.std.specs.List.{range_with_len};
-ghost use Rattle.pf_islands.specs.Marks.{each_labelled, woken_body};
+ghost use Rattle.pf_islands.specs.Marks.{each_labelled, marked_body};
 ghost use Rattle.pf_islands.specs.Sleep.{is_active};
 
 use pf_shapes::BodyState;
@@ -39,7 +39,7 @@ pub fn wake_marked(marks: &[bool], labels: &[usize], bodies: &mut [BodyState])
     requires marks { length marks.now ≡ length labels.now }
     requires bodies { length bodies.old ≡ length labels.now }
     requires labelled { All (λ label. label < length labels.now) labels.now }
-    ensures { bodies.new ≡ each_labelled (woken_body marks.now) labels.now bodies.old }
+    ensures { bodies.new ≡ each_labelled (marked_body marks.now) labels.now bodies.old }
 {
     for (number, body) in bodies.iter_mut().enumerate() {
         body.awake = marks[labels[number]];

@@ -39,7 +39,7 @@ fn have_timer(bodies: &[BodyState], full: u8) -> bool
 /// Stops all bodies of a group and puts them to sleep, if the timer of each is `full`. Takes no
 /// memory.
 #[inline]
-pub fn rest_alone(bodies: &mut [BodyState], full: u8)
+pub fn sleep_if_still(bodies: &mut [BodyState], full: u8)
     ensures { bodies.new ≡ island_after_sleep full bodies.old }
 {
     if have_timer(bodies, full) {

@@ -10,14 +10,14 @@ ghost use Rattle.pf_manifold.specs.Touches.{IsTouchOf};
 ghost use Rattle.pf_cache.specs.Manifolds.{kept_touches};
 ghost use Rattle.pf_cache.specs.Spans.{AreListedPlaces};
 ghost use Rattle.pf_islands.specs.Group.{groups as groups_of};
-ghost use Rattle.pf_islands.specs.Island.{members};
+ghost use Rattle.pf_islands.specs.Island.{group_members};
 ghost use Rattle.pf_islands.specs.Lone.{is_dealt, lone_bodies, made_islands, only_awake};
 ghost use Rattle.pf_islands.specs.Rows.{active_rows, is_awake_at, row_of};
 ghost use Rattle.pf_islands.specs.Flags.{ListsAwake, awake_numbers};
 ghost use Rattle.pf_islands.specs.Settled.{AreSettled, active_places, touches_at};
 ghost use Rattle.pf_islands.specs.Sleep.{woken_bodies};
 ghost use Rattle.pf_islands.specs.Split.{AreWoken, IsIslandOf, active_labels, is_active_label, island_of, islands, no_island};
-ghost use Rattle.pf_islands.specs.Dealing.{ArePlaces, AreSlots, HasIsland, group_of_row, group_of_sides, placed_row, placed_side, slot_of, with_body, with_row};
+ghost use Rattle.pf_islands.specs.Dealing.{ArePlaces, AreSlots, HasIsland, group_of_row, group_of_sides, placed_row, placed_side, slot_of, with_island_body, with_row};
 
 use crate::active::{Active, active_of, side_of, wake_none};
 use crate::awake::AwakeSearch;
@@ -69,8 +69,10 @@ fn empty_islands(
     requires numbers { numbers.now ≡ awake_numbers (only_awake numbers.now bodies.now) }
     requires rows { length rows.items ≡ length labels.now }
     ensures islands { IfOk result
-        (λ made. made.0.items ≡ map (λ label. no_island) (active_labels labels.now (only_awake numbers.now bodies.now))) }
-    ensures slots { IfOk result (λ made. AreSlots labels.now (only_awake numbers.now bodies.now) made.1.items) }
+        (λ made. made.0.items ≡ map (λ label. no_island)
+        (active_labels labels.now (only_awake numbers.now bodies.now))) }
+    ensures slots { IfOk result
+        (λ made. AreSlots labels.now (only_awake numbers.now bodies.now) made.1.items) }
     ensures as_many { IfOk result (λ made. length made.1.items ≡ length labels.now) }
     ensures no_memory { length labels.now ≡ 0 → IsOk result }
 {
@@ -101,7 +103,7 @@ fn add_body(
     ensures place { IfOk result
         (λ place. place ≡ length (slice_index_or islands.old slot no_island).numbers) }
     ensures added { OnOk result (islands.new ≡ slice_set islands.old slot
-        (with_body number body.now (slice_index_or islands.old slot no_island))) }
+        (with_island_body number body.now (slice_index_or islands.old slot no_island))) }
 {
     let island = &mut islands[slot];
     let place = island.numbers.len();
@@ -134,18 +136,22 @@ fn deal_bodies(
     requires bodies { length bodies.now ≡ length labels.now }
     requires seen { length (only_awake numbers.now bodies.now) ≡ length labels.now }
     requires states { (k : ℕ) → is_awake_at (only_awake numbers.now bodies.now) k ≡ true
-        → slice_index_or bodies.now k no_state ≡ slice_index_or (only_awake numbers.now bodies.now) k no_state }
+        → slice_index_or bodies.now k no_state
+        ≡ slice_index_or (only_awake numbers.now bodies.now) k no_state }
     requires numbers { numbers.now ≡ awake_numbers (only_awake numbers.now bodies.now) }
     requires places { length places.old ≡ length labels.now }
     requires slots { AreSlots labels.now (only_awake numbers.now bodies.now) slots.now }
     requires as_many { length slots.now ≡ length labels.now }
     requires labelled { All (λ label. label < length labels.now) labels.now }
     requires woken_bodies { AreWoken labels.now (only_awake numbers.now bodies.now) }
-    requires empty { islands.old ≡ map (λ label. no_island) (active_labels labels.now (only_awake numbers.now bodies.now)) }
+    requires empty { islands.old ≡ map (λ label. no_island)
+        (active_labels labels.now (only_awake numbers.now bodies.now)) }
     ensures islands { OnOk result (islands.new
-        ≡ map (λ label. island_of (only_awake numbers.now bodies.now) [] (members labels.now label))
+        ≡ map (λ label.
+        island_of (only_awake numbers.now bodies.now) [] (group_members labels.now label))
         (active_labels labels.now (only_awake numbers.now bodies.now))) }
-    ensures places { OnOk result (ArePlaces labels.now (only_awake numbers.now bodies.now) places.new) }
+    ensures places { OnOk result
+        (ArePlaces labels.now (only_awake numbers.now bodies.now) places.new) }
     ensures no_memory { (only_awake numbers.now bodies.now) ≡ [] → IsOk result }
 {
     for number in numbers {
@@ -291,13 +297,15 @@ fn deal(
     requires bodies { length bodies.now ≡ length scene.now.fixtures }
     requires seen { length (only_awake numbers.now bodies.now) ≡ length scene.now.fixtures }
     requires states { (k : ℕ) → is_awake_at (only_awake numbers.now bodies.now) k ≡ true
-        → slice_index_or bodies.now k no_state ≡ slice_index_or (only_awake numbers.now bodies.now) k no_state }
+        → slice_index_or bodies.now k no_state
+        ≡ slice_index_or (only_awake numbers.now bodies.now) k no_state }
     requires touches { All (IsTouchOf (length (only_awake numbers.now bodies.now))) touches.now }
     requires contacts { length contacts.now ≡ length touches.now }
     requires settled { AreSettled scene.now (only_awake numbers.now bodies.now) touches.now }
     requires labelled { labels.now ≡ groups_of scene.now (touches_at touches.now places.now) }
     requires numbers { numbers.now ≡ awake_numbers (only_awake numbers.now bodies.now) }
-    requires active { places.now ≡ active_places scene.now (only_awake numbers.now bodies.now) touches.now }
+    requires active { places.now
+        ≡ active_places scene.now (only_awake numbers.now bodies.now) touches.now }
     requires within { All (λ place. place < length touches.now) places.now }
     requires rows { length rows.items ≡ length labels.now }
     ensures value { IfOk result (λ found. found.items
@@ -393,9 +401,9 @@ fn woken_bodies(
 /// The phase Activity, and the islands of a tick, as Box2D 2.x's `b2World::Solve` makes them: an
 /// island for each group that has an awake body, in the order of their least bodies, with copies of
 /// the bodies of the group, all of them awake, and with the contacts that touch them. The bodies
-/// themselves stay as they are. Of groups without contacts `lone` says whether islands are made. The groups are those of the contact points that `manifolds` holds,
-/// and the contacts are theirs. The islands are made in the memory of the spare ones, whose bodies
-/// and contacts are gone.
+/// themselves stay as they are. Of groups without contacts `lone` says whether islands are made.
+/// The groups are those of the contact points that `manifolds` holds, and the contacts are theirs.
+/// The islands are made in the memory of the spare ones, whose bodies and contacts are gone.
 pub fn split(
     alloc: Global,
     spare: Vec<Island>,

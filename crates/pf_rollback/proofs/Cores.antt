@@ -16,7 +16,7 @@ use Rattle.pf_commands.proofs.Ticks.{payloads_at-other, payloads_at-before}
 use Rattle.pf_step.specs.Simulation.{sim}
 use Rattle.pf_step.specs.Step.{step}
 use Rattle.pf_step.specs.Work.{KnowsWorld, Work}
-use Rattle.pf_step.specs.World.{World, start_of}
+use Rattle.pf_step.specs.World.{World, start_world}
 use Rattle.pf_step.specs.Meter.{Meter, saturating_sum}
 use Rattle.pf_step.specs.Split.{Island}
 use Rattle.pf_rollback.specs.Core.{PeerCore, IsPeerCore, HasSettled, AreAllowed, count_after, news_tick, peer_of}
@@ -153,11 +153,11 @@ core_stepped (Err fault) s player reached m kept after latest world is below las
 
 -- the core of a peer that begins
 pub core_new : (s : Scene) (player : ℕ) (commands : CommandMap) (kept : Snapshots) (start : World) → player < PLAYERS
-    → commands ≡ empty → start ≡ start_of s → length start.bodies ≡ length s.fixtures
+    → commands ≡ empty → start ≡ start_world s → length start.bodies ≡ length s.fixtures
     → (kept.horizon ≡ 0) × (kept.base ≡ start)
     → ((t : ℕ) (w : World) → IsKept kept t w → (t ≡ 0) × (w ≡ start)) → (ring : ℕ) → ticks_of kept ≡ no_ticks ring
     → IsPeerCore s (peer_of player commands 0 kept) kept
-unfolding start_of settled_tick
+unfolding start_world settled_tick
 core_new s player commands kept start below none begins bodies base worlds ring ticks = record {
   peer = record {
     player = below;

@@ -7,7 +7,7 @@ use Rattle.pf_commands.specs.Ticks.{commands_from}
 use Rattle.pf_commands.proofs.Since.{payloads_at-from}
 use Rattle.pf_step.specs.Simulation.{sim}
 use Rattle.pf_step.specs.Step.{step}
-use Rattle.pf_step.specs.World.{World, start_of}
+use Rattle.pf_step.specs.World.{World, start_world}
 use Rattle.pf_step.proofs.Empty.{step_empty, step_no_contacts}
 use Rattle.pf_step.proofs.Lengths.{step_length}
 use Rattle.pf_rollback.specs.Horizon.{sim_from, sim_at}
@@ -98,9 +98,9 @@ sim_at_continued s base horizon m k tick later is same =
     let all : horizon + (tick - horizon) ≡ tick = omega arith in
     sim_continued s base horizon m k (tick - horizon) is (λ i below. same (horizon + i) (omega arith)) ∙ ap (sim s k) all
 
-pub sim_at_start : (s : Scene) (m : CommandMap) (tick : ℕ) → sim_at s (start_of s) 0 m tick ≡ sim s m tick
+pub sim_at_start : (s : Scene) (m : CommandMap) (tick : ℕ) → sim_at s (start_world s) 0 m tick ≡ sim s m tick
 unfolding sim
-sim_at_start s m tick = sim_at_continued s (start_of s) 0 m m tick (omega arith) refl (λ t later. refl)
+sim_at_start s m tick = sim_at_continued s (start_world s) 0 m m tick (omega arith) refl (λ t later. refl)
 
 -- ---- from a later tick
 

@@ -10,7 +10,7 @@ use Rattle.pf_commands.specs.Name.{Name}
 use Rattle.pf_commands.specs.News.{is_news}
 use Rattle.pf_step.specs.Meter.{Meter, saturating_sum}
 use Rattle.pf_step.specs.Work.{no_work}
-use Rattle.pf_step.specs.World.{World, start_of}
+use Rattle.pf_step.specs.World.{World, start_world}
 use Rattle.pf_rollback.specs.declared.snapshots.TheConstants.{KEYFRAME_INTERVAL}
 use Rattle.pf_rollback.specs.Kept.{Ticks, no_ticks, settled_tick, ticks_after_news, ticks_after_more}
 use Rattle.pf_rollback.specs.Peer.{Peer, IsPeer, new_peer, world_of}
@@ -56,7 +56,7 @@ AreAllowed scene commands =
 pub record IsPeerCore (scene : Scene) (p : Peer) (kept : Snapshots) : Type 0 where
   pub peer : IsPeer p
   pub bodies : length p.base.bodies ≡ length scene.fixtures
-  pub start : p.horizon ≡ 0 → p.base ≡ start_of scene
+  pub start : p.horizon ≡ 0 → p.base ≡ start_world scene
   pub allowed : AreAllowed scene p.commands
   pub worlds : (tick : ℕ) (world : World) → IsKept kept tick world
       → world ≡ world_of scene p tick

@@ -18,7 +18,7 @@ use Rattle.pf_commands.specs.Ticks.{IsFrom, commands_from, is_from}
 use Rattle.pf_commands.specs.News.{put_outcome, news}
 use Rattle.pf_rollback.specs.declared.error.Refusal.{Refusal}
 use Rattle.pf_rollback.specs.declared.error.Refusal.TheVariants.{TickLimit, NumbersSpent, Frame, Check, NotReached, TooOld, HorizonsDiffer, BasesDiffer}
-use Rattle.pf_step.specs.World.{World, same_world, start_of}
+use Rattle.pf_step.specs.World.{World, same_world, start_world}
 use Rattle.pf_rollback.specs.Horizon.{sim_at}
 
 -- a peer of a player. What came before the horizon is sealed: the world there has its effects.
@@ -41,7 +41,7 @@ abbrev pub new_peer : Scene → ℕ → Peer
 new_peer s player = record {
   player = player;
   horizon = 0;
-  base = start_of s;
+  base = start_world s;
   commands = empty;
   reached = 0;
 }

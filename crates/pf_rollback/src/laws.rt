@@ -15,7 +15,7 @@ ghost use Rattle.pf_commands.specs.Name.{Name};
 ghost use Rattle.pf_commands.specs.Payload.{IsPayload};
 ghost use Rattle.pf_commands.specs.Ticks.{IsFrom, commands_before};
 ghost use Rattle.pf_step.specs.Simulation.{sim};
-ghost use Rattle.pf_step.specs.World.{World, start_of};
+ghost use Rattle.pf_step.specs.World.{World, start_world};
 ghost use Rattle.pf_step.specs.Meter.{saturating_sum};
 ghost use Rattle.pf_rollback.specs.Core.{count_after};
 ghost use Rattle.pf_rollback.specs.Kept.{Ticks, last_tick, later_than, settled_tick, ticks_after_more, up_to};
@@ -39,7 +39,7 @@ pub fn same_commands_same_worlds()
 /// The simulation from a horizon of 0 and the start world is the one from tick zero.
 pub fn unsealed_peers_simulate_from_tick_zero()
     ensures { (scene : Scene) (commands : CommandMap) (tick : ℕ)
-        → sim_at scene (start_of scene) 0 commands tick ≡ sim scene commands tick }
+        → sim_at scene (start_world scene) 0 commands tick ≡ sim scene commands tick }
 {}
 
 /// A seal changes no world that the peer can still show.

@@ -10,7 +10,7 @@ use Rattle.pf_commands.specs.Merge.{IsCommand, put_all}
 use Rattle.pf_links.specs.Link.{Frame, got, handed}
 use Rattle.pf_links.specs.declared.input.LinkIn.{LinkIn}
 use Rattle.pf_rollback.specs.Core.{PeerCore}
-use Rattle.pf_step.specs.World.{start_of}
+use Rattle.pf_step.specs.World.{start_world}
 use Rattle.pf_scripts.specs.Frames.{commands_in, core_setting}
 use Rattle.pf_scripts.specs.Peer.{IsLater, WereHanded, all_fresh, commands_of, scripted_player, setting_of}
 use Rattle.pf_scripts.specs.Play.{HasPlayed}
@@ -26,7 +26,7 @@ use Rattle.pf_sessions.proofs.Zips.{all_on}
 -- a peer of the scene that has played this script as its first
 pub record IsPlayed (s : Scene) (player : ℕ) (script : List Turn) (p : Peer) : Type 0 where
   pub setting : setting_of p ≡ unsealed s
-  pub base : (scripted_player p).base ≡ start_of s
+  pub base : (scripted_player p).base ≡ start_world s
   pub player_is : (scripted_player p).player ≡ player
   pub reached : (scripted_player p).reached ≡ script_ticks script
   pub kept : p.kept ≡ None

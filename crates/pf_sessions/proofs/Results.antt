@@ -22,7 +22,7 @@ use Rattle.pf_scripts.specs.declared.peer.Peer.{Peer}
 use Rattle.pf_scripts.specs.declared.turn.Turn.{Turn}
 use Rattle.pf_scripts.proofs.Maps.{all_append, put_all-append}
 use Rattle.pf_scripts.proofs.Members.{SameMembers, members_append, members_exchange, members_refl, members_then}
-use Rattle.pf_step.specs.World.{World, start_of}
+use Rattle.pf_step.specs.World.{World, start_world}
 use Rattle.pf_sessions.specs.Ending.{AllFinished, AreEnded, HasFinished, IsTakenOrLeft, ShowsLast, receiver_of}
 use Rattle.pf_sessions.specs.Links.{inputs_of, outputs_of}
 use Rattle.pf_sessions.specs.Playing.{AllPlayed, AreNewPeers}
@@ -127,7 +127,7 @@ module _ (s : Scene) (scripts : List (List Turn)) where
         let who : (scripted_player e.0).player ≡ player = ap (λ (p : Player). p.player) finished.peer ∙ is.player_is in
         let when : (scripted_player e.0).reached ≡ script_ticks script = ap (λ (p : Player). p.reached) finished.peer ∙ is.reached in
         let from : (scripted_player e.0).horizon ≡ 0 = ap (λ (x : Setting). x.horizon) (finished.setting ∙ is.setting) in
-        let base : (scripted_player e.0).base ≡ start_of s = ap (λ (p : Player). p.base) finished.peer ∙ is.base in
+        let base : (scripted_player e.0).base ≡ start_world s = ap (λ (p : Player). p.base) finished.peer ∙ is.base in
         let peer : scripted_player e.0 ≡ (result_of s (all_commands s scripts) player script).peer = λ i. record {
           player = who i;
           horizon = from i;

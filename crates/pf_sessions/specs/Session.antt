@@ -8,7 +8,7 @@ use Rattle.pf_commands.specs.Merge.{CommandMap, put_all}
 use Rattle.pf_links.specs.Link.{Frame, capacity_of, handed}
 use Rattle.pf_links.specs.declared.output.LinkOut.{LinkOut}
 use Rattle.pf_step.specs.Simulation.{sim}
-use Rattle.pf_step.specs.World.{World, start_of}
+use Rattle.pf_step.specs.World.{World, start_world}
 use Rattle.pf_step.specs.declared.crew.CrewError.{CrewError}
 use Rattle.pf_rollback.specs.Kept.{settled_tick}
 use Rattle.pf_rollback.specs.Peer.{Peer as Player}
@@ -55,7 +55,7 @@ result_of s commands player script = record {
   peer = record {
     player = player;
     horizon = 0;
-    base = start_of s;
+    base = start_world s;
     commands = commands;
     reached = script_ticks script;
   };

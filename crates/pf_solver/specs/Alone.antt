@@ -66,4 +66,5 @@ body_after_tick pull b = asleep_if_still (moved_freely pull b)
 -- the bodies, of which those with these numbers, which no contact touches, went through a tick
 abbrev pub after_tick_alone : V2 → List ℕ → List BodyState → List BodyState
 after_tick_alone pull numbers bodies =
-    map (λ m. if has_number numbers m.0 then body_after_tick pull m.1 else m.1) (enumerate_from 0 bodies)
+    map (λ m. if has_number numbers m.0 then body_after_tick pull m.1 else m.1)
+    (enumerate_from 0 bodies)

@@ -18,29 +18,29 @@ abbrev pub IsArmFor : Motion → V2 → V2 → Type 0
 IsArmFor body own given = (given ≡ own) ⊎ (body ≡ static_motion)
 
 -- a heavy body that is at most so fast along each axis, and turns at most so fast
-pub record IsWithin (speed turning : ℕ) (m : Motion) : Type 0 where
+pub record IsAtMostSoFast (speed turning : ℕ) (m : Motion) : Type 0 where
   pub velocity : IsShort speed m.velocity
   pub spin : unsigned_abs m.spin ≤ turning
   pub mass : IsHeavy m.mass
 
 -- both bodies of a contact are so
-pub record AreWithin (speed turning : ℕ) (m : ContactState) : Type 0 where
-  pub first : IsWithin speed turning m.first
-  pub second : IsWithin speed turning m.second
+pub record AreAtMostSoFast (speed turning : ℕ) (m : ContactState) : Type 0 where
+  pub first : IsAtMostSoFast speed turning m.first
+  pub second : IsAtMostSoFast speed turning m.second
 
 -- before a warm start or a round
 abbrev pub IsSlow : Motion → Type 0
-IsSlow m = IsWithin SPEED_LIMIT SPEED_LIMIT m
+IsSlow m = IsAtMostSoFast SPEED_LIMIT SPEED_LIMIT m
 
 abbrev pub AreSlow : ContactState → Type 0
-AreSlow m = AreWithin SPEED_LIMIT SPEED_LIMIT m
+AreSlow m = AreAtMostSoFast SPEED_LIMIT SPEED_LIMIT m
 
 -- between its two steps
 abbrev pub IsPushed : Motion → Type 0
-IsPushed m = IsWithin (2 ^ 35) SPIN_LIMIT m
+IsPushed m = IsAtMostSoFast (2 ^ 35) SPIN_LIMIT m
 
 abbrev pub ArePushed : ContactState → Type 0
-ArePushed m = AreWithin (2 ^ 35) SPIN_LIMIT m
+ArePushed m = AreAtMostSoFast (2 ^ 35) SPIN_LIMIT m
 
 -- both arms are small, for the masses that the bodies have
 pub record HasSmallArms (c : Constraint) (m : ContactState) : Type 0 where

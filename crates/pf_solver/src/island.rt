@@ -6,8 +6,8 @@ ghost use Rattle.pf_rows.specs.Row.{IsEntryOf};
 ghost use Rattle.pf_solver.specs.Alone.{island_after_rounds, island_after_tick, island_at_end, prepared_island};
 
 use crate::bodies::STILL_TICKS;
-use crate::solve::{move_on, prepare_list, solve_list};
-use pf_islands::{Island, rest_alone};
+use crate::solve::{move_awake, prepare_list, solve_list};
+use pf_islands::{Island, sleep_if_still};
 use pf_shapes::Scene;
 
 /// The phases of an island before its rounds: Gravity, and the pre-step of its rows. Takes no
@@ -36,8 +36,8 @@ pub fn solve_rounds(island: &mut Island)
 pub fn finish_island(island: &mut Island)
     ensures { island.new ≡ island_at_end island.old }
 {
-    move_on(island.bodies.as_mut_slice());
-    rest_alone(island.bodies.as_mut_slice(), STILL_TICKS);
+    move_awake(island.bodies.as_mut_slice());
+    sleep_if_still(island.bodies.as_mut_slice(), STILL_TICKS);
 }
 
 /// Takes an island through a tick of 1/64 s, with nothing but the scene beside it: the phases

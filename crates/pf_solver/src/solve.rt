@@ -117,7 +117,7 @@ fn move_if_awake(body: &mut BodyState)
 
 /// Positions and timers of the awake bodies.
 #[inline(never)]
-pub(crate) fn move_on(bodies: &mut [BodyState])
+pub(crate) fn move_awake(bodies: &mut [BodyState])
     ensures { bodies.new ≡ each_awake (λ b. after_timer (after_motion b)) bodies.old }
 {
     for body in bodies.iter_mut() {

@@ -18,7 +18,7 @@ use Rattle.pf_solver.specs.declared.bodies.TheConstants.{STILL_TICKS}
 use Rattle.pf_solver.specs.Bodies.{after_motion, after_timer}
 use Rattle.pf_solver.specs.Solve.{solved_batch}
 use Rattle.pf_solver.specs.Velocities.{Batch}
-use Rattle.pf_islands.specs.Island.{states_of, rows_among, members}
+use Rattle.pf_islands.specs.Island.{states_of, rows_among, group_members}
 use Rattle.pf_solver.proofs.Solved.{moved_on, solved_body, solved_length}
 use Rattle.pf_step.specs.Commands.{after_commands}
 use Rattle.pf_step.specs.Activity.{batch_of_tick, labels_of_tick}
@@ -36,7 +36,7 @@ module _ (labels : List ℕ) (bodies : List BodyState) (paired : length labels �
   abbrev IsMember : ℕ → Type 0
   IsMember i = (i < length labels) × ((slice_index_or labels i 0 == label) ≡ true)
 
-  pub members_are : All IsMember (members labels label)
+  pub members_are : All IsMember (group_members labels label)
   members_are =
       let within =
       All-filter (λ i. slice_index_or labels i 0 == label) (λ i. i < length labels) (range_with_len 0 (length labels))
@@ -100,16 +100,16 @@ resting_from full label p f k (n ∷ labels) (b ∷ bodies) paired chosen state 
 
 -- the bodies of a group that is awake, after the phase Sleep
 pub rested_seen : (full : ℕ) (labels : List ℕ) (bodies : List BodyState) (label : ℕ) → length labels ≡ length bodies
-    → All (λ i. (slice_index_or bodies i no_state).awake ≡ true) (members labels label)
-    → states_of (members labels label) (bodies_after_sleep full labels bodies)
-    ≡ island_after_sleep full (states_of (members labels label) bodies)
+    → All (λ i. (slice_index_or bodies i no_state).awake ≡ true) (group_members labels label)
+    → states_of (group_members labels label) (bodies_after_sleep full labels bodies)
+    ≡ island_after_sleep full (states_of (group_members labels label) bodies)
 unfolding bodies_after_sleep
 rested_seen full labels bodies label paired awake =
     map_where (λ i. IsMember labels bodies paired label i × ((slice_index_or bodies i no_state).awake ≡ true))
     (λ i. slice_index_or (map one (zip labels bodies)) i no_state)
     (λ i. if rests then at_sleep (slice_index_or bodies i no_state) else slice_index_or bodies i no_state)
     (λ i is. named_body labels bodies paired label one i is.0 ∙ awake_one (slice_index_or bodies i no_state) is.1)
-    (members labels label) (λ i d inside. (members_are labels bodies paired label i d inside, awake i d inside))
+    (group_members labels label) (λ i d inside. (members_are labels bodies paired label i d inside, awake i d inside))
     ∙ by rests
     (resting_from full label (λ i. slice_index_or labels i 0 == label) (λ i. slice_index_or bodies i no_state) 0 labels bodies paired
     (λ i within. ap (λ j. slice_index_or labels j 0 == label) (from_zero i))
@@ -128,17 +128,17 @@ rested_seen full labels bodies label paired awake =
     awake_one b e = ap (λ t. if t && rests then at_sleep b else b) e
 
     by : (r : Bool)
-        → r ≡ list_all (λ (b : BodyState). b.timer == full) (states_of (members labels label) bodies)
-        → map (λ i. if r then at_sleep (slice_index_or bodies i no_state) else slice_index_or bodies i no_state) (members labels label)
-        ≡ island_after_sleep full (states_of (members labels label) bodies)
+        → r ≡ list_all (λ (b : BodyState). b.timer == full) (states_of (group_members labels label) bodies)
+        → map (λ i. if r then at_sleep (slice_index_or bodies i no_state) else slice_index_or bodies i no_state) (group_members labels label)
+        ≡ island_after_sleep full (states_of (group_members labels label) bodies)
     by r is =
         whole r
-        ∙ ap (λ t. if t then map at_sleep (states_of (members labels label) bodies) else states_of (members labels label) bodies) is
+        ∙ ap (λ t. if t then map at_sleep (states_of (group_members labels label) bodies) else states_of (group_members labels label) bodies) is
       where
         whole : (t : Bool)
-            → map (λ i. if t then at_sleep (slice_index_or bodies i no_state) else slice_index_or bodies i no_state) (members labels label)
-            ≡ (if t then map at_sleep (states_of (members labels label) bodies) else states_of (members labels label) bodies)
-        whole true = sym (map-map at_sleep (λ i. slice_index_or bodies i no_state) (members labels label))
+            → map (λ i. if t then at_sleep (slice_index_or bodies i no_state) else slice_index_or bodies i no_state) (group_members labels label)
+            ≡ (if t then map at_sleep (states_of (group_members labels label) bodies) else states_of (group_members labels label) bodies)
+        whole true = sym (map-map at_sleep (λ i. slice_index_or bodies i no_state) (group_members labels label))
         whole false = refl
 
 -- ---- a tick
@@ -159,7 +159,7 @@ pub group_after : (s : Scene) (w : World) (payloads : List Payload) (label : ℕ
     → length w.bodies ≡ length s.fixtures
     → is_active (labels_of_tick s w payloads) (after_commands s.fixtures w.bodies payloads) label ≡ true
     → let batch = batch_of_tick s w payloads in
-    let own = members (labels_of_tick s w payloads) label in
+    let own = group_members (labels_of_tick s w payloads) label in
     states_of own (step s w payloads).bodies
     ≡ island_after_sleep STILL_TICKS (solved_batch s (states_of own batch.bodies) (rows_among own batch.rows)).bodies
 unfolding step woken_bodies
@@ -175,7 +175,7 @@ group_after s w payloads label paired active =
     labels = labels_of_tick s w payloads
 
     own : List ℕ
-    own = members labels label
+    own = group_members labels label
 
     awake : List BodyState
     awake = woken_bodies labels commanded

@@ -13,7 +13,7 @@ use Rattle.pf_cache.specs.Contact.{Contact, impulses_at, next_contacts}
 use Rattle.pf_rows.specs.Row.{AreRows, Row, impulses_or}
 use Rattle.pf_cache.specs.ContactRows.{with_rows}
 use Rattle.pf_cache.proofs.FoundRows.{all_found, row_rank, rows_rise}
-use Rattle.pf_islands.specs.Island.{states_of, touches_one, row_among, rows_among, members}
+use Rattle.pf_islands.specs.Island.{states_of, touches_one, row_among, rows_among, group_members}
 use Rattle.pf_solver.specs.Solve.{solved_batch}
 use Rattle.pf_solver.specs.Velocities.{Batch}
 use Rattle.pf_solver.proofs.Solved.{solved_touches}
@@ -110,11 +110,11 @@ module _ (s : Scene) (w : World) (payloads : List Payload) (paired : length w.bo
 
   -- and so are those of a group alone
   pub group_stored : (label : ℕ)
-      → let own = members (labels_of_tick s w payloads) label in
+      → let own = group_members (labels_of_tick s w payloads) label in
       All (λ r. impulses_at (rank (key_of r.entry.touch)) (step s w payloads).contacts ≡ r.entry.impulses)
       (solved_batch s (states_of own batch.bodies) (rows_among own batch.rows)).rows
   group_stored label =
-      let own = members (labels_of_tick s w payloads) label in
+      let own = group_members (labels_of_tick s w payloads) label in
       let Stored : Row → Type 0 =
       λ r. impulses_at (rank (key_of r.entry.touch)) (step s w payloads).contacts ≡ r.entry.impulses in
       subst (λ (b : Batch). All Stored b.rows) (sym (groups_alone s w payloads label paired))

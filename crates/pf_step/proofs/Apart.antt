@@ -17,7 +17,7 @@ use Rattle.pf_cache.proofs.ChosenNumbers.{range_within}
 use Rattle.pf_islands.proofs.Members.{filter_rises, range_rises}
 use Rattle.pf_islands.proofs.Starting.{groups_long}
 use Rattle.pf_solver.specs.Alone.{seen_from}
-use Rattle.pf_islands.specs.Island.{states_of, rows_among, IsOwnOrOther, members}
+use Rattle.pf_islands.specs.Island.{states_of, rows_among, IsOwnOrOther, group_members}
 use Rattle.pf_solver.specs.Solve.{solved_batch}
 use Rattle.pf_solver.proofs.Seen.{solved_seen}
 use Rattle.pf_step.specs.Commands.{after_commands}
@@ -36,7 +36,7 @@ module _ (s : Scene) (touches : List Touch) (label : ℕ) where
   labels = groups s touches
 
   abbrev numbers : List ℕ
-  numbers = members labels label
+  numbers = group_members labels label
 
   numbers_rise : IsRising 0 numbers
   numbers_rise =
@@ -54,7 +54,7 @@ module _ (s : Scene) (touches : List Touch) (label : ℕ) where
 pub groups_alone : (s : Scene) (w : World) (payloads : List Payload) (label : ℕ)
     → length w.bodies ≡ length s.fixtures
     → let batch = batch_of_tick s w payloads in
-    let own = members (labels_of_tick s w payloads) label in
+    let own = group_members (labels_of_tick s w payloads) label in
     solved_batch s (states_of own batch.bodies) (rows_among own batch.rows)
     ≡ seen_from own (solved_batch s batch.bodies batch.rows)
 groups_alone s w payloads label paired =
@@ -64,11 +64,11 @@ groups_alone s w payloads label paired =
     let awake = woken_bodies (groups s points) commanded in
     let long =
     woken_length (groups s points) commanded (groups_long s points ∙ sym count) ∙ count in
-    solved_seen (members (groups s points) label) s awake
+    solved_seen (group_members (groups s points) label) s awake
     (active_rows s awake points (next_contacts w.contacts points))
     (numbers_rise s points label)
-    (subst (λ n. All (λ i. i < n) (members (groups s points) label)) (sym long) (numbers_within s points label))
-    (All-weaker (IsActiveRow (groups s points) awake) (IsOwnOrOther (members (groups s points) label))
+    (subst (λ n. All (λ i. i < n) (group_members (groups s points) label)) (sym long) (numbers_within s points label))
+    (All-weaker (IsActiveRow (groups s points) awake) (IsOwnOrOther (group_members (groups s points) label))
     (λ r is. own_or_other (groups s points) awake label r is) (active_rows s awake points (next_contacts w.contacts points))
     (rows_are_active s points awake (next_contacts w.contacts points) long
     (subst (λ n. All (IsTouchOf n) points) (count ∙ sym long) (points_of_bodies s commanded count))))

@@ -32,7 +32,7 @@ use Rattle.pf_step.specs.Laws.{IsWithinFriction}
 use Rattle.pf_islands.specs.Rows.{active_rows}
 use Rattle.pf_step.specs.Simulation.{sim}
 use Rattle.pf_step.specs.Step.{step, touches_of_scene}
-use Rattle.pf_step.specs.World.{World, start_of}
+use Rattle.pf_step.specs.World.{World, start_world}
 use Rattle.pf_islands.proofs.ActiveRows.{rows_in_order}
 use Rattle.pf_step.proofs.Commanding.{commands_length}
 use Rattle.pf_step.proofs.Lengths.{sim_length}
@@ -223,7 +223,7 @@ module _ (s : Scene) (scene : IsScene s) where
       same_order points (step s w payloads).contacts (step_keys s w payloads) in_order
 
   pub sim_order : (m : CommandMap) (tick : ℕ) → AreContacts (sim s m tick).contacts
-  unfolding sim start_of
+  unfolding sim start_world
   sim_order m zero = record { rising = tt; keys = All-nil (λ c. IsKey c.key) }
   sim_order m (suc tick) = step_order (sim s m tick) (payloads_at m tick) (sim_length s m tick scene)
 
@@ -243,7 +243,7 @@ module _ (s : Scene) (scene : IsScene s) where
       (subst (All P) (sym (step_keys s w (payloads_at m tick))) (All-map P key_of (touches_of_scene s bodies) points))
 
   pub sim_limited : (m : CommandMap) (tick : ℕ) → All (Limited s) (sim s m tick).contacts
-  unfolding sim start_of
+  unfolding sim start_world
   sim_limited m zero = All-nil (Limited s)
   sim_limited m (suc tick) =
       step_limited (sim s m tick) (payloads_at m tick) (sim_length s m tick scene) (sim_order m tick) (sim_limited m tick)

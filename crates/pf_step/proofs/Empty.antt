@@ -17,7 +17,7 @@ use Rattle.pf_solver.proofs.Solved.{solved_length}
 use Rattle.pf_step.specs.Commands.{bodies_with, after_command, after_commands}
 use Rattle.pf_step.specs.Simulation.{sim}
 use Rattle.pf_step.specs.Step.{step, touches_of_scene}
-use Rattle.pf_step.specs.World.{World, start_of}
+use Rattle.pf_step.specs.World.{World, start_world}
 
 abbrev no_bodies : List BodyState
 no_bodies = []
@@ -68,7 +68,7 @@ step_empty s w payloads none =
 
 -- a scene without bodies has worlds without bodies
 pub sim_empty : (s : Scene) (m : CommandMap) (tick : ℕ) → s.starts ≡ [] → (sim s m tick).bodies ≡ []
-unfolding sim start_of
+unfolding sim start_world
 sim_empty s m zero none = none
 sim_empty s m (suc tick) none = step_empty s (sim s m tick) (payloads_at m tick) (sim_empty s m tick none)
 
@@ -94,6 +94,6 @@ step_no_contacts s w payloads none =
 
 -- and without contacts
 pub sim_no_contacts : (s : Scene) (m : CommandMap) (tick : ℕ) → s.starts ≡ [] → (sim s m tick).contacts ≡ []
-unfolding sim start_of
+unfolding sim start_world
 sim_no_contacts s m zero none = refl
 sim_no_contacts s m (suc tick) none = step_no_contacts s (sim s m tick) (payloads_at m tick) (sim_empty s m tick none)

@@ -13,7 +13,7 @@ use Rattle.pf_cache.specs.Contact.{Contact}
 use Rattle.pf_rows.specs.Row.{AreRows}
 use Rattle.pf_cache.specs.ContactRows.{AreRowsAt}
 use Rattle.pf_cache.proofs.Kept.{same_keys}
-use Rattle.pf_islands.specs.Island.{has_number, is_among, members, rows_among, states_of, touches_one}
+use Rattle.pf_islands.specs.Island.{has_number, is_among, group_members, rows_among, states_of, touches_one}
 use Rattle.pf_islands.specs.Join.{IsAtHome, joined_bodies, joined_contacts}
 use Rattle.pf_islands.specs.Rows.{is_awake_at}
 use Rattle.pf_islands.specs.Sleep.{at_sleep, is_active, is_resting, bodies_after_sleep}
@@ -105,10 +105,10 @@ module _ (s : Scene) (before : List Contact) (commanded : List BodyState) (count
   -- what holds of the island of each group that is simulated, after the tick, holds of all
   all_ended : (P : Island → Type 0)
       → ((name : ℕ) → name < length s.fixtures → is_active_label labels batch.bodies name ≡ true
-      → P (island_after_tick s (island_of batch.bodies batch.rows (members labels name)))) → All P ended
+      → P (island_after_tick s (island_of batch.bodies batch.rows (group_members labels name)))) → All P ended
   all_ended P each =
       All-map P (island_after_tick s) found
-      (All-map (λ i. P (island_after_tick s i)) (λ name. island_of batch.bodies batch.rows (members labels name))
+      (All-map (λ i. P (island_after_tick s i)) (λ name. island_of batch.bodies batch.rows (group_members labels name))
       (active_labels labels batch.bodies)
       (λ k d within.
       each (get_or (active_labels labels batch.bodies) k d)

@@ -18,7 +18,7 @@ use Rattle.pf_step.specs.Commands.{after_commands}
 use Rattle.pf_islands.specs.Rows.{active_rows}
 use Rattle.pf_step.specs.Simulation.{sim}
 use Rattle.pf_step.specs.Step.{step, touches_of_scene, world_after}
-use Rattle.pf_step.specs.World.{World, start_of}
+use Rattle.pf_step.specs.World.{World, start_world}
 use Rattle.pf_step.proofs.Commanding.{commands_length}
 use Rattle.pf_islands.proofs.Elements.{zip_length}
 
@@ -62,6 +62,6 @@ step_length s w payloads paired =
     (commands_length s.fixtures w.bodies payloads ∙ paired)
 
 pub sim_length : (s : Scene) (m : CommandMap) (tick : ℕ) → IsScene s → length (sim s m tick).bodies ≡ length s.fixtures
-unfolding sim start_of
+unfolding sim start_world
 sim_length s m zero scene = scene.paired
 sim_length s m (suc tick) scene = step_length s (sim s m tick) (payloads_at m tick) (sim_length s m tick scene)

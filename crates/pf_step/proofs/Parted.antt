@@ -19,7 +19,7 @@ use Rattle.pf_cache.specs.ContactRows.{AreRowsAt, with_rows}
 use Rattle.pf_islands.specs.declared.splitting.LoneBodies.{LoneBodies}
 use Rattle.pf_islands.specs.declared.splitting.LoneBodies.TheVariants.{AreIslands, AreListed}
 use Rattle.pf_islands.specs.Group.{groups}
-use Rattle.pf_islands.specs.Island.{has_number, members, rows_among, states_of}
+use Rattle.pf_islands.specs.Island.{has_number, group_members, rows_among, states_of}
 use Rattle.pf_islands.specs.Join.{IsAtHome, joined_bodies, joined_contacts}
 use Rattle.pf_islands.specs.Lone.{is_made, is_touched, lone_bodies, made_islands}
 use Rattle.pf_islands.specs.Rows.{is_active_contact, is_awake_at}
@@ -165,14 +165,14 @@ module _ (s : Scene) (before : List Contact) (commanded : List BodyState) (count
 
   -- a group without contacts that is simulated
   module _ (name : ℕ) (within : name < length s.fixtures) (active : is_active_label labels batch.bodies name ≡ true)
-      (untouched : is_touched (island_of batch.bodies batch.rows (members labels name)) ≡ false) where
+      (untouched : is_touched (island_of batch.bodies batch.rows (group_members labels name)) ≡ false) where
     own : (get_or labels name 0 == name) ≡ true
     own = (and_parts (get_or labels name 0 == name) (is_awake_at batch.bodies name) active).0
 
     up : is_awake_at batch.bodies name ≡ true
     up = (and_parts (get_or labels name 0 == name) (is_awake_at batch.bodies name) active).1
 
-    alike : members (groups s chosen) name ≡ members labels name
+    alike : group_members (groups s chosen) name ≡ group_members labels name
     alike = same_members s batch.bodies points (awake_long s before commanded count) settled name up
 
     chosen_own : get_or (groups s chosen) name 0 ≡ name
@@ -191,7 +191,7 @@ module _ (s : Scene) (before : List Contact) (commanded : List BodyState) (count
         ∙ ap (λ ns. is_touched (island_of batch.bodies batch.rows ns)) alike
         ∙ untouched
 
-    one : members labels name ≡ name ∷ []
+    one : group_members labels name ≡ name ∷ []
     one =
         sym alike
         ∙ lone_members s batch.bodies points (awake_long s before commanded count) settled of
@@ -234,7 +234,7 @@ module _ (s : Scene) (before : List Contact) (commanded : List BodyState) (count
     final_one : get_or final name no_state ∷ [] ≡ body_after_tick (gravity_per_tick s.gravity) (get_or commanded name no_state) ∷ []
     unfolding step after_commands
     final_one =
-        let none : rows_among (members labels name) batch.rows ≡ [] = nothing (rows_among (members labels name) batch.rows) untouched in
+        let none : rows_among (group_members labels name) batch.rows ≡ [] = nothing (rows_among (group_members labels name) batch.rows) untouched in
         ap (λ ns. states_of ns final) (sym one)
         ∙ group_after s w [] name count (active_group s before commanded count name within active)
         ∙ ap₂ (λ ns rows. island_after_sleep STILL_TICKS (solved_batch s (states_of ns batch.bodies) rows).bodies) one none
@@ -243,7 +243,7 @@ module _ (s : Scene) (before : List Contact) (commanded : List BodyState) (count
 
   all_alone : All IsAsAlone found
   all_alone =
-      All-map IsAsAlone (λ name. island_of batch.bodies batch.rows (members labels name)) (active_labels labels batch.bodies)
+      All-map IsAsAlone (λ name. island_of batch.bodies batch.rows (group_members labels name)) (active_labels labels batch.bodies)
       (λ k d inside.
       let name = get_or (active_labels labels batch.bodies) k d in
       let small = All-filter (is_active_label labels batch.bodies) (λ n. n < length s.fixtures) (range_with_len 0 (length labels))
@@ -251,7 +251,7 @@ module _ (s : Scene) (before : List Contact) (commanded : List BodyState) (count
       each name small (chosen_pass (is_active_label labels batch.bodies) (range_with_len 0 (length labels)) k d inside))
     where
       each : (name : ℕ) → name < length s.fixtures → is_active_label labels batch.bodies name ≡ true
-          → IsAsAlone (island_of batch.bodies batch.rows (members labels name))
+          → IsAsAlone (island_of batch.bodies batch.rows (group_members labels name))
       each name within active untouched j has =
           let is : ((name == j) || false) ≡ true = sym (ap (λ ns. has_number ns j) (one name within active untouched)) ∙ has in
           let same : name ≡ j = by (name == j) refl is in

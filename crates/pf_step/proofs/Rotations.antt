@@ -6,7 +6,7 @@ use Rattle.pf_shapes.specs.Body.{BodyState}
 use Rattle.pf_shapes.specs.Scene.{Scene}
 use Rattle.pf_commands.specs.Merge.{CommandMap, payloads_at}
 use Rattle.pf_step.specs.Simulation.{sim}
-use Rattle.pf_step.specs.World.{start_of}
+use Rattle.pf_step.specs.World.{start_world}
 use Rattle.pf_step.proofs.Commanding.{Commanded, commands_case, same, woken}
 use Rattle.pf_islands.proofs.Elements.{all_at, all_from}
 use Rattle.pf_step.proofs.TickCases.{ticked_body}
@@ -21,7 +21,7 @@ commanded_keeps b c (woken timer awake rotation) h = subst IsAtMostOne (sym rota
 -- at each tick
 rotation_at : (s : Scene) (m : CommandMap) (tick i : ℕ) (b : BodyState) → All HasRotation s.starts
     → slice_get (sim s m tick).bodies i ≡ Some b → HasRotation b
-unfolding sim start_of
+unfolding sim start_world
 rotation_at s m zero i b h here = all_at HasRotation s.starts i b h here
 rotation_at s m (suc tick) i b h here =
     let last = ticked_body s (sim s m tick) (payloads_at m tick) i b here in

@@ -9,7 +9,7 @@ use Rattle.pf_solver.specs.declared.bodies.TheConstants.{STILL_TICKS}
 use Rattle.pf_solver.specs.Bodies.{is_still}
 use Rattle.pf_step.specs.Laws.{bodies_before_sleep}
 use Rattle.pf_step.specs.Simulation.{sim}
-use Rattle.pf_step.specs.World.{start_of}
+use Rattle.pf_step.specs.World.{start_world}
 use Rattle.pf_step.proofs.Commanding.{Commanded, commands_case, same, woken}
 use Rattle.pf_islands.proofs.Elements.{same_element}
 use Rattle.pf_step.proofs.TickCases.{TickCase, falls_asleep, moves, rests, sleeps, slept, stays_awake, ticked_body}
@@ -83,7 +83,7 @@ counted_more s m tick i was from b here counted commanded (rests still timer awa
 
 counted : (s : Scene) (m : CommandMap) (tick i : ℕ) (b : BodyState) → IsScene s → slice_get (sim s m tick).bodies i ≡ Some b
     → IsCounted s m tick i b
-unfolding sim start_of
+unfolding sim start_world
 counted s m zero i b scene here = none_counted s m 0 i b (timer_of_start s.fixtures s.starts i b scene.started here)
 counted s m (suc tick) i b scene here =
     let last = ticked_body s (sim s m tick) (payloads_at m tick) i b here in

@@ -14,7 +14,7 @@ use Rattle.pf_rows.specs.declared.row.Side.TheVariants.{Static, Dynamic}
 use Rattle.pf_cache.specs.Contact.{Contact, next_contacts}
 use Rattle.pf_rows.specs.Row.{Row}
 use Rattle.pf_islands.specs.Group.{group, groups}
-use Rattle.pf_islands.specs.Reach.{AreNeighbours, IsBetween, Reaches, connects}
+use Rattle.pf_islands.specs.Reach.{AreNeighbours, ConnectsBodies, Reaches, connects}
 use Rattle.pf_islands.specs.Sleep.{at_sleep, is_active, is_resting, bodies_after_sleep, woken_bodies}
 use Rattle.pf_islands.proofs.Together.{neighbours_at}
 use Rattle.pf_islands.proofs.Sleeping.{name_at, woken_reach}
@@ -26,7 +26,7 @@ use Rattle.pf_step.specs.Laws.{IsUndisturbed, commanded_bodies}
 use Rattle.pf_islands.specs.Rows.{active_rows, is_active_contact, is_awake_at, is_simulated_at, row_of, side_of}
 use Rattle.pf_step.specs.Simulation.{sim}
 use Rattle.pf_step.specs.Step.{step, touches_of_scene}
-use Rattle.pf_step.specs.World.{World, start_of}
+use Rattle.pf_step.specs.World.{World, start_world}
 use Rattle.pf_islands.proofs.ActiveRows.{HoldsWhere, all_rows}
 use Rattle.pf_step.proofs.Commanding.{commands_length, not_commanded, static_stays}
 use Rattle.pf_islands.proofs.Elements.{all_at, all_from, same_element, zip_at}
@@ -36,7 +36,7 @@ use Rattle.pf_step.proofs.Touching.{points_of_bodies}
 -- ---- neighbours and static bodies
 
 -- a static body has no neighbour
-between_dynamic : (s : Scene) (t : Touch) (a b : ℕ) → IsBetween s t a b → is_static_at s a ≡ false
+between_dynamic : (s : Scene) (t : Touch) (a b : ℕ) → ConnectsBodies s t a b → is_static_at s a ≡ false
 between_dynamic s t a b (both, inl (first, second)) =
     ap (is_static_at s) (sym first) ∙ not-true (is_static_at s t.a) (and_parts _ _ both).0
 between_dynamic s t a b (both, inr (first, second)) =
@@ -140,7 +140,7 @@ module _ (s : Scene) (old : List Contact) (commanded : List BodyState) (count : 
         statics j c static (subst (λ (y : ℕ). slice_get commanded y ≡ Some c) (sym same) there)
     other_quiet k t j stands pair false moves =
         λ x c there reach.
-        let between : IsBetween s t i j = (connected pair, pair) in
+        let between : ConnectsBodies s t i j = (connected pair, pair) in
         quiet x c there (j ∷ reach.0, (neighbours_at s points k t i j stands between, reach.1))
       where
         connected : (((t.a ≡ i) × (t.b ≡ j)) ⊎ ((t.a ≡ j) × (t.b ≡ i))) → connects s t ≡ true
@@ -262,7 +262,7 @@ static_fixture s i within = slice_get-get_or s.fixtures i no_fixture within
 -- static bodies are at their starts at each tick
 pub static_start : (s : Scene) (m : CommandMap) (tick i : ℕ) (b : BodyState) → IsScene s → is_static_at s i ≡ true
     → slice_get (sim s m tick).bodies i ≡ Some b → slice_get s.starts i ≡ Some b
-unfolding sim start_of
+unfolding sim start_world
 static_start s m zero i b scene static here = here
 static_start s m (suc tick) i b scene static here =
     let w = sim s m tick in

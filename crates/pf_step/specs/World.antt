@@ -15,8 +15,8 @@ pub record World : Type 0 where
   pub contacts : List Contact
 
 -- the world at tick 0: each body at its start, and no contacts
-unfoldable pub start_of : Scene → World
-start_of s = record { bodies = s.starts; contacts = [] }
+unfoldable pub start_world : Scene → World
+start_world s = record { bodies = s.starts; contacts = [] }
 
 -- equal in each part of each body, and in each contact
 abbrev pub same_world : World → World → Bool

@@ -36,10 +36,10 @@ fn may_stay(moved: usize, bodies: usize) -> bool {
 }
 
 /// The islands of a tick in the world after its phases Commands and Points, whose contacts are
-/// already those of the tick, and the awake bodies that are in none. Awake bodies are looked for among those that may have moved, which
-/// `work` lists, and contacts among those of their pairs. Notes the bodies and impulses of the
-/// islands, and then lists all noted bodies as those that may have moved. After an error some of
-/// them may be noted.
+/// already those of the tick, and the awake bodies that are in none. Awake bodies are looked for
+/// among those that may have moved, which `work` lists, and contacts among those of their pairs.
+/// Notes the bodies and impulses of the islands, and then lists all noted bodies as those that may
+/// have moved. After an error some of them may be noted.
 #[tactic(auto, using(crate::proofs::Restored::islands_beside))]
 fn prepare(
     alloc: Global,
@@ -136,8 +136,8 @@ fn solve_by<C: Crew>(
 /// phase found for its bodies, and the first `known` contacts have the keys of the first points
 /// found. Makes its islands, has them solved by one call of the crew, and puts them back; where the
 /// crew allows it, bodies that nothing touches are in none of them and go through the tick in their
-/// place. Notes what changes, and lists these bodies as those that may have moved. An error leaves the world as it is. Takes no memory of its own
-/// where there are no bodies.
+/// place. Notes what changes, and lists these bodies as those that may have moved. An error leaves
+/// the world as it is. Takes no memory of its own where there are no bodies.
 pub(crate) fn finish<C: Crew>(
     alloc: Global,
     scene: &Scene,

@@ -18,7 +18,7 @@ ghost use Rattle.pf_cache.specs.Contact.{AreContacts, impulses_at};
 ghost use Rattle.pf_islands.specs.Sleep.{is_active, island_after_sleep};
 ghost use Rattle.pf_solver.specs.Bodies.{is_still};
 ghost use Rattle.pf_solver.specs.Alone.{seen_from};
-ghost use Rattle.pf_islands.specs.Island.{states_of, rows_among, members};
+ghost use Rattle.pf_islands.specs.Island.{states_of, rows_among, group_members};
 ghost use Rattle.pf_solver.specs.Solve.{solved_batch};
 ghost use Rattle.pf_step.specs.Changes.{BodyChange, bodies_before};
 ghost use Rattle.pf_step.specs.Commands.{after_commands, apply};
@@ -72,7 +72,7 @@ pub fn groups_are_solved_alone()
     ensures { (scene : Scene) (w : World) (payloads : List Payload) (label : ℕ)
         → length w.bodies ≡ length scene.fixtures
         → let batch = batch_of_tick scene w payloads in
-        let numbers = members (labels_of_tick scene w payloads) label in
+        let numbers = group_members (labels_of_tick scene w payloads) label in
         solved_batch scene (states_of numbers batch.bodies) (rows_among numbers batch.rows)
         ≡ seen_from numbers (solved_batch scene batch.bodies batch.rows) }
 {}
@@ -86,7 +86,7 @@ pub fn groups_go_through_ticks_alone()
         → is_active (labels_of_tick scene w payloads)
         (after_commands scene.fixtures w.bodies payloads) label ≡ true
         → let batch = batch_of_tick scene w payloads in
-        let numbers = members (labels_of_tick scene w payloads) label in
+        let numbers = group_members (labels_of_tick scene w payloads) label in
         let alone = solved_batch scene (states_of numbers batch.bodies)
         (rows_among numbers batch.rows) in
         states_of numbers (step scene w payloads).bodies
@@ -94,7 +94,7 @@ pub fn groups_go_through_ticks_alone()
     ensures impulses { (scene : Scene) (w : World) (payloads : List Payload) (label : ℕ)
         → IsScene scene → length w.bodies ≡ length scene.fixtures
         → let batch = batch_of_tick scene w payloads in
-        let numbers = members (labels_of_tick scene w payloads) label in
+        let numbers = group_members (labels_of_tick scene w payloads) label in
         let alone = solved_batch scene (states_of numbers batch.bodies)
         (rows_among numbers batch.rows) in
         All (λ r. impulses_at (rank (key_of r.entry.touch)) (step scene w payloads).contacts

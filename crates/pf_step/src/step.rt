@@ -202,8 +202,9 @@ pub fn step_alone(
     step_copy(&OneThread, alloc, scene, world, payloads, work, &mut alone)
 }
 
-/// As [`step_alone`], with a crew, which is called as by [`step_next`]. If [`pf_manifold::PAIRS_FOR_THREADS`] pairs or
-/// more cannot reuse kept points, several threads compute the points.
+/// As [`step_alone`], with a crew, which is called as by [`step_next`]. If
+/// [`pf_manifold::PAIRS_FOR_THREADS`] pairs or more cannot reuse kept points, several threads
+/// compute the points.
 pub fn step_with<R: Threads + Sync, C: Crew>(
     rt: &R,
     alloc: Global,

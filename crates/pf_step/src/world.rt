@@ -38,13 +38,13 @@ pub(crate) fn copy_of(alloc: Global, bodies: &[BodyState]) -> Result<Vec<BodySta
 impl World {
     ghost use Rattle.std.specs.Prelude.{◌≡◌, [], length, IfOk, IsOk, OnErr, OnOk};
     ghost use Rattle.pf_step.specs.Changes.{world_before};
-    ghost use Rattle.pf_step.specs.World.{start_of, same_world};
+    ghost use Rattle.pf_step.specs.World.{start_world, same_world};
 
     /// The world at tick 0: each body at its start, and no contacts. Takes no memory where the
     /// scene has no bodies.
-    #[tactic(auto, unfolding(crate::specs::World::start_of))]
+    #[tactic(auto, unfolding(crate::specs::World::start_world))]
     pub fn start(alloc: Global, scene: &Scene) -> Result<World, AllocError>
-        ensures value { IfOk result (λ world. world ≡ start_of scene.now) }
+        ensures value { IfOk result (λ world. world ≡ start_world scene.now) }
         ensures bodies { IfOk result (λ world. length world.bodies ≡ length scene.now.fixtures) }
         ensures no_memory { scene.now.starts ≡ [] → IsOk result }
     {

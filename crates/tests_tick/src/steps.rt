@@ -29,7 +29,15 @@ fn motion_of(island: &Island) -> [i64; 2] {
 fn motion_after_tick(alloc: Global, scene: &Scene) -> Result<[i64; 2], AllocError> {
     let none = Manifolds::new(alloc);
     let lone = LoneBodies::AreIslands;
-    let parts = split(alloc, Vec::new(alloc), scene, scene.starts(), &none, &[], lone)?;
+    let parts = split(
+        alloc,
+        Vec::new(alloc),
+        scene,
+        scene.starts(),
+        &none,
+        &[],
+        lone,
+    )?;
     let mut islands = parts.islands;
     match islands.pop() {
         Some(island) => Ok(motion_of(&island.solve(scene))),

@@ -97,8 +97,8 @@ impl PeerCore {
     }
 
     /// As [`PeerCore::settle_alone`], with a crew, which each tick calls as
-    /// [`pf_step::step_next`] does. If [`pf_manifold::PAIRS_FOR_THREADS`] pairs or more cannot reuse
-    /// kept points, several threads compute the points.
+    /// [`pf_step::step_next`] does. If [`pf_manifold::PAIRS_FOR_THREADS`] pairs or more cannot
+    /// reuse kept points, several threads compute the points.
     pub fn settle_with<R: Threads + Sync, C: Crew>(
         &mut self,
         rt: &R,

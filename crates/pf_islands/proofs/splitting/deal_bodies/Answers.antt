@@ -1,7 +1,7 @@
 use Rattle.std.proofs.Common.{rules, ◌<◌, ◌==◌, ◌∙◌, ap, ap₂, arith, get_or, length, length-set, set}
 use Rattle.std.proofs.lemmas.List.{get_or_read}
 use Rattle.pf_shapes.specs.Body.{no_state}
-use Rattle.pf_islands.specs.Dealing.{with_body}
+use Rattle.pf_islands.specs.Dealing.{with_island_body}
 use Rattle.pf_islands.specs.Split.{Island, no_island}
 use Rattle.pf_islands.specs.Lone.{only_awake}
 use Rattle.pf_islands.specs.Rows.{is_awake_at}
@@ -125,7 +125,7 @@ loop-number-preserved c =
                 ∙ c.requires.states k awake)
                 before.parts
                 (c.in_ok-places.ensures.added
-                ∙ ap (λ n. set islands n (with_body k body (get_or islands n no_island))) slot);
+                ∙ ap (λ n. set islands n (with_island_body k body (get_or islands n no_island))) slot);
             noted = placed_more labels bodies k places c.in_ok-places.field-0 inside c.loop-number.invariant.long
                 (c.in_ok-places.ensures.place
                 ∙ ap₂ (λ xs n. length (get_or xs n no_island).numbers) before.parts slot

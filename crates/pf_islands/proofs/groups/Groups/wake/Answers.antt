@@ -1,5 +1,5 @@
 use Rattle.std.proofs.Common.{◌≡◌, ◌∙◌, ap, length, subst, sym}
-use Rattle.pf_islands.specs.Marks.{woken_body}
+use Rattle.pf_islands.specs.Marks.{marked_body}
 use Rattle.pf_islands.specs.Sleep.{is_active, woken_bodies}
 use Rattle.pf_islands.specs.Group.{groups}
 use Rattle.pf_islands.specs.Split.{AreWoken}
@@ -12,7 +12,7 @@ pub returns-clause-bodies : goal.returns-clause-bodies
 returns-clause-bodies c =
     let labels = c.self.inside.labels.items in
     let bodies = c.args.bodies.now in
-    let through = changed_through woken_body (λ ns. is_active ns bodies) labels c.deref.result.now c.deref-2.result.now
+    let through = changed_through marked_body (λ ns. is_active ns bodies) labels c.deref.result.now c.deref-2.result.now
     c.mark_active.new.marks bodies c.wake_marked.new.bodies c.deref.ensures.value c.deref-2.ensures.value
     c.mark_active.ensures c.wake_marked.ensures in
     through.0 ∙ woken_is labels c.mark_active.new.marks bodies c.self.invariant.labelled through.1

@@ -1,6 +1,6 @@
 use Rattle.std.proofs.Common.{◌≡◌, take, drop, ◌++◌}
 use Rattle.pf_solver.specs.Bodies.{after_motion, after_timer, each_awake}
-use Rattle.pf_solver.proofs.solve.move_on.Given as goal
+use Rattle.pf_solver.proofs.solve.move_awake.Given as goal
 
 abbrev pub invariant-loop-body : goal.invariant-loop-body
 invariant-loop-body l =

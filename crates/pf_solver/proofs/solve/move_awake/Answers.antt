@@ -3,7 +3,7 @@ use Rattle.std.proofs.lemmas.List.Edits.{map_over_more}
 use Rattle.std.specs.Prelude.{if◌then◌else◌}
 use Rattle.pf_shapes.specs.Body.{BodyState}
 use Rattle.pf_solver.specs.Bodies.{after_motion, after_timer}
-use Rattle.pf_solver.proofs.solve.move_on.Goals as goal
+use Rattle.pf_solver.proofs.solve.move_awake.Goals as goal
 
 pub loop-body-preserved : goal.loop-body-preserved
 loop-body-preserved c =
