@@ -1,6 +1,5 @@
 -- A tick that is split into the islands of groups with contacts, and the bodies of the others.
 use Rattle.std.proofs.Common.{◌≡◌, ◌∙◌, ℕ, ◌<◌, ◌==◌, Bool, true, false, not, List, [], ◌∷◌, cond, filter, get_or, length, map, refl, sym, ap, ap₂, subst, arith}
-use Rattle.std.proofs.lemmas.Bool.{true≢false}
 use Rattle.std.proofs.lemmas.List.Elements.{All-filter}
 use Rattle.std.specs.List.{flat_map, list_any, range_with_len}
 use Rattle.std.specs.Prelude.{All}
@@ -15,7 +14,7 @@ use Rattle.pf_islands.specs.declared.splitting.LoneBodies.TheVariants.{AreIsland
 use Rattle.pf_islands.specs.Flags.{awake_numbers}
 use Rattle.pf_islands.specs.Group.{groups}
 use Rattle.pf_islands.specs.Island.{group_members}
-use Rattle.pf_islands.specs.Lone.{group_of_touch, is_dealt, is_made, is_touched, lone_bodies, made_islands, only_awake}
+use Rattle.pf_islands.specs.Lone.{group_of_touch, is_dealt, is_made, lone_bodies, made_islands, only_awake}
 use Rattle.pf_islands.specs.Rows.{active_rows, is_active_contact, is_awake_at}
 use Rattle.pf_islands.specs.Settled.{AreSettled, active_places, touches_at}
 use Rattle.pf_islands.specs.Split.{Island, active_labels, is_active_label, island_of, islands}

@@ -1,6 +1,6 @@
 -- The bodies that a work lists have all awake ones among them, from step to step.
-use Rattle.std.proofs.Common.{◌≡◌, ◌∙◌, ◌<◌, ◌||◌, ◌&&◌, ◌==◌, ℕ, Bool, true, false, List, [], ◌∷◌, ◌++◌, Option, Some, None, filter, get_or, length, nat_lt, refl, sym, ap, ap₂, arith, slice_get}
-use Rattle.std.specs.List.{flat_map, range_with_len}
+use Rattle.std.proofs.Common.{◌≡◌, ◌∙◌, ◌<◌, ◌||◌, ◌==◌, ℕ, Bool, true, false, List, [], ◌∷◌, ◌++◌, Option, Some, None, get_or, length, refl, sym, ap, ap₂, arith, slice_get}
+use Rattle.std.specs.List.{flat_map}
 use Rattle.std.specs.Prelude.{All}
 use Rattle.std.proofs.lemmas.Bool.{true≢false}
 use Rattle.std.proofs.lemmas.Bool.Decides.{nat_tests}
@@ -9,7 +9,6 @@ use Rattle.std.proofs.lemmas.Option.{none-some, slice_get-get_or}
 use Rattle.pf_shapes.specs.Body.{BodyState, no_state}
 use Rattle.pf_shapes.specs.Scene.{Scene}
 use Rattle.pf_broad.specs.Partners.{has_body}
-use Rattle.pf_broad.proofs.Ranges.{has_body-below, has_body-filter}
 use Rattle.pf_cache.proofs.Standing.{same_at}
 use Rattle.pf_commands.specs.declared.payload.Payload.{Payload}
 use Rattle.pf_islands.specs.Flags.{ListsAwake}

@@ -40,8 +40,7 @@ use Rattle.pf_step.proofs.Apart.{groups_alone}
 use Rattle.pf_step.proofs.Lengths.{updated_length, woken_length, world_after_length}
 use Rattle.pf_step.proofs.Touching.{points_of_bodies}
 use Rattle.pf_step.proofs.TickCases.{woken_at as body_woken_at}
-use Rattle.pf_step.specs.Changes.{bodies_before, changes_of_islands}
-use Rattle.pf_step.proofs.Changing.{noted_before, notes_of_all, number_of_all}
+use Rattle.pf_step.proofs.Changing.{number_of_all}
 
 -- a test of mapped elements
 pub any_mapped : {X Y : Type 0} (p : Y → Bool) (f : X → Y) (xs : List X) → list_any p (map f xs) ≡ list_any (λ x. p (f x)) xs

@@ -1,19 +1,18 @@
 -- A tick whose islands without contacts are left out, and whose bodies go through the tick in their
 -- place.
-use Rattle.std.proofs.Common.{◌≡◌, ◌∙◌, ◌⊎◌, ⊎_elim, ℕ, ◌<◌, ◌==◌, Bool, true, false, not, ◌&&◌, ◌||◌, List, [], ◌∷◌, ◌++◌, cond, filter, get_or, length, map, refl, sym, ap, ap₂, subst, arith, slice_get, Some, if◌then◌else◌}
+use Rattle.std.proofs.Common.{◌≡◌, ◌∙◌, ◌⊎◌, ⊎_elim, ℕ, ◌<◌, ◌==◌, Bool, true, false, not, ◌&&◌, ◌||◌, List, [], ◌∷◌, ◌++◌, cond, filter, get_or, length, map, refl, sym, ap, ap₂, subst, arith, if◌then◌else◌}
 use Rattle.std.proofs.lemmas.Bool.{and_parts, eqb-true, or_cases, true≢false}
-use Rattle.std.proofs.lemmas.List.Elements.{All-cons, All-filter, All-head, All-map, All-nil, All-tail, All-weaker}
+use Rattle.std.proofs.lemmas.List.Elements.{All-filter, All-head, All-map, All-tail}
 use Rattle.std.proofs.lemmas.Grind.{flat_map-append}
 use Rattle.std.proofs.lemmas.List.Folds.{list_any-append}
 use Rattle.std.proofs.lemmas.Option.{get_or_from_slice_get, slice_get-get_or, slice_get_within}
-use Rattle.std.specs.List.{flat_map, list_any, range_with_len, zip}
+use Rattle.std.specs.List.{flat_map, list_any, range_with_len}
 use Rattle.std.specs.Prelude.{All}
 use Rattle.pf_rot.specs.Vector.{V2}
 use Rattle.pf_shapes.specs.Body.{BodyState, no_state}
 use Rattle.pf_shapes.specs.Scene.{Scene}
 use Rattle.pf_manifold.specs.Key.{AreTouches}
 use Rattle.pf_manifold.specs.Touches.{IsTouchOf, Touch}
-use Rattle.pf_rows.specs.Row.{Row}
 use Rattle.pf_cache.specs.Contact.{Contact}
 use Rattle.pf_cache.specs.ContactRows.{AreRowsAt, with_rows}
 use Rattle.pf_islands.specs.declared.splitting.LoneBodies.{LoneBodies}
@@ -24,7 +23,7 @@ use Rattle.pf_islands.specs.Join.{IsAtHome, joined_bodies, joined_contacts}
 use Rattle.pf_islands.specs.Lone.{is_made, is_touched, lone_bodies, made_islands}
 use Rattle.pf_islands.specs.Rows.{is_active_contact, is_awake_at}
 use Rattle.pf_islands.specs.Settled.{AreSettled}
-use Rattle.pf_islands.specs.Sleep.{at_sleep, is_active, island_after_sleep, woken_bodies}
+use Rattle.pf_islands.specs.Sleep.{at_sleep, island_after_sleep}
 use Rattle.pf_islands.specs.Split.{Island, active_labels, is_active_label, island_of}
 use Rattle.pf_islands.proofs.Dealing.{is_member}
 use Rattle.pf_islands.proofs.Elements.{all_unmapped}
@@ -37,13 +36,13 @@ use Rattle.pf_islands.proofs.Starting.{groups_long}
 use Rattle.pf_cache.proofs.ChosenNumbers.{chosen_pass, range_within}
 use Rattle.pf_solver.specs.declared.bodies.TheConstants.{STILL_TICKS}
 use Rattle.pf_solver.specs.Alone.{after_tick_alone, body_after_tick, island_after_tick}
-use Rattle.pf_solver.specs.Bodies.{after_gravity, after_motion, after_timer, each_awake, gravity_per_tick}
+use Rattle.pf_solver.specs.Bodies.{after_gravity, after_motion, after_timer, gravity_per_tick}
 use Rattle.pf_solver.specs.Solve.{solved_batch}
 use Rattle.pf_solver.specs.Velocities.{Batch}
 use Rattle.pf_solver.proofs.Free.{free_is_solved}
 use Rattle.pf_solver.proofs.OneByOne.{alone_at, alone_long}
 use Rattle.pf_step.specs.Activity.{batch_of_bodies, contacts_of_bodies, islands_of_bodies, labels_of_bodies}
-use Rattle.pf_step.specs.Changes.{bodies_before, changes_of, changes_of_islands, numbers_of}
+use Rattle.pf_step.specs.Changes.{bodies_before, changes_of, changes_of_islands}
 use Rattle.pf_step.specs.Commands.{after_commands}
 use Rattle.pf_step.specs.Step.{step, touches_of_scene, world_after}
 use Rattle.pf_step.specs.World.{World}

@@ -4,7 +4,6 @@ use Rattle.std.specs.List.{flat_map}
 use Rattle.pf_shapes.specs.Body.{BodyState}
 use Rattle.pf_manifold.specs.Key.{key_of, rank}
 use Rattle.pf_rows.specs.Row.{Row}
-use Rattle.pf_cache.specs.Contact.{Contact}
 use Rattle.pf_cache.specs.ContactsChange.{ContactsChange, contacts_before, may_change}
 use Rattle.pf_commands.specs.declared.payload.Payload.{Payload}
 use Rattle.pf_commands.specs.Payload.{body_of}
