@@ -55,7 +55,7 @@ fn clear_at(
 /// An empty island for each group that becomes one, in the order of their labels, made in the
 /// memory of the spare islands. `rows` holds at each label the number of its contacts; it is
 /// returned with the place of its island there instead. `numbers` are those of the bodies of these
-/// groups: the awake ones among the bodies `seen`.
+/// groups; contracts see all other bodies as asleep.
 fn empty_islands(
     alloc: Global,
     spare: Vec<Island>,
@@ -122,8 +122,8 @@ fn add_row(islands: &mut [Island], slot: usize, entry: Entry) -> Result<(), Allo
     island.add_row(entry)
 }
 
-/// Adds each body of these numbers to the island of its group, and notes its place there. They are
-/// the awake ones among the bodies `seen`.
+/// Adds each body of these numbers to the island of its group, and notes its place there. Contracts
+/// see all other bodies as asleep.
 fn deal_bodies(
     islands: &mut [Island],
     places: &mut [u16],
@@ -278,8 +278,8 @@ fn part(
     Ok((dealt, alone))
 }
 
-/// The islands of the groups of the bodies of these numbers, which are the awake ones among the
-/// bodies `seen`, made in the memory of the spare islands. `rows` holds at each label the number of
+/// The islands of the groups of the bodies of these numbers, made in the memory of the spare
+/// islands. Contracts see all other bodies as asleep. `rows` holds at each label the number of
 /// contacts of the group, and `places` are those of the contacts.
 fn deal(
     alloc: Global,
