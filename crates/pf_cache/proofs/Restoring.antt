@@ -1,14 +1,14 @@
 -- Contacts with noted impulses, and the contacts before a change.
-use Rattle.std.proofs.Common.{◌≡◌, ◌≢◌, ◌∙◌, ℕ, ◌+◌, ◌<◌, ◌==◌, Bool, true, false, ◌||◌, List, [], ◌∷◌, ◌++◌, length, map, set, take, refl, sym, ap, ap₂, true≢false, arith}
+use Rattle.std.proofs.Common.{◌≡◌, ◌≢◌, ◌∙◌, ℕ, ◌+◌, ◌≤◌, ◌<◌, ◌==◌, Bool, true, false, ◌||◌, List, [], ◌∷◌, ◌++◌, append-nil, drop, length, map, set, take, take-append-drop, take_all, refl, sym, ap, ap₂, subst, true≢false, arith}
 use Rattle.std.proofs.lemmas.Bool.Decides.{Decides-eqb}
-use Rattle.std.proofs.lemmas.List.{get_or_default, length-map, map-id, set-get_or}
-use Rattle.std.proofs.Math.Seq.{take-length}
-use Rattle.std.proofs.lemmas.List.Elements.{All-nil, All-cons, All-head, All-tail, All-weaker}
+use Rattle.std.proofs.lemmas.List.{drop_all, get_or_default, map-append, map-id, set-get_or}
+use Rattle.std.proofs.lemmas.List.Elements.{All-nil, All-cons, All-drop, All-head, All-tail, All-weaker}
 use Rattle.std.proofs.lemmas.List.Folds.{list_any-append}
 use Rattle.std.proofs.lemmas.Simd.{map-map}
 use Rattle.std.specs.Prelude.{All, get_or, not, if◌then◌else◌}
 use Rattle.pf_manifold.specs.Key.{AreTouches, IsKey, Key, key_of, rank}
 use Rattle.pf_manifold.specs.Touches.{Touch}
+use Rattle.pf_manifold.proofs.Rising.{rising-drop}
 use Rattle.pf_rows.specs.Impulses.{Impulses}
 use Rattle.pf_rows.specs.Row.{Row, impulses_or}
 use Rattle.pf_cache.specs.Contact.{AreContacts, Contact, kept_contact, next_contacts, no_contact}
@@ -16,8 +16,9 @@ use Rattle.pf_cache.specs.ContactRows.{IsRowAt, with_rows}
 use Rattle.pf_cache.specs.ContactsChange.{ContactsChange, contact_of_row, contacts_before, has_rank, may_change, noted_or, with_noted}
 use Rattle.pf_cache.proofs.FoundRows.{row_rank}
 use Rattle.pf_cache.proofs.RankedLists as ranked
-use Rattle.pf_cache.proofs.Runs.{run_done}
+use Rattle.pf_cache.proofs.Runs.{HaveSameKeys, run_done}
 use Rattle.pf_cache.proofs.Stored.{with_impulses_are_contacts}
+use Rattle.pf_cache.proofs.Walk.{SameFrom}
 
 abbrev rank_of : Contact → ℕ
 rank_of c = rank c.key
@@ -249,16 +250,48 @@ noted_may keeps contacts noted rows at =
 
 -- ---- an update
 
--- contacts that have the keys of the points stay as they are
-pub next_same : (old : List Contact) (touches : List Touch) → AreTouches touches
-    → map (λ (c : Contact). c.key) old ≡ map key_of touches → next_contacts old touches ≡ old
+-- the contacts from a place on are in the order of their keys
+pub rest_are_contacts : (k : ℕ) (contacts : List Contact) → AreContacts contacts → AreContacts (drop k contacts)
+rest_are_contacts k contacts order = record {
+  rising = rising-drop rank_of k contacts order.rising;
+  keys = All-drop (λ c. IsKey c.key) k contacts order.keys;
+}
+
+pub rest_are_touches : (k : ℕ) (touches : List Touch) → AreTouches touches → AreTouches (drop k touches)
+rest_are_touches k touches order = record {
+  rising = rising-drop (λ (t : Touch). rank (key_of t)) k touches order.rising;
+  keys = All-drop (λ t. IsKey (key_of t)) k touches order.keys;
+}
+
+-- contacts from a place on that have what all have
+same_kept : (old : List Contact) (place : ℕ) (touches : List Touch) → All (SameFrom old place) touches
+    → map (kept_contact (drop place old)) touches ≡ map (kept_contact old) touches
+same_kept old place [] same = refl
+same_kept old place (t ∷ touches) same =
+    ap₂ (λ x xs. x ∷ xs) (ap (λ p. record { key = key_of t; impulses = p }) (All-head (SameFrom old place) t touches same))
+    (same_kept old place touches (All-tail (SameFrom old place) t touches same))
+
+-- the first contacts that have the keys of the first points stay, and behind them come the next ones of the others
+pub next_from : (old : List Contact) (touches : List Touch) (r : ℕ) → AreTouches touches → r ≤ length old → r ≤ length touches
+    → HaveSameKeys old touches r → take r old ++ next_contacts (drop r old) (drop r touches) ≡ next_contacts old touches
 unfolding next_contacts
-next_same old touches order keys =
-    let long : length old ≡ length touches = sym (length-map old (λ (c : Contact). c.key)) ∙ ap length keys ∙ length-map touches key_of in
-    let whole : take (length old) touches ≡ touches = ap (λ n. take n touches) long ∙ take-length touches in
-    let none : 0 + length old ≡ length old = omega arith in
-    let run = run_done old touches 0 0 (length old) [] (take (length old) old) order.rising
-    (omega arith) (omega (arith, long))
-    (ap (map (λ (c : Contact). c.key)) (take-length old) ∙ keys ∙ ap (map key_of) (sym whole))
+next_from old touches r order inside within keys =
+    let none : 0 + r ≡ r = omega arith in
+    let run = run_done old touches 0 0 r [] (take r old) order.rising (omega (arith, inside)) (omega (arith, within)) keys
     (λ k d w. refl) refl refl in
-    sym (sym (take-length old) ∙ run.0 ∙ ap (λ n. map (kept_contact old) (take n touches)) none ∙ ap (map (kept_contact old)) whole)
+    let kept = subst (λ n. (take r old ≡ map (kept_contact old) (take n touches)) × All (SameFrom old n) (drop n touches)) none run in
+    ap₂ (λ xs ys. xs ++ ys) kept.0 (same_kept old r (drop r touches) kept.1)
+    ∙ sym (map-append (kept_contact old) (take r touches) (drop r touches))
+    ∙ ap (map (kept_contact old)) (take-append-drop r touches)
+
+-- so contacts that have the keys of all points stay as they are
+none_next : (first others : List Contact) → first ++ next_contacts others [] ≡ first
+unfolding next_contacts
+none_next first others = append-nil first
+
+pub next_same : (old : List Contact) (touches : List Touch) (r : ℕ) → AreTouches touches → r ≡ length old → r ≡ length touches
+    → HaveSameKeys old touches r → next_contacts old touches ≡ old
+next_same old touches r order all_old all_points keys =
+    sym (next_from old touches r order (omega (arith, all_old)) (omega (arith, all_points)) keys)
+    ∙ ap (λ ts. take r old ++ next_contacts (drop r old) ts) (drop_all r touches (omega (arith, all_points)))
+    ∙ none_next (take r old) (drop r old) ∙ take_all r old (omega (arith, all_old))

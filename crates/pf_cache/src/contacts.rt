@@ -95,14 +95,13 @@ fn same_keys(contacts: &[Contact], touches: &[Touch], known: usize) -> usize
     count
 }
 
-/// Whether the contacts have the keys of the points. The first `known` are known to have them. No
-/// clause says that it is found where they have.
+/// Whether so many are all contacts and all points.
 #[inline]
-fn have_keys_of(contacts: &[Contact], touches: &[Touch], known: usize) -> bool
-    requires { HaveSameFirst known (map (λ c. c.key) contacts.now) (map key_of touches.now) }
-    ensures { IsTrue result → map (λ c. c.key) contacts.now ≡ map key_of touches.now }
+fn is_all(count: usize, contacts: &[Contact], touches: &[Touch]) -> bool
+    ensures { IsTrue result
+        → (count ≡ length contacts.now) × (count ≡ length touches.now) }
 {
-    contacts.len() == touches.len() && same_keys(contacts, touches, known) == contacts.len()
+    count == contacts.len() && count == touches.len()
 }
 
 /// Adds these contacts. There is room for them.
@@ -231,13 +230,15 @@ impl Contacts {
     {
         change.noted.clear();
         change.before.clear();
-        change.keeps_keys = may_stay && have_keys_of(&self.list, touches, known);
+        let same = same_keys(&self.list, touches, known);
+        change.keeps_keys = may_stay && is_all(same, &self.list, touches);
         if change.keeps_keys {
             return Ok(());
         }
         change.before.reserve(touches.len())?;
         mem::swap(&mut self.list, &mut change.before);
-        add_next(&mut self.list, &change.before, touches);
+        add_all(&mut self.list, &change.before[..same]);
+        add_next(&mut self.list, &change.before[same..], &touches[same..]);
         Ok(())
     }
 

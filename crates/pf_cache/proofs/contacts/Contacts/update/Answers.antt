@@ -1,22 +1,26 @@
-use Rattle.std.proofs.Common.{◌≡◌, ◌∙◌, ◌++◌, List, ap, map, subst, sym, true≢false}
+use Rattle.std.proofs.Common.{◌≡◌, ◌∙◌, ◌++◌, ◌≤◌, [], ap, ap₂, drop, length, subst, sym, take, true≢false}
 use Rattle.std.specs.Prelude.{if◌then◌else◌}
-use Rattle.pf_manifold.specs.Key.{key_of}
-use Rattle.pf_cache.specs.Contact.{AreContacts, Contact, next_contacts}
+use Rattle.pf_manifold.specs.Key.{AreTouches}
+use Rattle.pf_cache.specs.Contact.{AreContacts, next_contacts}
 use Rattle.pf_cache.specs.ContactsChange.{with_noted}
 use Rattle.pf_cache.proofs.Kept.{updated_are_contacts}
-use Rattle.pf_cache.proofs.Restoring.{next_same, none_noted}
+use Rattle.pf_cache.proofs.Restoring.{next_from, next_same, none_noted, rest_are_contacts, rest_are_touches}
+use Rattle.pf_cache.proofs.Runs.{HaveSameKeys, rest_is}
 use Rattle.pf_cache.proofs.contacts.Contacts.update.Goals.{then-may_stay, else-may_stay}
 use Rattle.pf_cache.proofs.contacts.Contacts.update.Goals as goal
 
 pub returns-then-change-clause-value : goal.returns-then-change-clause-value
 returns-then-change-clause-value c =
     let touches = c.args.touches.now in
-    let keys : map (λ (x : Contact). x.key) c.args.self.now ≡ map key_of touches = elim c.if-may_stay.branch [
-      | then-may_stay w ↦ subst (λ cs. map (λ (x : Contact). x.key) cs ≡ map key_of touches)
-          (w.deref.ensures.value ∙ c.self.view_is) (w.have_keys_of-change-inside.ensures (sym w.change-is ∙ c.if-change.true))
+    let same = c.same_keys-same.result in
+    let keys : HaveSameKeys c.deref.result.now touches same = c.same_keys-same.ensures.same in
+    subst (λ cs. cs ≡ next_contacts cs touches) (c.deref.ensures.value ∙ c.self.view_is) (elim c.if-may_stay.branch [
+      | then-may_stay w ↦
+          let all = w.is_all-change-inside.ensures (sym w.change-is ∙ c.if-change.true) in
+          let same_list = ap length (w.deref-then-may_stay.ensures.value ∙ sym c.deref.ensures.value) in
+          sym (next_same c.deref.result.now touches same c.requires.touches (all.0 ∙ same_list) all.1 keys)
       | else-may_stay w ↦ absurd (true≢false (sym c.if-change.true ∙ w.change-is ∙ w.if-may_stay.false))
-    ] in
-    sym (next_same c.args.self.now touches c.requires.touches keys)
+    ])
 
 pub returns-then-change-clause-before : goal.returns-then-change-clause-before
 returns-then-change-clause-before c =
@@ -24,9 +28,37 @@ returns-then-change-clause-before c =
     ap (λ t. if t then with_noted now c.clear.new.self.items else c.clear-2.new.self.items) c.if-change.true
     ∙ ap (with_noted now) c.clear.ensures.items ∙ none_noted now
 
+pub add_next-requires-clause-old : goal.add_next-requires-clause-old
+add_next-requires-clause-old c =
+    let old = c.deref-3.result.now in
+    let same = c.same_keys-same.result in
+    let moved : old ≡ c.self.inside.list.items = c.deref-3.ensures.value ∙ ap (λ l. l.items) c.swap.ensures.y_after in
+    subst AreContacts (sym (rest_is old same)) (rest_are_contacts same old (subst AreContacts (sym moved) c.self.invariant))
+
+pub add_next-requires-clause-touches : goal.add_next-requires-clause-touches
+add_next-requires-clause-touches c =
+    let touches = c.args.touches.now in
+    let same = c.same_keys-same.result in
+    subst AreTouches (sym (rest_is touches same)) (rest_are_touches same touches c.requires.touches)
+
+next : (c : goal.After-add_next) → c.add_next.new.list.items ≡ next_contacts c.self.inside.list.items c.args.touches.now
+next c =
+    let old = c.self.inside.list.items in
+    let touches = c.args.touches.now in
+    let same = c.same_keys-same.result in
+    let moved : c.deref-3.result.now ≡ old = c.deref-3.ensures.value ∙ ap (λ l. l.items) c.swap.ensures.y_after in
+    let moved_first : c.deref-2.result.now ≡ old = c.deref-2.ensures.value ∙ ap (λ l. l.items) c.swap.ensures.y_after in
+    let empty : c.swap.new.x.items ≡ [] = ap (λ l. l.items) c.swap.ensures.x_after ∙ c.in_ok-reserve.ensures.items ∙ c.clear-2.ensures.items in
+    let inside : same ≤ length old = subst (λ cs. same ≤ length cs) c.deref.ensures.value c.same_keys-same.ensures.contacts in
+    let keys : HaveSameKeys old touches same = subst (λ cs. HaveSameKeys cs touches same) c.deref.ensures.value c.same_keys-same.ensures.same in
+    c.add_next.ensures
+    ∙ ap₂ (λ xs ys. xs ++ ys) (c.add_all.ensures.items ∙ ap₂ (λ xs ys. xs ++ take same ys) empty moved_first)
+    (ap₂ next_contacts (rest_is c.deref-3.result.now same ∙ ap (drop same) moved) (rest_is touches same))
+    ∙ next_from old touches same c.requires.touches inside c.same_keys-same.ensures.touches keys
+
 pub invariant_of-self : goal.invariant_of-self
 invariant_of-self c =
-    let next = next_contacts c.deref-2.result.now c.args.touches.now in
-    let whole = c.add_next.ensures
-    ∙ ap (λ (xs : List Contact). xs ++ next) (ap (λ l. l.items) c.swap.ensures.x_after ∙ c.in_ok-reserve.ensures.items ∙ c.clear-2.ensures.items) in
-    subst AreContacts (sym whole) (updated_are_contacts c.deref-2.result.now c.args.touches.now c.requires.touches)
+    subst AreContacts (sym (next c)) (updated_are_contacts c.self.inside.list.items c.args.touches.now c.requires.touches)
+
+pub returns-clause-value : goal.returns-clause-value
+returns-clause-value c = next c ∙ ap (λ cs. next_contacts cs c.args.touches.now) c.self.view_is
