@@ -9,7 +9,7 @@ use Rattle.pf_rows.specs.Row.{AreApart, InverseMass, Row}
 use Rattle.pf_islands.proofs.Elements.{set_other}
 use Rattle.pf_solver.specs.Impulse.{ContactState, Motion}
 use Rattle.pf_solver.specs.Laws.{solved_at, solved_where}
-use Rattle.pf_levels.specs.Levels.{Pair, ShareNoBody, ShareNoBodyAt, pair_of}
+use Rattle.pf_levels.specs.Levels.{RowPair, ShareNoBody, ShareNoBodyAt, pair_of}
 use Rattle.pf_solver.specs.Velocities.{Batch, Step, bodies_after, bodies_with, body_with, contact_state, motion_at, motion_of, row_after, with_motion}
 
 -- two writes at two places
@@ -126,7 +126,7 @@ module _ (step : Step) where
   pair_at [] p r at = cc
   pair_at (x ∷ rows) zero r at = ap (λ (o : Option Row). by o) at
     where
-      by : Option Row → Option Pair
+      by : Option Row → Option RowPair
       by None = None
       by (Some y) = Some (pair_of y)
   pair_at (x ∷ rows) (suc p) r at = pair_at rows p r at

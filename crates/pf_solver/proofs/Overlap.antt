@@ -6,8 +6,8 @@ use Rattle.std.proofs.lemmas.List.Folds.{fold-map}
 use Rattle.std.proofs.lemmas.List.Sums.{fold-append}
 use Rattle.std.specs.List.{concat, fold, range_with_len}
 use Rattle.std.specs.Prelude.{All}
-use Rattle.pf_levels.specs.Levels.{AreLevels, IsLevel, IsOrder, IsReordering, Pair, ShareNoBodyAt, pair_of}
-use Rattle.pf_levels.specs.Order.{pair_at, place_at}
+use Rattle.pf_levels.specs.Levels.{AreLevels, IsLevel, IsOrder, IsReordering, RowPair, ShareNoBodyAt, pair_of}
+use Rattle.pf_levels.specs.Order.{row_pair_at, place_at}
 use Rattle.pf_levels.specs.Overlap.{AreLevelsInOrder, late_then_early}
 use Rattle.pf_levels.proofs.InOrder.{AreDistinct, all_places, apart_by_places, concat_places, late_early_distinct, levels_by_places, places_apart, within_order}
 use Rattle.pf_solver.specs.Laws.{solved_at}
@@ -20,13 +20,13 @@ use Rattle.pf_solver.proofs.Reorder.{reordered}
 module _ (step : Step) where
   -- ---- levels of rows in another order
 
-  module _ (pairs : List Pair) (order : List ℕ) (distinct : AreDistinct order) where
+  module _ (pairs : List RowPair) (order : List ℕ) (distinct : AreDistinct order) where
     -- the step of the row that has this number in the order
     abbrev step_of : Batch → ℕ → Batch
     step_of b k = solved_at step b (place_at order k)
 
     commutes : (b : Batch) (p q : ℕ) → map pair_of b.rows ≡ pairs → p < q → q < length order
-        → ShareNoBodyAt (map (pair_at pairs) order) p q → step_of (step_of b q) p ≡ step_of (step_of b p) q
+        → ShareNoBodyAt (map (row_pair_at pairs) order) p q → step_of (step_of b q) p ≡ step_of (step_of b p) q
     commutes b p q is less within apart =
         let here : p < length order = omega (arith, less, within) in
         let far = apart_by_places pairs order p q here within apart in
@@ -34,13 +34,13 @@ module _ (step : Step) where
         (subst (λ ps. ShareNoBodyAt ps (place_at order p) (place_at order q)) (sym is) far))
 
     -- rows that keep the order of each body's rows
-    in_order : (numbers : List ℕ) (b : Batch) → map pair_of b.rows ≡ pairs → IsOrder (map (pair_at pairs) order) numbers
+    in_order : (numbers : List ℕ) (b : Batch) → map pair_of b.rows ≡ pairs → IsOrder (map (row_pair_at pairs) order) numbers
         → fold (solved_at step) b (map (place_at order) numbers) ≡ fold (solved_at step) b order
     in_order numbers b are is =
         fold-map (solved_at step) (place_at order) b numbers
-        ∙ reordered step_of (map (pair_at pairs) order) (λ (x : Batch). map pair_of x.rows ≡ pairs) (length order)
+        ∙ reordered step_of (map (row_pair_at pairs) order) (λ (x : Batch). map pair_of x.rows ≡ pairs) (length order)
         (λ x p same. pairs_kept step x (place_at order p) ∙ same) commutes (length order) 0 numbers b (omega arith) are
-        (subst (λ n. IsReordering (range_with_len 0 n) numbers) (length-map order (pair_at pairs)) is.all) is.keeps
+        (subst (λ n. IsReordering (range_with_len 0 n) numbers) (length-map order (row_pair_at pairs)) is.all) is.keeps
         ∙ sym (fold-map (solved_at step) (place_at order) b (range_with_len 0 (length order)))
         ∙ ap (fold (solved_at step) b) (all_places order)
 
@@ -62,7 +62,7 @@ module _ (step : Step) where
       ap (λ (x : Batch). map pair_of x.rows) (by_levels step levels b apart) ∙ pairs_after step (concat levels) b
 
   -- levels of rows that are listed as late ones and then early ones do the late levels and then the early ones
-  pub late_and_early : (pairs : List Pair) (levels across : List (List ℕ)) (early : ℕ) (b : Batch) → AreLevels pairs levels
+  pub late_and_early : (pairs : List RowPair) (levels across : List (List ℕ)) (early : ℕ) (b : Batch) → AreLevels pairs levels
       → AreLevelsInOrder pairs (late_then_early early levels) across → map pair_of b.rows ≡ pairs
       → solved_by_levels across step b ≡ solved_by_levels (take early levels) step (solved_by_levels (drop early levels) step b)
   late_and_early pairs levels across early b are of is =

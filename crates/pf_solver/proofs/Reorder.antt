@@ -7,7 +7,7 @@ use Rattle.std.specs.List.{fold, range_with_len}
 use Rattle.std.specs.Prelude.{All}
 use Rattle.pf_levels.proofs.Places.{All-left, All-reordering, All-right}
 use Rattle.pf_solver.specs.Laws.{solved_at}
-use Rattle.pf_levels.specs.Levels.{ShareNoBodyAt, IsReordering, KeepsOrder, Pair, pair_of}
+use Rattle.pf_levels.specs.Levels.{ShareNoBodyAt, IsReordering, KeepsOrder, RowPair, pair_of}
 use Rattle.pf_solver.specs.Order.{IsOrderOf, solved_in}
 use Rattle.pf_solver.specs.Velocities.{Batch, Step, pass}
 use Rattle.pf_solver.proofs.Commute.{commute, pairs_kept}
@@ -22,7 +22,7 @@ between (suc n) k p end below above =
     All-cons (λ q. (p < q) × (q < end)) k (range_with_len (k + 1) n) (below, omega (arith, above))
     (between n (k + 1) p end (omega (arith, below)) (omega (arith, above)))
 
-module _ (pairs : List Pair) where
+module _ (pairs : List RowPair) where
   -- the rows before a row are apart from it, if they come behind it in the list
   front_apart : (front back : List ℕ) (p : ℕ) → KeepsOrder pairs (front ++ p ∷ back) → All (λ q. p < q) front
       → All (λ q. ShareNoBodyAt pairs p q) front
@@ -44,7 +44,7 @@ module _ (pairs : List Pair) where
       )
 
 -- what two rows do commutes where they are apart: their steps may be done in another order
-module _ {X : Type 0} (next : X → ℕ → X) (pairs : List Pair) (Is : X → Type 0) (count : ℕ)
+module _ {X : Type 0} (next : X → ℕ → X) (pairs : List RowPair) (Is : X → Type 0) (count : ℕ)
     (stays : (x : X) (p : ℕ) → Is x → Is (next x p))
     (commute : (x : X) (p q : ℕ) → Is x → p < q → q < count → ShareNoBodyAt pairs p q → next (next x q) p ≡ next (next x p) q) where
   -- a row comes before rows that are apart from it
@@ -77,7 +77,7 @@ module _ {X : Type 0} (next : X → ℕ → X) (pairs : List Pair) (Is : X → T
 
 module _ (step : Step) where
   -- rows of a batch with these pairs, in another order
-  solved_reordered : (pairs : List Pair) (order : List ℕ) (b : Batch) → map pair_of b.rows ≡ pairs
+  solved_reordered : (pairs : List RowPair) (order : List ℕ) (b : Batch) → map pair_of b.rows ≡ pairs
       → IsReordering (range_with_len 0 (length pairs)) order → KeepsOrder pairs order
       → fold (solved_at step) b order ≡ fold (solved_at step) b (range_with_len 0 (length pairs))
   solved_reordered pairs order b are =

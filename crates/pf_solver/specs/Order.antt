@@ -2,7 +2,7 @@
 use Rattle.std.specs.Prelude.{◌≡◌, ℕ, suc, zero, List, None, Option, Some, fold, map, slice_get, slice_set}
 use Rattle.pf_shapes.specs.Body.{BodyState}
 use Rattle.pf_rows.specs.Row.{Row}
-use Rattle.pf_levels.specs.Levels.{AreLevels, IsOrder, Pair, pair_of}
+use Rattle.pf_levels.specs.Levels.{AreLevels, IsOrder, RowPair, pair_of}
 use Rattle.pf_solver.specs.Laws.{solved_at}
 use Rattle.pf_solver.specs.Velocities.{Batch, Step, bodies_with, contact_state, row_with}
 
@@ -43,7 +43,7 @@ passes_in_levels (suc n) levels step b =
 -- levels across two passes: they do to a batch what the late levels of one pass, and then the early
 -- levels of the next one, do
 abbrev pub DoLateAndEarly :
-    List Pair → List (List ℕ) → List (List ℕ) → List (List ℕ) → Type 0
+    List RowPair → List (List ℕ) → List (List ℕ) → List (List ℕ) → Type 0
 DoLateAndEarly pairs early late across =
     (step : Step) (b : Batch) → map pair_of b.rows ≡ pairs
     → solved_by_levels across step b

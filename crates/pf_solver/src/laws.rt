@@ -10,7 +10,7 @@ ghost use Rattle.pf_solver.specs.Alone.{seen_from};
 ghost use Rattle.pf_solver.specs.Beside.{IsBatch, side_by_side, velocities_of};
 ghost use Rattle.pf_islands.specs.Island.{states_of, rows_among, IsOwnOrOther};
 ghost use Rattle.pf_solver.specs.Laws.{places_written, solved_at};
-ghost use Rattle.pf_levels.specs.Levels.{AreLevels, IsLevel, Pair, pair_of};
+ghost use Rattle.pf_levels.specs.Levels.{AreLevels, IsLevel, RowPair, pair_of};
 ghost use Rattle.pf_levels.specs.Overlap.{AreLevelsInOrder, late_then_early};
 ghost use Rattle.pf_solver.specs.Order.{AreLevelsOf, DoLateAndEarly, IsOrderOf, after_overlapping_passes, passes_in_levels, solved_at_once, solved_in};
 ghost use Rattle.pf_solver.specs.Solve.{solved_batch};
@@ -65,7 +65,7 @@ pub fn levels_are_solved_as_the_list()
 /// their rows in this order: where late levels have room, passes so take fewer levels (software
 /// pipelining). Passes that overlap are passes along the list, bit for bit.
 pub fn passes_may_overlap()
-    ensures levels { (pairs : List Pair) (levels across : List (List ℕ)) (early : ℕ)
+    ensures levels { (pairs : List RowPair) (levels across : List (List ℕ)) (early : ℕ)
         → AreLevels pairs levels
         → AreLevelsInOrder pairs (late_then_early early levels) across
         → DoLateAndEarly pairs (take early levels) (drop early levels) across }
