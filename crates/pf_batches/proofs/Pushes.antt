@@ -132,7 +132,7 @@ spins_grown c m after impulse spin push pushes short e =
 ready : (c : Constraint) (m : ContactState) (spin : ℕ) → IsSmallConstraint c → IsSpinLimit c spin → SpinsWithin (2 * spin) m → IsReady c m
 ready c m spin small limit spins = record {
   small = small;
-  spins = record { first = omega (arith, spins.first, limit.twice); second = omega (arith, spins.second, limit.twice) };
+  spins = record { first = omega (arith, spins.first, limit.limit); second = omega (arith, spins.second, limit.limit) };
   first = spin_products spin (unsigned_abs m.first.spin) c.first_arm spins.first limit.first_arm;
   second = spin_products spin (unsigned_abs m.second.spin) c.second_arm spins.second limit.second_arm;
 }

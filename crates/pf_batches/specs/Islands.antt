@@ -11,7 +11,7 @@ use Rattle.pf_solver.specs.Beside.{IsBatch, shifted_row, side_by_side}
 use Rattle.pf_solver.specs.Velocities.{Batch}
 use Rattle.pf_bundles.specs.Bundle.{AreBundlesOf, Bundle}
 use Rattle.pf_solver.specs.Order.{AreLevelsOf, DoLateAndEarly}
-use Rattle.pf_batches.specs.declared.together.TheConstants.{START_LIMIT}
+use Rattle.pf_batches.specs.declared.batch.TheConstants.{START_LIMIT}
 use Rattle.pf_batches.specs.Numbers.{AreAllWithin, numbered_batch, batch_numbers}
 
 -- islands side by side

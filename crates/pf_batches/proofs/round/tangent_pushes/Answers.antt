@@ -29,7 +29,7 @@ returns-clause-added c = λ k.
     grind (arith, common_steps, c.negated-change.ensures k, c.times.ensures.value k, c.speed_along-speed.ensures.value k, c.relative_velocity-velocity.ensures k) in
     let small : unsigned_abs (number_in k c.negated-change.result) ≤ 536870912 = grind (arith, common_steps, c.negated-change.ensures k, c.times.ensures.size k) in
     let added : number_in k c.greatest.result ≡ int_max (difference (neg_ℤ (number_in k c.times-limit.result)) m.impulses.tangent) (int_min (difference (number_in k c.times-limit.result) m.impulses.tangent) (number_in k c.negated-change.result)) =
-    grind (arith, common_steps, c.greatest.ensures k, c.least.ensures k, c.minus-least.ensures.value k, c.minus-most.ensures.value k, c.negated.ensures k) in
+    grind (arith, common_steps, c.greatest.ensures k, c.least.ensures k, c.minus-least.ensures.value k, c.minus-room.ensures.value k, c.negated.ensures k) in
     friction_added own m (number_in k c.greatest.result) (number_in k c.times-limit.result) (number_in k c.negated-change.result)
     limit change added old size small
 
@@ -45,7 +45,7 @@ returns-clause-total c = λ k.
     grind (arith, common_steps, c.negated-change.ensures k, c.times.ensures.value k, c.speed_along-speed.ensures.value k, c.relative_velocity-velocity.ensures k) in
     let small : unsigned_abs (number_in k c.negated-change.result) ≤ 536870912 = grind (arith, common_steps, c.negated-change.ensures k, c.times.ensures.size k) in
     let added : number_in k c.greatest.result ≡ int_max (difference (neg_ℤ (number_in k c.times-limit.result)) m.impulses.tangent) (int_min (difference (number_in k c.times-limit.result) m.impulses.tangent) (number_in k c.negated-change.result)) =
-    grind (arith, common_steps, c.greatest.ensures k, c.least.ensures k, c.minus-least.ensures.value k, c.minus-most.ensures.value k, c.negated.ensures k) in
+    grind (arith, common_steps, c.greatest.ensures k, c.least.ensures k, c.minus-least.ensures.value k, c.minus-room.ensures.value k, c.negated.ensures k) in
     friction_total own m (number_in k c.greatest.result) (number_in k c.times-limit.result) (number_in k c.negated-change.result)
     limit change added old size small
 
@@ -61,6 +61,6 @@ returns-clause-size c = λ k.
     grind (arith, common_steps, c.negated-change.ensures k, c.times.ensures.value k, c.speed_along-speed.ensures.value k, c.relative_velocity-velocity.ensures k) in
     let small : unsigned_abs (number_in k c.negated-change.result) ≤ 536870912 = grind (arith, common_steps, c.negated-change.ensures k, c.times.ensures.size k) in
     let added : number_in k c.greatest.result ≡ int_max (difference (neg_ℤ (number_in k c.times-limit.result)) m.impulses.tangent) (int_min (difference (number_in k c.times-limit.result) m.impulses.tangent) (number_in k c.negated-change.result)) =
-    grind (arith, common_steps, c.greatest.ensures k, c.least.ensures k, c.minus-least.ensures.value k, c.minus-most.ensures.value k, c.negated.ensures k) in
+    grind (arith, common_steps, c.greatest.ensures k, c.least.ensures k, c.minus-least.ensures.value k, c.minus-room.ensures.value k, c.negated.ensures k) in
     friction_size own m (number_in k c.greatest.result) (number_in k c.times-limit.result) (number_in k c.negated-change.result)
     limit change added old size small
