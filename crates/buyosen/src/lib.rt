@@ -50,6 +50,7 @@ pub use pf_commands::{
     CheckFault, Command, CommandMap, Coordinate, FRAME_LEN, FrameFault, MAX_TICK, NUMBERS, Name,
     Payload, Put, check, decode, encode,
 };
+pub use pf_islands::{Island, LoneBodies};
 pub use pf_manifold::Key;
 pub use pf_num::Fx;
 pub use pf_rollback::{KEYFRAME_INTERVAL, MAX_RING, PeerCore, PeerError, Refusal, Sealed};
