@@ -1,6 +1,8 @@
 -- Rows side by side, each in a lane of its own: what stays fixed of them during the rounds.
 use Rattle.pf_lanes.specs.Lanes.{Lane, Lanes, number_in}
 use Rattle.pf_rot.specs.Vector.{V2}
+use Rattle.pf_rows.specs.declared.constraint.Constraint as constraint
+use Rattle.pf_rows.specs.declared.constraint.InverseMass as mass
 use Rattle.pf_rows.specs.Row.{Constraint, InverseMass}
 
 -- vectors side by side, and the vector in a lane
@@ -12,9 +14,8 @@ abbrev pub vector_in : Lane → VectorLanes → V2
 vector_in k v = record { x = number_in k v.x; y = number_in k v.y }
 
 -- inverse masses side by side
-pub record MassLanes : Type 0 where
-  pub inverse_mass : Lanes
-  pub inverse_inertia : Lanes
+abbrev pub MassLanes : Type 0
+MassLanes = mass.InverseMass Lanes
 
 abbrev pub mass_in : Lane → MassLanes → InverseMass
 mass_in k m = record {
@@ -23,15 +24,8 @@ mass_in k m = record {
 }
 
 -- constraints side by side
-pub record ConstraintLanes : Type 0 where
-  pub normal : VectorLanes
-  pub tangent : VectorLanes
-  pub first_arm : VectorLanes
-  pub second_arm : VectorLanes
-  pub normal_mass : Lanes
-  pub tangent_mass : Lanes
-  pub bias : Lanes
-  pub friction : Lanes
+abbrev pub ConstraintLanes : Type 0
+ConstraintLanes = constraint.Constraint VectorLanes Lanes Lanes
 
 abbrev pub constraint_in : Lane → ConstraintLanes → Constraint
 constraint_in k c = record {

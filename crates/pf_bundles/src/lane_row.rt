@@ -11,61 +11,15 @@ use crate::limits::{
     LONGEST_ARM, LONGEST_ARM_SPIN, MIDDLE_ARM, MIDDLE_ARM_SPIN, MIDDLE_PUSH, NUMBER_LIMIT,
     PRODUCT_LIMIT, QUARTER_ARM, QUARTER_ARM_SPIN, SHORT_ARM, SHORT_ARM_SPIN, SMALL_PUSH,
 };
-use crate::whole::{WholeMass, WholeVector, number_of, whole_of};
+use crate::whole::{
+    WholeConstraint, WholeMass, constraint_of, mass_of, no_constraint, no_mass,
+    whole_constraint_of, whole_mass_of,
+};
 use pf_lanes::WholeNumber;
 use pf_num::Fx;
 use pf_rot::V2;
 use pf_rows::{Constraint, InverseMass, Prepared, Row, Side, is_short, is_within};
 use std::marker::Model;
-
-/// The constraint of a row in whole numbers that are doubles.
-#[derive(Clone, Copy)]
-pub struct WholeConstraint {
-    /// The normal.
-    pub normal: WholeVector,
-    /// The tangent.
-    pub tangent: WholeVector,
-    /// The arm of the first body.
-    pub first_arm: WholeVector,
-    /// The arm of the second body.
-    pub second_arm: WholeVector,
-    /// The effective mass along the normal.
-    pub normal_mass: WholeNumber,
-    /// The effective mass along the tangent.
-    pub tangent_mass: WholeNumber,
-    /// The separating speed aimed at.
-    pub bias: WholeNumber,
-    /// The coefficient of friction.
-    pub friction: WholeNumber,
-}
-
-impl Model for WholeConstraint {
-    ghost use Rattle.pf_rows.specs.Row.{Constraint};
-
-    ghost Value = { Constraint };
-
-    ghost view = { λ c. record {
-      normal = c.normal;
-      tangent = c.tangent;
-      first_arm = c.first_arm;
-      second_arm = c.second_arm;
-      normal_mass = c.normal_mass;
-      tangent_mass = c.tangent_mass;
-      bias = c.bias;
-      friction = c.friction;
-    } };
-
-    ghost inverse = { λ c. record {
-      normal = c.normal;
-      tangent = c.tangent;
-      first_arm = c.first_arm;
-      second_arm = c.second_arm;
-      normal_mass = c.normal_mass;
-      tangent_mass = c.tangent_mass;
-      bias = c.bias;
-      friction = c.friction;
-    } };
-}
 
 /// What a lane holds of a row, in whole numbers that are doubles.
 #[derive(Clone, Copy)]
@@ -266,67 +220,6 @@ fn arm_on(side: Side, arm: V2) -> V2
     }
 }
 
-impl WholeConstraint {
-    ghost use Rattle.std.specs.Prelude.{◌≡◌, ◌↔◌, IfSome, IsSome};
-    ghost use Rattle.pf_rows.specs.Row.{no_constraint};
-    ghost use Rattle.pf_bundles.specs.LaneRow.{ConstraintFits};
-    ghost use Rattle.pf_bundles.specs.Limits.{HasShortArms, IsSmallConstraint};
-
-    /// That of no row.
-    fn none() -> WholeConstraint
-        ensures { result ≡ no_constraint }
-    {
-        let zero = WholeNumber::zero();
-        WholeConstraint {
-            normal: WholeVector::zero(),
-            tangent: WholeVector::zero(),
-            first_arm: WholeVector::zero(),
-            second_arm: WholeVector::zero(),
-            normal_mass: zero,
-            tangent_mass: zero,
-            bias: zero,
-            friction: zero,
-        }
-    }
-
-    /// This constraint, or `None` where doubles do not hold an effective mass or the friction.
-    #[inline]
-    fn of(c: &Constraint) -> Option<WholeConstraint>
-        requires small { IsSmallConstraint c.now }
-        requires arms { HasShortArms LONGEST_ARM c.now }
-        ensures value { IfSome result (λ whole. whole ≡ c.now) }
-        ensures fits { IsSome result ↔ ConstraintFits c.now }
-    {
-        Some(WholeConstraint {
-            normal: WholeVector::new(c.normal),
-            tangent: WholeVector::new(c.tangent),
-            first_arm: WholeVector::new(c.first_arm),
-            second_arm: WholeVector::new(c.second_arm),
-            normal_mass: whole_of(c.normal_mass)?,
-            tangent_mass: whole_of(c.tangent_mass)?,
-            bias: WholeNumber::of(c.bias.raw()),
-            friction: whole_of(c.friction)?,
-        })
-    }
-
-    /// The constraint.
-    #[inline]
-    fn constraint(&self) -> Constraint
-        ensures { result ≡ self.now }
-    {
-        Constraint {
-            normal: self.normal.vector(),
-            tangent: self.tangent.vector(),
-            first_arm: self.first_arm.vector(),
-            second_arm: self.second_arm.vector(),
-            normal_mass: number_of(self.normal_mass),
-            tangent_mass: number_of(self.tangent_mass),
-            bias: number_of(self.bias),
-            friction: number_of(self.friction),
-        }
-    }
-}
-
 impl LaneRow {
     ghost use Rattle.std.specs.Prelude.{◌≡◌, ◌↔◌, IfSome, IsSome};
     ghost use Rattle.std.specs.Int.RustNames.{unsigned_abs};
@@ -338,9 +231,9 @@ impl LaneRow {
         ensures { result ≡ no_lane_row }
     {
         LaneRow {
-            first_mass: WholeMass::none(),
-            second_mass: WholeMass::none(),
-            constraint: WholeConstraint::none(),
+            first_mass: no_mass(),
+            second_mass: no_mass(),
+            constraint: no_constraint(),
             spin_limit: WholeNumber::of(QUARTER_ARM_SPIN as i64),
             push_limit: WholeNumber::of(LANE_LIMIT as i64),
         }
@@ -369,9 +262,9 @@ impl LaneRow {
         let spin = spin_limit_of(constraint)?;
         let push = push_limit_of(constraint, first_mass, second_mass, spin)?;
         Some(LaneRow {
-            first_mass: WholeMass::of(*first_mass)?,
-            second_mass: WholeMass::of(*second_mass)?,
-            constraint: WholeConstraint::of(constraint)?,
+            first_mass: whole_mass_of(*first_mass)?,
+            second_mass: whole_mass_of(*second_mass)?,
+            constraint: whole_constraint_of(constraint)?,
             spin_limit: WholeNumber::of(spin as i64),
             push_limit: WholeNumber::of(push as i64),
         })
@@ -406,11 +299,10 @@ impl LaneRow {
         ensures second { result.second_mass ≡ self.now.second_mass }
         ensures constraint { result.constraint ≡ self.now.constraint }
     {
-        let constraint = self.constraint.constraint();
         let mut prepared = Prepared::new(
-            self.first_mass.mass(),
-            self.second_mass.mass(),
-            constraint,
+            mass_of(self.first_mass),
+            mass_of(self.second_mass),
+            constraint_of(&self.constraint),
         );
         prepared.measure();
         prepared

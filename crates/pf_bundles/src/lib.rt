@@ -15,10 +15,10 @@ mod whole;
 mod workspace;
 
 pub use bundle::{Bundle, load_bundles};
-pub use lane_row::{LaneRow, WholeConstraint};
+pub use lane_row::LaneRow;
 pub use numbers::{Numbers, SeatState, WholeImpulses, WholeVelocity};
 pub use prepared::{ConstraintLanes, MassLanes, PreparedLanes};
 pub use seat::LaneSeat;
 pub use vectors::{ScaledVectors, VectorLanes};
-pub use whole::{WholeMass, WholeVector};
+pub use whole::{WholeConstraint, WholeMass, WholeVector};
 pub use workspace::Workspace;

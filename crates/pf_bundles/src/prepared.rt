@@ -4,85 +4,18 @@ ghost use Rattle.std.specs.Prelude.{◌≡◌};
 ghost use Rattle.pf_lanes.specs.Lanes.{First, Fourth, Second, Third};
 ghost use Rattle.pf_bundles.specs.Prepared.{constraint_in, mass_in, vector_in};
 
-use crate::lane_row::{LaneRow, WholeConstraint};
+use crate::lane_row::LaneRow;
 use crate::vectors::ScaledVectors;
-use crate::whole::{WholeMass, WholeVector};
+use crate::whole::{WholeConstraint, WholeMass, WholeVector};
 use pf_lanes::{Lanes, Scaled};
+use pf_rows::{Constraint, InverseMass};
 use std::marker::Model;
 
 /// Inverse masses side by side.
-#[derive(Clone, Copy)]
-pub struct MassLanes {
-    /// 1 / mass.
-    pub inverse_mass: Scaled,
-    /// 1 / inertia.
-    pub inverse_inertia: Scaled,
-}
-
-impl Model for MassLanes {
-    ghost use Rattle.pf_bundles.specs.Prepared.{MassLanes};
-
-    ghost Value = { MassLanes };
-
-    ghost view = { λ m. record {
-      inverse_mass = m.inverse_mass;
-      inverse_inertia = m.inverse_inertia;
-    } };
-
-    ghost inverse = { λ m. record {
-      inverse_mass = m.inverse_mass;
-      inverse_inertia = m.inverse_inertia;
-    } };
-}
+pub type MassLanes = InverseMass<Scaled>;
 
 /// Constraints side by side.
-#[derive(Clone, Copy)]
-pub struct ConstraintLanes {
-    /// The normals.
-    pub normal: ScaledVectors,
-    /// The tangents.
-    pub tangent: ScaledVectors,
-    /// The arms of the first bodies.
-    pub first_arm: ScaledVectors,
-    /// The arms of the second bodies.
-    pub second_arm: ScaledVectors,
-    /// The effective masses along the normals.
-    pub normal_mass: Scaled,
-    /// The effective masses along the tangents.
-    pub tangent_mass: Scaled,
-    /// The separating speeds aimed at.
-    pub bias: Lanes,
-    /// The coefficients of friction.
-    pub friction: Scaled,
-}
-
-impl Model for ConstraintLanes {
-    ghost use Rattle.pf_bundles.specs.Prepared.{ConstraintLanes};
-
-    ghost Value = { ConstraintLanes };
-
-    ghost view = { λ c. record {
-      normal = c.normal;
-      tangent = c.tangent;
-      first_arm = c.first_arm;
-      second_arm = c.second_arm;
-      normal_mass = c.normal_mass;
-      tangent_mass = c.tangent_mass;
-      bias = c.bias;
-      friction = c.friction;
-    } };
-
-    ghost inverse = { λ c. record {
-      normal = c.normal;
-      tangent = c.tangent;
-      first_arm = c.first_arm;
-      second_arm = c.second_arm;
-      normal_mass = c.normal_mass;
-      tangent_mass = c.tangent_mass;
-      bias = c.bias;
-      friction = c.friction;
-    } };
-}
+pub type ConstraintLanes = Constraint<ScaledVectors, Scaled, Lanes>;
 
 /// What stays fixed of contacts during the rounds. In each lane spins and impulses up to its limits
 /// have exact products.
@@ -202,7 +135,7 @@ fn masses(first: WholeMass, second: WholeMass, third: WholeMass, fourth: WholeMa
     ensures third { mass_in Third result ≡ third }
     ensures fourth { mass_in Fourth result ≡ fourth }
 {
-    MassLanes {
+    InverseMass {
         inverse_mass: Scaled::gather([
             first.inverse_mass,
             second.inverse_mass,
@@ -232,7 +165,7 @@ fn constraints(
     ensures fourth { constraint_in Fourth result ≡ fourth.now }
 {
     let (a, b, c, d) = (*first, *second, *third, *fourth);
-    ConstraintLanes {
+    Constraint {
         normal: vectors(a.normal, b.normal, c.normal, d.normal),
         tangent: vectors(a.tangent, b.tangent, c.tangent, d.tangent),
         first_arm: vectors(a.first_arm, b.first_arm, c.first_arm, d.first_arm),

@@ -1,12 +1,16 @@
-//! Vectors and inverse masses in whole numbers that are doubles.
+//! Vectors, inverse masses and constraints in whole numbers that are doubles.
 
 ghost use Rattle.std.specs.Prelude.{◌≡◌, ◌≤◌, ◌↔◌, IfSome, IsSome};
 ghost use Rattle.std.specs.Int.RustNames.{unsigned_abs};
+ghost use Rattle.pf_rows.specs.Row.{no_constraint, no_mass};
+ghost use Rattle.pf_bundles.specs.LaneRow.{ConstraintFits, MassFits};
+ghost use Rattle.pf_bundles.specs.Limits.{HasShortArms, IsSmallConstraint};
 
+use crate::limits::LONGEST_ARM;
 use pf_lanes::{EXACT_LIMIT, WholeNumber};
 use pf_num::Fx;
 use pf_rot::V2;
-use pf_rows::InverseMass;
+use pf_rows::{Constraint, InverseMass};
 use std::marker::Model;
 
 /// A number as a double, or `None` where a double does not hold it.
@@ -90,67 +94,96 @@ impl WholeVector {
     }
 }
 
-/// How easily impulses move a body.
-#[derive(Clone, Copy)]
-pub struct WholeMass {
-    /// 1 / mass.
-    pub inverse_mass: WholeNumber,
-    /// 1 / inertia.
-    pub inverse_inertia: WholeNumber,
+/// How easily impulses move a body, in whole numbers that are doubles.
+pub type WholeMass = InverseMass<WholeNumber>;
+
+/// A constraint in whole numbers that are doubles.
+pub type WholeConstraint = Constraint<WholeVector, WholeNumber>;
+
+/// The mass of a static body.
+#[inline]
+pub(crate) fn no_mass() -> WholeMass
+    ensures { result ≡ no_mass }
+{
+    InverseMass {
+        inverse_mass: WholeNumber::zero(),
+        inverse_inertia: WholeNumber::zero(),
+    }
 }
 
-impl Model for WholeMass {
-    ghost use Rattle.pf_rows.specs.Row.{InverseMass};
-
-    ghost Value = { InverseMass };
-
-    ghost view = { λ m. record {
-      inverse_mass = m.inverse_mass;
-      inverse_inertia = m.inverse_inertia;
-    } };
-
-    ghost inverse = { λ m. record {
-      inverse_mass = m.inverse_mass;
-      inverse_inertia = m.inverse_inertia;
-    } };
+/// A mass in doubles, or `None` where they do not hold it.
+#[inline]
+pub(crate) fn whole_mass_of(mass: InverseMass) -> Option<WholeMass>
+    ensures value { IfSome result (λ whole. whole ≡ mass) }
+    ensures fits { IsSome result ↔ MassFits mass }
+{
+    Some(InverseMass {
+        inverse_mass: whole_of(mass.inverse_mass)?,
+        inverse_inertia: whole_of(mass.inverse_inertia)?,
+    })
 }
 
-impl WholeMass {
-    ghost use Rattle.std.specs.Prelude.{◌≡◌, ◌↔◌, IfSome, IsSome};
-    ghost use Rattle.pf_rows.specs.Row.{no_mass};
-    ghost use Rattle.pf_bundles.specs.LaneRow.{MassFits};
-
-    /// That of a static body.
-    #[inline]
-    pub fn none() -> WholeMass
-        ensures { result ≡ no_mass }
-    {
-        WholeMass {
-            inverse_mass: WholeNumber::zero(),
-            inverse_inertia: WholeNumber::zero(),
-        }
+/// A mass in fixed-point numbers.
+#[inline]
+pub(crate) fn mass_of(whole: WholeMass) -> InverseMass
+    ensures { result ≡ whole }
+{
+    InverseMass {
+        inverse_mass: number_of(whole.inverse_mass),
+        inverse_inertia: number_of(whole.inverse_inertia),
     }
+}
 
-    /// This mass, or `None` where doubles do not hold it.
-    #[inline]
-    pub fn of(mass: InverseMass) -> Option<WholeMass>
-        ensures value { IfSome result (λ whole. whole ≡ mass) }
-        ensures fits { IsSome result ↔ MassFits mass }
-    {
-        Some(WholeMass {
-            inverse_mass: whole_of(mass.inverse_mass)?,
-            inverse_inertia: whole_of(mass.inverse_inertia)?,
-        })
+/// The constraint of no row.
+pub(crate) fn no_constraint() -> WholeConstraint
+    ensures { result ≡ no_constraint }
+{
+    let zero = WholeNumber::zero();
+    Constraint {
+        normal: WholeVector::zero(),
+        tangent: WholeVector::zero(),
+        first_arm: WholeVector::zero(),
+        second_arm: WholeVector::zero(),
+        normal_mass: zero,
+        tangent_mass: zero,
+        bias: zero,
+        friction: zero,
     }
+}
 
-    /// The mass.
-    #[inline]
-    pub fn mass(self) -> InverseMass
-        ensures { result ≡ self }
-    {
-        InverseMass {
-            inverse_mass: number_of(self.inverse_mass),
-            inverse_inertia: number_of(self.inverse_inertia),
-        }
+/// A constraint in doubles, or `None` where they do not hold an effective mass or the friction.
+#[inline]
+pub(crate) fn whole_constraint_of(c: &Constraint) -> Option<WholeConstraint>
+    requires small { IsSmallConstraint c.now }
+    requires arms { HasShortArms LONGEST_ARM c.now }
+    ensures value { IfSome result (λ whole. whole ≡ c.now) }
+    ensures fits { IsSome result ↔ ConstraintFits c.now }
+{
+    Some(Constraint {
+        normal: WholeVector::new(c.normal),
+        tangent: WholeVector::new(c.tangent),
+        first_arm: WholeVector::new(c.first_arm),
+        second_arm: WholeVector::new(c.second_arm),
+        normal_mass: whole_of(c.normal_mass)?,
+        tangent_mass: whole_of(c.tangent_mass)?,
+        bias: WholeNumber::of(c.bias.raw()),
+        friction: whole_of(c.friction)?,
+    })
+}
+
+/// A constraint in fixed-point numbers.
+#[inline]
+pub(crate) fn constraint_of(whole: &WholeConstraint) -> Constraint
+    ensures { result ≡ whole.now }
+{
+    Constraint {
+        normal: whole.normal.vector(),
+        tangent: whole.tangent.vector(),
+        first_arm: whole.first_arm.vector(),
+        second_arm: whole.second_arm.vector(),
+        normal_mass: number_of(whole.normal_mass),
+        tangent_mass: number_of(whole.tangent_mass),
+        bias: number_of(whole.bias),
+        friction: number_of(whole.friction),
     }
 }

@@ -3,6 +3,8 @@
 use Rattle.std.specs.Prelude.{◌≢◌, ℕ, ◌<◌, ◌==◌, ℤ, pos, List, [], ◌∷◌, map, if◌then◌else◌}
 use Rattle.pf_rot.specs.Vector.{V2, zero_vector}
 use Rattle.pf_manifold.specs.Touches.{Touch}
+use Rattle.pf_rows.specs.declared.constraint.Constraint as constraint
+use Rattle.pf_rows.specs.declared.constraint.InverseMass as mass
 use Rattle.pf_rows.specs.declared.row.Side.{Side}
 use Rattle.pf_rows.specs.declared.row.Side.TheVariants.{Static, Dynamic}
 use Rattle.pf_manifold.specs.Key.{AreTouches, key_of, rank}
@@ -18,23 +20,15 @@ pub record Entry : Type 0 where
   pub second : Side
 
 -- how easily impulses move a body; both are 0 for a static body
-pub record InverseMass : Type 0 where
-  pub inverse_mass : ℤ
-  pub inverse_inertia : ℤ
+abbrev pub InverseMass : Type 0
+InverseMass = mass.InverseMass ℤ
 
 abbrev pub no_mass : InverseMass
 no_mass = record { inverse_mass = pos 0; inverse_inertia = pos 0 }
 
 -- the part of a contact that stays fixed during the rounds
-pub record Constraint : Type 0 where
-  pub normal : V2
-  pub tangent : V2
-  pub first_arm : V2
-  pub second_arm : V2
-  pub normal_mass : ℤ
-  pub tangent_mass : ℤ
-  pub bias : ℤ
-  pub friction : ℤ
+abbrev pub Constraint : Type 0
+Constraint = constraint.Constraint V2 ℤ ℤ
 
 abbrev pub no_constraint : Constraint
 no_constraint = record {

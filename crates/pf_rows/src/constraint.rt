@@ -14,28 +14,14 @@ use pf_rot::V2;
 use std::marker::Model;
 
 /// How easily impulses move a body, as Box2D-Lite's `invMass` and `invI`. In units of 2^-24.
+///
+/// `N` is a number in fixed point or in a double, or those of several bodies side by side.
 #[derive(Clone, Copy, Debug)]
-pub struct InverseMass {
+pub struct InverseMass<N = Fx> {
     /// 1 / mass.
-    pub inverse_mass: Fx,
+    pub inverse_mass: N,
     /// 1 / inertia.
-    pub inverse_inertia: Fx,
-}
-
-impl Model for InverseMass {
-    ghost use Rattle.pf_rows.specs.Row.{InverseMass};
-
-    ghost Value = { InverseMass };
-
-    ghost view = { λ m. record {
-      inverse_mass = m.inverse_mass;
-      inverse_inertia = m.inverse_inertia;
-    } };
-
-    ghost inverse = { λ m. record {
-      inverse_mass = m.inverse_mass;
-      inverse_inertia = m.inverse_inertia;
-    } };
+    pub inverse_inertia: N,
 }
 
 impl InverseMass {
@@ -48,52 +34,27 @@ impl InverseMass {
 
 /// The part of a contact that stays fixed during the rounds, which Box2D-Lite's `Arbiter::PreStep`
 /// leaves in a `Contact`. In units of 2^-24.
+///
+/// `V` is a vector and `N` a number in fixed point or in doubles, or those of several contacts side
+/// by side. `B` is the form of the bias, which is added and no factor of a product.
 #[derive(Clone, Copy, Debug)]
-pub struct Constraint {
+pub struct Constraint<V = V2, N = Fx, B = N> {
     /// The normal, from the first body to the second.
-    pub normal: V2,
+    pub normal: V,
     /// The normal, a quarter turn clockwise.
-    pub tangent: V2,
+    pub tangent: V,
     /// From the centre of the first body to the contact point.
-    pub first_arm: V2,
+    pub first_arm: V,
     /// From the centre of the second body to the contact point.
-    pub second_arm: V2,
+    pub second_arm: V,
     /// The effective mass along the normal.
-    pub normal_mass: Fx,
+    pub normal_mass: N,
     /// The effective mass along the tangent.
-    pub tangent_mass: Fx,
+    pub tangent_mass: N,
     /// The separating speed aimed at where bodies overlap.
-    pub bias: Fx,
+    pub bias: B,
     /// The coefficient of friction.
-    pub friction: Fx,
-}
-
-impl Model for Constraint {
-    ghost use Rattle.pf_rows.specs.Row.{Constraint};
-
-    ghost Value = { Constraint };
-
-    ghost view = { λ c. record {
-      normal = c.normal;
-      tangent = c.tangent;
-      first_arm = c.first_arm;
-      second_arm = c.second_arm;
-      normal_mass = c.normal_mass;
-      tangent_mass = c.tangent_mass;
-      bias = c.bias;
-      friction = c.friction;
-    } };
-
-    ghost inverse = { λ c. record {
-      normal = c.normal;
-      tangent = c.tangent;
-      first_arm = c.first_arm;
-      second_arm = c.second_arm;
-      normal_mass = c.normal_mass;
-      tangent_mass = c.tangent_mass;
-      bias = c.bias;
-      friction = c.friction;
-    } };
+    pub friction: N,
 }
 
 impl Constraint {

@@ -45,17 +45,15 @@ turn_within j x y p q r s t light turn_x turn_y short_p short_q first second sum
     omega (arith, one, two, most, parts)
 
 -- the same of the parts of a mass, an arm and an impulse
-pub turn_of : (own m : InverseMass) (arm a impulse p : V2) (r s t : ℕ) → m ≡ own → a ≡ arm → p ≡ impulse
-    → IsHeavy own → IsSmallArm own arm → IsShort 268435456 impulse
+pub turn_of : (m : InverseMass) (arm a impulse p : V2) (r s t : ℕ) → a ≡ arm → p ≡ impulse
+    → IsHeavy m → IsSmallArm m arm → IsShort 268435456 impulse
     → r * 33554432 ≤ unsigned_abs a.x * unsigned_abs p.y * 2 + 16777216
     → s * 33554432 ≤ unsigned_abs a.y * unsigned_abs p.x * 2 + 16777216
     → t ≤ r + s → unsigned_abs m.inverse_inertia * t ≤ 4611686018427387904
-turn_of own m arm a impulse p r s t same_m same_a same_p heavy small short first second sum =
-    let small_a : IsSmallArm own a = subst (IsSmallArm own) (sym same_a) small in
-    let small_m : IsSmallArm m a = subst (λ n. IsSmallArm n a) (sym same_m) small_a in
-    let heavy_m : IsHeavy m = subst IsHeavy (sym same_m) heavy in
+turn_of m arm a impulse p r s t same_a same_p heavy small short first second sum =
+    let small_a : IsSmallArm m a = subst (IsSmallArm m) (sym same_a) small in
     let short_p : IsShort 268435456 p = subst (IsShort 268435456) (sym same_p) short in
-    turn_within _ _ _ _ _ r s t heavy_m.inverse_inertia small_m.turn_x small_m.turn_y
+    turn_within _ _ _ _ _ r s t heavy.inverse_inertia small_a.turn_x small_a.turn_y
     short_p.x short_p.y first second sum
 
 -- what holds of a body's own mass, and of none, holds of the mass that it has at a contact

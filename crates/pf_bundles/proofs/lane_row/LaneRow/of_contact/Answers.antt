@@ -16,5 +16,5 @@ returns-in_err-push-clause-fits c = (
 
 pub returns-clause-limits : goal.returns-clause-limits
 returns-clause-limits c =
-    are_greatest _ _ _ c.in_ok-spin.spin c.in_ok-push.push c.of-4.result c.of-5.result (grind (arith, rules, c.of-4.ensures)) (grind (arith, rules, c.of-5.ensures))
+    are_greatest _ _ _ c.in_ok-spin.spin c.in_ok-push.push c.of.result c.of-2.result (grind (arith, rules, c.of.ensures)) (grind (arith, rules, c.of-2.ensures))
     c.in_ok-spin.ensures.greatest c.in_ok-push.ensures.greatest
