@@ -5,9 +5,9 @@ use Rattle.std.specs.Prelude.{IsSome, None, Option}
 use Rattle.std.specs.Int.RustNames.{unsigned_abs}
 use Rattle.pf_rot.specs.Vector.{V2}
 use Rattle.pf_rows.specs.Row.{Constraint, InverseMass}
-use Rattle.pf_rows.specs.Small.{IsShort}
+use Rattle.pf_rows.specs.Small.{HasShortArms, IsShort}
 use Rattle.pf_bundles.specs.LaneRow.{ContactFits}
-use Rattle.pf_bundles.specs.Limits.{AreGreatest, HasShortArms, HasShortProducts, IsPushLimit, IsPushLimitOf, IsSpinLimit, IsTriedPush, IsTriedSpin}
+use Rattle.pf_bundles.specs.Limits.{AreGreatest, HasShortProducts, IsPushLimit, IsPushLimitOf, IsSpinLimit, IsTriedPush, IsTriedSpin}
 
 -- ---- arms that are short enough for a limit of spins, and the other way round
 

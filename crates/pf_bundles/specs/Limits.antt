@@ -3,7 +3,7 @@ use Rattle.std.specs.Prelude.{◌≡◌, ◌⊎◌, ℕ, ◌+◌, ◌*◌, ◌^�
 use Rattle.std.specs.Int.RustNames.{unsigned_abs}
 use Rattle.pf_rot.specs.Vector.{V2}
 use Rattle.pf_rows.specs.Row.{Constraint, InverseMass}
-use Rattle.pf_rows.specs.Small.{IsShort}
+use Rattle.pf_rows.specs.Small.{HasShortDirections}
 use Rattle.pf_bundles.specs.declared.limits.TheConstants.{HALF_ARM_SPIN, LANE_DIRECTION_LIMIT, LANE_LIMIT, LEAST_PUSH, LONG_ARM_SPIN, LONGEST_ARM_SPIN, MIDDLE_ARM_SPIN, MIDDLE_PUSH, NUMBER_LIMIT, PRODUCT_LIMIT, QUARTER_ARM_SPIN, SHORT_ARM_SPIN, SMALL_PUSH}
 
 -- the exact products of a number with both parts of a vector are below the limit
@@ -15,14 +15,8 @@ pub record HasShortProducts (n : ℕ) (v : V2) : Type 0 where
 
 -- the directions and the bias of a constraint are small
 pub record IsSmallConstraint (c : Constraint) : Type 0 where
-  pub normal : IsShort LANE_DIRECTION_LIMIT c.normal
-  pub tangent : IsShort LANE_DIRECTION_LIMIT c.tangent
+  pub directions : HasShortDirections LANE_DIRECTION_LIMIT c
   pub bias : unsigned_abs c.bias ≤ NUMBER_LIMIT
-
--- both arms are at most this along each axis
-pub record HasShortArms (limit : ℕ) (c : Constraint) : Type 0 where
-  pub first : IsShort limit c.first_arm
-  pub second : IsShort limit c.second_arm
 
 -- ---- spins
 

@@ -2,9 +2,9 @@
 
 ghost use Rattle.std.specs.Prelude.{◌≡◌, ◌+◌, ◌*◌, ◌^◌, ◌<◌, ◌≤◌, ◌↔◌, ℕ, IfSome, IsSome, IsTrue, None};
 ghost use Rattle.std.specs.Int.RustNames.{unsigned_abs};
-ghost use Rattle.pf_rows.specs.Small.{IsShort};
+ghost use Rattle.pf_rows.specs.Small.{HasShortArms, IsShort};
 ghost use Rattle.pf_bundles.specs.LaneRow.{arm_on, mass_on};
-ghost use Rattle.pf_bundles.specs.Limits.{HasShortArms, IsPushLimit, IsPushLimitOf, IsSmallConstraint, IsSpinLimit, IsTriedPush, IsTriedSpin, arm_reach};
+ghost use Rattle.pf_bundles.specs.Limits.{IsPushLimit, IsPushLimitOf, IsSmallConstraint, IsSpinLimit, IsTriedPush, IsTriedSpin, arm_reach};
 
 use crate::limits::{
     HALF_ARM, HALF_ARM_SPIN, LANE_DIRECTION_LIMIT, LANE_LIMIT, LEAST_PUSH, LONG_ARM, LONG_ARM_SPIN,
@@ -18,7 +18,7 @@ use crate::whole::{
 use pf_lanes::WholeNumber;
 use pf_num::Fx;
 use pf_rot::V2;
-use pf_rows::{Constraint, InverseMass, Prepared, Row, Side, is_short, is_within};
+use pf_rows::{Constraint, InverseMass, Prepared, Row, Side, is_within};
 use std::marker::Model;
 
 /// What a lane holds of a row, in whole numbers that are doubles.
@@ -63,20 +63,10 @@ impl Model for LaneRow {
 
 /// Whether directions and bias are within their limits.
 #[inline]
-fn has_small_numbers(c: &Constraint) -> bool
+fn is_small_constraint(c: &Constraint) -> bool
     ensures { IsTrue result ↔ IsSmallConstraint c.now }
 {
-    is_short(c.normal, LANE_DIRECTION_LIMIT)
-        && is_short(c.tangent, LANE_DIRECTION_LIMIT)
-        && is_within(c.bias, NUMBER_LIMIT)
-}
-
-/// Whether both arms are at most this along each axis.
-#[inline]
-fn has_short_arms(c: &Constraint, limit: u64) -> bool
-    ensures { IsTrue result ↔ HasShortArms limit c.now }
-{
-    is_short(c.first_arm, limit) && is_short(c.second_arm, limit)
+    c.has_short_directions(LANE_DIRECTION_LIMIT) && is_within(c.bias, NUMBER_LIMIT)
 }
 
 /// The limit of the spins of a constraint, the greatest of six. `None` where an arm is too great
@@ -90,17 +80,17 @@ fn spin_limit_of(c: &Constraint) -> Option<u64>
     ensures tried { IfSome result (λ spin. IsTriedSpin spin) }
     ensures some { IsSome result ↔ HasShortArms LONGEST_ARM c.now }
 {
-    if has_short_arms(c, QUARTER_ARM) {
+    if c.has_short_arms(QUARTER_ARM) {
         Some(QUARTER_ARM_SPIN)
-    } else if has_short_arms(c, HALF_ARM) {
+    } else if c.has_short_arms(HALF_ARM) {
         Some(HALF_ARM_SPIN)
-    } else if has_short_arms(c, SHORT_ARM) {
+    } else if c.has_short_arms(SHORT_ARM) {
         Some(SHORT_ARM_SPIN)
-    } else if has_short_arms(c, MIDDLE_ARM) {
+    } else if c.has_short_arms(MIDDLE_ARM) {
         Some(MIDDLE_ARM_SPIN)
-    } else if has_short_arms(c, LONG_ARM) {
+    } else if c.has_short_arms(LONG_ARM) {
         Some(LONG_ARM_SPIN)
-    } else if has_short_arms(c, LONGEST_ARM) {
+    } else if c.has_short_arms(LONGEST_ARM) {
         Some(LONGEST_ARM_SPIN)
     } else {
         None
@@ -256,7 +246,7 @@ impl LaneRow {
             (unsigned_abs lane.spin_limit) (unsigned_abs lane.push_limit)) }
         ensures fits { IsSome result ↔ ContactFits first_mass.now second_mass.now constraint.now }
     {
-        if !has_small_numbers(constraint) {
+        if !is_small_constraint(constraint) {
             return None;
         }
         let spin = spin_limit_of(constraint)?;

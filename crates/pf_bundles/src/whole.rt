@@ -3,8 +3,9 @@
 ghost use Rattle.std.specs.Prelude.{◌≡◌, ◌≤◌, ◌↔◌, IfSome, IsSome};
 ghost use Rattle.std.specs.Int.RustNames.{unsigned_abs};
 ghost use Rattle.pf_rows.specs.Row.{no_constraint, no_mass};
+ghost use Rattle.pf_rows.specs.Small.{HasShortArms};
 ghost use Rattle.pf_bundles.specs.LaneRow.{ConstraintFits, MassFits};
-ghost use Rattle.pf_bundles.specs.Limits.{HasShortArms, IsSmallConstraint};
+ghost use Rattle.pf_bundles.specs.Limits.{IsSmallConstraint};
 
 use crate::limits::LONGEST_ARM;
 use pf_lanes::{EXACT_LIMIT, WholeNumber};

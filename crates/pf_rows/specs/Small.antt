@@ -1,5 +1,6 @@
--- When what a pre-step leaves is small enough for the fast path of warm starting and of rounds, on
--- which no sum saturates and each product fits 64 bits. In units of 2^-24.
+-- How great vectors and numbers are, and when what a pre-step leaves is small enough for the fast
+-- path of warm starting and of rounds, on which no sum saturates and each product fits 64 bits. In
+-- units of 2^-24.
 use Rattle.std.specs.Prelude.{ℕ, ◌*◌, ◌≤◌, ◌↔◌, Bool, IsTrue}
 use Rattle.std.specs.Int.RustNames.{unsigned_abs}
 use Rattle.pf_rot.specs.Vector.{V2}
@@ -10,6 +11,16 @@ use Rattle.pf_rows.specs.Row.{Constraint, InverseMass, Prepared}
 pub record IsShort (limit : ℕ) (v : V2) : Type 0 where
   pub x : unsigned_abs v.x ≤ limit
   pub y : unsigned_abs v.y ≤ limit
+
+-- the normal and the tangent are so
+pub record HasShortDirections (limit : ℕ) (c : Constraint) : Type 0 where
+  pub normal : IsShort limit c.normal
+  pub tangent : IsShort limit c.tangent
+
+-- both arms are so
+pub record HasShortArms (limit : ℕ) (c : Constraint) : Type 0 where
+  pub first : IsShort limit c.first_arm
+  pub second : IsShort limit c.second_arm
 
 -- the inverse mass and the inverse inertia are small
 pub record IsHeavy (m : InverseMass) : Type 0 where
@@ -22,11 +33,6 @@ pub record IsSmallArm (m : InverseMass) (arm : V2) : Type 0 where
   pub turn_x : unsigned_abs m.inverse_inertia * unsigned_abs arm.x ≤ TURN_LIMIT
   pub turn_y : unsigned_abs m.inverse_inertia * unsigned_abs arm.y ≤ TURN_LIMIT
 
--- the normal and the tangent are short
-pub record HasShortDirections (c : Constraint) : Type 0 where
-  pub normal : IsShort DIRECTION_LIMIT c.normal
-  pub tangent : IsShort DIRECTION_LIMIT c.tangent
-
 -- the numbers of a constraint are small
 pub record HasSmallNumbers (c : Constraint) : Type 0 where
   pub normal_mass : unsigned_abs c.normal_mass ≤ CONSTRAINT_LIMIT
@@ -38,7 +44,7 @@ pub record HasSmallNumbers (c : Constraint) : Type 0 where
 pub record IsSmall (p : Prepared) : Type 0 where
   pub first_mass : IsHeavy p.first_mass
   pub second_mass : IsHeavy p.second_mass
-  pub directions : HasShortDirections p.constraint
+  pub directions : HasShortDirections DIRECTION_LIMIT p.constraint
   pub numbers : HasSmallNumbers p.constraint
 
 -- and so is the first arm; the second

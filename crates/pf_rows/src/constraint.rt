@@ -2,7 +2,7 @@
 
 ghost use Rattle.std.specs.Prelude.{◌≡◌, ◌*◌, ◌≤◌, ◌↔◌, IsTrue};
 ghost use Rattle.std.specs.Int.RustNames.{unsigned_abs};
-ghost use Rattle.pf_rows.specs.Small.{HasShortDirections, HasSmallNumbers, IsHeavy, IsShort, IsSmallArm};
+ghost use Rattle.pf_rows.specs.Small.{HasSmallNumbers, IsHeavy, IsSmallArm};
 
 use crate::limits::{
     ARM_LIMIT, CONSTRAINT_LIMIT, DIRECTION_LIMIT, INVERSE_INERTIA_LIMIT, INVERSE_MASS_LIMIT,
@@ -58,6 +58,9 @@ pub struct Constraint<V = V2, N = Fx, B = N> {
 }
 
 impl Constraint {
+    ghost use Rattle.std.specs.Prelude.{◌↔◌, IsTrue};
+    ghost use Rattle.pf_rows.specs.Small.{HasShortArms, HasShortDirections};
+
     /// That of a row before its pre-step.
     pub const NONE: Constraint = Constraint {
         normal: V2::ZERO,
@@ -69,6 +72,22 @@ impl Constraint {
         bias: Fx::ZERO,
         friction: Fx::ZERO,
     };
+
+    /// Whether the normal and the tangent are at most this along each axis.
+    #[inline]
+    pub fn has_short_directions(&self, limit: u64) -> bool
+        ensures { IsTrue result ↔ HasShortDirections limit self.now }
+    {
+        is_short(self.normal, limit) && is_short(self.tangent, limit)
+    }
+
+    /// Whether both arms are at most this along each axis.
+    #[inline]
+    pub fn has_short_arms(&self, limit: u64) -> bool
+        ensures { IsTrue result ↔ HasShortArms limit self.now }
+    {
+        is_short(self.first_arm, limit) && is_short(self.second_arm, limit)
+    }
 }
 
 /// Which numbers of a row are small enough for the fast path.
@@ -161,14 +180,6 @@ fn is_small_arm(mass: &InverseMass, arm: V2) -> bool
         && turns_slowly(mass.inverse_inertia, arm.y)
 }
 
-/// Whether the normal and the tangent of a constraint are short.
-#[inline]
-fn has_short_directions(c: &Constraint) -> bool
-    ensures { IsTrue result ↔ HasShortDirections c.now }
-{
-    is_short(c.normal, DIRECTION_LIMIT) && is_short(c.tangent, DIRECTION_LIMIT)
-}
-
 /// Whether the numbers of a constraint are small.
 #[inline]
 fn has_small_numbers(c: &Constraint) -> bool
@@ -194,7 +205,7 @@ impl Sizes {
     {
         let is_small = is_heavy(first_mass)
             && is_heavy(second_mass)
-            && has_short_directions(constraint)
+            && constraint.has_short_directions(DIRECTION_LIMIT)
             && has_small_numbers(constraint);
         Sizes {
             is_small,

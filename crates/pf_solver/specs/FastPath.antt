@@ -3,7 +3,7 @@
 use Rattle.std.specs.Prelude.{◌≡◌, ◌⊎◌, ℕ, ◌+◌, ◌^◌, ◌≤◌}
 use Rattle.std.specs.Int.RustNames.{unsigned_abs}
 use Rattle.pf_rot.specs.Vector.{V2}
-use Rattle.pf_rows.specs.declared.limits.TheConstants.{SPEED_LIMIT, SPIN_LIMIT}
+use Rattle.pf_rows.specs.declared.limits.TheConstants.{DIRECTION_LIMIT, SPEED_LIMIT, SPIN_LIMIT}
 use Rattle.pf_rows.specs.Row.{Constraint, InverseMass, no_mass}
 use Rattle.pf_rows.specs.Small.{HasShortDirections, HasSmallNumbers, IsHeavy, IsShort, IsSmallArm}
 use Rattle.pf_solver.specs.Impulse.{ContactState, Motion}
@@ -52,7 +52,7 @@ pub record StandsFor (own : Constraint) (m : ContactState) (c : Constraint) : Ty
   pub same : c ≡ record own { first_arm = c.first_arm; second_arm = c.second_arm }
   pub first_arm : IsArmFor m.first own.first_arm c.first_arm
   pub second_arm : IsArmFor m.second own.second_arm c.second_arm
-  pub directions : HasShortDirections c
+  pub directions : HasShortDirections DIRECTION_LIMIT c
   pub numbers : HasSmallNumbers c
   pub arms : HasSmallArms c m
   pub first_mass : IsHeavy m.first.mass

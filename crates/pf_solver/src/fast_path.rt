@@ -57,7 +57,7 @@ fn are_small_for_warm_start(impulses: &Impulses) -> bool
 #[inline(always)]
 #[tactic(auto, unfolding(crate::specs::Impulse::after_warm_start, pf_rot::specs::Vector::add))]
 fn after_warm_start(constraint: &Constraint, state: &ContactState) -> Option<ContactState>
-    requires directions { HasShortDirections constraint.now }
+    requires directions { HasShortDirections DIRECTION_LIMIT constraint.now }
     requires arms { HasSmallArms constraint.now state.now }
     requires first { IsHeavy state.now.first.mass }
     requires second { IsHeavy state.now.second.mass }
@@ -82,7 +82,7 @@ fn after_warm_start(constraint: &Constraint, state: &ContactState) -> Option<Con
 #[inline(always)]
 #[tactic(auto, unfolding(crate::specs::Impulse::after_round))]
 fn after_round(constraint: &Constraint, state: &ContactState) -> Option<ContactState>
-    requires directions { HasShortDirections constraint.now }
+    requires directions { HasShortDirections DIRECTION_LIMIT constraint.now }
     requires numbers { HasSmallNumbers constraint.now }
     requires arms { HasSmallArms constraint.now state.now }
     requires first { IsHeavy state.now.first.mass }

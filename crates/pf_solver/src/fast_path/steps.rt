@@ -11,7 +11,7 @@ use crate::fast_path::products::part_by_number;
 use crate::impulse::ContactState;
 use pf_num::Fx;
 use pf_rows::limits::{
-    ACCUMULATED_LIMIT, NORMAL_LIMIT, SPEED_CHANGE_LIMIT, SPIN_LIMIT, STEP_LIMIT,
+    ACCUMULATED_LIMIT, DIRECTION_LIMIT, NORMAL_LIMIT, SPEED_CHANGE_LIMIT, SPIN_LIMIT, STEP_LIMIT,
 };
 use pf_rows::{Constraint, Impulses, is_within};
 
@@ -19,7 +19,7 @@ use pf_rows::{Constraint, Impulses, is_within};
 #[inline(always)]
 #[tactic(auto, unfolding(crate::specs::Impulse::normal_impulse))]
 fn normal_impulse(constraint: &Constraint, state: &ContactState) -> Option<Fx>
-    requires directions { HasShortDirections constraint.now }
+    requires directions { HasShortDirections DIRECTION_LIMIT constraint.now }
     requires numbers { HasSmallNumbers constraint.now }
     requires arms { HasSmallArms constraint.now state.now }
     requires bodies { AreSlow state.now }
@@ -58,7 +58,7 @@ pub(crate) fn after_normal_step(
     constraint: &Constraint,
     state: &ContactState,
 ) -> Option<ContactState>
-    requires directions { HasShortDirections constraint.now }
+    requires directions { HasShortDirections DIRECTION_LIMIT constraint.now }
     requires numbers { HasSmallNumbers constraint.now }
     requires arms { HasSmallArms constraint.now state.now }
     requires bodies { AreSlow state.now }
@@ -91,7 +91,7 @@ pub(crate) fn after_normal_step(
 #[inline(always)]
 #[tactic(auto, unfolding(crate::specs::Impulse::tangent_impulse, crate::specs::Impulse::friction_limit), using(crate::proofs::Sizes::clamped_within))]
 fn tangent_impulse(constraint: &Constraint, state: &ContactState) -> Option<Fx>
-    requires directions { HasShortDirections constraint.now }
+    requires directions { HasShortDirections DIRECTION_LIMIT constraint.now }
     requires numbers { HasSmallNumbers constraint.now }
     requires arms { HasSmallArms constraint.now state.now }
     requires bodies { ArePushed state.now }
@@ -117,7 +117,7 @@ pub(crate) fn after_friction_step(
     constraint: &Constraint,
     state: &ContactState,
 ) -> Option<ContactState>
-    requires directions { HasShortDirections constraint.now }
+    requires directions { HasShortDirections DIRECTION_LIMIT constraint.now }
     requires numbers { HasSmallNumbers constraint.now }
     requires arms { HasSmallArms constraint.now state.now }
     requires bodies { ArePushed state.now }
