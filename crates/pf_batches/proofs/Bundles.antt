@@ -2,13 +2,12 @@
 use Rattle.std.proofs.Common.{◌≡◌, ◌∙◌, ℕ, zero, suc, ◌+◌, ◌<◌, ◌≤◌, length, length-set, take, ap₂, ◌∷◌, None, Option, Some, List, [], refl, sym, ap, subst, arith}
 use Rattle.std.proofs.lemmas.List.Elements.{All-cons, All-nil, All-head, All-set, All-tail, All-weaker}
 use Rattle.std.specs.Prelude.{All, IfSome, slice_get, slice_index_or}
-use Rattle.std.specs.Int.RustNames.{unsigned_abs}
 use Rattle.pf_lanes.specs.Lanes.{First, Fourth, Lane, Second, Third}
 use Rattle.pf_rows.specs.declared.row.Side.{Side}
 use Rattle.pf_rows.specs.declared.row.Side.TheVariants.{Dynamic, Static}
-use Rattle.pf_rows.specs.Impulses.{Impulses, no_impulses}
+use Rattle.pf_rows.specs.Impulses.{no_impulses}
 use Rattle.pf_rows.specs.Row.{IsSide}
-use Rattle.pf_rows.specs.Small.{IsShort}
+use Rattle.pf_rows.specs.Small.{AreWithin, IsShort}
 use Rattle.pf_bundles.specs.Bundle.{Seat, lane_number}
 use Rattle.pf_bundles.specs.LaneRow.{lane_row_in}
 use Rattle.pf_bundles.specs.Numbers.{Numbers, Velocity, no_velocity}
@@ -49,17 +48,15 @@ pub seat_within : (limit : ℕ) (n : Numbers) (o : Option Seat) → AreAllWithin
 seat_within limit n None all = record {
   first = record { x = omega arith; y = omega arith };
   second = record { x = omega arith; y = omega arith };
-  normal = omega arith;
-  tangent = omega arith;
+  impulses = record { normal = omega arith; tangent = omega arith };
 }
 seat_within limit n (Some seat) all =
-    let pulls = read_holds (λ (p : Impulses). (unsigned_abs p.normal ≤ limit) × (unsigned_abs p.tangent ≤ limit))
-    n.impulses seat.place no_impulses all.impulses (omega arith, omega arith) in
     record {
       first = velocity_within limit n.velocities seat.first all.velocities;
       second = velocity_within limit n.velocities seat.second all.velocities;
-      normal = pulls.0;
-      tangent = pulls.1;
+      impulses =
+          read_holds (AreWithin limit) n.impulses seat.place no_impulses all.impulses
+          (record { normal = omega arith; tangent = omega arith });
     }
 
 -- so they are after a step that makes them greater by some number
@@ -71,8 +68,10 @@ grown_within limit by p k before after s read within grown =
     record {
       first = record { x = omega (arith, h.first.x, grown.first.x); y = omega (arith, h.first.y, grown.first.y) };
       second = record { x = omega (arith, h.second.x, grown.second.x); y = omega (arith, h.second.y, grown.second.y) };
-      normal = omega (arith, h.normal, grown.normal);
-      tangent = omega (arith, h.tangent, grown.tangent);
+      impulses = record {
+        normal = omega (arith, h.impulses.normal, grown.normal);
+        tangent = omega (arith, h.impulses.tangent, grown.tangent);
+      };
     }
 
 pub all_grown_within : (limit by : ℕ) (p : PreparedLanes) (n : Numbers) (seats : List Seat) (before : ContactLanes) (result : Option ContactLanes)
@@ -167,9 +166,7 @@ row_within limit seat s n all here = record {
   velocities =
       velocities_within limit (with_velocity n.velocities seat.first s.first) seat.second s.second
       (velocities_within limit n.velocities seat.first s.first all.velocities here.first) here.second;
-  impulses =
-      All-set (λ (p : Impulses). (unsigned_abs p.normal ≤ limit) × (unsigned_abs p.tangent ≤ limit)) n.impulses seat.place s.impulses
-      (here.normal, here.tangent) all.impulses;
+  impulses = All-set (AreWithin limit) n.impulses seat.place s.impulses here.impulses all.impulses;
 }
 
 pub rows_within : (limit : ℕ) (seats : List Seat) (states : List SeatState) (n : Numbers) → AreAllWithin limit n
@@ -187,9 +184,9 @@ all_within_more limit more n h all = record {
       All-weaker (λ (v : Velocity). IsShort limit v.velocity) (λ (v : Velocity). IsShort more v.velocity)
       (λ v short. record { x = omega (arith, h, short.x); y = omega (arith, h, short.y) }) n.velocities all.velocities;
   impulses =
-      All-weaker (λ (p : Impulses). (unsigned_abs p.normal ≤ limit) × (unsigned_abs p.tangent ≤ limit))
-      (λ (p : Impulses). (unsigned_abs p.normal ≤ more) × (unsigned_abs p.tangent ≤ more))
-      (λ p short. (omega (arith, h, short.0), omega (arith, h, short.1))) n.impulses all.impulses;
+      All-weaker (AreWithin limit) (AreWithin more)
+      (λ p small. record { normal = omega (arith, h, small.normal); tangent = omega (arith, h, small.tangent) })
+      n.impulses all.impulses;
 }
 
 -- the states of four lanes

@@ -1,10 +1,9 @@
 -- Contacts side by side, each in a lane of its own: what the solver reads and writes of a level.
-use Rattle.std.specs.Prelude.{ℕ, ◌≤◌}
-use Rattle.std.specs.Int.RustNames.{unsigned_abs}
+use Rattle.std.specs.Prelude.{ℕ}
 use Rattle.pf_lanes.specs.Lanes.{First, Fourth, Lane, Lanes, Second, Third, number_in}
 use Rattle.pf_rows.specs.Impulses.{Impulses}
 use Rattle.pf_rows.specs.Row.{InverseMass}
-use Rattle.pf_rows.specs.Small.{IsShort}
+use Rattle.pf_rows.specs.Small.{AreWithin, IsShort}
 use Rattle.pf_bundles.specs.Numbers.{Velocity}
 use Rattle.pf_bundles.specs.Seats.{SeatState}
 use Rattle.pf_bundles.specs.Prepared.{MassLanes, PreparedLanes, VectorLanes, mass_in, vector_in}
@@ -74,5 +73,4 @@ state_of first_mass second_mass s = record {
 pub record IsSeatWithin (limit : ℕ) (s : SeatState) : Type 0 where
   pub first : IsShort limit s.first.velocity
   pub second : IsShort limit s.second.velocity
-  pub normal : unsigned_abs s.impulses.normal ≤ limit
-  pub tangent : unsigned_abs s.impulses.tangent ≤ limit
+  pub impulses : AreWithin limit s.impulses

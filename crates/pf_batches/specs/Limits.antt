@@ -5,7 +5,7 @@ use Rattle.std.specs.Int.RustNames.{unsigned_abs}
 use Rattle.pf_num.specs.Fx.{sum}
 use Rattle.pf_rot.specs.Vector.{V2, cross}
 use Rattle.pf_rows.specs.Row.{Constraint, InverseMass}
-use Rattle.pf_rows.specs.Small.{IsShort}
+use Rattle.pf_rows.specs.Small.{AreWithin, IsShort}
 use Rattle.pf_bundles.specs.declared.limits.TheConstants.{PRODUCT_LIMIT, QUARTER_ARM_SPIN}
 use Rattle.pf_bundles.specs.Limits.{HasShortProducts, IsSmallConstraint}
 use Rattle.pf_solver.specs.Impulse.{ContactState}
@@ -14,8 +14,7 @@ use Rattle.pf_solver.specs.Impulse.{ContactState}
 pub record IsContactWithin (limit : ℕ) (m : ContactState) : Type 0 where
   pub first : IsShort limit m.first.velocity
   pub second : IsShort limit m.second.velocity
-  pub normal : unsigned_abs m.impulses.normal ≤ limit
-  pub tangent : unsigned_abs m.impulses.tangent ≤ limit
+  pub impulses : AreWithin limit m.impulses
 
 -- both spins of a contact are at most this
 pub record SpinsWithin (limit : ℕ) (m : ContactState) : Type 0 where

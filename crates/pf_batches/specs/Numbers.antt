@@ -1,12 +1,11 @@
 -- The numbers that the velocity phase changes, held apart from the bodies and rows of a batch: the
 -- velocity and the spin of each body, and the accumulated impulses of each row.
-use Rattle.std.specs.Prelude.{All, ◌≡◌, ◌<◌, ◌≤◌, ℕ, zero, suc, None, Option, Some, List, [], ◌∷◌}
+use Rattle.std.specs.Prelude.{All, ◌≡◌, ◌<◌, ℕ, zero, suc, None, Option, Some, List, [], ◌∷◌}
 use Rattle.std.specs.Prelude.{fold, length, map, slice_get, slice_index_or, slice_set}
 use Rattle.pf_shapes.specs.Body.{BodyState}
 use Rattle.pf_rows.specs.declared.row.Side.{Side}
 use Rattle.pf_rows.specs.declared.row.Side.TheVariants.{Static, Dynamic}
-use Rattle.std.specs.Int.RustNames.{unsigned_abs}
-use Rattle.pf_rows.specs.Small.{IsShort}
+use Rattle.pf_rows.specs.Small.{AreWithin, IsShort}
 use Rattle.pf_rows.specs.Impulses.{Impulses, no_impulses}
 use Rattle.pf_rows.specs.Row.{InverseMass, Row}
 use Rattle.pf_lanes.specs.Lanes.{Lane}
@@ -79,8 +78,7 @@ seats_of (p ∷ places) (r ∷ rows) = seat_of p r ∷ seats_of places rows
 -- velocities and accumulated impulses are at most this
 pub record AreAllWithin (limit : ℕ) (n : Numbers) : Type 0 where
   pub velocities : All (λ v. IsShort limit v.velocity) n.velocities
-  pub impulses :
-      All (λ p. (unsigned_abs p.normal ≤ limit) × (unsigned_abs p.tangent ≤ limit)) n.impulses
+  pub impulses : All (AreWithin limit) n.impulses
 
 -- the numbers of a contact
 abbrev pub seat_state_from : ContactState → SeatState

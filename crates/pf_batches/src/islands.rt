@@ -2,9 +2,8 @@
 
 ghost use Rattle.std.specs.Prelude.{◌≡◌, ◌≤◌, ◌<◌, ◌+◌, ◌-◌, ◌^◌, ◌++◌, All, IfOk, IsTrue, List};
 ghost use Rattle.std.specs.Prelude.{OnOk, drop, length, map};
-ghost use Rattle.std.specs.Int.RustNames.{unsigned_abs};
 ghost use Rattle.pf_rows.specs.Row.{IsSide, Row};
-ghost use Rattle.pf_rows.specs.Small.{IsShort};
+ghost use Rattle.pf_rows.specs.Small.{AreWithin, IsShort};
 ghost use Rattle.pf_levels.specs.Levels.{ArePairsOf, pair_of};
 ghost use Rattle.pf_bundles.specs.Numbers.{Numbers};
 ghost use Rattle.pf_solver.specs.Alone.{batch_in};
@@ -128,10 +127,8 @@ fn add_impulses(rows: &[Row], limit: u64, numbers: &mut Numbers) -> Result<bool,
     ensures value { IfOk result (λ all. IsTrue all
         → numbers.new.impulses ≡ numbers.old.impulses ++ map (λ r. r.entry.impulses) rows.now) }
     ensures size { IfOk result (λ all. IsTrue all
-        → All (λ p. (unsigned_abs p.normal ≤ limit) × (unsigned_abs p.tangent ≤ limit))
-        numbers.old.impulses
-        → All (λ p. (unsigned_abs p.normal ≤ limit) × (unsigned_abs p.tangent ≤ limit))
-        numbers.new.impulses) }
+        → All (AreWithin limit) numbers.old.impulses
+        → All (AreWithin limit) numbers.new.impulses) }
     ensures velocities { IfOk result (λ all. numbers.new.velocities ≡ numbers.old.velocities) }
 {
     for row in rows {

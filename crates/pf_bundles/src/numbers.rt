@@ -9,7 +9,7 @@ use crate::whole::{WholeVector, number_of, whole_of};
 use pf_lanes::{EXACT_LIMIT, WholeNumber};
 use pf_num::Fx;
 use pf_rot::V2;
-use pf_rows::Impulses;
+use pf_rows::{Impulses, is_within};
 use std::alloc::{AllocError, Global};
 use std::marker::Model;
 
@@ -21,7 +21,7 @@ fn whole_within(x: Fx, limit: u64) -> Option<WholeNumber>
     ensures size { IfSome result (λ whole. unsigned_abs whole ≤ limit) }
     ensures fits { IsSome result ↔ (unsigned_abs x ≤ limit) }
 {
-    if x.raw().unsigned_abs() <= limit {
+    if is_within(x, limit) {
         whole_of(x)
     } else {
         None
@@ -121,8 +121,8 @@ impl Model for WholeImpulses {
 
 impl WholeImpulses {
     ghost use Rattle.std.specs.Prelude.{◌≡◌, ◌≤◌, ◌↔◌, IfSome, IsSome};
-    ghost use Rattle.std.specs.Int.RustNames.{unsigned_abs};
     ghost use Rattle.pf_rows.specs.Impulses.{no_impulses};
+    ghost use Rattle.pf_rows.specs.Small.{AreWithin};
 
     /// Those of no row.
     #[inline]
@@ -140,10 +140,8 @@ impl WholeImpulses {
     pub fn of(impulses: &Impulses, limit: u64) -> Option<WholeImpulses>
         requires { limit ≤ EXACT_LIMIT }
         ensures value { IfSome result (λ whole. whole ≡ impulses.now) }
-        ensures normal { IfSome result (λ whole. unsigned_abs whole.normal ≤ limit) }
-        ensures tangent { IfSome result (λ whole. unsigned_abs whole.tangent ≤ limit) }
-        ensures fits { IsSome result ↔ ((unsigned_abs impulses.now.normal ≤ limit)
-            × (unsigned_abs impulses.now.tangent ≤ limit)) }
+        ensures size { IfSome result (λ whole. AreWithin limit whole) }
+        ensures fits { IsSome result ↔ AreWithin limit impulses.now }
     {
         let normal = whole_within(impulses.normal, limit)?;
         let tangent = whole_within(impulses.tangent, limit)?;

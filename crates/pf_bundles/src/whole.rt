@@ -11,7 +11,7 @@ use crate::limits::LONGEST_ARM;
 use pf_lanes::{EXACT_LIMIT, WholeNumber};
 use pf_num::Fx;
 use pf_rot::V2;
-use pf_rows::{Constraint, InverseMass};
+use pf_rows::{Constraint, InverseMass, is_within};
 use std::marker::Model;
 
 /// A number as a double, or `None` where a double does not hold it.
@@ -20,9 +20,8 @@ pub(crate) fn whole_of(x: Fx) -> Option<WholeNumber>
     ensures value { IfSome result (λ whole. whole ≡ x) }
     ensures fits { IsSome result ↔ (unsigned_abs x ≤ EXACT_LIMIT) }
 {
-    let raw = x.raw();
-    if raw.unsigned_abs() <= EXACT_LIMIT {
-        Some(WholeNumber::of(raw))
+    if is_within(x, EXACT_LIMIT) {
+        Some(WholeNumber::of(x.raw()))
     } else {
         None
     }

@@ -5,6 +5,7 @@ use Rattle.std.specs.Prelude.{ℕ, ◌*◌, ◌≤◌, ◌↔◌, Bool, IsTrue}
 use Rattle.std.specs.Int.RustNames.{unsigned_abs}
 use Rattle.pf_rot.specs.Vector.{V2}
 use Rattle.pf_rows.specs.declared.limits.TheConstants.{ARM_LIMIT, CONSTRAINT_LIMIT, DIRECTION_LIMIT, INVERSE_INERTIA_LIMIT, INVERSE_MASS_LIMIT, TURN_LIMIT}
+use Rattle.pf_rows.specs.Impulses.{Impulses}
 use Rattle.pf_rows.specs.Row.{Constraint, InverseMass, Prepared}
 
 -- both parts of a vector are at most this in magnitude
@@ -21,6 +22,11 @@ pub record HasShortDirections (limit : ℕ) (c : Constraint) : Type 0 where
 pub record HasShortArms (limit : ℕ) (c : Constraint) : Type 0 where
   pub first : IsShort limit c.first_arm
   pub second : IsShort limit c.second_arm
+
+-- both accumulated impulses are at most this in magnitude
+pub record AreWithin (limit : ℕ) (p : Impulses) : Type 0 where
+  pub normal : unsigned_abs p.normal ≤ limit
+  pub tangent : unsigned_abs p.tangent ≤ limit
 
 -- the inverse mass and the inverse inertia are small
 pub record IsHeavy (m : InverseMass) : Type 0 where

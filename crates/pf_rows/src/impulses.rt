@@ -1,5 +1,6 @@
 //! The accumulated impulses of a contact.
 
+use crate::small::is_within;
 use pf_num::Fx;
 use std::marker::Model;
 
@@ -24,9 +25,20 @@ impl Model for Impulses {
 }
 
 impl Impulses {
+    ghost use Rattle.std.specs.Prelude.{◌↔◌, IsTrue};
+    ghost use Rattle.pf_rows.specs.Small.{AreWithin};
+
     /// The impulses of a contact that is new.
     pub const NONE: Impulses = Impulses {
         normal: Fx::ZERO,
         tangent: Fx::ZERO,
     };
+
+    /// Whether both are at most this in magnitude.
+    #[inline]
+    pub fn are_within(&self, limit: u64) -> bool
+        ensures { IsTrue result ↔ AreWithin limit self.now }
+    {
+        is_within(self.normal, limit) && is_within(self.tangent, limit)
+    }
 }

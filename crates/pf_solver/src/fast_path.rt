@@ -2,9 +2,8 @@
 //! without overflow tests of each sum and product. Each function returns `None` where a number is
 //! above a limit of `pf_rows::limits`.
 
-ghost use Rattle.std.specs.Prelude.{◌≡◌, ◌≤◌, ◌<◌, ◌^◌, IfSome, IsTrue};
-ghost use Rattle.std.specs.Int.RustNames.{unsigned_abs};
-ghost use Rattle.pf_rows.specs.Small.{HasShortDirections, HasSmallNumbers, IsHeavy, IsShort, IsSmallArm};
+ghost use Rattle.std.specs.Prelude.{◌≡◌, IfSome, IsTrue};
+ghost use Rattle.pf_rows.specs.Small.{HasShortDirections, HasSmallNumbers, IsHeavy, IsSmallArm};
 ghost use Rattle.pf_solver.specs.Constraint.{squared_lever_arm, tangent_of};
 ghost use Rattle.pf_solver.specs.Impulse.{after_round, after_warm_start};
 ghost use Rattle.pf_solver.specs.Velocities.{static_motion};
@@ -22,7 +21,7 @@ use crate::impulse::{ContactState, Motion};
 use pf_num::Fx;
 use pf_rot::V2;
 use pf_rows::limits::{ACCUMULATED_LIMIT, ARM_LIMIT, DIRECTION_LIMIT, SPEED_LIMIT, STEP_LIMIT};
-use pf_rows::{Constraint, Impulses, InverseMass, Prepared, is_short, is_within};
+use pf_rows::{Constraint, InverseMass, Prepared, is_short, is_within};
 
 /// Whether a body is slow enough for the fast path.
 #[inline]
@@ -32,24 +31,6 @@ fn is_slow_enough(body: &Motion) -> bool
 {
     let spin = body.spin;
     is_short(body.velocity, SPEED_LIMIT) && is_within(spin, SPEED_LIMIT)
-}
-
-/// Whether accumulated impulses are small enough for the fast path of a round.
-#[inline]
-fn are_small(impulses: &Impulses) -> bool
-    ensures { IsTrue result → (unsigned_abs impulses.now.normal ≤ ACCUMULATED_LIMIT)
-        × (unsigned_abs impulses.now.tangent ≤ ACCUMULATED_LIMIT) }
-{
-    is_within(impulses.normal, ACCUMULATED_LIMIT) && is_within(impulses.tangent, ACCUMULATED_LIMIT)
-}
-
-/// Whether accumulated impulses are small enough for warm starting.
-#[inline]
-fn are_small_for_warm_start(impulses: &Impulses) -> bool
-    ensures { IsTrue result → (unsigned_abs impulses.now.normal ≤ STEP_LIMIT)
-        × (unsigned_abs impulses.now.tangent ≤ STEP_LIMIT) }
-{
-    is_within(impulses.normal, STEP_LIMIT) && is_within(impulses.tangent, STEP_LIMIT)
 }
 
 /// Warm starting by a constraint that is known to be small; `None` where a velocity or an impulse
@@ -65,7 +46,7 @@ fn after_warm_start(constraint: &Constraint, state: &ContactState) -> Option<Con
 {
     let impulses = &state.impulses;
     let slow = is_slow_enough(&state.first) && is_slow_enough(&state.second);
-    if !slow || !are_small_for_warm_start(impulses) {
+    if !slow || !impulses.are_within(STEP_LIMIT) {
         return None;
     }
     let along_normal = impulse_along(impulses.normal, constraint.normal);
@@ -90,7 +71,7 @@ fn after_round(constraint: &Constraint, state: &ContactState) -> Option<ContactS
     ensures { IfSome result (λ after. after ≡ after_round constraint.now state.now) }
 {
     let slow = is_slow_enough(&state.first) && is_slow_enough(&state.second);
-    if !slow || !are_small(&state.impulses) {
+    if !slow || !state.impulses.are_within(ACCUMULATED_LIMIT) {
         return None;
     }
     let after = after_normal_step(constraint, state)?;

@@ -1,11 +1,10 @@
-use Rattle.std.proofs.Common.{◌≡◌, ◌≤◌, ◌++◌, All, map, take}
-use Rattle.std.specs.Int.RustNames.{unsigned_abs}
+use Rattle.std.proofs.Common.{◌≡◌, ◌++◌, All, map, take}
+use Rattle.pf_rows.specs.Small.{AreWithin}
 use Rattle.pf_batches.proofs.islands.add_impulses.Given as goal
 
 abbrev pub invariant-loop-row : goal.invariant-loop-row
 invariant-loop-row l = record {
   value : l.numbers.impulses ≡ l.initial.numbers.impulses ++ map (λ r. r.entry.impulses) (take l.row-index l.rows);
-  size : All (λ p. (unsigned_abs p.normal ≤ l.limit) × (unsigned_abs p.tangent ≤ l.limit)) l.initial.numbers.impulses
-      → All (λ p. (unsigned_abs p.normal ≤ l.limit) × (unsigned_abs p.tangent ≤ l.limit)) l.numbers.impulses;
+  size : All (AreWithin l.limit) l.initial.numbers.impulses → All (AreWithin l.limit) l.numbers.impulses;
   velocities : l.numbers.velocities ≡ l.initial.numbers.velocities;
 }

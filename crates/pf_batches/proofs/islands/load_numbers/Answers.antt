@@ -1,10 +1,8 @@
-use Rattle.std.proofs.Common.{rules, ◌∙◌, ◌++◌, ◌≤◌, ap, ap₂, map, subst, sym}
+use Rattle.std.proofs.Common.{rules, ◌∙◌, ◌++◌, ap, ap₂, map, subst, sym}
 use Rattle.std.proofs.lemmas.List.Elements.{All-nil}
 use Rattle.std.specs.Prelude.{All}
-use Rattle.std.specs.Int.RustNames.{unsigned_abs}
-use Rattle.pf_rows.specs.Impulses.{Impulses}
 use Rattle.pf_rows.specs.Row.{Row}
-use Rattle.pf_rows.specs.Small.{IsShort}
+use Rattle.pf_rows.specs.Small.{AreWithin, IsShort}
 use Rattle.pf_bundles.specs.Numbers.{Numbers, Velocity}
 use Rattle.pf_islands.specs.Split.{Island}
 use Rattle.pf_batches.specs.Numbers.{velocity_of}
@@ -13,13 +11,12 @@ use Rattle.pf_batches.proofs.islands.load_numbers.Goals as goal
 
 pub loop-island-init : goal.loop-island-init
 loop-island-init c =
-    let IsSmall = λ (p : Impulses). (unsigned_abs p.normal ≤ c.args.limit) × (unsigned_abs p.tangent ≤ c.args.limit) in
     let IsSlow = λ (v : Velocity). IsShort c.args.limit v.velocity in
     record {
       velocities = ap (λ (n : Numbers). n.velocities) c.clear.ensures;
       impulses = ap (λ (n : Numbers). n.impulses) c.clear.ensures;
       short = subst (λ (n : Numbers). All IsSlow n.velocities) (sym c.clear.ensures) (All-nil IsSlow);
-      small = subst (λ (n : Numbers). All IsSmall n.impulses) (sym c.clear.ensures) (All-nil IsSmall);
+      small = subst (λ (n : Numbers). All (AreWithin c.args.limit) n.impulses) (sym c.clear.ensures) (All-nil (AreWithin c.args.limit));
     }
 
 pub loop-island-preserved : goal.loop-island-preserved
@@ -41,5 +38,5 @@ loop-island-preserved c =
           ∙ sym (ap (λ (n : Numbers). n.impulses) more);
       short = subst (All (λ (v : Velocity). IsShort c.args.limit v.velocity)) (sym small.velocities) (slow.size (search rules) c.loop-island.invariant.short);
       small = small.size (search rules)
-          (subst (All (λ (p : Impulses). (unsigned_abs p.normal ≤ c.args.limit) × (unsigned_abs p.tangent ≤ c.args.limit))) (sym slow.impulses) c.loop-island.invariant.small);
+          (subst (All (AreWithin c.args.limit)) (sym slow.impulses) c.loop-island.invariant.small);
     }

@@ -1,6 +1,5 @@
-use Rattle.std.proofs.Common.{◌≡◌, ◌≤◌, All, map, take}
-use Rattle.std.specs.Int.RustNames.{unsigned_abs}
-use Rattle.pf_rows.specs.Small.{IsShort}
+use Rattle.std.proofs.Common.{◌≡◌, All, map, take}
+use Rattle.pf_rows.specs.Small.{AreWithin, IsShort}
 use Rattle.pf_batches.specs.Islands.{batch_of}
 use Rattle.pf_batches.specs.Numbers.{velocity_of}
 use Rattle.pf_batches.proofs.islands.load_numbers.Given as goal
@@ -11,5 +10,5 @@ invariant-loop-island l = record {
   impulses : l.numbers.impulses
       ≡ map (λ r. r.entry.impulses) (batch_of (take l.island-index l.islands)).rows;
   short : All (λ v. IsShort l.limit v.velocity) l.numbers.velocities;
-  small : All (λ p. (unsigned_abs p.normal ≤ l.limit) × (unsigned_abs p.tangent ≤ l.limit)) l.numbers.impulses;
+  small : All (AreWithin l.limit) l.numbers.impulses;
 }
