@@ -1,5 +1,5 @@
 -- A tick that is split into the islands of groups with contacts, and the bodies of the others.
-use Rattle.std.proofs.Common.{◌≡◌, ◌∙◌, ℕ, ◌<◌, ◌==◌, Bool, true, false, not, ◌&&◌, List, [], ◌∷◌, cond, filter, get_or, length, map, refl, sym, ap, ap₂, subst, arith}
+use Rattle.std.proofs.Common.{◌≡◌, ◌∙◌, ℕ, ◌<◌, ◌==◌, Bool, true, false, not, List, [], ◌∷◌, cond, filter, get_or, length, map, refl, sym, ap, ap₂, subst, arith}
 use Rattle.std.proofs.lemmas.List.Elements.{All-filter}
 use Rattle.std.specs.List.{flat_map, list_any, range_with_len}
 use Rattle.std.specs.Prelude.{All}
@@ -19,7 +19,7 @@ use Rattle.pf_islands.specs.Rows.{active_rows, is_active_contact, is_awake_at}
 use Rattle.pf_islands.specs.Settled.{AreSettled, active_places, touches_at}
 use Rattle.pf_islands.specs.Split.{Island, active_labels, is_active_label, island_of, islands}
 use Rattle.pf_islands.proofs.ActiveRows.{touches_at_places}
-use Rattle.pf_islands.proofs.Lone.{has_rows, lone_numbers, seen_awake, seen_islands, seen_long, seen_numbers, seen_same, touched_islands}
+use Rattle.pf_islands.proofs.Lone.{has_rows, lone_numbers, seen_islands, seen_long, seen_numbers, seen_same, touched_islands}
 use Rattle.pf_islands.proofs.LoneGroups.{has_touch, lone_are, rows_of_group, same_act, same_points, same_rows, still_settled}
 use Rattle.pf_islands.proofs.SettledGroups.{chosen_rows, chosen_woken, filter_same, islands_same}
 
@@ -159,34 +159,3 @@ module _ (s : Scene) (bodies : List BodyState) (touches : List Touch) (contacts 
         ≡ not (list_any (λ t. group_of_touch s ns t == label) (touches_at touches places))) ls counted))
         (numbers_are ∙ ap (λ (ns : List ℕ). filter (λ n. is_dealt lone (get_or counts (get_or ns n 0) 0)) (awake_numbers bodies)) ls)
         (alone_are ∙ ap (λ (ns : List ℕ). filter (λ n. not (is_dealt lone (get_or counts (get_or ns n 0) 0))) (awake_numbers bodies)) ls)
-
-  -- where no contact is simulated, all awake bodies are alone
-  pub all_alone : (count : length bodies ≡ length s.fixtures) → AreSettled s bodies touches
-      → All (IsTouchOf (length bodies)) touches → (places : List ℕ) → places ≡ active_places s bodies touches
-      → places ≡ [] → lone ≡ AreListed → ([] ≡ made_islands lone all) × (awake_numbers bodies ≡ lone_bodies lone all)
-  all_alone count settled of places are none listed =
-      let labels = groups s (touches_at touches places) in
-      let numbers_are = sym (filter_none (λ (n : ℕ). is_dealt AreListed 0) (λ n. refl) (awake_numbers bodies)) in
-      let parts = parted count settled of labels places [] [] (awake_numbers bodies) are refl
-      (λ label within.
-      ap (λ ps. not (list_any (λ t. group_of_touch s labels t == label) (touches_at touches ps))) (sym none))
-      (numbers_are ∙ ap (λ l. filter (λ n. is_dealt l 0) (awake_numbers bodies)) (sym listed))
-      (sym (filter_every (λ (n : ℕ). not (is_dealt AreListed 0)) (λ n. refl) (awake_numbers bodies))
-      ∙ ap (λ l. filter (λ n. not (is_dealt l 0)) (awake_numbers bodies)) (sym listed)) in
-      let asleep = λ (k : ℕ).
-      seen_awake labels bodies (λ n. false) [] numbers_are k ∙ and_false (is_awake_at bodies k) in (
-        sym
-            (ap
-            (map
-            (λ label. island_of (only_awake [] bodies) (active_rows s (only_awake [] bodies) touches contacts)
-            (group_members (groups s touches) label)))
-            (filter_none (is_active_label (groups s touches) (only_awake [] bodies))
-            (λ k. ap (λ e. (get_or (groups s touches) k 0 == k) && e) (asleep k) ∙ and_false (get_or (groups s touches) k 0 == k))
-            (range_with_len 0 (length (groups s touches)))))
-            ∙ parts.made,
-        parts.alone_are,
-      )
-    where
-      and_false : (e : Bool) → (e && false) ≡ false
-      and_false true = refl
-      and_false false = refl

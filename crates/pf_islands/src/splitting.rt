@@ -328,8 +328,7 @@ fn deal(
     Ok(made)
 }
 
-/// The islands of groups that are awake as wholes, made in the memory of the spare ones. Where no
-/// contact is simulated and lone bodies are listed, nothing is grouped.
+/// The islands of groups that are awake as wholes, made in the memory of the spare ones.
 #[inline(never)]
 fn split_settled(
     alloc: Global,
@@ -338,16 +337,16 @@ fn split_settled(
     bodies: &[BodyState],
     touches: &[Touch],
     contacts: &[Contact],
-    active: Active,
+    active: &Active,
     lone: LoneBodies,
 ) -> Result<Parts, AllocError>
     requires bodies { length bodies.now ≡ length scene.now.fixtures }
     requires touches { All (IsTouchOf (length bodies.now)) touches.now }
     requires contacts { length contacts.now ≡ length touches.now }
     requires settled { AreSettled scene.now bodies.now touches.now }
-    requires numbers { active.numbers.items ≡ awake_numbers bodies.now }
-    requires active { active.places.items ≡ active_places scene.now bodies.now touches.now }
-    requires within { All (λ place. place < length touches.now) active.places.items }
+    requires numbers { active.now.numbers.items ≡ awake_numbers bodies.now }
+    requires active { active.now.places.items ≡ active_places scene.now bodies.now touches.now }
+    requires within { All (λ place. place < length touches.now) active.now.places.items }
     ensures islands { IfOk result (λ found. found.islands.items
         ≡ made_islands lone (islands (groups_of scene.now touches.now) bodies.now
         (active_rows scene.now bodies.now touches.now contacts.now))) }
@@ -360,12 +359,6 @@ fn split_settled(
         (λ found. All (λ number. number < length bodies.now) found.alone.items) }
     ensures no_memory { bodies.now ≡ [] → touches.now ≡ [] → IsOk result }
 {
-    if active.places.is_empty() && lone == LoneBodies::AreListed {
-        return Ok(Parts {
-            islands: Vec::new(alloc),
-            alone: active.numbers,
-        });
-    }
     let places = active.places.as_slice();
     let numbers = active.numbers.as_slice();
     let groups = Groups::new(alloc, scene, touches, places, numbers)?;
@@ -449,7 +442,9 @@ pub fn split(
         pair_places: &all_places,
     };
     let active = active_of(alloc, scene, bodies, touches, spans, &all)?;
-    split_settled(alloc, spare, scene, bodies, touches, contacts, active, lone)
+    split_settled(
+        alloc, spare, scene, bodies, touches, contacts, &active, lone,
+    )
 }
 
 /// As [`split`], where it is known which bodies may be awake: `search` says where to look for awake
@@ -493,7 +488,9 @@ pub fn wake_and_split(
     let spans = manifolds.spans();
     let active = active_of(alloc, scene, bodies, touches, spans, search)?;
     if wake_none(scene, bodies, touches, &active.places) {
-        return split_settled(alloc, spare, scene, bodies, touches, contacts, active, lone);
+        return split_settled(
+            alloc, spare, scene, bodies, touches, contacts, &active, lone,
+        );
     }
     split(alloc, spare, scene, bodies, manifolds, contacts, lone)
 }

@@ -1,16 +1,14 @@
-use Rattle.std.proofs.Common.{rules, [], ◌≡◌, ◌∙◌, ◌<◌, ◌==◌, ℕ, List, All, ap, filter, get_or, length, not, subst, sym}
-use Rattle.std.proofs.lemmas.List.{nil_from_length}
+use Rattle.std.proofs.Common.{◌≡◌, ◌∙◌, ◌<◌, ◌==◌, ℕ, List, All, ap, filter, get_or, length, not, subst, sym}
 use Rattle.std.proofs.lemmas.List.Elements.{All-filter}
 use Rattle.std.specs.List.{list_any, range_with_len}
 use Rattle.pf_manifold.specs.Key.{IsRising}
 use Rattle.pf_manifold.specs.Touches.{IsTouchOf}
 use Rattle.pf_cache.proofs.ChosenNumbers.{number_low}
-use Rattle.pf_islands.specs.declared.splitting.LoneBodies.TheVariants.{AreListed}
 use Rattle.pf_islands.specs.Lone.{group_of_touch, is_dealt}
 use Rattle.pf_islands.specs.Rows.{is_awake_at}
 use Rattle.pf_islands.specs.Settled.{touches_at}
 use Rattle.pf_islands.proofs.Members.{filter_rises, range_rises}
-use Rattle.pf_islands.proofs.Parted.{IsParted, all_alone, parted}
+use Rattle.pf_islands.proofs.Parted.{IsParted, parted}
 use Rattle.pf_islands.proofs.SettledGroups.{labels_long, others_alone}
 use Rattle.pf_islands.proofs.splitting.split_settled.Goals as goal
 use Rattle.pf_islands.proofs.splitting.split_settled.Goals.{After-labels-labels, After-deref-2}
@@ -43,8 +41,8 @@ parts c =
     (c.in_ok-dealt.ensures.alone
     ∙ ap (filter (λ n. not (is_dealt c.args.lone (get_or counts (get_or labels n 0) 0)))) awake)
 
-pub new-requires-2-clause-numbers : goal.new-requires-2-clause-numbers
-new-requires-2-clause-numbers c =
+pub new-requires-clause-numbers : goal.new-requires-clause-numbers
+new-requires-clause-numbers c =
     others_alone c.args.scene.now c.args.bodies.now c.args.touches.now c.requires.bodies c.requires.settled
     c.as_slice-places.result.now c.as_slice-numbers.result.now (c.as_slice-places.ensures.value ∙ c.requires.active)
     (c.as_slice-numbers.ensures.value ∙ c.requires.numbers)
@@ -111,29 +109,3 @@ returns-clause-there c =
     let dealt = λ (n : ℕ). is_dealt c.args.lone (get_or c.deref.result.now (get_or c.labels-labels.result.now n 0) 0) in
     subst (All (λ n. n < count)) (sym c.in_ok-dealt.ensures.alone)
     (All-filter (λ n. not (dealt n)) (λ n. n < count) c.as_slice-numbers.result.now low)
-
-pub returns-then-eq-clause-order : goal.returns-then-eq-clause-order
-returns-then-eq-clause-order c =
-    subst (IsRising 0) (sym c.requires.numbers)
-    (filter_rises (is_awake_at c.args.bodies.now) 0 (range_with_len 0 (length c.args.bodies.now))
-    (range_rises 0 (length c.args.bodies.now)))
-
-pub returns-then-eq-clause-there : goal.returns-then-eq-clause-there
-returns-then-eq-clause-there c =
-    number_low (is_awake_at c.args.bodies.now) (length c.args.bodies.now) c.args.active.numbers.items c.requires.numbers
-
-pub returns-then-eq-clause-islands : goal.returns-then-eq-clause-islands
-returns-then-eq-clause-islands c =
-    let none : c.args.active.places.items ≡ [] = nil_from_length c.args.active.places.items (search rules) in
-    let listed : c.args.lone ≡ AreListed = search rules in
-    c.new.ensures.items
-    ∙ (all_alone c.args.scene.now c.args.bodies.now c.args.touches.now c.args.contacts.now c.args.lone c.requires.bodies
-    c.requires.settled c.requires.touches c.args.active.places.items c.requires.active none listed).0
-
-pub returns-then-eq-clause-alone : goal.returns-then-eq-clause-alone
-returns-then-eq-clause-alone c =
-    let none : c.args.active.places.items ≡ [] = nil_from_length c.args.active.places.items (search rules) in
-    let listed : c.args.lone ≡ AreListed = search rules in
-    c.requires.numbers
-    ∙ (all_alone c.args.scene.now c.args.bodies.now c.args.touches.now c.args.contacts.now c.args.lone c.requires.bodies
-    c.requires.settled c.requires.touches c.args.active.places.items c.requires.active none listed).1
