@@ -2,7 +2,7 @@
 
 ghost use Rattle.std.specs.Prelude.{◌≡◌, ◌≢◌, IfOk};
 ghost use Rattle.pf_step.specs.Simulation.{sim};
-ghost use Rattle.pf_rollback.specs.Calls.{OnlyReturns};
+ghost use Rattle.pf_rollback.specs.Calls.{ReturnsUnchanged};
 ghost use Rattle.pf_rollback.specs.Peer.{IsEmptyBefore, world_at};
 
 use pf_rollback::{PeerCore, PeerError};
@@ -15,7 +15,7 @@ use std::alloc::Global;
 /// and out of memory. Takes no memory where no body and no contact is at the horizon, and no
 /// command before the tick.
 pub fn world_at(alloc: Global, core: &PeerCore, tick: u32) -> Result<World, PeerError>
-    ensures value { OnlyReturns result (world_at core.now.scene core.now.peer tick) }
+    ensures value { ReturnsUnchanged result (world_at core.now.scene core.now.peer tick) }
     ensures from_zero { core.now.peer.horizon ≡ 0 → IfOk result (λ world.
         world ≡ sim core.now.scene core.now.peer.commands tick) }
     ensures no_memory { IsEmptyBefore core.now.peer tick → result ≢ Err PeerError.OutOfMemory }

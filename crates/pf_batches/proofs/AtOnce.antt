@@ -15,7 +15,7 @@ use Rattle.pf_solver.specs.Impulse.{ContactState}
 use Rattle.pf_solver.specs.Velocities.{Batch, Step}
 use Rattle.pf_batches.specs.Contact.{ContactLanes, seat_state_in, state_of}
 use Rattle.pf_bundles.specs.Seats.{SeatState}
-use Rattle.pf_batches.specs.Numbers.{AreNumbersOf, AreResults, AreRowsOfPlaces, AreSeatsOf, HoldEach, lane_result, motion_on, numbers_after, numbers_after_all, numbers_at_once, result_at, seat_of, seat_state_from, seats_of, state_at}
+use Rattle.pf_batches.specs.Numbers.{AreNumbersOf, AreResults, AreRowsAtPlaces, AreSeatsOf, HoldEach, lane_result, motion_on, numbers_after, numbers_after_all, numbers_at_once, result_at, seat_of, seat_state_from, seats_of, state_at}
 use Rattle.pf_bundles.specs.Seats.{numbers_with, numbers_with_all, seat_state_at, velocity_at}
 use Rattle.pf_batches.proofs.Levels.{results_at_once}
 
@@ -73,7 +73,7 @@ results step n (p ∷ places) [] = []
 results step n (p ∷ places) (r ∷ found) = result_at step n p r ∷ results step n places found
 
 are_results : (step : Step) (n : Numbers) (rows : List Row) (places : List ℕ) (found : List Row)
-    → AreRowsOfPlaces rows places found → AreResults step n places found (results step n places found)
+    → AreRowsAtPlaces rows places found → AreResults step n places found (results step n places found)
 are_results step n rows [] found at = refl
 are_results step n rows (p ∷ places) [] at = absurd at
 are_results step n rows (p ∷ places) (r ∷ found) at = (refl, are_results step n rows places found at.1)
@@ -107,7 +107,7 @@ record IsRowOfSeat (step : Step) (n : Numbers) (rows : List Row) (seat : Seat) (
   result : o ≡ Some (seat_state_from (result_at step n seat.place row))
 
 row_of_seat : (step : Step) (n : Numbers) (rows : List Row) (places : List ℕ) (found : List Row) (i : ℕ) (seat : Seat)
-    → AreRowsOfPlaces rows places found → slice_get (seats_of places found) i ≡ Some seat
+    → AreRowsAtPlaces rows places found → slice_get (seats_of places found) i ≡ Some seat
     → IsRowOfSeat step n rows seat (slice_get (map seat_state_from (results step n places found)) i)
 row_of_seat step n rows [] found i seat at here = absurd (none-some seat here)
 row_of_seat step n rows (p ∷ places) [] i seat at here = absurd (none-some seat here)

@@ -16,7 +16,7 @@ use Rattle.pf_solver.specs.Velocities.{Batch, Step, bodies_with, pass, passes, r
 use Rattle.pf_solver.proofs.Levels.{pairs_passed, passes_by_levels}
 use Rattle.pf_solver.proofs.Overlap.{passes_by_overlap}
 use Rattle.pf_solver.proofs.Passes.{passes_more, passes_none}
-use Rattle.pf_batches.specs.Numbers.{AreNumbersAfter, AreNumbersOf, AreResults, AreRowsOfPlaces, numbered_batch, numbers_after, numbers_after_all, numbers_at_once, numbers_in_levels, batch_numbers, numbers_where, result_at, seat_of, seats_of}
+use Rattle.pf_batches.specs.Numbers.{AreNumbersAfter, AreNumbersOf, AreResults, AreRowsAtPlaces, batch_with_numbers, numbers_after, numbers_after_all, numbers_at_once, numbers_in_levels, batch_numbers, numbers_where, result_at, seat_of, seats_of}
 use Rattle.pf_bundles.specs.Numbers.{Numbers}
 use Rattle.pf_bundles.specs.Bundle.{Seat}
 use Rattle.pf_batches.proofs.Numbers.{fit_after, impulses_none, numbers_fit, own_numbers, pairs_loaded, row_read, row_stored, state_read}
@@ -26,7 +26,7 @@ use Rattle.pf_batches.proofs.Numbers.{fit_after, impulses_none, numbers_fit, own
 -- rows stand at places if each one does
 pub rows_from_each : (rows : List Row) (places : List ℕ) (found : List Row) → length found ≡ length places
     → ((k p : ℕ) (r : Row) → slice_get places k ≡ Some p → slice_get found k ≡ Some r → slice_get rows p ≡ Some r)
-    → AreRowsOfPlaces rows places found
+    → AreRowsAtPlaces rows places found
 rows_from_each rows [] [] long each = refl
 rows_from_each rows [] (r ∷ found) long each = absurd (omega (arith, long))
 rows_from_each rows (p ∷ places) [] long each = absurd (omega (arith, long))
@@ -53,7 +53,7 @@ results_from_each step n (p ∷ places) (r ∷ found) (m ∷ states) long many e
 
 -- places below the number of rows have the rows that are read there
 pub rows_at_places : (rows : List Row) (places : List ℕ) (d : Row) → All (λ p. p < length rows) places
-    → AreRowsOfPlaces rows places (map (λ p. slice_index_or rows p d) places)
+    → AreRowsAtPlaces rows places (map (λ p. slice_index_or rows p d) places)
 rows_at_places rows [] d within = refl
 rows_at_places rows (p ∷ places) d within = (
   slice_get-get_or rows p d (All-head (λ x. x < length rows) p places within),
@@ -89,12 +89,12 @@ module _ (step : Step) (b : Batch) where
   module _ (n : Numbers) (fit : AreNumbersOf b n) where
     -- one row of a level is stored in the numbers as in the batch
     stored_as_row : (now : Numbers) (p : ℕ) (o : Option Row) → AreNumbersOf b now → slice_get b.rows p ≡ o
-        → numbered_batch (numbers_where step n now p o) b
-        ≡ stored_where step (numbered_batch n b).bodies (numbered_batch now b) p (slice_get (numbered_batch n b).rows p)
+        → batch_with_numbers (numbers_where step n now p o) b
+        ≡ stored_where step (batch_with_numbers n b).bodies (batch_with_numbers now b) p (slice_get (batch_with_numbers n b).rows p)
     stored_as_row now p None still at =
-        ap (stored_where step (numbered_batch n b).bodies (numbered_batch now b) p) (sym (impulses_none n.impulses b.rows p at))
+        ap (stored_where step (batch_with_numbers n b).bodies (batch_with_numbers now b) p) (sym (impulses_none n.impulses b.rows p at))
     stored_as_row now p (Some r) still at =
-        let then = numbered_batch now b in
+        let then = batch_with_numbers now b in
         row_stored b now still p r (result_at step n p r) at
         ∙ ap
         (λ (s : ContactState).
@@ -103,7 +103,7 @@ module _ (step : Step) (b : Batch) where
           rows = slice_set then.rows p (row_with (step r.constraint s) r);
         })
         (sym (state_read b n fit p r))
-        ∙ ap (stored_where step (numbered_batch n b).bodies then p) (sym (row_read b n fit p r at))
+        ∙ ap (stored_where step (batch_with_numbers n b).bodies then p) (sym (row_read b n fit p r at))
 
     -- there are still as many numbers
     fit_where : (now : Numbers) (p : ℕ) (o : Option Row) → AreNumbersOf b now → AreNumbersOf b (numbers_where step n now p o)
@@ -112,15 +112,15 @@ module _ (step : Step) (b : Batch) where
 
     -- and so after the rest of the level
     stored_as_level : (level : List ℕ) (now : Numbers) → AreNumbersOf b now
-        → numbered_batch (fold (λ now p. numbers_where step n now p (slice_get b.rows p)) now level) b
-        ≡ fold (λ now p. stored_where step (numbered_batch n b).bodies now p (slice_get (numbered_batch n b).rows p))
-        (numbered_batch now b) level
+        → batch_with_numbers (fold (λ now p. numbers_where step n now p (slice_get b.rows p)) now level) b
+        ≡ fold (λ now p. stored_where step (batch_with_numbers n b).bodies now p (slice_get (batch_with_numbers n b).rows p))
+        (batch_with_numbers now b) level
     stored_as_level [] now still = refl
     stored_as_level (p ∷ level) now still =
         let o = slice_get b.rows p in
         stored_as_level level (numbers_where step n now p o) (fit_where now p o still)
         ∙ ap
-        (λ x. fold (λ (x : Batch) q. stored_where step (numbered_batch n b).bodies x q (slice_get (numbered_batch n b).rows q)) x level)
+        (λ x. fold (λ (x : Batch) q. stored_where step (batch_with_numbers n b).bodies x q (slice_get (batch_with_numbers n b).rows q)) x level)
         (stored_as_row now p o still refl)
 
     -- and so along a level
@@ -132,7 +132,7 @@ module _ (step : Step) (b : Batch) where
 
     -- what became of the rows of a level is stored one after the other
     stored_along : (level : List ℕ) (found : List Row) (states : List ContactState) (now : Numbers)
-        → AreRowsOfPlaces b.rows level found → AreResults step n level found states
+        → AreRowsAtPlaces b.rows level found → AreResults step n level found states
         → numbers_after_all (seats_of level found) states now
         ≡ fold (λ now p. numbers_where step n now p (slice_get b.rows p)) now level
     stored_along [] found states now rows results = refl
@@ -146,23 +146,23 @@ module _ (step : Step) (b : Batch) where
 
     -- a level that is solved at once on the numbers is solved at once in the batch
     pub level_on_numbers : (level : List ℕ)
-        → numbered_batch (numbers_at_once level step b.rows n) b ≡ solved_at_once level step (numbered_batch n b)
+        → batch_with_numbers (numbers_at_once level step b.rows n) b ≡ solved_at_once level step (batch_with_numbers n b)
     level_on_numbers level = stored_as_level level n fit
 
     -- there are still as many numbers after a level
     pub fit_at_once : (level : List ℕ) → AreNumbersOf b (numbers_at_once level step b.rows n)
     fit_at_once level = fit_along level n fit
 
-    module _ (level : List ℕ) (found : List Row) (states : List ContactState) (rows : AreRowsOfPlaces b.rows level found)
+    module _ (level : List ℕ) (found : List Row) (states : List ContactState) (rows : AreRowsAtPlaces b.rows level found)
         (results : AreResults step n level found states) where
       -- what became of the rows of a level, stored one after the other, is the level at once
       pub results_at_once : numbers_after_all (seats_of level found) states n ≡ numbers_at_once level step b.rows n
       results_at_once = stored_along level found states n rows results
 
       -- a batch with the results of a level is the batch with the level solved at once
-      pub level_stored : numbered_batch (numbers_after_all (seats_of level found) states n) b
-          ≡ solved_at_once level step (numbered_batch n b)
-      level_stored = ap (λ x. numbered_batch x b) results_at_once ∙ level_on_numbers level
+      pub level_stored : batch_with_numbers (numbers_after_all (seats_of level found) states n) b
+          ≡ solved_at_once level step (batch_with_numbers n b)
+      level_stored = ap (λ x. batch_with_numbers x b) results_at_once ∙ level_on_numbers level
 
       -- there are still as many numbers after the results of a level
       pub fit_after_all : AreNumbersOf b (numbers_after_all (seats_of level found) states n)
@@ -173,8 +173,8 @@ module _ (step : Step) (b : Batch) where
 module _ (step : Step) (b : Batch) where
   -- levels one after the other on the numbers are those of the batch
   levels_on_numbers : (some : List (List ℕ)) (n : Numbers) → AreNumbersOf b n
-      → numbered_batch (fold (λ now level. numbers_at_once level step b.rows now) n some) b
-      ≡ solved_by_levels some step (numbered_batch n b)
+      → batch_with_numbers (fold (λ now level. numbers_at_once level step b.rows now) n some) b
+      ≡ solved_by_levels some step (batch_with_numbers n b)
   levels_on_numbers [] n fit = refl
   levels_on_numbers (g ∷ some) n fit =
       levels_on_numbers some (numbers_at_once g step b.rows n) (fit_at_once step b n fit g)
@@ -203,7 +203,7 @@ module _ (step : Step) (b : Batch) where
 
   -- so many passes on the numbers
   passes_on_numbers : (k : ℕ) (levels : List (List ℕ)) (n : Numbers) → AreNumbersOf b n
-      → AreNumbersAfter b (passes_in_levels k levels step (numbered_batch n b)) (numbers_in_levels k levels step b.rows n)
+      → AreNumbersAfter b (passes_in_levels k levels step (batch_with_numbers n b)) (numbers_in_levels k levels step b.rows n)
   passes_on_numbers zero levels n fit = record { numbers = fit; batch = refl }
   passes_on_numbers (suc k) levels n fit =
       let before = numbers_in_levels k levels step b.rows n in
@@ -215,10 +215,10 @@ module _ (step : Step) (b : Batch) where
 
   -- so many passes level by level are as many along the list of rows
   pub passes_of_numbers : (k : ℕ) (levels : List (List ℕ)) (n : Numbers) → AreNumbersOf b n → AreLevelsOf b levels
-      → numbered_batch (numbers_in_levels k levels step b.rows n) b ≡ passes k step (numbered_batch n b)
+      → batch_with_numbers (numbers_in_levels k levels step b.rows n) b ≡ passes k step (batch_with_numbers n b)
   passes_of_numbers k levels n fit of =
       (passes_on_numbers k levels n fit).batch
-      ∙ passes_by_levels step k (numbered_batch n b) levels
+      ∙ passes_by_levels step k (batch_with_numbers n b) levels
       (subst (λ pairs. AreLevels pairs levels) (sym (pairs_loaded n.impulses b.rows)) of)
 
 -- ---- the velocity phase
@@ -227,7 +227,7 @@ module _ (step : Step) (b : Batch) where
 pub own_start : (b : Batch) (now : Numbers) → now ≡ batch_numbers b → AreNumbersAfter b b now
 own_start b now same = record {
   numbers = subst (AreNumbersOf b) (sym same) (numbers_fit b);
-  batch = ap (λ n. numbered_batch n b) same ∙ own_numbers b;
+  batch = ap (λ n. batch_with_numbers n b) same ∙ own_numbers b;
 }
 
 -- a warm start level by level, and rounds that overlap, are the velocity phase

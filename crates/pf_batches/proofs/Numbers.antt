@@ -10,7 +10,7 @@ use Rattle.pf_rows.specs.Row.{InverseMass, Row}
 use Rattle.pf_levels.specs.Levels.{pair_of}
 use Rattle.pf_solver.specs.Impulse.{ContactState, Motion}
 use Rattle.pf_solver.specs.Velocities.{Batch, bodies_with, body_with, contact_state, motion_at, row_with, with_motion}
-use Rattle.pf_batches.specs.Numbers.{AreNumbersOf, numbered_batch, loaded_row, motion_on, numbers_after, batch_numbers, seat_of, state_at, velocity_in, velocity_of, with_impulses, with_velocities}
+use Rattle.pf_batches.specs.Numbers.{AreNumbersOf, batch_with_numbers, loaded_row, motion_on, numbers_after, batch_numbers, seat_of, state_at, velocity_in, velocity_of, with_impulses, with_velocities}
 use Rattle.pf_bundles.specs.Seats.{with_velocity}
 use Rattle.pf_bundles.specs.Numbers.{Numbers, Velocity, no_velocity}
 use Rattle.pf_bundles.specs.Bundle.{Seat}
@@ -170,7 +170,7 @@ with_velocity_length velocities (Dynamic p) v = length-set velocities p v
 -- ---- a batch
 
 -- a batch with its own numbers is as it was
-pub own_numbers : (b : Batch) → numbered_batch (batch_numbers b) b ≡ b
+pub own_numbers : (b : Batch) → batch_with_numbers (batch_numbers b) b ≡ b
 own_numbers b =
     ap₂ (λ bodies rows. record { bodies = bodies; rows = rows }) (own_velocities b.bodies) (own_impulses b.rows)
 
@@ -182,23 +182,23 @@ numbers_fit b = record {
 }
 
 -- with other numbers the bodies are as many
-pub bodies_as_many : (n : Numbers) (b : Batch) → length (numbered_batch n b).bodies ≡ length b.bodies
+pub bodies_as_many : (n : Numbers) (b : Batch) → length (batch_with_numbers n b).bodies ≡ length b.bodies
 bodies_as_many n b = moving_bodies_length n.velocities b.bodies
 
 -- with other numbers the rows are as many
-pub rows_as_many : (n : Numbers) (b : Batch) → length (numbered_batch n b).rows ≡ length b.rows
+pub rows_as_many : (n : Numbers) (b : Batch) → length (batch_with_numbers n b).rows ≡ length b.rows
 rows_as_many n b = loaded_rows_length n.impulses b.rows
 
 module _ (b : Batch) (n : Numbers) (fit : AreNumbersOf b n) where
   -- the numbers of a batch with these numbers are these
-  pub numbers_back : batch_numbers (numbered_batch n b) ≡ n
+  pub numbers_back : batch_numbers (batch_with_numbers n b) ≡ n
   numbers_back =
       ap₂ (λ velocities impulses. record { velocities = velocities; impulses = impulses })
       (velocities_back n.velocities b.bodies fit.velocities)
       (impulses_back n.impulses b.rows fit.impulses)
 
   -- of numbers that are replaced by others nothing is left
-  pub numbers_again : (before : Numbers) → numbered_batch n (numbered_batch before b) ≡ numbered_batch n b
+  pub numbers_again : (before : Numbers) → batch_with_numbers n (batch_with_numbers before b) ≡ batch_with_numbers n b
   numbers_again before =
       ap₂ (λ bodies rows. record { bodies = bodies; rows = rows })
       (velocities_again before.velocities n.velocities b.bodies fit.velocities)
@@ -206,12 +206,12 @@ module _ (b : Batch) (n : Numbers) (fit : AreNumbersOf b n) where
 
   -- the row at a place has the impulses that stand there
   pub row_read : (p : ℕ) (r : Row) → slice_get b.rows p ≡ Some r
-      → slice_get (numbered_batch n b).rows p ≡ Some (loaded_row (slice_index_or n.impulses p no_impulses) r)
+      → slice_get (batch_with_numbers n b).rows p ≡ Some (loaded_row (slice_index_or n.impulses p no_impulses) r)
   row_read p r at = impulses_read n.impulses b.rows p r fit.impulses at
 
   -- what a row reads of the batch is what it reads of the numbers
   pub state_read : (p : ℕ) (r : Row)
-      → contact_state (numbered_batch n b).bodies (loaded_row (slice_index_or n.impulses p no_impulses) r)
+      → contact_state (batch_with_numbers n b).bodies (loaded_row (slice_index_or n.impulses p no_impulses) r)
       ≡ state_at n r.first_mass r.second_mass (seat_of p r)
   unfolding contact_state
   state_read p r =
@@ -225,10 +225,10 @@ module _ (b : Batch) (n : Numbers) (fit : AreNumbersOf b n) where
 
   -- what is stored of a row in the numbers is stored of it in the batch
   pub row_stored : (p : ℕ) (r : Row) (m : ContactState) → slice_get b.rows p ≡ Some r
-      → numbered_batch (numbers_after (seat_of p r) m n) b
+      → batch_with_numbers (numbers_after (seat_of p r) m n) b
       ≡ record {
-        bodies = bodies_with m (numbered_batch n b).bodies r;
-        rows = slice_set (numbered_batch n b).rows p (row_with m (loaded_row (slice_index_or n.impulses p no_impulses) r));
+        bodies = bodies_with m (batch_with_numbers n b).bodies r;
+        rows = slice_set (batch_with_numbers n b).rows p (row_with m (loaded_row (slice_index_or n.impulses p no_impulses) r));
       }
   row_stored p r m at =
       let half = with_velocity n.velocities r.entry.first (velocity_in m.first) in

@@ -20,8 +20,8 @@ use Rattle.pf_solver.specs.Impulse.{Motion, after_round, after_warm_start}
 use Rattle.pf_solver.specs.Velocities.{Batch, Step, bodies_after, body_with, contact_state, pass, passes, row_after, with_motion}
 use Rattle.pf_solver.proofs.Beside.{batch_side_by_side, beside_of_lists, velocities_side_by_side}
 use Rattle.pf_solver.proofs.Passes.{bodies_length, rows_length}
-use Rattle.pf_batches.specs.Islands.{AreBatches, AreHeldBy, batch_of, first_numbers, island_with_first, numbered_islands, numbers_behind, other_numbers, pairs_behind}
-use Rattle.pf_batches.specs.Numbers.{AreNumbersOf, numbered_batch, loaded_row, moving_body, batch_numbers, velocity_of, with_impulses, with_velocities}
+use Rattle.pf_batches.specs.Islands.{AreBatches, AreHeldBy, batch_of, first_numbers, island_with_first, islands_with_numbers, numbers_behind, other_numbers, pairs_behind}
+use Rattle.pf_batches.specs.Numbers.{AreNumbersOf, batch_with_numbers, loaded_row, moving_body, batch_numbers, velocity_of, with_impulses, with_velocities}
 use Rattle.pf_batches.proofs.Numbers.{bodies_as_many, numbers_again, numbers_back, numbers_fit, own_numbers, rows_as_many}
 
 -- ---- one island more
@@ -235,7 +235,7 @@ pub record AreStored (n : Numbers) (islands : List Island) (bodies rows k : ℕ)
   pub velocities : bodies ≤ length n.velocities
   pub impulses : rows ≤ length n.impulses
   pub rest : AreNumbersOf (batch_of (drop k now)) (numbers_behind bodies rows n)
-  pub value : numbered_islands n islands ≡ take k now ++ numbered_islands (numbers_behind bodies rows n) (drop k now)
+  pub value : islands_with_numbers n islands ≡ take k now ++ islands_with_numbers (numbers_behind bodies rows n) (drop k now)
 
 module _ (n : Numbers) (islands : List Island) (bodies rows k : ℕ) (now : List Island) (i d : Island)
     (stored : AreStored n islands bodies rows k now) (within : k < length now) (is : i ≡ get_or now k d) where
@@ -299,12 +299,12 @@ module _ (n : Numbers) (islands : List Island) (bodies rows k : ℕ) (now : List
         impulses = enough_impulses;
         rest = subst (λ some. AreNumbersOf (batch_of some) then) (sym same) fit_behind;
         value =
-            stored.value ∙ ap (λ some. take k now ++ numbered_islands before some) left
-            ∙ ap (λ x. take k now ++ x ∷ numbered_islands (other_numbers i before) (drop (k + 1) now)) (sym made)
-            ∙ ap (λ x. take k now ++ after ∷ numbered_islands x (drop (k + 1) now))
+            stored.value ∙ ap (λ some. take k now ++ islands_with_numbers before some) left
+            ∙ ap (λ x. take k now ++ x ∷ islands_with_numbers (other_numbers i before) (drop (k + 1) now)) (sym made)
+            ∙ ap (λ x. take k now ++ after ∷ islands_with_numbers x (drop (k + 1) now))
             (behind_both bodies rows (length i.bodies) (length i.rows) n)
-            ∙ sym (append_assoc (take k now) (after ∷ []) (numbered_islands then (drop (k + 1) now)))
-            ∙ ap₂ (λ front some. front ++ numbered_islands then some) (sym (take_more_set now k after within)) (sym same);
+            ∙ sym (append_assoc (take k now) (after ∷ []) (islands_with_numbers then (drop (k + 1) now)))
+            ∙ ap₂ (λ front some. front ++ islands_with_numbers then some) (sym (take_more_set now k after within)) (sym same);
       }
 
 -- ---- a pass changes of a batch nothing but its numbers
@@ -312,7 +312,7 @@ module _ (n : Numbers) (islands : List Island) (bodies rows k : ℕ) (now : List
 -- the second batch is the first one with other numbers
 record IsWithOwn (before after : Batch) : Type 0 where
   fit : AreNumbersOf before (batch_numbers after)
-  same : numbered_batch (batch_numbers after) before ≡ after
+  same : batch_with_numbers (batch_numbers after) before ≡ after
 
 -- nothing changes
 own_as_is : (b : Batch) → IsWithOwn b b
@@ -331,7 +331,7 @@ own_again a b c first second =
       fit = fit;
       same =
           sym (numbers_again a (batch_numbers c) fit (batch_numbers b))
-          ∙ ap (numbered_batch (batch_numbers c)) first.same ∙ second.same;
+          ∙ ap (batch_with_numbers (batch_numbers c)) first.same ∙ second.same;
     }
 
 -- bodies without rows
@@ -419,7 +419,7 @@ own_velocities b =
     own_again b warm (passes ROUNDS after_round warm) (own_pass after_warm_start b) (own_passes after_round ROUNDS warm)
 
 -- a batch with its numbers after the velocity phase is the batch after it
-pub velocities_stored : (b : Batch) → numbered_batch (batch_numbers (velocities_of b)) b ≡ velocities_of b
+pub velocities_stored : (b : Batch) → batch_with_numbers (batch_numbers (velocities_of b)) b ≡ velocities_of b
 velocities_stored b = (own_velocities b).same
 
 -- ---- islands after their rounds
@@ -446,7 +446,7 @@ others_of_beside i own rest fit =
 
 -- islands with the numbers of each after its velocity phase
 each_stored : (islands : List Island)
-    → numbered_islands (batch_numbers (side_by_side (map (λ i. velocities_of (batch_in i)) islands))) islands
+    → islands_with_numbers (batch_numbers (side_by_side (map (λ i. velocities_of (batch_in i)) islands))) islands
     ≡ map island_after_rounds islands
 each_stored [] = refl
 each_stored (i ∷ islands) =
@@ -454,16 +454,16 @@ each_stored (i ∷ islands) =
     let rest = side_by_side (map (λ i. velocities_of (batch_in i)) islands) in
     let fit = (own_velocities (batch_in i)).fit in
     ap₂ (λ (x : Island) xs. x ∷ xs)
-    (ap (λ n. island_with (numbered_batch n (batch_in i)) i) (first_of_beside i own rest fit)
+    (ap (λ n. island_with (batch_with_numbers n (batch_in i)) i) (first_of_beside i own rest fit)
     ∙ ap (λ b. island_with b i) (velocities_stored (batch_in i)))
-    (ap (λ n. numbered_islands n islands) (others_of_beside i own rest fit) ∙ each_stored islands)
+    (ap (λ n. islands_with_numbers n islands) (others_of_beside i own rest fit) ∙ each_stored islands)
 
 -- islands with the numbers of their batch after its velocity phase are each after its own rounds
 pub islands_after_rounds : (islands : List Island) (now : Numbers) → AreBatches islands
-    → AreNumbersOf (batch_of islands) now → numbered_batch now (batch_of islands) ≡ velocities_of (batch_of islands)
-    → numbered_islands now islands ≡ map island_after_rounds islands
+    → AreNumbersOf (batch_of islands) now → batch_with_numbers now (batch_of islands) ≡ velocities_of (batch_of islands)
+    → islands_with_numbers now islands ≡ map island_after_rounds islands
 islands_after_rounds islands now batches fit solved =
-    ap (λ n. numbered_islands n islands)
+    ap (λ n. islands_with_numbers n islands)
     (sym (numbers_back (batch_of islands) now fit)
     ∙ ap batch_numbers
     (solved ∙ velocities_side_by_side (map batch_in islands) (All-map IsBatch batch_in islands batches)

@@ -12,7 +12,7 @@ use Rattle.pf_solver.specs.Velocities.{Batch}
 use Rattle.pf_bundles.specs.Bundle.{AreBundlesOf, Bundle}
 use Rattle.pf_solver.specs.Order.{AreLevelsOf, DoLateAndEarly}
 use Rattle.pf_batches.specs.declared.batch.TheConstants.{START_LIMIT}
-use Rattle.pf_batches.specs.Numbers.{AreAllWithin, numbered_batch, batch_numbers}
+use Rattle.pf_batches.specs.Numbers.{AreAllWithin, batch_with_numbers, batch_numbers}
 
 -- islands side by side
 abbrev pub batch_of : List Island → Batch
@@ -53,13 +53,13 @@ other_numbers i n = numbers_behind (length i.bodies) (length i.rows) n
 
 -- an island with the first ones of these numbers
 abbrev pub island_with_first : Numbers → Island → Island
-island_with_first n i = island_with (numbered_batch (first_numbers i n) (batch_in i)) i
+island_with_first n i = island_with (batch_with_numbers (first_numbers i n) (batch_in i)) i
 
 -- islands with these numbers: the first island with the first ones, the rest with the others
-abbrev pub numbered_islands : Numbers → List Island → List Island
-numbered_islands n [] = []
-numbered_islands n (i ∷ islands) =
-    island_with_first n i ∷ numbered_islands (other_numbers i n) islands
+abbrev pub islands_with_numbers : Numbers → List Island → List Island
+islands_with_numbers n [] = []
+islands_with_numbers n (i ∷ islands) =
+    island_with_first n i ∷ islands_with_numbers (other_numbers i n) islands
 
 -- what the solver holds of a batch before its rounds: its levels, its rows in lanes, its numbers,
 -- and the bundles of the levels

@@ -52,8 +52,8 @@ with_impulses (p ∷ impulses) [] = []
 with_impulses (p ∷ impulses) (r ∷ rows) = loaded_row p r ∷ with_impulses impulses rows
 
 -- a batch with these numbers
-abbrev pub numbered_batch : Numbers → Batch → Batch
-numbered_batch n b = record {
+abbrev pub batch_with_numbers : Numbers → Batch → Batch
+batch_with_numbers n b = record {
   bodies = with_velocities n.velocities b.bodies;
   rows = with_impulses n.impulses b.rows;
 }
@@ -142,11 +142,11 @@ numbers_after_all (seat ∷ seats) (m ∷ states) n =
     numbers_after_all seats states (numbers_after seat m n)
 
 -- the rows that stand at these places of a list of rows, one for each
-abbrev pub AreRowsOfPlaces : List Row → List ℕ → List Row → Type 0
-AreRowsOfPlaces rows [] found = found ≡ []
-AreRowsOfPlaces rows (p ∷ places) [] = ⊥
-AreRowsOfPlaces rows (p ∷ places) (r ∷ found) =
-    (slice_get rows p ≡ Some r) × AreRowsOfPlaces rows places found
+abbrev pub AreRowsAtPlaces : List Row → List ℕ → List Row → Type 0
+AreRowsAtPlaces rows [] found = found ≡ []
+AreRowsAtPlaces rows (p ∷ places) [] = ⊥
+AreRowsAtPlaces rows (p ∷ places) (r ∷ found) =
+    (slice_get rows p ≡ Some r) × AreRowsAtPlaces rows places found
 
 -- what a step makes of each row at its place, all of them read from the same numbers
 abbrev pub AreResults : Step → Numbers → List ℕ → List Row → List ContactState → Type 0
@@ -178,12 +178,12 @@ numbers_in_levels (suc k) levels step rows n =
 -- these are the numbers of what became of a batch
 pub record AreNumbersAfter (b after : Batch) (n : Numbers) : Type 0 where
   pub numbers : AreNumbersOf b n
-  pub batch : numbered_batch n b ≡ after
+  pub batch : batch_with_numbers n b ≡ after
 
 -- these are the seats of the rows of a level
 abbrev pub AreSeatsOf : List Row → List ℕ → List Seat → Type 0
 AreSeatsOf rows level seats =
-    (found : List Row) × AreRowsOfPlaces rows level found × (seats ≡ seats_of level found)
+    (found : List Row) × AreRowsAtPlaces rows level found × (seats ≡ seats_of level found)
 
 -- the seats of a bundle are places of numbers and of rows, and its lanes hold these rows
 pub record IsBundleOn (rows : List LaneRow) (n : Numbers) (bundle : Bundle) : Type 0 where

@@ -12,7 +12,7 @@ ghost use Rattle.pf_batches.specs.Numbers.{AreNumbersOf, loaded_row, batch_numbe
 ghost use Rattle.pf_batches.specs.Numbers.{with_impulses, with_velocities};
 ghost use Rattle.pf_batches.specs.Numbers.{AreAllWithin};
 ghost use Rattle.pf_batches.specs.Islands.{AreBatches, AreHeldBy, batch_of};
-ghost use Rattle.pf_batches.specs.Islands.{island_with_first, numbered_islands, pairs_behind};
+ghost use Rattle.pf_batches.specs.Islands.{island_with_first, islands_with_numbers, pairs_behind};
 
 use pf_bundles::{LaneRow, Numbers, WholeImpulses, WholeVelocity};
 use pf_islands::Island;
@@ -223,7 +223,7 @@ fn store_behind(
 /// Gives islands side by side these velocities and accumulated impulses.
 pub(crate) fn store_numbers(islands: &mut [Island], numbers: &Numbers)
     requires { AreNumbersOf (batch_of islands.old) numbers.now }
-    ensures { islands.new ≡ numbered_islands numbers.now islands.old }
+    ensures { islands.new ≡ islands_with_numbers numbers.now islands.old }
 {
     let velocities = numbers.velocities();
     let impulses = numbers.impulses();

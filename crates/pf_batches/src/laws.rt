@@ -7,7 +7,7 @@ ghost use Rattle.pf_solver.specs.Impulse.{ContactState};
 ghost use Rattle.pf_solver.specs.Order.{AreLevelsOf, solved_at_once};
 ghost use Rattle.pf_solver.specs.Velocities.{Batch, Step, passes};
 ghost use Rattle.pf_bundles.specs.Numbers.{Numbers};
-ghost use Rattle.pf_batches.specs.Numbers.{AreNumbersOf, AreResults, AreRowsOfPlaces, numbered_batch, numbers_after_all, numbers_in_levels, seats_of};
+ghost use Rattle.pf_batches.specs.Numbers.{AreNumbersOf, AreResults, AreRowsAtPlaces, batch_with_numbers, numbers_after_all, numbers_in_levels, seats_of};
 
 use crate::batch::START_LIMIT;
 use crate::bundle_step::GROWTH;
@@ -18,14 +18,14 @@ use crate::bundle_step::GROWTH;
 /// once. After so many passes it is the batch after as many passes along the list of rows.
 pub fn numbers_are_solved_as_the_batch()
     ensures level { (step : Step) (b : Batch) (n : Numbers) (level : List ℕ) (found : List Row)
-        (states : List ContactState) → AreNumbersOf b n → AreRowsOfPlaces b.rows level found
+        (states : List ContactState) → AreNumbersOf b n → AreRowsAtPlaces b.rows level found
         → AreResults step n level found states
-        → numbered_batch (numbers_after_all (seats_of level found) states n) b
-        ≡ solved_at_once level step (numbered_batch n b) }
+        → batch_with_numbers (numbers_after_all (seats_of level found) states n) b
+        ≡ solved_at_once level step (batch_with_numbers n b) }
     ensures passes { (k : ℕ) (step : Step) (b : Batch) (n : Numbers) (levels : List (List ℕ))
         → AreNumbersOf b n → AreLevelsOf b levels
-        → numbered_batch (numbers_in_levels k levels step b.rows n) b
-        ≡ passes k step (numbered_batch n b) }
+        → batch_with_numbers (numbers_in_levels k levels step b.rows n) b
+        ≡ passes k step (batch_with_numbers n b) }
 {}
 
 /// How great numbers can be before the rounds, and how much greater a step in lanes can make them,

@@ -7,7 +7,7 @@ ghost use Rattle.pf_solver.specs.Impulse.{after_round};
 ghost use Rattle.pf_solver.specs.Order.{AreLevelsOf, DoLateAndEarly, after_overlapping_passes, solved_by_levels};
 ghost use Rattle.pf_solver.specs.Velocities.{Batch};
 ghost use Rattle.pf_levels.specs.Levels.{pair_of};
-ghost use Rattle.pf_batches.specs.Numbers.{AreAllWithin, AreBundlesFor, AreNumbersAfter, AreNumbersOf, IsBundleOn, numbered_batch, batch_numbers};
+ghost use Rattle.pf_batches.specs.Numbers.{AreAllWithin, AreBundlesFor, AreNumbersAfter, AreNumbersOf, IsBundleOn, batch_with_numbers, batch_numbers};
 ghost use Rattle.pf_bundles.specs.Seats.{AreAsMany};
 
 use crate::bundle_step::{GROWTH, LaneStep, solve_bundle};
@@ -104,7 +104,7 @@ pub(crate) fn solve_numbers(
         (drop early_levels levels) across
         → AreBundlesFor b levels rows.now bundles.now
         → AreBundlesFor b across rows.now overlap_bundles.now
-        → numbers.old ≡ batch_numbers b → numbered_batch numbers.new b ≡ velocities_of b }
+        → numbers.old ≡ batch_numbers b → batch_with_numbers numbers.new b ≡ velocities_of b }
     ensures fit { IsTrue result → (b : Batch) (levels across : List (List ℕ))
         → AreBundlesFor b levels rows.now bundles.now
         → AreBundlesFor b across rows.now overlap_bundles.now

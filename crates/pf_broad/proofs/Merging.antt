@@ -4,7 +4,7 @@ use Rattle.std.proofs.lemmas.Bool.Decides.{nat_tests}
 use Rattle.std.proofs.Math.Seq.{drop-cons}
 use Rattle.std.specs.List.{filter, AllByRecursion}
 use Rattle.pf_shapes.specs.Pair.{is_before, IsAscending, Pair}
-use Rattle.pf_broad.specs.Enlarged.{has_one, pairs_without}
+use Rattle.pf_broad.specs.Enlarged.{has_one_of, pairs_without}
 
 -- what is merged so far of two lists: the pairs that pass a test, and the others, each from a place
 -- on, are those of the rest
@@ -107,7 +107,7 @@ from_place xs i x below is =
     rw add-one (drop-cons xs i x below ∙ ap (λ y. y ∷ drop (suc i) xs) (sym is))
 
 -- the others from a place on
-pub others_from : (left : List ℕ) (ps : List Pair) (i : ℕ) (b : Bool) (p : Pair) → i < length ps → p ≡ get_or ps i p → has_one left p ≡ b
+pub others_from : (left : List ℕ) (ps : List Pair) (i : ℕ) (b : Bool) (p : Pair) → i < length ps → p ≡ get_or ps i p → has_one_of left p ≡ b
     → pairs_without left (drop i ps)
     ≡ cond (not b) (p ∷ pairs_without left (drop (i + 1) ps)) (pairs_without left (drop (i + 1) ps))
 others_from left ps i b p below at_p is =

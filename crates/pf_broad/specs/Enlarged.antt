@@ -40,14 +40,14 @@ pub record AreCandidates (enlarged : List Bounds) (candidates : List Pair) : Typ
   pub ordered : All IsOrdered enlarged
   pub pairs : candidates ≡ pairs enlarged
 
--- a pair has one of these bodies
-abbrev pub has_one : List ℕ → Pair → Bool
-has_one bodies p = has_body bodies p.a || has_body bodies p.b
+-- whether a pair has one of these bodies
+abbrev pub has_one_of : List ℕ → Pair → Bool
+has_one_of bodies p = has_body bodies p.a || has_body bodies p.b
 
 -- the pairs without these bodies
 abbrev pub pairs_without : List ℕ → List Pair → List Pair
-pairs_without bodies ps = filter (λ p. not (has_one bodies p)) ps
+pairs_without bodies ps = filter (λ p. not (has_one_of bodies p)) ps
 
--- the same, each with its flag
-abbrev pub flags_without : List ℕ → List Bool → List Pair → List (Bool × Pair)
-flags_without bodies flags ps = filter (λ both. not (has_one bodies both.1)) (zip flags ps)
+-- the pairs without these bodies, each with its flag
+abbrev pub flagged_without : List ℕ → List Bool → List Pair → List (Bool × Pair)
+flagged_without bodies flags ps = filter (λ both. not (has_one_of bodies both.1)) (zip flags ps)

@@ -5,7 +5,7 @@ ghost use Rattle.std.specs.List.{range_with_len};
 ghost use Rattle.pf_shapes.specs.Pair.{IsPairOf, is_before};
 ghost use Rattle.pf_broad.specs.Pairs.{pair_may_touch, pairs};
 ghost use Rattle.pf_broad.specs.Partners.{has_body, AreInOrder};
-ghost use Rattle.pf_broad.specs.Enlarged.{flags_without, has_one, pairs_without};
+ghost use Rattle.pf_broad.specs.Enlarged.{flagged_without, has_one_of, pairs_without};
 ghost use Rattle.pf_broad.specs.Kept.{AreFlagged, flagged, moved_places};
 
 use crate::broad_phase::add_pairs;
@@ -174,7 +174,7 @@ fn pairs_of_left(
     requires count { length is_left.now ≡ length enlarged.now }
     requires flags { (k : ℕ) → k < length enlarged.now
         → get_or is_left.now k false ≡ has_body left.now k }
-    ensures { IfOk result (λ fresh. fresh.items ≡ filter (has_one left.now) (pairs enlarged.now)) }
+    ensures { IfOk result (λ fresh. fresh.items ≡ filter (has_one_of left.now) (pairs enlarged.now)) }
 {
     let mut fresh = Vec::new(alloc);
     let mut partners = Vec::new(alloc);
@@ -198,8 +198,9 @@ fn is_before(first: &Pair, second: &Pair) -> bool
     (first.a < second.a) | ((first.a == second.a) & (first.b < second.b))
 }
 
-/// The pairs by new enlarged bounds, and a flag for each. Of the candidates those without a body of
-/// `left` must be pairs still: they are taken over with their flags. The others are searched for.
+/// The pairs by new enlarged bounds, and a flag for each. Candidates without a body of `left` must
+/// be pairs still: they are taken over with their flags. The pairs of `left` are searched for; no
+/// clause says what their flags are, since they are tested next.
 #[inline(never)]
 pub(crate) fn merge(
     alloc: Global,
@@ -217,8 +218,8 @@ pub(crate) fn merge(
     ensures pairs { IfOk result (λ merged. merged.0.items ≡ pairs enlarged.now) }
     ensures as_many { IfOk result (λ merged. length merged.1.items ≡ length (pairs enlarged.now)) }
     ensures others { IfOk result
-        (λ merged. flags_without left.now merged.1.items (pairs enlarged.now)
-        ≡ flags_without left.now flags.now candidates.now) }
+        (λ merged. flagged_without left.now merged.1.items (pairs enlarged.now)
+        ≡ flagged_without left.now flags.now candidates.now) }
 {
     let is_left = left_flags(alloc, enlarged.len(), left)?;
     let fresh = pairs_of_left(alloc, enlarged, left, &is_left)?;

@@ -1,7 +1,6 @@
 //! Contexts that are opened and closed.
 
-ghost use Rattle.std.specs.Prelude.{◌≡◌, ◌⊎◌, None, Some};
-ghost use Rattle.pf_context.specs.Context.{empty_context};
+ghost use Rattle.std.specs.Prelude.{None, Some};
 ghost use Rattle.pf_c.specs.Opening.{Closes, Opens};
 
 use crate::codes::{PF_CLOSED, PF_OK, PF_OUT_OF_MEMORY, PF_STILL_OPEN};

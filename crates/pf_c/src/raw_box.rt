@@ -13,7 +13,7 @@ pub(crate) struct RawBox<T, A: Allocator> {
 }
 
 impl<T, A: Allocator> Model for RawBox<T, A> {
-    ghost also_owns = { λ l. box_owns (A.dealloc_token l.alloc) T.row l.at l.value };
+    ghost also_owns = { λ b. box_owns (A.dealloc_token b.alloc) T.row b.at b.value };
 }
 
 impl<T: Drop, A: Allocator> RawBox<T, A> {

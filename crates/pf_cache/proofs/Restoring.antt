@@ -187,7 +187,7 @@ stored_undone rows noted (c ∷ contacts) all =
 pub before_rows : (change : ContactsChange) (contacts : List Contact) (rows : List Row)
     → All (λ r. may_change change (row_rank r) ≡ true) rows
     → contacts_before change (with_rows contacts rows) ≡ contacts_before change contacts
-before_rows change contacts rows all = by change.keeps_keys all
+before_rows change contacts rows all = by change.in_place all
   where
     by : (t : Bool) → All (λ r. (not t || has_rank change.noted (row_rank r)) ≡ true) rows
         → (if t then with_noted (with_rows contacts rows) change.noted else change.before)

@@ -99,7 +99,7 @@ fn same_keys(contacts: &[Contact], touches: &[Touch], known: usize) -> usize
 #[inline]
 fn is_all(count: usize, contacts: &[Contact], touches: &[Touch]) -> bool
     ensures { IsTrue result
-        → (count ≡ length contacts.now) × (count ≡ length touches.now) }
+        ↔ ((count ≡ length contacts.now) × (count ≡ length touches.now)) }
 {
     count == contacts.len() && count == touches.len()
 }
@@ -181,11 +181,11 @@ fn store_at(contacts: &mut [Contact], rows: &[Row])
 }
 
 impl Contacts {
-    ghost use Rattle.std.specs.Prelude.{◌≡◌, ℕ, [], All, IfOk, IsOk, OnErr, OnOk, map, true};
+    ghost use Rattle.std.specs.Prelude.{◌≡◌, ℕ, [], All, IfOk, IsOk, IsTrue, OnErr, OnOk, false, map, true};
     ghost use Rattle.pf_manifold.specs.Key.{AreTouches, key_of, rank};
     ghost use Rattle.pf_cache.specs.Contact.{HaveSameFirst, next_contacts};
     ghost use Rattle.pf_cache.specs.ContactRows.{AreRowsAt, with_rows};
-    ghost use Rattle.pf_cache.specs.ContactsChange.{contacts_before, may_change, no_contacts_before};
+    ghost use Rattle.pf_cache.specs.ContactsChange.{contacts_before, may_change, no_change};
     ghost use Rattle.pf_cache.specs.Same.{same_contacts};
 
     /// No contacts. Takes no memory.
@@ -207,11 +207,11 @@ impl Contacts {
 
     /// Makes of these contacts those of the points, as Box2D-Lite's `Arbiter::Update`: a key of the
     /// old contacts keeps its impulses, a new key has none, and a contact without a point is gone.
-    /// The points are in the order of their keys. `change` then undoes this. With `may_stay`,
-    /// contacts that have the keys of the points stay as they are, and impulses that change have to
-    /// be noted. Otherwise all contacts are made anew, and `change` has those before. The first
-    /// `known` have the keys of the first points, and are not compared. An error leaves the
-    /// contacts as they are, and none in `change`, which is of no use then.
+    /// The points are in the order of their keys. `change` then undoes this. With `may_stay`, and
+    /// if all contacts have the keys of all points, they stay in place, and impulses that change
+    /// have to be noted. Otherwise all contacts are made anew, and `change` has those before. The
+    /// first `known` have the keys of the first points, and are not compared. An error leaves the
+    /// contacts as they are, and no change in `change`.
     #[inline(never)]
     pub fn update(
         &mut self,
@@ -223,19 +223,19 @@ impl Contacts {
         requires touches { AreTouches touches.now }
         requires known { HaveSameFirst known (map (λ c. c.key) self.old) (map key_of touches.now) }
         ensures value { OnOk result (self.new ≡ next_contacts self.old touches.now) }
-        ensures before { OnOk result (contacts_before change.new self.new ≡ self.old) }
+        ensures before { contacts_before change.new self.new ≡ self.old }
+        ensures anew { OnOk result (may_stay ≡ false → change.new.in_place ≡ false) }
         ensures unchanged { OnErr result (self.new ≡ self.old) }
-        ensures gone { OnErr result (change.new ≡ no_contacts_before) }
+        ensures no_change { OnErr result (change.new ≡ no_change) }
         ensures no_memory { touches.now ≡ [] → IsOk result }
     {
-        change.noted.clear();
-        change.before.clear();
+        change.clear();
         let same = same_keys(&self.list, touches, known);
-        change.keeps_keys = may_stay && is_all(same, &self.list, touches);
-        if change.keeps_keys {
+        if may_stay && is_all(same, &self.list, touches) {
             return Ok(());
         }
         change.before.reserve(touches.len())?;
+        change.in_place = false;
         mem::swap(&mut self.list, &mut change.before);
         add_all(&mut self.list, &change.before[..same]);
         add_next(&mut self.list, &change.before[same..], &touches[same..]);
@@ -243,7 +243,8 @@ impl Contacts {
     }
 
     /// Notes in `change` the impulses of the contacts at the places of these rows, so that they may
-    /// change. After an error those of some rows may be noted.
+    /// change. After an error those of some rows may be noted. Where all contacts were made anew
+    /// there is nothing to note.
     pub fn note(&self, rows: &[Row], change: &mut ContactsChange) -> Result<(), AllocError>
         requires { AreRowsAt self.now rows.now }
         ensures noted { OnOk result
@@ -252,8 +253,9 @@ impl Contacts {
             → may_change change.new n ≡ true }
         ensures same { contacts_before change.new self.now ≡ contacts_before change.old self.now }
         ensures no_memory { rows.now ≡ [] → IsOk result }
+        ensures nothing_noted { change.old.in_place ≡ false → IsOk result }
     {
-        if !change.keeps_keys {
+        if !change.in_place {
             return Ok(());
         }
         note_rows(&self.list, &mut change.noted, rows)
@@ -265,7 +267,7 @@ impl Contacts {
     pub fn undo(&mut self, change: ContactsChange)
         ensures { self.new ≡ contacts_before change self.old }
     {
-        if change.keeps_keys {
+        if change.in_place {
             restore_all(&mut self.list, &change.noted);
         } else {
             self.list = change.before;
@@ -278,8 +280,9 @@ impl Contacts {
         ensures value { OnOk result (self.new ≡ contacts_before change.now self.old) }
         ensures unchanged { OnErr result (self.new ≡ self.old) }
         ensures no_memory { contacts_before change.now self.old ≡ [] → IsOk result }
+        ensures nothing_copied { IsTrue change.now.in_place → IsOk result }
     {
-        if change.keeps_keys {
+        if change.in_place {
             restore_all(&mut self.list, &change.noted);
             return Ok(());
         }

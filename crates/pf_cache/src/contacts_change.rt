@@ -27,14 +27,16 @@ impl Model for NotedContact {
 }
 
 /// What a tick changed in the contacts of a world, with which
-/// [`Contacts::undo`](crate::Contacts::undo) restores the contacts before: impulses that some of
-/// them had, where all kept their keys; else all contacts before. Where most bodies sleep, few
+/// [`Contacts::undo`](crate::Contacts::undo) restores the contacts before: the impulses that some
+/// of them had, if all stayed in place; else all contacts before. Where most bodies sleep, few
 /// impulses change in most ticks; no clause says how few.
 #[derive(Debug, Drop)]
 pub struct ContactsChange {
-    pub(crate) keeps_keys: bool,
+    /// Whether the contacts stayed in place, each with its key.
+    pub(crate) in_place: bool,
+    /// Some of the contacts before, if they stayed in place.
     pub(crate) noted: Vec<NotedContact>,
-    /// All contacts before, where they did not keep their keys.
+    /// All contacts before, if they were made anew.
     pub(crate) before: Vec<Contact>,
 }
 
@@ -47,7 +49,7 @@ impl Model for ContactsChange {
     ghost Value = { ContactsChange };
 
     ghost view = { λ c. record {
-      keeps_keys = c.keeps_keys;
+      in_place = c.in_place;
       noted = c.noted.items;
       before = c.before.items;
     } };
@@ -57,17 +59,26 @@ impl Model for ContactsChange {
 
 impl ContactsChange {
     ghost use Rattle.std.specs.Prelude.{◌≡◌};
-    ghost use Rattle.pf_cache.specs.ContactsChange.{no_contacts_before};
+    ghost use Rattle.pf_cache.specs.ContactsChange.{no_change};
 
-    /// A change that undoes to no contacts. Takes no memory.
+    /// No change. Takes no memory.
     pub fn new(alloc: Global) -> ContactsChange
-        ensures { result ≡ no_contacts_before }
+        ensures { result ≡ no_change }
     {
         ContactsChange {
-            keeps_keys: false,
+            in_place: true,
             noted: Vec::new(alloc),
             before: Vec::new(alloc),
         }
+    }
+
+    /// Makes it no change, and keeps its memory.
+    pub fn clear(&mut self)
+        ensures { self.new ≡ no_change }
+    {
+        self.in_place = true;
+        self.noted.clear();
+        self.before.clear();
     }
 }
 

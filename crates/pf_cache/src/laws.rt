@@ -12,7 +12,7 @@ ghost use Rattle.pf_cache.specs.ContactRows.{with_rows};
 ghost use Rattle.pf_cache.specs.ContactsChange.{ContactsChange, contacts_before, has_rank, may_change, noted_or};
 ghost use Rattle.pf_cache.specs.Laws.{AreFoundByKey, IsNew, IsUnmoved};
 ghost use Rattle.pf_cache.specs.Manifolds.{Manifolds, is_reusable, points_of_pair};
-ghost use Rattle.pf_rows.specs.Row.{AreRows, Row, impulses_or, no_mass};
+ghost use Rattle.pf_rows.specs.Row.{AreRows, Row, impulses_or};
 
 use crate::meter::Meter;
 

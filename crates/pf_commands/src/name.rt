@@ -1,6 +1,6 @@
 //! The names of commands.
 
-ghost use Rattle.std.specs.Prelude.{◌≡◌, ◌^◌, ◌<◌};
+ghost use Rattle.std.specs.Prelude.{◌≡◌, ◌<◌};
 
 use pf_shapes::PLAYERS;
 use std::marker::Model;
@@ -33,7 +33,7 @@ impl Model for Name {
 }
 
 impl Name {
-    ghost use Rattle.std.specs.Prelude.{◌≡◌, ◌^◌, ◌<◌};
+    ghost use Rattle.std.specs.Prelude.{◌≡◌, ◌<◌};
     ghost use Rattle.pf_commands.specs.Name.{Name, IsName};
 
     /// The name of a command.

@@ -22,8 +22,8 @@ use Rattle.pf_commands.proofs.Encoding.{encoding_encodes}
 use Rattle.pf_commands.proofs.Frames.{encoded_decodes}
 use Rattle.pf_events.specs.declared.event.Event.{Event}
 use Rattle.pf_events.specs.declared.event.Event.TheVariants.{Issue, Take, Merge, Advance, Settle, Show, Seal}
-use Rattle.pf_console.specs.Digits.{frame_or_error, bytes_or_error, digits_frame}
-use Rattle.pf_console.specs.Grammar.{peer_number, tick_of, body_number, real_of, coordinate_field, event_of, issue_of, push_event, turn_of, stop_of, place_event, take_of, merge_event, advance_of, settle_of, show_of, seal_of}
+use Rattle.pf_console.specs.Digits.{frame_or_error, bytes_or_error, frame_of_digits}
+use Rattle.pf_console.specs.Grammar.{peer_number, tick_of, body_number, real_of, coordinate_field, event_of, issue_of, push_event, turn_event, stop_event, place_event, take_of, merge_event, advance_of, settle_of, show_of, seal_of}
 use Rattle.pf_console.specs.EventEncoding.{payload_fields, event_fields, IsEncodable}
 
 -- ---- numbers
@@ -53,7 +53,7 @@ read_coordinate z small = read_number (neg_ℤ MAX_POSITION) MAX_POSITION z (ome
 
 -- ---- frames
 
-pub read_frame : (c : Command) → IsFrameable c → digits_frame (encode_lower (encoding c)) ≡ Ok (Ok c)
+pub read_frame : (c : Command) → IsFrameable c → frame_of_digits (encode_lower (encoding c)) ≡ Ok (Ok c)
 read_frame c h =
     let spells = encoding_encodes c h in
     ap (λ bytes. frame_or_error (bytes_or_error bytes)) (decode_of-encode_lower (encoding c) spells.are_bytes) ∙ ap Ok (encoded_decodes (encoding c) c spells)
@@ -62,7 +62,7 @@ read_frame c h =
 
 read_issue : (peers peer : ℕ) (payload : Payload) → peers ≤ PLAYERS → peer < peers → IsPayload payload
     → issue_of peers (decimal peer ∷ payload_fields payload) ≡ Ok (Issue peer payload)
-unfolding issue_of push_event turn_of stop_of place_event
+unfolding issue_of push_event turn_event stop_event place_event
 read_issue peers peer (Push body x y) few e h =
     rw (read_peer peers peer few e, read_body body h.body, read_real x h.x, read_real y h.y) refl
 read_issue peers peer (Turn body x) few e h = rw (read_peer peers peer few e, read_body body h.body, read_real x h.x) refl

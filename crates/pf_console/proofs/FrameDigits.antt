@@ -11,7 +11,7 @@ use Rattle.pf_text.specs.declared.fault.LineFault.TheVariants.{BadNumber}
 use Rattle.pf_commands.specs.declared.fault.FrameFault.{FrameFault}
 use Rattle.pf_commands.specs.declared.fault.FrameFault.TheVariants.{Short, Long}
 use Rattle.pf_commands.specs.Frame.{decode}
-use Rattle.pf_console.specs.Digits.{bytes_of, frame_or_error, bytes_or_error, digits_frame}
+use Rattle.pf_console.specs.Digits.{bytes_of, frame_or_error, bytes_or_error, frame_of_digits}
 
 -- ---- one digit
 
@@ -90,19 +90,19 @@ pub ruleset digits_of_bytes = (odd_bytes, all_digits, not_all_digits)
 
 -- ---- frames
 
-pub odd_digits : (digits : List ℕ) → length digits % 2 ≢ 0 → digits_frame digits ≡ Err BadNumber
+pub odd_digits : (digits : List ℕ) → length digits % 2 ≢ 0 → frame_of_digits digits ≡ Err BadNumber
 odd_digits digits odd = let e : (length digits % 2 == 1) ≡ true = grind (arith, nat_tests) in rw e refl
 
-even_digits : (digits : List ℕ) → length digits % 2 ≡ 0 → digits_frame digits ≡ frame_or_error (bytes_or_error (decode_pairs 0 digits))
+even_digits : (digits : List ℕ) → length digits % 2 ≡ 0 → frame_of_digits digits ≡ frame_or_error (bytes_or_error (decode_pairs 0 digits))
 even_digits digits even = let e : (length digits % 2 == 1) ≡ false = grind (arith, nat_tests) in rw e refl
 
-pub no_digits : (digits : List ℕ) → length digits % 2 ≡ 0 → list_all is_ascii_hexdigit digits ≡ false → digits_frame digits ≡ Err BadNumber
+pub no_digits : (digits : List ℕ) → length digits % 2 ≡ 0 → list_all is_ascii_hexdigit digits ≡ false → frame_of_digits digits ≡ Err BadNumber
 no_digits digits even e =
     even_digits digits even ∙ ap (λ bytes. frame_or_error (bytes_or_error bytes)) (others_fail 0 digits even e).1
 
 -- the bytes of digits alone are judged by their number, where that is not 27
 judged_by_length : (digits : List ℕ) (fault : FrameFault) → length digits % 2 ≡ 0 → list_all is_ascii_hexdigit digits ≡ true
-    → ((bytes : List ℕ) → 2 * length bytes ≡ length digits → decode bytes ≡ Err fault) → digits_frame digits ≡ Ok (Err fault)
+    → ((bytes : List ℕ) → 2 * length bytes ≡ length digits → decode bytes ≡ Err fault) → frame_of_digits digits ≡ Ok (Err fault)
 judged_by_length digits fault even e command_or_error =
     let found = digits_decode 0 digits even e in
     even_digits digits even ∙ ap (λ bytes. frame_or_error (bytes_or_error bytes)) found.1 ∙ ap Ok (command_or_error found.0 found.2)
@@ -118,10 +118,10 @@ long_bytes bytes more =
     let f : nat_lt 27 (length bytes) ≡ true = grind (arith, nat_tests) in
     rw (e, f) refl
 
-pub short_digits : (digits : List ℕ) → length digits % 2 ≡ 0 → list_all is_ascii_hexdigit digits ≡ true → length digits < 54 → digits_frame digits ≡ Ok (Err Short)
+pub short_digits : (digits : List ℕ) → length digits % 2 ≡ 0 → list_all is_ascii_hexdigit digits ≡ true → length digits < 54 → frame_of_digits digits ≡ Ok (Err Short)
 short_digits digits even e less = judged_by_length digits Short even e (λ bytes twice. short_bytes bytes (omega (arith, twice)))
 
-pub long_digits : (digits : List ℕ) → length digits % 2 ≡ 0 → list_all is_ascii_hexdigit digits ≡ true → 54 < length digits → digits_frame digits ≡ Ok (Err Long)
+pub long_digits : (digits : List ℕ) → length digits % 2 ≡ 0 → list_all is_ascii_hexdigit digits ≡ true → 54 < length digits → frame_of_digits digits ≡ Ok (Err Long)
 long_digits digits even e more = judged_by_length digits Long even e (λ bytes twice. long_bytes bytes (omega (arith, twice)))
 
 -- what is known of digits of another count than those of a frame

@@ -21,8 +21,8 @@ frame_or_error (Ok bytes) = Ok (decode bytes)
 frame_or_error (Err fault) = Err fault
 
 -- the command that these bytes encode, or why they encode none
-abbrev pub digits_frame : List ℕ → Result (Result Command FrameFault) LineFault
-digits_frame digits = frame_or_error (bytes_of digits)
+abbrev pub frame_of_digits : List ℕ → Result (Result Command FrameFault) LineFault
+frame_of_digits digits = frame_or_error (bytes_of digits)
 
 -- bytes that encode no command
 abbrev pub invalid_frame

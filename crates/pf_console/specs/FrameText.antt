@@ -7,7 +7,7 @@ use Rattle.pf_console.specs.declared.error.DigitsFault.{DigitsFault}
 use Rattle.pf_console.specs.declared.error.DigitsFault.TheVariants.{BadNumber, Refused}
 use Rattle.pf_console.specs.declared.error.ProgramError.{ProgramError}
 use Rattle.pf_console.specs.declared.error.ProgramError.TheVariants.{Frame, Memory, Write}
-use Rattle.pf_console.specs.Digits.{digits_frame}
+use Rattle.pf_console.specs.Digits.{frame_of_digits}
 use Rattle.pf_console.specs.Print.{line_of_command}
 use Rattle.pf_text.specs.Streams.{Written}
 
@@ -21,7 +21,7 @@ digits_result (Err fault) = Err BadNumber
 
 -- the command that digits encode, or why they encode none
 abbrev pub digits_command : List ℕ → Result Command DigitsFault
-digits_command digits = digits_result (digits_frame digits)
+digits_command digits = digits_result (frame_of_digits digits)
 
 -- The line of the digits' command was written; or their error was returned and nothing written.
 -- Memory runs out only for digits that encode a command, and nothing is written then; where the

@@ -17,7 +17,7 @@ use Rattle.pf_console.specs.declared.fields.EventWord.{EventWord}
 use Rattle.pf_console.specs.declared.fields.EventWord.TheVariants as words
 use Rattle.pf_console.specs.declared.fields.Kind.{Kind}
 use Rattle.pf_console.specs.declared.fields.Kind.TheVariants as kinds
-use Rattle.pf_console.specs.Digits.{digits_frame}
+use Rattle.pf_console.specs.Digits.{frame_of_digits}
 
 abbrev pub as_natural : Result ℤ LineFault → Result ℕ LineFault
 as_natural (Ok z) = Ok (unsigned_abs z)
@@ -88,21 +88,21 @@ push_event peers peer (body ∷ x ∷ y ∷ []) = do
 push_event peers peer args = Err BadLine
 
 -- `issue P turn B X`
-unfoldable pub turn_of : ℕ → List ℕ → List (List ℕ) → Result Event LineFault
-turn_of peers peer (body ∷ x ∷ []) = do
+unfoldable pub turn_event : ℕ → List ℕ → List (List ℕ) → Result Event LineFault
+turn_event peers peer (body ∷ x ∷ []) = do
   peer ← peer_number peers peer
   body ← body_number body
   x ← real_of x
   Ok (Issue peer (Turn body x))
-turn_of peers peer args = Err BadLine
+turn_event peers peer args = Err BadLine
 
 -- `issue P stop B`
-unfoldable pub stop_of : ℕ → List ℕ → List (List ℕ) → Result Event LineFault
-stop_of peers peer (body ∷ []) = do
+unfoldable pub stop_event : ℕ → List ℕ → List (List ℕ) → Result Event LineFault
+stop_event peers peer (body ∷ []) = do
   peer ← peer_number peers peer
   body ← body_number body
   Ok (Issue peer (Stop body))
-stop_of peers peer args = Err BadLine
+stop_event peers peer args = Err BadLine
 
 -- `issue P place B X Y`
 unfoldable pub place_event : ℕ → List ℕ → List (List ℕ) → Result Event LineFault
@@ -115,8 +115,8 @@ place_event peers peer args = Err BadLine
 
 abbrev pub issue_by_kind : ℕ → Option Kind → List ℕ → List (List ℕ) → Result Event LineFault
 issue_by_kind peers (Some kinds.Push) peer args = push_event peers peer args
-issue_by_kind peers (Some kinds.Turn) peer args = turn_of peers peer args
-issue_by_kind peers (Some kinds.Stop) peer args = stop_of peers peer args
+issue_by_kind peers (Some kinds.Turn) peer args = turn_event peers peer args
+issue_by_kind peers (Some kinds.Stop) peer args = stop_event peers peer args
 issue_by_kind peers (Some kinds.Place) peer args = place_event peers peer args
 issue_by_kind peers None peer args = Err BadLine
 
@@ -129,7 +129,7 @@ issue_of peers args = Err BadLine
 unfoldable pub take_of : ℕ → List (List ℕ) → Result Event LineFault
 take_of peers (peer ∷ digits ∷ []) = do
   peer ← peer_number peers peer
-  decoded ← digits_frame digits
+  decoded ← frame_of_digits digits
   Ok (Take peer decoded)
 take_of peers args = Err BadLine
 

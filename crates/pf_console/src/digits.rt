@@ -3,7 +3,7 @@
 ghost use Rattle.std.specs.Prelude.{◌≡◌, ◌≢◌, length, is_ok, IfOk, IsOk, Ok};
 ghost use Rattle.std.specs.Char.{is_ascii_hexdigit};
 ghost use Rattle.std.specs.List.{list_all};
-ghost use Rattle.pf_console.specs.Digits.{bytes_of, digits_frame, invalid_frame};
+ghost use Rattle.pf_console.specs.Digits.{bytes_of, frame_of_digits, invalid_frame};
 
 use pf_commands::{Command, FRAME_LEN, FrameFault, decode};
 use pf_text::LineFault;
@@ -15,7 +15,7 @@ const FRAME_DIGITS: usize = 2 * FRAME_LEN;
 /// The command that digits of either case encode, two a byte, or why they encode none. Digits that
 /// are no bytes are a bad number. Takes no memory, however many they are.
 pub fn frame(digits: &[u8]) -> Result<Result<Command, FrameFault>, LineFault>
-    ensures { result ≡ digits_frame digits.now }
+    ensures { result ≡ frame_of_digits digits.now }
 {
     if digits.len() != FRAME_DIGITS {
         return Ok(Err(fault_of_length(digits)?));
@@ -38,7 +38,7 @@ fn are_digits(bytes: &[u8]) -> bool
 #[tactic(auto, using(crate::proofs::FrameDigits::other_counts))]
 fn fault_of_length(digits: &[u8]) -> Result<FrameFault, LineFault>
     requires { length digits.now ≢ FRAME_DIGITS }
-    ensures { digits_frame digits.now ≡ invalid_frame result }
+    ensures { frame_of_digits digits.now ≡ invalid_frame result }
 {
     if digits.len() % 2 != 0 {
         return Err(LineFault::BadNumber);

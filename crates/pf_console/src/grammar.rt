@@ -2,7 +2,7 @@
 
 ghost use Rattle.std.specs.Prelude.{◌≡◌, map, IfOk};
 ghost use Rattle.pf_events.specs.Session.{IsAmong};
-ghost use Rattle.pf_console.specs.Grammar.{push_event, turn_of, stop_of, place_event, issue_of, take_of, merge_event, advance_of, settle_of, show_of, event_of, seal_of};
+ghost use Rattle.pf_console.specs.Grammar.{push_event, turn_event, stop_event, place_event, issue_of, take_of, merge_event, advance_of, settle_of, show_of, event_of, seal_of};
 
 use crate::digits::frame;
 use crate::fields::{EventWord, Kind, body, impulse, kind_in, peer, position, real, tick, word};
@@ -28,9 +28,9 @@ fn push(peers: u8, of: &[u8], arguments: &[&[u8]]) -> Result<Event, LineFault>
 }
 
 /// `issue P turn B X`.
-#[tactic(auto, unfolding(crate::specs::Grammar::turn_of))]
+#[tactic(auto, unfolding(crate::specs::Grammar::turn_event))]
 fn turn(peers: u8, of: &[u8], arguments: &[&[u8]]) -> Result<Event, LineFault>
-    ensures value { result ≡ turn_of peers of.now (map (λ field. field.now) arguments.now) }
+    ensures value { result ≡ turn_event peers of.now (map (λ field. field.now) arguments.now) }
     ensures peer { IfOk result (IsAmong peers) }
 {
     let [moved, x] = arguments else {
@@ -44,9 +44,9 @@ fn turn(peers: u8, of: &[u8], arguments: &[&[u8]]) -> Result<Event, LineFault>
 }
 
 /// `issue P stop B`.
-#[tactic(auto, unfolding(crate::specs::Grammar::stop_of))]
+#[tactic(auto, unfolding(crate::specs::Grammar::stop_event))]
 fn stop(peers: u8, of: &[u8], arguments: &[&[u8]]) -> Result<Event, LineFault>
-    ensures value { result ≡ stop_of peers of.now (map (λ field. field.now) arguments.now) }
+    ensures value { result ≡ stop_event peers of.now (map (λ field. field.now) arguments.now) }
     ensures peer { IfOk result (IsAmong peers) }
 {
     let [moved] = arguments else {

@@ -15,7 +15,7 @@ ghost use Rattle.pf_events.specs.Session as peers;
 ghost use Rattle.pf_console.specs.declared.error.ProgramError.{ProgramError};
 ghost use Rattle.pf_console.specs.declared.error.ProgramError.TheVariants.{Session};
 ghost use Rattle.pf_console.specs.declared.phase.Phase.TheVariants.{Playing};
-ghost use Rattle.pf_console.specs.Digits.{digits_frame};
+ghost use Rattle.pf_console.specs.Digits.{frame_of_digits};
 ghost use Rattle.pf_console.specs.EventEncoding.{event_line, IsEncodable};
 ghost use Rattle.pf_console.specs.Laws.{AreLinesOf, IsLineOf, NothingFailed, session_output};
 ghost use Rattle.pf_console.specs.Run.{text_rules};
@@ -91,7 +91,7 @@ pub fn texts_show_sessions()
 /// The digits of a command's frame, as `issue` prints them, parse as the command.
 pub fn printed_frames_are_parsed()
     ensures { (c : Command) → IsFrameable c
-        → digits_frame (encode_lower (encoding c)) ≡ Ok (Ok c) }
+        → frame_of_digits (encode_lower (encoding c)) ≡ Ok (Ok c) }
 {}
 
 /// How many peers a text may have.

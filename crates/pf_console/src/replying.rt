@@ -1,9 +1,8 @@
 //! The session that the events of a run are played on.
 
-ghost use Rattle.std.specs.Prelude.{Ok, length, map};
+ghost use Rattle.std.specs.Prelude.{Ok, length};
 ghost use Rattle.pf_text.specs.Driver.{Produces};
 ghost use Rattle.pf_events.specs.Session.{IsAmong};
-ghost use Rattle.pf_console.specs.Grammar.{event_of};
 ghost use Rattle.pf_console.specs.Run.{after_event, run_play};
 
 use crate::grammar::event;

@@ -1,6 +1,6 @@
 //! A text of a scene and scripts, played by peers in threads.
 
-ghost use Rattle.std.specs.Prelude.{◌≡◌, ◌≢◌, ◌+◌, ◌^◌, ◌<◌, ◌≤◌, Err, IfSome};
+ghost use Rattle.std.specs.Prelude.{◌≢◌, ◌+◌, ◌^◌, ◌<◌, ◌≤◌, Err, IfSome};
 ghost use Rattle.pf_pool.specs.declared.pool.TheConstants.{MAX_WORKERS};
 ghost use Rattle.pf_text.specs.Streams.{IfExposed};
 ghost use Rattle.pf_step.specs.declared.crew.CrewError.{CrewError};

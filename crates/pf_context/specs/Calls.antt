@@ -1,5 +1,5 @@
 -- What a call does through a context: the call of one peer or of one scene, and nothing else.
-use Rattle.std.specs.Prelude.{◌≡◌, ◌-◌, ◌&&◌, ◌⊎◌, ℕ, IfErr, IfOk, IsOk, List, MatchOption, OnErr, Option, None, Some, Result, Ok, Err, if◌then◌else◌, length, nat_le, nat_lt}
+use Rattle.std.specs.Prelude.{◌≡◌, ◌&&◌, ◌⊎◌, ℕ, IfErr, IfOk, IsOk, List, MatchOption, OnErr, Option, None, Some, Result, Ok, Err, if◌then◌else◌, length, nat_le, nat_lt}
 use Rattle.pf_context.specs.declared.key.Key.{Key}
 use Rattle.pf_context.specs.declared.table.Slot.{Slot}
 use Rattle.pf_context.specs.Table.{IsFull, IsNextKey}

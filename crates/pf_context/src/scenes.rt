@@ -36,7 +36,6 @@ fn push(
 impl Context {
     ghost use Rattle.std.specs.Prelude.{◌≡◌, ◌↔◌, IsErrOf, None, length};
     ghost use Rattle.pf_shapes.specs.Numbers.{checked_body};
-    ghost use Rattle.pf_shapes.specs.Scene.{empty_scene};
     ghost use Rattle.pf_context.specs.Context.{scene_at, without_scene};
     ghost use Rattle.pf_context.specs.Errors.{shown};
     ghost use Rattle.pf_context.specs.Calls.{AddsRead, AddsScene, CallsScene, Frees, Pushes};

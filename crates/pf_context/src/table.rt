@@ -1,6 +1,6 @@
 //! The table, and the calls that look a key up.
 
-ghost use Rattle.std.specs.Prelude.{◌≡◌, ◌+◌, ◌^◌, ◌<◌, ◌↔◌, [], ℕ, IfErr, IfNone, IfOk, IfSome, IsErrAnd, IsErrOf, IsOk, IsSome, OnErr, OnOk, OnSome, length, option_copied};
+ghost use Rattle.std.specs.Prelude.{◌≡◌, ◌+◌, ◌^◌, ◌<◌, ◌↔◌, [], IfErr, IfNone, IfOk, IfSome, IsErrAnd, IsErrOf, IsOk, IsSome, OnErr, OnSome, length, option_copied};
 ghost use Rattle.std.specs.Option.{option_copied_mut};
 ghost use Rattle.std.specs.Borrow.{Lends, sem};
 ghost use Rattle.pf_context.specs.Table.{HasFree, IsFirstFree, slot_at};

@@ -1,7 +1,7 @@
 //! The worlds of peers, written into buffers of a caller.
 
 ghost use Rattle.std.specs.Prelude.{◌≡◌, ◌≢◌, Ok};
-ghost use Rattle.pf_context.specs.Worlds.{WritesWorld, sizes_of};
+ghost use Rattle.pf_context.specs.Worlds.{WritesWorld};
 
 use crate::context::Context;
 use crate::error::ContextError;

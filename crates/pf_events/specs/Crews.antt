@@ -21,10 +21,10 @@ pub record IsCoreAt (s : Session) (i : ℕ) (core : PeerCore) : Type 0 where
   pub scene : core.scene ≡ s.scene
   pub peer : core.peer ≡ peer_in s i
 
--- What an event does to the crew, which is `first` before it and `last` after it. A settle calls it
--- once for each tick that the core of the event's peer misses, with the islands of that tick, and
--- fails where a call fails. Any other event leaves the crew as it was, and fails only where there
--- is no memory. `IsCore` tells which core it is.
+-- What an event does to the crew, which is `first` before it and `last` after it. For a settle,
+-- what the crew says of a call with the islands of a tick holds for each tick that the core of the
+-- event's peer misses, one after the other; it fails where a call fails. Any other event leaves the
+-- crew as it was, and fails only where there is no memory. `IsCore` tells which core it is.
 abbrev pub UsesCrew : {A : Type 0} → (A → List Island → A → Type 0)
     → (A → List Island → CrewError → A → Type 0) → (PeerCore → Type 0) → Event
     → A → Result Reply StepError → A → Type 0

@@ -13,7 +13,7 @@ use Rattle.pf_rows.specs.Row.{Row}
 use Rattle.pf_islands.specs.Dealing.{group_of_row}
 use Rattle.pf_islands.specs.Flags.{awake_numbers}
 use Rattle.pf_islands.specs.Island.{has_number, group_members, row_among, rows_among, states_of, touches_one}
-use Rattle.pf_islands.specs.Lone.{is_touched, only_awake}
+use Rattle.pf_islands.specs.Lone.{has_any, is_touched, only_awake}
 use Rattle.pf_islands.specs.Rows.{is_awake_at}
 use Rattle.pf_islands.specs.Split.{AreWoken, IsActiveRow, Island, active_labels, is_active_label, island_of, islands}
 use Rattle.pf_cache.proofs.ChosenNumbers.{chosen_pass, range_within}
@@ -66,6 +66,10 @@ map_same f g [] all = refl
 map_same f g (x ∷ xs) all =
     ap₂ (λ y ys. y ∷ ys) (All-head (λ z. f z ≡ g z) x xs all) (map_same f g xs (All-tail (λ z. f z ≡ g z) x xs all))
 
+has_any_is : (rows : List Row) → has_any rows ≡ list_any (λ r. true) rows
+has_any_is [] = refl
+has_any_is (r ∷ rows) = refl
+
 -- ---- the islands of groups with contacts
 
 module _ (labels : List ℕ) (bodies : List BodyState) (rows : List Row)
@@ -79,7 +83,8 @@ module _ (labels : List ℕ) (bodies : List BodyState) (rows : List Row)
   -- the island of a group has a contact where a contact is of the group
   pub touched_named : (label : ℕ) → is_touched (island_named label) ≡ has_rows label
   touched_named label =
-      any_chosen (touches_one (group_members labels label)) (row_among (group_members labels label)) rows
+      has_any_is (island_named label).rows
+      ∙ any_chosen (touches_one (group_members labels label)) (row_among (group_members labels label)) rows
       ∙ any_same (touches_one (group_members labels label)) (λ r. group_of_row labels r == label) rows
       (All-weaker (IsActiveRow labels bodies)
       (λ r. touches_one (group_members labels label) r ≡ (group_of_row labels r == label))

@@ -11,5 +11,6 @@ pub mod Split
 pub mod Settled
 pub mod Dealing
 pub mod Lone
+pub mod Splitting
 pub mod Join
 pub mod Laws

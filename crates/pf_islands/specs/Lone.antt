@@ -1,10 +1,11 @@
 -- Bodies that no contact touches: their islands have no contacts, so a tick may leave these islands
 -- out and advance the bodies by themselves.
-use Rattle.std.specs.Prelude.{ℕ, ◌==◌, Bool, true, not, List, filter, map}
-use Rattle.std.specs.List.{enumerate_from, flat_map, list_any}
+use Rattle.std.specs.Prelude.{ℕ, ◌==◌, Bool, true, false, not, List, [], ◌∷◌, filter, map}
+use Rattle.std.specs.List.{enumerate_from, flat_map}
 use Rattle.pf_shapes.specs.Body.{BodyState}
 use Rattle.pf_shapes.specs.Scene.{Scene}
 use Rattle.pf_manifold.specs.Touches.{Touch}
+use Rattle.pf_rows.specs.Row.{Row}
 use Rattle.pf_islands.specs.declared.splitting.LoneBodies.{LoneBodies}
 use Rattle.pf_islands.specs.declared.splitting.LoneBodies.TheVariants.{AreIslands, AreListed}
 use Rattle.pf_islands.specs.Dealing.{group_of_sides}
@@ -12,20 +13,24 @@ use Rattle.pf_islands.specs.Island.{has_number}
 use Rattle.pf_islands.specs.Rows.{side_of}
 use Rattle.pf_islands.specs.Split.{Island}
 
--- an island has a contact
+abbrev pub has_any : List Row → Bool
+has_any [] = false
+has_any (r ∷ rows) = true
+
+-- whether an island has a contact
 abbrev pub is_touched : Island → Bool
-is_touched i = list_any (λ r. true) i.rows
+is_touched i = has_any i.rows
 
 -- whether an island is made
 abbrev pub is_made : LoneBodies → Island → Bool
 is_made AreIslands i = true
 is_made AreListed i = is_touched i
 
--- those of a tick's islands that are made
+-- the islands that are made, of all islands of a tick
 abbrev pub made_islands : LoneBodies → List Island → List Island
 made_islands lone islands = filter (is_made lone) islands
 
--- and the bodies of the others
+-- the bodies of the other islands
 abbrev pub lone_bodies : LoneBodies → List Island → List ℕ
 lone_bodies lone islands = flat_map (λ i. i.numbers) (filter (λ i. not (is_made lone i)) islands)
 
@@ -33,12 +38,12 @@ lone_bodies lone islands = flat_map (λ i. i.numbers) (filter (λ i. not (is_mad
 abbrev pub group_of_touch : Scene → List ℕ → Touch → ℕ
 group_of_touch s labels t = group_of_sides labels (side_of s t.a) (side_of s t.b)
 
--- the bodies of a group with so many contacts go into an island
+-- whether the bodies of a group with so many contacts go into an island
 abbrev pub is_dealt : LoneBodies → ℕ → Bool
 is_dealt AreIslands count = true
 is_dealt AreListed count = not (count == 0)
 
--- the bodies, of which those with these numbers alone are awake
+-- these bodies, where only those with these numbers are awake
 abbrev pub only_awake : List ℕ → List BodyState → List BodyState
 only_awake numbers bodies =
     map (λ m. record m.1 { awake = has_number numbers m.0 }) (enumerate_from 0 bodies)

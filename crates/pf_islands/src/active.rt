@@ -1,7 +1,7 @@
 //! What is simulated in a tick: which bodies and contacts, whether a contact wakes a body, and on
 //! which side of a row each body stands for the solver.
 
-ghost use Rattle.std.specs.Prelude.{◌≡◌, ◌+◌, ◌^◌, ◌<◌, ◌≤◌, ◌++◌, [], true, All, length, map, vec_capacity, vec_len, IfOk, IsOk, IsTrue};
+ghost use Rattle.std.specs.Prelude.{◌≡◌, ◌+◌, ◌^◌, ◌<◌, ◌≤◌, ◌++◌, [], true, All, length, map, vec_capacity, vec_len, IfOk, IsOk};
 ghost use Rattle.std.specs.List.{list_all, range_with_len};
 ghost use Rattle.pf_shapes.specs.Pair.{IsPairOf};
 ghost use Rattle.pf_manifold.specs.Touches.{IsTouchOf};

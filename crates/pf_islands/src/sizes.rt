@@ -1,5 +1,5 @@
-//! How many contacts the groups of a tick have: which of them have any, and so that the memory of
-//! each island is reserved once.
+//! How many contacts each group of a tick has: whether it has any, and how much memory its island
+//! reserves.
 
 ghost use Rattle.std.specs.Prelude.{◌≡◌, ◌<◌, ◌==◌, not, All, IfOk, IsOk, ℕ, length, slice_index_or};
 ghost use Rattle.std.specs.List.{list_any};
@@ -15,7 +15,7 @@ use std::alloc::{AllocError, Global};
 /// A list of so many zeros. They are small, since all are written in each tick: those of 1,000
 /// bodies take 2 KB.
 pub fn zeros(alloc: Global, len: usize) -> Result<Vec<u16>, AllocError>
-    ensures value { IfOk result (λ made. length made.items ≡ len) }
+    ensures as_many { IfOk result (λ made. length made.items ≡ len) }
     ensures zero { IfOk result (λ made. All (λ number. number ≡ 0) made.items) }
     ensures no_memory { len ≡ 0 → IsOk result }
 {
@@ -48,10 +48,10 @@ fn count_rows(
     }
 }
 
-/// How many contacts the island of each group has, by label. It has one body more at most, since
-/// contacts connect its bodies. Contracts say for which groups the number is 0, and memory depends
-/// on the others: more than 65,535 contacts count as so many. `places` are those of the contacts
-/// that are simulated.
+/// How many contacts each group has, at its label; more than 65,535 count as so many. `places` are
+/// those of the contacts that are simulated. The clauses say for which groups the number is 0. The
+/// others only reserve memory: contacts connect the bodies of a group, so that it has at most one
+/// body more than contacts.
 pub fn row_counts(
     alloc: Global,
     scene: &Scene,
@@ -63,7 +63,7 @@ pub fn row_counts(
     requires labelled { All (λ label. label < length labels.now) labels.now }
     requires touches { All (IsTouchOf (length labels.now)) touches.now }
     requires places { All (λ place. place < length touches.now) places.now }
-    ensures value { IfOk result (λ rows. length rows.items ≡ length labels.now) }
+    ensures as_many { IfOk result (λ rows. length rows.items ≡ length labels.now) }
     ensures none { IfOk result (λ rows. (label : ℕ) → label < length labels.now
         → (slice_index_or rows.items label 0 == 0)
         ≡ not (list_any (λ t. group_of_touch scene.now labels.now t == label)

@@ -1,23 +1,22 @@
 //! The islands of a tick.
 
-ghost use Rattle.std.specs.Prelude.{◌≡◌, ◌<◌, ◌≤◌, ◌==◌, ◌+◌, ◌++◌, ◌∷◌, ◌&&◌, [], true, false, not, ℕ, All, IfOk, IsOk, OnOk, filter, length, map, slice_index_or, slice_set, take};
-ghost use Rattle.std.specs.List.{range_with_len};
+ghost use Rattle.std.specs.Prelude.{◌≡◌, ◌<◌, ◌≤◌, ◌==◌, ◌+◌, ◌++◌, ◌∷◌, [], true, not, ℕ, All, IfOk, IsOk, OnOk, filter, length, map, slice_index_or, slice_set, take};
 ghost use Rattle.pf_shapes.specs.Body.{no_state};
 ghost use Rattle.pf_shapes.specs.declared.scene.TheConstants.{MAX_BODIES};
 ghost use Rattle.pf_rows.specs.Row.{IsSide, new_row};
-ghost use Rattle.pf_manifold.specs.Key.{IsRising};
 ghost use Rattle.pf_manifold.specs.Touches.{IsTouchOf};
 ghost use Rattle.pf_cache.specs.Manifolds.{kept_touches};
 ghost use Rattle.pf_cache.specs.Spans.{AreListedPlaces};
 ghost use Rattle.pf_islands.specs.Group.{groups as groups_of};
 ghost use Rattle.pf_islands.specs.Island.{group_members};
-ghost use Rattle.pf_islands.specs.Lone.{is_dealt, lone_bodies, made_islands, only_awake};
-ghost use Rattle.pf_islands.specs.Rows.{active_rows, is_awake_at, row_of};
+ghost use Rattle.pf_islands.specs.Lone.{is_dealt, lone_bodies, only_awake};
+ghost use Rattle.pf_islands.specs.Rows.{is_awake_at, row_of};
 ghost use Rattle.pf_islands.specs.Flags.{ListsAwake, awake_numbers};
 ghost use Rattle.pf_islands.specs.Settled.{AreSettled, active_places, touches_at};
 ghost use Rattle.pf_islands.specs.Sleep.{woken_bodies};
-ghost use Rattle.pf_islands.specs.Split.{AreWoken, IsIslandOf, active_labels, is_active_label, island_of, islands, no_island};
-ghost use Rattle.pf_islands.specs.Dealing.{ArePlaces, AreSlots, HasIsland, group_of_row, group_of_sides, placed_row, placed_side, slot_of, with_island_body, with_row};
+ghost use Rattle.pf_islands.specs.Splitting.{AreParts, group_islands, woken_islands};
+ghost use Rattle.pf_islands.specs.Split.{AreWoken, IsIslandOf, active_labels, island_of, islands, no_island};
+ghost use Rattle.pf_islands.specs.Dealing.{ArePlaces, AreSlots, HasIsland, group_of_row, group_of_sides, placed_row, placed_side, with_island_body, with_row};
 
 use crate::active::{Active, active_of, side_of, wake_none};
 use crate::awake::AwakeSearch;
@@ -55,7 +54,7 @@ fn clear_at(
 /// An empty island for each group that becomes one, in the order of their labels, made in the
 /// memory of the spare islands. `rows` holds at each label the number of its contacts; it is
 /// returned with the place of its island there instead. `numbers` are those of the bodies of these
-/// groups; contracts see all other bodies as asleep.
+/// groups; in the clauses all other bodies count as asleep.
 fn empty_islands(
     alloc: Global,
     spare: Vec<Island>,
@@ -65,7 +64,7 @@ fn empty_islands(
     rows: Vec<u16>,
 ) -> Result<(Vec<Island>, Vec<u16>), AllocError>
     requires few { length labels.now ≤ MAX_BODIES }
-    requires seen { length (only_awake numbers.now bodies.now) ≡ length labels.now }
+    requires as_many_bodies { length (only_awake numbers.now bodies.now) ≡ length labels.now }
     requires numbers { numbers.now ≡ awake_numbers (only_awake numbers.now bodies.now) }
     requires rows { length rows.items ≡ length labels.now }
     ensures islands { IfOk result
@@ -122,8 +121,8 @@ fn add_row(islands: &mut [Island], slot: usize, entry: Entry) -> Result<(), Allo
     island.add_row(entry)
 }
 
-/// Adds each body of these numbers to the island of its group, and notes its place there. Contracts
-/// see all other bodies as asleep.
+/// Adds each body of these numbers to the island of its group, and notes its place there. In the
+/// clauses all other bodies count as asleep.
 fn deal_bodies(
     islands: &mut [Island],
     places: &mut [u16],
@@ -134,7 +133,7 @@ fn deal_bodies(
 ) -> Result<(), AllocError>
     requires few { length labels.now ≤ MAX_BODIES }
     requires bodies { length bodies.now ≡ length labels.now }
-    requires seen { length (only_awake numbers.now bodies.now) ≡ length labels.now }
+    requires as_many_bodies { length (only_awake numbers.now bodies.now) ≡ length labels.now }
     requires states { (k : ℕ) → is_awake_at (only_awake numbers.now bodies.now) k ≡ true
         → slice_index_or bodies.now k no_state
         ≡ slice_index_or (only_awake numbers.now bodies.now) k no_state }
@@ -231,7 +230,7 @@ pub struct Parts {
     /// The islands, in the order of their least bodies.
     pub islands: Vec<Island>,
     /// The awake bodies that are in none of them, in ascending order.
-    pub alone: Vec<usize>,
+    pub lone_bodies: Vec<usize>,
 }
 
 /// Whether the bodies of a group with so many contacts go into an island.
@@ -247,7 +246,7 @@ fn is_dealt(lone: LoneBodies, count: u16) -> bool
 
 /// The numbers of awake bodies in two lists: of those that go into islands, and of the others.
 /// `rows` holds at each label the number of contacts of the group.
-fn part(
+fn parted_numbers(
     alloc: Global,
     labels: &[usize],
     numbers: &[usize],
@@ -260,27 +259,27 @@ fn part(
     ensures dealt { IfOk result (λ parts. parts.0.items
         ≡ filter (λ n. is_dealt lone (slice_index_or rows.now (slice_index_or labels.now n 0) 0))
         numbers.now) }
-    ensures alone { IfOk result (λ parts. parts.1.items
+    ensures lone_bodies { IfOk result (λ parts. parts.1.items
         ≡ filter
         (λ n. not (is_dealt lone (slice_index_or rows.now (slice_index_or labels.now n 0) 0)))
         numbers.now) }
     ensures no_memory { length numbers.now ≡ 0 → IsOk result }
 {
     let mut dealt = Vec::with_capacity(alloc, numbers.len())?;
-    let mut alone = Vec::with_capacity(alloc, numbers.len())?;
+    let mut lone_bodies = Vec::with_capacity(alloc, numbers.len())?;
     for number in numbers {
         if is_dealt(lone, rows[labels[*number]]) {
             dealt.push_reserved(*number);
         } else {
-            alone.push_reserved(*number);
+            lone_bodies.push_reserved(*number);
         }
     }
-    Ok((dealt, alone))
+    Ok((dealt, lone_bodies))
 }
 
 /// The islands of the groups of the bodies of these numbers, made in the memory of the spare
-/// islands. Contracts see all other bodies as asleep. `rows` holds at each label the number of
-/// contacts of the group, and `places` are those of the contacts.
+/// islands. In the clauses all other bodies count as asleep. `rows` holds at each label the number
+/// of contacts of the group, and `places` are those of the contacts.
 fn deal(
     alloc: Global,
     spare: Vec<Island>,
@@ -295,7 +294,7 @@ fn deal(
 ) -> Result<Vec<Island>, AllocError>
     requires few { length labels.now ≤ MAX_BODIES }
     requires bodies { length bodies.now ≡ length scene.now.fixtures }
-    requires seen { length (only_awake numbers.now bodies.now) ≡ length scene.now.fixtures }
+    requires as_many_bodies { length (only_awake numbers.now bodies.now) ≡ length scene.now.fixtures }
     requires states { (k : ℕ) → is_awake_at (only_awake numbers.now bodies.now) k ≡ true
         → slice_index_or bodies.now k no_state
         ≡ slice_index_or (only_awake numbers.now bodies.now) k no_state }
@@ -309,20 +308,26 @@ fn deal(
     requires within { All (λ place. place < length touches.now) places.now }
     requires rows { length rows.items ≡ length labels.now }
     ensures value { IfOk result (λ found. found.items
-        ≡ islands (groups_of scene.now touches.now) (only_awake numbers.now bodies.now)
-        (active_rows scene.now (only_awake numbers.now bodies.now) touches.now contacts.now)) }
+        ≡ group_islands scene.now (only_awake numbers.now bodies.now) touches.now contacts.now) }
     ensures fit { IfOk result (λ found. All (IsIslandOf scene.now) found.items) }
     ensures no_memory { (only_awake numbers.now bodies.now) ≡ [] → touches.now ≡ [] → IsOk result }
 {
     let (mut made, slots) = empty_islands(alloc, spare, labels, bodies, numbers, rows)?;
-    let mut seats = zeros(alloc, labels.len())?;
-    deal_bodies(&mut made, &mut seats, &slots, labels, numbers, bodies)?;
+    let mut body_places = zeros(alloc, labels.len())?;
+    deal_bodies(&mut made, &mut body_places, &slots, labels, numbers, bodies)?;
     for place in places {
         let place = *place;
         let touch = &touches[place];
         let contact = &contacts[place];
         deal_row(
-            &mut made, &slots, &seats, labels, scene, place, touch, contact,
+            &mut made,
+            &slots,
+            &body_places,
+            labels,
+            scene,
+            place,
+            touch,
+            contact,
         )?;
     }
     Ok(made)
@@ -347,16 +352,8 @@ fn split_settled(
     requires numbers { active.now.numbers.items ≡ awake_numbers bodies.now }
     requires active { active.now.places.items ≡ active_places scene.now bodies.now touches.now }
     requires within { All (λ place. place < length touches.now) active.now.places.items }
-    ensures islands { IfOk result (λ found. found.islands.items
-        ≡ made_islands lone (islands (groups_of scene.now touches.now) bodies.now
-        (active_rows scene.now bodies.now touches.now contacts.now))) }
-    ensures alone { IfOk result (λ found. found.alone.items
-        ≡ lone_bodies lone (islands (groups_of scene.now touches.now) bodies.now
-        (active_rows scene.now bodies.now touches.now contacts.now))) }
-    ensures fit { IfOk result (λ found. All (IsIslandOf scene.now) found.islands.items) }
-    ensures order { IfOk result (λ found. IsRising 0 found.alone.items) }
-    ensures there { IfOk result
-        (λ found. All (λ number. number < length bodies.now) found.alone.items) }
+    ensures parts { IfOk result (AreParts scene.now bodies.now lone
+        (group_islands scene.now bodies.now touches.now contacts.now)) }
     ensures no_memory { bodies.now ≡ [] → touches.now ≡ [] → IsOk result }
 {
     let places = active.places.as_slice();
@@ -364,11 +361,14 @@ fn split_settled(
     let groups = Groups::new(alloc, scene, touches, places, numbers)?;
     let labels = groups.labels();
     let rows = row_counts(alloc, scene, labels, touches, places)?;
-    let (dealt, alone) = part(alloc, labels, numbers, &rows, lone)?;
+    let (dealt, lone_bodies) = parted_numbers(alloc, labels, numbers, &rows, lone)?;
     let islands = deal(
         alloc, spare, scene, bodies, touches, contacts, labels, places, &dealt, rows,
     )?;
-    Ok(Parts { islands, alone })
+    Ok(Parts {
+        islands,
+        lone_bodies,
+    })
 }
 
 /// The phase Activity where a contact wakes a body: the bodies, where those of each group that has
@@ -416,20 +416,8 @@ pub fn split(
     requires bodies { length bodies.now ≡ length scene.now.fixtures }
     requires touches { All (IsTouchOf (length bodies.now)) (kept_touches manifolds.now) }
     requires contacts { length contacts.now ≡ length (kept_touches manifolds.now) }
-    ensures islands { let touches = kept_touches manifolds.now in
-        let woken = woken_bodies (groups_of scene.now touches) bodies.now in
-        IfOk result (λ found. found.islands.items
-        ≡ made_islands lone (islands (groups_of scene.now touches) woken
-        (active_rows scene.now woken touches contacts.now))) }
-    ensures alone { let touches = kept_touches manifolds.now in
-        let woken = woken_bodies (groups_of scene.now touches) bodies.now in
-        IfOk result (λ found. found.alone.items
-        ≡ lone_bodies lone (islands (groups_of scene.now touches) woken
-        (active_rows scene.now woken touches contacts.now))) }
-    ensures fit { IfOk result (λ found. All (IsIslandOf scene.now) found.islands.items) }
-    ensures order { IfOk result (λ found. IsRising 0 found.alone.items) }
-    ensures there { IfOk result
-        (λ found. All (λ number. number < length bodies.now) found.alone.items) }
+    ensures { IfOk result (AreParts scene.now bodies.now lone
+        (woken_islands scene.now bodies.now (kept_touches manifolds.now) contacts.now)) }
 {
     let touches = manifolds.touches();
     let spans = manifolds.spans();
@@ -468,20 +456,8 @@ pub fn wake_and_split(
     requires awake { ListsAwake search.now.bodies.now bodies.now }
     requires places { AreListedPlaces search.now.bodies.now manifolds.now.pairs
         search.now.pair_places.now }
-    ensures islands { let touches = kept_touches manifolds.now in
-        let woken = woken_bodies (groups_of scene.now touches) bodies.now in
-        IfOk result (λ found. found.islands.items
-        ≡ made_islands lone (islands (groups_of scene.now touches) woken
-        (active_rows scene.now woken touches contacts.now))) }
-    ensures alone { let touches = kept_touches manifolds.now in
-        let woken = woken_bodies (groups_of scene.now touches) bodies.now in
-        IfOk result (λ found. found.alone.items
-        ≡ lone_bodies lone (islands (groups_of scene.now touches) woken
-        (active_rows scene.now woken touches contacts.now))) }
-    ensures fit { IfOk result (λ found. All (IsIslandOf scene.now) found.islands.items) }
-    ensures order { IfOk result (λ found. IsRising 0 found.alone.items) }
-    ensures there { IfOk result
-        (λ found. All (λ number. number < length bodies.now) found.alone.items) }
+    ensures parts { IfOk result (AreParts scene.now bodies.now lone
+        (woken_islands scene.now bodies.now (kept_touches manifolds.now) contacts.now)) }
     ensures no_memory { bodies.now ≡ [] → kept_touches manifolds.now ≡ [] → IsOk result }
 {
     let touches = manifolds.touches();

@@ -7,7 +7,7 @@ use Rattle.pf_lanes.specs.Lanes.{Lane, Lanes, number_in}
 abbrev pub shift : ℤ
 shift = pos (3 * 2 ^ 51)
 
--- numbers with it, and sums without it
+-- lanes with it added to each number
 abbrev pub shifted : Lanes → Lanes
 shifted a = record {
   first = a.first +ℤ shift;
@@ -16,6 +16,7 @@ shifted a = record {
   fourth = a.fourth +ℤ shift;
 }
 
+-- and with it taken away again
 abbrev pub unshifted : Lanes → Lanes
 unshifted a = record {
   first = a.first -ℤ shift;

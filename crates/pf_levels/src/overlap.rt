@@ -1,10 +1,8 @@
 //! Levels across two rounds.
 
-ghost use Rattle.std.specs.Prelude.{◌≡◌, ◌≤◌, ◌<◌, ◌++◌, ◌∷◌, [], All, IfOk, IsOk, List, OnOk, drop, length, map, take};
-ghost use Rattle.std.specs.List.{concat};
+ghost use Rattle.std.specs.Prelude.{◌≡◌, ◌≤◌, ◌<◌, [], List, OnOk, length};
 ghost use Rattle.pf_levels.specs.Levels.{AreLevels, ArePairsOf};
 ghost use Rattle.pf_levels.specs.Overlap.{AreLevelsInOrder, late_then_early};
-ghost use Rattle.pf_levels.specs.declared.level.TheConstants.{WIDTH};
 
 use crate::level::Level;
 use crate::levels::Levels;

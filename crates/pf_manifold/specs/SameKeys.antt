@@ -2,7 +2,6 @@
 -- of `==` cites it.
 use Rattle.std.proofs.Common.{◌≡◌, ap, Bool, ◌&&◌, ◌==◌}
 use Rattle.std.specs.Bool.{Decides}
-use Rattle.std.specs.Cmp.{IsEquivalence, decided}
 use Rattle.std.proofs.lemmas.Bool.Decides.{Decides-eqb, Decides-and, Decides-like}
 use Rattle.pf_manifold.specs.Key.{Key}
 

@@ -185,7 +185,6 @@ impl<T: Task> Model for Collector<T> {
 impl<T: Task> Collector<T> {
     ghost use Rattle.std.specs.Prelude.{◌≡◌, ◌+◌, ◌^◌, ◌<◌, IfErr, IfOk, IfSome, None, Some};
     ghost use Rattle.pf_pool.specs.Known.{known_to};
-    ghost use Rattle.pf_pool.specs.Pool.{IsRunError};
     ghost use Rattle.pf_pool.specs.Reply.{IsDoneOf};
     ghost use Rattle.pf_pool.specs.declared.error.PoolError.TheVariants.{WorkerLost};
     ghost use Rattle.pf_pool.specs.declared.reply.Dealt.{Dealt};

@@ -1,9 +1,7 @@
 //! The program, from the words of its call to its status.
 
-ghost use Rattle.std.specs.Prelude.{◌≡◌, ◌+◌, ◌^◌, ◌<◌, ◌≤◌, IfErr, IfOk, option_map, true};
+ghost use Rattle.std.specs.Prelude.{◌≡◌, ◌+◌, ◌^◌, ◌<◌, IfErr, IfOk, option_map, true};
 ghost use Rattle.std.specs.Process.{exit_status};
-ghost use Rattle.pf_pool.specs.declared.pool.TheConstants.{MAX_WORKERS};
-ghost use Rattle.pf_workers.specs.Crew.{new_crew};
 ghost use Rattle.pf_console.specs.Report.{Reports};
 ghost use Rattle.pf_console.specs.Text.{CountsReading, CountsWriting};
 ghost use Rattle.pf_program.specs.Options.{FailsByWordsOrMemory, HasCrewSize};

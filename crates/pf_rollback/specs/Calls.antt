@@ -24,10 +24,10 @@ Refines (Err (Refused refusal)) old new call = (call ≡ Err refusal) × (new �
 Refines (Err OutOfMemory) old new call = IsOk call × (new ≡ old)
 
 -- the same of a call that changes nothing
-abbrev pub OnlyReturns : {A : Type 0} → Result A PeerError → Result A Refusal → Type 0
-OnlyReturns (Ok answer) call = call ≡ Ok answer
-OnlyReturns (Err (Refused refusal)) call = call ≡ Err refusal
-OnlyReturns (Err OutOfMemory) call = IsOk call
+abbrev pub ReturnsUnchanged : {A : Type 0} → Result A PeerError → Result A Refusal → Type 0
+ReturnsUnchanged (Ok answer) call = call ≡ Ok answer
+ReturnsUnchanged (Err (Refused refusal)) call = call ≡ Err refusal
+ReturnsUnchanged (Err OutOfMemory) call = IsOk call
 
 -- the tick of the command of a frame, where it encodes one that is new or greater to a map
 abbrev pub news_of_frame : CommandMap → Result Command FrameFault → Option ℕ

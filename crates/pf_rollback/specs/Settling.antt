@@ -24,8 +24,8 @@ islands_at core tick =
     islands_of_tick core.scene (world_of core.scene core.peer tick)
     (payloads_at core.peer.commands tick)
 
--- so many calls of a crew, one for each tick from the peer's settled tick on, in their order, and
--- each with the islands of its tick
+-- what a crew says of so many calls, one for each tick from the peer's settled tick on, in their
+-- order, and each with the islands of its tick; a crew that allows it is not called in each tick
 unfoldable pub AreCalls : {A : Type 0} → (A → List Island → A → Type 0)
     → PeerCore → ℕ → A → A → Type 0
 AreCalls call core zero first last = first ≡ last
@@ -33,8 +33,8 @@ AreCalls {A} call core (suc n) first last =
     (before : A) × AreCalls call core n first before
     × call before (islands_at core (settled_tick core.kept + n)) last
 
--- why a settle with a crew failed: after so many ticks, each settled with one call of the crew, the
--- step of the next tick failed
+-- why a settle with a crew failed: after so many settled ticks, for which what the crew says of
+-- their calls holds, the step of the next tick failed
 abbrev pub FailsAfter : {A : Type 0} → (A → List Island → A → Type 0)
     → (A → List Island → CrewError → A → Type 0)
     → PeerCore → PeerCore → A → StepError → A → Type 0
@@ -43,7 +43,8 @@ FailsAfter {A} call may_fail old new first error last =
     × ((before : A) × AreCalls call old more first before
     × FailsBy may_fail before (islands_at old (settled_tick old.kept + more)) error last)
 
--- what a settle does with its crew: it calls it for each missing tick; or it fails
+-- what a settle does with its crew: what the crew says of a call holds for each missing tick; or
+-- the settle fails
 abbrev pub CallsCrewByTick : {A B : Type 0} → (A → List Island → A → Type 0)
     → (A → List Island → CrewError → A → Type 0) → PeerCore → PeerCore → A → A
     → Result B StepError → Type 0

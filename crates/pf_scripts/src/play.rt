@@ -1,6 +1,6 @@
 //! How a peer plays a script.
 
-ghost use Rattle.std.specs.Prelude.{◌≡◌, ◌⊎◌, ◌∷◌, [], IfErr, IfOk, None, OnOk, Some, map};
+ghost use Rattle.std.specs.Prelude.{◌≡◌, ◌⊎◌, ◌∷◌, [], IfErr, IfOk, None, OnOk, Some};
 ghost use Rattle.std.specs.List.{AllZip};
 ghost use Rattle.pf_scripts.specs.Peer.{WereHanded};
 
@@ -31,7 +31,7 @@ fn hand_to_all(outputs: &mut [LinkOut], frame: [u8; FRAME_LEN]) -> Result<(), Al
 }
 
 impl Peer {
-    ghost use Rattle.std.specs.Prelude.{◌≡◌, ◌⊎◌, ◌<◌, ◌≤◌, ◌∷◌, [], All, IfErr, IfOk, IfSome, None, OnOk, Some, false, map};
+    ghost use Rattle.std.specs.Prelude.{◌≡◌, ◌⊎◌, ◌<◌, ◌≤◌, ◌∷◌, [], All, IfErr, IfOk, IfSome, None, OnOk, Some, false};
     ghost use Rattle.pf_pool.specs.declared.pool.TheConstants.{MAX_WORKERS};
     ghost use Rattle.pf_commands.specs.Merge.{IsCommand, IsCommandMap};
     ghost use Rattle.pf_rollback.specs.Kept.{settled_tick};

@@ -1,9 +1,9 @@
 //! The peers of a session before it begins, and the links between them.
 
-ghost use Rattle.std.specs.Prelude.{◌≡◌, ◌+◌, ◌-◌, ◌<◌, ◌≤◌, ℕ, IfOk, length};
-ghost use Rattle.std.specs.List.{AllZip, range_with_len};
+ghost use Rattle.std.specs.Prelude.{◌≡◌, ◌-◌, ◌<◌, ◌≤◌, IfOk, length};
+ghost use Rattle.std.specs.List.{AllZip};
 ghost use Rattle.pf_shapes.specs.declared.fixture.TheConstants.{PLAYERS};
-ghost use Rattle.pf_sessions.specs.Links.{AreLinked, IsNewLink, inputs_of, outputs_of, table_rows};
+ghost use Rattle.pf_sessions.specs.Links.{AreLinked, IsNewLink, table_rows};
 ghost use Rattle.pf_sessions.specs.Playing.{AreNewPeers};
 
 use crate::table::transpose;

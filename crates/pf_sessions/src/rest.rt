@@ -1,10 +1,8 @@
 //! What is left on links when the peers have ended, for whoever holds both ends.
 
-ghost use Rattle.std.specs.Prelude.{◌≡◌, ◌++◌, All, OnOk};
+ghost use Rattle.std.specs.Prelude.{◌≡◌, ◌++◌, OnOk};
 ghost use Rattle.std.specs.List.{AllZip};
-ghost use Rattle.pf_commands.specs.Merge.{IsCommand};
-ghost use Rattle.pf_links.specs.Link.{AreEnds, LeavesFrames, SameIn, SameOut, backlog_of, got, handed};
-ghost use Rattle.pf_scripts.specs.Frames.{commands_in, with_frames};
+ghost use Rattle.pf_links.specs.Link.{AreEnds, LeavesFrames, backlog_of, got, handed};
 ghost use Rattle.pf_scripts.specs.Peer.{IsLater, fresh};
 ghost use Rattle.pf_sessions.specs.Links.{IsDelivered};
 ghost use Rattle.pf_sessions.specs.Rest.{HasTaken, KeepsHanded, all_left, left_on};

@@ -55,7 +55,7 @@ checked_fixture owner mass friction shape = do
   shape ← shape
   Ok (record { shape = shape; mass = mass; friction = friction; owner = owner })
 
--- the rotation that points as C to S
+-- the rotation of the direction (c, s), its cosine and sine up to length
 unfoldable pub checked_rotation : Option ℤ → Option ℤ → Result Rot SceneFault
 checked_rotation c s = do
   direction ← checked_vector MAX_DIRECTION c s

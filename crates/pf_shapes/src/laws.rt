@@ -1,7 +1,7 @@
 //! Laws of scenes' lines, inertias, bounds and overlaps. These functions compute nothing: their
 //! clauses are the statements.
 
-ghost use Rattle.std.specs.Prelude.{◌≡◌, ℕ, ◌<◌, ℤ, pos, ◌^◌, ◌≤ℤ◌, ◌<ℤ◌, ◌↔◌, Bool, true, List, Ok, Some, None, length, All};
+ghost use Rattle.std.specs.Prelude.{◌≡◌, ℕ, ◌<◌, ℤ, pos, ◌^◌, ◌≤ℤ◌, ◌<ℤ◌, ◌↔◌, Bool, true, List, Ok, Some, None, length};
 ghost use Rattle.pf_text.specs.Numbers.{whole_of};
 ghost use Rattle.pf_num.specs.Fx.{IsRaw};
 ghost use Rattle.pf_rot.specs.Vector.{V2, add};
@@ -11,7 +11,7 @@ ghost use Rattle.pf_shapes.specs.declared.fixture.Shape.{Shape};
 ghost use Rattle.pf_shapes.specs.declared.fault.SceneFault.{SceneFault};
 ghost use Rattle.pf_shapes.specs.Numbers.{checked_number};
 ghost use Rattle.pf_shapes.specs.Fixture.{Fixture, IsFixture, IsSize, HasSize, IsDynamicMass, inertia, inverse_mass, inverse_inertia};
-ghost use Rattle.pf_shapes.specs.Body.{BodyState, start_of};
+ghost use Rattle.pf_shapes.specs.Body.{BodyState};
 ghost use Rattle.pf_shapes.specs.Bounds.{Bounds, IsOrdered, overlaps, shape_bounds, fixture_bounds};
 ghost use Rattle.pf_shapes.specs.Laws.{Covers, IsInBox, IsInCircle, IsInBounds, IsInner, exact_position, bounds_to_fine_units};
 ghost use Rattle.pf_shapes.specs.SceneEncoding.{body_fields, gravity_fields, start_rotation, IsDirection};
@@ -35,7 +35,7 @@ pub fn scene_lines_are_read()
         ≡ Ok (scene_in_progress limit (with_body s f position (start_rotation f.shape to))) }
 {}
 
-/// A number of a field is checked as it is, however long it is.
+/// That a field's number is cut at 2^56 changes no check: all that is cut is out of range.
 pub fn long_numbers_are_out_of_range()
     ensures { (outside : SceneFault) (low high : ℤ) (field : List ℕ) → IsRaw low → IsRaw high
         → checked_number outside low high (field_number field)

@@ -1,5 +1,5 @@
-//! Numbers from outside, of a text or of a call, as the parts of a scene that they make. A number
-//! is `None` where a field of a text encodes none. Each is checked, from the left.
+//! Parts of a scene from numbers of a text or of a call, checked from left to right. A number is
+//! `None` where a field of a text encodes none.
 
 ghost use Rattle.std.specs.Prelude.{◌≡◌, pos, neg_ℤ, ◌≤ℤ◌, IfOk};
 ghost use Rattle.pf_num.specs.Fx.{IsRaw};
@@ -67,7 +67,7 @@ fn position(x: Option<i64>, y: Option<i64>) -> Result<V2, SceneFault>
     checked_vector(MAX_POSITION, x, y)
 }
 
-/// The rotation of a start, which points as `c` to `s`.
+/// The rotation of a start: the direction (c, s), its cosine and sine up to length.
 #[tactic(auto, using(pf_rot::proofs::Directions::unit_at_most_one), unfolding(crate::specs::Numbers::checked_rotation))]
 fn rotation(c: Option<i64>, s: Option<i64>) -> Result<Rot, SceneFault>
     ensures value { result ≡ checked_rotation c s }
@@ -86,7 +86,7 @@ pub fn upright(x: Option<i64>, y: Option<i64>) -> Result<(V2, Rot), SceneFault>
     Ok((position(x, y)?, Rot::UPRIGHT))
 }
 
-/// Where a body starts that is turned into the direction from `c` to `s`.
+/// Where a body starts that is turned into the direction (c, s), its cosine and sine up to length.
 #[tactic(auto, unfolding(crate::specs::Numbers::turned_transform))]
 pub fn turned(
     x: Option<i64>,
@@ -154,8 +154,8 @@ fn fixture(
     Ok(Fixture::new(shape, mass, friction, owner))
 }
 
-/// The fixture of a circle. The first error is that of the owner, the mass, the friction and the
-/// radius.
+/// The fixture of a circle. Checked in this order: owner, mass, friction, radius; the first error
+/// is returned.
 pub fn circle(
     owner: Result<Option<u8>, SceneFault>,
     mass: Option<i64>,
@@ -168,8 +168,8 @@ pub fn circle(
     fixture(owner, mass, friction, circle_shape(r))
 }
 
-/// The fixture of a box. The first error is that of the owner, the mass, the friction and the half
-/// extents.
+/// The fixture of a box. Checked in this order: owner, mass, friction, half extents; the first
+/// error is returned.
 pub fn box_of(
     owner: Result<Option<u8>, SceneFault>,
     mass: Option<i64>,

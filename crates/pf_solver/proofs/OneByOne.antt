@@ -9,7 +9,7 @@ use Rattle.pf_rot.specs.Vector.{V2}
 use Rattle.pf_shapes.specs.Body.{BodyState, no_state}
 use Rattle.pf_manifold.specs.Key.{IsRising}
 use Rattle.pf_islands.specs.Island.{has_number}
-use Rattle.pf_solver.specs.Alone.{after_tick_alone, body_after_tick}
+use Rattle.pf_solver.specs.Alone.{lone_bodies_after_tick, lone_body_after_tick}
 
 -- a number of a rising list is none of those before it
 below_rest : (least n : ℕ) (numbers : List ℕ) → IsRising least numbers → n < least → has_number numbers n ≡ false
@@ -35,14 +35,14 @@ none_before least (m ∷ numbers) (suc k) rising within =
     (none_before (suc m) numbers k rising.1 (omega (arith, within)))
 
 module _ (pull : V2) (bodies : List BodyState) where
-  pub alone_long : (numbers : List ℕ) → length (after_tick_alone pull numbers bodies) ≡ length bodies
-  alone_long numbers = length-map (enumerate_from 0 bodies) _ ∙ length-enumerate_from 0 bodies
+  pub lone_bodies_long : (numbers : List ℕ) → length (lone_bodies_after_tick pull numbers bodies) ≡ length bodies
+  lone_bodies_long numbers = length-map (enumerate_from 0 bodies) _ ∙ length-enumerate_from 0 bodies
 
   -- what a body is then
-  pub alone_at : (numbers : List ℕ) (j : ℕ) → j < length bodies
-      → get_or (after_tick_alone pull numbers bodies) j no_state
-      ≡ (if has_number numbers j then body_after_tick pull (get_or bodies j no_state) else get_or bodies j no_state)
-  alone_at numbers j within =
+  pub lone_body_at : (numbers : List ℕ) (j : ℕ) → j < length bodies
+      → get_or (lone_bodies_after_tick pull numbers bodies) j no_state
+      ≡ (if has_number numbers j then lone_body_after_tick pull (get_or bodies j no_state) else get_or bodies j no_state)
+  lone_body_at numbers j within =
       let from_zero : 0 + j ≡ j = omega arith in
       let long = length-enumerate_from 0 bodies in
       get_or-map one (enumerate_from 0 bodies) j (0, no_state) no_state (omega (arith, within, long))
@@ -50,29 +50,29 @@ module _ (pull : V2) (bodies : List BodyState) where
       ∙ ap (λ n. one (n, get_or bodies j no_state)) from_zero
     where
       one : ℕ × BodyState → BodyState
-      one m = if has_number numbers m.0 then body_after_tick pull m.1 else m.1
+      one m = if has_number numbers m.0 then lone_body_after_tick pull m.1 else m.1
 
   -- no body yet
-  pub none_alone : bodies ≡ after_tick_alone pull [] bodies
-  none_alone =
-      ext_get_or no_state bodies (after_tick_alone pull [] bodies) (sym (alone_long []))
-      (λ j within. sym (alone_at [] j within))
+  pub no_lone_bodies : bodies ≡ lone_bodies_after_tick pull [] bodies
+  no_lone_bodies =
+      ext_get_or no_state bodies (lone_bodies_after_tick pull [] bodies) (sym (lone_bodies_long []))
+      (λ j within. sym (lone_body_at [] j within))
 
   -- one body more
   pub one_more : (numbers : List ℕ) (k : ℕ) (now : List BodyState) (b : BodyState) → k < length numbers
-      → get_or numbers k 0 < length bodies → IsRising 0 numbers → now ≡ after_tick_alone pull (take k numbers) bodies
-      → b ≡ body_after_tick pull (get_or now (get_or numbers k 0) no_state)
-      → set now (get_or numbers k 0) b ≡ after_tick_alone pull (take (k + 1) numbers) bodies
+      → get_or numbers k 0 < length bodies → IsRising 0 numbers → now ≡ lone_bodies_after_tick pull (take k numbers) bodies
+      → b ≡ lone_body_after_tick pull (get_or now (get_or numbers k 0) no_state)
+      → set now (get_or numbers k 0) b ≡ lone_bodies_after_tick pull (take (k + 1) numbers) bodies
   one_more numbers k now b inside within rising now_is b_is =
-      ext_get_or no_state (set now n b) (after_tick_alone pull (take (k + 1) numbers) bodies)
-      (long ∙ sym (alone_long (take (k + 1) numbers)))
+      ext_get_or no_state (set now n b) (lone_bodies_after_tick pull (take (k + 1) numbers) bodies)
+      (long ∙ sym (lone_bodies_long (take (k + 1) numbers)))
       (λ j below. at j (omega (arith, below, long)))
     where
       n : ℕ
       n = get_or numbers k 0
 
       now_long : length now ≡ length bodies
-      now_long = ap length now_is ∙ alone_long (take k numbers)
+      now_long = ap length now_is ∙ lone_bodies_long (take k numbers)
 
       long : length (set now n b) ≡ length bodies
       long = length-set now n b ∙ now_long
@@ -83,13 +83,13 @@ module _ (pull : V2) (bodies : List BodyState) where
           ∙ list_any-append (λ m. m == j) (take k numbers) (n ∷ [])
 
       state : ℕ → Bool → BodyState
-      state j e = if e then body_after_tick pull (get_or bodies j no_state) else get_or bodies j no_state
+      state j e = if e then lone_body_after_tick pull (get_or bodies j no_state) else get_or bodies j no_state
 
       before : (j : ℕ) → j < length bodies → get_or now j no_state ≡ state j (has_number (take k numbers) j)
-      before j below = ap (λ bs. get_or bs j no_state) now_is ∙ alone_at (take k numbers) j below
+      before j below = ap (λ bs. get_or bs j no_state) now_is ∙ lone_body_at (take k numbers) j below
 
-      at : (j : ℕ) → j < length bodies → get_or (set now n b) j no_state ≡ get_or (after_tick_alone pull (take (k + 1) numbers) bodies) j no_state
-      at j below = by (n == j) refl ∙ sym (alone_at (take (k + 1) numbers) j below ∙ ap (state j) (more j))
+      at : (j : ℕ) → j < length bodies → get_or (set now n b) j no_state ≡ get_or (lone_bodies_after_tick pull (take (k + 1) numbers) bodies) j no_state
+      at j below = by (n == j) refl ∙ sym (lone_body_at (take (k + 1) numbers) j below ∙ ap (state j) (more j))
         where
           or_false : (e : Bool) → (e || false) ≡ e
           or_false true = refl
@@ -106,9 +106,9 @@ module _ (pull : V2) (bodies : List BodyState) where
               ap (λ i. get_or (set now n b) i no_state) (sym same)
               ∙ get_or-set_same now n b no_state (omega (arith, within, now_long))
               ∙ b_is
-              ∙ ap (body_after_tick pull)
+              ∙ ap (lone_body_after_tick pull)
               (before n within ∙ ap (state n) (none_before 0 numbers k rising inside))
-              ∙ ap (λ i. body_after_tick pull (get_or bodies i no_state)) same
+              ∙ ap (λ i. lone_body_after_tick pull (get_or bodies i no_state)) same
               ∙ sym (ap (λ e. state j (has_number (take k numbers) j || (e || false))) is ∙ ap (state j) (or_true (has_number (take k numbers) j)))
           by false other =
               get_or-set_other now n j b no_state (λ same. true≢false (sym (eq-eqb n j (sym same)) ∙ other))

@@ -51,20 +51,20 @@ seen_from numbers b = record {
 }
 
 -- the phases Gravity to Timers of a body that no contact touches
-abbrev pub moved_freely : V2 → BodyState → BodyState
-moved_freely pull b =
+abbrev pub lone_body_after_motion : V2 → BodyState → BodyState
+lone_body_after_motion pull b =
     if b.awake then after_timer (after_motion (after_gravity pull b)) else b
 
 -- the phase Sleep of a body that is a group of its own
-abbrev pub asleep_if_still : BodyState → BodyState
-asleep_if_still b = if b.awake && (b.timer == STILL_TICKS) then at_sleep b else b
+abbrev pub lone_body_after_sleep : BodyState → BodyState
+lone_body_after_sleep b = if b.awake && (b.timer == STILL_TICKS) then at_sleep b else b
 
 -- a body that no contact touches, after a tick; `pull` is what gravity adds to a velocity in a tick
-unfoldable pub body_after_tick : V2 → BodyState → BodyState
-body_after_tick pull b = asleep_if_still (moved_freely pull b)
+unfoldable pub lone_body_after_tick : V2 → BodyState → BodyState
+lone_body_after_tick pull b = lone_body_after_sleep (lone_body_after_motion pull b)
 
 -- the bodies, of which those with these numbers, which no contact touches, went through a tick
-abbrev pub after_tick_alone : V2 → List ℕ → List BodyState → List BodyState
-after_tick_alone pull numbers bodies =
-    map (λ m. if has_number numbers m.0 then body_after_tick pull m.1 else m.1)
+abbrev pub lone_bodies_after_tick : V2 → List ℕ → List BodyState → List BodyState
+lone_bodies_after_tick pull numbers bodies =
+    map (λ m. if has_number numbers m.0 then lone_body_after_tick pull m.1 else m.1)
     (enumerate_from 0 bodies)

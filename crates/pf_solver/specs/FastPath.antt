@@ -17,30 +17,30 @@ IsMassOf own given = (given ≡ own) ⊎ (given ≡ no_mass)
 abbrev pub IsArmFor : Motion → V2 → V2 → Type 0
 IsArmFor body own given = (given ≡ own) ⊎ (body ≡ static_motion)
 
--- a heavy body that is at most so fast along each axis, and turns at most so fast
-pub record IsAtMostSoFast (speed turning : ℕ) (m : Motion) : Type 0 where
+-- a heavy body, at most this fast along each axis, that turns at most this fast
+pub record IsMotionWithin (speed turning : ℕ) (m : Motion) : Type 0 where
   pub velocity : IsShort speed m.velocity
   pub spin : unsigned_abs m.spin ≤ turning
   pub mass : IsHeavy m.mass
 
 -- both bodies of a contact are so
-pub record AreAtMostSoFast (speed turning : ℕ) (m : ContactState) : Type 0 where
-  pub first : IsAtMostSoFast speed turning m.first
-  pub second : IsAtMostSoFast speed turning m.second
+pub record AreMotionsWithin (speed turning : ℕ) (m : ContactState) : Type 0 where
+  pub first : IsMotionWithin speed turning m.first
+  pub second : IsMotionWithin speed turning m.second
 
 -- before a warm start or a round
 abbrev pub IsSlow : Motion → Type 0
-IsSlow m = IsAtMostSoFast SPEED_LIMIT SPEED_LIMIT m
+IsSlow m = IsMotionWithin SPEED_LIMIT SPEED_LIMIT m
 
 abbrev pub AreSlow : ContactState → Type 0
-AreSlow m = AreAtMostSoFast SPEED_LIMIT SPEED_LIMIT m
+AreSlow m = AreMotionsWithin SPEED_LIMIT SPEED_LIMIT m
 
 -- between its two steps
 abbrev pub IsPushed : Motion → Type 0
-IsPushed m = IsAtMostSoFast (2 ^ 35) SPIN_LIMIT m
+IsPushed m = IsMotionWithin (2 ^ 35) SPIN_LIMIT m
 
 abbrev pub ArePushed : ContactState → Type 0
-ArePushed m = AreAtMostSoFast (2 ^ 35) SPIN_LIMIT m
+ArePushed m = AreMotionsWithin (2 ^ 35) SPIN_LIMIT m
 
 -- both arms are small, for the masses that the bodies have
 pub record HasSmallArms (c : Constraint) (m : ContactState) : Type 0 where

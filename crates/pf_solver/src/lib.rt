@@ -15,5 +15,5 @@ pub use bodies::{STILL_SPEED, STILL_SPIN, STILL_TICKS, after_gravity, after_moti
 pub use constraint::{BIAS_FACTOR, SLOP};
 pub use impulse::{ContactState, Motion};
 pub use island::{Solve, finish_island, prepare_island, solve_island, solve_rounds};
-pub use solve::solve_alone;
+pub use solve::solve_lone_bodies;
 pub use velocities::{ContactStep, ROUNDS, Round, WarmStart};

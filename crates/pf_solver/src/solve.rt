@@ -4,7 +4,7 @@
 ghost use Rattle.std.specs.Prelude.{◌≡◌, ◌<◌, All, if◌then◌else◌, length, map};
 ghost use Rattle.pf_rows.specs.Row.{IsEntryOf, IsSide};
 ghost use Rattle.pf_manifold.specs.Key.{IsRising};
-ghost use Rattle.pf_solver.specs.Alone.{after_tick_alone, body_after_tick};
+ghost use Rattle.pf_solver.specs.Alone.{lone_bodies_after_tick, lone_body_after_tick};
 ghost use Rattle.pf_solver.specs.Beside.{velocities_of};
 ghost use Rattle.pf_solver.specs.Bodies.{after_gravity, after_motion, after_timer, each_awake, gravity_per_tick};
 ghost use Rattle.pf_solver.specs.Solve.{pre_step_body, mass_of, prepared_batch, prepared_row};
@@ -128,7 +128,7 @@ pub(crate) fn move_awake(bodies: &mut [BodyState])
 /// The phases Gravity to Timers of a body that no contact touches, if it is awake. In one
 /// expression the body stays in registers.
 #[inline(always)]
-fn move_freely(pull: V2, body: &mut BodyState)
+fn move_lone_body(pull: V2, body: &mut BodyState)
     ensures { body.new ≡ (if body.old.awake
         then after_timer (after_motion (after_gravity pull body.old)) else body.old) }
 {
@@ -139,11 +139,11 @@ fn move_freely(pull: V2, body: &mut BodyState)
 
 /// The phases Gravity to Sleep of a body that no contact touches.
 #[inline(always)]
-#[tactic(auto, unfolding(crate::specs::Alone::body_after_tick))]
-fn solve_untouched_body(pull: V2, body: &mut BodyState)
-    ensures { body.new ≡ body_after_tick pull body.old }
+#[tactic(auto, unfolding(crate::specs::Alone::lone_body_after_tick))]
+fn solve_lone_body(pull: V2, body: &mut BodyState)
+    ensures { body.new ≡ lone_body_after_tick pull body.old }
 {
-    move_freely(pull, body);
+    move_lone_body(pull, body);
     if body.awake && body.timer == STILL_TICKS {
         fall_asleep(body);
     }
@@ -152,15 +152,15 @@ fn solve_untouched_body(pull: V2, body: &mut BodyState)
 /// The phases Gravity to Sleep of the bodies of these numbers, which no contact touches, one body
 /// after the other: each body is its own group. Takes no memory.
 #[inline(never)]
-pub fn solve_alone(scene: &Scene, bodies: &mut [BodyState], numbers: &[usize])
+pub fn solve_lone_bodies(scene: &Scene, bodies: &mut [BodyState], numbers: &[usize])
     requires numbers { All (λ number. number < length bodies.old) numbers.now }
     requires order { IsRising 0 numbers.now }
     ensures { bodies.new
-        ≡ after_tick_alone (gravity_per_tick scene.now.gravity) numbers.now bodies.old }
+        ≡ lone_bodies_after_tick (gravity_per_tick scene.now.gravity) numbers.now bodies.old }
 {
     let pull = scene.gravity().scale(Fx::TICK);
     for number in numbers {
-        solve_untouched_body(pull, &mut bodies[*number]);
+        solve_lone_body(pull, &mut bodies[*number]);
     }
 }
 

@@ -10,7 +10,7 @@ use Rattle.pf_shapes.specs.Scene.{Scene}
 use Rattle.pf_commands.specs.declared.payload.Payload.{Payload}
 use Rattle.pf_commands.specs.declared.payload.Payload.TheVariants.{Push, Turn, Stop, Place}
 use Rattle.pf_commands.specs.Payload.{body_of}
-use Rattle.pf_step.specs.Commands.{after_payload, bodies_with, after_command, after_commands, apply}
+use Rattle.pf_step.specs.Commands.{after_payload, bodies_with_command, after_command, after_commands, apply}
 use Rattle.pf_step.specs.World.{World}
 use Rattle.std.proofs.lemmas.List.Folds.{flat_map-map}
 use Rattle.pf_islands.specs.Island.{has_number}
@@ -22,7 +22,7 @@ use Rattle.pf_step.proofs.Changing.{noted_before}
 
 -- another body stays
 leaves : (bodies : List BodyState) (p : Payload) (f : Option Fixture) (s : Option BodyState) (i : ℕ)
-    → body_of p ≢ i → slice_get (bodies_with bodies p f s) i ≡ slice_get bodies i
+    → body_of p ≢ i → slice_get (bodies_with_command bodies p f s) i ≡ slice_get bodies i
 leaves bodies p (Some f) (Some s) i other = by (is_static f)
   where
     by : (t : Bool) → slice_get (if t then bodies else slice_set bodies (body_of p) (after_payload f p s)) i ≡ slice_get bodies i
@@ -55,12 +55,12 @@ placed_body scene w i x y f b fixture moves here =
 
 -- a static body stays
 static_leaves : (bodies : List BodyState) (p : Payload) (f : Fixture) (s : Option BodyState) → is_static f ≡ true
-    → bodies_with bodies p (Some f) s ≡ bodies
+    → bodies_with_command bodies p (Some f) s ≡ bodies
 static_leaves bodies p f (Some s) static = rw static refl
 static_leaves bodies p f None static = refl
 
 with_length : (bodies : List BodyState) (p : Payload) (f : Option Fixture) (s : Option BodyState)
-    → length (bodies_with bodies p f s) ≡ length bodies
+    → length (bodies_with_command bodies p f s) ≡ length bodies
 with_length bodies p (Some f) (Some s) = by (is_static f)
   where
     by : (t : Bool) → length (if t then bodies else slice_set bodies (body_of p) (after_payload f p s)) ≡ length bodies
@@ -88,7 +88,7 @@ static_stays fixtures bodies (p ∷ payloads) i f here static =
     static_stays fixtures (after_command fixtures bodies p) payloads i f here static ∙ by (body_of p == i) refl
   where
     by : (t : Bool) → (body_of p == i) ≡ t
-        → slice_get (bodies_with bodies p (slice_get fixtures (body_of p)) (slice_get bodies (body_of p))) i ≡ slice_get bodies i
+        → slice_get (bodies_with_command bodies p (slice_get fixtures (body_of p)) (slice_get bodies (body_of p))) i ≡ slice_get bodies i
     by true test =
         let same : body_of p ≡ i = grind (arith, nat_tests) in
         let there : slice_get fixtures (body_of p) ≡ Some f = ap (slice_get fixtures) same ∙ here in
@@ -158,7 +158,7 @@ pub record IsCommanded (bodies : List BodyState) (i : ℕ) (c : BodyState) : Typ
   pub value : Commanded from c
 
 command_case : (bodies : List BodyState) (p : Payload) (f : Option Fixture) (s : Option BodyState) (i : ℕ) (c : BodyState)
-    → slice_get bodies (body_of p) ≡ s → slice_get (bodies_with bodies p f s) i ≡ Some c → IsCommanded bodies i c
+    → slice_get bodies (body_of p) ≡ s → slice_get (bodies_with_command bodies p f s) i ≡ Some c → IsCommanded bodies i c
 command_case bodies p (Some f) (Some s) i c there here = split (is_static f) here
   where
     by : (t : Bool) → (body_of p == i) ≡ t → slice_get (slice_set bodies (body_of p) (after_payload f p s)) i ≡ Some c

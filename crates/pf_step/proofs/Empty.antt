@@ -14,7 +14,7 @@ use Rattle.pf_cache.specs.ContactRows.{with_rows}
 use Rattle.pf_islands.specs.Sleep.{bodies_after_sleep, woken_bodies}
 use Rattle.pf_solver.specs.Solve.{solved_batch}
 use Rattle.pf_solver.proofs.Solved.{solved_length}
-use Rattle.pf_step.specs.Commands.{bodies_with, after_command, after_commands}
+use Rattle.pf_step.specs.Commands.{bodies_with_command, after_command, after_commands}
 use Rattle.pf_step.specs.Simulation.{sim}
 use Rattle.pf_step.specs.Step.{step, touches_of_scene}
 use Rattle.pf_step.specs.World.{World, start_world}
@@ -26,7 +26,7 @@ get-none : (i : ℕ) → slice_get no_bodies i ≡ None
 get-none zero = refl
 get-none (suc i) = refl
 
-stays : (p : Payload) (f : Option Fixture) → bodies_with [] p f None ≡ []
+stays : (p : Payload) (f : Option Fixture) → bodies_with_command [] p f None ≡ []
 stays p None = refl
 stays p (Some f) = refl
 

@@ -13,6 +13,7 @@ use Rattle.pf_shapes.specs.Body.{BodyState, no_state}
 use Rattle.pf_shapes.specs.Scene.{Scene}
 use Rattle.pf_manifold.specs.Key.{AreTouches}
 use Rattle.pf_manifold.specs.Touches.{IsTouchOf, Touch}
+use Rattle.pf_rows.specs.Row.{Row}
 use Rattle.pf_cache.specs.Contact.{Contact}
 use Rattle.pf_cache.specs.ContactRows.{AreRowsAt, with_rows}
 use Rattle.pf_islands.specs.declared.splitting.LoneBodies.{LoneBodies}
@@ -20,7 +21,7 @@ use Rattle.pf_islands.specs.declared.splitting.LoneBodies.TheVariants.{AreIsland
 use Rattle.pf_islands.specs.Group.{groups}
 use Rattle.pf_islands.specs.Island.{has_number, group_members, rows_among, states_of}
 use Rattle.pf_islands.specs.Join.{IsAtHome, joined_bodies, joined_contacts}
-use Rattle.pf_islands.specs.Lone.{is_made, is_touched, lone_bodies, made_islands}
+use Rattle.pf_islands.specs.Lone.{has_any, is_made, is_touched, lone_bodies, made_islands}
 use Rattle.pf_islands.specs.Rows.{is_active_contact, is_awake_at}
 use Rattle.pf_islands.specs.Settled.{AreSettled}
 use Rattle.pf_islands.specs.Sleep.{at_sleep, island_after_sleep}
@@ -35,12 +36,12 @@ use Rattle.pf_islands.proofs.SettledGroups.{chosen_rows, same_members, woken_set
 use Rattle.pf_islands.proofs.Starting.{groups_long}
 use Rattle.pf_cache.proofs.ChosenNumbers.{chosen_pass, range_within}
 use Rattle.pf_solver.specs.declared.bodies.TheConstants.{STILL_TICKS}
-use Rattle.pf_solver.specs.Alone.{after_tick_alone, body_after_tick, island_after_tick}
+use Rattle.pf_solver.specs.Alone.{lone_bodies_after_tick, lone_body_after_tick, island_after_tick}
 use Rattle.pf_solver.specs.Bodies.{after_gravity, after_motion, after_timer, gravity_per_tick}
 use Rattle.pf_solver.specs.Solve.{solved_batch}
 use Rattle.pf_solver.specs.Velocities.{Batch}
 use Rattle.pf_solver.proofs.Free.{free_is_solved}
-use Rattle.pf_solver.proofs.OneByOne.{alone_at, alone_long}
+use Rattle.pf_solver.proofs.OneByOne.{lone_body_at, lone_bodies_long}
 use Rattle.pf_step.specs.Activity.{batch_of_bodies, contacts_of_bodies, islands_of_bodies, labels_of_bodies}
 use Rattle.pf_step.specs.Changes.{bodies_before, changes_of, changes_of_islands}
 use Rattle.pf_step.specs.Commands.{after_commands}
@@ -83,9 +84,9 @@ any_in P g p Q (x ∷ xs) all each some = by (p x) refl some (any_in P g p Q xs 
     by true is h rest = ⊎_elim (λ here. each x (All-head P x xs all) is here) rest (or_cases (g x) (list_any g (filter p xs)) h)
     by false is h rest = rest h
 
-nothing : {X : Type 0} (xs : List X) → list_any (λ x. true) xs ≡ false → xs ≡ []
+nothing : (rows : List Row) → has_any rows ≡ false → rows ≡ []
 nothing [] none = refl
-nothing (x ∷ xs) none = absurd (true≢false none)
+nothing (r ∷ rows) none = absurd (true≢false none)
 
 negated : (e : Bool) → not e ≡ true → e ≡ false
 negated true h = absurd (true≢false (sym h))
@@ -109,8 +110,8 @@ module _ (s : Scene) where
       by false h = absurd (true≢false (sym h))
 
   one_after : (b : BodyState) → b.awake ≡ true
-      → island_after_sleep STILL_TICKS (solved_batch s (b ∷ []) []).bodies ≡ body_after_tick pull b ∷ []
-  unfolding body_after_tick
+      → island_after_sleep STILL_TICKS (solved_batch s (b ∷ []) []).bodies ≡ lone_body_after_tick pull b ∷ []
+  unfolding lone_body_after_tick
   one_after b awake =
       ap (λ (x : Batch). island_after_sleep STILL_TICKS x.bodies) (sym (free_is_solved s (b ∷ []) [] refl))
       ∙ by (if b.awake then moved b else b) (moved_awake b awake)
@@ -160,7 +161,7 @@ module _ (s : Scene) (before : List Contact) (commanded : List BodyState) (count
   abbrev IsAsAlone : Island → Type 0
   IsAsAlone i =
       is_touched i ≡ false → (j : ℕ) → has_number i.numbers j ≡ true
-      → body_after_tick (gravity_per_tick s.gravity) (get_or commanded j no_state) ≡ get_or final j no_state
+      → lone_body_after_tick (gravity_per_tick s.gravity) (get_or commanded j no_state) ≡ get_or final j no_state
 
   -- a group without contacts that is simulated
   module _ (name : ℕ) (within : name < length s.fixtures) (active : is_active_label labels batch.bodies name ≡ true)
@@ -230,7 +231,7 @@ module _ (s : Scene) (before : List Contact) (commanded : List BodyState) (count
         ∙ ap (λ e. record woke.from { awake = e }) (ap (λ (x : BodyState). x.awake) woke.value ∙ up ∙ sym was)
         ∙ sym from
 
-    final_one : get_or final name no_state ∷ [] ≡ body_after_tick (gravity_per_tick s.gravity) (get_or commanded name no_state) ∷ []
+    final_one : get_or final name no_state ∷ [] ≡ lone_body_after_tick (gravity_per_tick s.gravity) (get_or commanded name no_state) ∷ []
     unfolding step after_commands
     final_one =
         let none : rows_among (group_members labels name) batch.rows ≡ [] = nothing (rows_among (group_members labels name) batch.rows) untouched in
@@ -238,7 +239,7 @@ module _ (s : Scene) (before : List Contact) (commanded : List BodyState) (count
         ∙ group_after s w [] name count (active_group s before commanded count name within active)
         ∙ ap₂ (λ ns rows. island_after_sleep STILL_TICKS (solved_batch s (states_of ns batch.bodies) rows).bodies) one none
         ∙ one_after s (get_or batch.bodies name no_state) up
-        ∙ ap (λ b. body_after_tick (gravity_per_tick s.gravity) b ∷ []) unchanged
+        ∙ ap (λ b. lone_body_after_tick (gravity_per_tick s.gravity) b ∷ []) unchanged
 
   all_alone : All IsAsAlone found
   all_alone =
@@ -257,7 +258,7 @@ module _ (s : Scene) (before : List Contact) (commanded : List BodyState) (count
           let both = final_one name within active untouched in
           sym
           (ap (λ n. get_or final n no_state) (sym same) ∙ first both
-          ∙ ap (λ n. body_after_tick (gravity_per_tick s.gravity) (get_or commanded n no_state)) same)
+          ∙ ap (λ n. lone_body_after_tick (gravity_per_tick s.gravity) (get_or commanded n no_state)) same)
         where
           first : {x y : BodyState} → x ∷ [] ≡ y ∷ [] → x ≡ y
           first e = cc
@@ -284,10 +285,10 @@ module _ (s : Scene) (before : List Contact) (commanded : List BodyState) (count
 
     -- their bodies
     alone_after : (j : ℕ) → has_number (lone_bodies lone found) j ≡ true
-        → body_after_tick (gravity_per_tick s.gravity) (get_or commanded j no_state) ≡ get_or final j no_state
+        → lone_body_after_tick (gravity_per_tick s.gravity) (get_or commanded j no_state) ≡ get_or final j no_state
     alone_after j has =
         any_in IsAsAlone (λ i. has_number i.numbers j) (λ i. not (is_made lone i))
-        (body_after_tick (gravity_per_tick s.gravity) (get_or commanded j no_state) ≡ get_or final j no_state) found all_alone
+        (lone_body_after_tick (gravity_per_tick s.gravity) (get_or commanded j no_state) ≡ get_or final j no_state) found all_alone
         (λ i alone out own. alone (left_out i out) j own)
         (sym (number_of_all others j) ∙ has)
 
@@ -308,29 +309,29 @@ module _ (s : Scene) (before : List Contact) (commanded : List BodyState) (count
 
     module _ (alone : List ℕ) (alone_are : alone ≡ lone_bodies lone found) where
       abbrev pub advanced : List BodyState
-      advanced = after_tick_alone (gravity_per_tick s.gravity) alone commanded
+      advanced = lone_bodies_after_tick (gravity_per_tick s.gravity) alone commanded
 
       pub made_at_home : All (IsAtHome (length advanced)) (map (island_after_tick s) made)
       made_at_home =
           subst (λ n. All (IsAtHome n) (map (island_after_tick s) made))
-          (sym (alone_long (gravity_per_tick s.gravity) commanded alone))
+          (sym (lone_bodies_long (gravity_per_tick s.gravity) commanded alone))
           (of_made (IsAtHome (length commanded)) (ended_at_home s before commanded count))
 
       pub parted_bodies : joined_bodies (map (island_after_tick s) made) advanced ≡ final
       parted_bodies =
-          let long = alone_long (gravity_per_tick s.gravity) commanded alone in
+          let long = lone_bodies_long (gravity_per_tick s.gravity) commanded alone in
           joined_is final (map (island_after_tick s) made) advanced
           (world_after_length s before commanded count ∙ sym count ∙ sym long)
           (of_made (λ (i : Island). i.bodies ≡ states_of i.numbers final) (states_ended s before commanded count))
           (λ j inside none.
           let small : j < length commanded = omega (arith, inside, long) in
           let first = sym (any_mapped (λ (i : Island). has_number i.numbers j) (island_after_tick s) made) ∙ none in
-          alone_at (gravity_per_tick s.gravity) commanded alone j small
+          lone_body_at (gravity_per_tick s.gravity) commanded alone j small
           ∙ by j small first (has_number alone j) refl)
         where
           by : (j : ℕ) → j < length commanded → list_any (λ (i : Island). has_number i.numbers j) made ≡ false → (e : Bool)
               → has_number alone j ≡ e
-              → (if e then body_after_tick (gravity_per_tick s.gravity) (get_or commanded j no_state) else get_or commanded j no_state)
+              → (if e then lone_body_after_tick (gravity_per_tick s.gravity) (get_or commanded j no_state) else get_or commanded j no_state)
               ≡ get_or final j no_state
           by j small first true has = alone_after j (ap (λ ns. has_number ns j) (sym alone_are) ∙ has)
           by j small first false not_alone =

@@ -12,11 +12,9 @@ use Rattle.pf_cache.specs.Contact.{Contact}
 use Rattle.pf_cache.specs.ContactRows.{AreRowsAt, with_rows}
 use Rattle.pf_cache.specs.ContactsChange.{ContactsChange, contacts_before, may_change}
 use Rattle.pf_cache.proofs.Restoring.{before_rows}
-use Rattle.pf_islands.specs.Group.{groups}
 use Rattle.pf_islands.specs.Join.{joined_contacts}
-use Rattle.pf_islands.specs.Rows.{active_rows}
-use Rattle.pf_islands.specs.Sleep.{woken_bodies}
-use Rattle.pf_islands.specs.Split.{Island, islands}
+use Rattle.pf_islands.specs.Split.{Island}
+use Rattle.pf_islands.specs.Splitting.{woken_islands}
 use Rattle.pf_islands.proofs.ActiveRows.{rows_beside}
 use Rattle.pf_islands.proofs.Whole.{islands_at_contacts}
 use Rattle.pf_solver.specs.Alone.{island_after_tick}
@@ -39,14 +37,10 @@ islands_beside s contacts bodies order keys =
 
 -- islands that were made of what stands for the points, the bodies and the contacts
 pub islands_are : (s : Scene) (contacts : List Contact) (bodies : List BodyState) (points : List Touch)
-    (lent : List BodyState) (updated : List Contact) (found : List Island)
-    → found ≡ (let awake = woken_bodies (groups s points) lent in islands (groups s points) awake (active_rows s awake points updated))
-    → points ≡ touches_of_scene s bodies → lent ≡ bodies → updated ≡ contacts → found ≡ islands_with s contacts bodies
-islands_are s contacts bodies points lent updated found value points_are lent_are updated_are =
-    value
-    ∙ (λ i.
-    let awake = woken_bodies (groups s (points_are i)) (lent_are i) in
-    islands (groups s (points_are i)) awake (active_rows s awake (points_are i) (updated_are i)))
+    (lent : List BodyState) (updated : List Contact) → points ≡ touches_of_scene s bodies → lent ≡ bodies
+    → updated ≡ contacts → woken_islands s lent points updated ≡ islands_with s contacts bodies
+islands_are s contacts bodies points lent updated points_are lent_are updated_are =
+    λ i. woken_islands s (lent_are i) (points_are i) (updated_are i)
 
 -- ---- a tick solves rows of the same contacts
 

@@ -49,11 +49,6 @@ islands_of_bodies s contacts bodies =
 abbrev pub labels_of_tick : Scene → World → List Payload → List ℕ
 labels_of_tick s w payloads = labels_of_bodies s (after_commands s.fixtures w.bodies payloads)
 
--- the contacts
-abbrev pub contacts_of_tick : Scene → World → List Payload → List Contact
-contacts_of_tick s w payloads =
-    contacts_of_bodies s w.contacts (after_commands s.fixtures w.bodies payloads)
-
 -- the bodies and contacts that are solved
 abbrev pub batch_of_tick : Scene → World → List Payload → Batch
 batch_of_tick s w payloads =

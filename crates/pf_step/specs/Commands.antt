@@ -29,16 +29,16 @@ after_payload f (Place body x y) b =
     record (at_rest (woken_body b)) { position = record { x = x; y = y } }
 
 -- the bodies where the commanded one, if there is one and it is dynamic, has its new state
-abbrev pub bodies_with
+abbrev pub bodies_with_command
     : List BodyState → Payload → Option Fixture → Option BodyState → List BodyState
-bodies_with bodies p (Some f) (Some b) =
+bodies_with_command bodies p (Some f) (Some b) =
     if is_static f then bodies else slice_set bodies (body_of p) (after_payload f p b)
-bodies_with bodies p fixture body = bodies
+bodies_with_command bodies p fixture body = bodies
 
 -- the bodies after one command
 unfoldable pub after_command : List Fixture → List BodyState → Payload → List BodyState
 after_command fixtures bodies p =
-    bodies_with bodies p (slice_get fixtures (body_of p)) (slice_get bodies (body_of p))
+    bodies_with_command bodies p (slice_get fixtures (body_of p)) (slice_get bodies (body_of p))
 
 -- the bodies after one command after the other
 unfoldable pub after_commands : List Fixture → List BodyState → List Payload → List BodyState

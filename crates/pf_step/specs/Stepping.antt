@@ -41,18 +41,15 @@ pub record IsStepOfCopy {E : Type 0} (s : Scene) (w : World) (payloads : List Pa
   pub follows : IfOk result (λ next. KnowsWorld s next new)
 
 -- what the phases after Points do to a world, where some changes of bodies are noted already: they
--- make the next world of it, note more changes of its bodies, and undoing all of them leaves what
--- undoing those alone would have left before; or they return an error, and the world, and what
--- undoing makes of its bodies, are as before
+-- make the next world of it and note more changes of its bodies, or return an error; in both cases
+-- undoing all that is noted leaves what undoing those first changes would have left before
 pub record IsEnding {A E : Type 0} (s : Scene) (w : World) (noted : List BodyChange)
     (after : World) (changes : Changes) (result : Result A E) : Type 0 where
   pub value : OnOk result (after ≡ world_after s w.contacts w.bodies)
-  pub before : OnOk result (world_before changes after
-      ≡ record { bodies = bodies_before noted w.bodies; contacts = w.contacts })
-  pub unchanged : OnErr result (after ≡ w)
+  pub before :
+      world_before changes after
+      ≡ record { bodies = bodies_before noted w.bodies; contacts = w.contacts }
   pub added : OnOk result (AreAdded (length w.bodies) noted changes.bodies)
-  pub undone : OnErr result
-      (bodies_before changes.bodies w.bodies ≡ bodies_before noted w.bodies)
 
 -- why a step that calls a crew failed: it was out of memory before the call, or the call with these
 -- islands failed with this error
@@ -61,8 +58,8 @@ abbrev pub FailsBy : {A : Type 0} → (A → List Island → CrewError → A →
 FailsBy may_fail old islands OutOfMemory new = new ≡ old
 FailsBy may_fail old islands (Crew error) new = may_fail old islands error new
 
--- what a step does with its crew: it calls it with these islands, once, or not at all where the
--- crew allows that; or it fails
+-- what a step does with its crew: what the crew says of one call with these islands holds, though
+-- a crew that allows it is not called where no island is left; or the step fails
 abbrev pub CallsCrew : {A B : Type 0} → (A → List Island → A → Type 0)
     → (A → List Island → CrewError → A → Type 0) → List Island → A → A → Result B StepError → Type 0
 CallsCrew is_called may_fail islands old new (Ok done) = is_called old islands new

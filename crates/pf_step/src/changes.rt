@@ -11,7 +11,6 @@ use pf_manifold::Touch;
 use pf_shapes::BodyState;
 use std::alloc::{AllocError, Global};
 use std::marker::Model;
-use std::mem;
 
 /// A body that a step changed, and its state before.
 #[derive(Clone, Copy, Debug)]
@@ -140,12 +139,12 @@ impl Changes {
     ghost use Rattle.pf_manifold.specs.Key.{AreTouches, key_of};
     ghost use Rattle.pf_cache.specs.Contact.{HaveSameFirst, next_contacts};
     ghost use Rattle.pf_cache.specs.ContactRows.{AreRowsAt};
-    ghost use Rattle.pf_cache.specs.ContactsChange.{contacts_before, no_contacts_before};
-    ghost use Rattle.pf_step.specs.Changes.{bodies_before, changes_by_commands, changes_of, changes_of_islands, MayChange};
+    ghost use Rattle.pf_cache.specs.ContactsChange.{contacts_before};
+    ghost use Rattle.pf_step.specs.Changes.{bodies_before, changes_by_commands, changes_of, changes_of_islands, no_changes, MayChange};
 
-    /// No changes of a world without contacts. Takes no memory.
+    /// Nothing changed. Takes no memory.
     pub(crate) fn new(alloc: Global) -> Changes
-        ensures { result ≡ record { bodies = []; contacts = no_contacts_before } }
+        ensures { result ≡ no_changes }
     {
         Changes {
             bodies: Vec::new(alloc),
@@ -160,11 +159,12 @@ impl Changes {
         self.bodies.as_slice()
     }
 
-    /// Forgets the changes of bodies, and keeps the memory.
+    /// Forgets what changed, and keeps the memory.
     pub(crate) fn clear(&mut self)
-        ensures { self.new ≡ record self.old { bodies = [] } }
+        ensures { self.new ≡ no_changes }
     {
         self.bodies.clear();
+        self.contacts.clear();
     }
 
     /// Notes the bodies that commands are for; it is called before the commands are applied. After
@@ -176,6 +176,7 @@ impl Changes {
     ) -> Result<(), AllocError>
         ensures noted { OnOk result (self.new.bodies
             ≡ self.old.bodies ++ changes_by_commands bodies.now payloads.now) }
+        ensures contacts { self.new.contacts ≡ self.old.contacts }
         ensures no_memory { bodies.now ≡ [] → IsOk result }
     {
         for payload in payloads {
@@ -222,9 +223,8 @@ impl Changes {
     }
 
     /// Makes of the contacts of the last tick those of these points, and keeps what that changes.
-    /// With `may_stay` they stay where they are if all have the keys of the points; the first
-    /// `known` have those of the first points. An error leaves the contacts as they are, and what
-    /// is kept of them is of no use then.
+    /// With `may_stay` they stay in place if all have the keys of all points; the first `known`
+    /// have those of the first points. An error leaves the contacts as they are, with no change.
     pub(crate) fn update_contacts(
         &mut self,
         contacts: &mut Contacts,
@@ -236,8 +236,7 @@ impl Changes {
         requires known { HaveSameFirst known (map (λ c. c.key) contacts.old)
             (map key_of touches.now) }
         ensures value { OnOk result (contacts.new ≡ next_contacts contacts.old touches.now) }
-        ensures before { OnOk result
-            (contacts_before self.new.contacts contacts.new ≡ contacts.old) }
+        ensures before { contacts_before self.new.contacts contacts.new ≡ contacts.old }
         ensures unchanged { OnErr result (contacts.new ≡ contacts.old) }
         ensures bodies { self.new.bodies ≡ self.old.bodies }
         ensures no_memory { touches.now ≡ [] → IsOk result }
@@ -264,16 +263,6 @@ impl Changes {
             contacts.note(&island.rows, &mut self.contacts)?;
         }
         Ok(())
-    }
-
-    /// Undoes the change of the contacts, and forgets it. Takes no memory.
-    pub(crate) fn undo_contacts(&mut self, alloc: Global, contacts: &mut Contacts)
-        ensures contacts { contacts.new ≡ contacts_before self.old.contacts contacts.old }
-        ensures bodies { self.new.bodies ≡ self.old.bodies }
-        ensures gone { self.new.contacts ≡ no_contacts_before }
-    {
-        let change = mem::replace(&mut self.contacts, ContactsChange::new(alloc));
-        contacts.undo(change);
     }
 
     /// The changes of bodies, and that of the contacts.

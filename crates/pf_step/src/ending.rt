@@ -1,7 +1,7 @@
 //! A tick from its contact points on.
 
 ghost use Rattle.std.specs.Prelude.{◌≡◌, ◌≢◌, ◌<◌, ◌++◌, [], Err, All, IfErr, IfOk, IsOk, List, OnOk, length, map};
-ghost use Rattle.pf_manifold.specs.Key.{AreTouches, IsRising, key_of};
+ghost use Rattle.pf_manifold.specs.Key.{AreTouches, key_of};
 ghost use Rattle.pf_manifold.specs.Touches.{IsTouchOf};
 ghost use Rattle.pf_cache.specs.Contact.{HaveSameFirst};
 ghost use Rattle.pf_cache.specs.ContactsChange.{contacts_before};
@@ -11,6 +11,7 @@ ghost use Rattle.pf_islands.specs.Flags.{ListsAwake};
 ghost use Rattle.pf_islands.specs.declared.splitting.LoneBodies.TheVariants.{AreListed};
 ghost use Rattle.pf_islands.specs.Lone.{lone_bodies, made_islands};
 ghost use Rattle.pf_islands.specs.Split.{IsIslandOf, Island};
+ghost use Rattle.pf_islands.specs.Splitting.{AreParts};
 ghost use Rattle.pf_solver.specs.Alone.{island_after_tick};
 ghost use Rattle.pf_step.specs.Crew.{IgnoresIslands};
 ghost use Rattle.pf_step.specs.declared.crew.StepError.TheVariants.{OutOfMemory};
@@ -26,7 +27,7 @@ use crate::world::World;
 use pf_cache::FoundCollisions;
 use pf_islands::{AwakeSearch, Island, LoneBodies, Parts, join_back, wake_and_split};
 use pf_shapes::Scene;
-use pf_solver::solve_alone;
+use pf_solver::solve_lone_bodies;
 use std::alloc::{AllocError, Global};
 
 /// Whether contacts may stay where they are, where so many of the bodies may have moved: not where
@@ -62,14 +63,8 @@ fn prepare(
         × ListsAwake work.old.moved world.now.bodies }
     requires places { AreListedPlaces work.old.moved found.now.collisions.manifolds.pairs
         found.now.moved_places.items }
-    ensures islands { IfOk result (λ parts. parts.islands.items
-        ≡ made_islands lone (islands_with scene.now world.now.contacts world.now.bodies)) }
-    ensures alone { IfOk result (λ parts. parts.alone.items
-        ≡ lone_bodies lone (islands_with scene.now world.now.contacts world.now.bodies)) }
-    ensures fit { IfOk result (λ parts. All (IsIslandOf scene.now) parts.islands.items) }
-    ensures order { IfOk result (λ parts. IsRising 0 parts.alone.items) }
-    ensures there { IfOk result
-        (λ parts. All (λ number. number < length world.now.bodies) parts.alone.items) }
+    ensures parts { IfOk result (AreParts scene.now world.now.bodies lone
+        (islands_with scene.now world.now.contacts world.now.bodies)) }
     ensures noted { OnOk result (
         let islands = islands_with scene.now world.now.contacts world.now.bodies in
         changes.new.bodies ≡ changes.old.bodies
@@ -103,7 +98,7 @@ fn prepare(
         lone,
     )?;
     changes.note_islands(&world.bodies, &parts.islands)?;
-    changes.note_bodies(&world.bodies, &parts.alone)?;
+    changes.note_bodies(&world.bodies, &parts.lone_bodies)?;
     changes.note_impulses(&world.contacts, &parts.islands)?;
     work.set_moved(changes.bodies())?;
     Ok(parts)
@@ -134,10 +129,11 @@ fn solve_by<C: Crew>(
 
 /// A tick from its contact points on, in the world after its commands. `found` is what the narrow
 /// phase found for its bodies, and the first `known` contacts have the keys of the first points
-/// found. Makes its islands, has them solved by one call of the crew, and puts them back; where the
-/// crew allows it, bodies that nothing touches are in none of them and go through the tick in their
-/// place. Notes what changes, and lists these bodies as those that may have moved. An error leaves
-/// the world as it is. Takes no memory of its own where there are no bodies.
+/// found. Makes its islands, has them solved by one call of the crew, and puts them back. Where the
+/// crew allows it, lone bodies are in none of them and go through the tick where they stand, and
+/// without islands the crew is not called. Notes what changes, and lists the noted bodies as those
+/// that may have moved. After an error the contacts may have changed, and what changed is noted.
+/// Takes no memory of its own where there are no bodies.
 pub(crate) fn finish<C: Crew>(
     alloc: Global,
     scene: &Scene,
@@ -172,21 +168,12 @@ pub(crate) fn finish<C: Crew>(
     let lone = crew.lone_bodies();
     let may_stay = may_stay(work.moved().len(), world.bodies.as_slice().len());
     changes.update_contacts(&mut world.contacts, touches, known, may_stay)?;
-    let Parts { islands, alone } = match prepare(alloc, scene, world, found, work, changes, lone) {
-        Ok(parts) => parts,
-        Err(error) => {
-            changes.undo_contacts(alloc, &mut world.contacts);
-            return Err(StepError::from(error));
-        }
-    };
-    let solved = match solve_by(crew, scene, islands, lone) {
-        Ok(solved) => solved,
-        Err(error) => {
-            changes.undo_contacts(alloc, &mut world.contacts);
-            return Err(StepError::Crew(error));
-        }
-    };
-    solve_alone(scene, &mut world.bodies, &alone);
+    let Parts {
+        islands,
+        lone_bodies,
+    } = prepare(alloc, scene, world, found, work, changes, lone)?;
+    let solved = solve_by(crew, scene, islands, lone)?;
+    solve_lone_bodies(scene, &mut world.bodies, &lone_bodies);
     join_back(&solved, &mut world.bodies, &mut world.contacts);
     work.keep_islands(solved);
     Ok(())

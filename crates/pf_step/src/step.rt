@@ -14,7 +14,7 @@ ghost use Rattle.pf_step.specs.Work.{KnowsWorld};
 ghost use Rattle.pf_step.specs.Stepping.{CallsCrew, IsStep, IsStepOfCopy};
 ghost use Rattle.pf_step.specs.Step.{collisions_of_bodies, touches_of_scene};
 
-use crate::changes::{Changes, undo_bodies};
+use crate::changes::Changes;
 use crate::command::apply_all;
 use crate::crew::{Crew, StepError};
 use crate::ending::finish;
@@ -62,11 +62,11 @@ fn find_collisions<P: Collider>(
 /// Makes of a world the one that is one tick of 1/64 s later, with the payloads of the tick's
 /// commands in order of player, then number, and returns what changed. The world has one state for
 /// each body of the scene. The collider computes contact points. The crew is called once, with the
-/// islands of the tick; where it allows that, with those alone that have contacts, and not at all
-/// where there are none. Counts in
-/// `work` the tick and the pairs that cannot reuse kept points, and leaves the points there, with
-/// the bodies that may have moved since. An error leaves the world as it was; then no points are
-/// kept, and nothing is counted. Takes no memory of its own where there are no bodies.
+/// islands of the tick. Where it allows that, lone bodies are in none of them, and without islands
+/// it is not called. Counts in `work` the tick and the pairs that cannot reuse kept points, and
+/// leaves the points there, with the bodies that may have moved since. An error leaves the world as
+/// it was; then no points are kept, and nothing is counted. Takes no memory of its own where there
+/// are no bodies.
 ///
 /// The world has to be the one that the last step with `work` left, unless `work` knows nothing of
 /// moved bodies. Only bodies that may have moved, and those that commands are for, are compared
@@ -98,7 +98,7 @@ pub fn step_next<P: Collider, C: Crew>(
     let found = match find_collisions(collider, alloc, scene, &world.bodies, kept, work.moved()) {
         Ok(found) => found,
         Err(error) => {
-            undo_bodies(&mut world.bodies, changes.bodies());
+            world.undo(changes);
             return Err(StepError::from(error));
         }
     };
@@ -109,7 +109,7 @@ pub fn step_next<P: Collider, C: Crew>(
             Ok(changes)
         }
         Err(error) => {
-            undo_bodies(&mut world.bodies, changes.bodies());
+            world.undo(changes);
             Err(error)
         }
     }

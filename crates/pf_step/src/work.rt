@@ -72,7 +72,7 @@ fn add_all(numbers: &mut Vec<usize>, count: usize) -> Result<(), AllocError>
 impl Work {
     ghost use Rattle.std.specs.Prelude.{◌≡◌, false, [], IsOk, OnOk};
     ghost use Rattle.pf_cache.specs.Manifolds.{no_manifolds};
-    ghost use Rattle.pf_step.specs.Changes.{numbers_of};
+    ghost use Rattle.pf_step.specs.Changes.{no_changes, numbers_of};
     ghost use Rattle.pf_step.specs.Work.{moved_bodies, no_work, work_after_tick};
 
     /// With nothing counted and nothing kept. Takes no memory.
@@ -178,10 +178,9 @@ impl Work {
         self.spare_islands = islands;
     }
 
-    /// Takes the memory that is kept for changes: without bodies, and what it holds of contacts is
-    /// of no use. Takes no memory.
+    /// Takes the memory that is kept for changes. Takes no memory.
     pub(crate) fn take_changes(&mut self, alloc: Global) -> Changes
-        ensures changes { result.bodies ≡ [] }
+        ensures changes { result ≡ no_changes }
         ensures work { self.new ≡ self.old }
     {
         let mut changes = mem::replace(&mut self.spare_changes, Changes::new(alloc));

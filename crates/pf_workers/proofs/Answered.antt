@@ -28,55 +28,55 @@ pub on_ok_then : {X E P Q : Type 0} (r : Result X E) → OnOk r P → (P → Q) 
 on_ok_then (Ok x) is then = then is
 on_ok_then (Err e) is then = tt
 
--- what a worker is asked: its queue, with the scene
+-- what a worker is asked: its stack, with the scene
 abbrev pub part : Scene → List Island → Option Part
-part s queue = Some (Islands (share_of s queue))
+part s stack = Some (Islands (share_of s stack))
 
 -- where it was done
 abbrev pub solved : List Island → Option Part
-solved queue = Some (Solved (Ok queue))
+solved stack = Some (Solved (Ok stack))
 
 -- each worker is asked something
-pub all_asked : (s : Scene) (queues : List (List Island)) → All IsSome (map (part s) queues)
+pub all_asked : (s : Scene) (stacks : List (List Island)) → All IsSome (map (part s) stacks)
 all_asked s [] k d low = absurd (omega (arith, low))
-all_asked s (queue ∷ queues) zero d low = refl
-all_asked s (queue ∷ queues) (suc k) d low = all_asked s queues k d (omega (arith, low))
+all_asked s (stack ∷ stacks) zero d low = refl
+all_asked s (stack ∷ stacks) (suc k) d low = all_asked s stacks k d (omega (arith, low))
 
-module _ (always : Bool) (s : Scene) (queues : List (List Island)) (after : List (Option Part))
-    (of : AreDone (IsDone always) (map (part s) queues) after) where
-  count : length after ≡ length queues
-  count = of.0 ∙ length-map queues (part s)
+module _ (always : Bool) (s : Scene) (stacks : List (List Island)) (after : List (Option Part))
+    (of : AreDone (IsDone always) (map (part s) stacks) after) where
+  count : length after ≡ length stacks
+  count = of.0 ∙ length-map stacks (part s)
 
-  done_at : (w : ℕ) (done : Part) → w < length queues → get_or after w None ≡ Some done
-      → IsDone always (Islands (share_of s (get_or queues w []))) done
-  done_at w done low is = of.2 w (Islands (share_of s (get_or queues w []))) done (omega arith) (get_or-map (part s) queues w [] None low) is
+  done_at : (w : ℕ) (done : Part) → w < length stacks → get_or after w None ≡ Some done
+      → IsDone always (Islands (share_of s (get_or stacks w []))) done
+  done_at w done low is = of.2 w (Islands (share_of s (get_or stacks w []))) done (omega arith) (get_or-map (part s) stacks w [] None low) is
 
-  solving : (queue : List Island) (slot : Option Part) → IsSome slot
-      → ((done : Part) → slot ≡ Some done → IsDone always (Islands (share_of s queue)) done) → AreIslandsDone always slot
-  solving queue None some is = absurd (true≢false (sym some))
-  solving queue (Some (Solved (Ok now))) some is = tt
-  solving queue (Some (Solved (Err error))) some is = is (Solved (Err error)) refl
-  solving queue (Some (Islands share)) some is = absurd (is (Islands share) refl)
-  solving queue (Some (Pairs chunk)) some is = absurd (is (Pairs chunk) refl)
-  solving queue (Some (Found found)) some is = absurd (is (Found found) refl)
+  solving : (stack : List Island) (slot : Option Part) → IsSome slot
+      → ((done : Part) → slot ≡ Some done → IsDone always (Islands (share_of s stack)) done) → AreIslandsDone always slot
+  solving stack None some is = absurd (true≢false (sym some))
+  solving stack (Some (Solved (Ok now))) some is = tt
+  solving stack (Some (Solved (Err error))) some is = is (Solved (Err error)) refl
+  solving stack (Some (Islands share)) some is = absurd (is (Islands share) refl)
+  solving stack (Some (Pairs chunk)) some is = absurd (is (Pairs chunk) refl)
+  solving stack (Some (Found found)) some is = absurd (is (Found found) refl)
 
   pub all_solving : All (AreIslandsDone always) after
   all_solving w d low =
       subst (AreIslandsDone always) (default_same after w None d low)
-      (solving (get_or queues w []) (get_or after w None) (of.1 w (omega arith) low)
+      (solving (get_or stacks w []) (get_or after w None) (of.1 w (omega arith) low)
       (λ done is. done_at w done (omega (arith, low, count)) is))
 
-  -- where all workers are done, their queues are those that were dealt, after a tick
-  pub all_solved : (now : List (List Island)) → map solved now ≡ after → now ≡ map (map (island_after_tick s)) queues
+  -- where all workers are done, their stacks are those that were dealt, after a tick
+  pub all_solved : (now : List (List Island)) → map solved now ≡ after → now ≡ map (map (island_after_tick s)) stacks
   all_solved now done =
       let same : length now ≡ length after = sym (length-map now solved) ∙ ap length done in
-      made_of (map (island_after_tick s)) now queues [] [] (same ∙ count)
+      made_of (map (island_after_tick s)) now stacks [] [] (same ∙ count)
       (λ w low.
       let at : get_or after w None ≡ solved (get_or now w []) =
       ap (λ l. get_or l w None) (sym done) ∙ get_or-map solved now w [] None low in
       done_at w (Solved (Ok (get_or now w []))) (omega (arith, low, same, count)) at)
 
--- queues that were solved in a list in place
+-- stacks that were solved in a list in place
 pub back : (f : Island → Island) (len : ℕ) (new dealt lent : List (List Island)) → len ≡ length dealt → lent ≡ dealt
     → new ≡ map (map f) lent → take len (new ++ drop (length new) dealt) ≡ map (map f) dealt
 back f len new dealt lent whole same solved =

@@ -33,9 +33,9 @@ pub record StandingCrew : Type 0 where
 abbrev pub new_crew : ℕ → StandingCrew
 new_crew workers = record { workers = replicate workers true; turn = 0; lost = false }
 
--- no worker was dismissed
-abbrev pub IsWholeCrew : StandingCrew → Type 0
-IsWholeCrew c = All (λ there. there ≡ true) c.workers
+-- all workers of a crew are there: none was dismissed
+abbrev pub CrewHasAllWorkers : StandingCrew → Type 0
+CrewHasAllWorkers c = All (λ there. there ≡ true) c.workers
 
 -- the error of a crew whose pool failed
 abbrev pub crew_error : PoolError → CrewError

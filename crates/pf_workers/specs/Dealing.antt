@@ -7,11 +7,11 @@ share n w k [] = []
 share n w k (x ∷ xs) =
     if k % n == w then share n w (k + 1) xs ++ x ∷ [] else share n w (k + 1) xs
 
--- these queues are what the workers have of a list whose first element has the number k
+-- these stacks are what the workers have of a list whose first element has the number k
 abbrev pub AreSharesFrom : {X : Type 0} → ℕ → List X → List (List X) → Type 0
-AreSharesFrom k all queues =
-    (w : ℕ) → w < length queues → slice_index_or queues w [] ≡ share (length queues) w k all
+AreSharesFrom k all stacks =
+    (w : ℕ) → w < length stacks → slice_index_or stacks w [] ≡ share (length stacks) w k all
 
--- these queues are what the workers have of all
+-- these stacks are what the workers have of all
 abbrev pub AreShares : {X : Type 0} → List X → List (List X) → Type 0
-AreShares all queues = AreSharesFrom 0 all queues
+AreShares all stacks = AreSharesFrom 0 all stacks

@@ -12,9 +12,9 @@ pub record Share : Type 0 where
   pub islands : List Island
 
 abbrev pub share_of : Scene → List Island → Share
-share_of s queue = record { scene = s; islands = queue }
+share_of s stack = record { scene = s; islands = stack }
 
 -- what a worker returns of its own islands: each after a tick, or that its gate was shut
 abbrev pub IsSolved : Bool → Scene → List Island → Result (List Island) CrewError → Type 0
-IsSolved always s queue (Ok after) = after ≡ map (island_after_tick s) queue
-IsSolved always s queue (Err error) = (error ≡ GateShut) × (always ≡ false)
+IsSolved always s stack (Ok after) = after ≡ map (island_after_tick s) stack
+IsSolved always s stack (Err error) = (error ≡ GateShut) × (always ≡ false)

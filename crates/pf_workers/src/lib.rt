@@ -4,10 +4,10 @@
 
 mod colliding;
 mod gate;
-mod queue;
 mod scene;
 mod scoped;
 mod solving;
+mod stack;
 mod standing;
 mod work;
 mod workers;

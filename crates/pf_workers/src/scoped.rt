@@ -7,7 +7,7 @@ ghost use Rattle.pf_workers.specs.Crew.{IsScopedError};
 
 use crate::MAX_WORKERS;
 use crate::gate::{Gate, OpenGate};
-use crate::queue::{IslandQueue, deal, empty_queues, gather};
+use crate::stack::{IslandStack, deal, empty_stacks, gather};
 use crate::work::solve;
 use pf_islands::Island;
 use pf_shapes::Scene;
@@ -23,18 +23,18 @@ use std::{mem, thread};
 #[derive(Drop)]
 struct WorkerPromise<G> {
     scene: Snapshot<Scene>,
-    queue: Snapshot<IslandQueue>,
+    stack: Snapshot<IslandStack>,
     gate: PhantomData<G>,
 }
 
-impl<G: Gate> Promise<Result<IslandQueue, CrewError>> for WorkerPromise<G> {
+impl<G: Gate> Promise<Result<IslandStack, CrewError>> for WorkerPromise<G> {
     ghost use Rattle.pf_workers.specs.Solving.{IsSolved};
 
-    ghost kept_by = { λ p r. IsSolved G.ALWAYS p.scene.value p.queue.value r };
+    ghost kept_by = { λ p r. IsSolved G.ALWAYS p.scene.value p.stack.value r };
 }
 
-/// Starts a worker for each queue, from the last to the first, and joins those that it started.
-/// Each queue then holds its islands after a tick. Returns an error where a thread could not be
+/// Starts a worker for each stack, from the last to the first, and joins those that it started.
+/// Each stack then holds its islands after a tick. Returns an error where a thread could not be
 /// started, and else that of the least worker that failed.
 fn run_workers<'s, 'e: 's, R: Threads, G: Gate + Sync>(
     rt: &R,
@@ -43,21 +43,21 @@ fn run_workers<'s, 'e: 's, R: Threads, G: Gate + Sync>(
     scene: &'e Scene,
     gate: &'e G,
     turn: usize,
-    queues: &mut [IslandQueue],
+    stacks: &mut [IslandStack],
 ) -> Result<(), CrewError>
-    requires { All (All (IsIslandOf scene.now)) queues.old }
+    requires { All (All (IsIslandOf scene.now)) stacks.old }
     ensures solved { OnOk result
-        (queues.new ≡ map (map (island_after_tick scene.now)) queues.old) }
+        (stacks.new ≡ map (map (island_after_tick scene.now)) stacks.old) }
     ensures failed { IfErr result (IsScopedError G.ALWAYS) }
 {
-    let Some((queue, others)) = queues.split_last_mut() else {
+    let Some((stack, others)) = stacks.split_last_mut() else {
         return Ok(());
     };
     let worker = others.len();
-    let given = mem::replace(queue, IslandQueue::new(alloc));
+    let given = mem::replace(stack, IslandStack::new(alloc));
     let promise = WorkerPromise::<G> {
         scene: Snapshot::of(scene),
-        queue: Snapshot::of(&given),
+        stack: Snapshot::of(&given),
         gate: PhantomData,
     };
     let started = scope.spawn_with(promise, move || solve(scene, gate, worker, turn, given));
@@ -67,7 +67,7 @@ fn run_workers<'s, 'e: 's, R: Threads, G: Gate + Sync>(
     let lesser = run_workers(rt, alloc, scope, scene, gate, turn, others);
     let done = thread.join(rt);
     lesser?;
-    *queue = done?;
+    *stack = done?;
     Ok(())
 }
 
@@ -116,16 +116,16 @@ impl<'r, R: Threads + Wait, G: Gate + Sync> ScopedCrew<'r, R, G> {
         }
     }
 
-    /// Lets the workers solve their queues in a scope of their own.
+    /// Lets the workers solve their stacks in a scope of their own.
     fn run(
         &self,
         scene: &Scene,
         turn: usize,
-        queues: Vec<IslandQueue>,
-    ) -> Result<Vec<IslandQueue>, CrewError>
-        requires { All (All (IsIslandOf scene.now)) queues.items }
+        stacks: Vec<IslandStack>,
+    ) -> Result<Vec<IslandStack>, CrewError>
+        requires { All (All (IsIslandOf scene.now)) stacks.items }
         ensures solved { IfOk result
-            (λ solved. solved.items ≡ map (map (island_after_tick scene.now)) queues.items) }
+            (λ solved. solved.items ≡ map (map (island_after_tick scene.now)) stacks.items) }
         ensures failed { IfErr result (IsScopedError G.ALWAYS) }
     {
         let rt = self.rt;
@@ -134,16 +134,16 @@ impl<'r, R: Threads + Wait, G: Gate + Sync> ScopedCrew<'r, R, G> {
         thread::scope(
             thread::scope_env(),
             rt,
-            |scope| -> Result<Vec<IslandQueue>, CrewError>
-                requires { All (All (IsIslandOf scene.now)) queues.items }
+            |scope| -> Result<Vec<IslandStack>, CrewError>
+                requires { All (All (IsIslandOf scene.now)) stacks.items }
                 ensures solved { IfOk result
                     (λ solved. solved.items
-                    ≡ map (map (island_after_tick scene.entry.now)) queues.items) }
+                    ≡ map (map (island_after_tick scene.entry.now)) stacks.items) }
                 ensures failed { IfErr result (IsScopedError G.ALWAYS) }
             {
-                let mut queues = queues;
-                run_workers(rt, alloc, scope, scene, gate, turn, &mut queues)?;
-                Ok(queues)
+                let mut stacks = stacks;
+                run_workers(rt, alloc, scope, scene, gate, turn, &mut stacks)?;
+                Ok(stacks)
             },
         )
     }
@@ -163,9 +163,9 @@ impl<'r, R: Threads + Wait, G: Gate + Sync> ScopedCrew<'r, R, G> {
         self.turn = turn.saturating_add(1);
         let mut islands = islands;
         let count = islands.len();
-        let empty = empty_queues(self.alloc, self.workers)?;
-        let queues = deal(&mut islands, empty)?;
-        let solved = self.run(scene, turn, queues)?;
+        let empty = empty_stacks(self.alloc, self.workers)?;
+        let stacks = deal(&mut islands, empty)?;
+        let solved = self.run(scene, turn, stacks)?;
         let _empty = gather(solved, count, &mut islands)?;
         Ok(islands)
     }

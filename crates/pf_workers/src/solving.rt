@@ -9,7 +9,7 @@ ghost use Rattle.pf_workers.specs.Work.{AreIslandsDone};
 ghost use Rattle.pf_workers.specs.declared.work.Part.TheVariants.{Islands, Solved};
 
 use crate::gate::Gate;
-use crate::queue::IslandQueue;
+use crate::stack::IslandStack;
 use crate::work::{Part, solve};
 use pf_shapes::Scene;
 use pf_step::CrewError;
@@ -22,7 +22,7 @@ use std::sync::Arc;
 #[derive(Drop)]
 pub(crate) struct Share {
     scene: Arc<Scene, Global>,
-    queue: IslandQueue,
+    stack: IslandStack,
 }
 
 impl Model for Share {
@@ -33,9 +33,9 @@ impl Model for Share {
 
     ghost Value = { Share };
 
-    ghost view = { λ s. record { scene = arc_value s.scene; islands = s.queue } };
+    ghost view = { λ s. record { scene = arc_value s.scene; islands = s.stack } };
 
-    ghost invariant = { λ s. All (IsIslandOf (arc_value s.scene)) s.queue };
+    ghost invariant = { λ s. All (IsIslandOf (arc_value s.scene)) s.stack };
 }
 
 impl Share {
@@ -47,49 +47,49 @@ impl Share {
         gate: &G,
         worker: usize,
         turn: usize,
-    ) -> Result<IslandQueue, CrewError>
+    ) -> Result<IslandStack, CrewError>
         ensures { IsSolved G.ALWAYS self.scene self.islands result }
     {
-        let Share { scene, queue } = self;
-        solve(&scene, gate, worker, turn, queue)
+        let Share { scene, stack } = self;
+        solve(&scene, gate, worker, turn, stack)
     }
 }
 
-/// Makes a part of each queue, with the scene.
+/// Makes a part of each stack, with the scene.
 pub(crate) fn hand_out(
     alloc: Global,
     scene: &Arc<Scene, Global>,
-    queues: &mut [IslandQueue],
+    stacks: &mut [IslandStack],
     parts: &mut Vec<Option<Part>>,
 ) -> Result<(), AllocError>
-    requires { All (All (IsIslandOf (arc_value scene.now))) queues.old }
+    requires { All (All (IsIslandOf (arc_value scene.now))) stacks.old }
     ensures parts { OnOk result (parts.new.items
-        ≡ map (λ queue. Some (Islands (share_of (arc_value scene.now) queue))) queues.old) }
-    ensures count { length queues.new ≡ length queues.old }
+        ≡ map (λ stack. Some (Islands (share_of (arc_value scene.now) stack))) stacks.old) }
+    ensures count { length stacks.new ≡ length stacks.old }
 {
     parts.clear();
-    for number in 0..queues.len() {
-        let queue = mem::replace(&mut queues[number], IslandQueue::new(alloc));
+    for number in 0..stacks.len() {
+        let stack = mem::replace(&mut stacks[number], IslandStack::new(alloc));
         let scene = Arc::try_clone(scene)?;
-        parts.push(Some(Part::Islands(Share { scene, queue })))?;
+        parts.push(Some(Part::Islands(Share { scene, stack })))?;
     }
     Ok(())
 }
 
-/// Takes the solved queues out of the parts, or returns the error of the least worker that has one.
+/// Takes the solved stacks out of the parts, or returns the error of the least worker that has one.
 pub(crate) fn take_in<G: Gate>(
     parts: &mut [Option<Part>],
-    queues: &mut [IslandQueue],
+    stacks: &mut [IslandStack],
 ) -> Result<(), CrewError>
-    requires count { length parts.old ≡ length queues.old }
+    requires count { length parts.old ≡ length stacks.old }
     requires done { All (AreIslandsDone G.ALWAYS) parts.old }
-    ensures queues { OnOk result (map (λ queue. Some (Solved (Ok queue))) queues.new ≡ parts.old) }
-    ensures count { length queues.new ≡ length queues.old }
+    ensures stacks { OnOk result (map (λ stack. Some (Solved (Ok stack))) stacks.new ≡ parts.old) }
+    ensures count { length stacks.new ≡ length stacks.old }
     ensures failed { IfErr result (λ error. (error ≡ GateShut) × (G.ALWAYS ≡ false)) }
 {
-    for number in 0..queues.len() {
+    for number in 0..stacks.len() {
         match parts[number].take() {
-            Some(Part::Solved(queue)) => queues[number] = queue?,
+            Some(Part::Solved(stack)) => stacks[number] = stack?,
             _ => unreachable!(),
         }
     }

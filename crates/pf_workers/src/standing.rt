@@ -6,9 +6,9 @@ ghost use Rattle.pf_workers.specs.Crew.{crew_error};
 use crate::MAX_WORKERS;
 use crate::colliding::StandingCollider;
 use crate::gate::Gate;
-use crate::queue::{IslandQueue, contact_counts, deal, empty_queues, gather};
 use crate::scene::SharedScene;
 use crate::solving::{hand_out, take_in};
+use crate::stack::{IslandStack, contact_counts, deal, empty_stacks, gather};
 use crate::work::{Part, Work};
 use pf_islands::Island;
 use pf_pool::{Pool, PoolError};
@@ -53,8 +53,8 @@ pub struct StandingCrew<R, G: Gate> {
     alloc: Global,
     pool: Pool<R, Work<G>>,
     scene: SharedScene,
-    /// The memory for the queues of the next solve, and for their way to the workers and back.
-    queues: Vec<IslandQueue>,
+    /// The memory for the stacks of the next solve, and for their way to the workers and back.
+    stacks: Vec<IslandStack>,
     parts: Vec<Option<Part>>,
     turn: usize,
     lost: bool,
@@ -70,14 +70,14 @@ impl<R, G: Gate> Model for StandingCrew<R, G> {
     ghost view = { λ c. record { workers = c.pool; turn = c.turn; lost = c.lost } };
 
     ghost invariant = { λ c. (0 < length c.pool) × (length c.pool ≤ MAX_WORKERS)
-        × All (λ queue. queue ≡ []) c.queues.items };
+        × All (λ stack. stack ≡ []) c.stacks.items };
 }
 
 impl<R: Wait, G: Gate> StandingCrew<R, G> {
     ghost use Rattle.std.specs.Prelude.{◌≡◌, ◌<◌, ◌≤◌, [], All, IfErr, IfOk, IsTrue, OnOk, false, length, map, slice_set, true};
     ghost use Rattle.pf_islands.specs.Split.{IsIslandOf};
     ghost use Rattle.pf_solver.specs.Alone.{island_after_tick};
-    ghost use Rattle.pf_workers.specs.Crew.{IsWholeCrew, IsStandingError, IsStartFailure, new_crew};
+    ghost use Rattle.pf_workers.specs.Crew.{CrewHasAllWorkers, IsStandingError, IsStartFailure, new_crew};
 
     /// A crew of so many workers, which pass the gate in each solve. Returns an error where it is
     /// out of memory or a thread could not be started; the workers that were started end by
@@ -100,7 +100,7 @@ impl<R: Wait, G: Gate> StandingCrew<R, G> {
                 alloc,
                 pool,
                 scene: SharedScene::new(),
-                queues: Vec::new(alloc),
+                stacks: Vec::new(alloc),
                 parts: Vec::new(alloc),
                 turn: 0,
                 lost: false,
@@ -171,30 +171,30 @@ impl<R: Wait, G: Gate> StandingCrew<R, G> {
         Ok(islands)
     }
 
-    /// Lets the workers solve their queues.
+    /// Lets the workers solve their stacks.
     fn run(
         &mut self,
         scene: &Scene,
         turn: usize,
-        queues: &mut [IslandQueue],
+        stacks: &mut [IslandStack],
     ) -> Result<(), CrewError>
-        requires count { length queues.old ≤ length self.old.workers }
-        requires islands { All (All (IsIslandOf scene.now)) queues.old }
+        requires count { length stacks.old ≤ length self.old.workers }
+        requires islands { All (All (IsIslandOf scene.now)) stacks.old }
         ensures solved { OnOk result
-            (queues.new ≡ map (map (island_after_tick scene.now)) queues.old) }
+            (stacks.new ≡ map (map (island_after_tick scene.now)) stacks.old) }
         ensures same { self.new ≡ self.old }
         ensures failed { IfErr result (IsStandingError G.ALWAYS) }
     {
         let shared = self.scene.shared(self.alloc, scene)?;
-        hand_out(self.alloc, &shared, queues, &mut self.parts)?;
+        hand_out(self.alloc, &shared, stacks, &mut self.parts)?;
         match self.pool.run(turn, &mut self.parts) {
-            Ok(()) => take_in::<G>(&mut self.parts, queues),
+            Ok(()) => take_in::<G>(&mut self.parts, stacks),
             Err(error) => Err(crew_error(error)),
         }
     }
 
-    /// How many queues pay for so many islands.
-    fn queue_count(&self, islands: usize) -> usize
+    /// How many stacks pay for so many islands.
+    fn stack_count(&self, islands: usize) -> usize
         ensures some { 0 < result }
         ensures most { result ≤ length self.now.workers }
     {
@@ -205,17 +205,17 @@ impl<R: Wait, G: Gate> StandingCrew<R, G> {
         most.min(islands.max(1))
     }
 
-    /// So many queues without islands, in the memory of the last ones.
-    fn take_queues(&mut self, count: usize) -> Result<Vec<IslandQueue>, AllocError>
-        ensures count { IfOk result (λ queues. length queues.items ≡ count) }
-        ensures empty { IfOk result (λ queues. All (λ queue. queue ≡ []) queues.items) }
+    /// So many stacks without islands, in the memory of the last ones.
+    fn take_stacks(&mut self, count: usize) -> Result<Vec<IslandStack>, AllocError>
+        ensures count { IfOk result (λ stacks. length stacks.items ≡ count) }
+        ensures empty { IfOk result (λ stacks. All (λ stack. stack ≡ []) stacks.items) }
         ensures same { self.new ≡ self.old }
     {
-        let queues = mem::replace(&mut self.queues, Vec::new(self.alloc));
-        if queues.len() == count {
-            return Ok(queues);
+        let stacks = mem::replace(&mut self.stacks, Vec::new(self.alloc));
+        if stacks.len() == count {
+            return Ok(stacks);
         }
-        empty_queues(self.alloc, count)
+        empty_stacks(self.alloc, count)
     }
 
     /// Solves each island by the workers, in a turn that was counted. Passes the gate for those
@@ -232,16 +232,16 @@ impl<R: Wait, G: Gate> StandingCrew<R, G> {
         ensures same { self.new ≡ self.old }
         ensures failed { IfErr result (IsStandingError G.ALWAYS) }
     {
-        let queue_count = self.queue_count(islands.len());
-        if !self.pass_from(queue_count, turn) {
+        let stack_count = self.stack_count(islands.len());
+        if !self.pass_from(stack_count, turn) {
             return Err(CrewError::GateShut);
         }
         let mut islands = islands;
         let count = islands.len();
-        let empty = self.take_queues(queue_count)?;
-        let mut queues = deal(&mut islands, empty)?;
-        self.run(scene, turn, &mut queues)?;
-        self.queues = gather(queues, count, &mut islands)?;
+        let empty = self.take_stacks(stack_count)?;
+        let mut stacks = deal(&mut islands, empty)?;
+        self.run(scene, turn, &mut stacks)?;
+        self.stacks = gather(stacks, count, &mut islands)?;
         Ok(islands)
     }
 
@@ -256,7 +256,7 @@ impl<R: Wait, G: Gate> StandingCrew<R, G> {
         ensures solved { IfOk result
             (λ solved. solved.items ≡ map (island_after_tick scene.now) islands.items) }
         ensures same { self.new ≡ self.old }
-        ensures there { OnOk result (IsWholeCrew self.old) }
+        ensures there { OnOk result (CrewHasAllWorkers self.old) }
         ensures failed { IfErr result (IsStandingError G.ALWAYS) }
     {
         if !self.pool.has_all_workers() {
@@ -271,10 +271,10 @@ impl<R: Wait, G: Gate> StandingCrew<R, G> {
 
 impl<R: Wait, G: Gate> Crew for StandingCrew<R, G> {
     ghost use Rattle.std.specs.Prelude.{◌≡◌, false};
-    ghost use Rattle.pf_workers.specs.Crew.{IsWholeCrew, FailsStanding, next_turn};
+    ghost use Rattle.pf_workers.specs.Crew.{CrewHasAllWorkers, FailsStanding, next_turn};
 
     ghost is_called = { λ before islands after.
-        (before.lost ≡ false) × IsWholeCrew before
+        (before.lost ≡ false) × CrewHasAllWorkers before
         × (after ≡ record before { turn = next_turn before.turn }) };
 
     ghost may_fail = { λ before islands error after. FailsStanding G.ALWAYS before error after };

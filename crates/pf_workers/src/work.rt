@@ -6,8 +6,8 @@ ghost use Rattle.pf_workers.specs.Solving.{IsSolved};
 
 use crate::colliding::Chunk;
 use crate::gate::Gate;
-use crate::queue::IslandQueue;
 use crate::solving::Share;
+use crate::stack::IslandStack;
 use pf_manifold::Touch;
 use pf_pool::Task;
 use pf_shapes::Scene;
@@ -20,17 +20,17 @@ pub(crate) fn solve<G: Gate>(
     gate: &G,
     worker: usize,
     turn: usize,
-    queue: IslandQueue,
-) -> Result<IslandQueue, CrewError>
-    requires { All (IsIslandOf scene.now) queue }
-    ensures { IsSolved G.ALWAYS scene.now queue result }
+    stack: IslandStack,
+) -> Result<IslandStack, CrewError>
+    requires { All (IsIslandOf scene.now) stack }
+    ensures { IsSolved G.ALWAYS scene.now stack result }
 {
     if !gate.pass(worker, turn) {
         return Err(CrewError::GateShut);
     }
-    let mut queue = queue;
-    queue.solve(scene);
-    Ok(queue)
+    let mut stack = stack;
+    stack.solve(scene);
+    Ok(stack)
 }
 
 /// What a worker is asked to do, and what it comes back as.
@@ -39,7 +39,7 @@ pub(crate) enum Part {
     /// Islands that are to be solved.
     Islands(Share),
     /// The islands after a tick, or that the gate was shut.
-    Solved(Result<IslandQueue, CrewError>),
+    Solved(Result<IslandStack, CrewError>),
     /// Pairs whose contact points are to be computed.
     Pairs(Chunk),
     /// The contact points, or out of memory.

@@ -1,6 +1,6 @@
 //! Products in lanes against those of fixed-point numbers; each call and each law once.
 
-ghost use Rattle.std.specs.Prelude.{◌<◌, ◌≤◌, ◌*◌, ◌^◌};
+ghost use Rattle.std.specs.Prelude.{◌<◌, ◌≤◌, ◌^◌};
 ghost use Rattle.std.specs.Int.RustNames.{unsigned_abs};
 ghost use Rattle.pf_lanes.specs.Lanes.{Lane, number_in, lanes_of};
 

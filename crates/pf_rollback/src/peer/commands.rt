@@ -4,7 +4,7 @@ ghost use Rattle.std.specs.Prelude.{◌≡◌, ◌≤◌, Ok, Err, IsOk, IsSome,
 ghost use Rattle.std.specs.FinMap.{get};
 ghost use Rattle.pf_commands.specs.Check.{check};
 ghost use Rattle.pf_commands.specs.Frame.{decode};
-ghost use Rattle.pf_commands.specs.News.{news, put_outcome, is_change};
+ghost use Rattle.pf_commands.specs.News.{put_outcome, is_change};
 ghost use Rattle.pf_commands.specs.declared.payload.Command.{Command};
 ghost use Rattle.pf_rollback.specs.Peer.{put, take, next_number, with_command, IsNextNumber, issue, merge_map, merge_sealed};
 ghost use Rattle.pf_rollback.specs.Core.{KeepsBefore, news_tick};

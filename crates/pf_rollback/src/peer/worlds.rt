@@ -7,7 +7,7 @@ ghost use Rattle.pf_step.specs.Simulation.{sim};
 ghost use Rattle.pf_rollback.specs.Kept.{nearest_tick};
 ghost use Rattle.pf_rollback.specs.Peer.{IsEmptyBefore, seal, world_at};
 ghost use Rattle.pf_rollback.specs.Core.{count_after};
-ghost use Rattle.pf_rollback.specs.Calls.{OnlyReturns, Seals};
+ghost use Rattle.pf_rollback.specs.Calls.{ReturnsUnchanged, Seals};
 
 use crate::error::{PeerError, Refusal};
 use crate::peer::PeerCore;
@@ -24,7 +24,7 @@ impl PeerCore {
     /// no body and no contact is at the horizon, and no command before the tick.
     #[tactic(auto, unfolding(crate::specs::Peer::world_at))]
     pub fn world_at(&self, alloc: Global, tick: u32, work: &mut Work) -> Result<World, PeerError>
-        ensures value { OnlyReturns result (world_at self.now.scene self.now.peer tick) }
+        ensures value { ReturnsUnchanged result (world_at self.now.scene self.now.peer tick) }
         ensures from_zero { self.now.peer.horizon ≡ 0 → IfOk result (λ world.
             world ≡ sim self.now.scene self.now.peer.commands tick) }
         ensures counted { let ticks = tick - nearest_tick self.now.kept tick in

@@ -1,7 +1,7 @@
 use Rattle.std.proofs.Common.{◌≡◌, ◌+◌, ◌-◌, ◌<◌, ◌≤◌, ◌++◌, ◌||◌, ◌∷◌, [], false, true, List, length, length-drop, drop, get_or, replicate, vec_len, sym, subst, ap, ◌∙◌, arith, append_assoc}
 use Rattle.std.proofs.lemmas.List.{append-nil, drop_all, get_or_default, take_all}
 use Rattle.pf_shapes.specs.Pair.{is_before, Pair}
-use Rattle.pf_broad.specs.Enlarged.{flags_without, has_one, pairs_without}
+use Rattle.pf_broad.specs.Enlarged.{flagged_without, has_one_of, pairs_without}
 use Rattle.pf_broad.specs.Pairs.{pair, pairs}
 use Rattle.pf_broad.specs.Partners.{has_body}
 use Rattle.pf_broad.proofs.Ascending.{ascending}
@@ -33,7 +33,7 @@ loop-i-init c =
         failing = sym c.requires.others;
       };
       as_many = ap length c.in_ok-merged_flags.ensures.items ∙ sym (ap length c.in_ok-merged.ensures.items);
-      flags = (λ k. flags_without left (c.in_ok-merged_flags.ensures.items k) (c.in_ok-merged.ensures.items k) ++ flags_without left fs cs);
+      flags = (λ k. flagged_without left (c.in_ok-merged_flags.ensures.items k) (c.in_ok-merged.ensures.items k) ++ flagged_without left fs cs);
       count = omega (arith, c.in_ok-merged.ensures.len);
       room = omega (arith, c.in_ok-merged.ensures.exact, c.len.ensures);
       flags_room = omega (arith, c.in_ok-merged_flags.ensures.exact, c.len.ensures);
@@ -53,9 +53,9 @@ pub index-requires-in-loop-i : goal.index-requires-in-loop-i
 index-requires-in-loop-i c = omega (arith, (next_bodies (goal.at.index-requires-in-loop-i c).After-pair).1, c.in_ok-is_left.ensures.count)
 
 -- whether it has a body that left
-tested : (c : After-index-in-loop-i) → has_one c.args.left.now c.index-candidates-i.result ≡ (c.index.result.now || c.index-in-loop-i.result.now)
+tested : (c : After-index-in-loop-i) → has_one_of c.args.left.now c.index-candidates-i.result ≡ (c.index.result.now || c.index-in-loop-i.result.now)
 tested c =
-    ap (has_one c.args.left.now) (sym c.pair.view_is)
+    ap (has_one_of c.args.left.now) (sym c.pair.view_is)
     ∙ has_one_read c.args.left.now c.in_ok-is_left.is_left.items (length c.args.enlarged.now) (pair c.pair.inside.a c.pair.inside.b)
     c.index.result.now c.index-in-loop-i.result.now c.in_ok-is_left.ensures.count c.in_ok-is_left.ensures.each (next_bodies (goal.at.After-index-in-loop-i c).After-pair)
     c.index.ensures c.index-in-loop-i.ensures
@@ -69,14 +69,14 @@ loop-i-preserved-then-index c =
     let i = c.loop-i.i in
     let inv = c.loop-i.invariant in
     let p = c.index-candidates-i.result in
-    let is : has_one left p ≡ true = tested here ∙ c.if-index.true in
+    let is : has_one_of left p ≡ true = tested here ∙ c.if-index.true in
     record {
       within = omega (arith, c.loop-i-test.true);
       next_within = inv.next_within;
-      pairs = subst (λ l. IsMerged (has_one left) (pairs c.args.enlarged.now) c.loop-i.merged.items (drop c.loop-i.next c.in_ok-fresh.fresh.items) l)
+      pairs = subst (λ l. IsMerged (has_one_of left) (pairs c.args.enlarged.now) c.loop-i.merged.items (drop c.loop-i.next c.in_ok-fresh.fresh.items) l)
           (others_from left cs i true p c.loop-i-test.true c.index-candidates-i.is is) inv.pairs;
       as_many = inv.as_many;
-      flags = ap (λ l. flags_without left c.loop-i.merged_flags.items c.loop-i.merged.items ++ l)
+      flags = ap (λ l. flagged_without left c.loop-i.merged_flags.items c.loop-i.merged.items ++ l)
           (sym (flags_from left fs cs i true p c.loop-i-test.true c.requires.flags c.index-candidates-i.is is)) ∙ inv.flags;
       count = omega (arith, inv.count);
       room = inv.room;
@@ -87,7 +87,7 @@ pub loop-i-preserved-then-is_before : goal.loop-i-preserved-then-is_before
 loop-i-preserved-then-is_before c =
     let here = (goal.at.loop-i-preserved-then-is_before c).After-index-in-loop-i in
     let left = c.args.left.now in
-    let t = has_one left in
+    let t = has_one_of left in
     let cs = c.args.candidates.now in
     let fresh = c.in_ok-fresh.fresh.items in
     let inv = c.loop-i.invariant in
@@ -106,8 +106,8 @@ loop-i-preserved-then-is_before c =
           (merge_fresh t (pairs c.args.enlarged.now) c.loop-i.merged.items _ _ _ _ p h at_p
           (others_from left cs c.loop-i.i false h c.loop-i-test.true c.index-candidates-i.is (tested here ∙ c.if-index.false)) first inv.pairs);
       as_many = omega (arith, inv.as_many, c.push_reserved.ensures.len, c.push_reserved-then-is_before.ensures.len);
-      flags = ap (λ l. l ++ flags_without left (drop c.loop-i.i c.args.flags.now) (drop c.loop-i.i cs))
-          ((λ k. flags_without left (c.push_reserved-then-is_before.ensures.items k) (c.push_reserved.ensures.items k))
+      flags = ap (λ l. l ++ flagged_without left (drop c.loop-i.i c.args.flags.now) (drop c.loop-i.i cs))
+          ((λ k. flagged_without left (c.push_reserved-then-is_before.ensures.items k) (c.push_reserved.ensures.items k))
           ∙ flags_push left c.loop-i.merged_flags.items c.loop-i.merged.items false true p inv.as_many is ∙ append-nil _) ∙ inv.flags;
       count = omega (arith, inv.count, c.push_reserved.ensures.len);
       room = omega (arith, inv.room, c.push_reserved.ensures.capacity);
@@ -118,7 +118,7 @@ pub loop-i-preserved : goal.loop-i-preserved
 loop-i-preserved c =
     let here = (goal.at.loop-i-preserved c).After-index-in-loop-i in
     let left = c.args.left.now in
-    let t = has_one left in
+    let t = has_one_of left in
     let cs = c.args.candidates.now in
     let fs = c.args.flags.now in
     let i = c.loop-i.i in
@@ -139,7 +139,7 @@ loop-i-preserved c =
     ] in
     let pushed : c.push_reserved-else-next-len.new.self.items ≡ c.loop-i.merged.items ++ h ∷ [] =
     c.push_reserved-else-next-len.ensures.items ∙ ap (λ r. c.loop-i.merged.items ++ r ∷ []) c.pair.view_is in
-    let rest = flags_without left (drop (i + 1) fs) (drop (i + 1) cs) in
+    let rest = flagged_without left (drop (i + 1) fs) (drop (i + 1) cs) in
     record {
       within = omega (arith, c.loop-i-test.true);
       next_within = inv.next_within;
@@ -148,10 +148,10 @@ loop-i-preserved c =
           (others_from left cs i false h c.loop-i-test.true c.index-candidates-i.is is) after inv.pairs);
       as_many = omega (arith, inv.as_many, c.push_reserved-else-next-len.ensures.len, c.push_reserved-else-next-len-2.ensures.len);
       flags = ap (λ l. l ++ rest)
-          ((λ k. flags_without left (c.push_reserved-else-next-len-2.ensures.items k) (pushed k))
+          ((λ k. flagged_without left (c.push_reserved-else-next-len-2.ensures.items k) (pushed k))
           ∙ flags_push left c.loop-i.merged_flags.items c.loop-i.merged.items (get_or fs i false) false h inv.as_many is)
-          ∙ append_assoc (flags_without left c.loop-i.merged_flags.items c.loop-i.merged.items) ((get_or fs i false, h) ∷ []) rest
-          ∙ ap (λ l. flags_without left c.loop-i.merged_flags.items c.loop-i.merged.items ++ l)
+          ∙ append_assoc (flagged_without left c.loop-i.merged_flags.items c.loop-i.merged.items) ((get_or fs i false, h) ∷ []) rest
+          ∙ ap (λ l. flagged_without left c.loop-i.merged_flags.items c.loop-i.merged.items ++ l)
           (sym (flags_from left fs cs i false h c.loop-i-test.true c.requires.flags c.index-candidates-i.is is)) ∙ inv.flags;
       count = omega (arith, inv.count, c.push_reserved-else-next-len.ensures.len);
       room = omega (arith, inv.room, c.push_reserved-else-next-len.ensures.capacity);
@@ -160,9 +160,9 @@ loop-i-preserved c =
 
 -- all others are merged
 all_merged : (c : After-loop-i) → length c.args.candidates.now ≤ c.loop-i.i
-    → IsMerged (has_one c.args.left.now) (pairs c.args.enlarged.now) c.loop-i.merged.items (drop c.loop-i.next c.in_ok-fresh.fresh.items) []
+    → IsMerged (has_one_of c.args.left.now) (pairs c.args.enlarged.now) c.loop-i.merged.items (drop c.loop-i.next c.in_ok-fresh.fresh.items) []
 all_merged c ended =
-    let t = has_one c.args.left.now in
+    let t = has_one_of c.args.left.now in
     subst (λ l. IsMerged t (pairs c.args.enlarged.now) c.loop-i.merged.items (drop c.loop-i.next c.in_ok-fresh.fresh.items) (pairs_without c.args.left.now l))
     (drop_all c.loop-i.i c.args.candidates.now ended) c.loop-i.invariant.pairs
 
@@ -174,7 +174,7 @@ all_pairs c =
     ∙ ap (λ (l : List Pair). c.loop-i.merged.items ++ l)
     (take_all (length c.deref-2.result.now - c.loop-i.next) rest (omega (arith, length-drop c.loop-i.next c.deref-2.result.now))
     ∙ ap (drop c.loop-i.next) c.deref-2.ensures.value)
-    ∙ merge_rest (has_one c.args.left.now) (pairs c.args.enlarged.now) c.loop-i.merged.items (drop c.loop-i.next c.in_ok-fresh.fresh.items)
+    ∙ merge_rest (has_one_of c.args.left.now) (pairs c.args.enlarged.now) c.loop-i.merged.items (drop c.loop-i.next c.in_ok-fresh.fresh.items)
     (all_merged (goal.at.In_ok-extend_from_slice c).After-loop-i c.loop-i-test.false)
 
 pub returns-clause-pairs : goal.returns-clause-pairs
@@ -190,7 +190,7 @@ returns-clause-others c =
     let fs = c.args.flags.now in
     let cs = c.args.candidates.now in
     let inv = c.loop-i.invariant in
-    ap (λ l. flags_without left l (pairs c.args.enlarged.now))
+    ap (λ l. flagged_without left l (pairs c.args.enlarged.now))
     (c.in_ok-resize.ensures.items ∙ ap (λ l. l ++ replicate (c.len-2.result - vec_len c.loop-i.merged_flags) false) (take_all _ c.loop-i.merged_flags.items
     (omega (arith, inv.as_many, c.len-2.ensures, c.in_ok-extend_from_slice.ensures.len))))
     ∙ flags_of_all left (pairs c.args.enlarged.now) c.loop-i.merged.items (drop c.loop-i.next c.in_ok-fresh.fresh.items) c.loop-i.merged_flags.items (replicate (c.len-2.result - vec_len c.loop-i.merged_flags) false)

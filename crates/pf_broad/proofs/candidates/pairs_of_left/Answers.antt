@@ -1,7 +1,7 @@
 use Rattle.std.proofs.Common.{◌≡◌, ◌++◌, ℕ, List, map, filter, sym, ap, ◌∙◌}
 use Rattle.std.proofs.lemmas.List.Elements.{filter-append}
 use Rattle.std.specs.List.{flat_map, range_with_len}
-use Rattle.pf_broad.specs.Enlarged.{has_one}
+use Rattle.pf_broad.specs.Enlarged.{has_one_of}
 use Rattle.pf_broad.specs.Pairs.{is_pair, pair, pairs_of, partners_of}
 use Rattle.pf_broad.specs.Partners.{has_body}
 use Rattle.pf_broad.proofs.Finding.{pairs-more}
@@ -20,7 +20,7 @@ loop-i-preserved c =
     let left = c.args.left.now in
     let i = c.loop-i.i in
     let is = c.requires.flags i c.loop-i-test.true in
-    let row : map (pair i) c.if-is_left-i.partners.items ≡ filter (has_one left) (pairs_of bs i) =
+    let row : map (pair i) c.if-is_left-i.partners.items ≡ filter (has_one_of left) (pairs_of bs i) =
     elim c.if-is_left-i.branch [
       | then-is_left-i+in_ok-add_later w ↦
           rw w.partners-is
@@ -34,5 +34,5 @@ loop-i-preserved c =
     c.in_ok-add_pairs.ensures
     ∙ ap (λ (ks : List ℕ). c.loop-i.fresh.items ++ map (pair i) ks) c.deref.ensures.value
     ∙ (λ k. c.loop-i.invariant k ++ row k)
-    ∙ sym (filter-append (has_one left) (flat_map (pairs_of bs) (range_with_len 0 i)) (pairs_of bs i))
-    ∙ ap (filter (has_one left)) (sym (pairs-more bs i))
+    ∙ sym (filter-append (has_one_of left) (flat_map (pairs_of bs) (range_with_len 0 i)) (pairs_of bs i))
+    ∙ ap (filter (has_one_of left)) (sym (pairs-more bs i))

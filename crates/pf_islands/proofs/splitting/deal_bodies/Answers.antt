@@ -18,7 +18,7 @@ loop-number-init c =
     record {
       dealt = at_first (is_awake_at bodies) (length bodies) c.args.numbers.now c.requires.numbers (AreDealt labels bodies c.args.islands.now c.args.places.now)
           (λ j below asleep h.
-          dealt_asleep labels bodies _ _ j (omega (arith, below, c.requires.seen)) c.requires.woken_bodies asleep h)
+          dealt_asleep labels bodies _ _ j (omega (arith, below, c.requires.as_many_bodies)) c.requires.woken_bodies asleep h)
           (record { parts = c.requires.empty; noted = λ i below. absurd (omega (arith, below)) });
       long = c.requires.places;
     }
@@ -26,32 +26,32 @@ loop-number-init c =
 pub offset_bounds-labels-number : goal.offset_bounds-labels-number
 offset_bounds-labels-number c =
     let low = number_low (is_awake_at (only_awake c.args.numbers.now c.args.bodies.now)) (length (only_awake c.args.numbers.now c.args.bodies.now)) c.args.numbers.now c.requires.numbers c.loop-number.number-index 0 c.loop-number-test.true in
-    search (rules, low, c.requires.seen)
+    search (rules, low, c.requires.as_many_bodies)
 
 pub bounds-labels-number : goal.bounds-labels-number
 bounds-labels-number c =
     let low = number_low (is_awake_at (only_awake c.args.numbers.now c.args.bodies.now)) (length (only_awake c.args.numbers.now c.args.bodies.now)) c.args.numbers.now c.requires.numbers c.loop-number.number-index 0 c.loop-number-test.true in
-    omega (arith, low, c.requires.seen)
+    omega (arith, low, c.requires.as_many_bodies)
 
 pub offset_bounds-bodies-number : goal.offset_bounds-bodies-number
 offset_bounds-bodies-number c =
     let low = number_low (is_awake_at (only_awake c.args.numbers.now c.args.bodies.now)) (length (only_awake c.args.numbers.now c.args.bodies.now)) c.args.numbers.now c.requires.numbers c.loop-number.number-index 0 c.loop-number-test.true in
-    search (rules, low, c.requires.seen, c.requires.bodies)
+    search (rules, low, c.requires.as_many_bodies, c.requires.bodies)
 
 pub bounds-bodies-number : goal.bounds-bodies-number
 bounds-bodies-number c =
     let low = number_low (is_awake_at (only_awake c.args.numbers.now c.args.bodies.now)) (length (only_awake c.args.numbers.now c.args.bodies.now)) c.args.numbers.now c.requires.numbers c.loop-number.number-index 0 c.loop-number-test.true in
-    omega (arith, low, c.requires.seen, c.requires.bodies)
+    omega (arith, low, c.requires.as_many_bodies, c.requires.bodies)
 
 pub offset_bounds-places-number : goal.offset_bounds-places-number
 offset_bounds-places-number c =
     let low = number_low (is_awake_at (only_awake c.args.numbers.now c.args.bodies.now)) (length (only_awake c.args.numbers.now c.args.bodies.now)) c.args.numbers.now c.requires.numbers c.loop-number.number-index 0 c.loop-number-test.true in
-    search (rules, low, c.requires.seen)
+    search (rules, low, c.requires.as_many_bodies)
 
 pub bounds-places-number : goal.bounds-places-number
 bounds-places-number c =
     let low = number_low (is_awake_at (only_awake c.args.numbers.now c.args.bodies.now)) (length (only_awake c.args.numbers.now c.args.bodies.now)) c.args.numbers.now c.requires.numbers c.loop-number.number-index 0 c.loop-number-test.true in
-    omega (arith, low, c.requires.seen, c.loop-number.invariant.long)
+    omega (arith, low, c.requires.as_many_bodies, c.loop-number.invariant.long)
 
 pub overflow_cast-places : goal.overflow_cast-places
 overflow_cast-places c =
@@ -62,7 +62,7 @@ overflow_cast-places c =
     let k = get_or numbers i 0 in
     let test = c.loop-number-test.true in
     let low = number_low (is_awake_at bodies) (length bodies) numbers c.requires.numbers i 0 test in
-    let inside : k < length labels = omega (arith, low, c.requires.seen) in
+    let inside : k < length labels = omega (arith, low, c.requires.as_many_bodies) in
     let label = get_or labels k 0 in
     let labelled = c.requires.labelled k 0 inside in
     let active = c.requires.woken_bodies.active k inside (number_chosen (is_awake_at bodies) (length bodies) numbers c.requires.numbers i 0 test) in
@@ -84,7 +84,7 @@ add_body-requires c =
     let k = get_or numbers i 0 in
     let test = c.loop-number-test.true in
     let low = number_low (is_awake_at bodies) (length bodies) numbers c.requires.numbers i 0 test in
-    let inside : k < length labels = omega (arith, low, c.requires.seen) in
+    let inside : k < length labels = omega (arith, low, c.requires.as_many_bodies) in
     let label = get_or labels k 0 in
     let labelled = c.requires.labelled k 0 inside in
     let active = c.requires.woken_bodies.active k inside (number_chosen (is_awake_at bodies) (length bodies) numbers c.requires.numbers i 0 test) in
@@ -104,7 +104,7 @@ loop-number-preserved c =
     let test = c.loop-number-test.true in
     let low = number_low (is_awake_at bodies) (length bodies) numbers c.requires.numbers i 0 test in
     let awake = number_chosen (is_awake_at bodies) (length bodies) numbers c.requires.numbers i 0 test in
-    let inside : k < length labels = omega (arith, low, c.requires.seen) in
+    let inside : k < length labels = omega (arith, low, c.requires.as_many_bodies) in
     let label = get_or labels k 0 in
     let labelled = c.requires.labelled k 0 inside in
     let active = c.requires.woken_bodies.active k inside awake in
@@ -117,7 +117,7 @@ loop-number-preserved c =
     record {
       dealt = at_next (is_awake_at bodies) (length bodies) numbers c.requires.numbers (AreDealt labels bodies _ _)
           (λ j below asleep h.
-          dealt_asleep labels bodies _ _ j (omega (arith, below, c.requires.seen)) c.requires.woken_bodies asleep h)
+          dealt_asleep labels bodies _ _ j (omega (arith, below, c.requires.as_many_bodies)) c.requires.woken_bodies asleep h)
           i test
           (record {
             parts = dealt_more labels bodies k body islands c.add_body.new.islands inside labelled c.requires.woken_bodies awake

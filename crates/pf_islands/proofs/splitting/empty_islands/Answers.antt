@@ -26,12 +26,12 @@ loop-number-init c =
 pub offset_bounds-labels-number : goal.offset_bounds-labels-number
 offset_bounds-labels-number c =
     let low = number_low (is_awake_at (only_awake c.args.numbers.now c.args.bodies.now)) (length (only_awake c.args.numbers.now c.args.bodies.now)) c.args.numbers.now c.requires.numbers c.loop-number.number-index 0 c.loop-number-test.true in
-    search (rules, low, c.requires.seen)
+    search (rules, low, c.requires.as_many_bodies)
 
 pub bounds-labels-number : goal.bounds-labels-number
 bounds-labels-number c =
     let low = number_low (is_awake_at (only_awake c.args.numbers.now c.args.bodies.now)) (length (only_awake c.args.numbers.now c.args.bodies.now)) c.args.numbers.now c.requires.numbers c.loop-number.number-index 0 c.loop-number-test.true in
-    omega (arith, low, c.requires.seen)
+    omega (arith, low, c.requires.as_many_bodies)
 
 pub overflow_cast-count : goal.overflow_cast-count
 overflow_cast-count c =
@@ -46,7 +46,7 @@ overflow_cast-count c =
     c.loop-number.invariant.emptied in
     let number = before.number in
     let few = few_chosen (is_active_label labels bodies) (get_or numbers i 0) in
-    search (rules, number, few, low, c.requires.seen, c.requires.few)
+    search (rules, number, few, low, c.requires.as_many_bodies, c.requires.few)
 
 pub loop-number-preserved : goal.loop-number-preserved
 loop-number-preserved c =
@@ -69,7 +69,7 @@ loop-number-preserved c =
             (set c.loop-number.slots.items k c.loop-number.count))
             (λ j below asleep h. emptied_same labels bodies _ _ _ j (asleep_inactive labels bodies j asleep) h) i test
             (emptied_more labels bodies c.loop-number.islands.items w.clear_at.new.islands.items c.loop-number.count
-            c.loop-number.slots.items k (omega (arith, low, c.requires.seen, c.loop-number.invariant.long))
+            c.loop-number.slots.items k (omega (arith, low, c.requires.as_many_bodies, c.loop-number.invariant.long))
             (awake_active labels bodies k true awake (eq-eqb (get_or labels k 0) k w.if-labels-number.true))
             w.in_ok-clear_at.ensures.cleared before))))
         | else-labels-number w ↦ rw w.islands-is (rw w.slots-is (rw w.count-is

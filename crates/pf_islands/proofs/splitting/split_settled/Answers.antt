@@ -23,14 +23,14 @@ as_many c =
 -- the bodies that go into islands, and the others
 parts : (c : After-deref-2)
     → IsParted c.args.scene.now c.args.bodies.now c.args.touches.now c.args.contacts.now c.args.lone c.deref-2.result.now
-    c.in_ok-dealt.alone.items
+    c.in_ok-dealt.lone_bodies.items
 parts c =
     let labels = c.labels-labels.result.now in
     let places = c.as_slice-places.result.now in
     let counts = c.deref.result.now in
     let awake = c.as_slice-numbers.ensures.value ∙ c.requires.numbers in
     parted c.args.scene.now c.args.bodies.now c.args.touches.now c.args.contacts.now c.args.lone c.requires.bodies
-    c.requires.settled c.requires.touches labels places counts c.deref-2.result.now c.in_ok-dealt.alone.items
+    c.requires.settled c.requires.touches labels places counts c.deref-2.result.now c.in_ok-dealt.lone_bodies.items
     (c.as_slice-places.ensures.value ∙ c.requires.active) (c.labels-labels.ensures.value ∙ c.in_ok-groups.ensures.value)
     (subst
     (λ (ns : List ℕ). (label : ℕ) → label < length labels → (get_or ns label 0 == 0)
@@ -38,7 +38,7 @@ parts c =
     (sym c.deref.ensures.value) c.in_ok-rows.ensures.none)
     (c.deref-2.ensures.value ∙ c.in_ok-dealt.ensures.dealt
     ∙ ap (filter (λ n. is_dealt c.args.lone (get_or counts (get_or labels n 0) 0))) awake)
-    (c.in_ok-dealt.ensures.alone
+    (c.in_ok-dealt.ensures.lone_bodies
     ∙ ap (filter (λ n. not (is_dealt c.args.lone (get_or counts (get_or labels n 0) 0)))) awake)
 
 pub new-requires-clause-numbers : goal.new-requires-clause-numbers
@@ -56,15 +56,15 @@ row_counts-requires-clause-touches c =
     subst (λ n. All (IsTouchOf n) c.args.touches.now)
     (sym (as_many (goal.at.row_counts-requires-clause-touches c).After-labels-labels)) c.requires.touches
 
-pub part-requires-clause-numbers : goal.part-requires-clause-numbers
-part-requires-clause-numbers c =
-    let many = as_many (goal.at.part-requires-clause-numbers c).After-labels-labels in
+pub parted_numbers-requires-clause-numbers : goal.parted_numbers-requires-clause-numbers
+parted_numbers-requires-clause-numbers c =
+    let many = as_many (goal.at.parted_numbers-requires-clause-numbers c).After-labels-labels in
     let low = number_low (is_awake_at c.args.bodies.now) (length c.args.bodies.now) c.as_slice-numbers.result.now
     (c.as_slice-numbers.ensures.value ∙ c.requires.numbers) in
     subst (λ n. All (λ number. number < n) c.as_slice-numbers.result.now) (sym many) low
 
-pub deal-requires-clause-seen : goal.deal-requires-clause-seen
-deal-requires-clause-seen c = (parts (goal.at.deal-requires-clause-seen c).After-deref-2).long ∙ c.requires.bodies
+pub deal-requires-clause-as_many_bodies : goal.deal-requires-clause-as_many_bodies
+deal-requires-clause-as_many_bodies c = (parts (goal.at.deal-requires-clause-as_many_bodies c).After-deref-2).long ∙ c.requires.bodies
 
 pub deal-requires-clause-states : goal.deal-requires-clause-states
 deal-requires-clause-states c = (parts (goal.at.deal-requires-clause-states c).After-deref-2).states
@@ -85,27 +85,21 @@ deal-requires-clause-active c =
     c.as_slice-places.ensures.value ∙ c.requires.active
     ∙ (parts (goal.at.deal-requires-clause-active c).After-deref-2).places
 
-pub returns-clause-islands : goal.returns-clause-islands
-returns-clause-islands c =
-    c.in_ok-islands.ensures.value ∙ (parts (goal.at.returns-clause-islands c).After-deref-2).made
-
-pub returns-clause-alone : goal.returns-clause-alone
-returns-clause-alone c = (parts (goal.at.returns-clause-alone c).After-deref-2).alone_are
-
-pub returns-clause-order : goal.returns-clause-order
-returns-clause-order c =
-    let awake = c.as_slice-numbers.ensures.value ∙ c.requires.numbers in
-    let numbers = range_with_len 0 (length c.args.bodies.now) in
-    let dealt = λ (n : ℕ). is_dealt c.args.lone (get_or c.deref.result.now (get_or c.labels-labels.result.now n 0) 0) in
-    subst (IsRising 0) (sym (c.in_ok-dealt.ensures.alone ∙ ap (filter (λ n. not (dealt n))) awake))
-    (filter_rises (λ n. not (dealt n)) 0 (filter (is_awake_at c.args.bodies.now) numbers)
-    (filter_rises (is_awake_at c.args.bodies.now) 0 numbers (range_rises 0 (length c.args.bodies.now))))
-
-pub returns-clause-there : goal.returns-clause-there
-returns-clause-there c =
+pub returns-clause-parts : goal.returns-clause-parts
+returns-clause-parts c =
+    let parted = parts (goal.at.returns-clause-parts c).After-deref-2 in
     let count = length c.args.bodies.now in
-    let low = number_low (is_awake_at c.args.bodies.now) count c.as_slice-numbers.result.now
-    (c.as_slice-numbers.ensures.value ∙ c.requires.numbers) in
-    let dealt = λ (n : ℕ). is_dealt c.args.lone (get_or c.deref.result.now (get_or c.labels-labels.result.now n 0) 0) in
-    subst (All (λ n. n < count)) (sym c.in_ok-dealt.ensures.alone)
-    (All-filter (λ n. not (dealt n)) (λ n. n < count) c.as_slice-numbers.result.now low)
+    let numbers = range_with_len 0 count in
+    let is_awake = is_awake_at c.args.bodies.now in
+    let awake = c.as_slice-numbers.ensures.value ∙ c.requires.numbers in
+    let is_lone = λ (n : ℕ).
+    not (is_dealt c.args.lone (get_or c.deref.result.now (get_or c.labels-labels.result.now n 0) 0)) in
+    record {
+      made = c.in_ok-islands.ensures.value ∙ parted.made;
+      listed = parted.alone_are;
+      fit = c.in_ok-islands.ensures.fit;
+      order = subst (IsRising 0) (sym (c.in_ok-dealt.ensures.lone_bodies ∙ ap (filter is_lone) awake))
+          (filter_rises is_lone 0 (filter is_awake numbers) (filter_rises is_awake 0 numbers (range_rises 0 count)));
+      there = subst (All (λ n. n < count)) (sym c.in_ok-dealt.ensures.lone_bodies)
+          (All-filter is_lone (λ n. n < count) c.as_slice-numbers.result.now (number_low is_awake count c.as_slice-numbers.result.now awake));
+    }

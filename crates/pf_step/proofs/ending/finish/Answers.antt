@@ -1,7 +1,8 @@
-use Rattle.std.proofs.Common.{◌≡◌, ◌∙◌, ◌++◌, List, ap, ap₂, append_assoc, length, map, subst, sym}
+use Rattle.std.proofs.Common.{rules, ◌≡◌, ◌∙◌, ◌++◌, List, ap, ap₂, append_assoc, length, map, refl, subst, sym}
 use Rattle.std.specs.Vec.{with_items}
 use Rattle.std.proofs.lemmas.List.{with_items_is}
-use Rattle.std.specs.Prelude.{All}
+use Rattle.std.proofs.lemmas.Result.{err_from_is_err_and}
+use Rattle.std.specs.Prelude.{All, Err}
 use Rattle.pf_shapes.specs.Body.{BodyState}
 use Rattle.pf_manifold.specs.Key.{AreTouches, key_of}
 use Rattle.pf_cache.specs.Contact.{Contact, next_contacts}
@@ -13,11 +14,13 @@ use Rattle.pf_cache.proofs.Kept.{same_keys}
 use Rattle.pf_islands.specs.Join.{IsAtHome, joined_bodies, joined_contacts}
 use Rattle.pf_islands.specs.Lone.{lone_bodies, made_islands}
 use Rattle.pf_islands.specs.Split.{Island}
-use Rattle.pf_solver.specs.Alone.{after_tick_alone, island_after_tick}
+use Rattle.pf_solver.specs.Alone.{lone_bodies_after_tick, island_after_tick}
 use Rattle.pf_solver.specs.Bodies.{gravity_per_tick}
+use Rattle.pf_step.specs.declared.crew.StepError.TheVariants.{Crew}
 use Rattle.pf_step.specs.Activity.{contacts_of_bodies, islands_of_bodies, islands_with}
 use Rattle.pf_step.specs.Changes.{bodies_before, changes_of, changes_of_islands, world_before}
 use Rattle.pf_step.specs.Step.{touches_of_scene, world_after}
+use Rattle.pf_step.specs.Stepping.{CallsCrew}
 use Rattle.pf_step.specs.World.{World}
 use Rattle.pf_step.proofs.Awake.{awake_after_step, islands_noted}
 use Rattle.pf_step.proofs.Changing.{before_more}
@@ -25,7 +28,88 @@ use Rattle.pf_step.proofs.Following.{islands_within}
 use Rattle.pf_step.proofs.Joined.{ended_join}
 use Rattle.pf_step.proofs.Parted.{made_at_contacts, made_at_home, noted_in_order, others, parted_before, parted_bodies, parted_contacts, parted_have_awake}
 use Rattle.pf_step.proofs.Restored.{contacts_restored}
+use Rattle.pf_step.proofs.ending.finish.Goals.{After-deref-2, After-deref_mut-2, After-prepare, In_ok-islands, In_ok-update_contacts}
 use Rattle.pf_step.proofs.ending.finish.Goals as goal
+
+-- ---- what stands after each phase
+
+-- the contacts are those of the tick
+contacts_are : (g : _) (c : In_ok-update_contacts g)
+    → c.update_contacts.new.contacts ≡ contacts_of_bodies c.args.scene.now c.args.world.now.contacts c.args.world.now.bodies
+contacts_are g c =
+    c.in_ok-update_contacts.ensures.value
+    ∙ ap₂ next_contacts (ap (λ (v : World). v.contacts) c.world.view_is)
+    (c.touches-touches.ensures.value ∙ ap (λ (x : FoundCollisions). kept_touches x.collisions.manifolds) c.found.view_is ∙ c.requires.points)
+
+-- the points are in the order of their keys
+in_order : (g : _) (c : In_ok-update_contacts g) → AreTouches (touches_of_scene c.args.scene.now c.args.world.now.bodies)
+in_order g c =
+    subst AreTouches
+    (c.touches-touches.ensures.value ∙ ap (λ (x : FoundCollisions). kept_touches x.collisions.manifolds) c.found.view_is ∙ c.requires.points)
+    c.touches-touches.ensures.order
+
+-- the islands and the lone bodies are those of the tick
+all_are : (g : _) (c : In_ok-islands g)
+    → islands_with c.args.scene.now c.update_contacts.new.contacts c.world.inside.bodies.items
+    ≡ islands_of_bodies c.args.scene.now c.args.world.now.contacts c.args.world.now.bodies
+all_are g c =
+    ap₂ (islands_with c.args.scene.now) (contacts_are g (goal.at.In_ok-islands g c).In_ok-update_contacts)
+    (ap (λ (v : World). v.bodies) c.world.view_is)
+
+-- the solved islands are the islands that were made, after a tick
+solved_are : (g : _) (c : After-deref-2 g) → c.deref-2.result.now
+    ≡ map (island_after_tick c.args.scene.now)
+    (made_islands c.lone_bodies-lone.result (islands_of_bodies c.args.scene.now c.args.world.now.contacts c.args.world.now.bodies))
+solved_are g c =
+    c.deref-2.ensures.value ∙ c.in_ok-solved.ensures.solved
+    ∙ ap (map (island_after_tick c.args.scene.now))
+    (c.in_ok-islands.ensures.parts.made
+    ∙ ap (made_islands c.lone_bodies-lone.result) (all_are g (goal.at.After-deref-2 g c).In_ok-islands))
+
+lone_are : (g : _) (c : After-deref-2 g) → c.deref.result.now
+    ≡ lone_bodies c.lone_bodies-lone.result (islands_of_bodies c.args.scene.now c.args.world.now.contacts c.args.world.now.bodies)
+lone_are g c =
+    c.deref.ensures.value ∙ c.in_ok-islands.ensures.parts.listed
+    ∙ ap (lone_bodies c.lone_bodies-lone.result) (all_are g (goal.at.After-deref-2 g c).In_ok-islands)
+
+-- the lone bodies went through the tick
+bodies_are : (g : _) (c : After-deref_mut-2 g) → c.deref_mut-2.result.now
+    ≡ lone_bodies_after_tick (gravity_per_tick c.args.scene.now.gravity) c.deref.result.now c.args.world.now.bodies
+bodies_are g c =
+    c.deref_mut-2.ensures.value
+    ∙ with_items_is c.world.inside.bodies c.solve_lone_bodies.new.bodies (c.solve_lone_bodies.auto.bodies ∙ c.deref_mut.ensures.len)
+    ∙ c.solve_lone_bodies.ensures
+    ∙ ap (lone_bodies_after_tick (gravity_per_tick c.args.scene.now.gravity) c.deref.result.now)
+    (c.deref_mut.ensures.value ∙ ap (λ (v : World). v.bodies) c.world.view_is)
+
+-- the bodies of the islands are noted, and then the lone ones
+noted_are : (g : _) (c : In_ok-islands g) → c.prepare.new.changes.bodies
+    ≡ c.args.changes.now.bodies
+    ++ changes_of_islands c.args.world.now.bodies
+    (made_islands c.lone_bodies-lone.result (islands_of_bodies c.args.scene.now c.args.world.now.contacts c.args.world.now.bodies)
+    ++ others c.args.scene.now c.args.world.now.contacts c.args.world.now.bodies c.requires.bodies c.lone_bodies-lone.result)
+noted_are g c =
+    let s = c.args.scene.now in
+    let w = c.args.world.now in
+    let lone = c.lone_bodies-lone.result in
+    let noted = c.args.changes.now.bodies in
+    let of_world = ap (λ (v : World). v.bodies) c.world.view_is in
+    let now_is = contacts_are g (goal.at.In_ok-islands g c).In_ok-update_contacts in
+    c.in_ok-islands.ensures.noted
+    ∙ (λ i. (c.update_contacts.ensures.bodies i
+    ++ changes_of_islands (of_world i) (made_islands lone (islands_with s (now_is i) (of_world i))))
+    ++ changes_of (of_world i) (lone_bodies lone (islands_with s (now_is i) (of_world i))))
+    ∙ append_assoc noted (changes_of_islands w.bodies (made_islands lone (islands_of_bodies s w.contacts w.bodies)))
+    (changes_of w.bodies (lone_bodies lone (islands_of_bodies s w.contacts w.bodies)))
+    ∙ ap (λ cs. noted ++ cs) (noted_in_order s w.contacts w.bodies c.requires.bodies lone w.bodies)
+
+-- what is noted of the contacts restores those before
+restored : (g : _) (c : After-prepare g)
+    → contacts_before c.prepare.new.changes.contacts c.update_contacts.new.contacts ≡ c.args.world.now.contacts
+restored g c =
+    c.prepare.ensures.same_contacts ∙ c.update_contacts.ensures.before ∙ ap (λ (v : World). v.contacts) c.world.view_is
+
+-- ---- the answers
 
 pub prepare-requires-clause-keys : goal.prepare-requires-clause-keys
 prepare-requires-clause-keys g c =
@@ -41,40 +125,22 @@ join_back-requires-clause-bodies g c =
     let s = c.args.scene.now in
     let w = c.args.world.now in
     let lone = c.lone_bodies-lone.result in
-    let of_world = ap (λ (v : World). v.bodies) c.world.view_is in
-    let contacts = ap (λ (v : World). v.contacts) c.world.view_is in
-    let points_are = c.touches-touches.ensures.value ∙ ap (λ (x : FoundCollisions). kept_touches x.collisions.manifolds) c.found.view_is ∙ c.requires.points in
-    let now_is = c.in_ok-update_contacts.ensures.value ∙ ap₂ next_contacts contacts points_are in
-    let ended_are : c.deref-2.result.now ≡ map (island_after_tick s) (made_islands lone (islands_of_bodies s w.contacts w.bodies)) =
-    c.deref-2.ensures.value ∙ c.in-Ok-solve_by.ensures.solved
-    ∙ ap (map (island_after_tick s)) (c.in-Ok.ensures.islands ∙ ap₂ (λ cs bs. made_islands lone (islands_with s cs bs)) now_is of_world) in
-    let pull = gravity_per_tick s.gravity in
-    let alone_are : c.deref.result.now ≡ lone_bodies lone (islands_of_bodies s w.contacts w.bodies) =
-    c.deref.ensures.value ∙ c.in-Ok.ensures.alone ∙ ap₂ (λ cs bs. lone_bodies lone (islands_with s cs bs)) now_is of_world in
-    let moved : c.deref_mut-2.result.now ≡ after_tick_alone pull c.deref.result.now w.bodies =
-    c.deref_mut-2.ensures.value
-    ∙ with_items_is c.world.inside.bodies c.solve_alone.new.bodies (c.solve_alone.auto.bodies ∙ c.deref_mut.ensures.len)
-    ∙ c.solve_alone.ensures ∙ ap (after_tick_alone pull c.deref.result.now) (c.deref_mut.ensures.value ∙ of_world) in
-    subst (All (IsAtHome (length c.deref_mut-2.result.now))) (sym ended_are)
+    let at = goal.at.join_back-requires-clause-bodies g c in
+    let here = at.After-deref-2 in
+    subst (All (IsAtHome (length c.deref_mut-2.result.now))) (sym (solved_are g here))
     (subst (λ (bs : List BodyState). All (IsAtHome (length bs)) (map (island_after_tick s) (made_islands lone (islands_of_bodies s w.contacts w.bodies))))
-    (sym moved) (made_at_home s w.contacts w.bodies c.requires.bodies lone c.deref.result.now alone_are))
+    (sym (bodies_are g at.After-deref_mut-2)) (made_at_home s w.contacts w.bodies c.requires.bodies lone c.deref.result.now (lone_are g here)))
 
 pub join_back-requires-clause-contacts : goal.join_back-requires-clause-contacts
 join_back-requires-clause-contacts g c =
     let s = c.args.scene.now in
     let w = c.args.world.now in
     let lone = c.lone_bodies-lone.result in
-    let of_world = ap (λ (v : World). v.bodies) c.world.view_is in
-    let contacts = ap (λ (v : World). v.contacts) c.world.view_is in
-    let points_are = c.touches-touches.ensures.value ∙ ap (λ (x : FoundCollisions). kept_touches x.collisions.manifolds) c.found.view_is ∙ c.requires.points in
-    let now_is = c.in_ok-update_contacts.ensures.value ∙ ap₂ next_contacts contacts points_are in
-    let ended_are : c.deref-2.result.now ≡ map (island_after_tick s) (made_islands lone (islands_of_bodies s w.contacts w.bodies)) =
-    c.deref-2.ensures.value ∙ c.in-Ok-solve_by.ensures.solved
-    ∙ ap (map (island_after_tick s)) (c.in-Ok.ensures.islands ∙ ap₂ (λ cs bs. made_islands lone (islands_with s cs bs)) now_is of_world) in
-    let order = subst AreTouches points_are c.touches-touches.ensures.order in
-    subst (All (λ (i : Island). AreRowsAt c.update_contacts.new.contacts i.rows)) (sym ended_are)
+    let at = goal.at.join_back-requires-clause-contacts g c in
+    subst (All (λ (i : Island). AreRowsAt c.update_contacts.new.contacts i.rows)) (sym (solved_are g at.After-deref-2))
     (subst (λ cs. All (λ (i : Island). AreRowsAt cs i.rows) (map (island_after_tick s) (made_islands lone (islands_of_bodies s w.contacts w.bodies))))
-    (sym now_is) (made_at_contacts s w.contacts w.bodies c.requires.bodies lone order))
+    (sym (contacts_are g at.In_ok-update_contacts))
+    (made_at_contacts s w.contacts w.bodies c.requires.bodies lone (in_order g at.In_ok-update_contacts)))
 
 pub returns-clause-ending : goal.returns-clause-ending
 unfolding world_before
@@ -82,76 +148,84 @@ returns-clause-ending g c =
     let s = c.args.scene.now in
     let w = c.args.world.now in
     let lone = c.lone_bodies-lone.result in
-    let of_world = ap (λ (v : World). v.bodies) c.world.view_is in
-    let contacts = ap (λ (v : World). v.contacts) c.world.view_is in
-    let points_are = c.touches-touches.ensures.value ∙ ap (λ (x : FoundCollisions). kept_touches x.collisions.manifolds) c.found.view_is ∙ c.requires.points in
-    let now_is = c.in_ok-update_contacts.ensures.value ∙ ap₂ next_contacts contacts points_are in
-    let ended_are : c.deref-2.result.now ≡ map (island_after_tick s) (made_islands lone (islands_of_bodies s w.contacts w.bodies)) =
-    c.deref-2.ensures.value ∙ c.in-Ok-solve_by.ensures.solved
-    ∙ ap (map (island_after_tick s)) (c.in-Ok.ensures.islands ∙ ap₂ (λ cs bs. made_islands lone (islands_with s cs bs)) now_is of_world) in
-    let pull = gravity_per_tick s.gravity in
-    let alone_are : c.deref.result.now ≡ lone_bodies lone (islands_of_bodies s w.contacts w.bodies) =
-    c.deref.ensures.value ∙ c.in-Ok.ensures.alone ∙ ap₂ (λ cs bs. lone_bodies lone (islands_with s cs bs)) now_is of_world in
-    let moved : c.deref_mut-2.result.now ≡ after_tick_alone pull c.deref.result.now w.bodies =
-    c.deref_mut-2.ensures.value
-    ∙ with_items_is c.world.inside.bodies c.solve_alone.new.bodies (c.solve_alone.auto.bodies ∙ c.deref_mut.ensures.len)
-    ∙ c.solve_alone.ensures ∙ ap (after_tick_alone pull c.deref.result.now) (c.deref_mut.ensures.value ∙ of_world) in
-    let noted = c.args.changes.now.bodies in
-    let ordered = made_islands lone (islands_of_bodies s w.contacts w.bodies) ++ others s w.contacts w.bodies c.requires.bodies lone in
-    let notes : c.prepare.new.changes.bodies ≡ noted ++ changes_of_islands w.bodies ordered =
-    c.in-Ok.ensures.noted
-    ∙ (λ i. (c.update_contacts.ensures.bodies i
-    ++ changes_of_islands (of_world i) (made_islands lone (islands_with s (now_is i) (of_world i))))
-    ++ changes_of (of_world i) (lone_bodies lone (islands_with s (now_is i) (of_world i))))
-    ∙ append_assoc noted (changes_of_islands w.bodies (made_islands lone (islands_of_bodies s w.contacts w.bodies)))
-    (changes_of w.bodies (lone_bodies lone (islands_of_bodies s w.contacts w.bodies)))
-    ∙ ap (λ cs. noted ++ cs) (noted_in_order s w.contacts w.bodies c.requires.bodies lone w.bodies) in
-    let order = subst AreTouches points_are c.touches-touches.ensures.order in
+    let at = goal.at.returns-clause-ending g c in
+    let here = at.After-deref-2 in
     let now = c.update_contacts.new.contacts in
+    let now_is = contacts_are g at.In_ok-update_contacts in
     let lent = c.world.inside.bodies.items in
+    let noted = c.args.changes.now.bodies in
+    let notes = noted_are g at.In_ok-islands in
+    let ordered = made_islands lone (islands_of_bodies s w.contacts w.bodies) ++ others s w.contacts w.bodies c.requires.bodies lone in
     let own : c.deref-2.result.now ≡ map (island_after_tick s) (made_islands lone (islands_with s now lent)) =
-    c.deref-2.ensures.value ∙ c.in-Ok-solve_by.ensures.solved ∙ ap (map (island_after_tick s)) c.in-Ok.ensures.islands in
-    let bodies = with_items_is (with_items c.world.inside.bodies c.solve_alone.new.bodies) c.join_back.new.bodies (c.join_back.auto.bodies ∙ c.deref_mut-2.ensures.len)
-    ∙ c.join_back.ensures.bodies ∙ ap₂ joined_bodies ended_are moved
-    ∙ parted_bodies s w.contacts w.bodies c.requires.bodies lone c.deref.result.now alone_are in
+    c.deref-2.ensures.value ∙ c.in_ok-solved.ensures.solved ∙ ap (map (island_after_tick s)) c.in_ok-islands.ensures.parts.made in
+    let bodies = with_items_is (with_items c.world.inside.bodies c.solve_lone_bodies.new.bodies) c.join_back.new.bodies (c.join_back.auto.bodies ∙ c.deref_mut-2.ensures.len)
+    ∙ c.join_back.ensures.bodies ∙ ap₂ joined_bodies (solved_are g here) (bodies_are g at.After-deref_mut-2)
+    ∙ parted_bodies s w.contacts w.bodies c.requires.bodies lone c.deref.result.now (lone_are g here) in
     record {
       value = ap₂ (λ bs cs. record { bodies = bs; contacts = cs }) bodies
-          (c.join_back.ensures.contacts ∙ ap₂ joined_contacts ended_are now_is
+          (c.join_back.ensures.contacts ∙ ap₂ joined_contacts (solved_are g here) now_is
           ∙ parted_contacts s w.contacts w.bodies c.requires.bodies lone (islands_of_bodies s w.contacts w.bodies) (contacts_of_bodies s w.contacts w.bodies)
-          ∙ (ended_join s w.contacts w.bodies c.requires.bodies order).1);
+          ∙ (ended_join s w.contacts w.bodies c.requires.bodies (in_order g at.In_ok-update_contacts)).1);
       before = ap₂ (λ bs cs. record { bodies = bs; contacts = cs })
           (ap₂ bodies_before notes bodies
           ∙ before_more noted (changes_of_islands w.bodies ordered) (world_after s w.contacts w.bodies).bodies
           ∙ ap (bodies_before noted) (parted_before s w.contacts w.bodies c.requires.bodies lone))
           (ap (contacts_before c.prepare.new.changes.contacts)
           (c.join_back.ensures.contacts ∙ ap (λ is. joined_contacts is now) own)
-          ∙ contacts_restored s now (made_islands lone (islands_with s now lent)) c.prepare.new.changes.contacts c.in-Ok.ensures.impulses
-          ∙ c.prepare.ensures.same_contacts ∙ c.in_ok-update_contacts.ensures.before ∙ contacts);
+          ∙ contacts_restored s now (made_islands lone (islands_with s now lent)) c.prepare.new.changes.contacts c.in_ok-islands.ensures.impulses
+          ∙ restored g at.After-prepare);
       added = (changes_of_islands w.bodies ordered, notes, islands_within w.bodies ordered);
-      unchanged = tt;
-      undone = tt;
     }
+
+pub returns-in_err-update_contacts-clause-ending : goal.returns-in_err-update_contacts-clause-ending
+unfolding world_before
+returns-in_err-update_contacts-clause-ending g c = record {
+  value = search rules;
+  before = ap₂ (λ bs cs. record { bodies = bs; contacts = cs })
+      (ap₂ bodies_before c.update_contacts.ensures.bodies (ap (λ (v : World). v.bodies) c.world.view_is))
+      (c.update_contacts.ensures.before ∙ ap (λ (v : World). v.contacts) c.world.view_is);
+  added = search rules;
+}
+
+pub returns-in_err-islands-clause-ending : goal.returns-in_err-islands-clause-ending
+unfolding world_before
+returns-in_err-islands-clause-ending g c = record {
+  value = search rules;
+  before = ap₂ (λ bs cs. record { bodies = bs; contacts = cs })
+      (c.prepare.ensures.same ∙ ap₂ bodies_before c.update_contacts.ensures.bodies (ap (λ (v : World). v.bodies) c.world.view_is))
+      (restored g (goal.at.returns-in_err-islands-clause-ending g c).After-prepare);
+  added = search rules;
+}
+
+pub returns-in_err-solved-clause-ending : goal.returns-in_err-solved-clause-ending
+unfolding world_before
+returns-in_err-solved-clause-ending g c = record {
+  value = search rules;
+  before = ap₂ (λ bs cs. record { bodies = bs; contacts = cs })
+      (c.prepare.ensures.same ∙ ap₂ bodies_before c.update_contacts.ensures.bodies (ap (λ (v : World). v.bodies) c.world.view_is))
+      (restored g (goal.at.returns-in_err-solved-clause-ending g c).After-prepare);
+  added = search rules;
+}
+
+pub returns-in_err-solved-clause-crew : goal.returns-in_err-solved-clause-crew
+returns-in_err-solved-clause-crew g c =
+    let w = c.args.world.now in
+    let islands = islands_of_bodies c.args.scene.now w.contacts w.bodies in
+    let at = goal.at.returns-in_err-solved-clause-crew g c in
+    let error = err_from_is_err_and c.from_residual-in_err-solved.result c.from_residual-in_err-solved.ensures.1 in
+    let outcome : c.from_residual-in_err-solved.result ≡ Err (Crew c.in_err-solved.field-0.0) = rw (error.1, error.2) refl in
+    subst (λ r. CallsCrew g.C.Crew.is_called g.C.Crew.may_fail islands c.args.crew.now c.solve_by.new.crew r) (sym outcome)
+    (c.in_err-solved.ensures.failed islands
+    (c.in_ok-islands.ensures.parts.made ∙ ap (made_islands c.lone_bodies-lone.result) (all_are g at.In_ok-islands)))
 
 pub returns-clause-awake : goal.returns-clause-awake
 returns-clause-awake g c =
     let s = c.args.scene.now in
     let w = c.args.world.now in
     let lone = c.lone_bodies-lone.result in
-    let of_world = ap (λ (v : World). v.bodies) c.world.view_is in
-    let contacts = ap (λ (v : World). v.contacts) c.world.view_is in
-    let points_are = c.touches-touches.ensures.value ∙ ap (λ (x : FoundCollisions). kept_touches x.collisions.manifolds) c.found.view_is ∙ c.requires.points in
-    let now_is = c.in_ok-update_contacts.ensures.value ∙ ap₂ next_contacts contacts points_are in
-    let noted = c.args.changes.now.bodies in
     let ordered = made_islands lone (islands_of_bodies s w.contacts w.bodies) ++ others s w.contacts w.bodies c.requires.bodies lone in
-    let notes : c.prepare.new.changes.bodies ≡ noted ++ changes_of_islands w.bodies ordered =
-    c.in-Ok.ensures.noted
-    ∙ (λ i. (c.update_contacts.ensures.bodies i
-    ++ changes_of_islands (of_world i) (made_islands lone (islands_with s (now_is i) (of_world i))))
-    ++ changes_of (of_world i) (lone_bodies lone (islands_with s (now_is i) (of_world i))))
-    ∙ append_assoc noted (changes_of_islands w.bodies (made_islands lone (islands_of_bodies s w.contacts w.bodies)))
-    (changes_of w.bodies (lone_bodies lone (islands_of_bodies s w.contacts w.bodies)))
-    ∙ ap (λ cs. noted ++ cs) (noted_in_order s w.contacts w.bodies c.requires.bodies lone w.bodies) in
-    awake_after_step noted (changes_of_islands w.bodies ordered) c.prepare.new.changes.bodies w.bodies _ notes
+    awake_after_step c.args.changes.now.bodies (changes_of_islands w.bodies ordered) c.prepare.new.changes.bodies w.bodies _
+    (noted_are g (goal.at.returns-clause-awake g c).In_ok-islands)
     (ap (λ (v : World). bodies_before (changes_of_islands w.bodies ordered) v.bodies) (returns-clause-ending g c).value
     ∙ parted_before s w.contacts w.bodies c.requires.bodies lone)
     (islands_noted w.bodies ordered (parted_have_awake s w.contacts w.bodies c.requires.bodies lone))

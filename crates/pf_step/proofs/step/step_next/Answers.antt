@@ -13,7 +13,8 @@ use Rattle.pf_cache.specs.PlacedBodies.{HaveStayed, bodies_of}
 use Rattle.pf_islands.specs.Flags.{ListsAwake}
 use Rattle.pf_islands.specs.Split.{Island}
 use Rattle.pf_step.specs.Activity.{islands_of_bodies}
-use Rattle.pf_step.specs.Changes.{AreAdded, BodyChange, bodies_before, changes_by_commands, numbers_of, world_before}
+use Rattle.pf_cache.specs.ContactsChange.{ContactsChange, contacts_before}
+use Rattle.pf_step.specs.Changes.{AreAdded, BodyChange, Changes, bodies_before, changes_by_commands, numbers_of, world_before}
 use Rattle.pf_step.specs.Commands.{after_commands}
 use Rattle.pf_step.specs.Step.{collisions_of_bodies, step, touches_of_scene, world_after}
 use Rattle.pf_step.specs.Stepping.{FailsBy}
@@ -21,6 +22,7 @@ use Rattle.pf_step.specs.Work.{Work, moved_bodies, work_after_tick}
 use Rattle.pf_step.specs.World.{World}
 use Rattle.pf_step.proofs.Commanding.{commands_length, commands_undone}
 use Rattle.pf_cache.proofs.FirstKeys.{none_same}
+use Rattle.pf_cache.proofs.Restoring.{none_noted as no_contact_noted}
 use Rattle.pf_step.proofs.Awake.{listed_after_commands}
 use Rattle.pf_step.proofs.Contacts.{step_keys}
 use Rattle.pf_step.proofs.Following.{all_within, keys_after_commands, none_noted, none_there, other_error, stayed_after_commands, stayed_after_step}
@@ -44,7 +46,7 @@ commands_noted : (g : _) (c : In_ok-note_commanded g)
 commands_noted g c =
     c.in_ok-note_commanded.ensures.noted
     ∙ ap₂ (λ (cs : List BodyChange) (bs : List BodyState). cs ++ changes_by_commands bs c.args.payloads.now)
-    c.take_changes-changes.ensures.changes (c.deref.ensures.value ∙ ap (λ (x : World). x.bodies) c.world.view_is)
+    (ap (λ (x : Changes). x.bodies) c.take_changes-changes.ensures.changes) (c.deref.ensures.value ∙ ap (λ (x : World). x.bodies) c.world.view_is)
 
 -- the work while a tick runs
 work_listed : (g : _) (c : In_ok-list_moved g) → c.list_moved.new.self ≡ record c.args.work.now {
@@ -197,22 +199,24 @@ returns-in-Err-finish-clause-no_memory g c none =
     (notes ∙ none_noted w.bodies body_of payloads none))
 
 pub returns-in-Err-clause-step : goal.returns-in-Err-clause-step
+unfolding world_before
 returns-in-Err-clause-step g c =
     let s = c.args.scene.now in
     let w = c.args.world.now in
     let payloads = c.args.payloads.now in
     let commanded = commanded_are g (goal.at.returns-in-Err-clause-step g c).After-apply_all in
-    let contacts = ap (λ (x : World). x.contacts) c.world.view_is in
     let notes = commands_noted g (goal.at.returns-in-Err-clause-step g c).In_ok-note_commanded in
-    let undone = with_items_is (with_items c.world.inside.bodies c.apply_all.new.bodies) c.undo_bodies.new.bodies (c.undo_bodies.auto.bodies ∙ c.deref_mut-in-Err.ensures.len)
-    ∙ c.undo_bodies.ensures
-    ∙ commands_undone s.fixtures w.bodies _ payloads _ (c.bodies-in-Err.ensures ∙ notes) (c.deref_mut-in-Err.ensures.value ∙ commanded) in
     let not_counted = work_listed g (goal.at.returns-in-Err-clause-step g c).In_ok-list_moved in
+    let unchanged = c.undo.ensures
+    ∙ ap₂ (λ bs cs. record { bodies = bs; contacts = cs }) (commands_undone s.fixtures w.bodies _ payloads _ notes commanded)
+    (ap (λ (change : ContactsChange). contacts_before change c.world.inside.contacts)
+    (c.note_commanded.ensures.contacts ∙ ap (λ (x : Changes). x.contacts) c.take_changes-changes.ensures.changes)
+    ∙ no_contact_noted c.world.inside.contacts ∙ ap (λ (x : World). x.contacts) c.world.view_is) in
     record {
       value = tt;
       before = tt;
-      unchanged = ap₂ (λ bs cs. record { bodies = bs; contacts = cs }) undone contacts;
-      bodies = ap length undone ∙ c.requires.world;
+      unchanged = unchanged;
+      bodies = ap (λ (x : World). length x.bodies) unchanged ∙ c.requires.world;
       counted = tt;
       not_counted = not_counted;
       follows = λ known. absurd (true≢false (sym known ∙ ap (λ (x : Work). x.is_known) not_counted));
@@ -226,14 +230,9 @@ returns-in-Err-finish-clause-step g c =
     let commanded = commanded_are g (goal.at.returns-in-Err-finish-clause-step g c).After-apply_all in
     let contacts = ap (λ (x : World). x.contacts) c.world.view_is in
     let notes = commands_noted g (goal.at.returns-in-Err-finish-clause-step g c).In_ok-note_commanded in
-    let ending = c.in-Err-finish.ensures.ending in
-    let same = c.world-2.view_is ∙ ending.unchanged in
-    let bodies = c.deref_mut-in-Err-finish.ensures.value ∙ ap (λ (x : World). x.bodies) same in
-    let undone = with_items_is c.world-2.inside.bodies c.undo_bodies-in-Err-finish.new.bodies
-    (c.undo_bodies-in-Err-finish.auto.bodies ∙ c.deref_mut-in-Err-finish.ensures.len)
-    ∙ c.undo_bodies-in-Err-finish.ensures ∙ ap₂ bodies_before c.bodies-in-Err-finish.ensures bodies ∙ ending.undone
-    ∙ commands_undone s.fixtures w.bodies _ payloads _ notes commanded in
     let work_before = work_listed g (goal.at.returns-in-Err-finish-clause-step g c).In_ok-list_moved in
+    let unchanged = c.undo-in-Err-finish.ensures ∙ c.in-Err-finish.ensures.ending.before
+    ∙ ap₂ (λ bs cs. record { bodies = bs; contacts = cs }) (commands_undone s.fixtures w.bodies _ payloads _ notes commanded) contacts in
     let not_counted : c.finish.new.work ≡ record c.args.work.now {
       manifolds = no_manifolds;
       moved = c.finish.new.work.moved;
@@ -243,9 +242,8 @@ returns-in-Err-finish-clause-step g c =
     record {
       value = tt;
       before = tt;
-      unchanged = ap₂ (λ bs cs. record { bodies = bs; contacts = cs }) undone
-          (ap (λ (x : World). x.contacts) same ∙ contacts);
-      bodies = ap length undone ∙ c.requires.world;
+      unchanged = unchanged;
+      bodies = ap (λ (x : World). length x.bodies) unchanged ∙ c.requires.world;
       counted = tt;
       not_counted = not_counted;
       follows = λ known. absurd (true≢false (sym known ∙ ap (λ (x : Work). x.is_known) not_counted));

@@ -5,7 +5,7 @@ use Rattle.pf_workers.proofs.solving.hand_out.Given as goal
 
 abbrev pub invariant-loop-number : goal.invariant-loop-number
 invariant-loop-number l = record {
-  count : length l.queues ≡ length l.initial.queues;
-  parts : l.parts.items ≡ map (part (arc_value l.fn.scene)) (take l.number l.initial.queues);
-  left : (k : ℕ) → l.number ≤ k → get_or l.queues k [] ≡ get_or l.initial.queues k [];
+  count : length l.stacks ≡ length l.initial.stacks;
+  parts : l.parts.items ≡ map (part (arc_value l.fn.scene)) (take l.number l.initial.stacks);
+  left : (k : ℕ) → l.number ≤ k → get_or l.stacks k [] ≡ get_or l.initial.stacks k [];
 }

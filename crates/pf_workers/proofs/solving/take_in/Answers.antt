@@ -9,16 +9,16 @@ pub loop-number-preserved : goal.loop-number-preserved
 loop-number-preserved g c =
     let n = c.loop-number.number in
     let parts = c.args.parts.now in
-    let queue = c.in_ok-queues-in-Some-Solved.field-0 in
-    let low : n < length c.loop-number.queues = omega (arith, c.loop-number-test.true, c.loop-number.invariant.count) in
+    let stack = c.in_ok-stacks-in-Some-Solved.field-0 in
+    let low : n < length c.loop-number.stacks = omega (arith, c.loop-number-test.true, c.loop-number.invariant.count) in
     let there : n < length parts = omega (arith, low, c.loop-number.invariant.count, c.requires.count) in
-    let at : get_or c.loop-number.parts n None ≡ solved queue =
+    let at : get_or c.loop-number.parts n None ≡ solved stack =
     default_same c.loop-number.parts n None c.index-parts-number.result (omega (arith, there, c.loop-number.invariant.parts))
     ∙ sym c.take.ensures.value ∙ c.in-Some-Solved.is
-    ∙ ap Some (c.in-Some-Solved.field-0-is ∙ ap Solved c.in_ok-queues-in-Some-Solved.was) in record {
-      count = length-set c.loop-number.queues n queue ∙ c.loop-number.invariant.count;
-      done = ap (map solved) (take_more_set c.loop-number.queues n queue low)
-          ∙ map-append solved (take n c.loop-number.queues) (queue ∷ [])
+    ∙ ap Some (c.in-Some-Solved.field-0-is ∙ ap Solved c.in_ok-stacks-in-Some-Solved.was) in record {
+      count = length-set c.loop-number.stacks n stack ∙ c.loop-number.invariant.count;
+      done = ap (map solved) (take_more_set c.loop-number.stacks n stack low)
+          ∙ map-append solved (take n c.loop-number.stacks) (stack ∷ [])
           ∙ ap₂ (λ l p. l ++ p ∷ []) c.loop-number.invariant.done
           (sym at ∙ c.loop-number.invariant.left n (omega arith))
           ∙ sym (take_more parts n None there);

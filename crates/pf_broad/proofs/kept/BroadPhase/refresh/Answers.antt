@@ -5,7 +5,7 @@ use Rattle.std.specs.List.{filter, range_with_len}
 use Rattle.std.specs.Vec.{with_items}
 use Rattle.pf_broad.specs.Pairs.{bounds_at, pairs}
 use Rattle.pf_broad.specs.Kept.{flagged, BroadPhase}
-use Rattle.pf_broad.specs.Enlarged.{contains, flags_without, left_bodies, pairs_without, AreEnlarged}
+use Rattle.pf_broad.specs.Enlarged.{contains, flagged_without, left_bodies, pairs_without, AreEnlarged}
 use Rattle.pf_broad.specs.Partners.{has_body}
 use Rattle.pf_broad.proofs.Leaving.{in_order, left-moved, none_left}
 use Rattle.pf_broad.proofs.Enlarging.{candidates_of}
@@ -91,8 +91,8 @@ returns-clause-flags c = λ long.
     let flags = c.deref-4.ensures.value ∙ ap (λ (b : BroadPhase). b.flags) c.self.view_is in
     flags_stay_right left c.args.moved.now c.args.bounds.now c.args.self.flags gs (pairs c.args.self.enlarged) (pairs (with_items c.self.inside.enlarged c.refit.new.enlarged).items)
     (c.has_flags.ensures.0 c.if-not-has_flags.false).1 long
-    (ap (λ l. flags_without left gs (pairs l)) (sym c.deref-5.ensures.value) ∙ c.in_ok-candidates.ensures.others
-    ∙ (λ k. flags_without left (flags k) (candidates_are before k)))
+    (ap (λ l. flagged_without left gs (pairs l)) (sym c.deref-5.ensures.value) ∙ c.in_ok-candidates.ensures.others
+    ∙ (λ k. flagged_without left (flags k) (candidates_are before k)))
     (λ k other. ap (λ l. has_body l k) (c.deref-6.ensures.value ∙ left_are (goal.at.returns-clause-flags c).In_ok-left)
     ∙ left-moved c.args.self.enlarged c.args.bounds.now c.args.moved.now still.contained k other)
     still.flags)

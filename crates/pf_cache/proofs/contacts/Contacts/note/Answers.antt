@@ -35,7 +35,7 @@ noted c =
 
 -- the change before and after, by the contacts that are noted
 abbrev change : (c : goal.After-note_rows) → List Contact → ContactsChange
-change c ns = record { keeps_keys = c.change.inside.keeps_keys; noted = ns; before = c.change.inside.before.items }
+change c ns = record { in_place = c.change.inside.in_place; noted = ns; before = c.change.inside.before.items }
 
 invariant_after : (c : goal.After-note_rows)
     → All (λ n. IsKey n.key) c.note_rows.new.noted.items × AreContacts c.change.inside.before.items
@@ -52,7 +52,7 @@ same_after c =
     let inside = c.change.inside in
     let now = c.args.self.now in
     ap (λ ns. contacts_before (change c ns) now) (noted c)
-    ∙ ap (λ cs. if inside.keeps_keys then cs else inside.before.items)
+    ∙ ap (λ cs. if inside.in_place then cs else inside.before.items)
     (same_before now (are_contacts c) inside.noted.items (first c) (first_at c))
     ∙ ap (λ (ch : ContactsChange). contacts_before ch now) c.change.view_is
 
@@ -71,5 +71,5 @@ returns-clause-noted c =
     (λ all.
     subst (λ ns. All (λ r. may_change (change c ns) (row_rank r) ≡ true) rows)
     (sym (all ∙ ap (λ cs. inside.noted.items ++ map (contact_of_row cs) rows) (lent c)))
-    (noted_may inside.keeps_keys now inside.noted.items rows c.requires.places))
+    (noted_may inside.in_place now inside.noted.items rows c.requires.places))
     c.note_rows.ensures.all

@@ -1,32 +1,35 @@
-use Rattle.std.proofs.Common.{◌≡◌, ◌∙◌, ◌++◌, ◌≤◌, [], ap, ap₂, drop, length, subst, sym, take, true≢false}
+use Rattle.std.proofs.Common.{rules, ◌≡◌, ◌∙◌, ◌++◌, ◌≤◌, [], ap, ap₂, drop, length, subst, sym, take}
 use Rattle.std.specs.Prelude.{if◌then◌else◌}
 use Rattle.pf_manifold.specs.Key.{AreTouches}
 use Rattle.pf_cache.specs.Contact.{AreContacts, next_contacts}
-use Rattle.pf_cache.specs.ContactsChange.{with_noted}
+use Rattle.pf_cache.specs.ContactsChange.{ContactsChange, contacts_before, with_noted}
 use Rattle.pf_cache.proofs.Kept.{updated_are_contacts}
 use Rattle.pf_cache.proofs.Restoring.{next_from, next_same, none_noted, rest_are_contacts, rest_are_touches}
 use Rattle.pf_cache.proofs.Runs.{HaveSameKeys, rest_is}
-use Rattle.pf_cache.proofs.contacts.Contacts.update.Goals.{then-may_stay, else-may_stay}
 use Rattle.pf_cache.proofs.contacts.Contacts.update.Goals as goal
 
-pub returns-then-change-clause-value : goal.returns-then-change-clause-value
-returns-then-change-clause-value c =
+pub returns-then-is_all-clause-value : goal.returns-then-is_all-clause-value
+returns-then-is_all-clause-value c =
     let touches = c.args.touches.now in
     let same = c.same_keys-same.result in
     let keys : HaveSameKeys c.deref.result.now touches same = c.same_keys-same.ensures.same in
-    subst (λ cs. cs ≡ next_contacts cs touches) (c.deref.ensures.value ∙ c.self.view_is) (elim c.if-may_stay.branch [
-      | then-may_stay w ↦
-          let all = w.is_all-change-inside.ensures (sym w.change-is ∙ c.if-change.true) in
-          let same_list = ap length (w.deref-then-may_stay.ensures.value ∙ sym c.deref.ensures.value) in
-          sym (next_same c.deref.result.now touches same c.requires.touches (all.0 ∙ same_list) all.1 keys)
-      | else-may_stay w ↦ absurd (true≢false (sym c.if-change.true ∙ w.change-is ∙ w.if-may_stay.false))
-    ])
+    let all = c.is_all.ensures.0 c.if-is_all.true in
+    let same_list = ap length (c.deref-then-may_stay.ensures.value ∙ sym c.deref.ensures.value) in
+    subst (λ cs. cs ≡ next_contacts cs touches) (c.deref.ensures.value ∙ c.self.view_is)
+    (sym (next_same c.deref.result.now touches same c.requires.touches (all.0 ∙ same_list) all.1 keys))
 
-pub returns-then-change-clause-before : goal.returns-then-change-clause-before
-returns-then-change-clause-before c =
+pub returns-then-is_all-clause-before : goal.returns-then-is_all-clause-before
+returns-then-is_all-clause-before c =
     let now = c.args.self.now in
-    ap (λ t. if t then with_noted now c.clear.new.self.items else c.clear-2.new.self.items) c.if-change.true
-    ∙ ap (with_noted now) c.clear.ensures.items ∙ none_noted now
+    ap (λ (change : ContactsChange). contacts_before change now) c.clear.ensures ∙ none_noted now
+
+pub returns-in_err-reserve-clause-before : goal.returns-in_err-reserve-clause-before
+returns-in_err-reserve-clause-before c =
+    let now = c.args.self.now in
+    let cleared = c.change.view_is ∙ c.clear.ensures in
+    ap₂ (λ t noted. if t then with_noted now noted else c.reserve.new.self.items)
+    (ap (λ (change : ContactsChange). change.in_place) cleared) (ap (λ (change : ContactsChange). change.noted) cleared)
+    ∙ none_noted now
 
 pub add_next-requires-clause-old : goal.add_next-requires-clause-old
 add_next-requires-clause-old c =
@@ -48,7 +51,8 @@ next c =
     let same = c.same_keys-same.result in
     let moved : c.deref-3.result.now ≡ old = c.deref-3.ensures.value ∙ ap (λ l. l.items) c.swap.ensures.y_after in
     let moved_first : c.deref-2.result.now ≡ old = c.deref-2.ensures.value ∙ ap (λ l. l.items) c.swap.ensures.y_after in
-    let empty : c.swap.new.x.items ≡ [] = ap (λ l. l.items) c.swap.ensures.x_after ∙ c.in_ok-reserve.ensures.items ∙ c.clear-2.ensures.items in
+    let empty : c.swap.new.x.items ≡ [] = ap (λ l. l.items) c.swap.ensures.x_after ∙ c.in_ok-reserve.ensures.items
+    ∙ ap (λ (change : ContactsChange). change.before) (c.change.view_is ∙ c.clear.ensures) in
     let inside : same ≤ length old = subst (λ cs. same ≤ length cs) c.deref.ensures.value c.same_keys-same.ensures.contacts in
     let keys : HaveSameKeys old touches same = subst (λ cs. HaveSameKeys cs touches same) c.deref.ensures.value c.same_keys-same.ensures.same in
     c.add_next.ensures

@@ -1,4 +1,4 @@
-use Rattle.std.proofs.Common.{◌≡◌, ◌+◌, List, OnOk, length, ap, ap₂, sym, subst, refl, ◌∙◌, arith}
+use Rattle.std.proofs.Common.{◌≡◌, ◌+◌, List, length, ap, ap₂, sym, subst, refl, ◌∙◌, arith}
 use Rattle.pf_commands.specs.declared.payload.Payload.{Payload}
 use Rattle.pf_step.specs.Work.{Work}
 use Rattle.pf_step.specs.World.{World}

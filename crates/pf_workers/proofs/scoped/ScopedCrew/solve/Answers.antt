@@ -11,17 +11,17 @@ pub run-requires-after_bounds : goal.run-requires-after_bounds
 run-requires-after_bounds g c κs outlives =
     let islands : List Island = c.args.islands.items in
     let fit : All (IsIslandOf c.args.scene.now) islands = c.requires in
-    let queues : List (List Island) = c.in_ok-queues.queues.items in
-    let shares : AreShares islands queues = c.in_ok-queues.ensures.shares in
-    shares_all (IsIslandOf c.args.scene.now) 0 islands queues fit shares
+    let stacks : List (List Island) = c.in_ok-stacks.stacks.items in
+    let shares : AreShares islands stacks = c.in_ok-stacks.ensures.shares in
+    shares_all (IsIslandOf c.args.scene.now) 0 islands stacks fit shares
 
 pub returns-clause-solved : goal.returns-clause-solved
 returns-clause-solved g c =
     let f = island_after_tick c.args.scene.now in
     let islands = c.args.islands.items in
-    let queues = c.in_ok-queues.queues.items in
+    let stacks = c.in_ok-stacks.stacks.items in
     let many : length islands ≡ c.len-count.result = search rules in
     c.in_ok-_empty.ensures.gathered (map f islands)
-    (subst (AreShares (map f islands)) (sym c.in_ok-solved.ensures.solved) (shares_mapped f 0 islands queues c.in_ok-queues.ensures.shares))
+    (subst (AreShares (map f islands)) (sym c.in_ok-solved.ensures.solved) (shares_mapped f 0 islands stacks c.in_ok-stacks.ensures.shares))
     (length-map islands f ∙ many)
-    ∙ ap (λ l. l ++ map f islands) c.in_ok-queues.ensures.rest
+    ∙ ap (λ l. l ++ map f islands) c.in_ok-stacks.ensures.rest

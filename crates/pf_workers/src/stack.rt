@@ -10,37 +10,36 @@ use pf_step::solve_all;
 use std::alloc::{AllocError, Global};
 use std::marker::Model;
 
-/// The islands of a worker, from last to first.
+/// The islands of a worker: its first island is on top.
 #[derive(Debug, Drop)]
-pub(crate) struct IslandQueue {
+pub(crate) struct IslandStack {
     islands: Vec<Island>,
 }
 
-impl Model for IslandQueue {
+impl Model for IslandStack {
     ghost use Rattle.std.specs.Prelude.{List};
     ghost use Rattle.pf_islands.specs.Split.{Island};
 
     ghost Value = { List Island };
 
-    ghost view = { λ p. p.islands.items };
+    ghost view = { λ s. s.islands.items };
 }
 
-impl IslandQueue {
-    ghost use Rattle.std.specs.Prelude.{◌≡◌, ◌+◌, ◌<◌, ◌≤◌, ◌++◌, ◌∷◌, [], All, IfOk, IfSome, IsNone, OnOk, drop, length, map, take};
+impl IslandStack {
+    ghost use Rattle.std.specs.Prelude.{◌≡◌, ◌+◌, ◌<◌, ◌++◌, ◌∷◌, [], All, IfOk, IfSome, IsNone, OnOk, length, map};
     ghost use Rattle.pf_islands.specs.Split.{IsIslandOf};
     ghost use Rattle.pf_solver.specs.Alone.{island_after_tick};
-    ghost use Rattle.pf_workers.specs.Dealing.{share};
 
     /// Without islands. Takes no memory.
-    pub(crate) fn new(alloc: Global) -> IslandQueue
+    pub(crate) fn new(alloc: Global) -> IslandStack
         ensures { result ≡ [] }
     {
-        IslandQueue {
+        IslandStack {
             islands: Vec::new(alloc),
         }
     }
 
-    /// Adds an island that comes before the others. An error loses it.
+    /// Puts an island on top. An error loses it.
     fn push(&mut self, island: Island) -> Result<(), AllocError>
         ensures { OnOk result (self.new ≡ self.old ++ island ∷ []) }
     {
@@ -48,7 +47,7 @@ impl IslandQueue {
         Ok(())
     }
 
-    /// Takes the first island, which is the last of the queue.
+    /// Takes the first island, which is on top.
     fn pop(&mut self) -> Option<Island>
         ensures some { IfSome result (λ island. self.old ≡ self.new ++ island ∷ []) }
         ensures none { IsNone result → self.old ≡ [] }
@@ -77,58 +76,58 @@ pub(crate) fn contact_counts(islands: &[Island]) -> (usize, usize) {
     (all, greatest)
 }
 
-/// So many queues without islands.
-pub(crate) fn empty_queues(alloc: Global, count: usize) -> Result<Vec<IslandQueue>, AllocError>
-    ensures count { IfOk result (λ queues. length queues.items ≡ count) }
-    ensures empty { IfOk result (λ queues. All (λ queue. queue ≡ []) queues.items) }
+/// So many stacks without islands.
+pub(crate) fn empty_stacks(alloc: Global, count: usize) -> Result<Vec<IslandStack>, AllocError>
+    ensures count { IfOk result (λ stacks. length stacks.items ≡ count) }
+    ensures empty { IfOk result (λ stacks. All (λ stack. stack ≡ []) stacks.items) }
 {
-    let mut queues = Vec::with_capacity(alloc, count)?;
+    let mut stacks = Vec::with_capacity(alloc, count)?;
     for _made in 0..count {
-        queues.push(IslandQueue::new(alloc))?;
+        stacks.push(IslandStack::new(alloc))?;
     }
-    Ok(queues)
+    Ok(stacks)
 }
 
-/// Deals islands to the workers, whose queues are empty.
+/// Deals islands to the workers, whose stacks are empty.
 pub(crate) fn deal(
     islands: &mut Vec<Island>,
-    queues: Vec<IslandQueue>,
-) -> Result<Vec<IslandQueue>, AllocError>
-    requires some { 0 < length queues.items }
-    requires empty { All (λ queue. queue ≡ []) queues.items }
+    stacks: Vec<IslandStack>,
+) -> Result<Vec<IslandStack>, AllocError>
+    requires some { 0 < length stacks.items }
+    requires empty { All (λ stack. stack ≡ []) stacks.items }
     ensures shares { IfOk result (λ dealt. AreShares islands.old.items dealt.items) }
-    ensures count { IfOk result (λ dealt. length dealt.items ≡ length queues.items) }
+    ensures count { IfOk result (λ dealt. length dealt.items ≡ length stacks.items) }
     ensures rest { OnOk result (islands.new.items ≡ []) }
 {
-    let mut queues = queues;
+    let mut stacks = stacks;
     while let Some(island) = islands.pop() {
-        let worker = islands.len() % queues.len();
-        queues[worker].push(island)?;
+        let worker = islands.len() % stacks.len();
+        stacks[worker].push(island)?;
     }
-    Ok(queues)
+    Ok(stacks)
 }
 
 /// Puts so many islands of the workers behind those of a list, in the order in which they were
-/// dealt. Returns the queues, which are empty then.
+/// dealt. Returns the stacks, which are empty then.
 pub(crate) fn gather(
-    queues: Vec<IslandQueue>,
+    stacks: Vec<IslandStack>,
     count: usize,
     islands: &mut Vec<Island>,
-) -> Result<Vec<IslandQueue>, AllocError>
-    requires { 0 < length queues.items }
-    ensures gathered { (all : List Island) → AreShares all queues.items → length all ≡ count
+) -> Result<Vec<IslandStack>, AllocError>
+    requires { 0 < length stacks.items }
+    ensures gathered { (all : List Island) → AreShares all stacks.items → length all ≡ count
         → OnOk result (islands.new.items ≡ islands.old.items ++ all) }
-    ensures count { IfOk result (λ rest. length rest.items ≡ length queues.items) }
-    ensures empty { (all : List Island) → AreShares all queues.items → length all ≡ count
-        → IfOk result (λ rest. All (λ queue. queue ≡ []) rest.items) }
+    ensures count { IfOk result (λ rest. length rest.items ≡ length stacks.items) }
+    ensures empty { (all : List Island) → AreShares all stacks.items → length all ≡ count
+        → IfOk result (λ rest. All (λ stack. stack ≡ []) rest.items) }
 {
-    let mut queues = queues;
+    let mut stacks = stacks;
     for number in 0..count {
-        let worker = number % queues.len();
-        match queues[worker].pop() {
+        let worker = number % stacks.len();
+        match stacks[worker].pop() {
             Some(island) => islands.push(island)?,
-            None => return Ok(queues),
+            None => return Ok(stacks),
         }
     }
-    Ok(queues)
+    Ok(stacks)
 }

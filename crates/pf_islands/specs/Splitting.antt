@@ -1,0 +1,35 @@
+-- What a tick is split into: the islands that are made, and lone bodies that are in none of them.
+use Rattle.std.specs.Prelude.{◌≡◌, ◌<◌, All, List, length}
+use Rattle.pf_shapes.specs.Body.{BodyState}
+use Rattle.pf_shapes.specs.Scene.{Scene}
+use Rattle.pf_manifold.specs.Key.{IsRising}
+use Rattle.pf_manifold.specs.Touches.{Touch}
+use Rattle.pf_cache.specs.Contact.{Contact}
+use Rattle.pf_islands.specs.declared.splitting.LoneBodies.{LoneBodies}
+use Rattle.pf_islands.specs.declared.splitting.Parts.{Parts}
+use Rattle.pf_islands.specs.Group.{groups}
+use Rattle.pf_islands.specs.Lone.{lone_bodies, made_islands}
+use Rattle.pf_islands.specs.Rows.{active_rows}
+use Rattle.pf_islands.specs.Sleep.{woken_bodies}
+use Rattle.pf_islands.specs.Split.{IsIslandOf, Island, islands}
+
+-- an island for each group that has an awake body, with rows of the contacts that are simulated
+abbrev pub group_islands : Scene → List BodyState → List Touch → List Contact → List Island
+group_islands s bodies touches contacts =
+    islands (groups s touches) bodies (active_rows s bodies touches contacts)
+
+-- the same once all bodies of these groups are awake
+abbrev pub woken_islands : Scene → List BodyState → List Touch → List Contact → List Island
+woken_islands s bodies touches contacts =
+    group_islands s (woken_bodies (groups s touches) bodies) touches contacts
+
+-- of all these islands those are made that are to be made, and the bodies of the others are listed
+-- in ascending order
+pub record AreParts
+    (s : Scene) (bodies : List BodyState) (lone : LoneBodies) (all : List Island) (parts : Parts)
+    : Type 0 where
+  pub made : parts.islands.items ≡ made_islands lone all
+  pub listed : parts.lone_bodies.items ≡ lone_bodies lone all
+  pub fit : All (IsIslandOf s) parts.islands.items
+  pub order : IsRising 0 parts.lone_bodies.items
+  pub there : All (λ number. number < length bodies) parts.lone_bodies.items
