@@ -14,7 +14,7 @@ use Rattle.pf_islands.specs.Flags.{ListsAwake}
 use Rattle.pf_islands.specs.Split.{Island}
 use Rattle.pf_step.specs.Activity.{islands_of_bodies}
 use Rattle.pf_cache.specs.ContactsChange.{ContactsChange, contacts_before}
-use Rattle.pf_step.specs.Changes.{AreAdded, BodyChange, Changes, bodies_before, changes_by_commands, numbers_of, world_before}
+use Rattle.pf_step.specs.Changes.{AreAdded, BodyChange, Changes, changes_by_commands, numbers_of, world_before}
 use Rattle.pf_step.specs.Commands.{after_commands}
 use Rattle.pf_step.specs.Step.{collisions_of_bodies, step, touches_of_scene, world_after}
 use Rattle.pf_step.specs.Stepping.{FailsBy}

@@ -1,4 +1,4 @@
-use Rattle.std.proofs.Common.{rules, ◌≡◌, ◌∙◌, ◌++◌, ◌≤◌, [], ap, ap₂, drop, length, subst, sym, take}
+use Rattle.std.proofs.Common.{◌≡◌, ◌∙◌, ◌++◌, ◌≤◌, [], ap, ap₂, drop, length, subst, sym, take}
 use Rattle.std.specs.Prelude.{if◌then◌else◌}
 use Rattle.pf_manifold.specs.Key.{AreTouches}
 use Rattle.pf_cache.specs.Contact.{AreContacts, next_contacts}
