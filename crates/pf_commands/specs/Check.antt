@@ -23,16 +23,16 @@ allowed player (Some f) =
 abbrev pub check : Scene → Name → Payload → Result (Unit {0}) CheckFault
 check s name payload = allowed name.player (slice_get s.fixtures (body_of payload))
 
--- the first fault of two checks, one after the other
-abbrev pub first_fault
+-- the first failure of two checks, one after the other
+abbrev pub first_failure
     : Result (Unit {0}) CheckFault → Result (Unit {0}) CheckFault → Result (Unit {0}) CheckFault
-first_fault (Ok done) later = later
-first_fault (Err fault) later = Err fault
+first_failure (Ok done) later = later
+first_failure (Err fault) later = Err fault
 
 -- whether the scene allows each command: the first error, in order
 abbrev pub check_all : Scene → List (Name × Payload) → Result (Unit {0}) CheckFault
 check_all s [] = Ok tt
-check_all s (e ∷ es) = first_fault (check s e.0 e.1) (check_all s es)
+check_all s (e ∷ es) = first_failure (check s e.0 e.1) (check_all s es)
 
 -- the scene allows the command of this entry
 abbrev pub IsAllowed : Scene → Name × Payload → Type 0

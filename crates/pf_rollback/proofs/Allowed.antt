@@ -6,7 +6,7 @@ use Rattle.std.specs.FinMap.{get, get-empty, get-entries, empty, entries, find}
 use Rattle.pf_shapes.specs.Scene.{Scene}
 use Rattle.pf_commands.specs.declared.checking.CheckFault.{CheckFault}
 use Rattle.pf_commands.specs.declared.payload.Payload.{Payload}
-use Rattle.pf_commands.specs.Check.{check, first_fault, check_all, IsAllowed}
+use Rattle.pf_commands.specs.Check.{check, first_failure, check_all, IsAllowed}
 use Rattle.pf_commands.specs.Merge.{name_cmp, CommandMap, heaviest_of, merge, singleton}
 use Rattle.pf_commands.specs.Name.{Name}
 use Rattle.pf_commands.specs.Payload.{weight}
@@ -52,7 +52,7 @@ found_allowed s [] name payload checked found = absurd cc
 found_allowed s (e ∷ es) name payload checked found =
     by (check s e.0 e.1) refl checked (eq_by_cmp name_cmp name e.0) refl found (found_allowed s es name payload)
   where
-    by : (r : Result (Unit {0}) CheckFault) → check s e.0 e.1 ≡ r → first_fault r (check_all s es) ≡ Ok tt
+    by : (r : Result (Unit {0}) CheckFault) → check s e.0 e.1 ≡ r → first_failure r (check_all s es) ≡ Ok tt
         → (b : Bool) → eq_by_cmp name_cmp name e.0 ≡ b → cond b (Some e.1) (find name_cmp name es) ≡ Some payload
         → (check_all s es ≡ Ok tt → find name_cmp name es ≡ Some payload → IsAllowed s (name, payload)) → IsAllowed s (name, payload)
     by (Err fault) here checked b tied found rest = absurd cc
