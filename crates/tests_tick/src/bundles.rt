@@ -11,12 +11,16 @@ use pf_num::Fx;
 use pf_rot::V2;
 use pf_rows::{Constraint, Entry, Impulses, InverseMass, Prepared, Row, Side};
 
-/// A row of a static body and a dynamic one, with arms of this length and this bias.
-fn row(arm: Fx, bias: Fx) -> Row {
-    let mass = InverseMass {
+/// That of a mass of 1 and an inertia of 64.
+fn inverse_mass() -> InverseMass {
+    InverseMass {
         inverse_mass: Fx::ONE,
         inverse_inertia: Fx::TICK,
-    };
+    }
+}
+
+/// A row of a static body and a dynamic one, with arms of this length and this bias.
+fn row(arm: Fx, bias: Fx) -> Row {
     let normal = V2 {
         x: Fx::ONE,
         y: Fx::ZERO,
@@ -35,7 +39,7 @@ fn row(arm: Fx, bias: Fx) -> Row {
     };
     Row {
         entry: entry(normal),
-        prepared: Prepared::new(mass, mass, constraint),
+        prepared: Prepared::new(inverse_mass(), inverse_mass(), constraint),
     }
 }
 
