@@ -36,12 +36,14 @@ uint32_t pf_version(void) { return PF_VERSION; }
     CODE(PF_SMALL_BUFFER, "a buffer is too small")                                                 \
     CODE(PF_BAD_PLAYER, "the number of a player is not below 8")                                   \
     CODE(PF_BAD_RING, "the number of settled worlds to keep is not from 1 to 64")                  \
-    CODE(PF_BAD_NUMBER, "a number is out of its range")                                            \
+    CODE(PF_BAD_NUMBER, "a number is out of its range: within 2^31, of a place 2^20")              \
     CODE(PF_STILL_OPEN, "the context is open already")                                             \
     CODE(PF_FULL, "the context has no key left")                                                   \
     CODE(PF_SCENE_BAD_LINE, "no such line may stand here")                                         \
-    CODE(PF_SCENE_BAD_NUMBER, "a number is no whole one, or out of its range")                     \
-    CODE(PF_SCENE_TOO_MANY, "the scene has as many bodies as it may have")                         \
+    CODE(PF_SCENE_BAD_NUMBER,                                                                      \
+         "a number is not whole, or out of its range: friction is 0 to 4,"                         \
+         " gravity within 1,024, a position within 2^20, a direction within 1, an owner 0 to 7")   \
+    CODE(PF_SCENE_TOO_MANY, "the scene has 1,024 bodies already")                                  \
     CODE(PF_SCENE_BAD_MASS, "a mass is neither 0 nor from 1/16 to 1,024 (2^20 to 2^34 raw)")       \
     CODE(PF_SCENE_BAD_SIZE,                                                                        \
          "a radius or a half extent is not from 1/16 to 1,024 (2^20 to 2^34 raw)")                 \
@@ -54,9 +56,12 @@ uint32_t pf_version(void) { return PF_VERSION; }
     CODE(PF_FRAME_SHORT, "the frame has fewer than 27 bytes")                                      \
     CODE(PF_FRAME_LONG, "the frame has more than 27 bytes")                                        \
     CODE(PF_FRAME_BAD_VERSION, "the frame begins with neither 1 nor 2")                            \
-    CODE(PF_FRAME_BAD_KIND, "the version of the frame has no such kind of command")                \
+    CODE(PF_FRAME_BAD_KIND,                                                                        \
+         "the kind is none of its version: 0 to 2 of version 1, 3 of version 2")                   \
     CODE(PF_FRAME_NOT_CANONICAL, "a field that the command does not use is not 0")                 \
-    CODE(PF_FRAME_OUT_OF_RANGE, "a field of the frame is out of its range")                        \
+    CODE(PF_FRAME_OUT_OF_RANGE,                                                                    \
+         "a field is out of its range: the tick is below 2^20, the player below 8,"                \
+         " the body below 1,024, a number within 2^31, or of a place within 2^20")                 \
     CODE(PF_UNKNOWN_BODY, "the scene has no body of this number")                                  \
     CODE(PF_STATIC_BODY, "the body is static")                                                     \
     CODE(PF_NOT_OWNER, "the body belongs to another player, or to nobody")

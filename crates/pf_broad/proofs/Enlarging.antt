@@ -11,17 +11,17 @@ use Rattle.pf_shapes.specs.Bounds.{Bounds, IsOrdered, overlaps, ranges_overlap}
 use Rattle.pf_shapes.specs.Pair.{Pair}
 use Rattle.pf_broad.specs.Pairs.{no_bounds, bounds_at, may_touch, is_pair, pair, pair_may_touch, partners_of, pairs_of, pairs}
 use Rattle.pf_shapes.specs.declared.scene.TheConstants.{MAX_BODIES}
-use Rattle.pf_broad.specs.Enlarged.{contains, is_within, AreCandidates, AreEnlarged}
+use Rattle.pf_broad.specs.Enlarged.{contains, contains_range, AreCandidates, AreEnlarged}
 
 -- bounds that contain ordered ones are ordered
 contains-IsOrdered : (a b : Bounds) → contains a b ≡ true → IsOrdered b → IsOrdered a
 unfolding contains
 contains-IsOrdered a b within ordered =
     let axes = (and_parts (not a.is_static || b.is_static) _ within).1 in
-    let both = and_parts (is_within a.low.x a.high.x b.low.x b.high.x) (is_within a.low.y a.high.y b.low.y b.high.y) axes in
+    let both = and_parts (contains_range a.low.x a.high.x b.low.x b.high.x) (contains_range a.low.y a.high.y b.low.y b.high.y) axes in
     record { x = ends_in_order a.low.x a.high.x b.low.x b.high.x both.0 ordered.x; y = ends_in_order a.low.y a.high.y b.low.y b.high.y both.1 ordered.y }
   where
-    ends_in_order : (low high lo hi : ℤ) → is_within low high lo hi ≡ true → lo ≤ℤ hi → low ≤ℤ high
+    ends_in_order : (low high lo hi : ℤ) → contains_range low high lo hi ≡ true → lo ≤ℤ hi → low ≤ℤ high
     ends_in_order low high lo hi is order = grind (arith, ints, nat_tests)
 
 pub enlarged_bounds-IsOrdered : (enlarged bounds : List Bounds) → AreEnlarged enlarged bounds → All IsOrdered bounds → All IsOrdered enlarged
@@ -38,7 +38,7 @@ not_both true false true b' p q r = p
 not_both true true true false p q r = q
 not_both true true true true p q r = r
 
-within-overlap : (low high lo hi l h l' h' : ℤ) → is_within low high l h ≡ true → is_within lo hi l' h' ≡ true
+within-overlap : (low high lo hi l h l' h' : ℤ) → contains_range low high l h ≡ true → contains_range lo hi l' h' ≡ true
     → ranges_overlap l h l' h' ≡ true → ranges_overlap low high lo hi ≡ true
 within-overlap low high lo hi l h l' h' p q r = grind (arith, ints, nat_tests)
 
@@ -48,8 +48,8 @@ unfolding contains may_touch overlaps
 contains-may_touch a b a' b' p q touch =
     let pa = and_parts (not a.is_static || a'.is_static) _ p in
     let pb = and_parts (not b.is_static || b'.is_static) _ q in
-    let axes_a = and_parts (is_within a.low.x a.high.x a'.low.x a'.high.x) (is_within a.low.y a.high.y a'.low.y a'.high.y) pa.1 in
-    let axes_b = and_parts (is_within b.low.x b.high.x b'.low.x b'.high.x) (is_within b.low.y b.high.y b'.low.y b'.high.y) pb.1 in
+    let axes_a = and_parts (contains_range a.low.x a.high.x a'.low.x a'.high.x) (contains_range a.low.y a.high.y a'.low.y a'.high.y) pa.1 in
+    let axes_b = and_parts (contains_range b.low.x b.high.x b'.low.x b'.high.x) (contains_range b.low.y b.high.y b'.low.y b'.high.y) pb.1 in
     let parts = and_parts (not (a'.is_static && b'.is_static)) _ touch in
     let axes = and_parts (ranges_overlap a'.low.x a'.high.x b'.low.x b'.high.x) (ranges_overlap a'.low.y a'.high.y b'.low.y b'.high.y) parts.1 in
     let static = not_both a.is_static a'.is_static b.is_static b'.is_static pa.0 pb.0 parts.0 in

@@ -9,14 +9,14 @@ use Rattle.pf_broad.specs.Pairs.{bounds_at, pairs}
 use Rattle.pf_broad.specs.Partners.{has_body}
 
 -- on one axis: the first range contains the second
-abbrev pub is_within : ℤ → ℤ → ℤ → ℤ → Bool
-is_within outer_low outer_high low high = int_le outer_low low && int_le high outer_high
+abbrev pub contains_range : ℤ → ℤ → ℤ → ℤ → Bool
+contains_range outer_low outer_high low high = int_le outer_low low && int_le high outer_high
 
 -- on both axes; and where the first are static, so are the second
 unfoldable pub contains : Bounds → Bounds → Bool
 contains a b =
     (not a.is_static || b.is_static)
-    && (is_within a.low.x a.high.x b.low.x b.high.x && is_within a.low.y a.high.y b.low.y b.high.y)
+    && (contains_range a.low.x a.high.x b.low.x b.high.x && contains_range a.low.y a.high.y b.low.y b.high.y)
 
 -- each body's enlarged bounds contain its bounds
 pub record AreEnlarged (enlarged bounds : List Bounds) : Type 0 where

@@ -4,7 +4,7 @@
 ghost use Rattle.std.specs.Prelude.{◌≡◌, ℕ, ◌<◌, ◌≤◌, ◌≤ℤ◌, false, length, true, IfOk};
 ghost use Rattle.pf_broad.specs.Pairs.{bounds_at};
 ghost use Rattle.pf_broad.specs.Partners.{has_body, AreBodies};
-ghost use Rattle.pf_broad.specs.Enlarged.{contains, is_within, left_bodies, AreEnlarged, AreSameBut};
+ghost use Rattle.pf_broad.specs.Enlarged.{contains, contains_range, left_bodies, AreEnlarged, AreSameBut};
 
 use pf_num::Fx;
 use pf_rot::V2;
@@ -18,14 +18,14 @@ fn contains(enlarged: &Bounds, bounds: &Bounds) -> bool
     ensures { result ≡ contains enlarged.now bounds.now }
 {
     (!enlarged.is_static | bounds.is_static)
-        & (is_within(enlarged.low.x, enlarged.high.x, bounds.low.x, bounds.high.x)
-            & is_within(enlarged.low.y, enlarged.high.y, bounds.low.y, bounds.high.y))
+        & (contains_range(enlarged.low.x, enlarged.high.x, bounds.low.x, bounds.high.x)
+            & contains_range(enlarged.low.y, enlarged.high.y, bounds.low.y, bounds.high.y))
 }
 
 /// Whether a closed range on one axis contains another.
 #[inline]
-fn is_within(outer_low: Fx, outer_high: Fx, low: Fx, high: Fx) -> bool
-    ensures { result ≡ is_within outer_low outer_high low high }
+fn contains_range(outer_low: Fx, outer_high: Fx, low: Fx, high: Fx) -> bool
+    ensures { result ≡ contains_range outer_low outer_high low high }
 {
     (outer_low <= low) & (high <= outer_high)
 }

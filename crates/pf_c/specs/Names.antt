@@ -48,12 +48,15 @@ code_text code =
     if code == 5 then codes "a buffer is too small" else (
     if code == 6 then codes "the number of a player is not below 8" else (
     if code == 7 then codes "the number of settled worlds to keep is not from 1 to 64" else (
-    if code == 8 then codes "a number is out of its range" else (
+    if code == 8 then codes "a number is out of its range: within 2^31, of a place 2^20" else (
     if code == 9 then codes "the context is open already" else (
     if code == 10 then codes "the context has no key left" else (
     if code == 16 then codes "no such line may stand here" else (
-    if code == 17 then codes "a number is no whole one, or out of its range" else (
-    if code == 18 then codes "the scene has as many bodies as it may have" else (
+    if code == 17
+    then codes "a number is not whole, or out of its range: friction is 0 to 4,"
+    ++ codes " gravity within 1,024, a position within 2^20,"
+    ++ codes " a direction within 1, an owner 0 to 7" else (
+    if code == 18 then codes "the scene has 1,024 bodies already" else (
     if code == 19 then codes "a mass is neither 0 nor from 1/16 to 1,024 (2^20 to 2^34 raw)" else (
     if code == 20
     then codes "a radius or a half extent is not from 1/16 to 1,024 (2^20 to 2^34 raw)" else (
@@ -67,9 +70,12 @@ code_text code =
     if code == 48 then codes "the frame has fewer than 27 bytes" else (
     if code == 49 then codes "the frame has more than 27 bytes" else (
     if code == 50 then codes "the frame begins with neither 1 nor 2" else (
-    if code == 51 then codes "the version of the frame has no such kind of command" else (
+    if code == 51
+    then codes "the kind is none of its version: 0 to 2 of version 1, 3 of version 2" else (
     if code == 52 then codes "a field that the command does not use is not 0" else (
-    if code == 53 then codes "a field of the frame is out of its range" else (
+    if code == 53
+    then codes "a field is out of its range: the tick is below 2^20, the player below 8,"
+    ++ codes " the body below 1,024, a number within 2^31, or of a place within 2^20" else (
     if code == 64 then codes "the scene has no body of this number" else (
     if code == 65 then codes "the body is static" else (
     if code == 66 then codes "the body belongs to another player, or to nobody"

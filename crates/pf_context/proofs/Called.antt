@@ -9,7 +9,7 @@ use Rattle.pf_context.specs.declared.error.ContextError.{ContextError}
 use Rattle.pf_context.specs.declared.error.ContextError.TheVariants.{BadKey}
 use Rattle.pf_context.specs.Context.{Context}
 use Rattle.pf_context.specs.Errors.{returned}
-use Rattle.pf_context.specs.Calls.{Calls, Changes}
+use Rattle.pf_context.specs.Calls.{Calls, CallsOne}
 
 module _ {V : Type 0} where
   -- while a value is out, each other key names what it named
@@ -20,7 +20,7 @@ module _ {V A E : Type 0} (value_of : Context → Key → Option V) (with_one : 
   call_of : (Call : V → V → Result A E → Type 0) (answer : Result A E) (value : Option V) → value_of old key ≡ value → IsSome value
       → ((before : V) → value_of old key ≡ Some before → (after : V) × Call before after answer × (new ≡ with_one old key after))
       → result ≡ returned error answer
-      → MatchOption value ((result ≡ Err BadKey) × (new ≡ old)) (λ before. Changes value_of with_one error old new key result (Call before))
+      → MatchOption value ((result ≡ Err BadKey) × (new ≡ old)) (λ before. CallsOne value_of with_one error old new key result (Call before))
   call_of Call answer None is some step returns = let no : ⊥ = cc in absurd no
   call_of Call answer (Some before) is some step returns =
       let whole = step before is in
@@ -36,5 +36,5 @@ module _ {V A E : Type 0} (value_of : Context → Key → Option V) (with_one : 
   pub made : (Call : V → V → Result A E → Type 0) (before after : V) (answer : Result A E) → value_of old key ≡ Some before → Call before after answer → new ≡ with_one old key after
       → result ≡ returned error answer → Calls value_of with_one error old new key result Call
   made Call before after answer named call context returns =
-      subst (λ (value : Option V). MatchOption value ((result ≡ Err BadKey) × (new ≡ old)) (λ first. Changes value_of with_one error old new key result (Call first))) (sym named)
+      subst (λ (value : Option V). MatchOption value ((result ≡ Err BadKey) × (new ≡ old)) (λ first. CallsOne value_of with_one error old new key result (Call first))) (sym named)
       (record { after = after; answer = answer; call = call; context = context; returns = returns })

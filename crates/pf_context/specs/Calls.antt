@@ -30,7 +30,7 @@ module _
   where
     -- a call of what a key names, and nothing else: the context returns what the call returned, and
     -- the key names what the call left
-    pub record Changes (Call : V → Result A E → Type 0) : Type 0 where
+    pub record CallsOne (Call : V → Result A E → Type 0) : Type 0 where
       pub after : V
       pub answer : Result A E
       pub call : Call after answer
@@ -42,7 +42,7 @@ module _
     abbrev pub Calls : (V → V → Result A E → Type 0) → Type 0
     Calls Call =
         MatchOption (value_of old key) ((result ≡ Err BadKey) × (new ≡ old))
-        (λ before. Changes (Call before))
+        (λ before. CallsOne (Call before))
 
 module _ {A E : Type 0} where
   -- the call of a peer
@@ -63,7 +63,7 @@ module _
   where
     -- a value is put in under the next key. Where there is no memory for it, or no slot, that is
     -- the error, and the context is as it was.
-    pub record Puts (value : V) : Type 0 where
+    pub record Inserts (value : V) : Type 0 where
       pub key : IfOk result (IsNextKey (slots_of old))
       pub context : IfOk result (λ key. new ≡ with_new old key value)
       pub err : OnErr result (new ≡ old)
@@ -72,7 +72,7 @@ module _
 
     -- the same where there is a value to put in, and else the error why there is none
     abbrev pub Adds : Result V ContextError → Type 0
-    Adds (Ok value) = Puts value
+    Adds (Ok value) = Inserts value
     Adds (Err error) = (result ≡ Err error) × (new ≡ old)
 
 -- a peer is added

@@ -21,7 +21,7 @@ pub record Buffers : Type 0 where
   pub contacts : List PlainContact
 
 -- the world fits into the buffers
-pub record Fits (w : World) (b : Buffers) : Type 0 where
+pub record FitsInto (w : World) (b : Buffers) : Type 0 where
   pub bodies : length w.bodies ≤ length b.bodies
   pub contacts : length w.contacts ≤ length b.contacts
 
@@ -38,9 +38,9 @@ abbrev pub WritesWorld : Result World Refusal → Buffers → Buffers → Result
     → Type 0
 WritesWorld (Err refusal) old new result = (result ≡ Err (Refused refusal)) × (new ≡ old)
 WritesWorld (Ok w) old new (Ok sizes) =
-    Fits w old × (sizes ≡ sizes_of w) × (new ≡ with_world w old)
+    FitsInto w old × (sizes ≡ sizes_of w) × (new ≡ with_world w old)
 WritesWorld (Ok w) old new (Err (SmallBuffers sizes)) =
-    (¬ Fits w old) × (sizes ≡ sizes_of w) × (new ≡ old)
+    (¬ FitsInto w old) × (sizes ≡ sizes_of w) × (new ≡ old)
 WritesWorld (Ok w) old new (Err OutOfMemory) = new ≡ old
 WritesWorld (Ok w) old new (Err error) = ⊥
 

@@ -36,7 +36,7 @@ pub enum ContextError {
     #[error("the number of settled worlds to keep is not from 1 to 64")]
     BadRing,
     /// A number of a command is out of its range.
-    #[error("a number is out of its range")]
+    #[error("a number is out of its range: within 2^31, of a place 2^20")]
     BadNumber,
     /// The buffer is too small for the frames: so many there are.
     #[error("{0} frames do not fit")]

@@ -119,9 +119,9 @@ fn rounded_shift(p: i64) -> i64
     (p + 0x7f_ffff + last_bit(p >> 24)) >> 24
 }
 
-/// Whether a number is short: the product of two short numbers is at most 2^62 in magnitude.
+/// Whether a number has 32 bits, so that the product of two of them is at most 2^62 in magnitude.
 #[inline]
-fn is_short(a: i64) -> bool
+fn fits_32_bits(a: i64) -> bool
     ensures { IsTrue result → unsigned_abs a ≤ 2 ^ 31 }
 {
     a >= -(1 << 31) && a < 1 << 31
@@ -147,7 +147,7 @@ pub fn rounded_product(a: i64, b: i64) -> i64
     ensures value { result ≡ product a b }
     ensures range { IsRaw result }
 {
-    if is_short(a) && is_short(b) {
+    if fits_32_bits(a) && fits_32_bits(b) {
         short_product(a, b)
     } else {
         long_product(a, b)

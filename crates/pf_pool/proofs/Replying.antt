@@ -10,7 +10,7 @@ use Rattle.pf_pool.specs.declared.reply.Dealt.{Dealt}
 use Rattle.pf_pool.specs.declared.reply.Known.{Known}
 use Rattle.pf_pool.specs.declared.reply.Message.{Message}
 use Rattle.pf_pool.specs.declared.reply.Message.TheVariants as messages
-use Rattle.pf_pool.specs.Reply.{AllFit, AreReplies, Fits, IsDoneOf, IsReply, known_after, known_first}
+use Rattle.pf_pool.specs.Reply.{ArePasses, AreReplies, IsPass, IsDoneOf, IsReply, known_after, known_first}
 use Rattle.pf_pool.proofs.Lists.{all_more}
 
 -- what stands at a place is one thing
@@ -43,20 +43,20 @@ more_at P (z ∷ xs) x new old (suc i) y at = more_at (λ j. P (suc j)) xs x new
 module _ {P : Type 0} (caller : ℕ) (last : Known P) where
   -- a pass that knows what it knew
   fit_set : (views : List (Known P)) (pass : ℕ) (known : Known P) → get_elem? views pass ≡ some known
-      → AllFit caller last views → AllFit caller last (set views pass known)
-  fit_set views pass known at fit = set_at (Fits caller last) views pass known (fit pass known at) (λ i y is other. fit i y is)
+      → ArePasses caller last views → ArePasses caller last (set views pass known)
+  fit_set views pass known at fit = set_at (IsPass caller last) views pass known (fit pass known at) (λ i y is other. fit i y is)
 
   -- one more pass, which knows what another knows, and does not deal
-  fit_more : (views : List (Known P)) (pass : ℕ) (known : Known P) → Fits caller last pass known
-      → AllFit caller last views → AllFit caller last (views ++ record known { deals = false } ∷ [])
+  fit_more : (views : List (Known P)) (pass : ℕ) (known : Known P) → IsPass caller last pass known
+      → ArePasses caller last views → ArePasses caller last (views ++ record known { deals = false } ∷ [])
   fit_more views pass known fits fit =
-      more_at (Fits caller last) views (record known { deals = false })
+      more_at (IsPass caller last) views (record known { deals = false })
       (fits.0, fits.1, λ deals. absurd (true≢false (sym deals))) fit
 
 module _ {P : Type 0} where
   -- the first pass is the caller's
-  first_fits : AllFit 0 (known_first {P = P}) (known_first ∷ [])
-  first_fits zero known at = subst (Fits 0 known_first 0) (one_some at) (omega arith, λ same. refl, λ deals. (refl, refl))
+  first_fits : ArePasses 0 (known_first {P = P}) (known_first ∷ [])
+  first_fits zero known at = subst (IsPass 0 known_first 0) (one_some at) (omega arith, λ same. refl, λ deals. (refl, refl))
   first_fits (suc pass) known at = absurd (some-ne-none known (sym at))
 
 module _ {P : Type 0} (IsDone : P → P → Type 0) where
@@ -87,7 +87,7 @@ module _ {P : Type 0} (IsDone : P → P → Type 0) where
           caller,
           next,
           all_more (IsReply IsDone next) items (messages.Dealt d) (λ i e low. later last d _ (replies i e low)) tt,
-          set_at (Fits caller next) views pass after (omega (arith, counted), λ same. refl, λ deals. (here.0, counted))
+          set_at (IsPass caller next) views pass after (omega (arith, counted), λ same. refl, λ deals. (here.0, counted))
               (λ i y at_i other.
               let old = fit i y at_i in
               (omega (arith, old.0), λ same. absurd (omega (arith, old.0, same)), λ deals. absurd (other ((old.2 deals).0 ∙ sym here.0)))),

@@ -23,14 +23,14 @@ module _ {P : Type 0} where
 
   -- a pass of which the caller knows this: only the caller's deals, and knows of the last run what
   -- was dealt; another is of that run, and then knows the same, or of an earlier one
-  abbrev pub Fits : ℕ → Known P → ℕ → Known P → Type 0
-  Fits caller last pass known =
+  abbrev pub IsPass : ℕ → Known P → ℕ → Known P → Type 0
+  IsPass caller last pass known =
       (known.run ≤ last.run) × (known.run ≡ last.run → known.dealt ≡ last.dealt)
       × (known.deals ≡ true → (pass ≡ caller) × (known.run ≡ last.run))
 
-  abbrev pub AllFit : ℕ → Known P → List (Known P) → Type 0
-  AllFit caller last views =
-      (pass : ℕ) (known : Known P) → get_elem? views pass ≡ some known → Fits caller last pass known
+  abbrev pub ArePasses : ℕ → Known P → List (Known P) → Type 0
+  ArePasses caller last views =
+      (pass : ℕ) (known : Known P) → get_elem? views pass ≡ some known → IsPass caller last pass known
 
 -- what the caller knows after a message of its own
 abbrev pub known_after : {P : Type 0} → Known P → Message P → Known P
@@ -55,4 +55,4 @@ module _ {P : Type 0} (IsDone : P → P → Type 0) where
   -- all messages and all passes are of what the caller knows
   abbrev pub AreReplies : List (Message P) → List (Known P) → Type 0
   AreReplies items views =
-      (caller : ℕ) × (last : Known P) × All (IsReply last) items × AllFit caller last views
+      (caller : ℕ) × (last : Known P) × All (IsReply last) items × ArePasses caller last views

@@ -6,6 +6,7 @@ mod error;
 pub mod laws;
 mod peer;
 mod play;
+mod ranges;
 mod taking;
 mod turn;
 

@@ -31,26 +31,16 @@ fn hand_to_all(outputs: &mut [LinkOut], frame: [u8; FRAME_LEN]) -> Result<(), Al
 }
 
 impl Peer {
-    ghost use Rattle.std.specs.Prelude.{◌≡◌, ◌⊎◌, ◌<◌, ◌≤◌, ◌∷◌, [], All, IfErr, IfOk, IfSome, None, OnOk, Some, false};
+    ghost use Rattle.std.specs.Prelude.{◌≡◌, ◌⊎◌, ◌<◌, ◌≤◌, ◌∷◌, [], IfErr, IfOk, IfSome, None, OnOk, Some, false};
     ghost use Rattle.pf_pool.specs.declared.pool.TheConstants.{MAX_WORKERS};
-    ghost use Rattle.pf_commands.specs.Merge.{IsCommand, IsCommandMap};
     ghost use Rattle.pf_rollback.specs.Kept.{settled_tick};
     ghost use Rattle.pf_step.specs.declared.crew.CrewError.TheVariants.{GateShut, OutOfMemory};
-    ghost use Rattle.pf_scripts.specs.Frames.{commands_in, refusal_of};
-    ghost use Rattle.pf_scripts.specs.Peer.{commands_of, kept_of, scripted_player, setting_of};
+    ghost use Rattle.pf_scripts.specs.Frames.{refusal_of};
+    ghost use Rattle.pf_scripts.specs.Peer.{scripted_player, setting_of};
     ghost use Rattle.pf_scripts.specs.Play.{HasMoved, HasPlayed, IsPeerError, IsCrewErrorOfPlay};
     ghost use Rattle.pf_events.specs.Crews.{CanFail};
     ghost use Rattle.pf_scripts.specs.Script.{frame_bytes, frame_fault, frames_in, place_after, script_fault, tick_fault, turn_fault};
     ghost use Rattle.pf_scripts.specs.declared.error.SessionError.TheVariants as errors;
-
-    /// Does nothing. What its clauses say is what the types of the core and of the peer ensure.
-    fn in_range(&self)
-        ensures core { IsCommandMap (scripted_player self.now).commands }
-        ensures all { IsCommandMap (commands_of self.now) }
-        ensures kept { All IsCommand (commands_in (setting_of self.now) (kept_of self.now)) }
-    {
-        let _count = self.core.commands().len();
-    }
 
     /// Takes a frame of the peer's own script, and hands it to all others.
     fn take_own(&mut self, place: usize, frame: &[u8]) -> Result<(), SessionError>

@@ -15,16 +15,17 @@ pub enum SceneFault {
     #[error("no such line may stand here")]
     BadLine,
     /// A field is no whole number, or one out of its range.
-    #[error("a field is no whole number, or out of its range")]
+    #[error("a number is not whole, or out of its range: friction is 0 to 4, gravity within 1,024, \
+         a position within 2^20, a direction within 1, an owner 0 to 7")]
     BadNumber,
     /// The scene has as many bodies as it may have.
-    #[error("the scene has as many bodies as it may have")]
+    #[error("the scene has 1,024 bodies already")]
     TooMany,
-    /// A mass is neither 0 nor from 2^20 to 2^34.
-    #[error("a mass is neither 0 nor from 2^20 to 2^34")]
+    /// A mass is neither 0 nor from 2^20 to 2^34 raw.
+    #[error("a mass is neither 0 nor from 1/16 to 1,024 (2^20 to 2^34 raw)")]
     BadMass,
-    /// A radius or a half extent is not from 2^20 to 2^34.
-    #[error("a radius or a half extent is not from 2^20 to 2^34")]
+    /// A radius or a half extent is not from 2^20 to 2^34 raw.
+    #[error("a radius or a half extent is not from 1/16 to 1,024 (2^20 to 2^34 raw)")]
     BadSize,
 }
 

@@ -18,7 +18,8 @@ fn row(number: u8) -> (ProgramError, &'static str) {
     match number {
         0 => (
             ProgramError::Line(u64::MAX, SceneFault::BadMass),
-            "line 18446744073709551615: a mass is neither 0 nor from 2^20 to 2^34",
+            "line 18446744073709551615: a mass is neither 0 nor from 1/16 to 1,024 \
+             (2^20 to 2^34 raw)",
         ),
         1 => (
             ProgramError::Frame(DigitsFault::BadNumber),
