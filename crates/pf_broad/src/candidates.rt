@@ -174,7 +174,8 @@ fn pairs_of_left(
     requires count { length is_left.now ≡ length enlarged.now }
     requires flags { (k : ℕ) → k < length enlarged.now
         → get_or is_left.now k false ≡ has_body left.now k }
-    ensures { IfOk result (λ fresh. fresh.items ≡ filter (has_one_of left.now) (pairs enlarged.now)) }
+    ensures { IfOk result
+        (λ fresh. fresh.items ≡ filter (has_one_of left.now) (pairs enlarged.now)) }
 {
     let mut fresh = Vec::new(alloc);
     let mut partners = Vec::new(alloc);

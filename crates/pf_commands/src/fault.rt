@@ -14,8 +14,7 @@ pub enum FrameFault {
     /// The first byte is neither 1 nor 2.
     #[error("the frame begins with neither 1 nor 2")]
     BadVersion,
-    /// The version has no such kind: version 1 has 0 to 2, push, turn and stop, and version 2 has 3,
-    /// place.
+    /// The version has no such kind: version 1 has 0 to 2 (push, turn, stop), 2 has 3 (place).
     #[error("the kind is none of its version: 0 to 2 of version 1, 3 of version 2")]
     BadKind,
     /// A turn has a y that is not 0, or a stop an x or a y.
