@@ -26,6 +26,7 @@ from typing import NamedTuple
 
 ONE = 1 << 24
 FRAME_LEN = 27
+_TEXT_LEN = 160  # PF_TEXT_LEN of pf.h
 NOBODY = 255
 SMALL_BUFFER = 5
 PUTS = ("new", "same", "greater", "lesser")
@@ -173,7 +174,7 @@ def _load():
 
 def _written(what, code):
     """The "name" of a code, as PF_BAD_KEY, or the "text" that says what it means."""
-    array, needed = ctypes.create_string_buffer(96), c_uint64()
+    array, needed = ctypes.create_string_buffer(_TEXT_LEN), c_uint64()
     getattr(_LIBRARY, "pf_error_" + what)(code, array, len(array), byref(needed))
     return array.value.decode()
 

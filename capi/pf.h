@@ -55,7 +55,7 @@ extern "C" {
 #define PF_FRAME_LEN 27 /* the bytes of a command */
 #define PF_NOBODY 255   /* the owner of a body that no player may move */
 #define PF_NAME_LEN 32  /* bytes that the name of each code fits into */
-#define PF_TEXT_LEN 96  /* bytes that the text of each code fits into */
+#define PF_TEXT_LEN 160 /* bytes that the text of each code fits into */
 
 /* Limits, of numbers in units of 2^-24. A negative number is at least the limit's negative. */
 #define PF_MAX_BODIES 1024

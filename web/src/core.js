@@ -10,10 +10,10 @@ export const PF_FRAME_BAD_KIND = 51;
 export const PF_UNKNOWN_BODY = 64;
 
 const CONTEXT_BYTES = 16;
-const TEXT_BYTES = 96;
+const TEXT_BYTES = 160;
 /** Room for what a call writes, and behind it for what it reads. */
 const OUTPUT_BYTES = 32;
-const INPUT_BYTES = 96;
+const INPUT_BYTES = 160;
 
 /** A call that the core refused, or for which there was no memory. */
 export class PfError extends Error {
