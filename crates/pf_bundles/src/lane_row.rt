@@ -12,7 +12,7 @@ use crate::limits::{
     PRODUCT_LIMIT, QUARTER_ARM, QUARTER_ARM_SPIN, SHORT_ARM, SHORT_ARM_SPIN, SMALL_PUSH,
 };
 use crate::whole::{
-    WholeConstraint, WholeMass, constraint_of, mass_of, no_constraint, no_mass,
+    WholeConstraint, WholeMass, fixed_constraint_of, fixed_mass_of, no_constraint, no_mass,
     whole_constraint_of, whole_mass_of,
 };
 use pf_lanes::WholeNumber;
@@ -290,9 +290,9 @@ impl LaneRow {
         ensures constraint { result.constraint ≡ self.now.constraint }
     {
         let mut prepared = Prepared::new(
-            mass_of(self.first_mass),
-            mass_of(self.second_mass),
-            constraint_of(&self.constraint),
+            fixed_mass_of(self.first_mass),
+            fixed_mass_of(self.second_mass),
+            fixed_constraint_of(&self.constraint),
         );
         prepared.measure();
         prepared

@@ -64,8 +64,8 @@ impl WholeVelocity {
         }
     }
 
-    /// This velocity and this spin, or `None` where the velocity is above `limit` along an axis, or
-    /// doubles do not hold the spin.
+    /// A body's velocity and angular velocity. `None` where the velocity is above `limit` along an
+    /// axis, or where doubles do not hold the angular velocity.
     #[inline]
     pub fn of(velocity: V2, spin: Fx, limit: u64) -> Option<WholeVelocity>
         requires { limit ≤ EXACT_LIMIT }

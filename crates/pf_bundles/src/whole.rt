@@ -94,13 +94,13 @@ impl WholeVector {
     }
 }
 
-/// How easily impulses move a body, in whole numbers that are doubles.
+/// An inverse mass in whole numbers that are doubles.
 pub type WholeMass = InverseMass<WholeNumber>;
 
 /// A constraint in whole numbers that are doubles.
 pub type WholeConstraint = Constraint<WholeVector, WholeNumber>;
 
-/// The mass of a static body.
+/// The inverse mass of a static body.
 #[inline]
 pub(crate) fn no_mass() -> WholeMass
     ensures { result ≡ no_mass }
@@ -111,7 +111,7 @@ pub(crate) fn no_mass() -> WholeMass
     }
 }
 
-/// A mass in doubles, or `None` where they do not hold it.
+/// An inverse mass in doubles, or `None` where they do not hold it.
 #[inline]
 pub(crate) fn whole_mass_of(mass: InverseMass) -> Option<WholeMass>
     ensures value { IfSome result (λ whole. whole ≡ mass) }
@@ -123,9 +123,9 @@ pub(crate) fn whole_mass_of(mass: InverseMass) -> Option<WholeMass>
     })
 }
 
-/// A mass in fixed-point numbers.
+/// An inverse mass in fixed-point numbers.
 #[inline]
-pub(crate) fn mass_of(whole: WholeMass) -> InverseMass
+pub(crate) fn fixed_mass_of(whole: WholeMass) -> InverseMass
     ensures { result ≡ whole }
 {
     InverseMass {
@@ -173,7 +173,7 @@ pub(crate) fn whole_constraint_of(c: &Constraint) -> Option<WholeConstraint>
 
 /// A constraint in fixed-point numbers.
 #[inline]
-pub(crate) fn constraint_of(whole: &WholeConstraint) -> Constraint
+pub(crate) fn fixed_constraint_of(whole: &WholeConstraint) -> Constraint
     ensures { result ≡ whole.now }
 {
     Constraint {

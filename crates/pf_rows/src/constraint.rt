@@ -35,8 +35,8 @@ impl InverseMass {
 /// The part of a contact that stays fixed during the rounds, which Box2D-Lite's `Arbiter::PreStep`
 /// leaves in a `Contact`. In units of 2^-24.
 ///
-/// `V` is a vector and `N` a number in fixed point or in doubles, or those of several contacts side
-/// by side. `B` is the form of the bias, which is added and no factor of a product.
+/// `V` is a vector and `N` a number: in fixed point, in doubles, or of several contacts side by
+/// side. `B` is the type of the bias, which may be another, since it is added and never multiplied.
 #[derive(Clone, Copy, Debug)]
 pub struct Constraint<V = V2, N = Fx, B = N> {
     /// The normal, from the first body to the second.
