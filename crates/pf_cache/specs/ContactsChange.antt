@@ -6,16 +6,16 @@ use Rattle.pf_rows.specs.Impulses.{Impulses}
 use Rattle.pf_rows.specs.Row.{Row}
 use Rattle.pf_cache.specs.Contact.{Contact, no_contact}
 
--- either the contacts stayed in place, each with its key, and some of them are noted with the
--- impulses that they had; or all were made anew, and these are the ones before
+-- A tick leaves the contacts in place, each with its key, and some of them are noted with the
+-- impulses that they had before. Or it makes all contacts anew, and these are the ones before it.
 pub record ContactsChange : Type 0 where
   pub in_place : Bool
   pub noted : List Contact
   pub before : List Contact
 
 -- no change: the contacts before it are those after it
-abbrev pub no_change : ContactsChange
-no_change = record { in_place = true; noted = []; before = [] }
+abbrev pub no_contacts_change : ContactsChange
+no_contacts_change = record { in_place = true; noted = []; before = [] }
 
 -- the contact at the place of a row
 abbrev pub contact_of_row : List Contact → Row → Contact

@@ -95,9 +95,9 @@ fn same_keys(contacts: &[Contact], touches: &[Touch], known: usize) -> usize
     count
 }
 
-/// Whether so many are all contacts and all points.
+/// Whether there are so many contacts and so many points.
 #[inline]
-fn is_all(count: usize, contacts: &[Contact], touches: &[Touch]) -> bool
+fn is_count_of_both(count: usize, contacts: &[Contact], touches: &[Touch]) -> bool
     ensures { IsTrue result
         ↔ ((count ≡ length contacts.now) × (count ≡ length touches.now)) }
 {
@@ -185,7 +185,7 @@ impl Contacts {
     ghost use Rattle.pf_manifold.specs.Key.{AreTouches, key_of, rank};
     ghost use Rattle.pf_cache.specs.Contact.{HaveSameFirst, next_contacts};
     ghost use Rattle.pf_cache.specs.ContactRows.{AreRowsAt, with_rows};
-    ghost use Rattle.pf_cache.specs.ContactsChange.{contacts_before, may_change, no_change};
+    ghost use Rattle.pf_cache.specs.ContactsChange.{contacts_before, may_change, no_contacts_change};
     ghost use Rattle.pf_cache.specs.Same.{same_contacts};
 
     /// No contacts. Takes no memory.
@@ -208,10 +208,10 @@ impl Contacts {
     /// Makes of these contacts those of the points, as Box2D-Lite's `Arbiter::Update`: a key of the
     /// old contacts keeps its impulses, a new key has none, and a contact without a point is gone.
     /// The points are in the order of their keys. `change` then undoes this. With `may_stay`, and
-    /// if all contacts have the keys of all points, they stay in place, and impulses that change
-    /// have to be noted. Otherwise all contacts are made anew, and `change` has those before. The
-    /// first `known` have the keys of the first points, and are not compared. An error leaves the
-    /// contacts as they are, and no change in `change`.
+    /// if all contacts have the keys of all points, they may stay in place (no clause says that
+    /// they do), and impulses that change have to be noted. Otherwise all contacts are made anew,
+    /// and `change` has those before. The first `known` have the keys of the first points, and are
+    /// not compared. An error leaves the contacts as they are, and no change in `change`.
     #[inline(never)]
     pub fn update(
         &mut self,
@@ -226,12 +226,12 @@ impl Contacts {
         ensures before { contacts_before change.new self.new ≡ self.old }
         ensures anew { OnOk result (may_stay ≡ false → change.new.in_place ≡ false) }
         ensures unchanged { OnErr result (self.new ≡ self.old) }
-        ensures no_change { OnErr result (change.new ≡ no_change) }
+        ensures no_change { OnErr result (change.new ≡ no_contacts_change) }
         ensures no_memory { touches.now ≡ [] → IsOk result }
     {
         change.clear();
         let same = same_keys(&self.list, touches, known);
-        if may_stay && is_all(same, &self.list, touches) {
+        if may_stay && is_count_of_both(same, &self.list, touches) {
             return Ok(());
         }
         change.before.reserve(touches.len())?;
@@ -253,7 +253,8 @@ impl Contacts {
             → may_change change.new n ≡ true }
         ensures same { contacts_before change.new self.now ≡ contacts_before change.old self.now }
         ensures no_memory { rows.now ≡ [] → IsOk result }
-        ensures nothing_noted { change.old.in_place ≡ false → IsOk result }
+        ensures in_place { change.new.in_place ≡ change.old.in_place }
+        ensures no_memory_anew { change.old.in_place ≡ false → IsOk result }
     {
         if !change.in_place {
             return Ok(());
@@ -280,7 +281,7 @@ impl Contacts {
         ensures value { OnOk result (self.new ≡ contacts_before change.now self.old) }
         ensures unchanged { OnErr result (self.new ≡ self.old) }
         ensures no_memory { contacts_before change.now self.old ≡ [] → IsOk result }
-        ensures nothing_copied { IsTrue change.now.in_place → IsOk result }
+        ensures no_memory_in_place { IsTrue change.now.in_place → IsOk result }
     {
         if change.in_place {
             restore_all(&mut self.list, &change.noted);

@@ -59,11 +59,11 @@ impl Model for ContactsChange {
 
 impl ContactsChange {
     ghost use Rattle.std.specs.Prelude.{◌≡◌};
-    ghost use Rattle.pf_cache.specs.ContactsChange.{no_change};
+    ghost use Rattle.pf_cache.specs.ContactsChange.{no_contacts_change};
 
     /// No change. Takes no memory.
     pub fn new(alloc: Global) -> ContactsChange
-        ensures { result ≡ no_change }
+        ensures { result ≡ no_contacts_change }
     {
         ContactsChange {
             in_place: true,
@@ -74,7 +74,7 @@ impl ContactsChange {
 
     /// Makes it no change, and keeps its memory.
     pub fn clear(&mut self)
-        ensures { self.new ≡ no_change }
+        ensures { self.new ≡ no_contacts_change }
     {
         self.in_place = true;
         self.noted.clear();

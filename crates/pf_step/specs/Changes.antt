@@ -4,7 +4,7 @@ use Rattle.std.specs.List.{flat_map}
 use Rattle.pf_shapes.specs.Body.{BodyState}
 use Rattle.pf_manifold.specs.Key.{key_of, rank}
 use Rattle.pf_rows.specs.Row.{Row}
-use Rattle.pf_cache.specs.ContactsChange.{ContactsChange, contacts_before, may_change, no_change}
+use Rattle.pf_cache.specs.ContactsChange.{ContactsChange, contacts_before, may_change, no_contacts_change}
 use Rattle.pf_commands.specs.declared.payload.Payload.{Payload}
 use Rattle.pf_commands.specs.Payload.{body_of}
 use Rattle.pf_islands.specs.Split.{Island}
@@ -22,7 +22,7 @@ pub record Changes : Type 0 where
 
 -- nothing changed
 abbrev pub no_changes : Changes
-no_changes = record { bodies = []; contacts = no_change }
+no_changes = record { bodies = []; contacts = no_contacts_change }
 
 -- the bodies before some changes, of those after them: the last change is undone first
 unfoldable pub bodies_before : List BodyChange → List BodyState → List BodyState

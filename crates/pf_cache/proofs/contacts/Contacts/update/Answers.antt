@@ -8,18 +8,18 @@ use Rattle.pf_cache.proofs.Restoring.{next_from, next_same, none_noted, rest_are
 use Rattle.pf_cache.proofs.Runs.{HaveSameKeys, rest_is}
 use Rattle.pf_cache.proofs.contacts.Contacts.update.Goals as goal
 
-pub returns-then-is_all-clause-value : goal.returns-then-is_all-clause-value
-returns-then-is_all-clause-value c =
+pub returns-then-is_count_of_both-clause-value : goal.returns-then-is_count_of_both-clause-value
+returns-then-is_count_of_both-clause-value c =
     let touches = c.args.touches.now in
     let same = c.same_keys-same.result in
     let keys : HaveSameKeys c.deref.result.now touches same = c.same_keys-same.ensures.same in
-    let all = c.is_all.ensures.0 c.if-is_all.true in
+    let all = c.is_count_of_both.ensures.0 c.if-is_count_of_both.true in
     let same_list = ap length (c.deref-then-may_stay.ensures.value ∙ sym c.deref.ensures.value) in
     subst (λ cs. cs ≡ next_contacts cs touches) (c.deref.ensures.value ∙ c.self.view_is)
     (sym (next_same c.deref.result.now touches same c.requires.touches (all.0 ∙ same_list) all.1 keys))
 
-pub returns-then-is_all-clause-before : goal.returns-then-is_all-clause-before
-returns-then-is_all-clause-before c =
+pub returns-then-is_count_of_both-clause-before : goal.returns-then-is_count_of_both-clause-before
+returns-then-is_count_of_both-clause-before c =
     let now = c.args.self.now in
     ap (λ (change : ContactsChange). contacts_before change now) c.clear.ensures ∙ none_noted now
 
