@@ -51,8 +51,8 @@ seen_from numbers b = record {
 }
 
 -- the phases Gravity to Timers of a body that no contact touches
-abbrev pub lone_body_after_motion : V2 → BodyState → BodyState
-lone_body_after_motion pull b =
+abbrev pub lone_body_after_timers : V2 → BodyState → BodyState
+lone_body_after_timers pull b =
     if b.awake then after_timer (after_motion (after_gravity pull b)) else b
 
 -- the phase Sleep of a body that is a group of its own
@@ -61,9 +61,9 @@ lone_body_after_sleep b = if b.awake && (b.timer == STILL_TICKS) then at_sleep b
 
 -- a body that no contact touches, after a tick; `pull` is what gravity adds to a velocity in a tick
 unfoldable pub lone_body_after_tick : V2 → BodyState → BodyState
-lone_body_after_tick pull b = lone_body_after_sleep (lone_body_after_motion pull b)
+lone_body_after_tick pull b = lone_body_after_sleep (lone_body_after_timers pull b)
 
--- the bodies, of which those with these numbers, which no contact touches, went through a tick
+-- the bodies after a tick of those with these numbers, which no contact touches; the others stay
 abbrev pub lone_bodies_after_tick : V2 → List ℕ → List BodyState → List BodyState
 lone_bodies_after_tick pull numbers bodies =
     map (λ m. if has_number numbers m.0 then lone_body_after_tick pull m.1 else m.1)
