@@ -78,7 +78,13 @@ module _ (old limit change : ℤ) where
           total = subst (λ z. unsigned_abs z ≤ 536870912) (sym (tangent_total ∙ total_is)) size;
         }
 
--- what the step of friction adds, by the parts that it is made of
+-- what the step of friction adds to the accumulated tangent impulse
+pub record IsFriction (c : Constraint) (m : ContactState) (added : ℤ) : Type 0 where
+  pub value : added ≡ difference (tangent_impulse c m) m.impulses.tangent
+  pub total : sum m.impulses.tangent added ≡ tangent_impulse c m
+  pub size : IsAddition m.impulses.tangent added 536870912
+
+-- by the parts that it is made of
 module _ (c : Constraint) (m : ContactState) (added limit change : ℤ) (limit_is : limit ≡ product c.friction m.impulses.normal)
     (change_is : change ≡ neg_ℤ (product c.tangent_mass (dot (relative_velocity c m) c.tangent)))
     (added_by : added ≡ int_max (difference (neg_ℤ limit) m.impulses.tangent) (int_min (difference limit m.impulses.tangent) change))
@@ -92,12 +98,9 @@ module _ (c : Constraint) (m : ContactState) (added limit change : ℤ) (limit_i
   total_by =
       (λ i. int_max (neg_ℤ (limit_is i)) (int_min (limit_is i) (sum old ((change_is ∙ opposite_product c.tangent_mass (dot (relative_velocity c m) c.tangent)) i))))
 
-  pub friction_added : added ≡ difference (tangent_impulse c m) m.impulses.tangent
-  friction_added =
-      added_by ∙ tangent_added old limit change old_small limit_small change_small ∙ ap (λ z. difference z old) total_by
-
-  pub friction_total : sum m.impulses.tangent added ≡ tangent_impulse c m
-  friction_total = ap (sum old) added_by ∙ tangent_total old limit change old_small limit_small change_small ∙ total_by
-
-  pub friction_size : IsAddition m.impulses.tangent added 536870912
-  friction_size = subst (λ z. IsAddition old z 536870912) (sym added_by) (tangent_size old limit change old_small limit_small change_small)
+  pub is_friction : IsFriction c m added
+  is_friction = record {
+    value = added_by ∙ tangent_added old limit change old_small limit_small change_small ∙ ap (λ z. difference z old) total_by;
+    total = ap (sum old) added_by ∙ tangent_total old limit change old_small limit_small change_small ∙ total_by;
+    size = subst (λ z. IsAddition old z 536870912) (sym added_by) (tangent_size old limit change old_small limit_small change_small);
+  }

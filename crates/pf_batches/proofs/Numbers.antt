@@ -1,5 +1,5 @@
 -- A batch with other numbers: what its rows read, and what is stored of them.
-use Rattle.std.proofs.Common.{◌≡◌, ◌∙◌, ℕ, zero, suc, None, Some, List, [], ◌∷◌, length, map, length-set, refl, ap, ap₂, arith}
+use Rattle.std.proofs.Common.{◌≡◌, ◌∙◌, ◌+◌, ◌<◌, ℕ, zero, suc, None, Some, List, [], ◌∷◌, get_or, length, map, set, take, length-set, refl, ap, ap₂, arith}
 use Rattle.std.proofs.lemmas.List.{length-map}
 use Rattle.std.specs.Prelude.{slice_get, slice_index_or, slice_set}
 use Rattle.pf_shapes.specs.Body.{BodyState, no_state}
@@ -10,74 +10,63 @@ use Rattle.pf_rows.specs.Row.{InverseMass, Row}
 use Rattle.pf_levels.specs.Levels.{pair_of}
 use Rattle.pf_solver.specs.Impulse.{ContactState, Motion}
 use Rattle.pf_solver.specs.Velocities.{Batch, bodies_with, body_with, contact_state, motion_at, row_with, with_motion}
-use Rattle.pf_batches.specs.Numbers.{AreNumbersOf, batch_with_numbers, loaded_row, motion_on, numbers_after, batch_numbers, seat_of, state_at, velocity_in, velocity_of, with_impulses, with_velocities}
+use Rattle.pf_batches.specs.Numbers.{AreNumbersOf, batch_with_numbers, loaded_row, motion_on, moving_body, numbers_after, batch_numbers, seat_of, state_at, velocity_in, velocity_of, with_each, with_impulses, with_velocities}
 use Rattle.pf_bundles.specs.Seats.{with_velocity}
 use Rattle.pf_bundles.specs.Numbers.{Numbers, Velocity, no_velocity}
 use Rattle.pf_bundles.specs.Bundle.{Seat}
 
+-- ---- elements that are each given one of another list
+
+module _ {X Y : Type 0} (given : X → Y → Y) where
+  -- they are as many
+  pub with_each_length : (xs : List X) (ys : List Y) → length (with_each given xs ys) ≡ length ys
+  with_each_length [] ys = refl
+  with_each_length (x ∷ xs) [] = refl
+  with_each_length (x ∷ xs) (y ∷ ys) = ap suc (with_each_length xs ys)
+
+  -- given their own they are as they were
+  with_each_own : (own : Y → X) → ((y : Y) → given (own y) y ≡ y) → (ys : List Y) → with_each given (map own ys) ys ≡ ys
+  with_each_own own same [] = refl
+  with_each_own own same (y ∷ ys) = ap₂ (λ z zs. z ∷ zs) (same y) (with_each_own own same ys)
+
+  -- what each was given is its own
+  with_each_back : (own : Y → X) → ((x : X) (y : Y) → own (given x y) ≡ x) → (xs : List X) (ys : List Y)
+      → length xs ≡ length ys → map own (with_each given xs ys) ≡ xs
+  with_each_back own back [] [] same = refl
+  with_each_back own back [] (y ∷ ys) same = absurd (omega (arith, same))
+  with_each_back own back (x ∷ xs) [] same = absurd (omega (arith, same))
+  with_each_back own back (x ∷ xs) (y ∷ ys) same =
+      ap₂ (λ z zs. z ∷ zs) (back x y) (with_each_back own back xs ys (omega (arith, same)))
+
+  -- what is replaced leaves nothing
+  with_each_again : ((w x : X) (y : Y) → given x (given w y) ≡ given x y) → (before xs : List X) (ys : List Y)
+      → length xs ≡ length ys → with_each given xs (with_each given before ys) ≡ with_each given xs ys
+  with_each_again again [] xs ys same = refl
+  with_each_again again (w ∷ before) [] [] same = refl
+  with_each_again again (w ∷ before) (x ∷ xs) [] same = refl
+  with_each_again again (w ∷ before) [] (y ∷ ys) same = absurd (omega (arith, same))
+  with_each_again again (w ∷ before) (x ∷ xs) (y ∷ ys) same =
+      ap₂ (λ z zs. z ∷ zs) (again w x y) (with_each_again again before xs ys (omega (arith, same)))
+
+  next_given : (xs : List X) (ys : List Y) (k : ℕ) (d : X) (e : Y) → k < length xs
+      → with_each given (take (suc k) xs) ys
+      ≡ set (with_each given (take k xs) ys) k (given (get_or xs k d) (get_or (with_each given (take k xs) ys) k e))
+  next_given [] ys k d e within = absurd (omega (arith, within))
+  next_given (x ∷ xs) [] zero d e within = refl
+  next_given (x ∷ xs) [] (suc k) d e within = refl
+  next_given (x ∷ xs) (y ∷ ys) zero d e within = refl
+  next_given (x ∷ xs) (y ∷ ys) (suc k) d e within =
+      ap (λ rest. given x y ∷ rest) (next_given xs ys k d e (omega (arith, within)))
+
+  -- one more is given, as a loop does it
+  pub one_given : (xs : List X) (ys : List Y) (k : ℕ) (d : X) (e : Y) → k < length xs
+      → with_each given (take (k + 1) xs) ys
+      ≡ set (with_each given (take k xs) ys) k (given (get_or xs k d) (get_or (with_each given (take k xs) ys) k e))
+  one_given xs ys k d e within =
+      let more : k + 1 ≡ suc k = omega arith in
+      ap (λ j. with_each given (take j xs) ys) more ∙ next_given xs ys k d e within
+
 -- ---- lists of velocities and of impulses
-
--- bodies with other velocities are as many
-pub moving_bodies_length : (velocities : List Velocity) (bodies : List BodyState)
-    → length (with_velocities velocities bodies) ≡ length bodies
-moving_bodies_length [] bodies = refl
-moving_bodies_length (v ∷ velocities) [] = refl
-moving_bodies_length (v ∷ velocities) (b ∷ bodies) = ap suc (moving_bodies_length velocities bodies)
-
--- rows with other impulses are as many
-pub loaded_rows_length : (impulses : List Impulses) (rows : List Row) → length (with_impulses impulses rows) ≡ length rows
-loaded_rows_length [] rows = refl
-loaded_rows_length (p ∷ impulses) [] = refl
-loaded_rows_length (p ∷ impulses) (r ∷ rows) = ap suc (loaded_rows_length impulses rows)
-
--- bodies with their own velocities are as they were
-own_velocities : (bodies : List BodyState) → with_velocities (map velocity_of bodies) bodies ≡ bodies
-own_velocities [] = refl
-own_velocities (b ∷ bodies) = ap (λ rest. b ∷ rest) (own_velocities bodies)
-
--- rows with their own impulses are as they were
-own_impulses : (rows : List Row) → with_impulses (map (λ (r : Row). r.entry.impulses) rows) rows ≡ rows
-own_impulses [] = refl
-own_impulses (r ∷ rows) = ap (λ rest. r ∷ rest) (own_impulses rows)
-
--- the velocities of bodies with these velocities are these
-velocities_back : (velocities : List Velocity) (bodies : List BodyState) → length velocities ≡ length bodies
-    → map velocity_of (with_velocities velocities bodies) ≡ velocities
-velocities_back [] [] same = refl
-velocities_back [] (b ∷ bodies) same = absurd (omega (arith, same))
-velocities_back (v ∷ velocities) [] same = absurd (omega (arith, same))
-velocities_back (v ∷ velocities) (b ∷ bodies) same =
-    ap (λ rest. v ∷ rest) (velocities_back velocities bodies (omega (arith, same)))
-
--- the impulses of rows with these impulses are these
-impulses_back : (impulses : List Impulses) (rows : List Row) → length impulses ≡ length rows
-    → map (λ (r : Row). r.entry.impulses) (with_impulses impulses rows) ≡ impulses
-impulses_back [] [] same = refl
-impulses_back [] (r ∷ rows) same = absurd (omega (arith, same))
-impulses_back (p ∷ impulses) [] same = absurd (omega (arith, same))
-impulses_back (p ∷ impulses) (r ∷ rows) same =
-    ap (λ rest. p ∷ rest) (impulses_back impulses rows (omega (arith, same)))
-
--- velocities that are replaced by others leave nothing
-velocities_again : (before velocities : List Velocity) (bodies : List BodyState) → length velocities ≡ length bodies
-    → with_velocities velocities (with_velocities before bodies) ≡ with_velocities velocities bodies
-velocities_again [] velocities bodies same = refl
-velocities_again (w ∷ before) [] [] same = refl
-velocities_again (w ∷ before) (v ∷ velocities) [] same = refl
-velocities_again (w ∷ before) [] (b ∷ bodies) same = absurd (omega (arith, same))
-velocities_again (w ∷ before) (v ∷ velocities) (b ∷ bodies) same =
-    ap (λ rest. record b { velocity = v.velocity; spin = v.spin } ∷ rest)
-    (velocities_again before velocities bodies (omega (arith, same)))
-
--- impulses that are replaced by others leave nothing
-impulses_again : (before impulses : List Impulses) (rows : List Row) → length impulses ≡ length rows
-    → with_impulses impulses (with_impulses before rows) ≡ with_impulses impulses rows
-impulses_again [] impulses rows same = refl
-impulses_again (q ∷ before) [] [] same = refl
-impulses_again (q ∷ before) (p ∷ impulses) [] same = refl
-impulses_again (q ∷ before) [] (r ∷ rows) same = absurd (omega (arith, same))
-impulses_again (q ∷ before) (p ∷ impulses) (r ∷ rows) same =
-    ap (λ rest. loaded_row p r ∷ rest) (impulses_again before impulses rows (omega (arith, same)))
 
 -- the velocity of a body is the one that it was given
 velocity_read : (velocities : List Velocity) (bodies : List BodyState) (p : ℕ) → length velocities ≡ length bodies
@@ -172,7 +161,9 @@ with_velocity_length velocities (Dynamic p) v = length-set velocities p v
 -- a batch with its own numbers is as it was
 pub own_numbers : (b : Batch) → batch_with_numbers (batch_numbers b) b ≡ b
 own_numbers b =
-    ap₂ (λ bodies rows. record { bodies = bodies; rows = rows }) (own_velocities b.bodies) (own_impulses b.rows)
+    ap₂ (λ bodies rows. record { bodies = bodies; rows = rows })
+    (with_each_own moving_body velocity_of (λ body. refl) b.bodies)
+    (with_each_own loaded_row (λ (r : Row). r.entry.impulses) (λ r. refl) b.rows)
 
 -- a batch has as many numbers as it has bodies and rows
 pub numbers_fit : (b : Batch) → AreNumbersOf b (batch_numbers b)
@@ -183,26 +174,26 @@ numbers_fit b = record {
 
 -- with other numbers the bodies are as many
 pub bodies_as_many : (n : Numbers) (b : Batch) → length (batch_with_numbers n b).bodies ≡ length b.bodies
-bodies_as_many n b = moving_bodies_length n.velocities b.bodies
+bodies_as_many n b = with_each_length moving_body n.velocities b.bodies
 
 -- with other numbers the rows are as many
 pub rows_as_many : (n : Numbers) (b : Batch) → length (batch_with_numbers n b).rows ≡ length b.rows
-rows_as_many n b = loaded_rows_length n.impulses b.rows
+rows_as_many n b = with_each_length loaded_row n.impulses b.rows
 
 module _ (b : Batch) (n : Numbers) (fit : AreNumbersOf b n) where
   -- the numbers of a batch with these numbers are these
   pub numbers_back : batch_numbers (batch_with_numbers n b) ≡ n
   numbers_back =
       ap₂ (λ velocities impulses. record { velocities = velocities; impulses = impulses })
-      (velocities_back n.velocities b.bodies fit.velocities)
-      (impulses_back n.impulses b.rows fit.impulses)
+      (with_each_back moving_body velocity_of (λ v body. refl) n.velocities b.bodies fit.velocities)
+      (with_each_back loaded_row (λ (r : Row). r.entry.impulses) (λ p r. refl) n.impulses b.rows fit.impulses)
 
   -- of numbers that are replaced by others nothing is left
   pub numbers_again : (before : Numbers) → batch_with_numbers n (batch_with_numbers before b) ≡ batch_with_numbers n b
   numbers_again before =
       ap₂ (λ bodies rows. record { bodies = bodies; rows = rows })
-      (velocities_again before.velocities n.velocities b.bodies fit.velocities)
-      (impulses_again before.impulses n.impulses b.rows fit.impulses)
+      (with_each_again moving_body (λ w v body. refl) before.velocities n.velocities b.bodies fit.velocities)
+      (with_each_again loaded_row (λ q p r. refl) before.impulses n.impulses b.rows fit.impulses)
 
   -- the row at a place has the impulses that stand there
   pub row_read : (p : ℕ) (r : Row) → slice_get b.rows p ≡ Some r

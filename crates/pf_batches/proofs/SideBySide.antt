@@ -6,12 +6,11 @@ use Rattle.std.proofs.lemmas.Simd.{map-map}
 use Rattle.pf_shapes.specs.Body.{BodyState, no_state}
 use Rattle.pf_rows.specs.declared.row.Side.{Side}
 use Rattle.pf_rows.specs.declared.row.Side.TheVariants.{Static, Dynamic}
-use Rattle.pf_rows.specs.Impulses.{Impulses}
 use Rattle.pf_rows.specs.Row.{InverseMass, IsEntryOf, Row}
 use Rattle.pf_rot.specs.Vector.{V2}
 use Rattle.pf_levels.specs.Levels.{ArePairsOf, IsRowPairOf, pair_of}
 use Rattle.pf_bundles.specs.LaneRow.{IsHeldBy, LaneRow, arm_on, mass_on}
-use Rattle.pf_bundles.specs.Numbers.{Numbers, Velocity}
+use Rattle.pf_bundles.specs.Numbers.{Numbers}
 use Rattle.pf_islands.specs.Split.{Island}
 use Rattle.pf_solver.specs.declared.velocities.TheConstants.{ROUNDS}
 use Rattle.pf_solver.specs.Alone.{batch_in, island_after_rounds, island_with}
@@ -21,7 +20,7 @@ use Rattle.pf_solver.specs.Velocities.{Batch, Step, bodies_after, body_with, con
 use Rattle.pf_solver.proofs.Beside.{batch_side_by_side, beside_of_lists, velocities_side_by_side}
 use Rattle.pf_solver.proofs.Passes.{bodies_length, rows_length}
 use Rattle.pf_batches.specs.Islands.{AreBatches, AreHeldBy, batch_of, first_numbers, island_with_first, islands_with_numbers, numbers_behind, other_numbers, pairs_behind}
-use Rattle.pf_batches.specs.Numbers.{AreNumbersOf, batch_with_numbers, loaded_row, moving_body, batch_numbers, velocity_of, with_impulses, with_velocities}
+use Rattle.pf_batches.specs.Numbers.{AreNumbersOf, batch_with_numbers, batch_numbers, velocity_of, with_impulses, with_velocities}
 use Rattle.pf_batches.proofs.Numbers.{bodies_as_many, numbers_again, numbers_back, numbers_fit, own_numbers, rows_as_many}
 
 -- ---- one island more
@@ -169,50 +168,6 @@ held_with_next islands k d lanes within held =
     let front = batch_of (take k islands) in
     subst (λ (b : Batch). AreHeldBy lanes b.rows) (sym (one_more islands k d within))
     (held_behind (length front.bodies) lanes front.rows (get_or islands k d).rows held)
-
--- ---- numbers stored in place
-
--- one velocity more
-moved_next : (velocities : List Velocity) (bodies : List BodyState) (k : ℕ) (v : Velocity) (b : BodyState) → k < length velocities
-    → with_velocities (take (suc k) velocities) bodies
-    ≡ set (with_velocities (take k velocities) bodies) k
-    (moving_body (get_or velocities k v) (get_or (with_velocities (take k velocities) bodies) k b))
-moved_next [] bodies k v b within = absurd (omega (arith, within))
-moved_next (x ∷ velocities) [] zero v b within = refl
-moved_next (x ∷ velocities) [] (suc k) v b within = refl
-moved_next (x ∷ velocities) (y ∷ bodies) zero v b within = refl
-moved_next (x ∷ velocities) (y ∷ bodies) (suc k) v b within =
-    ap (λ rest. moving_body x y ∷ rest) (moved_next velocities bodies k v b (omega (arith, within)))
-
--- one velocity more, as a loop stores it
-pub moved_more : (velocities : List Velocity) (bodies : List BodyState) (k : ℕ) (v : Velocity) (b : BodyState) → k < length velocities
-    → with_velocities (take (k + 1) velocities) bodies
-    ≡ set (with_velocities (take k velocities) bodies) k
-    (moving_body (get_or velocities k v) (get_or (with_velocities (take k velocities) bodies) k b))
-moved_more velocities bodies k v b within =
-    let more : k + 1 ≡ suc k = omega arith in
-    ap (λ j. with_velocities (take j velocities) bodies) more ∙ moved_next velocities bodies k v b within
-
--- the impulses of one row more
-loaded_next : (impulses : List Impulses) (rows : List Row) (k : ℕ) (p : Impulses) (r : Row) → k < length impulses
-    → with_impulses (take (suc k) impulses) rows
-    ≡ set (with_impulses (take k impulses) rows) k
-    (loaded_row (get_or impulses k p) (get_or (with_impulses (take k impulses) rows) k r))
-loaded_next [] rows k p r within = absurd (omega (arith, within))
-loaded_next (x ∷ impulses) [] zero p r within = refl
-loaded_next (x ∷ impulses) [] (suc k) p r within = refl
-loaded_next (x ∷ impulses) (y ∷ rows) zero p r within = refl
-loaded_next (x ∷ impulses) (y ∷ rows) (suc k) p r within =
-    ap (λ rest. loaded_row x y ∷ rest) (loaded_next impulses rows k p r (omega (arith, within)))
-
--- the impulses of one row more, as a loop stores them
-pub loaded_more : (impulses : List Impulses) (rows : List Row) (k : ℕ) (p : Impulses) (r : Row) → k < length impulses
-    → with_impulses (take (k + 1) impulses) rows
-    ≡ set (with_impulses (take k impulses) rows) k
-    (loaded_row (get_or impulses k p) (get_or (with_impulses (take k impulses) rows) k r))
-loaded_more impulses rows k p r within =
-    let more : k + 1 ≡ suc k = omega arith in
-    ap (λ j. with_impulses (take j impulses) rows) more ∙ loaded_next impulses rows k p r within
 
 -- ---- numbers stored island by island
 

@@ -39,17 +39,19 @@ moving_body v b = record b { velocity = v.velocity; spin = v.spin }
 abbrev pub loaded_row : Impulses → Row → Row
 loaded_row p r = record r { entry = record r.entry { impulses = p } }
 
--- bodies with these velocities; where one list ends, the rest of the bodies stay
-abbrev pub with_velocities : List Velocity → List BodyState → List BodyState
-with_velocities [] bodies = bodies
-with_velocities (v ∷ velocities) [] = []
-with_velocities (v ∷ velocities) (b ∷ bodies) = moving_body v b ∷ with_velocities velocities bodies
+-- a list whose elements are each given one of another list; where that ends, the rest stay
+abbrev pub with_each : {X Y : Type 0} → (X → Y → Y) → List X → List Y → List Y
+with_each given [] ys = ys
+with_each given (x ∷ xs) [] = []
+with_each given (x ∷ xs) (y ∷ ys) = given x y ∷ with_each given xs ys
 
--- rows with these accumulated impulses; where one list ends, the rest of the rows stay
+-- bodies with these velocities
+abbrev pub with_velocities : List Velocity → List BodyState → List BodyState
+with_velocities velocities bodies = with_each moving_body velocities bodies
+
+-- rows with these accumulated impulses
 abbrev pub with_impulses : List Impulses → List Row → List Row
-with_impulses [] rows = rows
-with_impulses (p ∷ impulses) [] = []
-with_impulses (p ∷ impulses) (r ∷ rows) = loaded_row p r ∷ with_impulses impulses rows
+with_impulses impulses rows = with_each loaded_row impulses rows
 
 -- a batch with these numbers
 abbrev pub batch_with_numbers : Numbers → Batch → Batch

@@ -1,6 +1,6 @@
 use Rattle.std.proofs.Common.{◌∙◌, ap, ap₂, arith, get_or, set, sym}
 use Rattle.pf_batches.specs.Numbers.{loaded_row}
-use Rattle.pf_batches.proofs.SideBySide.{loaded_more}
+use Rattle.pf_batches.proofs.Numbers.{one_given}
 use Rattle.pf_batches.proofs.islands.store_impulses.Goals as goal
 
 pub loop-place-preserved : goal.loop-place-preserved
@@ -11,4 +11,4 @@ loop-place-preserved c =
     let before = ap (λ now. get_or now k row) c.loop-place.invariant in
     ap₂ (λ now x. set now k x) c.loop-place.invariant
     (c.set_impulses.ensures ∙ ap₂ loaded_row (c.impulses.ensures ∙ c.index-impulses-place.is) before)
-    ∙ sym (loaded_more c.args.impulses.now c.args.rows.now k own row (omega (arith, c.requires, c.loop-place-test.true)))
+    ∙ sym (one_given loaded_row c.args.impulses.now c.args.rows.now k own row (omega (arith, c.requires, c.loop-place-test.true)))

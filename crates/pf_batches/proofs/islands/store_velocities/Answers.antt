@@ -1,7 +1,7 @@
 use Rattle.std.proofs.Common.{◌∙◌, ap, ap₂, arith, get_or, set, sym}
 use Rattle.pf_bundles.specs.Numbers.{Velocity}
 use Rattle.pf_batches.specs.Numbers.{moving_body}
-use Rattle.pf_batches.proofs.SideBySide.{moved_more}
+use Rattle.pf_batches.proofs.Numbers.{one_given}
 use Rattle.pf_batches.proofs.islands.store_velocities.Goals as goal
 
 pub loop-place-preserved : goal.loop-place-preserved
@@ -13,4 +13,4 @@ loop-place-preserved c =
     c.velocity-body-inside.ensures c.spin-body-inside.ensures ∙ c.index-velocities-place.is in
     let before = c.body.view_is ∙ ap (λ now. get_or now k body) c.loop-place.invariant in
     ap₂ (λ now x. set now k x) c.loop-place.invariant (ap₂ moving_body read before)
-    ∙ sym (moved_more c.args.velocities.now c.args.bodies.now k own body (omega (arith, c.requires, c.loop-place-test.true)))
+    ∙ sym (one_given moving_body c.args.velocities.now c.args.bodies.now k own body (omega (arith, c.requires, c.loop-place-test.true)))
