@@ -13,7 +13,7 @@ use Rattle.pf_rows.specs.Row.{Row}
 use Rattle.pf_islands.specs.Dealing.{group_of_row}
 use Rattle.pf_islands.specs.Flags.{awake_numbers}
 use Rattle.pf_islands.specs.Island.{has_number, group_members, row_among, rows_among, states_of, touches_one}
-use Rattle.pf_islands.specs.Lone.{has_any, is_touched, only_awake}
+use Rattle.pf_islands.specs.Lone.{has_rows, is_touched, only_awake}
 use Rattle.pf_islands.specs.Rows.{is_awake_at}
 use Rattle.pf_islands.specs.Split.{AreWoken, IsActiveRow, Island, active_labels, is_active_label, island_of, islands}
 use Rattle.pf_cache.proofs.ChosenNumbers.{chosen_pass, range_within}
@@ -66,9 +66,9 @@ map_same f g [] all = refl
 map_same f g (x ∷ xs) all =
     ap₂ (λ y ys. y ∷ ys) (All-head (λ z. f z ≡ g z) x xs all) (map_same f g xs (All-tail (λ z. f z ≡ g z) x xs all))
 
-has_any_is : (rows : List Row) → has_any rows ≡ list_any (λ r. true) rows
-has_any_is [] = refl
-has_any_is (r ∷ rows) = refl
+has_rows_is : (rows : List Row) → has_rows rows ≡ list_any (λ r. true) rows
+has_rows_is [] = refl
+has_rows_is (r ∷ rows) = refl
 
 -- ---- the islands of groups with contacts
 
@@ -77,13 +77,13 @@ module _ (labels : List ℕ) (bodies : List BodyState) (rows : List Row)
   abbrev island_named : ℕ → Island
   island_named label = island_of bodies rows (group_members labels label)
 
-  abbrev pub has_rows : ℕ → Bool
-  has_rows label = list_any (λ r. group_of_row labels r == label) rows
+  abbrev pub group_has_rows : ℕ → Bool
+  group_has_rows label = list_any (λ r. group_of_row labels r == label) rows
 
   -- the island of a group has a contact where a contact is of the group
-  pub touched_named : (label : ℕ) → is_touched (island_named label) ≡ has_rows label
+  pub touched_named : (label : ℕ) → is_touched (island_named label) ≡ group_has_rows label
   touched_named label =
-      has_any_is (island_named label).rows
+      has_rows_is (island_named label).rows
       ∙ any_chosen (touches_one (group_members labels label)) (row_among (group_members labels label)) rows
       ∙ any_same (touches_one (group_members labels label)) (λ r. group_of_row labels r == label) rows
       (All-weaker (IsActiveRow labels bodies)
@@ -91,25 +91,25 @@ module _ (labels : List ℕ) (bodies : List BodyState) (rows : List Row)
       (λ r is. touches_group labels bodies label r is) rows active)
 
   -- so these islands are those of some labels
-  pub touched_islands : (q : ℕ → Bool) → All (λ label. q label ≡ has_rows label) (active_labels labels bodies)
+  pub touched_islands : (q : ℕ → Bool) → All (λ label. q label ≡ group_has_rows label) (active_labels labels bodies)
       → filter is_touched (islands labels bodies rows) ≡ map island_named (filter q (active_labels labels bodies))
   touched_islands q are =
       filter_map_is is_touched island_named (active_labels labels bodies)
       ∙ ap (map island_named)
       (filter_same (λ label. is_touched (island_named label)) q (active_labels labels bodies)
-      (All-weaker (λ label. q label ≡ has_rows label) (λ label. is_touched (island_named label) ≡ q label)
+      (All-weaker (λ label. q label ≡ group_has_rows label) (λ label. is_touched (island_named label) ≡ q label)
       (λ label is. touched_named label ∙ sym is) (active_labels labels bodies) are))
 
   -- and the bodies of the others are those of the other labels
-  pub lone_numbers : (q : ℕ → Bool) → All (λ label. q label ≡ has_rows label) (active_labels labels bodies)
+  pub lone_numbers_are : (q : ℕ → Bool) → All (λ label. q label ≡ group_has_rows label) (active_labels labels bodies)
       → flat_map (λ (i : Island). i.numbers) (filter (λ i. not (is_touched i)) (islands labels bodies rows))
       ≡ flat_map (group_members labels) (filter (λ label. not (q label)) (active_labels labels bodies))
-  lone_numbers q are =
+  lone_numbers_are q are =
       ap (flat_map (λ (i : Island). i.numbers))
       (filter_map_is (λ (i : Island). not (is_touched i)) island_named (active_labels labels bodies)
       ∙ ap (map island_named)
       (filter_same (λ label. not (is_touched (island_named label))) (λ label. not (q label)) (active_labels labels bodies)
-      (All-weaker (λ label. q label ≡ has_rows label)
+      (All-weaker (λ label. q label ≡ group_has_rows label)
       (λ label. not (is_touched (island_named label)) ≡ not (q label))
       (λ label is. ap not (touched_named label ∙ sym is)) (active_labels labels bodies) are)))
       ∙ flat_mapped (filter (λ label. not (q label)) (active_labels labels bodies))

@@ -14,12 +14,12 @@ use Rattle.pf_islands.specs.declared.splitting.LoneBodies.TheVariants.{AreIsland
 use Rattle.pf_islands.specs.Flags.{awake_numbers}
 use Rattle.pf_islands.specs.Group.{groups}
 use Rattle.pf_islands.specs.Island.{group_members}
-use Rattle.pf_islands.specs.Lone.{group_of_touch, is_dealt, is_made, lone_bodies, made_islands, only_awake}
+use Rattle.pf_islands.specs.Lone.{group_of_touch, is_dealt, is_made, lone_numbers, made_islands, only_awake}
 use Rattle.pf_islands.specs.Rows.{active_rows, is_active_contact, is_awake_at}
 use Rattle.pf_islands.specs.Settled.{AreSettled, active_places, touches_at}
 use Rattle.pf_islands.specs.Split.{Island, active_labels, is_active_label, island_of, islands}
 use Rattle.pf_islands.proofs.ActiveRows.{touches_at_places}
-use Rattle.pf_islands.proofs.Lone.{has_rows, lone_numbers, seen_islands, seen_long, seen_numbers, seen_same, touched_islands}
+use Rattle.pf_islands.proofs.Lone.{group_has_rows, lone_numbers_are, seen_islands, seen_long, seen_numbers, seen_same, touched_islands}
 use Rattle.pf_islands.proofs.LoneGroups.{has_touch, lone_are, rows_of_group, same_act, same_points, same_rows, still_settled}
 use Rattle.pf_islands.proofs.SettledGroups.{chosen_rows, chosen_woken, filter_same, islands_same}
 
@@ -50,7 +50,7 @@ module _ (s : Scene) (bodies : List BodyState) (touches : List Touch) (contacts 
     pub made :
         islands (groups s touches) (only_awake numbers bodies) (active_rows s (only_awake numbers bodies) touches contacts)
         ≡ made_islands lone all
-    pub alone_are : alone ≡ lone_bodies lone all
+    pub alone_are : alone ≡ lone_numbers lone all
 
   module _ (count : length bodies ≡ length s.fixtures) (settled : AreSettled s bodies touches)
       (of : All (IsTouchOf (length bodies)) touches) where
@@ -87,7 +87,7 @@ module _ (s : Scene) (bodies : List BodyState) (touches : List Touch) (contacts 
         twice true = refl
         twice false = refl
 
-        listed : All (λ label. q AreListed label ≡ has_rows labels bodies rows (chosen_rows s bodies touches count settled contacts of) label) (active_labels labels bodies)
+        listed : All (λ label. q AreListed label ≡ group_has_rows labels bodies rows (chosen_rows s bodies touches count settled contacts of) label) (active_labels labels bodies)
         listed = λ i d within.
             let label = get_or (active_labels labels bodies) i d in
             ap not (counted label (labels_within i d within))
@@ -103,7 +103,7 @@ module _ (s : Scene) (bodies : List BodyState) (touches : List Touch) (contacts 
             (touched_islands labels bodies rows (chosen_rows s bodies touches count settled contacts of) (q AreListed) listed)
 
         others_are : (l : LoneBodies)
-            → filter (λ n. not (q l (get_or labels n 0))) (awake_numbers bodies) ≡ lone_bodies l (islands labels bodies rows)
+            → filter (λ n. not (q l (get_or labels n 0))) (awake_numbers bodies) ≡ lone_numbers l (islands labels bodies rows)
         others_are AreIslands =
             filter_none (λ n. not (q AreIslands (get_or labels n 0))) (λ n. refl) (awake_numbers bodies)
             ∙ ap (flat_map (λ (i : Island). i.numbers))
@@ -111,7 +111,7 @@ module _ (s : Scene) (bodies : List BodyState) (touches : List Touch) (contacts 
         others_are AreListed =
             lone_are s bodies touches count settled of (q AreListed) (has AreListed)
             ∙ sym
-            (lone_numbers labels bodies rows (chosen_rows s bodies touches count settled contacts of) (q AreListed) listed)
+            (lone_numbers_are labels bodies rows (chosen_rows s bodies touches count settled contacts of) (q AreListed) listed)
 
         same_labels : groups s (filter (is_active_contact s (only_awake numbers bodies)) touches) ≡ labels
         same_labels =
@@ -136,7 +136,7 @@ module _ (s : Scene) (bodies : List BodyState) (touches : List Touch) (contacts 
                   ∙ seen_islands labels bodies (q lone) numbers numbers_are (chosen_woken s bodies touches count settled) rows
                   ∙ made_are lone
                   ∙ ap (made_islands lone) (islands_same s bodies touches count settled rows);
-              alone_are = alone_are ∙ others_are lone ∙ ap (lone_bodies lone) (islands_same s bodies touches count settled rows);
+              alone_are = alone_are ∙ others_are lone ∙ ap (lone_numbers lone) (islands_same s bodies touches count settled rows);
             }
 
     -- the labels as the code has them

@@ -13,13 +13,14 @@ use Rattle.pf_islands.specs.Island.{has_number}
 use Rattle.pf_islands.specs.Rows.{side_of}
 use Rattle.pf_islands.specs.Split.{Island}
 
-abbrev pub has_any : List Row → Bool
-has_any [] = false
-has_any (r ∷ rows) = true
+-- whether there are rows
+abbrev pub has_rows : List Row → Bool
+has_rows [] = false
+has_rows (r ∷ rows) = true
 
 -- whether an island has a contact
 abbrev pub is_touched : Island → Bool
-is_touched i = has_any i.rows
+is_touched i = has_rows i.rows
 
 -- whether an island is made
 abbrev pub is_made : LoneBodies → Island → Bool
@@ -30,9 +31,9 @@ is_made AreListed i = is_touched i
 abbrev pub made_islands : LoneBodies → List Island → List Island
 made_islands lone islands = filter (is_made lone) islands
 
--- the bodies of the other islands
-abbrev pub lone_bodies : LoneBodies → List Island → List ℕ
-lone_bodies lone islands = flat_map (λ i. i.numbers) (filter (λ i. not (is_made lone i)) islands)
+-- the numbers of the bodies of the other islands
+abbrev pub lone_numbers : LoneBodies → List Island → List ℕ
+lone_numbers lone islands = flat_map (λ i. i.numbers) (filter (λ i. not (is_made lone i)) islands)
 
 -- the label of the group of a contact point: that of its first dynamic body
 abbrev pub group_of_touch : Scene → List ℕ → Touch → ℕ

@@ -1,5 +1,5 @@
 -- What a tick is split into: the islands that are made, and lone bodies that are in none of them.
-use Rattle.std.specs.Prelude.{◌≡◌, ◌<◌, All, List, length}
+use Rattle.std.specs.Prelude.{◌≡◌, ◌<◌, ℕ, All, List}
 use Rattle.pf_shapes.specs.Body.{BodyState}
 use Rattle.pf_shapes.specs.Scene.{Scene}
 use Rattle.pf_manifold.specs.Key.{IsRising}
@@ -8,7 +8,7 @@ use Rattle.pf_cache.specs.Contact.{Contact}
 use Rattle.pf_islands.specs.declared.splitting.LoneBodies.{LoneBodies}
 use Rattle.pf_islands.specs.declared.splitting.Parts.{Parts}
 use Rattle.pf_islands.specs.Group.{groups}
-use Rattle.pf_islands.specs.Lone.{lone_bodies, made_islands}
+use Rattle.pf_islands.specs.Lone.{lone_numbers, made_islands}
 use Rattle.pf_islands.specs.Rows.{active_rows}
 use Rattle.pf_islands.specs.Sleep.{woken_bodies}
 use Rattle.pf_islands.specs.Split.{IsIslandOf, Island, islands}
@@ -23,13 +23,13 @@ abbrev pub woken_islands : Scene → List BodyState → List Touch → List Cont
 woken_islands s bodies touches contacts =
     group_islands s (woken_bodies (groups s touches) bodies) touches contacts
 
--- of all these islands those are made that are to be made, and the bodies of the others are listed
--- in ascending order
+-- Of all these islands of a scene those are made that are to be made, and the numbers of the bodies
+-- of the others are listed in ascending order. There are `count` bodies.
 pub record AreParts
-    (s : Scene) (bodies : List BodyState) (lone : LoneBodies) (all : List Island) (parts : Parts)
+    (s : Scene) (count : ℕ) (lone : LoneBodies) (all : List Island) (parts : Parts)
     : Type 0 where
   pub made : parts.islands.items ≡ made_islands lone all
-  pub listed : parts.lone_bodies.items ≡ lone_bodies lone all
+  pub listed : parts.lone_numbers.items ≡ lone_numbers lone all
   pub fit : All (IsIslandOf s) parts.islands.items
-  pub order : IsRising 0 parts.lone_bodies.items
-  pub there : All (λ number. number < length bodies) parts.lone_bodies.items
+  pub order : IsRising 0 parts.lone_numbers.items
+  pub there : All (λ number. number < count) parts.lone_numbers.items

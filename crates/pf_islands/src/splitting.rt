@@ -9,7 +9,7 @@ ghost use Rattle.pf_cache.specs.Manifolds.{kept_touches};
 ghost use Rattle.pf_cache.specs.Spans.{AreListedPlaces};
 ghost use Rattle.pf_islands.specs.Group.{groups as groups_of};
 ghost use Rattle.pf_islands.specs.Island.{group_members};
-ghost use Rattle.pf_islands.specs.Lone.{is_dealt, lone_bodies, only_awake};
+ghost use Rattle.pf_islands.specs.Lone.{is_dealt, lone_numbers, only_awake};
 ghost use Rattle.pf_islands.specs.Rows.{is_awake_at, row_of};
 ghost use Rattle.pf_islands.specs.Flags.{ListsAwake, awake_numbers};
 ghost use Rattle.pf_islands.specs.Settled.{AreSettled, active_places, touches_at};
@@ -229,8 +229,8 @@ pub enum LoneBodies {
 pub struct Parts {
     /// The islands, in the order of their least bodies.
     pub islands: Vec<Island>,
-    /// The awake bodies that are in none of them, in ascending order.
-    pub lone_bodies: Vec<usize>,
+    /// The numbers of the awake bodies that are in none of them, in ascending order.
+    pub lone_numbers: Vec<usize>,
 }
 
 /// Whether the bodies of a group with so many contacts go into an island.
@@ -259,22 +259,22 @@ fn parted_numbers(
     ensures dealt { IfOk result (λ parts. parts.0.items
         ≡ filter (λ n. is_dealt lone (slice_index_or rows.now (slice_index_or labels.now n 0) 0))
         numbers.now) }
-    ensures lone_bodies { IfOk result (λ parts. parts.1.items
+    ensures lone_numbers { IfOk result (λ parts. parts.1.items
         ≡ filter
         (λ n. not (is_dealt lone (slice_index_or rows.now (slice_index_or labels.now n 0) 0)))
         numbers.now) }
     ensures no_memory { length numbers.now ≡ 0 → IsOk result }
 {
     let mut dealt = Vec::with_capacity(alloc, numbers.len())?;
-    let mut lone_bodies = Vec::with_capacity(alloc, numbers.len())?;
+    let mut lone_numbers = Vec::with_capacity(alloc, numbers.len())?;
     for number in numbers {
         if is_dealt(lone, rows[labels[*number]]) {
             dealt.push_reserved(*number);
         } else {
-            lone_bodies.push_reserved(*number);
+            lone_numbers.push_reserved(*number);
         }
     }
-    Ok((dealt, lone_bodies))
+    Ok((dealt, lone_numbers))
 }
 
 /// The islands of the groups of the bodies of these numbers, made in the memory of the spare
@@ -294,7 +294,8 @@ fn deal(
 ) -> Result<Vec<Island>, AllocError>
     requires few { length labels.now ≤ MAX_BODIES }
     requires bodies { length bodies.now ≡ length scene.now.fixtures }
-    requires as_many_bodies { length (only_awake numbers.now bodies.now) ≡ length scene.now.fixtures }
+    requires as_many_bodies { length (only_awake numbers.now bodies.now)
+        ≡ length scene.now.fixtures }
     requires states { (k : ℕ) → is_awake_at (only_awake numbers.now bodies.now) k ≡ true
         → slice_index_or bodies.now k no_state
         ≡ slice_index_or (only_awake numbers.now bodies.now) k no_state }
@@ -352,7 +353,7 @@ fn split_settled(
     requires numbers { active.now.numbers.items ≡ awake_numbers bodies.now }
     requires active { active.now.places.items ≡ active_places scene.now bodies.now touches.now }
     requires within { All (λ place. place < length touches.now) active.now.places.items }
-    ensures parts { IfOk result (AreParts scene.now bodies.now lone
+    ensures parts { IfOk result (AreParts scene.now (length bodies.now) lone
         (group_islands scene.now bodies.now touches.now contacts.now)) }
     ensures no_memory { bodies.now ≡ [] → touches.now ≡ [] → IsOk result }
 {
@@ -361,13 +362,13 @@ fn split_settled(
     let groups = Groups::new(alloc, scene, touches, places, numbers)?;
     let labels = groups.labels();
     let rows = row_counts(alloc, scene, labels, touches, places)?;
-    let (dealt, lone_bodies) = parted_numbers(alloc, labels, numbers, &rows, lone)?;
+    let (dealt, lone_numbers) = parted_numbers(alloc, labels, numbers, &rows, lone)?;
     let islands = deal(
         alloc, spare, scene, bodies, touches, contacts, labels, places, &dealt, rows,
     )?;
     Ok(Parts {
         islands,
-        lone_bodies,
+        lone_numbers,
     })
 }
 
@@ -398,12 +399,13 @@ fn woken_bodies(
     Ok(woken)
 }
 
-/// The phase Activity, and the islands of a tick, as Box2D 2.x's `b2World::Solve` makes them: an
-/// island for each group that has an awake body, in the order of their least bodies, with copies of
-/// the bodies of the group, all of them awake, and with the contacts that touch them. The bodies
-/// themselves stay as they are. Of groups without contacts `lone` says whether islands are made.
+/// The phase Activity: the islands of a tick, as Box2D 2.x's `b2World::Solve` makes them. Each
+/// group with an awake body gets an island, in the order of their least bodies. It has copies of
+/// the bodies of the group, all of them awake, and the contacts that touch them. The bodies
+/// themselves stay as they are. For groups without contacts `lone` says whether islands are made.
 /// The groups are those of the contact points that `manifolds` holds, and the contacts are theirs.
-/// The islands are made in the memory of the spare ones, whose bodies and contacts are gone.
+/// The islands are made in the memory of the spare ones, whose bodies and contacts are gone. Takes
+/// no memory where there are no bodies and no pairs in `manifolds`.
 pub fn split(
     alloc: Global,
     spare: Vec<Island>,
@@ -416,8 +418,9 @@ pub fn split(
     requires bodies { length bodies.now ≡ length scene.now.fixtures }
     requires touches { All (IsTouchOf (length bodies.now)) (kept_touches manifolds.now) }
     requires contacts { length contacts.now ≡ length (kept_touches manifolds.now) }
-    ensures { IfOk result (AreParts scene.now bodies.now lone
+    ensures parts { IfOk result (AreParts scene.now (length bodies.now) lone
         (woken_islands scene.now bodies.now (kept_touches manifolds.now) contacts.now)) }
+    ensures no_memory { bodies.now ≡ [] → manifolds.now.pairs ≡ [] → IsOk result }
 {
     let touches = manifolds.touches();
     let spans = manifolds.spans();
@@ -456,7 +459,7 @@ pub fn wake_and_split(
     requires awake { ListsAwake search.now.bodies.now bodies.now }
     requires places { AreListedPlaces search.now.bodies.now manifolds.now.pairs
         search.now.pair_places.now }
-    ensures parts { IfOk result (AreParts scene.now bodies.now lone
+    ensures parts { IfOk result (AreParts scene.now (length bodies.now) lone
         (woken_islands scene.now bodies.now (kept_touches manifolds.now) contacts.now)) }
     ensures no_memory { bodies.now ≡ [] → kept_touches manifolds.now ≡ [] → IsOk result }
 {

@@ -21,7 +21,7 @@ use Rattle.pf_islands.specs.declared.splitting.LoneBodies.TheVariants.{AreIsland
 use Rattle.pf_islands.specs.Group.{groups}
 use Rattle.pf_islands.specs.Island.{has_number, group_members, rows_among, states_of}
 use Rattle.pf_islands.specs.Join.{IsAtHome, joined_bodies, joined_contacts}
-use Rattle.pf_islands.specs.Lone.{has_any, is_made, is_touched, lone_bodies, made_islands}
+use Rattle.pf_islands.specs.Lone.{has_rows, is_made, is_touched, lone_numbers, made_islands}
 use Rattle.pf_islands.specs.Rows.{is_active_contact, is_awake_at}
 use Rattle.pf_islands.specs.Settled.{AreSettled}
 use Rattle.pf_islands.specs.Sleep.{at_sleep, island_after_sleep}
@@ -84,7 +84,7 @@ any_in P g p Q (x ∷ xs) all each some = by (p x) refl some (any_in P g p Q xs 
     by true is h rest = ⊎_elim (λ here. each x (All-head P x xs all) is here) rest (or_cases (g x) (list_any g (filter p xs)) h)
     by false is h rest = rest h
 
-nothing : (rows : List Row) → has_any rows ≡ false → rows ≡ []
+nothing : (rows : List Row) → has_rows rows ≡ false → rows ≡ []
 nothing [] none = refl
 nothing (r ∷ rows) none = absurd (true≢false none)
 
@@ -284,7 +284,7 @@ module _ (s : Scene) (before : List Contact) (commanded : List BodyState) (count
         by AreListed e = negated (is_touched i) e
 
     -- their bodies
-    alone_after : (j : ℕ) → has_number (lone_bodies lone found) j ≡ true
+    alone_after : (j : ℕ) → has_number (lone_numbers lone found) j ≡ true
         → lone_body_after_tick (gravity_per_tick s.gravity) (get_or commanded j no_state) ≡ get_or final j no_state
     alone_after j has =
         any_in IsAsAlone (λ i. has_number i.numbers j) (λ i. not (is_made lone i))
@@ -307,7 +307,7 @@ module _ (s : Scene) (before : List Contact) (commanded : List BodyState) (count
         All-map P (island_after_tick s) made
         (All-filter (is_made lone) (λ i. P (island_after_tick s i)) found (all_unmapped P (island_after_tick s) found all))
 
-    module _ (alone : List ℕ) (alone_are : alone ≡ lone_bodies lone found) where
+    module _ (alone : List ℕ) (alone_are : alone ≡ lone_numbers lone found) where
       abbrev pub advanced : List BodyState
       advanced = lone_bodies_after_tick (gravity_per_tick s.gravity) alone commanded
 
@@ -375,7 +375,7 @@ module _ (s : Scene) (before : List Contact) (commanded : List BodyState) (count
 
     -- the islands that are made, and then the others
     pub noted_in_order : (bodies : List BodyState)
-        → changes_of_islands bodies made ++ changes_of bodies (lone_bodies lone found) ≡ changes_of_islands bodies (made ++ others)
+        → changes_of_islands bodies made ++ changes_of bodies (lone_numbers lone found) ≡ changes_of_islands bodies (made ++ others)
     noted_in_order bodies =
         ap (λ cs. changes_of_islands bodies made ++ cs) (sym (notes_of_all bodies (λ (i : Island). i.numbers) others))
         ∙ sym (flat_map-append (λ (i : Island). changes_of bodies i.numbers) made others)

@@ -8,7 +8,8 @@ use Rattle.pf_cache.specs.Contact.{Contact, next_contacts}
 use Rattle.pf_islands.specs.Group.{groups}
 use Rattle.pf_islands.specs.Rows.{active_rows}
 use Rattle.pf_islands.specs.Sleep.{woken_bodies}
-use Rattle.pf_islands.specs.Split.{Island, islands}
+use Rattle.pf_islands.specs.Split.{Island}
+use Rattle.pf_islands.specs.Splitting.{woken_islands}
 use Rattle.pf_solver.specs.Velocities.{Batch}
 use Rattle.pf_step.specs.Commands.{after_commands}
 use Rattle.pf_step.specs.Step.{touches_of_scene}
@@ -31,9 +32,7 @@ batch_with s contacts bodies =
 
 -- the same as islands
 abbrev pub islands_with : Scene → List Contact → List BodyState → List Island
-islands_with s contacts bodies =
-    let batch = batch_with s contacts bodies in
-    islands (labels_of_bodies s bodies) batch.bodies batch.rows
+islands_with s contacts bodies = woken_islands s bodies (touches_of_scene s bodies) contacts
 
 -- the bodies and contacts that are solved, where these are the contacts of the last tick
 abbrev pub batch_of_bodies : Scene → List Contact → List BodyState → Batch

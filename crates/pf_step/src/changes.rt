@@ -135,7 +135,7 @@ pub(crate) fn undo_bodies(bodies: &mut [BodyState], changes: &[BodyChange])
 }
 
 impl Changes {
-    ghost use Rattle.std.specs.Prelude.{◌≡◌, ◌++◌, [], All, IsOk, OnErr, OnOk, map};
+    ghost use Rattle.std.specs.Prelude.{◌≡◌, ◌++◌, [], All, IsOk, OnErr, OnOk, false, map};
     ghost use Rattle.pf_manifold.specs.Key.{AreTouches, key_of};
     ghost use Rattle.pf_cache.specs.Contact.{HaveSameFirst, next_contacts};
     ghost use Rattle.pf_cache.specs.ContactRows.{AreRowsAt};
@@ -223,8 +223,9 @@ impl Changes {
     }
 
     /// Makes of the contacts of the last tick those of these points, and keeps what that changes.
-    /// With `may_stay` they stay in place if all have the keys of all points; the first `known`
-    /// have those of the first points. An error leaves the contacts as they are, with no change.
+    /// With `may_stay`, and if all have the keys of all points, they may stay in place (no clause
+    /// says that they do). The first `known` have the keys of the first points. An error leaves the
+    /// contacts as they are, with no change.
     pub(crate) fn update_contacts(
         &mut self,
         contacts: &mut Contacts,
@@ -258,6 +259,7 @@ impl Changes {
             ≡ contacts_before self.old.contacts contacts.now }
         ensures bodies { self.new.bodies ≡ self.old.bodies }
         ensures no_memory { islands.now ≡ [] → IsOk result }
+        ensures no_memory_anew { self.old.contacts.in_place ≡ false → IsOk result }
     {
         for island in islands {
             contacts.note(&island.rows, &mut self.contacts)?;

@@ -9,7 +9,7 @@ ghost use Rattle.pf_cache.specs.Manifolds.{kept_touches};
 ghost use Rattle.pf_cache.specs.Spans.{AreListedPlaces};
 ghost use Rattle.pf_islands.specs.Flags.{ListsAwake};
 ghost use Rattle.pf_islands.specs.declared.splitting.LoneBodies.TheVariants.{AreListed};
-ghost use Rattle.pf_islands.specs.Lone.{lone_bodies, made_islands};
+ghost use Rattle.pf_islands.specs.Lone.{lone_numbers, made_islands};
 ghost use Rattle.pf_islands.specs.Split.{IsIslandOf, Island};
 ghost use Rattle.pf_islands.specs.Splitting.{AreParts};
 ghost use Rattle.pf_solver.specs.Alone.{island_after_tick};
@@ -30,8 +30,8 @@ use pf_shapes::Scene;
 use pf_solver::solve_lone_bodies;
 use std::alloc::{AllocError, Global};
 
-/// Whether contacts may stay where they are, where so many of the bodies may have moved: not where
-/// half of them may have, since to make all contacts anew then takes less time than to note them.
+/// Whether contacts may stay in place, where so many of the bodies may have moved. Not where these
+/// are half of the bodies: making all contacts anew then takes less time than noting them.
 fn may_stay(moved: usize, bodies: usize) -> bool {
     moved < bodies / 2
 }
@@ -63,13 +63,13 @@ fn prepare(
         × ListsAwake work.old.moved world.now.bodies }
     requires places { AreListedPlaces work.old.moved found.now.collisions.manifolds.pairs
         found.now.moved_places.items }
-    ensures parts { IfOk result (AreParts scene.now world.now.bodies lone
+    ensures parts { IfOk result (AreParts scene.now (length world.now.bodies) lone
         (islands_with scene.now world.now.contacts world.now.bodies)) }
     ensures noted { OnOk result (
         let islands = islands_with scene.now world.now.contacts world.now.bodies in
         changes.new.bodies ≡ changes.old.bodies
         ++ changes_of_islands world.now.bodies (made_islands lone islands)
-        ++ changes_of world.now.bodies (lone_bodies lone islands)) }
+        ++ changes_of world.now.bodies (lone_numbers lone islands)) }
     ensures impulses { OnOk result
         (All (λ i. MayChange changes.new.contacts i.rows)
         (made_islands lone (islands_with scene.now world.now.contacts world.now.bodies))) }
@@ -98,7 +98,7 @@ fn prepare(
         lone,
     )?;
     changes.note_islands(&world.bodies, &parts.islands)?;
-    changes.note_bodies(&world.bodies, &parts.lone_bodies)?;
+    changes.note_bodies(&world.bodies, &parts.lone_numbers)?;
     changes.note_impulses(&world.contacts, &parts.islands)?;
     work.set_moved(changes.bodies())?;
     Ok(parts)
@@ -170,10 +170,10 @@ pub(crate) fn finish<C: Crew>(
     changes.update_contacts(&mut world.contacts, touches, known, may_stay)?;
     let Parts {
         islands,
-        lone_bodies,
+        lone_numbers,
     } = prepare(alloc, scene, world, found, work, changes, lone)?;
     let solved = solve_by(crew, scene, islands, lone)?;
-    solve_lone_bodies(scene, &mut world.bodies, &lone_bodies);
+    solve_lone_bodies(scene, &mut world.bodies, &lone_numbers);
     join_back(&solved, &mut world.bodies, &mut world.contacts);
     work.keep_islands(solved);
     Ok(())

@@ -178,7 +178,7 @@ impl Work {
         self.spare_islands = islands;
     }
 
-    /// Takes the memory that is kept for changes. Takes no memory.
+    /// No changes, in the memory that is kept for them. Takes no new memory.
     pub(crate) fn take_changes(&mut self, alloc: Global) -> Changes
         ensures changes { result ≡ no_changes }
         ensures work { self.new ≡ self.old }
@@ -188,7 +188,8 @@ impl Work {
         changes
     }
 
-    /// Takes the memory that is kept for islands. What it holds is of no use. Takes no memory.
+    /// The islands of an earlier tick, if they are kept: only their memory is of use. Takes no new
+    /// memory.
     pub(crate) fn take_islands(&mut self, alloc: Global) -> Vec<Island>
         ensures { self.new ≡ self.old }
     {

@@ -36,7 +36,7 @@ pub(crate) fn copy_of(alloc: Global, bodies: &[BodyState]) -> Result<Vec<BodySta
 }
 
 impl World {
-    ghost use Rattle.std.specs.Prelude.{◌≡◌, [], length, IfOk, IsOk, OnErr, OnOk};
+    ghost use Rattle.std.specs.Prelude.{◌≡◌, [], length, IfOk, IsOk, IsTrue, OnErr, OnOk};
     ghost use Rattle.pf_step.specs.Changes.{world_before};
     ghost use Rattle.pf_step.specs.World.{start_world, same_world};
 
@@ -67,8 +67,9 @@ impl World {
         &self.contacts
     }
 
-    /// Undoes a step: this is the world after it, and `changes` are what it returned. Changes of
-    /// another step are undone all the same, and leave a world that no simulation may have: each
+    /// Undoes a step: this is the world after it, and `changes` are what it returned. In the same
+    /// way [`step_next`](crate::step_next) undoes what a step has changed before it fails. Changes
+    /// of another step are undone all the same, and leave a world that no simulation may have: each
     /// noted body that this world has gets its noted state, and contacts are undone as
     /// [`pf_cache::Contacts::undo`] says. Takes time for what changed and for the contacts, and no
     /// memory.
@@ -88,6 +89,7 @@ impl World {
         ensures value { OnOk result (self.new ≡ world_before changes.now self.old) }
         ensures err { OnErr result (self.new ≡ self.old) }
         ensures no_memory { (world_before changes.now self.old).contacts ≡ [] → IsOk result }
+        ensures no_memory_in_place { IsTrue changes.now.contacts.in_place → IsOk result }
     {
         self.contacts.undo_copied(changes.contacts())?;
         undo_bodies(&mut self.bodies, changes.bodies());

@@ -5,9 +5,9 @@ use Rattle.pf_islands.proofs.splitting.parted_numbers.Given as goal
 abbrev pub invariant-loop-number : goal.invariant-loop-number
 invariant-loop-number l = record {
   dealt : l.dealt.items ≡ filter (λ n. is_dealt l.lone (get_or l.rows (get_or l.labels n 0) 0)) (take l.number-index l.numbers);
-  lone_bodies : l.lone_bodies.items ≡ filter (λ n. not (is_dealt l.lone (get_or l.rows (get_or l.labels n 0) 0))) (take l.number-index l.numbers);
+  lone_numbers : l.lone_numbers.items ≡ filter (λ n. not (is_dealt l.lone (get_or l.rows (get_or l.labels n 0) 0))) (take l.number-index l.numbers);
   few_dealt : vec_len l.dealt ≤ l.number-index;
-  few_lone : vec_len l.lone_bodies ≤ l.number-index;
+  few_lone : vec_len l.lone_numbers ≤ l.number-index;
   room_dealt : length l.numbers ≤ vec_capacity l.dealt;
-  room_lone : length l.numbers ≤ vec_capacity l.lone_bodies;
+  room_lone : length l.numbers ≤ vec_capacity l.lone_numbers;
 }

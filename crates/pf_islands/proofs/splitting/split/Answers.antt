@@ -6,7 +6,7 @@ use Rattle.std.proofs.lemmas.Result.{IfOk-weaker}
 use Rattle.pf_manifold.specs.Touches.{IsTouchOf}
 use Rattle.pf_cache.specs.Spans.{Span}
 use Rattle.pf_cache.proofs.ChosenNumbers.{range_within}
-use Rattle.pf_islands.specs.Lone.{lone_bodies, made_islands}
+use Rattle.pf_islands.specs.Lone.{lone_numbers, made_islands}
 use Rattle.pf_islands.specs.Settled.{AreSettled}
 use Rattle.pf_islands.specs.Splitting.{group_islands, woken_islands}
 use Rattle.pf_islands.proofs.Listed.{all_listed, all_places}
@@ -40,8 +40,8 @@ split_settled-requires-clause-settled c =
     (woken_settled c.args.scene.now touches c.args.bodies.now c.requires.bodies
     (subst (All (IsTouchOf (length c.args.bodies.now))) (sym c.touches-touches.ensures.value) c.requires.touches))
 
-pub returns : goal.returns
-returns c =
+pub returns-clause-parts : goal.returns-clause-parts
+returns-clause-parts c =
     let s = c.args.scene.now in
     let contacts = c.args.contacts.now in
     let woken = c.as_slice-bodies.ensures.value ∙ c.in_ok-woken.ensures.bodies in
@@ -51,9 +51,9 @@ returns c =
     IfOk-weaker c.split_settled.result _ _
     (λ found is. record {
       made = is.made ∙ ap (made_islands c.args.lone) same;
-      listed = is.listed ∙ ap (lone_bodies c.args.lone) same;
+      listed = is.listed ∙ ap (lone_numbers c.args.lone) same;
       fit = is.fit;
       order = is.order;
-      there = subst (λ n. All (λ number. number < n) found.lone_bodies.items) count is.there;
+      there = subst (λ n. All (λ number. number < n) found.lone_numbers.items) count is.there;
     })
     c.split_settled.ensures.parts

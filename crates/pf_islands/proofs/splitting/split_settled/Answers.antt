@@ -23,14 +23,14 @@ as_many c =
 -- the bodies that go into islands, and the others
 parts : (c : After-deref-2)
     → IsParted c.args.scene.now c.args.bodies.now c.args.touches.now c.args.contacts.now c.args.lone c.deref-2.result.now
-    c.in_ok-dealt.lone_bodies.items
+    c.in_ok-dealt.lone_numbers.items
 parts c =
     let labels = c.labels-labels.result.now in
     let places = c.as_slice-places.result.now in
     let counts = c.deref.result.now in
     let awake = c.as_slice-numbers.ensures.value ∙ c.requires.numbers in
     parted c.args.scene.now c.args.bodies.now c.args.touches.now c.args.contacts.now c.args.lone c.requires.bodies
-    c.requires.settled c.requires.touches labels places counts c.deref-2.result.now c.in_ok-dealt.lone_bodies.items
+    c.requires.settled c.requires.touches labels places counts c.deref-2.result.now c.in_ok-dealt.lone_numbers.items
     (c.as_slice-places.ensures.value ∙ c.requires.active) (c.labels-labels.ensures.value ∙ c.in_ok-groups.ensures.value)
     (subst
     (λ (ns : List ℕ). (label : ℕ) → label < length labels → (get_or ns label 0 == 0)
@@ -38,7 +38,7 @@ parts c =
     (sym c.deref.ensures.value) c.in_ok-rows.ensures.none)
     (c.deref-2.ensures.value ∙ c.in_ok-dealt.ensures.dealt
     ∙ ap (filter (λ n. is_dealt c.args.lone (get_or counts (get_or labels n 0) 0))) awake)
-    (c.in_ok-dealt.ensures.lone_bodies
+    (c.in_ok-dealt.ensures.lone_numbers
     ∙ ap (filter (λ n. not (is_dealt c.args.lone (get_or counts (get_or labels n 0) 0)))) awake)
 
 pub new-requires-clause-numbers : goal.new-requires-clause-numbers
@@ -98,8 +98,8 @@ returns-clause-parts c =
       made = c.in_ok-islands.ensures.value ∙ parted.made;
       listed = parted.alone_are;
       fit = c.in_ok-islands.ensures.fit;
-      order = subst (IsRising 0) (sym (c.in_ok-dealt.ensures.lone_bodies ∙ ap (filter is_lone) awake))
+      order = subst (IsRising 0) (sym (c.in_ok-dealt.ensures.lone_numbers ∙ ap (filter is_lone) awake))
           (filter_rises is_lone 0 (filter is_awake numbers) (filter_rises is_awake 0 numbers (range_rises 0 count)));
-      there = subst (All (λ n. n < count)) (sym c.in_ok-dealt.ensures.lone_bodies)
+      there = subst (All (λ n. n < count)) (sym c.in_ok-dealt.ensures.lone_numbers)
           (All-filter is_lone (λ n. n < count) c.as_slice-numbers.result.now (number_low is_awake count c.as_slice-numbers.result.now awake));
     }

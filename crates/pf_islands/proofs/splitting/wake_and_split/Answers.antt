@@ -1,6 +1,6 @@
 use Rattle.std.proofs.Common.{◌∙◌, ap, sym}
 use Rattle.std.proofs.lemmas.Result.{IfOk-weaker}
-use Rattle.pf_islands.specs.Lone.{lone_bodies, made_islands}
+use Rattle.pf_islands.specs.Lone.{lone_numbers, made_islands}
 use Rattle.pf_islands.specs.Splitting.{group_islands, woken_islands}
 use Rattle.pf_islands.proofs.SettledGroups.{settled_from, woken_same}
 use Rattle.pf_islands.proofs.splitting.wake_and_split.Goals as goal
@@ -23,7 +23,7 @@ returns-then-wake_none-clause-parts c =
     IfOk-weaker c.split_settled.result _ _
     (λ found is. record {
       made = is.made ∙ ap (made_islands c.args.lone) same;
-      listed = is.listed ∙ ap (lone_bodies c.args.lone) same;
+      listed = is.listed ∙ ap (lone_numbers c.args.lone) same;
       fit = is.fit;
       order = is.order;
       there = is.there;

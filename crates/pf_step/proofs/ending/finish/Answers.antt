@@ -12,7 +12,7 @@ use Rattle.pf_cache.specs.Manifolds.{kept_touches}
 use Rattle.pf_cache.specs.declared.manifolds.FoundCollisions.{FoundCollisions}
 use Rattle.pf_cache.proofs.Kept.{same_keys}
 use Rattle.pf_islands.specs.Join.{IsAtHome, joined_bodies, joined_contacts}
-use Rattle.pf_islands.specs.Lone.{lone_bodies, made_islands}
+use Rattle.pf_islands.specs.Lone.{lone_numbers, made_islands}
 use Rattle.pf_islands.specs.Split.{Island}
 use Rattle.pf_solver.specs.Alone.{lone_bodies_after_tick, island_after_tick}
 use Rattle.pf_solver.specs.Bodies.{gravity_per_tick}
@@ -67,10 +67,10 @@ solved_are g c =
     ∙ ap (made_islands c.lone_bodies-lone.result) (all_are g (goal.at.After-deref-2 g c).In_ok-islands))
 
 lone_are : (g : _) (c : After-deref-2 g) → c.deref.result.now
-    ≡ lone_bodies c.lone_bodies-lone.result (islands_of_bodies c.args.scene.now c.args.world.now.contacts c.args.world.now.bodies)
+    ≡ lone_numbers c.lone_bodies-lone.result (islands_of_bodies c.args.scene.now c.args.world.now.contacts c.args.world.now.bodies)
 lone_are g c =
     c.deref.ensures.value ∙ c.in_ok-islands.ensures.parts.listed
-    ∙ ap (lone_bodies c.lone_bodies-lone.result) (all_are g (goal.at.After-deref-2 g c).In_ok-islands)
+    ∙ ap (lone_numbers c.lone_bodies-lone.result) (all_are g (goal.at.After-deref-2 g c).In_ok-islands)
 
 -- the lone bodies went through the tick
 bodies_are : (g : _) (c : After-deref_mut-2 g) → c.deref_mut-2.result.now
@@ -98,9 +98,9 @@ noted_are g c =
     c.in_ok-islands.ensures.noted
     ∙ (λ i. (c.update_contacts.ensures.bodies i
     ++ changes_of_islands (of_world i) (made_islands lone (islands_with s (now_is i) (of_world i))))
-    ++ changes_of (of_world i) (lone_bodies lone (islands_with s (now_is i) (of_world i))))
+    ++ changes_of (of_world i) (lone_numbers lone (islands_with s (now_is i) (of_world i))))
     ∙ append_assoc noted (changes_of_islands w.bodies (made_islands lone (islands_of_bodies s w.contacts w.bodies)))
-    (changes_of w.bodies (lone_bodies lone (islands_of_bodies s w.contacts w.bodies)))
+    (changes_of w.bodies (lone_numbers lone (islands_of_bodies s w.contacts w.bodies)))
     ∙ ap (λ cs. noted ++ cs) (noted_in_order s w.contacts w.bodies c.requires.bodies lone w.bodies)
 
 -- what is noted of the contacts restores those before

@@ -4,7 +4,7 @@ use Rattle.pf_shapes.specs.Body.{BodyState}
 use Rattle.pf_cache.specs.ContactRows.{AreRowsAt}
 use Rattle.pf_cache.specs.ContactsChange.{contacts_before}
 use Rattle.pf_cache.specs.Manifolds.{Collisions, kept_touches}
-use Rattle.pf_islands.specs.Lone.{is_made, lone_bodies, made_islands}
+use Rattle.pf_islands.specs.Lone.{is_made, lone_numbers, made_islands}
 use Rattle.pf_islands.specs.Split.{Island}
 use Rattle.pf_islands.specs.Splitting.{AreParts, woken_islands}
 use Rattle.pf_step.specs.Activity.{islands_with}
@@ -25,16 +25,16 @@ made_of c =
     (c.as_slice.ensures.value ∙ ap (λ (v : World). v.contacts) c.world.view_is)
 
 parts_are : (c : In_ok-parts)
-    → AreParts c.args.scene.now c.args.world.now.bodies c.args.lone
+    → AreParts c.args.scene.now (length c.args.world.now.bodies) c.args.lone
     (islands_with c.args.scene.now c.args.world.now.contacts c.args.world.now.bodies) c.in_ok-parts.parts
 parts_are c =
     let is = c.in_ok-parts.ensures.parts in
     record {
       made = is.made ∙ ap (made_islands c.args.lone) (made_of c);
-      listed = is.listed ∙ ap (lone_bodies c.args.lone) (made_of c);
+      listed = is.listed ∙ ap (lone_numbers c.args.lone) (made_of c);
       fit = is.fit;
       order = is.order;
-      there = subst (λ (bs : List BodyState). All (λ number. number < length bs) c.in_ok-parts.parts.lone_bodies.items)
+      there = subst (λ (bs : List BodyState). All (λ number. number < length bs) c.in_ok-parts.parts.lone_numbers.items)
           (c.deref-2.ensures.value ∙ ap (λ (v : World). v.bodies) c.world.view_is) is.there;
     }
 
@@ -71,7 +71,7 @@ returns-clause-noted c =
     ∙ ap₂ (λ (bs : List BodyState) (islands : List Island). noted ++ changes_of_islands bs islands)
     (c.deref-3.ensures.value ∙ own) (c.deref-4.ensures.value ∙ parted.made))
     (c.deref-6.ensures.value ∙ parted.listed)
-    ∙ ap (λ (bs : List BodyState). noted ++ first ++ changes_of bs (lone_bodies c.args.lone found))
+    ∙ ap (λ (bs : List BodyState). noted ++ first ++ changes_of bs (lone_numbers c.args.lone found))
     (c.deref-5.ensures.value ∙ own)
 
 pub returns-in_err-note_impulses-clause-same_contacts : goal.returns-in_err-note_impulses-clause-same_contacts

@@ -14,6 +14,7 @@ loop-island-preserved c =
     let item = c.island-item.result in
     record {
       bodies = c.loop-island.invariant.bodies;
+      in_place = c.note.ensures.in_place ∙ c.loop-island.invariant.in_place;
       noted = All-more (λ (i : Island). MayChange new i.rows) c.args.islands.now c.loop-island.island-index item c.loop-island-test.true
           (All-weaker (λ (i : Island). MayChange old i.rows) (λ (i : Island). MayChange new i.rows)
           (λ i own.

@@ -7,6 +7,7 @@ use Rattle.pf_step.proofs.changes.Changes.note_impulses.Given as goal
 abbrev pub invariant-loop-island : goal.invariant-loop-island
 invariant-loop-island l = record {
   bodies : l.self-inside.bodies ≡ l.initial.self-inside.bodies;
+  in_place : l.self-inside.contacts.in_place ≡ l.initial.self-inside.contacts.in_place;
   noted : All (λ (i : Island). MayChange l.self-inside.contacts i.rows) (take l.island-index l.islands);
   same : contacts_before l.self-inside.contacts l.contacts ≡ contacts_before l.initial.self-inside.contacts l.contacts;
 }
