@@ -1,8 +1,9 @@
 -- What a contract sees of a crew of threads, and with which errors it fails.
-use Rattle.std.specs.Prelude.{◌≡◌, ℕ, ⊤, Bool, true, false, List, All, replicate, if◌then◌else◌}
+use Rattle.std.specs.Prelude.{◌≡◌, ℕ, ⊤, Bool, true, false, List, replicate, if◌then◌else◌}
 use Rattle.pf_step.specs.Meter.{saturating_sum}
 use Rattle.pf_pool.specs.declared.error.PoolError.{PoolError}
 use Rattle.pf_pool.specs.declared.error.PoolError.TheVariants as pools
+use Rattle.pf_pool.specs.Pool.{HasAllWorkers}
 use Rattle.pf_step.specs.declared.crew.CrewError.{CrewError}
 use Rattle.pf_step.specs.declared.crew.CrewError.TheVariants.{OutOfMemory, NoThread, GateShut, CrewLost}
 
@@ -35,7 +36,7 @@ new_crew workers = record { workers = replicate workers true; turn = 0; lost = f
 
 -- all workers of a crew are there: none was dismissed
 abbrev pub CrewHasAllWorkers : StandingCrew → Type 0
-CrewHasAllWorkers c = All (λ there. there ≡ true) c.workers
+CrewHasAllWorkers c = HasAllWorkers c.workers
 
 -- the error of a crew whose pool failed
 abbrev pub crew_error : PoolError → CrewError

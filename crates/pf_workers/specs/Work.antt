@@ -11,8 +11,8 @@ use Rattle.pf_workers.specs.Solving.{IsSolved}
 -- what a worker makes of a part: of islands what they are after a tick, of pairs their contact
 -- points; what is done stays
 abbrev pub IsDone : Bool → Part → Part → Type 0
-IsDone always (Islands share) (Solved stacks) =
-    IsSolved always share.scene share.islands stacks
+IsDone always (Islands share) (Solved stack) =
+    IsSolved always share.scene share.islands stack
 IsDone always (Islands share) done = ⊥
 IsDone always (Pairs chunk) (Found found) = IsFound chunk found
 IsDone always (Pairs chunk) done = ⊥
@@ -20,8 +20,8 @@ IsDone always part done = done ≡ part
 
 -- islands that are done, which fails only where a gate was shut
 abbrev pub AreIslandsDone : Bool → Option Part → Type 0
-AreIslandsDone always (Some (Solved stacks)) =
-    IfErr stacks (λ error. (error ≡ GateShut) × (always ≡ false))
+AreIslandsDone always (Some (Solved stack)) =
+    IfErr stack (λ error. (error ≡ GateShut) × (always ≡ false))
 AreIslandsDone always other = ⊥
 
 -- these parts are chunks of pairs that have these contact points
