@@ -9,4 +9,4 @@ solve-requires c =
     let some : 0 < vec_len c.in_ok-parts.parts.islands = omega (arith, c.in-Some.ensures.cases) in
     let is = c.in-Some.ensures.value island some in
     subst (IsIslandOf c.args.scene.now) (sym (ap (λ o. unwrap_or o island) is))
-    (c.in_ok-parts.ensures.fit (vec_len c.in_ok-parts.parts.islands - 1) island (omega (arith, some)))
+    (c.in_ok-parts.ensures.parts.fit (vec_len c.in_ok-parts.parts.islands - 1) island (omega (arith, some)))
