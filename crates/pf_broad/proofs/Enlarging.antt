@@ -105,9 +105,9 @@ flat_map-same f g a (suc n) h =
     ∙ ap (λ l. g a ++ l) (flat_map-same f g (a + 1) n (λ k l. h k (omega arith)))
 
 -- the candidates that may touch are the pairs
-pub overlapping-pairs : (enlarged bounds : List Bounds) → AreEnlarged enlarged bounds
+pub pairs-of-candidates : (enlarged bounds : List Bounds) → AreEnlarged enlarged bounds
     → filter (pair_may_touch bounds) (pairs enlarged) ≡ pairs bounds
-overlapping-pairs enlarged bounds is =
+pairs-of-candidates enlarged bounds is =
     let t = pair_may_touch bounds in
     filter-flat_map t (pairs_of enlarged) (range_with_len 0 (length enlarged))
     ∙ flat_map-same (λ i. filter t (pairs_of enlarged i)) (pairs_of bounds) 0 (length enlarged) (λ i below.

@@ -5,9 +5,9 @@ use Rattle.std.proofs.lemmas.List.Folds.{list_any-append}
 use Rattle.std.proofs.Math.Bool.{and-or_distrib_left, and_comm}
 use Rattle.std.specs.List.{range_with_len, filter, flat_map}
 use Rattle.pf_shapes.specs.Bounds.{Bounds}
-use Rattle.pf_broad.specs.Pairs.{bounds_at, may_touch, is_pair, pair, pairs_of}
+use Rattle.pf_broad.specs.Pairs.{bounds_at, may_touch, is_pair, pair, pair_may_touch, pairs_of, pairs}
 use Rattle.pf_broad.specs.Laws.{has_pair, ArePairsExact}
-use Rattle.pf_shapes.specs.Pair.{Pair}
+use Rattle.pf_shapes.specs.Pair.{IsPairOf, Pair}
 use Rattle.pf_broad.specs.Partners.{has_body}
 use Rattle.pf_broad.proofs.Ranges.{at_equal, has_body-filter, has_body-below}
 
@@ -45,3 +45,10 @@ exact bs i j =
     has_pair-flat_map (pairs_of bs) (λ x. is_pair bs x j && nat_lt j (length bs)) i j (λ x. has_pair-pairs_of bs x i j) (range_with_len 0 (length bs))
     ∙ ap (λ b. (is_pair bs i j && nat_lt j (length bs)) && b) (has_body-below (length bs) i)
     ∙ in_range (may_touch (bounds_at bs i) (bounds_at bs j)) i j (length bs)
+
+-- so a pair of two bodies is listed where they may touch
+pub has_pair-may_touch : (bs : List Bounds) (p : Pair) → IsPairOf (length bs) p → has_pair (pairs bs) p.a p.b ≡ pair_may_touch bs p
+has_pair-may_touch bs p of =
+    let first : nat_lt p.a p.b ≡ true = grind (arith, nat_tests, of.0) in
+    let second : nat_lt p.b (length bs) ≡ true = grind (arith, nat_tests, of.1) in
+    exact bs p.a p.b ∙ (λ k. first k && (second k && pair_may_touch bs p))

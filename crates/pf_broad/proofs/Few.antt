@@ -7,7 +7,7 @@ use Rattle.pf_broad.specs.Pairs.{pairs, all_bounds}
 use Rattle.pf_broad.proofs.Within.{length-all_bounds}
 
 -- one body has no other
-pub few_bounds : (bs : List Bounds) → length bs < 2 → [] ≡ pairs bs
+few_bounds : (bs : List Bounds) → length bs < 2 → [] ≡ pairs bs
 few_bounds [] h = refl
 few_bounds (b ∷ []) h = refl
 few_bounds (b ∷ (c ∷ bs)) h = absurd (omega arith)

@@ -1,15 +1,12 @@
 -- The bodies that left their enlarged bounds.
 use Rattle.std.proofs.Common.{◌≡◌, ℕ, ◌<◌, Bool, true, false, not, ◌&&◌, List, [], length, nat_lt, ltb-true, refl, sym, ap, ◌∙◌, arith}
-use Rattle.std.proofs.Math.Bool.{and-false}
 use Rattle.std.proofs.lemmas.Bool.Decides.{nat_tests}
 use Rattle.std.specs.List.{range_with_len, filter}
 use Rattle.pf_shapes.specs.Bounds.{Bounds}
 use Rattle.pf_broad.specs.Pairs.{bounds_at}
 use Rattle.pf_broad.specs.Partners.{has_body, AreBodies, AreInOrder}
-use Rattle.pf_broad.specs.Enlarged.{contains, left_bodies, AreEnlarged}
-use Rattle.pf_broad.proofs.Placing.{filter-same}
-use Rattle.pf_broad.proofs.Watching.{All-has_body}
-use Rattle.pf_broad.proofs.Ranges.{has_body-filter, has_body-below}
+use Rattle.pf_broad.specs.Enlarged.{contains, left_bodies, AreContained, AreEnlarged}
+use Rattle.pf_broad.proofs.Ranges.{filter-same, has_body-filter, has_body-below, All-has_body}
 
 has_body-filter_below : (p : ℕ → Bool) (n j : ℕ) → has_body (filter p (range_with_len 0 n)) j ≡ (p j && nat_lt j n)
 has_body-filter_below p n j = has_body-filter p (range_with_len 0 n) j ∙ ap (λ b. p j && b) (has_body-below n j)
@@ -33,8 +30,7 @@ none_left enlarged bounds as_many none = record {
 }
 
 -- those of the listed bodies that left are all that did
-pub left-listed : (enlarged bounds : List Bounds) (moved : List ℕ) → AreBodies bounds moved
-    → ((k : ℕ) → k < length bounds → has_body moved k ≡ false → contains (bounds_at enlarged k) (bounds_at bounds k) ≡ true)
+pub left-listed : (enlarged bounds : List Bounds) (moved : List ℕ) → AreBodies bounds moved → AreContained moved enlarged bounds
     → (k : ℕ) → (not (contains (bounds_at enlarged k) (bounds_at bounds k)) && has_body moved k)
     ≡ (not (contains (bounds_at enlarged k) (bounds_at bounds k)) && nat_lt k (length bounds))
 left-listed enlarged bounds moved are contained k =
@@ -47,17 +43,6 @@ left-listed enlarged bounds moved are contained k =
     same false true n within listed = sym (listed refl)
     same false false true within listed = within refl refl
     same false false false within listed = refl
-
--- a body that left may have moved
-pub left-moved : (enlarged bounds : List Bounds) (moved : List ℕ)
-    → ((k : ℕ) → k < length bounds → has_body moved k ≡ false → contains (bounds_at enlarged k) (bounds_at bounds k) ≡ true)
-    → (k : ℕ) → has_body moved k ≡ false → has_body (left_bodies enlarged bounds) k ≡ false
-left-moved enlarged bounds moved contained k other =
-    has_body-filter_below (λ j. not (contains (bounds_at enlarged j) (bounds_at bounds j))) (length bounds) k
-    ∙ elim (nat_lt k (length bounds)) as (λ b. nat_lt k (length bounds) ≡ b → (not (contains (bounds_at enlarged k) (bounds_at bounds k)) && b) ≡ false) [
-      | true ↦ λ is. (let below : k < length bounds = ltb-true k (length bounds) is in ap (λ b. not b && true) (contained k below other))
-      | false ↦ λ _. and-false (not (contains (bounds_at enlarged k) (bounds_at bounds k)))
-    ] refl
 
 -- the bodies that pass a test are in order
 pub in_order : (p : ℕ → Bool) (bs : List Bounds) (bodies : List ℕ) → bodies ≡ filter p (range_with_len 0 (length bs)) → AreInOrder bs bodies

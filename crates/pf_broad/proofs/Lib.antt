@@ -7,9 +7,6 @@ pub mod Exact
 pub mod Ascending
 pub mod Within
 pub mod Few
-pub mod Flagging
-pub mod Placing
-pub mod Watching
 pub mod Zipped
 pub mod Intervals
 pub mod CellNumbers
@@ -22,4 +19,3 @@ pub mod Enlarging
 pub mod Leaving
 pub mod Searching
 pub mod Merging
-pub mod Carrying

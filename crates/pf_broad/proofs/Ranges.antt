@@ -1,6 +1,7 @@
 -- Filters of ranges, one number more at a time, and what stands in them.
-use Rattle.std.proofs.Common.{◌≡◌, ℕ, zero, suc, ◌+◌, ◌<◌, Bool, true, false, cond, ◌&&◌, ◌||◌, List, [], ◌∷◌, ◌++◌, refl, sym, ap, ◌∙◌, arith, nat_lt, nat_le, nat_eq, eqb-true, append-nil, append_assoc}
+use Rattle.std.proofs.Common.{◌≡◌, ℕ, zero, suc, ◌+◌, ◌<◌, Bool, true, false, cond, ◌&&◌, ◌||◌, All, List, [], ◌∷◌, ◌++◌, refl, sym, subst, ap, ◌∙◌, arith, nat_lt, nat_le, nat_eq, eqb-true, append-nil, append_assoc}
 use Rattle.std.proofs.lemmas.Bool.Decides.{nat_tests}
+use Rattle.std.proofs.lemmas.List.Elements.{All-head, All-tail}
 use Rattle.std.specs.List.{range_with_len, filter, flat_map}
 use Rattle.pf_broad.specs.Partners.{has_body}
 
@@ -27,6 +28,13 @@ flat_map-range_suc f a (suc n) j e =
 pub filter-range_none : (p : ℕ → Bool) (a n : ℕ) → ((k : ℕ) → k < a + n → p k ≡ false) → filter p (range_with_len a n) ≡ []
 filter-range_none p a zero h = refl
 filter-range_none p a (suc n) h = rw (h a (omega arith)) (filter-range_none p (a + 1) n (λ k l. h k (omega arith)))
+
+-- tests that agree on a range
+pub filter-same : (p q : ℕ → Bool) (a n : ℕ) → ((k : ℕ) → k < a + n → p k ≡ q k) → filter p (range_with_len a n) ≡ filter q (range_with_len a n)
+filter-same p q a zero h = refl
+filter-same p q a (suc n) h =
+    ap (λ b. cond b (a ∷ filter p (range_with_len (a + 1) n)) (filter p (range_with_len (a + 1) n))) (h a (omega arith))
+    ∙ ap (λ l. cond (q a) (a ∷ l) l) (filter-same p q (a + 1) n (λ k below. h k (omega (arith, below))))
 
 -- a test of a number that is asked only where the number is j
 pub at_equal : (p : ℕ → Bool) (x j : ℕ) → (nat_eq x j && p x) ≡ (nat_eq x j && p j)
@@ -60,3 +68,15 @@ has_body-range a (suc n) j = rw (has_body-range (a + 1) n j) (grind (arith, nat_
 
 pub has_body-below : (n j : ℕ) → has_body (range_with_len 0 n) j ≡ nat_lt j n
 has_body-below n j = rw (has_body-range 0 n j) (grind (arith, nat_tests))
+
+-- what holds of each number of a list
+pub All-has_body : (P : ℕ → Type 0) (xs : List ℕ) (k : ℕ) → All P xs → has_body xs k ≡ true → P k
+All-has_body P [] k all there = absurd (cc)
+All-has_body P (x ∷ xs) k all there =
+    elim (nat_eq x k) as (λ b. nat_eq x k ≡ b → P k) [
+      | true ↦ λ is. subst P (same x k is) (All-head P x xs all)
+      | false ↦ λ is. All-has_body P xs k (All-tail P x xs all) (sym (ap (λ b. b || has_body xs k) is) ∙ there)
+    ] refl
+  where
+    same : (x k : ℕ) → nat_eq x k ≡ true → x ≡ k
+    same x k is = grind (arith, nat_tests)

@@ -1,5 +1,5 @@
 -- The pairs are of two bodies that there are, the lesser number first.
-use Rattle.std.proofs.Common.{◌≡◌, ℕ, zero, suc, ◌+◌, true, false, cond, List, [], ◌∷◌, length, refl, arith, map, nat_lt, ltb-true, ap, sym, subst, ◌∙◌}
+use Rattle.std.proofs.Common.{◌≡◌, ℕ, zero, suc, ◌+◌, ◌<◌, true, false, cond, List, [], ◌∷◌, length, get_or, refl, arith, map, nat_lt, ltb-true, ap, sym, subst, ◌∙◌}
 use Rattle.std.proofs.lemmas.Bool.{and_parts}
 use Rattle.std.proofs.lemmas.List.Elements.{All-from_recursion}
 use Rattle.std.specs.List.{range_with_len, filter, flat_map, All, AllByRecursion}
@@ -7,8 +7,7 @@ use Rattle.pf_shapes.specs.Fixture.{Fixture}
 use Rattle.pf_shapes.specs.Body.{BodyState}
 use Rattle.pf_shapes.specs.Bounds.{Bounds}
 use Rattle.pf_broad.specs.Pairs.{bounds_at, may_touch, is_pair, pair, pairs_of, pairs, all_bounds}
-use Rattle.pf_shapes.specs.Pair.{IsPairOf}
-use Rattle.pf_shapes.specs.Pair.{Pair}
+use Rattle.pf_shapes.specs.Pair.{IsPairOf, Pair}
 use Rattle.pf_broad.proofs.Each.{append_each}
 
 -- a body's pairs are of it and a later body
@@ -49,3 +48,12 @@ pairs-IsPairOf bs ps n e k =
     let P : List Pair → Type 0 = λ l. All (IsPairOf n) l in
     let Q : ℕ → Type 0 = λ m. All (IsPairOf m) (pairs bs) in
     subst P (sym e) (subst Q k all)
+
+-- the bodies of a pair of a list are in range
+pub bodies_below : (n : ℕ) (cs : List Pair) (i : ℕ) (p q : Pair) → All (IsPairOf n) cs → i < length cs → p ≡ q → q ≡ get_or cs i q
+    → (p.a < n) × (p.b < n)
+bodies_below n cs i p q of below same is =
+    let in_range : IsPairOf n (get_or cs i q) = of i q below in
+    let a_is : p.a ≡ (get_or cs i q).a = ap (λ (q : Pair). q.a) (same ∙ is) in
+    let b_is : p.b ≡ (get_or cs i q).b = ap (λ (q : Pair). q.b) (same ∙ is) in
+    (omega (arith, a_is, in_range.0, in_range.1), omega (arith, b_is, in_range.1))

@@ -1,7 +1,7 @@
 -- Enlarged bounds, as the fat AABBs of Box2D's b2DynamicTree: pairs of bodies are searched for by
 -- them, and kept until a body has left its enlarged bounds.
 use Rattle.std.specs.Prelude.{◌≡◌, ℕ, ◌<◌, ◌≤◌, ℤ, Bool, true, false, not, ◌&&◌, ◌||◌, List, length, filter, All, int_le}
-use Rattle.std.specs.List.{range_with_len, zip}
+use Rattle.std.specs.List.{range_with_len}
 use Rattle.pf_shapes.specs.Bounds.{Bounds, IsOrdered}
 use Rattle.pf_shapes.specs.Pair.{Pair}
 use Rattle.pf_shapes.specs.declared.scene.TheConstants.{MAX_BODIES}
@@ -23,6 +23,12 @@ pub record AreEnlarged (enlarged bounds : List Bounds) : Type 0 where
   pub as_many : length enlarged ≡ length bounds
   pub each : (k : ℕ) → k < length bounds
       → contains (bounds_at enlarged k) (bounds_at bounds k) ≡ true
+
+-- the enlarged bounds of each body that is not listed contain its bounds
+abbrev pub AreContained : List ℕ → List Bounds → List Bounds → Type 0
+AreContained moved enlarged bounds =
+    (k : ℕ) → k < length bounds → has_body moved k ≡ false
+    → contains (bounds_at enlarged k) (bounds_at bounds k) ≡ true
 
 -- the bodies that left their enlarged bounds
 abbrev pub left_bodies : List Bounds → List Bounds → List ℕ
@@ -47,7 +53,3 @@ has_one_of bodies p = has_body bodies p.a || has_body bodies p.b
 -- the pairs without these bodies
 abbrev pub pairs_without : List ℕ → List Pair → List Pair
 pairs_without bodies ps = filter (λ p. not (has_one_of bodies p)) ps
-
--- the pairs without these bodies, each with its flag
-abbrev pub flagged_without : List ℕ → List Bool → List Pair → List (Bool × Pair)
-flagged_without bodies flags ps = filter (λ both. not (has_one_of bodies both.1)) (zip flags ps)

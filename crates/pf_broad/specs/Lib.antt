@@ -6,6 +6,4 @@ pub mod Grid
 pub mod Stored
 pub mod Partners
 pub mod Enlarged
-pub mod Kept
-pub mod Watched
 pub mod Laws

@@ -1,6 +1,6 @@
 //! Pairs of bodies whose bounds overlap, as Box2D's `b2BroadPhase::UpdatePairs` finds them.
 
-ghost use Rattle.std.specs.Prelude.{◌≡◌, ◌<◌, ◌≤◌, ◌++◌, [], length, map, All, IfOk, IsOk, OnOk};
+ghost use Rattle.std.specs.Prelude.{◌≡◌, ◌<◌, ◌≤◌, ◌++◌, length, map, All, IfOk, IsOk, OnOk};
 ghost use Rattle.pf_shapes.specs.Bounds.{IsOrdered};
 ghost use Rattle.pf_shapes.specs.Pair.{IsAscending, IsPairOf};
 ghost use Rattle.pf_broad.specs.Pairs.{all_bounds, pair, pairs};

@@ -1,10 +1,9 @@
 //! Enlarged bounds, which still contain those of a body some ticks later, as the fat AABBs of
 //! Box2D's `b2DynamicTree`.
 
-ghost use Rattle.std.specs.Prelude.{◌≡◌, ℕ, ◌<◌, ◌≤◌, ◌≤ℤ◌, false, length, true, IfOk};
-ghost use Rattle.pf_broad.specs.Pairs.{bounds_at};
-ghost use Rattle.pf_broad.specs.Partners.{has_body, AreBodies};
-ghost use Rattle.pf_broad.specs.Enlarged.{contains, contains_range, left_bodies, AreEnlarged, AreSameBut};
+ghost use Rattle.std.specs.Prelude.{◌≡◌, ◌≤◌, ◌≤ℤ◌, length, true, IfOk};
+ghost use Rattle.pf_broad.specs.Partners.{AreBodies};
+ghost use Rattle.pf_broad.specs.Enlarged.{contains, contains_range, left_bodies, AreContained, AreEnlarged, AreSameBut};
 
 use pf_num::Fx;
 use pf_rot::V2;
@@ -103,8 +102,7 @@ pub(crate) fn left_bodies(
     requires few { length bounds.now ≤ MAX_BODIES }
     requires enlarged { length enlarged.now ≡ length bounds.now }
     requires moved { AreBodies bounds.now moved.now }
-    requires others { (k : ℕ) → k < length bounds.now → has_body moved.now k ≡ false
-        → contains (bounds_at enlarged.now k) (bounds_at bounds.now k) ≡ true }
+    requires others { AreContained moved.now enlarged.now bounds.now }
     ensures { IfOk result (λ left. left.items ≡ left_bodies enlarged.now bounds.now) }
 {
     let mut left = Vec::new(alloc);

@@ -12,11 +12,10 @@ mod hasher;
 mod kept;
 pub mod laws;
 mod partners;
-mod watched;
 
 pub use bodies::all_bounds;
 pub use broad_phase::pairs;
-pub use candidates::PairsUpdate;
 pub use cell::{CELL_SIDE, Cell, MAX_CELLS};
 pub use grid::Grid;
 pub use kept::BroadPhase;
+pub use partners::may_touch;

@@ -134,7 +134,7 @@ pub(crate) fn add_overlapping(
 /// is compared, since a branch after each comparison takes longer.
 #[inline]
 #[tactic(auto, unfolding(crate::specs::Pairs::may_touch, pf_shapes::specs::Bounds::overlaps))]
-pub(crate) fn may_touch(a: &Bounds, b: &Bounds) -> bool
+pub fn may_touch(a: &Bounds, b: &Bounds) -> bool
     ensures { result ≡ may_touch a.now b.now }
 {
     !(a.is_static & b.is_static)

@@ -14,7 +14,7 @@ use Rattle.pf_broad.proofs.Within.{length-all_bounds}
 use Rattle.pf_manifold.specs.PlacedShape.{PlacedShape}
 use Rattle.pf_cache.specs.Manifolds.{placed_shapes, same_placed_shape, shape_of_body}
 use Rattle.pf_cache.specs.PlacedBodies.{AreBoundsOf, HaveBounds, PlacedBodies, placed_bodies}
-use Rattle.pf_cache.specs.Spans.{unmoved_flags}
+use Rattle.pf_cache.specs.Slots.{unmoved_flags}
 use Rattle.pf_cache.proofs.Placing.{both_at}
 
 same_mark : (a b : Bool) → beq a b ≡ true → a ≡ b

@@ -31,7 +31,7 @@ found (q ∷ pairs) p e = by _ refl e (found pairs p)
         let at = behind there in
         (suc at.0, omega (arith, at.1), at.2)
 
-listed : (pairs : List Pair) (p : Pair) → Contains pairs p → lists_pair pairs p ≡ true
+pub listed : (pairs : List Pair) (p : Pair) → Contains pairs p → lists_pair pairs p ≡ true
 listed pairs p at = by pairs at.0 at.1 at.2
   where
     any : (t : Bool) → (t || true) ≡ true

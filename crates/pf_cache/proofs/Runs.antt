@@ -1,26 +1,17 @@
 -- The walk along contacts and contact points where many follow each other with the same keys.
 use Rattle.std.proofs.Common.{◌≡◌, ◌∙◌, ℕ, zero, suc, ◌+◌, ◌≤◌, ◌<◌, ◌-◌, List, [], ◌∷◌, ◌++◌, append_assoc, append-nil, drop, get_or, length, length-drop, length-take, map, take, take_all, refl, sym, ap, ap₂, subst, arith}
-use Rattle.std.proofs.lemmas.List.{get_or-drop, get_or-map as get_or-map_within, get_or-take, map_more, take-map, take_more}
+use Rattle.std.proofs.lemmas.List.{get_or-drop, get_or-map as get_or-map_within, get_or-take, map_more, take_more}
 use Rattle.std.proofs.Math.ListN.{get_or-map}
 use Rattle.std.specs.Prelude.{All}
 use Rattle.pf_manifold.specs.Touches.{Touch}
 use Rattle.pf_manifold.specs.Key.{IsRising, key_of, rank}
-use Rattle.pf_cache.specs.Contact.{Contact, HaveSameFirst, kept_contact, no_contact}
-use Rattle.pf_cache.proofs.FirstKeys.{fewer_same}
+use Rattle.pf_cache.specs.Contact.{Contact, kept_contact, no_contact}
 use Rattle.pf_cache.proofs.Places.{found_here, passed}
 use Rattle.pf_cache.proofs.Walk.{SameFrom, made_step, same_step}
 
 -- as many keys as this many contacts and points have, side by side
 abbrev pub HaveSameKeys : List Contact → List Touch → ℕ → Type 0
 HaveSameKeys contacts touches r = map (λ (c : Contact). c.key) (take r contacts) ≡ map key_of (take r touches)
-
--- some of the first ones
-pub keys_known : (contacts : List Contact) (touches : List Touch) (r known : ℕ) → r ≤ known
-    → HaveSameFirst known (map (λ (c : Contact). c.key) contacts) (map key_of touches) → HaveSameKeys contacts touches r
-keys_known contacts touches r known few first =
-    sym (take-map (λ (c : Contact). c.key) r contacts)
-    ∙ fewer_same r known (map (λ (c : Contact). c.key) contacts) (map key_of touches) few first.same
-    ∙ take-map key_of r touches
 
 module _ (contacts : List Contact) (touches : List Touch) (d : Touch)
     (rising : IsRising 0 (map (λ (x : Touch). rank (key_of x)) touches)) where

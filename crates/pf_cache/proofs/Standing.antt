@@ -14,7 +14,7 @@ use Rattle.pf_broad.specs.Partners.{has_body}
 use Rattle.pf_manifold.specs.PlacedShape.{PlacedShape}
 use Rattle.pf_cache.specs.Manifolds.{same_placed_shape, shape_of_body}
 use Rattle.pf_cache.specs.PlacedBodies.{AreBoundsOf}
-use Rattle.pf_cache.specs.Spans.{unmoved_flags}
+use Rattle.pf_cache.specs.Slots.{unmoved_flags}
 use Rattle.pf_cache.proofs.Bounded.{length-unmoved_flags}
 use Rattle.pf_cache.proofs.Placing.{zip_at}
 use Rattle.pf_cache.proofs.Unmoved.{Decides-placed}

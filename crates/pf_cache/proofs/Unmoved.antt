@@ -14,7 +14,7 @@ use Rattle.pf_manifold.specs.ContactPoint.{ContactPoint}
 use Rattle.pf_manifold.specs.PlacedShape.{PlacedShape}
 use Rattle.pf_manifold.specs.Touches.{placed_shape, placed_shape_at, touch_of, touches, touches_between, touches_of}
 use Rattle.pf_cache.specs.Manifolds.{is_unmoved, kept_touches, manifolds_of, placed_shapes, points_of_pair, are_same_shapes, same_placed_shape}
-use Rattle.pf_cache.specs.Spans.{unmoved_flags}
+use Rattle.pf_cache.specs.Slots.{unmoved_flags}
 
 pub Decides-placed : (a b : PlacedShape) → Decides (same_placed_shape a b) (a ≡ b)
 unfolding same_placed_shape

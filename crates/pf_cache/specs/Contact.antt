@@ -1,6 +1,6 @@
 -- Contacts: what is kept of a contact point from tick to tick, as Box2D-Lite's Arbiter keeps Pn and
 -- Pt. The next tick starts warm with them.
-use Rattle.std.specs.Prelude.{◌≡◌, ◌≤◌, ℕ, ◌==◌, List, [], ◌∷◌, length, map, take, All, if◌then◌else◌}
+use Rattle.std.specs.Prelude.{ℕ, ◌==◌, List, [], ◌∷◌, map, All, if◌then◌else◌}
 use Rattle.pf_manifold.specs.Touches.{Touch}
 use Rattle.pf_manifold.specs.Key.{IsKey, IsRising, Key, key_of, rank}
 use Rattle.pf_rows.specs.Impulses.{Impulses, no_impulses}
@@ -17,12 +17,6 @@ no_contact = record { key = record { a = 0; b = 0; feature = 0 }; impulses = no_
 pub record AreContacts (contacts : List Contact) : Type 0 where
   pub rising : IsRising 0 (map (λ c. rank c.key) contacts)
   pub keys : All (λ c. IsKey c.key) contacts
-
--- two lists of keys have their first ones in common, so many
-pub record HaveSameFirst (count : ℕ) (keys others : List Key) : Type 0 where
-  pub within : count ≤ length keys
-  pub within_others : count ≤ length others
-  pub same : take count keys ≡ take count others
 
 -- the accumulated impulses of the contact of this rank, none where there is no such contact
 abbrev pub impulses_at : ℕ → List Contact → Impulses

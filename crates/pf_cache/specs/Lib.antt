@@ -8,6 +8,6 @@ pub mod ContactsChange
 pub mod Meter
 pub mod Manifolds
 pub mod PlacedBodies
-pub mod Spans
-pub mod Gathered
+pub mod Slots
+pub mod Points
 pub mod Laws

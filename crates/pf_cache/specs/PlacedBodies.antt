@@ -1,11 +1,9 @@
 -- The shapes of bodies as they stood, and the bounds that the broad phase needs of them.
-use Rattle.std.specs.Prelude.{◌≡◌, ◌<◌, ◌≤◌, ℕ, false, List, [], length, slice_get, All}
+use Rattle.std.specs.Prelude.{◌≡◌, ◌<◌, ℕ, false, List, [], length, slice_get, All}
 use Rattle.std.specs.List.{zip}
 use Rattle.pf_shapes.specs.Fixture.{Fixture}
 use Rattle.pf_shapes.specs.Body.{BodyState}
 use Rattle.pf_shapes.specs.Bounds.{Bounds, IsOrdered, shape_bounds}
-use Rattle.pf_shapes.specs.Pair.{Pair}
-use Rattle.pf_broad.specs.Kept.{BroadPhase, IsKeptOf}
 use Rattle.pf_broad.specs.Pairs.{all_bounds}
 use Rattle.pf_broad.specs.Partners.{has_body}
 use Rattle.pf_manifold.specs.PlacedShape.{PlacedShape}
@@ -45,7 +43,3 @@ HaveStayed moved placed fixtures bodies =
     length placed.shapes ≡ length bodies → (k : ℕ) → k < length bodies → has_body moved k ≡ false
     → (slice_get placed.shapes k ≡ slice_get (placed_shapes fixtures bodies) k)
     × (slice_get placed.bounds k ≡ slice_get (all_bounds fixtures bodies) k)
-
--- for two bodies or more: what the broad phase keeps is of these bounds, and it found these pairs
-abbrev pub IsBroadPhaseOf : BroadPhase → List Bounds → List Pair → Type 0
-IsBroadPhaseOf kept bounds pairs = 2 ≤ length bounds → IsKeptOf kept bounds × (kept.pairs ≡ pairs)

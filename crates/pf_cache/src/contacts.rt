@@ -2,7 +2,7 @@
 
 ghost use Rattle.std.specs.Prelude.{◌≡◌, ◌↔◌, ◌+◌, ◌≤◌, ◌<◌, ◌++◌, ℕ, [], All, IsOk, IsTrue, OnOk, drop, length, map, take, vec_capacity, vec_len};
 ghost use Rattle.pf_manifold.specs.Key.{AreTouches, IsKey, key_of, rank};
-ghost use Rattle.pf_cache.specs.Contact.{AreContacts, HaveSameFirst, impulses_at, next_contacts};
+ghost use Rattle.pf_cache.specs.Contact.{AreContacts, impulses_at, next_contacts};
 ghost use Rattle.pf_cache.specs.ContactRows.{AreRowsAt, IsRowAt, with_rows};
 ghost use Rattle.pf_cache.specs.ContactsChange.{contact_of_row};
 
@@ -34,7 +34,7 @@ impl Model for Contacts {
 }
 
 impl Ranked for Contact {
-    ghost use Rattle.pf_manifold.specs.Key.{IsKey, key_of, rank};
+    ghost use Rattle.pf_manifold.specs.Key.{IsKey, rank};
 
     ghost is_in_range = { λ c. IsKey c.key };
 
@@ -73,19 +73,17 @@ fn has_key_of(contact: &Contact, touch: &Touch) -> bool
     key.a == touch.a && key.b == touch.b && key.feature == touch.point.feature
 }
 
-/// How many of the first contacts have the keys of the first points, one after the other. The
-/// first `known` are known to have them, and are not compared. No clause says that it does not stop
-/// earlier.
+/// How many of the first contacts have the keys of the first points, one after the other. No clause
+/// says that it does not stop earlier.
 #[inline]
-fn same_keys(contacts: &[Contact], touches: &[Touch], known: usize) -> usize
-    requires { HaveSameFirst known (map (λ c. c.key) contacts.now) (map key_of touches.now) }
+fn same_keys(contacts: &[Contact], touches: &[Touch]) -> usize
     ensures contacts { result ≤ length contacts.now }
     ensures touches { result ≤ length touches.now }
     ensures same { map (λ c. c.key) (take result contacts.now)
         ≡ map key_of (take result touches.now) }
 {
     let end = contacts.len().min(touches.len());
-    let mut count = known.min(end);
+    let mut count = 0;
     while count < end {
         if !has_key_of(&contacts[count], &touches[count]) {
             break;
@@ -128,7 +126,7 @@ fn add_next(list: &mut Vec<Contact>, old: &[Contact], touches: &[Touch])
     let mut place = 0;
     let mut done = 0;
     while done < touches.len() {
-        let run = same_keys(&old[place..], &touches[done..], 0);
+        let run = same_keys(&old[place..], &touches[done..]);
         add_all(list, &old[place..place + run]);
         place += run;
         done += run;
@@ -181,9 +179,9 @@ fn store_at(contacts: &mut [Contact], rows: &[Row])
 }
 
 impl Contacts {
-    ghost use Rattle.std.specs.Prelude.{◌≡◌, ℕ, [], All, IfOk, IsOk, IsTrue, OnErr, OnOk, false, map, true};
+    ghost use Rattle.std.specs.Prelude.{◌≡◌, ℕ, [], All, IfOk, IsOk, IsTrue, OnErr, OnOk, false, true};
     ghost use Rattle.pf_manifold.specs.Key.{AreTouches, key_of, rank};
-    ghost use Rattle.pf_cache.specs.Contact.{HaveSameFirst, next_contacts};
+    ghost use Rattle.pf_cache.specs.Contact.{next_contacts};
     ghost use Rattle.pf_cache.specs.ContactRows.{AreRowsAt, with_rows};
     ghost use Rattle.pf_cache.specs.ContactsChange.{contacts_before, may_change, no_contacts_change};
     ghost use Rattle.pf_cache.specs.Same.{same_contacts};
@@ -210,18 +208,16 @@ impl Contacts {
     /// The points are in the order of their keys. `change` then undoes this. With `may_stay`, and
     /// if all contacts have the keys of all points, they may stay in place (no clause says that
     /// they do), and impulses that change have to be noted. Otherwise all contacts are made anew,
-    /// and `change` has those before. The first `known` have the keys of the first points, and are
-    /// not compared. An error leaves the contacts as they are, and no change in `change`.
+    /// and `change` has those before. An error leaves the contacts as they are, and no change in
+    /// `change`.
     #[inline(never)]
     pub fn update(
         &mut self,
         touches: &[Touch],
-        known: usize,
         may_stay: bool,
         change: &mut ContactsChange,
     ) -> Result<(), AllocError>
-        requires touches { AreTouches touches.now }
-        requires known { HaveSameFirst known (map (λ c. c.key) self.old) (map key_of touches.now) }
+        requires { AreTouches touches.now }
         ensures value { OnOk result (self.new ≡ next_contacts self.old touches.now) }
         ensures before { contacts_before change.new self.new ≡ self.old }
         ensures anew { OnOk result (may_stay ≡ false → change.new.in_place ≡ false) }
@@ -230,7 +226,7 @@ impl Contacts {
         ensures no_memory { touches.now ≡ [] → IsOk result }
     {
         change.clear();
-        let same = same_keys(&self.list, touches, known);
+        let same = same_keys(&self.list, touches);
         if may_stay && is_count_of_both(same, &self.list, touches) {
             return Ok(());
         }
@@ -239,6 +235,29 @@ impl Contacts {
         mem::swap(&mut self.list, &mut change.before);
         add_all(&mut self.list, &change.before[..same]);
         add_next(&mut self.list, &change.before[same..], &touches[same..]);
+        Ok(())
+    }
+
+    /// Keeps these contacts as they are, for a tick whose points have the keys of those before. With
+    /// `may_stay` they stay in place, and impulses that change have to be noted. Otherwise `change`
+    /// has a copy of all of them, as if they were made anew: where the impulses of most contacts
+    /// change, to note them one by one takes longer than to copy all. `change` then undoes what
+    /// changes later. An error leaves no change in `change`.
+    #[inline(never)]
+    pub fn keep(&mut self, may_stay: bool, change: &mut ContactsChange) -> Result<(), AllocError>
+        ensures same { self.new ≡ self.old }
+        ensures before { contacts_before change.new self.new ≡ self.old }
+        ensures anew { OnOk result (may_stay ≡ false → change.new.in_place ≡ false) }
+        ensures no_change { OnErr result (change.new ≡ no_contacts_change) }
+        ensures no_memory { self.old ≡ [] → IsOk result }
+    {
+        change.clear();
+        if may_stay {
+            return Ok(());
+        }
+        change.before.reserve(self.list.len())?;
+        change.in_place = false;
+        add_all(&mut change.before, &self.list);
         Ok(())
     }
 

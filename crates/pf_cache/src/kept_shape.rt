@@ -6,7 +6,7 @@ ghost use Rattle.pf_shapes.specs.declared.scene.TheConstants.{MAX_BODIES};
 ghost use Rattle.pf_manifold.specs.Manifold.{points_of};
 ghost use Rattle.pf_manifold.specs.Touches.{touch_of};
 ghost use Rattle.pf_cache.specs.Manifolds.{placed_shapes, points_of_pair};
-ghost use Rattle.pf_cache.specs.Spans.{are_unmoved, unmoved_flags};
+ghost use Rattle.pf_cache.specs.Slots.{are_unmoved, unmoved_flags};
 
 use pf_manifold::{Manifold, PlacedShape, collide};
 use pf_rot::{Rot, V2};
@@ -149,13 +149,4 @@ pub fn are_unmoved(unmoved: &[bool], pair: &Pair) -> bool
     ensures { result ≡ are_unmoved unmoved.now pair.now }
 {
     is_unmoved(unmoved, pair.a) && is_unmoved(unmoved, pair.b)
-}
-
-/// As `are_unmoved`, without a test of the numbers: both bodies must have a flag.
-#[inline]
-pub fn are_flags_set(unmoved: &[bool], pair: &Pair) -> bool
-    requires { IsPairOf (length unmoved.now) pair.now }
-    ensures { result ≡ are_unmoved unmoved.now pair.now }
-{
-    unmoved[pair.a] & unmoved[pair.b]
 }

@@ -6,20 +6,17 @@
 mod contact;
 mod contacts;
 mod contacts_change;
-mod gathered;
 mod kept_shape;
 pub mod laws;
-mod listed;
 mod manifolds;
 mod meter;
 mod placed_bodies;
 mod ranked;
-mod refresh;
-mod spans;
+mod slot;
+mod slots;
 
 pub use contact::Contact;
 pub use contacts::Contacts;
 pub use contacts_change::ContactsChange;
 pub use manifolds::{Collisions, FoundCollisions, Manifolds};
 pub use meter::Meter;
-pub use spans::Span;

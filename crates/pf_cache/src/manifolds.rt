@@ -1,24 +1,19 @@
 //! Contact points that are kept from tick to tick.
 
-ghost use Rattle.std.specs.Prelude.{◌≡◌, ◌≢◌, ◌≤◌, All, IfOk, IsTrue, length, map};
+ghost use Rattle.std.specs.Prelude.{◌≡◌, ◌≤◌, All, IfOk, IsTrue, count_by, length, map};
 ghost use Rattle.std.specs.List.{flat_map};
 ghost use Rattle.pf_shapes.specs.Pair.{IsAscending, IsPairOf};
-ghost use Rattle.pf_shapes.specs.declared.scene.TheConstants.{MAX_BODIES};
-ghost use Rattle.pf_broad.specs.Kept.{nothing_kept};
 ghost use Rattle.pf_manifold.specs.Key.{IsRising, key_of};
-ghost use Rattle.pf_cache.specs.Contact.{HaveSameFirst};
-ghost use Rattle.pf_cache.specs.Manifolds.{placed_shapes, points_of_pair};
-ghost use Rattle.pf_cache.specs.Spans.{AreMovedPlaces, ArePlaced, IsKeptSpan, computed_count_by_flags, pair_rank, spans_from};
+ghost use Rattle.pf_manifold.specs.Touches.{touches};
+ghost use Rattle.pf_cache.specs.Manifolds.{placed_shapes};
+ghost use Rattle.pf_cache.specs.Slots.{HasStayed, IsReusedSlot, carried_slot, is_stale, pair_rank, slot_of, slot_touches};
 
-use crate::gathered::{KeptPoints, PairPoints, gather};
-use crate::kept_shape::KeptShape;
-use crate::listed::{computed_if_many, spans_of_points};
 use crate::placed_bodies::PlacedBodies;
-use crate::refresh::{refresh, same_pairs};
-use crate::spans::Span;
-use pf_broad::{BroadPhase, PairsUpdate};
-use pf_manifold::{Collider, Touch};
-use pf_shapes::{BodyState, Pair, Scene};
+use crate::slot::Slot;
+use crate::slots::{carried_slots, fill, moved_flags, points_of, refresh, touches_of};
+use pf_broad::BroadPhase;
+use pf_manifold::{Collider, Touch, collide_list};
+use pf_shapes::{BodyState, MAX_BODIES, Pair, Scene};
 use std::alloc::{AllocError, Global};
 use std::marker::Model;
 
@@ -26,32 +21,28 @@ use std::marker::Model;
 /// `b2Contact` of Box2D 2.x keeps its manifold. They are sound for every scene and world, since
 /// they are kept with the shapes, positions and rotations that they were computed from.
 ///
-/// With them stands the broad phase that found the pairs. Contracts do not see what it keeps, since
-/// that changes no result.
+/// With them stands the broad phase, whose candidates have a slot each. Contracts see only the
+/// pairs whose bounds overlap.
 #[derive(Debug, Drop)]
 pub struct Manifolds {
     placed: PlacedBodies,
     broad_phase: BroadPhase,
-    spans: Vec<Span>,
-    touches: Vec<Touch>,
+    slots: Vec<Slot>,
 }
 
 impl Model for Manifolds {
-    ghost use Rattle.std.specs.Prelude.{map};
     ghost use Rattle.pf_cache.specs.Manifolds.{Manifolds};
-    ghost use Rattle.pf_cache.specs.PlacedBodies.{IsBroadPhaseOf};
-    ghost use Rattle.pf_cache.specs.Spans.{AreSpans};
+    ghost use Rattle.pf_cache.specs.Slots.{AreSlots, overlapping};
 
     ghost Value = { Manifolds };
 
     ghost view = { λ m. record {
       shapes = m.placed.shapes;
       bounds = m.placed.bounds;
-      pairs = map (λ s. s.pair) m.spans.items;
+      pairs = overlapping m.slots.items;
     } };
 
-    ghost invariant = { λ m. AreSpans m.placed.shapes m.spans.items m.touches.items
-        × IsBroadPhaseOf m.broad_phase m.placed.bounds (map (λ s. s.pair) m.spans.items) };
+    ghost invariant = { λ m. AreSlots m.broad_phase m.placed.bounds m.placed.shapes m.slots.items };
 }
 
 /// What the narrow phase of a tick found.
@@ -76,194 +67,106 @@ impl Model for Collisions {
 pub struct FoundCollisions {
     /// What the narrow phase of the tick found.
     pub collisions: Collisions,
-    /// How many of the first contact points are known to have the keys of the first kept ones.
-    pub same: usize,
-    /// The places of the pairs with a body that may have moved, in ascending order; or those of all
-    /// pairs.
-    pub moved_places: Vec<usize>,
+    /// Whether all contact points are known to have the keys of the kept ones, in the same order.
+    pub same_keys: bool,
 }
 
-/// The contact points of a tick's pairs.
+/// How many slots were filled, and whether all keys are known to be the same.
 #[derive(Drop)]
-struct FoundPoints {
-    /// The points, their spans, and for how many pairs they were computed.
-    points: PairPoints,
-    /// How many of the first points are known to have the keys of the first kept ones.
-    same: usize,
+struct Refreshed {
+    computed: usize,
+    same_keys: bool,
 }
 
-/// What the broad phase keeps of so many bodies, if they are as many as now; else nothing.
-fn kept_for(alloc: Global, kept: BroadPhase, count: usize, bodies: usize) -> BroadPhase
-    ensures same { count ≡ bodies → result ≡ kept }
-    ensures other { count ≢ bodies → result ≡ nothing_kept }
-{
-    if count == bodies {
-        kept
-    } else {
-        BroadPhase::new(alloc)
-    }
-}
-
-/// The contact points of these pairs. Those that are kept are updated where they stand, and those
-/// of the pairs that follow are gathered. If `update.same` is set, and the pairs are as many as
-/// those that are kept, they are these; `moved_places` are the places of those with a body that may
-/// have moved.
-#[inline(never)]
-fn updated_points(
-    alloc: Global,
-    kept_spans: Vec<Span>,
-    kept_touches: Vec<Touch>,
-    pairs: &[Pair],
-    update: &PairsUpdate,
-    unmoved: &[bool],
-    shapes: &[KeptShape],
-) -> Result<FoundPoints, AllocError>
-    requires few { length shapes.now ≤ MAX_BODIES }
-    requires pairs { All (IsPairOf (length shapes.now)) pairs.now }
-    requires ascending { IsAscending pairs.now }
-    requires rising { IsRising 0 (map (λ s. pair_rank s.pair) kept_spans.items) }
-    requires placed { ArePlaced 0 kept_spans.items (length kept_touches.items) }
-    requires kept { All (IsKeptSpan shapes.now unmoved.now kept_touches.items) kept_spans.items }
-    requires same { IsTrue update.now.same → length kept_spans.items ≡ length pairs.now
-        → map (λ s. s.pair) kept_spans.items ≡ pairs.now }
-    requires places { AreMovedPlaces unmoved.now pairs.now update.now.moved_places.items }
-    ensures spans { IfOk result (λ found. found.points.spans.items
-        ≡ spans_from 0 shapes.now pairs.now) }
-    ensures touches { IfOk result
-        (λ found. found.points.touches.items ≡ flat_map (points_of_pair shapes.now) pairs.now) }
-    ensures computed { IfOk result (λ found. found.points.computed
-        ≡ computed_count_by_flags (map (λ s. s.pair) kept_spans.items) unmoved.now pairs.now) }
-    ensures same { IfOk result (λ found. HaveSameFirst found.same (map key_of kept_touches.items)
-        (map key_of found.points.touches.items)) }
-{
-    let mut spans = kept_spans;
-    let mut touches = kept_touches;
-    let count = if update.same && spans.len() == pairs.len() {
-        pairs.len()
-    } else {
-        same_pairs(&spans, pairs)
-    };
-    let done = refresh(
-        &mut touches,
-        &spans,
-        pairs,
-        count,
-        &update.moved_places,
-        unmoved,
-        shapes,
-    );
-    let kept = KeptPoints {
-        spans: &spans,
-        touches: &touches,
-        unmoved,
-    };
-    let rest = gather(alloc, &kept, &done, shapes, &pairs[done.pairs..])?;
-    spans.truncate(done.pairs);
-    spans.extend_from_slice(&rest.spans)?;
-    touches.truncate(done.points);
-    touches.extend_from_slice(&rest.touches)?;
-    let computed = done.computed + rest.computed;
-    let points = PairPoints {
-        spans,
-        touches,
-        computed,
-    };
-    Ok(FoundPoints {
-        points,
-        same: done.same,
-    })
-}
-
-/// The contact points of these pairs, all of them computed by the collider. `computed` of the pairs
-/// cannot reuse kept points.
-fn points_at_once<C: Collider>(
+/// The contact points of these pairs: by the collider where they are many.
+fn collide_by<C: Collider>(
     collider: &C,
     alloc: Global,
     scene: &Scene,
     bodies: &[BodyState],
     pairs: &[Pair],
-    computed: usize,
-) -> Result<FoundPoints, AllocError>
+) -> Result<Vec<Touch>, AllocError>
     requires can { C.can_collide collider.now }
     requires bodies { length bodies.now ≡ length scene.now.fixtures }
     requires pairs { All (IsPairOf (length bodies.now)) pairs.now }
-    requires ascending { IsAscending pairs.now }
-    ensures spans { IfOk result (λ found. found.points.spans.items
-        ≡ spans_from 0 (placed_shapes scene.now.fixtures bodies.now) pairs.now) }
-    ensures touches { IfOk result (λ found. found.points.touches.items
-        ≡ flat_map (points_of_pair (placed_shapes scene.now.fixtures bodies.now)) pairs.now) }
-    ensures computed { IfOk result (λ found. found.points.computed ≡ computed) }
-    ensures same { IfOk result (λ found. found.same ≡ 0) }
+    ensures { IfOk result
+        (λ found. found.items ≡ touches scene.now.fixtures bodies.now pairs.now) }
 {
-    let touches = collider.collide(alloc, scene, bodies, pairs)?;
-    let spans = spans_of_points(alloc, pairs, &touches)?;
-    let points = PairPoints {
-        spans,
-        touches,
-        computed,
-    };
-    Ok(FoundPoints { points, same: 0 })
+    if pairs.len() < C::MANY {
+        return collide_list(alloc, scene, bodies, pairs);
+    }
+    collider.collide(alloc, scene, bodies, pairs)
 }
 
-/// The contact points of these pairs: those of all computed by the collider, where those of many
-/// have to be, and of at least half; else those that are kept, updated. What it asks of the kept
-/// ones is what `updated_points` asks.
-fn found_points<C: Collider>(
+/// Brings slots up to date: those whose bounds overlap get the contact points of their pairs.
+/// Points are computed where the bounds did not overlap before or a body moved.
+fn update_slots<C: Collider>(
     collider: &C,
     alloc: Global,
     scene: &Scene,
     bodies: &[BodyState],
-    kept_spans: Vec<Span>,
-    kept_touches: Vec<Touch>,
-    pairs: &[Pair],
-    update: &PairsUpdate,
+    slots: &mut [Slot],
+    may_have_moved: &[bool],
     unmoved: &[bool],
-    shapes: &[KeptShape],
-) -> Result<FoundPoints, AllocError>
+    placed: &PlacedBodies,
+) -> Result<Refreshed, AllocError>
     requires can { C.can_collide collider.now }
     requires bodies { length bodies.now ≡ length scene.now.fixtures }
-    requires shapes { shapes.now ≡ placed_shapes scene.now.fixtures bodies.now }
-    requires few { length shapes.now ≤ MAX_BODIES }
-    requires pairs { All (IsPairOf (length shapes.now)) pairs.now }
-    requires ascending { IsAscending pairs.now }
-    requires rising { IsRising 0 (map (λ s. pair_rank s.pair) kept_spans.items) }
-    requires of_bodies { All (λ s. IsPairOf MAX_BODIES s.pair) kept_spans.items }
-    requires placed { ArePlaced 0 kept_spans.items (length kept_touches.items) }
-    requires kept { All (IsKeptSpan shapes.now unmoved.now kept_touches.items) kept_spans.items }
-    requires same { IsTrue update.now.same → length kept_spans.items ≡ length pairs.now
-        → map (λ s. s.pair) kept_spans.items ≡ pairs.now }
-    requires places { AreMovedPlaces unmoved.now pairs.now update.now.moved_places.items }
-    ensures spans { IfOk result (λ found. found.points.spans.items
-        ≡ spans_from 0 shapes.now pairs.now) }
-    ensures touches { IfOk result
-        (λ found. found.points.touches.items ≡ flat_map (points_of_pair shapes.now) pairs.now) }
-    ensures computed { IfOk result (λ found. found.points.computed
-        ≡ computed_count_by_flags (map (λ s. s.pair) kept_spans.items) unmoved.now pairs.now) }
-    ensures same { IfOk result (λ found. HaveSameFirst found.same (map key_of kept_touches.items)
-        (map key_of found.points.touches.items)) }
+    requires shapes { placed.now.shapes ≡ placed_shapes scene.now.fixtures bodies.now }
+    requires bounds { length placed.now.bounds ≡ length bodies.now }
+    requires few { length bodies.now ≤ MAX_BODIES }
+    requires ascending { IsAscending (map (λ s. s.pair) slots.old) }
+    requires pairs { All (λ s. IsPairOf (length placed.now.bounds) s.pair) slots.old }
+    requires flags { length may_have_moved.now ≡ length placed.now.bounds }
+    requires others { All (HasStayed placed.now.bounds unmoved.now may_have_moved.now) slots.old }
+    requires kept { All (IsReusedSlot placed.now.shapes unmoved.now) slots.old }
+    ensures slots { IfOk result (λ _. slots.new
+        ≡ map (slot_of placed.now.bounds placed.now.shapes) (map (λ s. s.pair) slots.old)) }
+    ensures computed { IfOk result (λ refreshed. refreshed.computed
+        ≡ count_by (is_stale placed.now.bounds unmoved.now) slots.old) }
+    ensures keys { IfOk result (λ refreshed. IsTrue refreshed.same_keys
+        → map key_of (flat_map slot_touches slots.new)
+        ≡ map key_of (flat_map slot_touches slots.old)) }
 {
-    match computed_if_many(&kept_spans, unmoved, pairs, C::MANY) {
-        Some(computed) => points_at_once(collider, alloc, scene, bodies, pairs, computed),
-        None => updated_points(
-            alloc,
-            kept_spans,
-            kept_touches,
-            pairs,
-            update,
-            unmoved,
-            shapes,
-        ),
+    let stale = refresh(alloc, slots, may_have_moved, unmoved, placed.bounds())?;
+    let touches = collide_by(collider, alloc, scene, bodies, &stale.pairs)?;
+    let same_keys = fill(slots, &stale, &touches, placed.shapes());
+    Ok(Refreshed {
+        computed: stale.places.len(),
+        same_keys: same_keys & stale.same_touches,
+    })
+}
+
+/// The slots of the candidates: those that are kept, where the candidates are the same.
+fn slots_of(
+    alloc: Global,
+    kept: Vec<Slot>,
+    same: bool,
+    candidates: &[Pair],
+) -> Result<Vec<Slot>, AllocError>
+    requires rising { IsRising 0 (map (λ s. pair_rank s.pair) kept.items) }
+    requires bodies { All (λ s. IsPairOf MAX_BODIES s.pair) kept.items }
+    requires ascending { IsAscending candidates.now }
+    requires pairs { All (IsPairOf MAX_BODIES) candidates.now }
+    requires same { IsTrue same → map (carried_slot kept.items) candidates.now ≡ kept.items }
+    ensures slots { IfOk result
+        (λ slots. slots.items ≡ map (carried_slot kept.items) candidates.now) }
+    ensures same { IsTrue same → IfOk result (λ slots. slots.items ≡ kept.items) }
+{
+    if same {
+        return Ok(kept);
     }
+    carried_slots(alloc, &kept, candidates)
 }
 
 impl Manifolds {
-    ghost use Rattle.std.specs.Prelude.{◌≡◌, ◌<◌, [], length, map, All, IfOk, IsOk};
+    ghost use Rattle.std.specs.Prelude.{◌≡◌, ◌<◌, [], length, map, All, IfOk, IsOk, IsTrue};
     ghost use Rattle.pf_broad.specs.Pairs.{all_bounds, pairs};
     ghost use Rattle.pf_manifold.specs.Key.{AreTouches, key_of};
-    ghost use Rattle.pf_cache.specs.Contact.{HaveSameFirst};
+    ghost use Rattle.pf_manifold.specs.Touches.{IsTouchOf};
     ghost use Rattle.pf_cache.specs.PlacedBodies.{HaveStayed, bodies_of};
     ghost use Rattle.pf_cache.specs.Manifolds.{computed_count, kept_touches, manifolds_of, no_manifolds, placed_shapes};
-    ghost use Rattle.pf_cache.specs.Spans.{AreListedPlaces, AreSpansOf};
+    ghost use Rattle.pf_cache.specs.Points.{flagged_points};
 
     /// Nothing kept. Takes no memory.
     pub fn new(alloc: Global) -> Manifolds
@@ -272,27 +175,33 @@ impl Manifolds {
         Manifolds {
             placed: PlacedBodies::new(alloc),
             broad_phase: BroadPhase::new(alloc),
-            spans: Vec::new(alloc),
-            touches: Vec::new(alloc),
+            slots: Vec::new(alloc),
         }
     }
 
     /// The contact points, pair by pair, and those of one pair in ascending order of their
-    /// features.
-    pub fn touches(&self) -> &[Touch]
-        ensures value { result.now ≡ kept_touches self.now }
-        ensures order { AreTouches result.now }
+    /// features. Takes no memory where there are none.
+    pub fn touches(&self, alloc: Global) -> Result<Vec<Touch>, AllocError>
+        ensures value { IfOk result (λ touches. touches.items ≡ kept_touches self.now) }
+        ensures order { AreTouches (kept_touches self.now) }
+        ensures no_memory { kept_touches self.now ≡ [] → IsOk result }
     {
-        self.touches.as_slice()
+        touches_of(alloc, &self.slots)
     }
 
-    /// The pairs whose contact points are kept, and where the points of each stand in the list of
-    /// all.
-    pub fn spans(&self) -> &[Span]
-        ensures spans { AreSpansOf result.now (kept_touches self.now) }
-        ensures pairs { map (λ s. s.pair) result.now ≡ self.now.pairs }
+    /// The contact points with a body whose flag is set, each with its place among all. Takes no
+    /// memory where there are no contact points.
+    pub fn points_of(
+        &self,
+        alloc: Global,
+        flags: &[bool],
+    ) -> Result<Vec<(usize, Touch)>, AllocError>
+        requires { All (IsTouchOf (length flags.now)) (kept_touches self.now) }
+        ensures points { IfOk result
+            (λ points. points.items ≡ flagged_points flags.now (kept_touches self.now)) }
+        ensures no_memory { kept_touches self.now ≡ [] → IsOk result }
     {
-        self.spans.as_slice()
+        points_of(alloc, &self.slots, flags)
     }
 
     /// What `update` does where there are bodies.
@@ -314,53 +223,42 @@ impl Manifolds {
         ensures computed { IfOk result (λ found. found.collisions.computed
             ≡ computed_count self (placed_shapes scene.now.fixtures bodies.now)
             (pairs (all_bounds scene.now.fixtures bodies.now))) }
-        ensures same { IfOk result (λ found. HaveSameFirst found.same
-            (map key_of (kept_touches self))
-            (map key_of (kept_touches found.collisions.manifolds))) }
-        ensures places { IfOk result (λ found. AreListedPlaces moved.now
-            found.collisions.manifolds.pairs found.moved_places.items) }
+        ensures same_keys { IfOk result (λ found. IsTrue found.same_keys
+            → map key_of (kept_touches self)
+            ≡ map key_of (kept_touches found.collisions.manifolds)) }
     {
-        let count = self.placed.shapes().len();
-        let mut broad_phase = kept_for(alloc, self.broad_phase, count, bodies.len());
+        let before = self.placed.shapes().len();
         let (placed, unmoved) = self.placed.update(alloc, scene, bodies, moved)?;
-        let spans = self.spans;
-        let touches = self.touches;
-        let update = broad_phase.update(alloc, placed.bounds(), bodies, moved)?;
-        let pairs = broad_phase.pairs();
-        let shapes = placed.shapes();
-        let found = found_points(
-            collider, alloc, scene, bodies, spans, touches, pairs, &update, &unmoved, shapes,
+        let flags = moved_flags(alloc, before, bodies.len(), moved)?;
+        let mut broad_phase = self.broad_phase;
+        let same = broad_phase.update(alloc, placed.bounds(), bodies, moved)?;
+        let mut slots = slots_of(alloc, self.slots, same, broad_phase.candidates())?;
+        let refreshed = update_slots(
+            collider, alloc, scene, bodies, &mut slots, &flags, &unmoved, &placed,
         )?;
-        let same = found.same;
-        let computed = found.points.computed;
         let manifolds = Manifolds {
             placed,
             broad_phase,
-            spans: found.points.spans,
-            touches: found.points.touches,
+            slots,
         };
         let collisions = Collisions {
             manifolds,
-            computed,
+            computed: refreshed.computed,
         };
         Ok(FoundCollisions {
             collisions,
-            same,
-            moved_places: update.moved_places,
+            same_keys: refreshed.same_keys & same,
         })
     }
 
     /// The contact points of all pairs of bodies, at most one of them static, whose bounds overlap.
     /// The points of a pair that is kept are reused if both bodies still have the shape, position
     /// and rotation that they had. The other pairs cannot reuse kept points: theirs are computed,
-    /// and these pairs are counted. If these are many, and no fewer than the others, the collider
-    /// computes the points of all pairs at once. Only bodies of `moved` are compared with how they
-    /// stood: where as many bodies are kept, all others stand as they stood. An error drops what is
-    /// kept. Takes no memory where there are no bodies.
+    /// and these pairs are counted. The collider computes them if they are many. Only bodies of
+    /// `moved` are compared with how they stood: where as many bodies are kept, all others stand as
+    /// they stood; without any of them all stays as it is. An error drops what is kept. Takes no memory where there are no bodies.
     ///
-    /// `same` counts first points that have the keys of the first kept ones; no clause says that it
-    /// counts all of them. `moved_places` lists the places of the pairs with a body of `moved`, or
-    /// of all pairs; no clause says which of the two.
+    /// No clause says that `same_keys` is set wherever all points have the keys of the kept ones.
     pub fn update<C: Collider>(
         self,
         collider: &C,
@@ -379,11 +277,9 @@ impl Manifolds {
         ensures computed { IfOk result (λ found. found.collisions.computed
             ≡ computed_count self (placed_shapes scene.now.fixtures bodies.now)
             (pairs (all_bounds scene.now.fixtures bodies.now))) }
-        ensures same { IfOk result (λ found. HaveSameFirst found.same
-            (map key_of (kept_touches self))
-            (map key_of (kept_touches found.collisions.manifolds))) }
-        ensures places { IfOk result (λ found. AreListedPlaces moved.now
-            found.collisions.manifolds.pairs found.moved_places.items) }
+        ensures same_keys { IfOk result (λ found. IsTrue found.same_keys
+            → map key_of (kept_touches self)
+            ≡ map key_of (kept_touches found.collisions.manifolds)) }
         ensures no_memory { bodies.now ≡ [] → IsOk result }
     {
         if bodies.is_empty() {
@@ -393,8 +289,17 @@ impl Manifolds {
             };
             return Ok(FoundCollisions {
                 collisions,
-                same: 0,
-                moved_places: Vec::new(alloc),
+                same_keys: false,
+            });
+        }
+        if moved.is_empty() && self.placed.shapes().len() == bodies.len() {
+            let collisions = Collisions {
+                manifolds: self,
+                computed: 0,
+            };
+            return Ok(FoundCollisions {
+                collisions,
+                same_keys: true,
             });
         }
         self.update_some(collider, alloc, scene, bodies, moved)

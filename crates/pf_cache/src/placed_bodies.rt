@@ -6,7 +6,7 @@ ghost use Rattle.pf_broad.specs.Pairs.{all_bounds};
 ghost use Rattle.pf_broad.specs.Partners.{AreBodies};
 ghost use Rattle.pf_cache.specs.Manifolds.{placed_shapes, same_placed_shape, shape_of_body};
 ghost use Rattle.pf_cache.specs.PlacedBodies.{AreBoundsOf, HaveBounds, HaveStayed, PlacedBodies};
-ghost use Rattle.pf_cache.specs.Spans.{unmoved_flags};
+ghost use Rattle.pf_cache.specs.Slots.{unmoved_flags};
 
 use crate::kept_shape::{KeptShape, placed_shapes, unmoved_flags};
 use pf_broad::all_bounds;
@@ -108,7 +108,7 @@ impl PlacedBodies {
     ghost use Rattle.pf_shapes.specs.declared.scene.TheConstants.{MAX_BODIES};
     ghost use Rattle.pf_cache.specs.Manifolds.{placed_shapes};
     ghost use Rattle.pf_cache.specs.PlacedBodies.{HaveStayed, none_placed, placed_bodies};
-    ghost use Rattle.pf_cache.specs.Spans.{unmoved_flags};
+    ghost use Rattle.pf_cache.specs.Slots.{unmoved_flags};
 
     /// Of no bodies. Takes no memory.
     pub fn new(alloc: Global) -> PlacedBodies

@@ -1,7 +1,7 @@
 -- The rows of a tick.
-use Rattle.std.proofs.Common.{◌≡◌, ⊎_elim, ℕ, suc, ◌+◌, ◌<◌, ◌≤◌, Bool, true, false, not, ◌&&◌, ◌||◌, List, [], ◌∷◌, ◌++◌, Some, length, map, filter, take, take_all, get_or, cond, refl, ap, ap₂, sym, ◌∙◌, subst, arith, eqb-true, slice_get, if◌then◌else◌}
-use Rattle.std.proofs.lemmas.Bool.{and_parts, cases_lt}
-use Rattle.std.proofs.lemmas.List.{get_or_read, length-map}
+use Rattle.std.proofs.Common.{◌≡◌, ⊎_elim, ℕ, suc, ◌+◌, ◌<◌, Bool, true, false, not, ◌&&◌, ◌||◌, List, [], ◌∷◌, ◌++◌, Some, length, map, filter, get_or, cond, refl, ap, ap₂, sym, ◌∙◌, subst, arith, slice_get, if◌then◌else◌}
+use Rattle.std.proofs.lemmas.Bool.{cases_lt}
+use Rattle.std.proofs.lemmas.List.{get_or-map as get_or-mapped, length-map}
 use Rattle.std.proofs.lemmas.List.FromFn.{get_or-enumerate_from, get_or-map-range_with_len, length-enumerate_from, length-map-range_with_len}
 use Rattle.std.proofs.Math.ListN.{get_or-eq_default, get_or-map}
 use Rattle.std.proofs.lemmas.Simd.{map-map}
@@ -10,19 +10,18 @@ use Rattle.std.proofs.lemmas.List.Elements.{All-nil, All-cons, All-filter, All-h
 use Rattle.std.specs.List.{enumerate_from}
 use Rattle.std.specs.Prelude.{All}
 use Rattle.pf_shapes.specs.Body.{BodyState, no_state}
-use Rattle.pf_shapes.specs.Pair.{Pair}
 use Rattle.pf_shapes.specs.Scene.{Scene, is_static_at}
 use Rattle.pf_manifold.specs.Key.{AreTouches, IsKey, IsRising, key_of, rank}
 use Rattle.pf_manifold.specs.Touches.{IsTouchOf, Touch}
 use Rattle.pf_manifold.proofs.Rising.{rising-weaken}
 use Rattle.pf_rows.specs.declared.row.Side.TheVariants.{Static, Dynamic}
 use Rattle.pf_cache.specs.Contact.{Contact, no_contact}
-use Rattle.pf_cache.specs.Spans.{is_of_pair}
+use Rattle.pf_cache.specs.Points.{flagged_points, is_flagged}
 use Rattle.pf_rows.specs.Row.{AreApart, AreRows, IsSide, Row}
 use Rattle.pf_cache.specs.ContactRows.{AreRowsAt, IsRowAt}
-use Rattle.pf_islands.specs.Flags.{is_active_by, simulated_flags}
+use Rattle.pf_islands.specs.Flags.{simulated_flags}
 use Rattle.pf_islands.specs.Rows.{IsRowOf, active_points, active_rows, is_active_contact, is_awake_at, is_simulated_at, row_of, side_of}
-use Rattle.pf_islands.specs.Settled.{no_touch, touches_at}
+use Rattle.pf_islands.specs.Settled.{touches_of}
 
 -- functions that agree where P holds
 pub map_where : {X Y : Type 0} (P : X → Type 0) (f g : X → Y) → ((x : X) → P x → f x ≡ g x) → (xs : List X)
@@ -101,19 +100,9 @@ module _ (s : Scene) (bodies : List BodyState) where
 
 -- ---- rows
 
--- the row of the contact at a place
-abbrev pub row_at : Scene → List Touch → List Contact → ℕ → Row
-row_at s touches contacts place =
-    row_of s place (get_or touches place no_touch) (get_or contacts place no_contact)
-
--- the row of a contact point and a contact that are read at a place
-pub row_read : (s : Scene) (touches : List Touch) (contacts : List Contact) (place : ℕ) (t : Touch) (c : Contact)
-    → length contacts ≡ length touches → place < length touches → t ≡ get_or touches place t
-    → c ≡ get_or contacts place c → row_of s place t c ≡ row_at s touches contacts place
-row_read s touches contacts place t c same within t_is c_is =
-    let touch = get_or_read touches place t within t_is no_touch in
-    let contact = get_or_read contacts place c (omega (arith, same, within)) c_is no_contact in
-    ap₂ (row_of s place) touch contact
+-- the row of a contact point with its place, and the contact there
+abbrev pub row_at : Scene → List Contact → ℕ × Touch → Row
+row_at s contacts m = row_of s m.0 m.1 (get_or contacts m.0 no_contact)
 
 module _ (s : Scene) (bodies : List BodyState) where
   -- what holds of the row of each contact point that is simulated holds of all rows
@@ -129,70 +118,43 @@ module _ (s : Scene) (bodies : List BodyState) where
       (All-weaker (HoldsWhere P) (λ t. is_active_contact s bodies t ≡ true → (i : ℕ) → P (at (i, t)))
       (λ t here active i. here active i (get_or contacts i no_contact)) touches h))
 
--- the contact points that are simulated, by their places
-pub touches_at_places : (s : Scene) (bodies : List BodyState) (touches : List Touch)
-    → touches_at touches (map (λ (m : ℕ × Touch). m.0) (active_points s bodies touches))
-    ≡ filter (is_active_contact s bodies) touches
-touches_at_places s bodies touches =
-    map-map (λ place. get_or touches place no_touch) (λ (m : ℕ × Touch). m.0) (active_points s bodies touches)
-    ∙ map_where (StandsAt touches) (λ (m : ℕ × Touch). get_or touches m.0 no_touch) (λ (m : ℕ × Touch). m.1)
-    (λ m stands. get_or_from_slice_get touches m.0 m.1 no_touch stands)
-    (active_points s bodies touches) (points_stand s bodies touches)
-    ∙ seconds 0 touches
+-- the contact points that are simulated, without their places
+pub touches_of_active : (s : Scene) (bodies : List BodyState) (touches : List Touch)
+    → touches_of (active_points s bodies touches) ≡ filter (is_active_contact s bodies) touches
+touches_of_active s bodies = seconds 0
   where
-    seconds : (k : ℕ) (ts : List Touch) → map (λ (m : ℕ × Touch). m.1) (points_from s bodies k ts)
-        ≡ filter (is_active_contact s bodies) ts
+    seconds : (k : ℕ) (ts : List Touch) → touches_of (points_from s bodies k ts) ≡ filter (is_active_contact s bodies) ts
     seconds k [] = refl
     seconds k (t ∷ ts) = by (is_active_contact s bodies t) (seconds (k + 1) ts)
       where
-        by : (e : Bool) → map (λ (m : ℕ × Touch). m.1) (points_from s bodies (k + 1) ts) ≡ filter (is_active_contact s bodies) ts
-            → map (λ (m : ℕ × Touch). m.1) (cond e ((k, t) ∷ points_from s bodies (k + 1) ts) (points_from s bodies (k + 1) ts))
+        by : (e : Bool) → touches_of (points_from s bodies (k + 1) ts) ≡ filter (is_active_contact s bodies) ts
+            → touches_of (cond e ((k, t) ∷ points_from s bodies (k + 1) ts) (points_from s bodies (k + 1) ts))
             ≡ cond e (t ∷ filter (is_active_contact s bodies) ts) (filter (is_active_contact s bodies) ts)
         by true rest = ap (λ xs. t ∷ xs) rest
         by false rest = rest
 
 module _ (s : Scene) (bodies : List BodyState) (touches : List Touch) (contacts : List Contact) where
-  -- the place of a contact point that is simulated
-  abbrev place_of_point : ℕ × Touch → ℕ
-  place_of_point m = m.0
+  -- what holds of all rows holds of that of each point
+  pub row_holds : (P : Row → Type 0) (points : List (ℕ × Touch)) (k : ℕ) (m : ℕ × Touch)
+      → All P (active_rows s bodies touches contacts) → points ≡ active_points s bodies touches → k < length points
+      → P (row_at s contacts (get_or points k m))
+  row_holds P points k m all are within =
+      let at = row_at s contacts in
+      subst P (get_or-map at points k m)
+      (subst (λ ms. All P (map at ms)) (sym are) all k (at m) (omega (arith, length-map points at, within)))
 
-  -- the row of a contact point
-  abbrev row_of_point : ℕ × Touch → Row
-  row_of_point m = row_of s m.0 m.1 (get_or contacts m.0 no_contact)
+  -- places are within the list of all
+  points_within : All (λ (m : ℕ × Touch). m.0 < length touches) (active_points s bodies touches)
+  points_within =
+      All-weaker (StandsAt touches) (λ (m : ℕ × Touch). m.0 < length touches)
+      (λ m stands. slice_get_within touches m.0 m.1 stands) (active_points s bodies touches) (points_stand s bodies touches)
 
-  -- the rows are those of the contacts at the places
-  rows_at_places : map (row_at s touches contacts) (map place_of_point (active_points s bodies touches))
-      ≡ active_rows s bodies touches contacts
-  rows_at_places =
-      map-map (row_at s touches contacts) place_of_point (active_points s bodies touches)
-      ∙ map_where (StandsAt touches) (λ (m : ℕ × Touch). row_at s touches contacts m.0) row_of_point
-      (λ m stands.
-      ap (λ t. row_of s m.0 t (get_or contacts m.0 no_contact)) (get_or_from_slice_get touches m.0 m.1 no_touch stands))
-      (active_points s bodies touches) (points_stand s bodies touches)
-
-  -- what holds of all rows holds of the one at each place
-  pub row_holds : (P : Row → Type 0) (places : List ℕ) (k : ℕ) → All P (active_rows s bodies touches contacts)
-      → places ≡ map place_of_point (active_points s bodies touches) → k < length places
-      → P (row_at s touches contacts (get_or places k 0))
-  row_holds P places k all is within =
-      let at = row_at s touches contacts in
-      subst P (get_or-map at places k 0)
-      (subst (All P) (sym (ap (map at) is ∙ rows_at_places)) all k (at 0)
-      (omega (arith, length-map places at, within)))
-
-  -- all places have their rows
-  pub all_made : (places : List ℕ) (k : ℕ) (rows : List Row) → length places ≤ k
-      → places ≡ map place_of_point (active_points s bodies touches)
-      → rows ≡ map (row_at s touches contacts) (take k places) → rows ≡ active_rows s bodies touches contacts
-  all_made places k rows over places_are is =
-      is ∙ ap (map (row_at s touches contacts)) (take_all k places over ∙ places_are) ∙ rows_at_places
-
-  -- the places are within the list
-  pub places_within : All (λ place. place < length touches) (map place_of_point (active_points s bodies touches))
-  places_within =
-      All-map (λ place. place < length touches) place_of_point (active_points s bodies touches)
-      (All-weaker (StandsAt touches) (λ (m : ℕ × Touch). m.0 < length touches)
-      (λ m stands. slice_get_within touches m.0 m.1 stands) (active_points s bodies touches) (points_stand s bodies touches))
+  pub point_low : (points : List (ℕ × Touch)) (k : ℕ) (m : ℕ × Touch) → points ≡ active_points s bodies touches
+      → length contacts ≡ length touches → k < length points → m ≡ get_or points k m → m.0 < length contacts
+  point_low points k m are same within m_is =
+      let inside = subst (All (λ (n : ℕ × Touch). n.0 < length touches)) (sym are) points_within k m within in
+      let low : m.0 < length touches = subst (λ (n : ℕ × Touch). n.0 < length touches) (sym m_is) inside in
+      omega (arith, same, low)
 
   -- the rows are in the order of their keys
   pub rows_in_order : AreTouches touches → AreRows (active_rows s bodies touches contacts)
@@ -200,7 +162,7 @@ module _ (s : Scene) (bodies : List BodyState) (touches : List Touch) (contacts 
   rows_in_order order =
       let points = active_points s bodies touches in
       let same : map (λ (r : Row). r.entry.touch) (active_rows s bodies touches contacts) ≡ map (λ (m : ℕ × Touch). m.1) points =
-      map-map (λ (r : Row). r.entry.touch) row_of_point points in
+      map-map (λ (r : Row). r.entry.touch) (row_at s contacts) points in
       record {
         rising = rw same
             (rw (map-map (λ (t : Touch). rank (key_of t)) (λ (m : ℕ × Touch). m.1) points)
@@ -218,18 +180,18 @@ module _ (s : Scene) (bodies : List BodyState) (touches : List Touch) (contacts 
   unfolding row_of
   rows_beside keys same order = record {
     order = rows_in_order order;
-    places = All-map (IsRowAt contacts) row_of_point (active_points s bodies touches)
-        (All-weaker (StandsAt touches) (λ (m : ℕ × Touch). IsRowAt contacts (row_of_point m)) at
+    places = All-map (IsRowAt contacts) (row_at s contacts) (active_points s bodies touches)
+        (All-weaker (StandsAt touches) (λ (m : ℕ × Touch). IsRowAt contacts (row_at s contacts m)) at
         (active_points s bodies touches) (points_stand s bodies touches));
   }
     where
-      at : (m : ℕ × Touch) → StandsAt touches m → IsRowAt contacts (row_of_point m)
+      at : (m : ℕ × Touch) → StandsAt touches m → IsRowAt contacts (row_at s contacts m)
       at m stands = record {
         within = omega (arith, same, slice_get_within touches m.0 m.1 stands);
         key = sym (get_or-map (λ (c : Contact). c.key) contacts m.0 no_contact)
             ∙ ap (λ ks. get_or ks m.0 no_contact.key) keys
-            ∙ get_or-map key_of touches m.0 no_touch
-            ∙ ap key_of (get_or_from_slice_get touches m.0 m.1 no_touch stands);
+            ∙ get_or-mapped key_of touches m.0 m.1 no_contact.key (slice_get_within touches m.0 m.1 stands)
+            ∙ ap key_of (get_or_from_slice_get touches m.0 m.1 m.1 stands);
       }
 
   side_is : (n number : ℕ) → number < n → IsSide n (side_of s number)
@@ -279,15 +241,6 @@ asleep_not_simulated s bodies k asleep = ap (λ t. not (is_static_at s k) && t) 
     and_false true = refl
     and_false false = refl
 
--- an awake body is simulated where it is dynamic
-pub awake_simulated : (s : Scene) (bodies : List BodyState) (k : ℕ) → is_awake_at bodies k ≡ true
-    → is_simulated_at s bodies k ≡ not (is_static_at s k)
-awake_simulated s bodies k awake = ap (λ t. not (is_static_at s k) && t) awake ∙ and_true (not (is_static_at s k))
-  where
-    and_true : (t : Bool) → (t && true) ≡ t
-    and_true true = refl
-    and_true false = refl
-
 -- the flag of a body
 pub flag_at : (s : Scene) (bodies : List BodyState) (k : ℕ)
     → get_or (simulated_flags s bodies) k false ≡ is_simulated_at s bodies k
@@ -300,13 +253,63 @@ flag_at s bodies k =
     ∙ sym (asleep_not_simulated s bodies k (ap (λ (b : BodyState). b.awake) (get_or-eq_default bodies no_state beyond))))
     (cases_lt k (length bodies))
 
--- a contact is simulated as the flags say of its pair
-pub active_as_pair : (s : Scene) (bodies : List BodyState) (t : Touch) (p : Pair) → is_of_pair p t ≡ true
-    → is_active_contact s bodies t ≡ is_active_by (simulated_flags s bodies) p
+-- tests that agree choose the same
+filter_agree : {X : Type 0} (p q : X → Bool) → ((x : X) → p x ≡ q x) → (xs : List X) → filter p xs ≡ filter q xs
+filter_agree p q agree [] = refl
+filter_agree p q agree (x ∷ xs) = ap₂ (λ e rest. cond e (x ∷ rest) rest) (agree x) (filter_agree p q agree xs)
+
+-- the contact points with a flag of a simulated body are those that are simulated
+pub flagged_are_active : (s : Scene) (bodies : List BodyState) (touches : List Touch)
+    → flagged_points (simulated_flags s bodies) touches ≡ active_points s bodies touches
 unfolding is_active_contact
-active_as_pair s bodies t p own =
-    let same = and_parts _ _ own in
-    ap₂ (λ x y. x || y) (simulated t.a p.a (eqb-true t.a p.a same.0)) (simulated t.b p.b (eqb-true t.b p.b same.1))
+flagged_are_active s bodies touches =
+    filter_agree (λ (m : ℕ × Touch). is_flagged (simulated_flags s bodies) m.1)
+    (λ (m : ℕ × Touch). is_active_contact s bodies m.1)
+    (λ m. ap₂ (λ x y. x || y) (flag_at s bodies m.1.a) (flag_at s bodies m.1.b)) (enumerate_from 0 touches)
+
+-- where no body is awake, no contact point is simulated
+pub none_active : (s : Scene) (bodies : List BodyState) (touches : List Touch)
+    → ((k : ℕ) → is_awake_at bodies k ≡ false) → active_points s bodies touches ≡ []
+unfolding is_active_contact
+none_active s bodies touches asleep =
+    filter_agree (λ (m : ℕ × Touch). is_active_contact s bodies m.1) (λ m. false)
+    (λ m. ap₂ (λ x y. x || y) (none m.1.a) (none m.1.b)) (enumerate_from 0 touches)
+    ∙ nothing (enumerate_from 0 touches)
   where
-    simulated : (i j : ℕ) → i ≡ j → is_simulated_at s bodies i ≡ get_or (simulated_flags s bodies) j false
-    simulated i j e = ap (is_simulated_at s bodies) e ∙ sym (flag_at s bodies j)
+    none : (k : ℕ) → is_simulated_at s bodies k ≡ false
+    none k = asleep_not_simulated s bodies k (asleep k)
+
+    nothing : (ms : List (ℕ × Touch)) → filter (λ (m : ℕ × Touch). false) ms ≡ []
+    nothing [] = refl
+    nothing (m ∷ ms) = nothing ms
+
+-- where all flags are set, all contact points have one
+pub all_flagged : (flags : List Bool) (points : List (ℕ × Touch)) (touches : List Touch) → All (λ e. e ≡ true) flags
+    → All (IsTouchOf (length flags)) touches → points ≡ flagged_points flags touches → touches_of points ≡ touches
+all_flagged flags points touches set all are = ap touches_of are ∙ every 0 touches all
+  where
+    chosen : ℕ → List Touch → List (ℕ × Touch)
+    chosen k ts = filter (λ (m : ℕ × Touch). is_flagged flags m.1) (enumerate_from k ts)
+
+    every : (k : ℕ) (ts : List Touch) → All (IsTouchOf (length flags)) ts → touches_of (chosen k ts) ≡ ts
+    every k [] of = refl
+    every k (t ∷ ts) of =
+        let is = All-head (IsTouchOf (length flags)) t ts of in
+        ap (λ e. touches_of (cond (e || get_or flags t.b false) ((k, t) ∷ chosen (k + 1) ts) (chosen (k + 1) ts)))
+        (set t.a false (omega (arith, is.0, is.1)))
+        ∙ ap (λ xs. t ∷ xs) (every (k + 1) ts (All-tail (IsTouchOf (length flags)) t ts of))
+
+-- what holds of contact points holds with their places
+pub of_points : (P : Touch → Type 0) (points : List (ℕ × Touch)) → All P (touches_of points) → All (λ (m : ℕ × Touch). P m.1) points
+of_points P points all =
+    λ i d within.
+    let second : ℕ × Touch → Touch = λ m. m.1 in
+    subst P (get_or-map second points i d) (all i d.1 (omega (arith, length-map points second, within)))
+
+-- what holds of all contact points holds of those that are simulated
+pub of_active : (s : Scene) (bodies : List BodyState) (touches : List Touch) (points : List (ℕ × Touch)) (P : Touch → Type 0)
+    → points ≡ active_points s bodies touches → All P touches → All (λ (m : ℕ × Touch). P m.1) points
+of_active s bodies touches points P are all =
+    of_points P points
+    (subst (All P) (sym (ap touches_of are ∙ touches_of_active s bodies touches))
+    (All-filter (is_active_contact s bodies) P touches all))

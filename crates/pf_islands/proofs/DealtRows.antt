@@ -10,37 +10,38 @@ use Rattle.pf_rows.specs.Row.{Row}
 use Rattle.pf_islands.specs.Dealing.{ArePlaces, AreSlots, HasIsland, group_of_row, placed_row, slot_of, with_row}
 use Rattle.pf_islands.specs.Group.{groups}
 use Rattle.pf_islands.specs.Rows.{active_points, row_of}
-use Rattle.pf_islands.specs.Settled.{AreSettled, touches_at}
+use Rattle.pf_islands.specs.Settled.{AreSettled, touches_of}
 use Rattle.pf_islands.specs.Split.{AreWoken, IsActiveRow, Island, active_labels, is_active_label, no_island}
 use Rattle.pf_islands.proofs.ActiveRows.{row_at}
 use Rattle.pf_islands.proofs.Dealing.{full_part, group_active, row_dealt, slot_within}
 use Rattle.pf_islands.proofs.SettledGroups.{labels_low, labels_rows, labels_woken}
 use Rattle.pf_islands.proofs.Together.{read_row_is_active}
 
-module _ (s : Scene) (bodies : List BodyState) (touches : List Touch) (contacts : List Contact) (labels items slots : List ℕ)
+module _ (s : Scene) (bodies : List BodyState) (touches : List Touch) (contacts : List Contact)
+    (points : List (ℕ × Touch)) (labels slots : List ℕ)
     (count : length bodies ≡ length s.fixtures) (settled : AreSettled s bodies touches)
     (of : All (IsTouchOf (length bodies)) touches) (as_many : length contacts ≡ length touches)
-    (are : items ≡ map (λ (m : ℕ × Touch). m.0) (active_points s bodies touches))
-    (labelled : labels ≡ groups s (touches_at touches items)) (slotted : AreSlots labels bodies slots)
-    (k : ℕ) (t : Touch) (c : Contact) (within : k < length items)
-    (t_is : t ≡ get_or touches (get_or items k 0) t) (c_is : c ≡ get_or contacts (get_or items k 0) c) where
+    (are : points ≡ active_points s bodies touches)
+    (labelled : labels ≡ groups s (touches_of points)) (slotted : AreSlots labels bodies slots)
+    (k : ℕ) (m : ℕ × Touch) (c : Contact) (within : k < length points)
+    (m_is : m ≡ get_or points k m) (c_is : c ≡ get_or contacts m.0 c) where
   abbrev row : Row
-  row = row_of s (get_or items k 0) t c
+  row = row_of s m.0 m.1 c
 
   -- the rows of the first contacts
   abbrev first_rows : ℕ → List Row
-  first_rows n = map (row_at s touches contacts) (take n items)
+  first_rows n = map (row_at s contacts) (take n points)
 
   low : All (λ label. label < length labels) labels
-  low = labels_low s bodies touches count settled labels items are labelled
+  low = labels_low s bodies touches count settled labels points are labelled
 
   woken : AreWoken labels bodies
-  woken = labels_woken s bodies touches count settled labels items are labelled
+  woken = labels_woken s bodies touches count settled labels points are labelled
 
-  read : IsActiveRow labels bodies row × (row ≡ row_at s touches contacts (get_or items k 0))
+  read : IsActiveRow labels bodies row × (row ≡ row_at s contacts (get_or points k m))
   read =
-      read_row_is_active s touches bodies contacts labels items k t c
-      (labels_rows s bodies touches count settled labels items are labelled contacts of) as_many are within t_is c_is
+      read_row_is_active s touches bodies contacts labels points k m c
+      (labels_rows s bodies touches count settled labels points are labelled contacts of) as_many are within m_is c_is
 
   own : (group_of_row labels row < length labels) × (is_active_label labels bodies (group_of_row labels row) ≡ true)
   own = group_active labels bodies row low woken read.0
@@ -65,4 +66,4 @@ module _ (s : Scene) (bodies : List BodyState) (touches : List Touch) (contacts 
         row_dealt labels bodies (first_rows k) row places now after low woken noted read.0 now_is
         (after_is ∙ ap (λ n. set now n (with_row (placed_row places row) (get_or now n no_island))) slot)
         ∙ ap (λ (rows : List Row). map (full_part labels bodies rows) (active_labels labels bodies))
-        (ap (λ (r : Row). first_rows k ++ r ∷ []) read.1 ∙ sym (map_more (row_at s touches contacts) items k 0 within))
+        (ap (λ (r : Row). first_rows k ++ r ∷ []) read.1 ∙ sym (map_more (row_at s contacts) points k m within))

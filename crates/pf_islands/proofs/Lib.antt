@@ -8,7 +8,6 @@ pub mod Chains
 pub mod Looked
 pub mod Sleeping
 pub mod ActiveRows
-pub mod ActiveSpans
 pub mod Listed
 pub mod Members
 pub mod Dealing

@@ -9,7 +9,7 @@ use Rattle.pf_manifold.specs.Touches.{Touch}
 use Rattle.pf_islands.specs.Forest.{IsForest}
 use Rattle.pf_islands.specs.Group.{group, merged_label}
 use Rattle.pf_islands.specs.Reach.{connects}
-use Rattle.pf_islands.specs.Settled.{no_touch, touches_at}
+use Rattle.pf_islands.specs.Settled.{touches_of}
 use Rattle.pf_islands.proofs.Chains.{linked_one_name}
 
 -- roots that agree
@@ -25,29 +25,20 @@ pub passed_more : (all rest less passed : List Touch) (t : Touch) → rest ≡ l
 passed_more all rest less passed t step were =
     were ∙ ap (λ xs. xs ++ passed) step ∙ append_assoc less (t ∷ []) passed
 
--- and so is the point at the last of the places that are left
-pub place_more : (touches : List Touch) (rest less : List ℕ) (place : ℕ) (t : Touch) → rest ≡ less ++ place ∷ []
-    → t ≡ get_or touches place no_touch → touches_at touches rest ≡ touches_at touches less ++ t ∷ []
-place_more touches rest less place t step is =
-    ap (touches_at touches) step
-    ∙ map-append (λ p. get_or touches p no_touch) less (place ∷ [])
-    ∙ ap (λ x. touches_at touches less ++ x ∷ []) (sym is)
+-- and so is the last of the points with places that are left
+pub point_more : (rest less : List (ℕ × Touch)) (m : ℕ × Touch) → rest ≡ less ++ m ∷ []
+    → touches_of rest ≡ touches_of less ++ m.1 ∷ []
+point_more rest less m step = ap touches_of step ∙ map-append (λ (n : ℕ × Touch). n.1) less (m ∷ [])
 
--- what holds of all places holds of the last, and of those before it
-pub at_last : (P : ℕ → Type 0) (rest less : List ℕ) (place : ℕ) → rest ≡ less ++ place ∷ [] → All P rest → P place
-at_last P rest less place step all = last less (subst (All P) step all)
+-- what holds of all points holds of those before the last
+pub all_before : (P : ℕ × Touch → Type 0) (rest less : List (ℕ × Touch)) (m : ℕ × Touch) → rest ≡ less ++ m ∷ [] → All P rest
+    → All P less
+all_before P rest less m step all = before less (subst (All P) step all)
   where
-    last : (ps : List ℕ) → All P (ps ++ place ∷ []) → P place
-    last [] h = All-head P place [] h
-    last (p ∷ ps) h = last ps (All-tail P p (ps ++ place ∷ []) h)
-
-pub all_before : (P : ℕ → Type 0) (rest less : List ℕ) (place : ℕ) → rest ≡ less ++ place ∷ [] → All P rest → All P less
-all_before P rest less place step all = before less (subst (All P) step all)
-  where
-    before : (ps : List ℕ) → All P (ps ++ place ∷ []) → All P ps
+    before : (ms : List (ℕ × Touch)) → All P (ms ++ m ∷ []) → All P ms
     before [] h = All-nil P
-    before (p ∷ ps) h =
-        All-cons P p ps (All-head P p (ps ++ place ∷ []) h) (before ps (All-tail P p (ps ++ place ∷ []) h))
+    before (n ∷ ms) h =
+        All-cons P n ms (All-head P n (ms ++ m ∷ []) h) (before ms (All-tail P n (ms ++ m ∷ []) h))
 
 -- all points are passed
 pub passed_all : (all rest passed : List Touch) → rest ≡ [] → all ≡ rest ++ passed → passed ≡ all

@@ -15,10 +15,10 @@ use Rattle.pf_islands.specs.Flags.{awake_numbers}
 use Rattle.pf_islands.specs.Group.{groups}
 use Rattle.pf_islands.specs.Island.{group_members}
 use Rattle.pf_islands.specs.Lone.{group_of_touch, is_dealt, is_made, lone_numbers, made_islands, only_awake}
-use Rattle.pf_islands.specs.Rows.{active_rows, is_active_contact, is_awake_at}
-use Rattle.pf_islands.specs.Settled.{AreSettled, active_places, touches_at}
+use Rattle.pf_islands.specs.Rows.{active_points, active_rows, is_active_contact, is_awake_at}
+use Rattle.pf_islands.specs.Settled.{AreSettled, touches_of}
 use Rattle.pf_islands.specs.Split.{Island, active_labels, is_active_label, island_of, islands}
-use Rattle.pf_islands.proofs.ActiveRows.{touches_at_places}
+use Rattle.pf_islands.proofs.ActiveRows.{touches_of_active}
 use Rattle.pf_islands.proofs.Lone.{group_has_rows, lone_numbers_are, seen_islands, seen_long, seen_numbers, seen_same, touched_islands}
 use Rattle.pf_islands.proofs.LoneGroups.{has_touch, lone_are, rows_of_group, same_act, same_points, same_rows, still_settled}
 use Rattle.pf_islands.proofs.SettledGroups.{chosen_rows, chosen_woken, filter_same, islands_same}
@@ -46,7 +46,7 @@ module _ (s : Scene) (bodies : List BodyState) (touches : List Touch) (contacts 
         → get_or bodies k no_state ≡ get_or (only_awake numbers bodies) k no_state
     pub settled : AreSettled s (only_awake numbers bodies) touches
     pub numbers_are : numbers ≡ awake_numbers (only_awake numbers bodies)
-    pub places : active_places s bodies touches ≡ active_places s (only_awake numbers bodies) touches
+    pub points : active_points s bodies touches ≡ active_points s (only_awake numbers bodies) touches
     pub made :
         islands (groups s touches) (only_awake numbers bodies) (active_rows s (only_awake numbers bodies) touches contacts)
         ≡ made_islands lone all
@@ -129,7 +129,7 @@ module _ (s : Scene) (bodies : List BodyState) (touches : List Touch) (contacts 
               states = seen_same labels bodies (q lone) numbers numbers_are;
               settled = still;
               numbers_are = seen_numbers labels bodies (q lone) numbers numbers_are;
-              places = sym (ap (map (λ (m : ℕ × Touch). m.0)) (same_points s bodies touches count settled of (q lone) numbers numbers_are (has lone)));
+              points = sym (same_points s bodies touches count settled of (q lone) numbers numbers_are (has lone));
               made = ap (islands (groups s touches) seen) (same_rows s bodies touches count settled of (q lone) numbers numbers_are (has lone) contacts)
                   ∙ sym (islands_same s seen touches (long ∙ count) still rows)
                   ∙ ap (λ ls. islands ls seen rows) same_labels
@@ -140,15 +140,15 @@ module _ (s : Scene) (bodies : List BodyState) (touches : List Touch) (contacts 
             }
 
     -- the labels as the code has them
-    pub parted : (labels places counts numbers alone : List ℕ)
-        → places ≡ active_places s bodies touches → labels ≡ groups s (touches_at touches places)
+    pub parted : (labels counts numbers alone : List ℕ) (points : List (ℕ × Touch))
+        → points ≡ active_points s bodies touches → labels ≡ groups s (touches_of points)
         → ((label : ℕ) → label < length labels → (get_or counts label 0 == 0)
-        ≡ not (list_any (λ t. group_of_touch s labels t == label) (touches_at touches places)))
+        ≡ not (list_any (λ t. group_of_touch s labels t == label) (touches_of points)))
         → numbers ≡ filter (λ n. is_dealt lone (get_or counts (get_or labels n 0) 0)) (awake_numbers bodies)
         → alone ≡ filter (λ n. not (is_dealt lone (get_or counts (get_or labels n 0) 0))) (awake_numbers bodies)
         → IsParted numbers alone
-    parted labels places counts numbers alone are labelled counted numbers_are alone_are =
-        let ts : touches_at touches places ≡ chosen = ap (touches_at touches) are ∙ touches_at_places s bodies touches in
+    parted labels counts numbers alone points are labelled counted numbers_are alone_are =
+        let ts : touches_of points ≡ chosen = ap touches_of are ∙ touches_of_active s bodies touches in
         let ls : labels ≡ groups s chosen = labelled ∙ ap (groups s) ts in
         parted_chosen counts numbers alone
         (subst
@@ -156,6 +156,6 @@ module _ (s : Scene) (bodies : List BodyState) (touches : List Touch) (contacts 
         ≡ not (list_any (λ t. group_of_touch s (groups s chosen) t == label) us)) ts
         (subst
         (λ (ns : List ℕ). (label : ℕ) → label < length ns → (get_or counts label 0 == 0)
-        ≡ not (list_any (λ t. group_of_touch s ns t == label) (touches_at touches places))) ls counted))
+        ≡ not (list_any (λ t. group_of_touch s ns t == label) (touches_of points))) ls counted))
         (numbers_are ∙ ap (λ (ns : List ℕ). filter (λ n. is_dealt lone (get_or counts (get_or ns n 0) 0)) (awake_numbers bodies)) ls)
         (alone_are ∙ ap (λ (ns : List ℕ). filter (λ n. not (is_dealt lone (get_or counts (get_or ns n 0) 0))) (awake_numbers bodies)) ls)

@@ -1,10 +1,8 @@
 -- Where no contact wakes a body, the groups of the contacts that are simulated are enough.
-use Rattle.std.proofs.Common.{◌≡◌, ◌∙◌, ◌⊎◌, inl, inr, ⊎_elim, ℕ, ◌+◌, ◌<◌, ◌==◌, Bool, true, false, not, ◌&&◌, ◌||◌, List, [], ◌∷◌, length, map, option_map, filter, get_or, cond, max, min, take, refl, sym, ap, ap₂, subst, arith}
+use Rattle.std.proofs.Common.{◌≡◌, ◌∙◌, ◌⊎◌, inl, inr, ⊎_elim, ℕ, ◌<◌, ◌==◌, Bool, true, false, not, ◌&&◌, ◌||◌, List, [], ◌∷◌, length, map, option_map, filter, get_or, cond, max, min, refl, sym, ap, ap₂, subst, arith}
 use Rattle.std.proofs.lemmas.Bool.{and_from, and_parts, cases_lt, cond_both, cond-false, cond-true, eq-eqb, eqb-true, false_from_ne_true, ne_eqb, true≢false}
-use Rattle.std.proofs.lemmas.List.{ext_get_or, get_or-map, get_or_read, length-map, map_more, nil_from_length}
+use Rattle.std.proofs.lemmas.List.{ext_get_or, length-map, nil_from_length}
 use Rattle.std.proofs.lemmas.List.Elements.{All-cons, All-head, All-nil, All-tail, All-weaker}
-use Rattle.std.proofs.lemmas.List.Folds.{list_all-append, list_all_at}
-use Rattle.std.proofs.lemmas.List.FromFn.{get_or-map-range_with_len, length-map-range_with_len}
 use Rattle.std.proofs.lemmas.Option.{get_or_from_slice_get, slice_get-get_or, slice_get-map}
 use Rattle.std.specs.List.{list_all, range_with_len, zip}
 use Rattle.std.specs.Prelude.{All}
@@ -20,10 +18,11 @@ use Rattle.pf_islands.specs.Group.{OthersAreAlone, group, groups, merged_label}
 use Rattle.pf_islands.specs.Island.{group_members}
 use Rattle.pf_islands.specs.Reach.{connects}
 use Rattle.pf_islands.specs.Rows.{active_points, active_rows, is_active_contact, is_awake_at}
-use Rattle.pf_islands.specs.Settled.{AreSettled, no_touch, touches_at, wakes_none}
+use Rattle.pf_islands.specs.Settled.{AreSettled, touches_of, wakes_none}
 use Rattle.pf_islands.specs.Sleep.{is_active, woken_bodies}
+use Rattle.pf_islands.specs.Splitting.{group_islands, point_islands}
 use Rattle.pf_islands.specs.Split.{AreTogether, AreWoken, IsActiveRow, active_labels, is_active_label, island_of, islands}
-use Rattle.pf_islands.proofs.ActiveRows.{map_where, touches_at_places}
+use Rattle.pf_islands.proofs.ActiveRows.{map_where, row_at, touches_of_active}
 use Rattle.pf_islands.proofs.Elements.{zip_at, zip_length}
 use Rattle.pf_islands.proofs.Looked.{any_found, any_from}
 use Rattle.pf_cache.proofs.ChosenNumbers.{chosen_pass, range_within}
@@ -455,13 +454,13 @@ woken_settled s touches bodies count of = λ k d within active.
 
 -- ---- what code tests
 
--- where the contacts at these places wake no body, bodies are settled
-pub settled_from : (s : Scene) (bodies : List BodyState) (touches : List Touch) (places : List ℕ)
-    → places ≡ map (λ (m : ℕ × Touch). m.0) (active_points s bodies touches)
-    → list_all (wakes_none s bodies) (touches_at touches places) ≡ true → AreSettled s bodies touches
-settled_from s bodies touches places are all =
+-- where the contacts that are simulated wake no body, bodies are settled
+pub settled_from : (s : Scene) (bodies : List BodyState) (touches : List Touch) (points : List (ℕ × Touch))
+    → points ≡ active_points s bodies touches
+    → list_all (wakes_none s bodies) (touches_of points) ≡ true → AreSettled s bodies touches
+settled_from s bodies touches points are all =
     every touches
-    (ap (list_all (wakes_none s bodies)) (sym (ap (touches_at touches) are ∙ touches_at_places s bodies touches)) ∙ all)
+    (ap (list_all (wakes_none s bodies)) (sym (ap touches_of are ∙ touches_of_active s bodies touches)) ∙ all)
   where
     holds : Touch → Type 0
     holds t = is_active_contact s bodies t ≡ true → wakes_none s bodies t ≡ true
@@ -481,14 +480,14 @@ settled_from s bodies touches places are all =
 
 -- the contacts that are simulated leave each sleeping body alone in its group
 pub others_alone : (s : Scene) (bodies : List BodyState) (touches : List Touch) → length bodies ≡ length s.fixtures
-    → AreSettled s bodies touches → (places numbers : List ℕ)
-    → places ≡ map (λ (m : ℕ × Touch). m.0) (active_points s bodies touches) → numbers ≡ awake_numbers bodies
-    → OthersAreAlone s (touches_at touches places) numbers
-others_alone s bodies touches count settled places numbers are awake = record {
+    → AreSettled s bodies touches → (points : List (ℕ × Touch)) (numbers : List ℕ)
+    → points ≡ active_points s bodies touches → numbers ≡ awake_numbers bodies
+    → OthersAreAlone s (touches_of points) numbers
+others_alone s bodies touches count settled points numbers are awake = record {
   is_listed = is_awake_at bodies;
   listed = awake ∙ ap (λ n. filter (is_awake_at bodies) (range_with_len 0 n)) count;
   others = λ i within asleep.
-      ap (λ ts. group s ts i) (ap (touches_at touches) are ∙ touches_at_places s bodies touches)
+      ap (λ ts. group s ts i) (ap touches_of are ∙ touches_of_active s bodies touches)
       ∙ chosen_alone s bodies touches count settled i asleep;
 }
 
@@ -505,13 +504,12 @@ all_listed s touches numbers are = record {
     every [] = refl
     every (x ∷ xs) = ap (λ ys. x ∷ ys) (every xs)
 
--- the labels by the contacts at the places of those that are simulated
+-- the labels by the contacts that are simulated
 module _ (s : Scene) (bodies : List BodyState) (touches : List Touch) (count : length bodies ≡ length s.fixtures)
-    (settled : AreSettled s bodies touches) (labels places : List ℕ)
-    (are : places ≡ map (λ (m : ℕ × Touch). m.0) (active_points s bodies touches))
-    (labelled : labels ≡ groups s (touches_at touches places)) where
+    (settled : AreSettled s bodies touches) (labels : List ℕ) (points : List (ℕ × Touch))
+    (are : points ≡ active_points s bodies touches) (labelled : labels ≡ groups s (touches_of points)) where
   labels_are : labels ≡ groups s (filter (is_active_contact s bodies) touches)
-  labels_are = labelled ∙ ap (groups s) (ap (touches_at touches) are ∙ touches_at_places s bodies touches)
+  labels_are = labelled ∙ ap (groups s) (ap touches_of are ∙ touches_of_active s bodies touches)
 
   pub labels_woken : AreWoken labels bodies
   labels_woken = subst (λ ns. AreWoken ns bodies) (sym labels_are) (chosen_woken s bodies touches count settled)
@@ -527,39 +525,17 @@ module _ (s : Scene) (bodies : List BodyState) (touches : List Touch) (count : l
       ap (λ ns. islands ns bodies rows) labels_are ∙ islands_same s bodies touches count settled rows
 
   pub labels_long : length labels ≡ length bodies
-  labels_long = ap length labelled ∙ groups_long s (touches_at touches places) ∙ sym count
+  labels_long = ap length labelled ∙ groups_long s (touches_of points) ∙ sym count
 
   pub labels_low : All (λ label. label < length labels) labels
-  labels_low = subst (λ ns. All (λ label. label < length ns) ns) (sym labelled) (groups_named s (touches_at touches places))
+  labels_low = subst (λ ns. All (λ label. label < length ns) ns) (sym labelled) (groups_named s (touches_of points))
 
--- all places have all contact points
-pub touches_at_all : (touches : List Touch) → touches_at touches (range_with_len 0 (length touches)) ≡ touches
-touches_at_all touches =
-    ext_get_or no_touch (touches_at touches (range_with_len 0 (length touches))) touches long
-    (λ i inside. get_or-map-range_with_len (λ place. get_or touches place no_touch) 0 (length touches) i i no_touch
-    (omega (arith, inside, long)) (omega arith))
-  where
-    long : length (touches_at touches (range_with_len 0 (length touches))) ≡ length touches
-    long = length-map-range_with_len (λ place. get_or touches place no_touch) 0 (length touches)
-
--- one place more whose contact point passes
-pub all_more : (q : Touch → Bool) (touches : List Touch) (places : List ℕ) (k : ℕ) (t : Touch) → k < length places
-    → get_or places k 0 < length touches → t ≡ get_or touches (get_or places k 0) t
-    → list_all q (touches_at touches (take k places)) ≡ true → q t ≡ true
-    → list_all q (touches_at touches (take (k + 1) places)) ≡ true
-all_more q touches places k t inside within is before passes =
-    ap (list_all q) (map_more (λ place. get_or touches place no_touch) places k 0 inside)
-    ∙ list_all-append q (touches_at touches (take k places)) (get_or touches (get_or places k 0) no_touch ∷ [])
-    ∙ and_from _ _ before
-    (and_from _ true (ap q (sym (get_or_read touches (get_or places k 0) t within is no_touch)) ∙ passes) refl)
-
--- a place whose contact point does not pass
-pub not_all : (q : Touch → Bool) (touches : List Touch) (places : List ℕ) (k : ℕ) (t : Touch) → k < length places
-    → get_or places k 0 < length touches → t ≡ get_or touches (get_or places k 0) t → q t ≡ false
-    → list_all q (touches_at touches places) ≡ false
-not_all q touches places k t inside within is fails =
-    let read : ℕ → Touch = λ place. get_or touches place no_touch in
-    let long = length-map places read in
-    list_all_at q (map read places) k no_touch (omega (arith, inside, long))
-    (ap q (get_or-map read places k 0 no_touch inside ∙ sym (get_or_read touches (get_or places k 0) t within is no_touch))
-    ∙ fails)
+-- the islands of the contact points that are simulated are those of all
+pub same_islands : (s : Scene) (bodies : List BodyState) (touches : List Touch) (contacts : List Contact)
+    → length bodies ≡ length s.fixtures → AreSettled s bodies touches → (points : List (ℕ × Touch))
+    → points ≡ active_points s bodies touches
+    → point_islands s bodies points contacts ≡ group_islands s bodies touches contacts
+same_islands s bodies touches contacts count settled points are =
+    labels_islands s bodies touches count settled (groups s (touches_of points)) points are refl
+    (map (row_at s contacts) points)
+    ∙ ap (λ ms. islands (groups s touches) bodies (map (row_at s contacts) ms)) are

@@ -2,6 +2,7 @@
 -- body.
 use Rattle.std.proofs.Common.{◌≡◌, ◌∙◌, inl, inr, ℕ, zero, suc, ◌<◌, ◌==◌, Bool, true, false, not, ◌&&◌, List, [], ◌∷◌, Some, length, map, option_map, get_or, refl, sym, ap, subst, arith, slice_get, if◌then◌else◌}
 use Rattle.std.proofs.lemmas.Bool.{and_from, and_parts, eq-eqb}
+use Rattle.std.proofs.lemmas.List.{get_or_read}
 use Rattle.std.proofs.lemmas.List.FromFn.{get_or-map-range_with_len}
 use Rattle.std.proofs.lemmas.Option.{get_or_from_slice_get, slice_get-get_or, slice_get-map}
 use Rattle.std.specs.List.{zip}
@@ -10,14 +11,14 @@ use Rattle.pf_shapes.specs.Body.{BodyState, no_state}
 use Rattle.pf_shapes.specs.Scene.{Scene, is_static_at}
 use Rattle.pf_manifold.specs.Touches.{IsTouchOf, Touch}
 use Rattle.pf_rows.specs.declared.row.Side.TheVariants.{Static, Dynamic}
-use Rattle.pf_cache.specs.Contact.{Contact}
+use Rattle.pf_cache.specs.Contact.{Contact, no_contact}
 use Rattle.pf_rows.specs.Row.{IsSide}
 use Rattle.pf_islands.specs.Group.{group, groups}
 use Rattle.pf_islands.specs.Reach.{AreNeighbours, ConnectsBodies, connects}
 use Rattle.pf_islands.specs.Rows.{active_points, active_rows, is_active_contact, is_awake_at, is_simulated_at, row_of, side_of}
 use Rattle.pf_islands.specs.Sleep.{is_active, woken_bodies}
 use Rattle.pf_islands.specs.Split.{AreTogether, AreWoken, IsActiveRow, is_active_label, is_awake_side}
-use Rattle.pf_islands.proofs.ActiveRows.{all_rows, places_within, row_at, row_holds, row_read}
+use Rattle.pf_islands.proofs.ActiveRows.{all_rows, point_low, row_at, row_holds}
 use Rattle.pf_islands.proofs.Chains.{one_name, reaches_name}
 use Rattle.pf_islands.proofs.Elements.{same_element, zip_at}
 use Rattle.pf_islands.proofs.Starting.{group_low, groups_long}
@@ -151,15 +152,16 @@ module _ (s : Scene) (touches : List Touch) where
 
   -- the row of a contact point and a contact that are read at a place of a contact that is simulated,
   -- where all rows are of these labels
-  pub read_row_is_active : (bodies : List BodyState) (contacts : List Contact) (labels places : List ℕ) (k : ℕ)
-      (t : Touch) (c : Contact) → All (IsActiveRow labels bodies) (active_rows s bodies touches contacts)
-      → length contacts ≡ length touches
-      → places ≡ map (λ (m : ℕ × Touch). m.0) (active_points s bodies touches)
-      → k < length places → t ≡ get_or touches (get_or places k 0) t → c ≡ get_or contacts (get_or places k 0) c
-      → IsActiveRow labels bodies (row_of s (get_or places k 0) t c)
-      × (row_of s (get_or places k 0) t c ≡ row_at s touches contacts (get_or places k 0))
-  read_row_is_active bodies contacts labels places k t c active same are within t_is c_is =
-      let inside = subst (All (λ place. place < length touches)) (sym are) (places_within s bodies touches contacts) in
-      let at = row_read s touches contacts (get_or places k 0) t c same (inside k 0 within) t_is c_is in
-      let holds = row_holds s bodies touches contacts (IsActiveRow labels bodies) places k active are within in
+  pub read_row_is_active : (bodies : List BodyState) (contacts : List Contact) (labels : List ℕ) (points : List (ℕ × Touch))
+      (k : ℕ) (m : ℕ × Touch) (c : Contact) → All (IsActiveRow labels bodies) (active_rows s bodies touches contacts)
+      → length contacts ≡ length touches → points ≡ active_points s bodies touches
+      → k < length points → m ≡ get_or points k m → c ≡ get_or contacts m.0 c
+      → IsActiveRow labels bodies (row_of s m.0 m.1 c)
+      × (row_of s m.0 m.1 c ≡ row_at s contacts (get_or points k m))
+  read_row_is_active bodies contacts labels points k m c active same are within m_is c_is =
+      let low = point_low s bodies touches contacts points k m are same within m_is in
+      let at : row_of s m.0 m.1 c ≡ row_at s contacts (get_or points k m) =
+      ap (row_of s m.0 m.1) (get_or_read contacts m.0 c low c_is no_contact)
+      ∙ ap (row_at s contacts) m_is in
+      let holds = row_holds s bodies touches contacts (IsActiveRow labels bodies) points k m active are within in
       (subst (IsActiveRow labels bodies) (sym at) holds, at)

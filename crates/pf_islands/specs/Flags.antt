@@ -1,8 +1,7 @@
 -- Which bodies are simulated, as a list of flags, and which are awake, as a list of numbers.
-use Rattle.std.specs.Prelude.{◌≡◌, Bool, true, false, ◌||◌, List, ℕ, filter, length, map, slice_index_or}
+use Rattle.std.specs.Prelude.{◌≡◌, Bool, true, List, ℕ, filter, length, map}
 use Rattle.std.specs.List.{range_with_len}
 use Rattle.pf_shapes.specs.Body.{BodyState}
-use Rattle.pf_shapes.specs.Pair.{Pair}
 use Rattle.pf_shapes.specs.Scene.{Scene}
 use Rattle.pf_broad.specs.Partners.{has_body}
 use Rattle.pf_islands.specs.Rows.{is_awake_at, is_simulated_at}
@@ -18,8 +17,3 @@ awake_numbers bodies = filter (is_awake_at bodies) (range_with_len 0 (length bod
 -- each awake body is listed
 abbrev pub ListsAwake : List ℕ → List BodyState → Type 0
 ListsAwake numbers bodies = (k : ℕ) → is_awake_at bodies k ≡ true → has_body numbers k ≡ true
-
--- the contacts of a pair are simulated where one of its bodies is, by these flags
-abbrev pub is_active_by : List Bool → Pair → Bool
-is_active_by simulated p =
-    slice_index_or simulated p.a false || slice_index_or simulated p.b false

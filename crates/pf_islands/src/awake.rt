@@ -7,15 +7,6 @@ ghost use Rattle.pf_islands.specs.Rows.{is_awake_at};
 use pf_shapes::{BodyState, Scene};
 use std::alloc::{AllocError, Global};
 
-/// Where a tick looks for awake bodies and simulated contacts, so that it can skip sleepers.
-#[derive(Drop)]
-pub struct AwakeSearch<'a> {
-    /// Numbers of bodies, each awake one among them. They may be in any order, and repeat.
-    pub bodies: &'a [usize],
-    /// The places of the pairs with one of these bodies, in ascending order, or of all pairs.
-    pub pair_places: &'a [usize],
-}
-
 /// The awake ones of these bodies, in the same order.
 fn awake_among(
     alloc: Global,

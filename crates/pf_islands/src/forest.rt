@@ -7,7 +7,7 @@ ghost use Rattle.pf_manifold.specs.Touches.{IsTouchOf, Touch};
 ghost use Rattle.pf_islands.specs.Forest.{OthersAreRoots, IsDownward, IsForest};
 ghost use Rattle.pf_islands.specs.Group.{group, merged_label};
 ghost use Rattle.pf_islands.specs.Reach.{connects};
-ghost use Rattle.pf_islands.specs.Settled.{touches_at};
+ghost use Rattle.pf_islands.specs.Settled.{touches_of};
 
 use pf_manifold::Touch;
 use pf_shapes::Scene;
@@ -84,21 +84,20 @@ fn link_touch(parents: &mut [usize], scene: &Scene, touch: &Touch)
     }
 }
 
-/// Links the bodies of each contact point at these places that connects them. The points of a pair
-/// stand side by side, so a point of the same bodies as the one before has nothing to link.
-pub fn link_all(parents: &mut [usize], scene: &Scene, touches: &[Touch], places: &[usize])
-    requires touches { All (IsTouchOf (length scene.now.fixtures)) touches.now }
-    requires places { All (λ place. place < length touches.now) places.now }
+/// Links the bodies of each of these contact points that connects them. The points of a pair stand
+/// side by side, so a point of the same bodies as the one before has nothing to link.
+pub fn link_all(parents: &mut [usize], scene: &Scene, points: &[(usize, Touch)])
+    requires touches { All (λ m. IsTouchOf (length scene.now.fixtures) m.1) points.now }
     requires count { length parents.old ≡ length scene.now.fixtures }
     requires down { IsDownward parents.old }
     requires single { IsForest (λ i. i) parents.old }
-    ensures roots { IsForest (group scene.now (touches_at touches.now places.now)) parents.new }
+    ensures roots { IsForest (group scene.now (touches_of points.now)) parents.new }
     ensures down { IsDownward parents.new }
 {
     let mut first = 0;
     let mut second = 0;
-    for place in places.iter().rev() {
-        let touch = &touches[*place];
+    for point in points.iter().rev() {
+        let touch = &point.1;
         let is_other = touch.a != first || touch.b != second;
         if is_other {
             link_touch(parents, scene, touch);

@@ -64,31 +64,26 @@ impl Groups {
     ghost use Rattle.pf_shapes.specs.declared.scene.TheConstants.{MAX_BODIES};
     ghost use Rattle.pf_manifold.specs.Touches.{IsTouchOf, Touch};
     ghost use Rattle.pf_islands.specs.Group.{OthersAreAlone, groups};
-    ghost use Rattle.pf_islands.specs.Settled.{touches_at};
+    ghost use Rattle.pf_islands.specs.Settled.{touches_of};
     ghost use Rattle.pf_islands.specs.Sleep.{woken_bodies};
     ghost use Rattle.pf_islands.specs.Split.{AreWoken};
 
-    /// The groups of the scene's bodies that the contact points at these places connect. `numbers`
-    /// are those of bodies that may be in a group with others. Takes no memory where there are no
-    /// bodies.
+    /// The groups of the scene's bodies that these contact points connect. `numbers` are those of
+    /// bodies that may be in a group with others. Takes no memory where there are no bodies.
     #[inline(never)]
     pub(crate) fn new(
         alloc: Global,
         scene: &Scene,
-        touches: &[Touch],
-        places: &[usize],
+        points: &[(usize, Touch)],
         numbers: &[usize],
     ) -> Result<Groups, AllocError>
-        requires touches { All (IsTouchOf (length scene.now.fixtures)) touches.now }
-        requires places { All (λ place. place < length touches.now) places.now }
-        requires numbers { OthersAreAlone scene.now (touches_at touches.now places.now)
-            numbers.now }
-        ensures value { IfOk result
-            (λ found. found ≡ groups scene.now (touches_at touches.now places.now)) }
+        requires touches { All (λ m. IsTouchOf (length scene.now.fixtures) m.1) points.now }
+        requires numbers { OthersAreAlone scene.now (touches_of points.now) numbers.now }
+        ensures value { IfOk result (λ found. found ≡ groups scene.now (touches_of points.now)) }
         ensures no_memory { scene.now.fixtures ≡ [] → IsOk result }
     {
         let mut labels = singles(alloc, scene.fixtures().len())?;
-        link_all(&mut labels, scene, touches, places);
+        link_all(&mut labels, scene, points);
         flatten(&mut labels, numbers);
         Ok(Groups { labels })
     }

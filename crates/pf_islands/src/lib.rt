@@ -13,7 +13,6 @@ mod sizes;
 mod sleep;
 mod splitting;
 
-pub use awake::AwakeSearch;
 pub use island::Island;
 pub use joining::join_back;
 pub use sleep::{fall_asleep, sleep_if_still};

@@ -8,13 +8,14 @@ ghost use Rattle.pf_islands.specs.Sleep.{is_active};
 use pf_shapes::BodyState;
 use std::alloc::{AllocError, Global};
 
-/// So many marks, of any value.
-pub fn unmarked(alloc: Global, len: usize) -> Result<Vec<bool>, AllocError>
-    ensures value { IfOk result (λ marks. length marks.items ≡ len) }
+/// So many marks, all of this value.
+pub fn marks_of(alloc: Global, len: usize, mark: bool) -> Result<Vec<bool>, AllocError>
+    ensures as_many { IfOk result (λ marks. length marks.items ≡ len) }
+    ensures marks { IfOk result (λ marks. All (λ m. m ≡ mark) marks.items) }
     ensures no_memory { len ≡ 0 → IsOk result }
 {
     let mut marks = Vec::with_capacity(alloc, len)?;
-    marks.resize(len, false)?;
+    marks.resize(len, mark)?;
     Ok(marks)
 }
 

@@ -5,7 +5,7 @@ ghost use Rattle.std.specs.Prelude.{◌≡◌, ◌<◌, ◌==◌, not, All, IfOk
 ghost use Rattle.std.specs.List.{list_any};
 ghost use Rattle.pf_manifold.specs.Touches.{IsTouchOf};
 ghost use Rattle.pf_islands.specs.Lone.{group_of_touch};
-ghost use Rattle.pf_islands.specs.Settled.{touches_at};
+ghost use Rattle.pf_islands.specs.Settled.{touches_of};
 
 use crate::groups::group_of_touch;
 use pf_manifold::Touch;
@@ -25,52 +25,42 @@ pub fn zeros(alloc: Global, len: usize) -> Result<Vec<u16>, AllocError>
 }
 
 /// Counts the contacts of each group at its label.
-fn count_rows(
-    rows: &mut [u16],
-    scene: &Scene,
-    labels: &[usize],
-    touches: &[Touch],
-    places: &[usize],
-)
+fn count_rows(rows: &mut [u16], scene: &Scene, labels: &[usize], points: &[(usize, Touch)])
     requires rows { length rows.old ≡ length labels.now }
     requires labels { length labels.now ≡ length scene.now.fixtures }
     requires labelled { All (λ label. label < length labels.now) labels.now }
-    requires touches { All (IsTouchOf (length labels.now)) touches.now }
-    requires places { All (λ place. place < length touches.now) places.now }
+    requires touches { All (λ m. IsTouchOf (length labels.now) m.1) points.now }
     requires zero { All (λ number. number ≡ 0) rows.old }
     ensures { (label : ℕ) → label < length labels.now → (slice_index_or rows.new label 0 == 0)
         ≡ not (list_any (λ t. group_of_touch scene.now labels.now t == label)
-        (touches_at touches.now places.now)) }
+        (touches_of points.now)) }
 {
-    for place in places {
-        let label = group_of_touch(scene, labels, &touches[*place]);
+    for point in points {
+        let label = group_of_touch(scene, labels, &point.1);
         rows[label] = rows[label].saturating_add(1);
     }
 }
 
-/// How many contacts each group has, at its label; more than 65,535 count as so many. `places` are
-/// those of the contacts that are simulated. The clauses say for which groups the number is 0. The
-/// others only reserve memory: contacts connect the bodies of a group, so that it has at most one
-/// body more than contacts.
+/// How many of these contacts each group has, at its label; more than 65,535 count as so many. The
+/// clauses say for which groups the number is 0. The others only reserve memory: contacts connect
+/// the bodies of a group, so that it has at most one body more than contacts.
 pub fn row_counts(
     alloc: Global,
     scene: &Scene,
     labels: &[usize],
-    touches: &[Touch],
-    places: &[usize],
+    points: &[(usize, Touch)],
 ) -> Result<Vec<u16>, AllocError>
     requires labels { length labels.now ≡ length scene.now.fixtures }
     requires labelled { All (λ label. label < length labels.now) labels.now }
-    requires touches { All (IsTouchOf (length labels.now)) touches.now }
-    requires places { All (λ place. place < length touches.now) places.now }
+    requires touches { All (λ m. IsTouchOf (length labels.now) m.1) points.now }
     ensures as_many { IfOk result (λ rows. length rows.items ≡ length labels.now) }
     ensures none { IfOk result (λ rows. (label : ℕ) → label < length labels.now
         → (slice_index_or rows.items label 0 == 0)
         ≡ not (list_any (λ t. group_of_touch scene.now labels.now t == label)
-        (touches_at touches.now places.now))) }
+        (touches_of points.now))) }
     ensures no_memory { length labels.now ≡ 0 → IsOk result }
 {
     let mut rows = zeros(alloc, labels.len())?;
-    count_rows(&mut rows, scene, labels, touches, places);
+    count_rows(&mut rows, scene, labels, points);
     Ok(rows)
 }

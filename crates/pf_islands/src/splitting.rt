@@ -6,24 +6,22 @@ ghost use Rattle.pf_shapes.specs.declared.scene.TheConstants.{MAX_BODIES};
 ghost use Rattle.pf_rows.specs.Row.{IsSide, new_row};
 ghost use Rattle.pf_manifold.specs.Touches.{IsTouchOf};
 ghost use Rattle.pf_cache.specs.Manifolds.{kept_touches};
-ghost use Rattle.pf_cache.specs.Spans.{AreListedPlaces};
 ghost use Rattle.pf_islands.specs.Group.{groups as groups_of};
 ghost use Rattle.pf_islands.specs.Island.{group_members};
 ghost use Rattle.pf_islands.specs.Lone.{is_dealt, lone_numbers, only_awake};
 ghost use Rattle.pf_islands.specs.Rows.{is_awake_at, row_of};
 ghost use Rattle.pf_islands.specs.Flags.{ListsAwake, awake_numbers};
-ghost use Rattle.pf_islands.specs.Settled.{AreSettled, active_places, touches_at};
+ghost use Rattle.pf_islands.specs.Settled.{AreSettledPoints, touches_of};
 ghost use Rattle.pf_islands.specs.Sleep.{woken_bodies};
-ghost use Rattle.pf_islands.specs.Splitting.{AreParts, group_islands, woken_islands};
+ghost use Rattle.pf_islands.specs.Splitting.{AreParts, point_islands, woken_islands};
 ghost use Rattle.pf_islands.specs.Split.{AreWoken, IsIslandOf, active_labels, island_of, islands, no_island};
 ghost use Rattle.pf_islands.specs.Dealing.{ArePlaces, AreSlots, HasIsland, group_of_row, group_of_sides, placed_row, placed_side, with_island_body, with_row};
 
 use crate::active::{Active, active_of, side_of, wake_none};
-use crate::awake::AwakeSearch;
 use crate::forest::singles;
 use crate::groups::{Groups, group_of_sides};
 use crate::island::Island;
-use crate::marks::unmarked;
+use crate::marks::marks_of;
 use crate::sizes::{row_counts, zeros};
 use pf_cache::{Contact, Manifolds};
 use pf_manifold::Touch;
@@ -279,16 +277,15 @@ fn parted_numbers(
 
 /// The islands of the groups of the bodies of these numbers, made in the memory of the spare
 /// islands. In the clauses all other bodies count as asleep. `rows` holds at each label the number
-/// of contacts of the group, and `places` are those of the contacts.
+/// of contacts of the group, and `points` are those of the contacts, each with its place.
 fn deal(
     alloc: Global,
     spare: Vec<Island>,
     scene: &Scene,
     bodies: &[BodyState],
-    touches: &[Touch],
+    points: &[(usize, Touch)],
     contacts: &[Contact],
     labels: &[usize],
-    places: &[usize],
     numbers: &[usize],
     rows: Vec<u16>,
 ) -> Result<Vec<Island>, AllocError>
@@ -299,26 +296,22 @@ fn deal(
     requires states { (k : ℕ) → is_awake_at (only_awake numbers.now bodies.now) k ≡ true
         → slice_index_or bodies.now k no_state
         ≡ slice_index_or (only_awake numbers.now bodies.now) k no_state }
-    requires touches { All (IsTouchOf (length (only_awake numbers.now bodies.now))) touches.now }
-    requires contacts { length contacts.now ≡ length touches.now }
-    requires settled { AreSettled scene.now (only_awake numbers.now bodies.now) touches.now }
-    requires labelled { labels.now ≡ groups_of scene.now (touches_at touches.now places.now) }
+    requires settled { AreSettledPoints scene.now (only_awake numbers.now bodies.now)
+        (length contacts.now) points.now }
+    requires labelled { labels.now ≡ groups_of scene.now (touches_of points.now) }
     requires numbers { numbers.now ≡ awake_numbers (only_awake numbers.now bodies.now) }
-    requires active { places.now
-        ≡ active_places scene.now (only_awake numbers.now bodies.now) touches.now }
-    requires within { All (λ place. place < length touches.now) places.now }
     requires rows { length rows.items ≡ length labels.now }
     ensures value { IfOk result (λ found. found.items
-        ≡ group_islands scene.now (only_awake numbers.now bodies.now) touches.now contacts.now) }
+        ≡ point_islands scene.now (only_awake numbers.now bodies.now) points.now contacts.now) }
     ensures fit { IfOk result (λ found. All (IsIslandOf scene.now) found.items) }
-    ensures no_memory { (only_awake numbers.now bodies.now) ≡ [] → touches.now ≡ [] → IsOk result }
+    ensures no_memory { (only_awake numbers.now bodies.now) ≡ [] → points.now ≡ [] → IsOk result }
 {
     let (mut made, slots) = empty_islands(alloc, spare, labels, bodies, numbers, rows)?;
     let mut body_places = zeros(alloc, labels.len())?;
     deal_bodies(&mut made, &mut body_places, &slots, labels, numbers, bodies)?;
-    for place in places {
-        let place = *place;
-        let touch = &touches[place];
+    for point in points {
+        let place = point.0;
+        let touch = &point.1;
         let contact = &contacts[place];
         deal_row(
             &mut made,
@@ -341,30 +334,26 @@ fn split_settled(
     spare: Vec<Island>,
     scene: &Scene,
     bodies: &[BodyState],
-    touches: &[Touch],
     contacts: &[Contact],
     active: &Active,
     lone: LoneBodies,
 ) -> Result<Parts, AllocError>
     requires bodies { length bodies.now ≡ length scene.now.fixtures }
-    requires touches { All (IsTouchOf (length bodies.now)) touches.now }
-    requires contacts { length contacts.now ≡ length touches.now }
-    requires settled { AreSettled scene.now bodies.now touches.now }
+    requires settled { AreSettledPoints scene.now bodies.now (length contacts.now)
+        active.now.points.items }
     requires numbers { active.now.numbers.items ≡ awake_numbers bodies.now }
-    requires active { active.now.places.items ≡ active_places scene.now bodies.now touches.now }
-    requires within { All (λ place. place < length touches.now) active.now.places.items }
     ensures parts { IfOk result (AreParts scene.now (length bodies.now) lone
-        (group_islands scene.now bodies.now touches.now contacts.now)) }
-    ensures no_memory { bodies.now ≡ [] → touches.now ≡ [] → IsOk result }
+        (point_islands scene.now bodies.now active.now.points.items contacts.now)) }
+    ensures no_memory { bodies.now ≡ [] → active.now.points.items ≡ [] → IsOk result }
 {
-    let places = active.places.as_slice();
+    let points = active.points.as_slice();
     let numbers = active.numbers.as_slice();
-    let groups = Groups::new(alloc, scene, touches, places, numbers)?;
+    let groups = Groups::new(alloc, scene, points, numbers)?;
     let labels = groups.labels();
-    let rows = row_counts(alloc, scene, labels, touches, places)?;
+    let rows = row_counts(alloc, scene, labels, points)?;
     let (dealt, lone_numbers) = parted_numbers(alloc, labels, numbers, &rows, lone)?;
     let islands = deal(
-        alloc, spare, scene, bodies, touches, contacts, labels, places, &dealt, rows,
+        alloc, spare, scene, bodies, points, contacts, labels, &dealt, rows,
     )?;
     Ok(Parts {
         islands,
@@ -379,22 +368,22 @@ fn woken_bodies(
     alloc: Global,
     scene: &Scene,
     bodies: &[BodyState],
-    touches: &[Touch],
+    manifolds: &Manifolds,
 ) -> Result<Vec<BodyState>, AllocError>
     requires bodies { length bodies.now ≡ length scene.now.fixtures }
-    requires touches { All (IsTouchOf (length bodies.now)) touches.now }
-    ensures bodies { IfOk result
-        (λ woken. woken.items ≡ woken_bodies (groups_of scene.now touches.now) bodies.now) }
+    requires touches { All (IsTouchOf (length bodies.now)) (kept_touches manifolds.now) }
+    ensures bodies { IfOk result (λ woken. woken.items
+        ≡ woken_bodies (groups_of scene.now (kept_touches manifolds.now)) bodies.now) }
     ensures as_many { IfOk result (λ woken. length woken.items ≡ length bodies.now) }
     ensures none { bodies.now ≡ [] → IfOk result (λ woken. woken.items ≡ []) }
-    ensures no_memory { bodies.now ≡ [] → touches.now ≡ [] → IsOk result }
+    ensures no_memory { bodies.now ≡ [] → kept_touches manifolds.now ≡ [] → IsOk result }
 {
     let mut woken = Vec::with_capacity(alloc, bodies.len())?;
     woken.extend_from_slice(bodies)?;
-    let all = singles(alloc, touches.len())?;
+    let mut marks = marks_of(alloc, bodies.len(), true)?;
+    let points = manifolds.points_of(alloc, &marks)?;
     let numbers = singles(alloc, bodies.len())?;
-    let groups = Groups::new(alloc, scene, touches, &all, &numbers)?;
-    let mut marks = unmarked(alloc, bodies.len())?;
+    let groups = Groups::new(alloc, scene, &points, &numbers)?;
     groups.wake(&mut marks, &mut woken);
     Ok(woken)
 }
@@ -422,26 +411,17 @@ pub fn split(
         (woken_islands scene.now bodies.now (kept_touches manifolds.now) contacts.now)) }
     ensures no_memory { bodies.now ≡ [] → manifolds.now.pairs ≡ [] → IsOk result }
 {
-    let touches = manifolds.touches();
-    let spans = manifolds.spans();
-    let woken = woken_bodies(alloc, scene, bodies, touches)?;
+    let woken = woken_bodies(alloc, scene, bodies, manifolds)?;
     let bodies = woken.as_slice();
     let all_numbers = singles(alloc, bodies.len())?;
-    let all_places = singles(alloc, spans.len())?;
-    let all = AwakeSearch {
-        bodies: &all_numbers,
-        pair_places: &all_places,
-    };
-    let active = active_of(alloc, scene, bodies, touches, spans, &all)?;
-    split_settled(
-        alloc, spare, scene, bodies, touches, contacts, &active, lone,
-    )
+    let active = active_of(alloc, scene, bodies, manifolds, &all_numbers)?;
+    split_settled(alloc, spare, scene, bodies, contacts, &active, lone)
 }
 
-/// As [`split`], where it is known which bodies may be awake: `search` says where to look for awake
-/// bodies and simulated contacts. In most ticks no contact wakes a body: then only simulated
-/// contacts are linked. Else all contacts are linked first, to find which bodies wake. Takes no
-/// memory where there are no bodies and no contact points.
+/// As [`split`], where it is known which bodies may be awake: `listed` has the number of each awake
+/// body; its numbers may be in any order, and repeat. In most ticks no contact wakes a body: then
+/// only simulated contacts are linked. Else all contacts are linked first, to find which bodies
+/// wake. Takes no memory where there are no bodies and no contact points.
 pub fn wake_and_split(
     alloc: Global,
     spare: Vec<Island>,
@@ -449,27 +429,21 @@ pub fn wake_and_split(
     bodies: &[BodyState],
     manifolds: &Manifolds,
     contacts: &[Contact],
-    search: &AwakeSearch,
+    listed: &[usize],
     lone: LoneBodies,
 ) -> Result<Parts, AllocError>
     requires bodies { length bodies.now ≡ length scene.now.fixtures }
     requires touches { All (IsTouchOf (length bodies.now)) (kept_touches manifolds.now) }
     requires contacts { length contacts.now ≡ length (kept_touches manifolds.now) }
-    requires listed { All (λ number. number < length bodies.now) search.now.bodies.now }
-    requires awake { ListsAwake search.now.bodies.now bodies.now }
-    requires places { AreListedPlaces search.now.bodies.now manifolds.now.pairs
-        search.now.pair_places.now }
+    requires listed { All (λ number. number < length bodies.now) listed.now }
+    requires awake { ListsAwake listed.now bodies.now }
     ensures parts { IfOk result (AreParts scene.now (length bodies.now) lone
         (woken_islands scene.now bodies.now (kept_touches manifolds.now) contacts.now)) }
     ensures no_memory { bodies.now ≡ [] → kept_touches manifolds.now ≡ [] → IsOk result }
 {
-    let touches = manifolds.touches();
-    let spans = manifolds.spans();
-    let active = active_of(alloc, scene, bodies, touches, spans, search)?;
-    if wake_none(scene, bodies, touches, &active.places) {
-        return split_settled(
-            alloc, spare, scene, bodies, touches, contacts, &active, lone,
-        );
+    let active = active_of(alloc, scene, bodies, manifolds, listed)?;
+    if wake_none(scene, bodies, &active.points) {
+        return split_settled(alloc, spare, scene, bodies, contacts, &active, lone);
     }
     split(alloc, spare, scene, bodies, manifolds, contacts, lone)
 }

@@ -18,5 +18,4 @@ pub mod FeatureRanges
 pub mod Rising
 pub mod KeyOrder
 pub mod Ranks
-pub mod Replaced
 pub mod Chunks

@@ -24,4 +24,4 @@ pub use manifold::Manifold;
 pub use narrow_phase::collide;
 pub use parallel::{Collider, OneThread, PAIRS_FOR_THREADS, SeveralThreads, collide_all};
 pub use placed_shape::PlacedShape;
-pub use touch::{Touch, collide_list, push_points, replace_points};
+pub use touch::{Touch, collide_list, push_points, touch_of};

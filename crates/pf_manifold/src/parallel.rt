@@ -94,9 +94,9 @@ pub trait Collider {
     /// What a call needs beside its arguments, as a runtime that threads may share.
     ghost can_collide: { Self → Type 0 } = { λ _. ⊤ };
 
-    /// How many pairs must have lost their points, which must be half of all at least, before
-    /// `collide` is called, which computes those of all pairs. Where fewer have, they are computed
-    /// one after the other. It changes no result.
+    /// How many pairs must have lost their points before `collide` is called, which computes the
+    /// points of these pairs. Those of fewer are computed one after the other. It changes no
+    /// result.
     const MANY: usize;
 
     /// The list of [`collide_list`].

@@ -1,6 +1,6 @@
 //! The contact points of a list of pairs of bodies, as Box2D 2.x's `b2ContactManager::Collide`.
 
-ghost use Rattle.std.specs.Prelude.{◌≡◌, ◌+◌, ◌<◌, ◌≤◌, ◌++◌, [], All, drop, length, map, take, Some, IfOk, OnOk, IsOk};
+ghost use Rattle.std.specs.Prelude.{◌≡◌, ◌<◌, ◌≤◌, ◌++◌, [], All, length, map, Some, IfOk, OnOk, IsOk};
 ghost use Rattle.pf_shapes.specs.Pair.{IsAscending, IsPairOf};
 ghost use Rattle.pf_shapes.specs.declared.scene.TheConstants.{MAX_BODIES};
 ghost use Rattle.pf_manifold.specs.Key.{AreTouches};
@@ -50,7 +50,7 @@ fn placed_shape<'a>(fixtures: &'a [Fixture], bodies: &[BodyState], number: usize
 
 /// A contact point of a pair.
 #[inline]
-fn touch_of(pair: &Pair, point: ContactPoint) -> Touch
+pub fn touch_of(pair: &Pair, point: ContactPoint) -> Touch
     requires { IsPairOf MAX_BODIES pair.now }
     ensures { result ≡ touch_of pair.now point }
 {
@@ -82,24 +82,6 @@ pub fn push_points(
         }
     }
     Ok(())
-}
-
-/// Writes the contact points of a pair over as many others, from `start` on.
-pub fn replace_points(touches: &mut [Touch], start: usize, pair: &Pair, points: &Manifold)
-    requires pair { IsPairOf MAX_BODIES pair.now }
-    requires within { start + length (points_of points.now) ≤ length touches.old }
-    ensures { touches.new
-        ≡ take start touches.old ++ (map (touch_of pair.now) (points_of points.now)
-        ++ drop (start + length (points_of points.now)) touches.old) }
-{
-    match *points {
-        Manifold::Apart => (),
-        Manifold::One(point) => touches[start] = touch_of(pair, point),
-        Manifold::Two(first, second) => {
-            touches[start] = touch_of(pair, first);
-            touches[start + 1] = touch_of(pair, second);
-        }
-    }
 }
 
 /// The contact points of these pairs, pair by pair. Where no pair touches it takes no memory.

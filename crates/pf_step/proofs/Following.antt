@@ -19,7 +19,6 @@ use Rattle.pf_broad.proofs.Ranges.{has_body-below}
 use Rattle.pf_commands.specs.declared.payload.Payload.{Payload}
 use Rattle.pf_commands.specs.Payload.{body_of}
 use Rattle.pf_manifold.specs.Key.{key_of}
-use Rattle.pf_cache.specs.Contact.{HaveSameFirst}
 use Rattle.pf_cache.specs.Manifolds.{Manifolds, kept_touches, placed_shapes, shape_of_body}
 use Rattle.pf_cache.specs.PlacedBodies.{HaveStayed, bodies_of}
 use Rattle.pf_islands.specs.Split.{Island}
@@ -204,14 +203,13 @@ stayed_after_commands s w payloads work m moved notes after follows m_is noted a
               ∙ sym (ap (λ ns. has_body ns k) list) ∙ other)),
         )
 
--- the first contacts have the keys of the first new points, as many as have those of kept ones
-pub keys_after_commands : (s : Scene) (w : World) (work : Work) (kept found : Manifolds) (same : ℕ) → KnowsWorld s w work
+-- contacts have the keys of the new points, where these have those of the kept ones
+pub keys_after_commands : (s : Scene) (w : World) (work : Work) (kept found : Manifolds) → KnowsWorld s w work
     → work.is_known ≡ true → kept ≡ work.manifolds
-    → HaveSameFirst same (map key_of (kept_touches kept)) (map key_of (kept_touches found))
-    → HaveSameFirst same (map (λ c. c.key) w.contacts) (map key_of (kept_touches found))
-keys_after_commands s w work kept found same follows known kept_is first =
-    subst (λ keys. HaveSameFirst same keys (map key_of (kept_touches found)))
-    (ap (λ m. map key_of (kept_touches m)) kept_is ∙ sym (follows known).2) first
+    → map key_of (kept_touches kept) ≡ map key_of (kept_touches found)
+    → map (λ c. c.key) w.contacts ≡ map key_of (kept_touches found)
+keys_after_commands s w work kept found follows known kept_is same =
+    (follows known).2 ∙ ap (λ m. map key_of (kept_touches m)) (sym kept_is) ∙ same
 
 -- after a step, only bodies that it changed may have moved since the contact points were computed
 pub stayed_after_step : (s : Scene) (before commanded after : List BodyState) (m : Manifolds) (notes changes : List BodyChange)

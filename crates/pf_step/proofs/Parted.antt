@@ -1,6 +1,6 @@
 -- A tick whose islands without contacts are left out, and whose bodies go through the tick in their
 -- place.
-use Rattle.std.proofs.Common.{◌≡◌, ◌∙◌, ◌⊎◌, ⊎_elim, ℕ, ◌<◌, ◌==◌, Bool, true, false, not, ◌&&◌, ◌||◌, List, [], ◌∷◌, ◌++◌, cond, filter, get_or, length, map, refl, sym, ap, ap₂, subst, arith, if◌then◌else◌}
+use Rattle.std.proofs.Common.{◌≡◌, ◌∙◌, ⊎_elim, ℕ, ◌<◌, ◌==◌, Bool, true, false, not, ◌&&◌, ◌||◌, List, [], ◌∷◌, ◌++◌, cond, filter, get_or, length, map, refl, sym, ap, ap₂, subst, arith, if◌then◌else◌}
 use Rattle.std.proofs.lemmas.Bool.{and_parts, eqb-true, or_cases, true≢false}
 use Rattle.std.proofs.lemmas.List.Elements.{All-filter, All-head, All-map, All-tail}
 use Rattle.std.proofs.lemmas.Grind.{flat_map-append}

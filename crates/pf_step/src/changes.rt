@@ -4,10 +4,9 @@ ghost use Rattle.std.specs.Prelude.{◌≡◌, ◌≢◌, ◌≤◌, ◌+◌, �
 ghost use Rattle.pf_step.specs.Changes.{bodies_before, change_of, changes_of};
 
 use crate::work::Work;
-use pf_cache::{Contacts, ContactsChange};
+use pf_cache::{Contacts, ContactsChange, Manifolds};
 use pf_commands::Payload;
 use pf_islands::Island;
-use pf_manifold::Touch;
 use pf_shapes::BodyState;
 use std::alloc::{AllocError, Global};
 use std::marker::Model;
@@ -135,11 +134,12 @@ pub(crate) fn undo_bodies(bodies: &mut [BodyState], changes: &[BodyChange])
 }
 
 impl Changes {
-    ghost use Rattle.std.specs.Prelude.{◌≡◌, ◌++◌, [], All, IsOk, OnErr, OnOk, false, map};
+    ghost use Rattle.std.specs.Prelude.{◌≡◌, ◌++◌, [], All, IsOk, IsTrue, OnErr, OnOk, false, map};
     ghost use Rattle.pf_manifold.specs.Key.{AreTouches, key_of};
-    ghost use Rattle.pf_cache.specs.Contact.{HaveSameFirst, next_contacts};
+    ghost use Rattle.pf_cache.specs.Contact.{next_contacts};
     ghost use Rattle.pf_cache.specs.ContactRows.{AreRowsAt};
     ghost use Rattle.pf_cache.specs.ContactsChange.{contacts_before};
+    ghost use Rattle.pf_cache.specs.Manifolds.{kept_touches};
     ghost use Rattle.pf_step.specs.Changes.{bodies_before, changes_by_commands, changes_of, changes_of_islands, no_changes, MayChange};
 
     /// Nothing changed. Takes no memory.
@@ -222,27 +222,34 @@ impl Changes {
         note_all(&mut self.bodies, bodies, numbers)
     }
 
-    /// Makes of the contacts of the last tick those of these points, and keeps what that changes.
-    /// With `may_stay`, and if all have the keys of all points, they may stay in place (no clause
-    /// says that they do). The first `known` have the keys of the first points. An error leaves the
-    /// contacts as they are, with no change.
+    /// Makes of the contacts of the last tick those of the points of `manifolds`, and keeps what
+    /// that changes. With `are_known` they have the keys of all these points, in the same order.
+    /// With `may_stay`, contacts that have the keys of all points may stay in place (no clause says
+    /// that they do). An error leaves the contacts as they are, with no change.
     pub(crate) fn update_contacts(
         &mut self,
+        alloc: Global,
         contacts: &mut Contacts,
-        touches: &[Touch],
-        known: usize,
+        manifolds: &Manifolds,
+        are_known: bool,
         may_stay: bool,
     ) -> Result<(), AllocError>
-        requires touches { AreTouches touches.now }
-        requires known { HaveSameFirst known (map (λ c. c.key) contacts.old)
-            (map key_of touches.now) }
-        ensures value { OnOk result (contacts.new ≡ next_contacts contacts.old touches.now) }
+        requires order { AreTouches (kept_touches manifolds.now) }
+        requires known { IsTrue are_known → map (λ c. c.key) contacts.old
+            ≡ map key_of (kept_touches manifolds.now) }
+        ensures value { OnOk result
+            (contacts.new ≡ next_contacts contacts.old (kept_touches manifolds.now)) }
         ensures before { contacts_before self.new.contacts contacts.new ≡ contacts.old }
         ensures unchanged { OnErr result (contacts.new ≡ contacts.old) }
         ensures bodies { self.new.bodies ≡ self.old.bodies }
-        ensures no_memory { touches.now ≡ [] → IsOk result }
+        ensures no_memory { kept_touches manifolds.now ≡ [] → IsOk result }
     {
-        contacts.update(touches, known, may_stay, &mut self.contacts)
+        if are_known {
+            return contacts.keep(may_stay, &mut self.contacts);
+        }
+        self.contacts.clear();
+        let touches = manifolds.touches(alloc)?;
+        contacts.update(&touches, may_stay, &mut self.contacts)
     }
 
     /// Notes the impulses of the contacts of islands, so that they may change. After an error some

@@ -1,12 +1,10 @@
 //! A tick from its contact points on.
 
-ghost use Rattle.std.specs.Prelude.{◌≡◌, ◌≢◌, ◌<◌, ◌++◌, [], Err, All, IfErr, IfOk, IsOk, List, OnOk, length, map};
+ghost use Rattle.std.specs.Prelude.{◌≡◌, ◌≢◌, ◌<◌, ◌++◌, [], Err, All, IfErr, IfOk, IsOk, IsTrue, List, OnOk, length, map};
 ghost use Rattle.pf_manifold.specs.Key.{AreTouches, key_of};
 ghost use Rattle.pf_manifold.specs.Touches.{IsTouchOf};
-ghost use Rattle.pf_cache.specs.Contact.{HaveSameFirst};
 ghost use Rattle.pf_cache.specs.ContactsChange.{contacts_before};
 ghost use Rattle.pf_cache.specs.Manifolds.{kept_touches};
-ghost use Rattle.pf_cache.specs.Spans.{AreListedPlaces};
 ghost use Rattle.pf_islands.specs.Flags.{ListsAwake};
 ghost use Rattle.pf_islands.specs.declared.splitting.LoneBodies.TheVariants.{AreListed};
 ghost use Rattle.pf_islands.specs.Lone.{lone_numbers, made_islands};
@@ -25,7 +23,7 @@ use crate::crew::{Crew, CrewError, StepError};
 use crate::work::Work;
 use crate::world::World;
 use pf_cache::FoundCollisions;
-use pf_islands::{AwakeSearch, Island, LoneBodies, Parts, join_back, wake_and_split};
+use pf_islands::{Island, LoneBodies, Parts, join_back, wake_and_split};
 use pf_shapes::Scene;
 use pf_solver::solve_lone_bodies;
 use std::alloc::{AllocError, Global};
@@ -38,9 +36,9 @@ fn may_stay(moved: usize, bodies: usize) -> bool {
 
 /// The islands of a tick in the world after its phases Commands and Points, whose contacts are
 /// already those of the tick, and the awake bodies that are in none. Awake bodies are looked for
-/// among those that may have moved, which `work` lists, and contacts among those of their pairs.
-/// Notes the bodies and impulses of the islands, and then lists all noted bodies as those that may
-/// have moved. After an error some of them may be noted.
+/// among those that may have moved, which `work` lists. Notes the bodies and impulses of the
+/// islands, and then lists all noted bodies as those that may have moved. After an error some of
+/// them may be noted.
 #[tactic(auto, using(crate::proofs::Restored::islands_beside))]
 fn prepare(
     alloc: Global,
@@ -61,8 +59,6 @@ fn prepare(
         ≡ map key_of (touches_of_scene scene.now world.now.bodies) }
     requires awake { All (λ number. number < length world.now.bodies) work.old.moved
         × ListsAwake work.old.moved world.now.bodies }
-    requires places { AreListedPlaces work.old.moved found.now.collisions.manifolds.pairs
-        found.now.moved_places.items }
     ensures parts { IfOk result (AreParts scene.now (length world.now.bodies) lone
         (islands_with scene.now world.now.contacts world.now.bodies)) }
     ensures noted { OnOk result (
@@ -82,10 +78,6 @@ fn prepare(
     ensures no_memory { world.now.bodies ≡ [] → changes.old.bodies ≡ [] → IsOk result }
 {
     let spare = work.take_islands(alloc);
-    let search = AwakeSearch {
-        bodies: work.moved(),
-        pair_places: &found.moved_places,
-    };
     let collisions = &found.collisions;
     let parts = wake_and_split(
         alloc,
@@ -94,7 +86,7 @@ fn prepare(
         &world.bodies,
         &collisions.manifolds,
         world.contacts.as_slice(),
-        &search,
+        work.moved(),
         lone,
     )?;
     changes.note_islands(&world.bodies, &parts.islands)?;
@@ -128,18 +120,18 @@ fn solve_by<C: Crew>(
 }
 
 /// A tick from its contact points on, in the world after its commands. `found` is what the narrow
-/// phase found for its bodies, and the first `known` contacts have the keys of the first points
-/// found. Makes its islands, has them solved by one call of the crew, and puts them back. Where the
-/// crew allows it, lone bodies are in none of them and go through the tick where they stand, and
-/// without islands the crew is not called. Notes what changes, and lists the noted bodies as those
-/// that may have moved. After an error the contacts may have changed, and what changed is noted.
-/// Takes no memory of its own where there are no bodies.
+/// phase found for its bodies. With `are_known` the contacts have the keys of the points found, in
+/// the same order. Makes its islands, has them solved by one call of the crew, and puts them back.
+/// Where the crew allows it, lone bodies are in none of them and go through the tick where they
+/// stand, and without islands the crew is not called. Notes what changes, and lists the noted
+/// bodies as those that may have moved. After an error the contacts may have changed, and what
+/// changed is noted. Takes no memory of its own where there are no bodies.
 pub(crate) fn finish<C: Crew>(
     alloc: Global,
     scene: &Scene,
     world: &mut World,
     found: &FoundCollisions,
-    known: usize,
+    are_known: bool,
     work: &mut Work,
     crew: &mut C,
     changes: &mut Changes,
@@ -149,12 +141,10 @@ pub(crate) fn finish<C: Crew>(
         ≡ touches_of_scene scene.now world.old.bodies }
     requires touches { All (IsTouchOf (length world.old.bodies))
         (kept_touches found.now.collisions.manifolds) }
-    requires known { HaveSameFirst known (map (λ c. c.key) world.old.contacts)
-        (map key_of (kept_touches found.now.collisions.manifolds)) }
+    requires known { IsTrue are_known → map (λ c. c.key) world.old.contacts
+        ≡ map key_of (kept_touches found.now.collisions.manifolds) }
     requires awake { All (λ number. number < length world.old.bodies) work.old.moved
         × ListsAwake work.old.moved world.old.bodies }
-    requires places { AreListedPlaces work.old.moved found.now.collisions.manifolds.pairs
-        found.now.moved_places.items }
     ensures ending { IsEnding scene.now world.old changes.old.bodies world.new changes.new result }
     ensures crew { let islands = islands_of_bodies scene.now world.old.contacts world.old.bodies
         in CallsCrew C.is_called C.may_fail islands crew.old crew.new result }
@@ -164,10 +154,10 @@ pub(crate) fn finish<C: Crew>(
     ensures no_memory { world.old.bodies ≡ [] → changes.old.bodies ≡ []
         → result ≢ Err OutOfMemory }
 {
-    let touches = found.collisions.manifolds.touches();
     let lone = crew.lone_bodies();
-    let may_stay = may_stay(work.moved().len(), world.bodies.as_slice().len());
-    changes.update_contacts(&mut world.contacts, touches, known, may_stay)?;
+    let may_stay = may_stay(work.moved().len(), scene.fixtures().len());
+    let manifolds = &found.collisions.manifolds;
+    changes.update_contacts(alloc, &mut world.contacts, manifolds, are_known, may_stay)?;
     let Parts {
         islands,
         lone_numbers,

@@ -1,12 +1,10 @@
 //! A tick: from a world to the world one tick later. Its definition is on one screen,
 //! `specs/Step.antt`.
 
-ghost use Rattle.std.specs.Prelude.{◌≡◌, ◌≢◌, ◌<◌, [], Err, All, length, map, false, IfErr, IfOk, IsOk, OnErr, OnOk};
+ghost use Rattle.std.specs.Prelude.{◌≡◌, ◌≢◌, ◌<◌, [], Err, All, length, map, false, IfErr, IfOk, IsOk, IsTrue, OnErr, OnOk};
 ghost use Rattle.pf_manifold.specs.Key.{key_of};
 ghost use Rattle.pf_manifold.specs.Touches.{IsTouchOf};
-ghost use Rattle.pf_cache.specs.Contact.{HaveSameFirst};
 ghost use Rattle.pf_cache.specs.Manifolds.{kept_touches, no_manifolds};
-ghost use Rattle.pf_cache.specs.Spans.{AreListedPlaces};
 ghost use Rattle.pf_step.specs.declared.crew.StepError.TheVariants.{OutOfMemory};
 ghost use Rattle.pf_step.specs.Activity.{islands_of_tick};
 ghost use Rattle.pf_cache.specs.PlacedBodies.{HaveStayed, bodies_of};
@@ -28,9 +26,8 @@ use std::alloc::{AllocError, Global};
 use std::thread::Threads;
 
 /// The contact points of the bodies of a scene as they stand; kept ones are reused. Only bodies of
-/// `moved` may have moved since these were kept. Also finds how many of the first points have the
-/// keys of the first kept ones, and lists the places of the pairs with a body of `moved`, or of all
-/// pairs.
+/// `moved` may have moved since these were kept. Also finds whether the points are known to have
+/// the keys of the kept ones.
 #[tactic(auto, using(pf_cache::proofs::Unmoved::kept_points, pf_manifold::proofs::KeyOrder::touches_of_bodies))]
 fn find_collisions<P: Collider>(
     collider: &P,
@@ -50,10 +47,8 @@ fn find_collisions<P: Collider>(
         ≡ touches_of_scene scene.now bodies.now) }
     ensures bodies { IfOk result (λ found. All (IsTouchOf (length bodies.now))
         (kept_touches found.collisions.manifolds)) }
-    ensures same { IfOk result (λ found. HaveSameFirst found.same (map key_of (kept_touches kept))
-        (map key_of (kept_touches found.collisions.manifolds))) }
-    ensures places { IfOk result (λ found. AreListedPlaces moved.now
-        found.collisions.manifolds.pairs found.moved_places.items) }
+    ensures same_keys { IfOk result (λ found. IsTrue found.same_keys
+        → map key_of (kept_touches kept) ≡ map key_of (kept_touches found.collisions.manifolds)) }
     ensures no_memory { bodies.now ≡ [] → IsOk result }
 {
     kept.update(collider, alloc, scene, bodies, moved)
@@ -70,8 +65,8 @@ fn find_collisions<P: Collider>(
 ///
 /// The world has to be the one that the last step with `work` left, unless `work` knows nothing of
 /// moved bodies. Only bodies that may have moved, and those that commands are for, are compared
-/// with how they stood, and of the contacts' keys only those from the first pair on that has other
-/// features. [`step_by`] has no such condition.
+/// with how they stood, and no contacts' keys where those of the points are known to be the same.
+/// [`step_by`] has no such condition.
 pub fn step_next<P: Collider, C: Crew>(
     collider: &P,
     alloc: Global,
@@ -102,8 +97,17 @@ pub fn step_next<P: Collider, C: Crew>(
             return Err(StepError::from(error));
         }
     };
-    let known = if is_known { found.same } else { 0 };
-    match finish(alloc, scene, world, &found, known, work, crew, &mut changes) {
+    let are_known = is_known && found.same_keys;
+    match finish(
+        alloc,
+        scene,
+        world,
+        &found,
+        are_known,
+        work,
+        crew,
+        &mut changes,
+    ) {
         Ok(()) => {
             work.end_tick(found.collisions);
             Ok(changes)

@@ -19,8 +19,8 @@ use std::cell::Cell;
 use std::marker::Model;
 use std::sync::{Arc, Wait};
 
-/// Where the points of so many pairs or more have to be computed, the workers compute those of all
-/// pairs: to hand them over takes as long as to compute some fewer.
+/// Where the points of so many pairs or more have to be computed, the workers compute them: to hand
+/// them over takes as long as to compute some fewer.
 const PAIRS_FOR_WORKERS: usize = 128;
 
 /// A worker's pairs, with the scene and the bodies as they stand, which all workers share.

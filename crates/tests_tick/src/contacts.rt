@@ -45,7 +45,7 @@ fn update(
     text: &[u8],
 ) -> Result<(), Fail> {
     let touches = touches_of(alloc, text)?;
-    contacts.update(&touches, 0, false, change)?;
+    contacts.update(&touches, false, change)?;
     Ok(())
 }
 
@@ -88,6 +88,33 @@ fn contacts_are_those_of_the_points(rt: HostRuntime) -> Result<(), Fail> {
     let mut change = ContactsChange::new(rt.alloc());
     let are_so = are_of_the_points(rt.alloc(), &mut contacts, &mut change)?;
     assert!(rt; are_so);
+    Ok(())
+}
+
+/// Whether contacts stay as they are where they are kept, and are restored of their copy after they
+/// became those of fewer points.
+fn are_kept(
+    alloc: Global,
+    contacts: &mut Contacts,
+    change: &mut ContactsChange,
+) -> Result<bool, Fail> {
+    update(alloc, contacts, change, BOTH_STAND)?;
+    contacts.keep(true, change)?;
+    let in_place = are_of_both_boxes(contacts.as_slice());
+    contacts.keep(false, change)?;
+    let copied = are_of_both_boxes(contacts.as_slice());
+    let mut later = ContactsChange::new(alloc);
+    update(alloc, contacts, &mut later, ONE_STANDS)?;
+    contacts.undo_copied(change)?;
+    Ok(in_place && copied && are_of_both_boxes(contacts.as_slice()))
+}
+
+#[test]
+fn contacts_are_kept_as_they_are(rt: HostRuntime) -> Result<(), Fail> {
+    let mut contacts = Contacts::new(rt.alloc());
+    let mut change = ContactsChange::new(rt.alloc());
+    let are_kept = are_kept(rt.alloc(), &mut contacts, &mut change)?;
+    assert!(rt; are_kept);
     Ok(())
 }
 

@@ -6,7 +6,7 @@ ghost use Rattle.pf_manifold.specs.Key.{AreTouches};
 
 use crate::scenes::scene_of;
 use pf_broad::{CELL_SIDE, Cell, Grid, MAX_CELLS, pairs};
-use pf_manifold::{Manifold, Touch, collide_list, replace_points};
+use pf_manifold::{Touch, collide_list};
 use pf_shapes::{Pair, Scene};
 use std::alloc::Global;
 use std::test::Fail;
@@ -166,26 +166,6 @@ fn pairs_and_points_are_found(rt: HostRuntime) -> Result<(), Fail> {
         let has_found = has_found(rt.alloc(), &case)?;
         assert!(rt; has_found, "{:?}", case.1);
     }
-    Ok(())
-}
-
-/// Whether the first two points are exchanged where they are written over one another.
-fn are_exchanged(touches: &mut [Touch]) -> bool {
-    if touches.len() < 3 {
-        return false;
-    }
-    let pair = Pair { a: 0, b: 1 };
-    let (first, second) = (&touches[0], &touches[1]);
-    let swapped = Manifold::Two(second.point, first.point);
-    replace_points(touches, 0, &pair, &swapped);
-    swapped.count() == 2 && are_at(touches, &[(0, 1, 29), (0, 1, 28), (0, 2, 133)])
-}
-
-#[test]
-fn points_are_written_over_others(rt: HostRuntime) -> Result<(), Fail> {
-    let scene = scene_of(rt.alloc(), TOUCHING)?;
-    let (_, mut touches) = found(rt.alloc(), &scene)?;
-    assert!(rt; are_exchanged(&mut touches));
     Ok(())
 }
 

@@ -1,15 +1,14 @@
-use Rattle.std.proofs.Common.{◌≡◌, ◌+◌, ◌-◌, ◌<◌, ◌≤◌, ◌++◌, ◌||◌, ◌∷◌, [], false, true, List, length, length-drop, drop, get_or, replicate, vec_len, sym, subst, ap, ◌∙◌, arith, append_assoc}
-use Rattle.std.proofs.lemmas.List.{append-nil, drop_all, get_or_default, take_all}
+use Rattle.std.proofs.Common.{◌≡◌, ◌+◌, ◌-◌, ◌<◌, ◌≤◌, ◌++◌, ◌||◌, ◌∷◌, [], false, true, List, length, length-drop, drop, sym, subst, ap, ◌∙◌, arith}
+use Rattle.std.proofs.lemmas.List.{drop_all, get_or_default, take_all}
 use Rattle.pf_shapes.specs.Pair.{is_before, Pair}
-use Rattle.pf_broad.specs.Enlarged.{flagged_without, has_one_of, pairs_without}
+use Rattle.pf_broad.specs.Enlarged.{has_one_of, pairs_without}
 use Rattle.pf_broad.specs.Pairs.{pair, pairs}
 use Rattle.pf_broad.specs.Partners.{has_body}
 use Rattle.pf_broad.proofs.Ascending.{ascending}
-use Rattle.pf_broad.proofs.Flagging.{bodies_below}
-use Rattle.pf_broad.proofs.Carrying.{flags_from, flags_of_all, flags_push}
 use Rattle.pf_broad.proofs.Merging.{from_place, merge_fresh, merge_other, merge_rest, others_from, passes_first, IsMerged}
 use Rattle.pf_broad.proofs.Searching.{has_one_read}
 use Rattle.pf_broad.proofs.Partnering.{filter-AreBodies}
+use Rattle.pf_broad.proofs.Within.{bodies_below}
 use Rattle.pf_broad.proofs.candidates.merge.Goals.{After-loop-i, In_ok-extend_from_slice, After-pair, After-index-in-loop-i, else-next-len-via-then-next-len+else-is_before, else-next-len-via-else-next-len}
 use Rattle.pf_broad.proofs.candidates.merge.Goals as goal
 
@@ -18,10 +17,7 @@ left_flags-requires c = filter-AreBodies c.args.enlarged.now (has_body c.args.le
 
 pub loop-i-init : goal.loop-i-init
 loop-i-init c =
-    let left = c.args.left.now in
     let enlarged = c.args.enlarged.now in
-    let fs = c.args.flags.now in
-    let cs = c.args.candidates.now in
     record {
       within = omega arith;
       next_within = omega arith;
@@ -32,11 +28,8 @@ loop-i-init c =
         passing = sym c.in_ok-fresh.ensures;
         failing = sym c.requires.others;
       };
-      as_many = ap length c.in_ok-merged_flags.ensures.items ∙ sym (ap length c.in_ok-merged.ensures.items);
-      flags = (λ k. flagged_without left (c.in_ok-merged_flags.ensures.items k) (c.in_ok-merged.ensures.items k) ++ flagged_without left fs cs);
       count = omega (arith, c.in_ok-merged.ensures.len);
       room = omega (arith, c.in_ok-merged.ensures.exact, c.len.ensures);
-      flags_room = omega (arith, c.in_ok-merged_flags.ensures.exact, c.len.ensures);
     }
 
 -- the next candidate is of two bodies that there are
@@ -65,7 +58,6 @@ loop-i-preserved-then-index c =
     let here = (goal.at.loop-i-preserved-then-index c).After-index-in-loop-i in
     let left = c.args.left.now in
     let cs = c.args.candidates.now in
-    let fs = c.args.flags.now in
     let i = c.loop-i.i in
     let inv = c.loop-i.invariant in
     let p = c.index-candidates-i.result in
@@ -75,12 +67,8 @@ loop-i-preserved-then-index c =
       next_within = inv.next_within;
       pairs = subst (λ l. IsMerged (has_one_of left) (pairs c.args.enlarged.now) c.loop-i.merged.items (drop c.loop-i.next c.in_ok-fresh.fresh.items) l)
           (others_from left cs i true p c.loop-i-test.true c.index-candidates-i.is is) inv.pairs;
-      as_many = inv.as_many;
-      flags = ap (λ l. flagged_without left c.loop-i.merged_flags.items c.loop-i.merged.items ++ l)
-          (sym (flags_from left fs cs i true p c.loop-i-test.true c.requires.flags c.index-candidates-i.is is)) ∙ inv.flags;
       count = omega (arith, inv.count);
       room = inv.room;
-      flags_room = inv.flags_room;
     }
 
 pub loop-i-preserved-then-is_before : goal.loop-i-preserved-then-is_before
@@ -105,13 +93,8 @@ loop-i-preserved-then-is_before c =
       pairs = subst (λ l. IsMerged t (pairs c.args.enlarged.now) l (drop (c.loop-i.next + 1) fresh) (pairs_without left (drop c.loop-i.i cs))) (sym c.push_reserved.ensures.items)
           (merge_fresh t (pairs c.args.enlarged.now) c.loop-i.merged.items _ _ _ _ p h at_p
           (others_from left cs c.loop-i.i false h c.loop-i-test.true c.index-candidates-i.is (tested here ∙ c.if-index.false)) first inv.pairs);
-      as_many = omega (arith, inv.as_many, c.push_reserved.ensures.len, c.push_reserved-then-is_before.ensures.len);
-      flags = ap (λ l. l ++ flagged_without left (drop c.loop-i.i c.args.flags.now) (drop c.loop-i.i cs))
-          ((λ k. flagged_without left (c.push_reserved-then-is_before.ensures.items k) (c.push_reserved.ensures.items k))
-          ∙ flags_push left c.loop-i.merged_flags.items c.loop-i.merged.items false true p inv.as_many is ∙ append-nil _) ∙ inv.flags;
       count = omega (arith, inv.count, c.push_reserved.ensures.len);
       room = omega (arith, inv.room, c.push_reserved.ensures.capacity);
-      flags_room = omega (arith, inv.flags_room, c.push_reserved-then-is_before.ensures.capacity);
     }
 
 pub loop-i-preserved : goal.loop-i-preserved
@@ -120,7 +103,6 @@ loop-i-preserved c =
     let left = c.args.left.now in
     let t = has_one_of left in
     let cs = c.args.candidates.now in
-    let fs = c.args.flags.now in
     let i = c.loop-i.i in
     let fresh = c.in_ok-fresh.fresh.items in
     let inv = c.loop-i.invariant in
@@ -139,23 +121,14 @@ loop-i-preserved c =
     ] in
     let pushed : c.push_reserved-else-next-len.new.self.items ≡ c.loop-i.merged.items ++ h ∷ [] =
     c.push_reserved-else-next-len.ensures.items ∙ ap (λ r. c.loop-i.merged.items ++ r ∷ []) c.pair.view_is in
-    let rest = flagged_without left (drop (i + 1) fs) (drop (i + 1) cs) in
     record {
       within = omega (arith, c.loop-i-test.true);
       next_within = inv.next_within;
       pairs = subst (λ l. IsMerged t (pairs c.args.enlarged.now) l (drop c.loop-i.next fresh) (pairs_without left (drop (i + 1) cs))) (sym pushed)
           (merge_other t (pairs c.args.enlarged.now) c.loop-i.merged.items _ _ _ h
           (others_from left cs i false h c.loop-i-test.true c.index-candidates-i.is is) after inv.pairs);
-      as_many = omega (arith, inv.as_many, c.push_reserved-else-next-len.ensures.len, c.push_reserved-else-next-len-2.ensures.len);
-      flags = ap (λ l. l ++ rest)
-          ((λ k. flagged_without left (c.push_reserved-else-next-len-2.ensures.items k) (pushed k))
-          ∙ flags_push left c.loop-i.merged_flags.items c.loop-i.merged.items (get_or fs i false) false h inv.as_many is)
-          ∙ append_assoc (flagged_without left c.loop-i.merged_flags.items c.loop-i.merged.items) ((get_or fs i false, h) ∷ []) rest
-          ∙ ap (λ l. flagged_without left c.loop-i.merged_flags.items c.loop-i.merged.items ++ l)
-          (sym (flags_from left fs cs i false h c.loop-i-test.true c.requires.flags c.index-candidates-i.is is)) ∙ inv.flags;
       count = omega (arith, inv.count, c.push_reserved-else-next-len.ensures.len);
       room = omega (arith, inv.room, c.push_reserved-else-next-len.ensures.capacity);
-      flags_room = omega (arith, inv.flags_room, c.push_reserved-else-next-len-2.ensures.capacity);
     }
 
 -- all others are merged
@@ -177,21 +150,5 @@ all_pairs c =
     ∙ merge_rest (has_one_of c.args.left.now) (pairs c.args.enlarged.now) c.loop-i.merged.items (drop c.loop-i.next c.in_ok-fresh.fresh.items)
     (all_merged (goal.at.In_ok-extend_from_slice c).After-loop-i c.loop-i-test.false)
 
-pub returns-clause-pairs : goal.returns-clause-pairs
-returns-clause-pairs c = all_pairs (goal.at.returns-clause-pairs c).In_ok-extend_from_slice
-
-pub returns-clause-as_many : goal.returns-clause-as_many
-returns-clause-as_many c =
-    omega (arith, c.in_ok-resize.ensures.len, c.len-2.ensures, ap length (all_pairs (goal.at.returns-clause-as_many c).In_ok-extend_from_slice))
-
-pub returns-clause-others : goal.returns-clause-others
-returns-clause-others c =
-    let left = c.args.left.now in
-    let fs = c.args.flags.now in
-    let cs = c.args.candidates.now in
-    let inv = c.loop-i.invariant in
-    ap (λ l. flagged_without left l (pairs c.args.enlarged.now))
-    (c.in_ok-resize.ensures.items ∙ ap (λ l. l ++ replicate (c.len-2.result - vec_len c.loop-i.merged_flags) false) (take_all _ c.loop-i.merged_flags.items
-    (omega (arith, inv.as_many, c.len-2.ensures, c.in_ok-extend_from_slice.ensures.len))))
-    ∙ flags_of_all left (pairs c.args.enlarged.now) c.loop-i.merged.items (drop c.loop-i.next c.in_ok-fresh.fresh.items) c.loop-i.merged_flags.items (replicate (c.len-2.result - vec_len c.loop-i.merged_flags) false)
-    fs cs c.loop-i.i (all_merged (goal.at.returns-clause-others c).After-loop-i c.loop-i-test.false) inv.as_many c.loop-i-test.false c.requires.flags inv.flags
+pub returns : goal.returns
+returns c = all_pairs (goal.at.returns c).In_ok-extend_from_slice

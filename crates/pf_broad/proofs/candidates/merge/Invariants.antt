@@ -1,5 +1,5 @@
-use Rattle.std.proofs.Common.{◌≡◌, ◌≤◌, ◌+◌, ◌-◌, ◌++◌, length, drop, vec_capacity, vec_len}
-use Rattle.pf_broad.specs.Enlarged.{flagged_without, has_one_of, pairs_without}
+use Rattle.std.proofs.Common.{◌≤◌, ◌+◌, ◌-◌, length, drop, vec_capacity, vec_len}
+use Rattle.pf_broad.specs.Enlarged.{has_one_of, pairs_without}
 use Rattle.pf_broad.specs.Pairs.{pairs}
 use Rattle.pf_broad.proofs.Merging.{IsMerged}
 use Rattle.pf_broad.proofs.candidates.merge.Given as goal
@@ -9,12 +9,8 @@ invariant-loop-i l = record {
   within : l.i ≤ length l.candidates;
   next_within : l.next ≤ length l.fresh.items;
   pairs : IsMerged (has_one_of l.left) (pairs l.enlarged) l.merged.items (drop l.next l.fresh.items) (pairs_without l.left (drop l.i l.candidates));
-  as_many : length l.merged_flags.items ≡ length l.merged.items;
-  flags : flagged_without l.left l.merged_flags.items l.merged.items ++ flagged_without l.left (drop l.i l.flags) (drop l.i l.candidates)
-      ≡ flagged_without l.left l.flags l.candidates;
   count : vec_len l.merged ≤ l.i + l.next;
   room : length l.candidates + length l.fresh.items ≤ vec_capacity l.merged;
-  flags_room : length l.candidates + length l.fresh.items ≤ vec_capacity l.merged_flags;
 }
 
 abbrev pub decreases-loop-i : goal.decreases-loop-i

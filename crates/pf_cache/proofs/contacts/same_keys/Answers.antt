@@ -1,13 +1,6 @@
 use Rattle.std.proofs.Common.{◌<◌, arith, length}
-use Rattle.pf_cache.proofs.Runs.{keys_known, keys_more}
+use Rattle.pf_cache.proofs.Runs.{keys_more}
 use Rattle.pf_cache.proofs.contacts.same_keys.Goals as goal
-
-pub loop-count-init : goal.loop-count-init
-loop-count-init c = record {
-  contacts = omega (arith, c.min-count.ensures, c.min-end.ensures);
-  touches = omega (arith, c.min-count.ensures, c.min-end.ensures);
-  same = keys_known c.args.contacts.now c.args.touches.now c.min-count.result c.args.known (omega (arith, c.min-count.ensures)) c.requires;
-}
 
 pub loop-count-preserved : goal.loop-count-preserved
 loop-count-preserved c =

@@ -5,8 +5,8 @@ use Rattle.pf_islands.proofs.ActiveRows.{row_at}
 use Rattle.pf_islands.proofs.Dealing.{full_part}
 use Rattle.pf_islands.proofs.splitting.deal.Given as goal
 
-abbrev pub invariant-loop-place : goal.invariant-loop-place
-invariant-loop-place l =
+abbrev pub invariant-loop-point : goal.invariant-loop-point
+invariant-loop-point l =
     l.made.items
-    ≡ map (full_part l.labels (only_awake l.numbers l.bodies) (map (row_at l.scene l.touches l.contacts) (take l.place-index l.places)))
+    ≡ map (full_part l.labels (only_awake l.numbers l.bodies) (map (row_at l.scene l.contacts) (take l.point-index l.points)))
     (active_labels l.labels (only_awake l.numbers l.bodies))

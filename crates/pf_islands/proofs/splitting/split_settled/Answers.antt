@@ -2,39 +2,41 @@ use Rattle.std.proofs.Common.{◌≡◌, ◌∙◌, ◌<◌, ◌==◌, ℕ, List
 use Rattle.std.proofs.lemmas.List.Elements.{All-filter}
 use Rattle.std.specs.List.{list_any, range_with_len}
 use Rattle.pf_manifold.specs.Key.{IsRising}
-use Rattle.pf_manifold.specs.Touches.{IsTouchOf}
+use Rattle.pf_manifold.specs.Touches.{IsTouchOf, Touch}
 use Rattle.pf_cache.proofs.ChosenNumbers.{number_low}
-use Rattle.pf_islands.specs.Lone.{group_of_touch, is_dealt}
+use Rattle.pf_islands.specs.Lone.{group_of_touch, is_dealt, lone_numbers, made_islands, only_awake}
 use Rattle.pf_islands.specs.Rows.{is_awake_at}
-use Rattle.pf_islands.specs.Settled.{touches_at}
+use Rattle.pf_islands.specs.Settled.{touches_of}
+use Rattle.pf_islands.proofs.ActiveRows.{of_active}
 use Rattle.pf_islands.proofs.Members.{filter_rises, range_rises}
 use Rattle.pf_islands.proofs.Parted.{IsParted, parted}
-use Rattle.pf_islands.proofs.SettledGroups.{labels_long, others_alone}
+use Rattle.pf_islands.proofs.SettledGroups.{labels_long, others_alone, same_islands}
 use Rattle.pf_islands.proofs.splitting.split_settled.Goals as goal
 use Rattle.pf_islands.proofs.splitting.split_settled.Goals.{After-labels-labels, After-deref-2}
 
 -- there is a label for each body
 as_many : (c : After-labels-labels) → length c.labels-labels.result.now ≡ length c.args.bodies.now
 as_many c =
-    labels_long c.args.scene.now c.args.bodies.now c.args.touches.now c.requires.bodies c.requires.settled
-    c.labels-labels.result.now c.as_slice-places.result.now (c.as_slice-places.ensures.value ∙ c.requires.active)
+    labels_long c.args.scene.now c.args.bodies.now c.requires.settled.touches c.requires.bodies c.requires.settled.settled
+    c.labels-labels.result.now c.as_slice-points.result.now (c.as_slice-points.ensures.value ∙ c.requires.settled.active)
     (c.labels-labels.ensures.value ∙ c.in_ok-groups.ensures.value)
 
 -- the bodies that go into islands, and the others
 parts : (c : After-deref-2)
-    → IsParted c.args.scene.now c.args.bodies.now c.args.touches.now c.args.contacts.now c.args.lone c.deref-2.result.now
+    → IsParted c.args.scene.now c.args.bodies.now c.requires.settled.touches c.args.contacts.now c.args.lone c.deref-2.result.now
     c.in_ok-dealt.lone_numbers.items
 parts c =
     let labels = c.labels-labels.result.now in
-    let places = c.as_slice-places.result.now in
+    let points = c.as_slice-points.result.now in
+    let settled = c.requires.settled in
     let counts = c.deref.result.now in
     let awake = c.as_slice-numbers.ensures.value ∙ c.requires.numbers in
-    parted c.args.scene.now c.args.bodies.now c.args.touches.now c.args.contacts.now c.args.lone c.requires.bodies
-    c.requires.settled c.requires.touches labels places counts c.deref-2.result.now c.in_ok-dealt.lone_numbers.items
-    (c.as_slice-places.ensures.value ∙ c.requires.active) (c.labels-labels.ensures.value ∙ c.in_ok-groups.ensures.value)
+    parted c.args.scene.now c.args.bodies.now c.requires.settled.touches c.args.contacts.now c.args.lone c.requires.bodies
+    settled.settled settled.of_bodies labels counts c.deref-2.result.now c.in_ok-dealt.lone_numbers.items points
+    (c.as_slice-points.ensures.value ∙ c.requires.settled.active) (c.labels-labels.ensures.value ∙ c.in_ok-groups.ensures.value)
     (subst
     (λ (ns : List ℕ). (label : ℕ) → label < length labels → (get_or ns label 0 == 0)
-    ≡ not (list_any (λ t. group_of_touch c.args.scene.now labels t == label) (touches_at c.args.touches.now places)))
+    ≡ not (list_any (λ t. group_of_touch c.args.scene.now labels t == label) (touches_of points)))
     (sym c.deref.ensures.value) c.in_ok-rows.ensures.none)
     (c.deref-2.ensures.value ∙ c.in_ok-dealt.ensures.dealt
     ∙ ap (filter (λ n. is_dealt c.args.lone (get_or counts (get_or labels n 0) 0))) awake)
@@ -43,18 +45,28 @@ parts c =
 
 pub new-requires-clause-numbers : goal.new-requires-clause-numbers
 new-requires-clause-numbers c =
-    others_alone c.args.scene.now c.args.bodies.now c.args.touches.now c.requires.bodies c.requires.settled
-    c.as_slice-places.result.now c.as_slice-numbers.result.now (c.as_slice-places.ensures.value ∙ c.requires.active)
+    others_alone c.args.scene.now c.args.bodies.now c.requires.settled.touches c.requires.bodies c.requires.settled.settled
+    c.as_slice-points.result.now c.as_slice-numbers.result.now (c.as_slice-points.ensures.value ∙ c.requires.settled.active)
     (c.as_slice-numbers.ensures.value ∙ c.requires.numbers)
 
 pub row_counts-requires-clause-labels : goal.row_counts-requires-clause-labels
 row_counts-requires-clause-labels c =
     as_many (goal.at.row_counts-requires-clause-labels c).After-labels-labels ∙ c.requires.bodies
 
+pub new-requires-clause-touches : goal.new-requires-clause-touches
+new-requires-clause-touches c =
+    let settled = c.requires.settled in
+    subst (λ n. All (λ (m : ℕ × Touch). IsTouchOf n m.1) c.as_slice-points.result.now) c.requires.bodies
+    (of_active c.args.scene.now c.args.bodies.now settled.touches c.as_slice-points.result.now (IsTouchOf (length c.args.bodies.now))
+    (c.as_slice-points.ensures.value ∙ settled.active) settled.of_bodies)
+
 pub row_counts-requires-clause-touches : goal.row_counts-requires-clause-touches
 row_counts-requires-clause-touches c =
-    subst (λ n. All (IsTouchOf n) c.args.touches.now)
-    (sym (as_many (goal.at.row_counts-requires-clause-touches c).After-labels-labels)) c.requires.touches
+    let settled = c.requires.settled in
+    subst (λ n. All (λ (m : ℕ × Touch). IsTouchOf n m.1) c.as_slice-points.result.now)
+    (sym (as_many (goal.at.row_counts-requires-clause-touches c).After-labels-labels))
+    (of_active c.args.scene.now c.args.bodies.now settled.touches c.as_slice-points.result.now (IsTouchOf (length c.args.bodies.now))
+    (c.as_slice-points.ensures.value ∙ settled.active) settled.of_bodies)
 
 pub parted_numbers-requires-clause-numbers : goal.parted_numbers-requires-clause-numbers
 parted_numbers-requires-clause-numbers c =
@@ -69,21 +81,20 @@ deal-requires-clause-as_many_bodies c = (parts (goal.at.deal-requires-clause-as_
 pub deal-requires-clause-states : goal.deal-requires-clause-states
 deal-requires-clause-states c = (parts (goal.at.deal-requires-clause-states c).After-deref-2).states
 
-pub deal-requires-clause-touches : goal.deal-requires-clause-touches
-deal-requires-clause-touches c =
-    subst (λ n. All (IsTouchOf n) c.args.touches.now)
-    (sym (parts (goal.at.deal-requires-clause-touches c).After-deref-2).long) c.requires.touches
-
 pub deal-requires-clause-settled : goal.deal-requires-clause-settled
-deal-requires-clause-settled c = (parts (goal.at.deal-requires-clause-settled c).After-deref-2).settled
+deal-requires-clause-settled c =
+    let parted = parts (goal.at.deal-requires-clause-settled c).After-deref-2 in
+    let settled = c.requires.settled in
+    record {
+      touches = settled.touches;
+      of_bodies = subst (λ n. All (IsTouchOf n) settled.touches) (sym parted.long) settled.of_bodies;
+      as_many = settled.as_many;
+      settled = parted.settled;
+      active = c.as_slice-points.ensures.value ∙ settled.active ∙ parted.points;
+    }
 
 pub deal-requires-clause-numbers : goal.deal-requires-clause-numbers
 deal-requires-clause-numbers c = (parts (goal.at.deal-requires-clause-numbers c).After-deref-2).numbers_are
-
-pub deal-requires-clause-active : goal.deal-requires-clause-active
-deal-requires-clause-active c =
-    c.as_slice-places.ensures.value ∙ c.requires.active
-    ∙ (parts (goal.at.deal-requires-clause-active c).After-deref-2).places
 
 pub returns-clause-parts : goal.returns-clause-parts
 returns-clause-parts c =
@@ -94,9 +105,19 @@ returns-clause-parts c =
     let awake = c.as_slice-numbers.ensures.value ∙ c.requires.numbers in
     let is_lone = λ (n : ℕ).
     not (is_dealt c.args.lone (get_or c.deref.result.now (get_or c.labels-labels.result.now n 0) 0)) in
+    let s = c.args.scene.now in
+    let bodies = c.args.bodies.now in
+    let contacts = c.args.contacts.now in
+    let settled = c.requires.settled in
+    let points = c.as_slice-points.result.now in
+    let active = c.as_slice-points.ensures.value ∙ settled.active in
+    let seen = same_islands s (only_awake c.deref-2.result.now bodies) settled.touches contacts (parted.long ∙ c.requires.bodies)
+    parted.settled points (active ∙ parted.points) in
+    let all = sym
+    (same_islands s bodies settled.touches contacts c.requires.bodies settled.settled c.args.active.now.points.items settled.active) in
     record {
-      made = c.in_ok-islands.ensures.value ∙ parted.made;
-      listed = parted.alone_are;
+      made = c.in_ok-islands.ensures.value ∙ seen ∙ parted.made ∙ ap (made_islands c.args.lone) all;
+      listed = parted.alone_are ∙ ap (lone_numbers c.args.lone) all;
       fit = c.in_ok-islands.ensures.fit;
       order = subst (IsRising 0) (sym (c.in_ok-dealt.ensures.lone_numbers ∙ ap (filter is_lone) awake))
           (filter_rises is_lone 0 (filter is_awake numbers) (filter_rises is_awake 0 numbers (range_rises 0 count)));

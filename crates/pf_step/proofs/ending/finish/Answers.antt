@@ -28,6 +28,7 @@ use Rattle.pf_step.proofs.Following.{islands_within}
 use Rattle.pf_step.proofs.Joined.{ended_join}
 use Rattle.pf_step.proofs.Parted.{made_at_contacts, made_at_home, noted_in_order, others, parted_before, parted_bodies, parted_contacts, parted_have_awake}
 use Rattle.pf_step.proofs.Restored.{contacts_restored}
+use Rattle.pf_step.proofs.Touching.{points_in_order}
 use Rattle.pf_step.proofs.ending.finish.Goals.{After-deref-2, After-deref_mut-2, After-prepare, In_ok-islands, In_ok-update_contacts}
 use Rattle.pf_step.proofs.ending.finish.Goals as goal
 
@@ -39,14 +40,11 @@ contacts_are : (g : _) (c : In_ok-update_contacts g)
 contacts_are g c =
     c.in_ok-update_contacts.ensures.value
     ∙ ap₂ next_contacts (ap (λ (v : World). v.contacts) c.world.view_is)
-    (c.touches-touches.ensures.value ∙ ap (λ (x : FoundCollisions). kept_touches x.collisions.manifolds) c.found.view_is ∙ c.requires.points)
+    (ap (λ (x : FoundCollisions). kept_touches x.collisions.manifolds) c.found.view_is ∙ c.requires.points)
 
 -- the points are in the order of their keys
 in_order : (g : _) (c : In_ok-update_contacts g) → AreTouches (touches_of_scene c.args.scene.now c.args.world.now.bodies)
-in_order g c =
-    subst AreTouches
-    (c.touches-touches.ensures.value ∙ ap (λ (x : FoundCollisions). kept_touches x.collisions.manifolds) c.found.view_is ∙ c.requires.points)
-    c.touches-touches.ensures.order
+in_order g c = points_in_order c.args.scene.now c.args.world.now.bodies c.requires.bodies c.fixtures.ensures.scene
 
 -- the islands and the lone bodies are those of the tick
 all_are : (g : _) (c : In_ok-islands g)
@@ -111,13 +109,30 @@ restored g c =
 
 -- ---- the answers
 
+pub update_contacts-requires-clause-order : goal.update_contacts-requires-clause-order
+update_contacts-requires-clause-order g c =
+    subst AreTouches
+    (sym (ap (λ (x : FoundCollisions). kept_touches x.collisions.manifolds) c.found.view_is ∙ c.requires.points))
+    (points_in_order c.args.scene.now c.args.world.now.bodies c.requires.bodies c.fixtures.ensures.scene)
+
+pub update_contacts-requires-clause-known : goal.update_contacts-requires-clause-known
+update_contacts-requires-clause-known g c = λ are_known.
+    ap (λ (v : World). map (λ (x : Contact). x.key) v.contacts) c.world.view_is
+    ∙ c.requires.known are_known
+    ∙ ap (λ (x : FoundCollisions). map key_of (kept_touches x.collisions.manifolds)) (sym c.found.view_is)
+
+pub prepare-requires-clause-order : goal.prepare-requires-clause-order
+prepare-requires-clause-order g c =
+    subst (λ (v : World). AreTouches (touches_of_scene c.args.scene.now v.bodies)) (sym c.world.view_is)
+    (in_order g (goal.at.prepare-requires-clause-order g c).In_ok-update_contacts)
+
 pub prepare-requires-clause-keys : goal.prepare-requires-clause-keys
 prepare-requires-clause-keys g c =
     let s = c.args.scene.now in
     let w = c.args.world.now in
-    let points = c.touches-touches.ensures.value ∙ ap (λ (x : FoundCollisions). kept_touches x.collisions.manifolds) c.found.view_is ∙ c.requires.points in
+    let points = ap (λ (x : FoundCollisions). kept_touches x.collisions.manifolds) c.found.view_is ∙ c.requires.points in
     ap (map (λ (x : Contact). x.key)) c.in_ok-update_contacts.ensures.value
-    ∙ same_keys c.world.inside.contacts c.touches-touches.result.now ∙ ap (map key_of) points
+    ∙ same_keys c.world.inside.contacts _ ∙ ap (map key_of) points
     ∙ ap (λ (v : World). map key_of (touches_of_scene s v.bodies)) (sym c.world.view_is)
 
 pub join_back-requires-clause-bodies : goal.join_back-requires-clause-bodies

@@ -15,13 +15,13 @@ use Rattle.pf_step.proofs.ending.prepare.Goals.{In_ok-parts}
 use Rattle.pf_step.proofs.ending.prepare.Goals as goal
 
 -- the islands are made of the points, the bodies and the contacts of the tick
-made_of : (c : In_ok-parts) → woken_islands c.args.scene.now c.deref-2.result.now (kept_touches c.collisions.inside.manifolds) c.as_slice.result.now
+made_of : (c : In_ok-parts) → woken_islands c.args.scene.now c.deref.result.now (kept_touches c.collisions.inside.manifolds) c.as_slice.result.now
     ≡ islands_with c.args.scene.now c.args.world.now.contacts c.args.world.now.bodies
 made_of c =
     let w = c.args.world.now in
-    islands_are c.args.scene.now w.contacts w.bodies (kept_touches c.collisions.inside.manifolds) c.deref-2.result.now c.as_slice.result.now
+    islands_are c.args.scene.now w.contacts w.bodies (kept_touches c.collisions.inside.manifolds) c.deref.result.now c.as_slice.result.now
     (ap (λ (x : Collisions). kept_touches x.manifolds) c.collisions.view_is ∙ c.requires.points)
-    (c.deref-2.ensures.value ∙ ap (λ (v : World). v.bodies) c.world.view_is)
+    (c.deref.ensures.value ∙ ap (λ (v : World). v.bodies) c.world.view_is)
     (c.as_slice.ensures.value ∙ ap (λ (v : World). v.contacts) c.world.view_is)
 
 parts_are : (c : In_ok-parts)
@@ -35,7 +35,7 @@ parts_are c =
       fit = is.fit;
       order = is.order;
       there = subst (λ (bs : List BodyState). All (λ number. number < length bs) c.in_ok-parts.parts.lone_numbers.items)
-          (c.deref-2.ensures.value ∙ ap (λ (v : World). v.bodies) c.world.view_is) is.there;
+          (c.deref.ensures.value ∙ ap (λ (v : World). v.bodies) c.world.view_is) is.there;
     }
 
 pub returns-clause-parts : goal.returns-clause-parts
@@ -45,8 +45,8 @@ pub note_impulses-requires : goal.note_impulses-requires
 note_impulses-requires c =
     let s = c.args.scene.now in
     let w = c.args.world.now in
-    let found = c.deref-7.ensures.value ∙ (parts_are (goal.at.note_impulses-requires c).In_ok-parts).made in
-    subst (λ cs. All (λ (x : Island). AreRowsAt cs x.rows) c.deref-7.result.now) (sym (ap (λ (v : World). v.contacts) c.world.view_is))
+    let found = c.deref-6.ensures.value ∙ (parts_are (goal.at.note_impulses-requires c).In_ok-parts).made in
+    subst (λ cs. All (λ (x : Island). AreRowsAt cs x.rows) c.deref-6.result.now) (sym (ap (λ (v : World). v.contacts) c.world.view_is))
     (subst (All (λ (x : Island). AreRowsAt w.contacts x.rows)) (sym found)
     (All-filter (is_made c.args.lone) (λ (x : Island). AreRowsAt w.contacts x.rows) (islands_with s w.contacts w.bodies)
     (islands_beside s w.contacts w.bodies c.requires.order c.requires.keys)))
@@ -54,7 +54,7 @@ note_impulses-requires c =
 pub returns-clause-impulses : goal.returns-clause-impulses
 returns-clause-impulses c =
     let change = c.note_impulses.new.self.contacts in
-    let found = c.deref-7.ensures.value ∙ (parts_are (goal.at.returns-clause-impulses c).In_ok-parts).made in
+    let found = c.deref-6.ensures.value ∙ (parts_are (goal.at.returns-clause-impulses c).In_ok-parts).made in
     subst (All (λ (x : Island). MayChange change x.rows)) found c.in_ok-note_impulses.ensures.noted
 
 pub returns-clause-noted : goal.returns-clause-noted
@@ -66,13 +66,13 @@ returns-clause-noted c =
     let found = islands_with c.args.scene.now w.contacts w.bodies in
     let first = changes_of_islands w.bodies (made_islands c.args.lone found) in
     c.note_impulses.ensures.bodies ∙ c.in_ok-note_bodies.ensures.noted
-    ∙ ap₂ (λ (cs : List BodyChange) (ns : List ℕ). cs ++ changes_of c.deref-5.result.now ns)
+    ∙ ap₂ (λ (cs : List BodyChange) (ns : List ℕ). cs ++ changes_of c.deref-4.result.now ns)
     (c.in_ok-note_islands.ensures.noted
     ∙ ap₂ (λ (bs : List BodyState) (islands : List Island). noted ++ changes_of_islands bs islands)
-    (c.deref-3.ensures.value ∙ own) (c.deref-4.ensures.value ∙ parted.made))
-    (c.deref-6.ensures.value ∙ parted.listed)
+    (c.deref-2.ensures.value ∙ own) (c.deref-3.ensures.value ∙ parted.made))
+    (c.deref-5.ensures.value ∙ parted.listed)
     ∙ ap (λ (bs : List BodyState). noted ++ first ++ changes_of bs (lone_numbers c.args.lone found))
-    (c.deref-5.ensures.value ∙ own)
+    (c.deref-4.ensures.value ∙ own)
 
 pub returns-in_err-note_impulses-clause-same_contacts : goal.returns-in_err-note_impulses-clause-same_contacts
 returns-in_err-note_impulses-clause-same_contacts c =

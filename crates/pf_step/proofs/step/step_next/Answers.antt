@@ -5,7 +5,7 @@ use Rattle.std.proofs.lemmas.List.{with_items_is}
 use Rattle.std.specs.Vec.{with_items}
 use Rattle.pf_shapes.specs.Body.{BodyState}
 use Rattle.pf_manifold.specs.Key.{key_of}
-use Rattle.pf_cache.specs.Contact.{Contact, HaveSameFirst}
+use Rattle.pf_cache.specs.Contact.{Contact}
 use Rattle.pf_broad.specs.Pairs.{all_bounds}
 use Rattle.pf_commands.specs.Payload.{body_of}
 use Rattle.pf_cache.specs.Manifolds.{Collisions, Manifolds, kept_touches, no_manifolds, placed_shapes}
@@ -21,7 +21,6 @@ use Rattle.pf_step.specs.Stepping.{FailsBy}
 use Rattle.pf_step.specs.Work.{Work, moved_bodies, work_after_tick}
 use Rattle.pf_step.specs.World.{World}
 use Rattle.pf_step.proofs.Commanding.{commands_length, commands_undone}
-use Rattle.pf_cache.proofs.FirstKeys.{none_same}
 use Rattle.pf_cache.proofs.Restoring.{none_noted as no_contact_noted}
 use Rattle.pf_step.proofs.Awake.{listed_after_commands}
 use Rattle.pf_step.proofs.Contacts.{step_keys}
@@ -160,22 +159,19 @@ finish-requires-clause-awake g c =
     (with_items c.world.inside.bodies c.apply_all.new.bodies).items c.requires.follows (c.bodies.ensures ∙ notes) commanded
     (moved_are g (goal.at.finish-requires-clause-awake g c).In_ok-list_moved)
 
--- the first contacts have the keys of the first points
+-- the contacts have the keys of the points
 pub finish-requires-clause-known : goal.finish-requires-clause-known
-finish-requires-clause-known g c =
-    let s = c.args.scene.now in
+finish-requires-clause-known g c = λ are_known.
     let w = c.args.world.now in
     let found = c.in-Ok.found in
-    let points = map key_of (kept_touches found.collisions.manifolds) in
     let contacts = ap (λ (x : World). x.contacts) c.world.view_is in
-    subst (λ (cs : List Contact). HaveSameFirst c.if-is_known.known (map (λ x. x.key) cs) points) (sym contacts)
-    (elim c.if-is_known.branch [
+    ap (λ (cs : List Contact). map (λ (x : Contact). x.key) cs) contacts
+    ∙ (elim c.if-is_known.branch [
       | then-is_known x ↦
-          rw x.known-is
-          (keys_after_commands s w c.args.work.now c.take_manifolds-kept.result.0 found.collisions.manifolds found.same
+          keys_after_commands c.args.scene.now w c.args.work.now c.take_manifolds-kept.result.0 found.collisions.manifolds
           c.requires.follows (sym c.take_manifolds-kept.ensures.taken.1 ∙ x.if-is_known.true) c.take_manifolds-kept.ensures.taken.0
-          c.in-Ok.ensures.same)
-      | else-is_known x ↦ none_same _ (map (λ (y : Contact). y.key) w.contacts) points x.known-is
+          (c.in-Ok.ensures.same_keys (sym x.are_known-is ∙ are_known))
+      | else-is_known x ↦ absurd (true≢false (sym are_known ∙ x.are_known-is ∙ x.if-is_known.false))
     ])
 
 pub returns-in_err-list_moved-clause-no_memory : goal.returns-in_err-list_moved-clause-no_memory

@@ -1,7 +1,6 @@
 use Rattle.std.proofs.Common.{All, List, ap, sym, subst, ◌∙◌}
 use Rattle.pf_shapes.specs.Bounds.{Bounds, IsOrdered}
 use Rattle.pf_broad.specs.Pairs.{pairs}
-use Rattle.pf_broad.specs.Kept.{flagged}
 use Rattle.pf_broad.proofs.Enlarging.{candidates_of, enlarged_bounds-IsOrdered}
 use Rattle.pf_broad.proofs.kept.BroadPhase.of.Goals as goal
 
@@ -16,9 +15,6 @@ all_pairs-requires-clause-ordered c =
     subst P (sym c.deref-2.ensures.value) (enlarged_bounds-IsOrdered c.in_ok-enlarged.enlarged.items c.args.bounds.now c.in_ok-enlarged.ensures c.requires.ordered)
 
 pub invariant_of-result : goal.invariant_of-result
-invariant_of-result c = (
-  candidates_of c.in_ok-enlarged.enlarged.items c.args.bounds.now c.in_ok-candidates.candidates.items c.in_ok-enlarged.ensures c.requires.ordered c.requires.few
-      (c.in_ok-candidates.ensures ∙ ap pairs c.deref-2.ensures.value),
-  λ long. c.new-2.ensures.items ∙ ap (λ l. flagged l c.in_ok-candidates.candidates.items) (sym c.new.ensures.items),
-  c.none.ensures _ _,
-)
+invariant_of-result c =
+    candidates_of c.in_ok-enlarged.enlarged.items c.args.bounds.now c.in_ok-candidates.candidates.items c.in_ok-enlarged.ensures c.requires.ordered c.requires.few
+    (c.in_ok-candidates.ensures ∙ ap pairs c.deref-2.ensures.value)

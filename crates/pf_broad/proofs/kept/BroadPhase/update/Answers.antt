@@ -1,20 +1,18 @@
-use Rattle.std.proofs.Common.{◌||◌, true, refl, sym, subst}
-use Rattle.pf_shapes.specs.Pair.{IsAscending}
-use Rattle.pf_broad.specs.Partners.{has_body}
-use Rattle.pf_broad.proofs.Ascending.{ascending}
-use Rattle.pf_broad.proofs.Few.{few_bounds}
-use Rattle.pf_broad.proofs.Placing.{places_of_none}
-use Rattle.pf_broad.proofs.Within.{pairs-IsPairOf}
+use Rattle.std.proofs.Common.{◌≡◌, ◌∷◌, [], ℕ, List, eqb-true, length, vec_len, refl, sym, ap, ◌∙◌, arith}
+use Rattle.std.proofs.lemmas.Bool.Decides.{nat_tests}
+use Rattle.pf_broad.specs.Enlarged.{left_bodies}
+use Rattle.pf_broad.proofs.Leaving.{none_left}
 use Rattle.pf_broad.proofs.kept.BroadPhase.update.Goals as goal
 
-pub returns-then-bounds-lt2-clause-pairs : goal.returns-then-bounds-lt2-clause-pairs
-returns-then-bounds-lt2-clause-pairs c = cc (few_bounds c.args.bounds.now c.if-bounds-lt2.true)
-
-pub returns-then-bounds-lt2-clause-places : goal.returns-then-bounds-lt2-clause-places
-returns-then-bounds-lt2-clause-places c = (true, λ _. refl, places_of_none (λ k. true || has_body c.args.moved.now k) _ _ (cc) (cc))
-
-pub returns-clause-ascending : goal.returns-clause-ascending
-returns-clause-ascending c = subst IsAscending (sym c.in_ok-next-2.ensures.kept.pairs) (ascending c.args.bounds.now)
-
-pub returns-clause-bodies : goal.returns-clause-bodies
-returns-clause-bodies c = pairs-IsPairOf c.args.bounds.now c.in_ok-next-2.next.pairs _ c.in_ok-next-2.ensures.kept.pairs refl
+pub returns-then-is_empty-clause-enlarged : goal.returns-then-is_empty-clause-enlarged
+returns-then-is_empty-clause-enlarged c =
+    let bounds = c.args.bounds.now in
+    let shown : c.deref.result.now ≡ c.replace-kept.result = c.deref.ensures.value ∙ c.kept.view_is in
+    let as_many : length c.replace-kept.result ≡ length bounds = grind (arith, nat_tests, ap length shown) in
+    let empty : vec_len c.in_ok-left.left ≡ 0 = eqb-true (vec_len c.in_ok-left.left) 0 (sym c.is_empty.ensures ∙ c.if-is_empty.true) in
+    none_left c.replace-kept.result bounds as_many
+    (ap (λ l. left_bodies l bounds) (sym shown) ∙ sym c.in_ok-left.ensures ∙ none c.in_ok-left.left.items (omega (arith, empty)))
+  where
+    none : (l : List ℕ) → length l ≡ 0 → l ≡ []
+    none [] long = refl
+    none (x ∷ xs) long = absurd (omega arith)

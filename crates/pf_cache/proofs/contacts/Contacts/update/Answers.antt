@@ -16,7 +16,7 @@ returns-then-is_count_of_both-clause-value c =
     let all = c.is_count_of_both.ensures.0 c.if-is_count_of_both.true in
     let same_list = ap length (c.deref-then-may_stay.ensures.value ∙ sym c.deref.ensures.value) in
     subst (λ cs. cs ≡ next_contacts cs touches) (c.deref.ensures.value ∙ c.self.view_is)
-    (sym (next_same c.deref.result.now touches same c.requires.touches (all.0 ∙ same_list) all.1 keys))
+    (sym (next_same c.deref.result.now touches same c.requires (all.0 ∙ same_list) all.1 keys))
 
 pub returns-then-is_count_of_both-clause-before : goal.returns-then-is_count_of_both-clause-before
 returns-then-is_count_of_both-clause-before c =
@@ -42,7 +42,7 @@ pub add_next-requires-clause-touches : goal.add_next-requires-clause-touches
 add_next-requires-clause-touches c =
     let touches = c.args.touches.now in
     let same = c.same_keys-same.result in
-    subst AreTouches (sym (rest_is touches same)) (rest_are_touches same touches c.requires.touches)
+    subst AreTouches (sym (rest_is touches same)) (rest_are_touches same touches c.requires)
 
 next : (c : goal.After-add_next) → c.add_next.new.list.items ≡ next_contacts c.self.inside.list.items c.args.touches.now
 next c =
@@ -58,11 +58,11 @@ next c =
     c.add_next.ensures
     ∙ ap₂ (λ xs ys. xs ++ ys) (c.add_all.ensures.items ∙ ap₂ (λ xs ys. xs ++ take same ys) empty moved_first)
     (ap₂ next_contacts (rest_is c.deref-3.result.now same ∙ ap (drop same) moved) (rest_is touches same))
-    ∙ next_from old touches same c.requires.touches inside c.same_keys-same.ensures.touches keys
+    ∙ next_from old touches same c.requires inside c.same_keys-same.ensures.touches keys
 
 pub invariant_of-self : goal.invariant_of-self
 invariant_of-self c =
-    subst AreContacts (sym (next c)) (updated_are_contacts c.self.inside.list.items c.args.touches.now c.requires.touches)
+    subst AreContacts (sym (next c)) (updated_are_contacts c.self.inside.list.items c.args.touches.now c.requires)
 
 pub returns-clause-value : goal.returns-clause-value
 returns-clause-value c = next c ∙ ap (λ cs. next_contacts cs c.args.touches.now) c.self.view_is

@@ -1,22 +1,21 @@
-use Rattle.std.proofs.Common.{◌≡◌, ⊎_elim, ◌∙◌, ◌<◌, ℕ, Bool, ◌||◌, false, true≢false, All, List, ap, arith, get_or, length, map, subst, sym}
-use Rattle.std.proofs.lemmas.Bool.{cases_eq, cases_lt, or_parts}
-use Rattle.std.specs.List.{flat_map}
+use Rattle.std.proofs.Common.{◌≡◌, ◌∙◌, ◌<◌, All, ap, arith, false, filter, get_or, length, map, rules, subst, sym, true}
+use Rattle.std.proofs.lemmas.List.Elements.{All-map, All-weaker}
+use Rattle.std.proofs.lemmas.Bool.{and_parts}
+use Rattle.std.proofs.lemmas.List.{places, with_items_is}
+use Rattle.std.specs.List.{count_by, flat_map}
+use Rattle.std.specs.Prelude.{slice_get}
 use Rattle.pf_shapes.specs.Pair.{IsAscending, IsPairOf}
-use Rattle.pf_broad.specs.Kept.{BroadPhase, IsKeptOf, StillHolds, moved_places}
-use Rattle.pf_broad.proofs.Flagging.{still_holds}
-use Rattle.pf_broad.specs.Partners.{has_body}
-use Rattle.pf_broad.specs.Pairs.{all_bounds, bounds_at, no_bounds, pairs}
+use Rattle.pf_shapes.specs.declared.scene.TheConstants.{MAX_BODIES}
+use Rattle.pf_broad.specs.Enlarged.{AreEnlarged, contains}
+use Rattle.pf_broad.specs.Pairs.{all_bounds, bounds_at, no_bounds, pair_may_touch, pairs}
+use Rattle.pf_broad.proofs.Enlarging.{pairs-of-candidates}
 use Rattle.pf_manifold.specs.Key.{key_of}
-use Rattle.pf_manifold.specs.Touches.{Touch}
-use Rattle.pf_cache.specs.Contact.{HaveSameFirst}
-use Rattle.pf_cache.specs.Manifolds.{Manifolds, computed_count, kept_touches, placed_shapes, points_of_pair}
+use Rattle.pf_cache.specs.Manifolds.{computed_count, kept_touches, placed_shapes, points_of_pair}
 use Rattle.pf_cache.specs.PlacedBodies.{HaveStayed, PlacedBodies, bodies_of}
-use Rattle.pf_cache.specs.Spans.{Span, computed_count_by_flags, spans_from, unmoved_flags}
-use Rattle.pf_cache.proofs.Bounded.{as_many_bounds, length-placed_shapes, length-unmoved_flags}
-use Rattle.pf_cache.proofs.Keeping.{are_kept, are_placed, counted, kept_spans, none_spanned}
-use Rattle.pf_cache.proofs.Refreshing.{pairs_of_spans}
+use Rattle.pf_cache.specs.Slots.{AreSlots, HasStayed, IsReusedSlot, Slot, carried_slot, is_stale, overlapping, slot_of, slot_touches, unmoved_flags}
+use Rattle.pf_cache.proofs.Bounded.{as_many_bounds}
+use Rattle.pf_cache.proofs.SlotsKept.{carried_pairs, counted_stale, kept_bodies, kept_own, kept_pairs, kept_points, kept_rise, now_kept, reused, stayed}
 use Rattle.pf_cache.proofs.Standing.{same_at}
-use Rattle.pf_cache.proofs.Unmoved.{flag_stays}
 use Rattle.pf_cache.proofs.manifolds.Manifolds.update_some.Goals as goal
 
 pub update-requires-2-clause-bodies : goal.update-requires-2-clause-bodies
@@ -26,200 +25,228 @@ update-requires-2-clause-bodies g c =
 
 pub update-requires-2-clause-moved : goal.update-requires-2-clause-moved
 update-requires-2-clause-moved g c =
-    let long = as_many_bounds c.args.scene.now.fixtures c.args.bodies.now c.in_ok-placed.placed c.bounds.result.now c.requires.bodies
-    c.in_ok-placed.ensures.placed c.bounds.ensures.value in
-    subst (λ n. All (λ number. number < n) c.args.moved.now) (sym long) c.requires.moved
+    subst (λ n. All (λ number. number < n) c.args.moved.now) (update-requires-2-clause-bodies g c) c.requires.moved
 
 pub update-requires-2-clause-others : goal.update-requires-2-clause-others
-update-requires-2-clause-others g c = λ many as_many.
+update-requires-2-clause-others g c = λ as_many k below other.
     let fixtures = c.args.scene.now.fixtures in
     let bodies = c.args.bodies.now in
-    let moved = c.args.moved.now in
     let bounds = c.bounds.result.now in
     let old = c.self.inside.placed in
     let new = all_bounds fixtures bodies in
-    let counted = ap length c.shapes-count.ensures.value in
+    let enlarged = c.self.inside.broad_phase in
+    let long = update-requires-2-clause-bodies g c in
     let now_are : bounds ≡ new = c.bounds.ensures.value ∙ ap (λ (p : PlacedBodies). p.bounds) c.in_ok-placed.ensures.placed in
-    let long = as_many_bounds fixtures bodies c.in_ok-placed.placed bounds c.requires.bodies c.in_ok-placed.ensures.placed
-    c.bounds.ensures.value in
-    let stood = subst (λ m. HaveStayed moved (bodies_of m) fixtures bodies) (sym c.self.view_is) c.requires.others in
-    ⊎_elim
-    (λ same.
-    let placed_long : length old.shapes ≡ length bodies = sym counted ∙ same in
-    let as_long : length old.bounds ≡ length bodies = c.shapes-count.ensures.bounds ∙ placed_long in
-    subst (λ b. StillHolds moved b bounds) (sym (c.kept_for-broad_phase.ensures.same same))
-    (still_holds c.self.inside.broad_phase old.bounds bounds moved
-    (c.self.invariant.1 (omega (arith, many, long, as_long))).0 (as_long ∙ sym long)
-    (λ k below other.
-    same_at old.bounds new k (stood placed_long k (omega (arith, below, long)) other).1 no_bounds
-    ∙ ap (λ bs. bounds_at bs k) (sym now_are))))
-    (λ differ.
-    absurd (omega (arith, many, as_many, ap (λ (b : BroadPhase). length b.enlarged) (c.kept_for-broad_phase.ensures.other differ))))
-    (cases_eq (length c.shapes-count.result.now) (length bodies))
+    let stood = subst (λ m. HaveStayed c.args.moved.now (bodies_of m) fixtures bodies) (sym c.self.view_is) c.requires.others in
+    let enlarged_long = c.self.invariant.within.as_many in
+    let old_long = c.shapes-before.ensures.bounds in
+    let same : length old.shapes ≡ length bodies = omega (arith, as_many, long, enlarged_long, old_long) in
+    subst (λ b. contains (bounds_at enlarged k) b ≡ true)
+    (same_at old.bounds new k (stood same k (omega (arith, below, long)) other).1 no_bounds
+    ∙ ap (λ bs. bounds_at bs k) (sym now_are))
+    (c.self.invariant.within.each k (omega (arith, below, as_many, enlarged_long)))
 
 pub update-requires-2-clause-few : goal.update-requires-2-clause-few
 update-requires-2-clause-few g c =
-    let long = as_many_bounds c.args.scene.now.fixtures c.args.bodies.now c.in_ok-placed.placed c.bounds.result.now c.requires.bodies
-    c.in_ok-placed.ensures.placed c.bounds.ensures.value in
-    omega (arith, long, c.update.ensures.few)
+    let long = update-requires-2-clause-bodies g c in omega (arith, long, c.update.ensures.few)
 
-pub found_points-requires-clause-shapes : goal.found_points-requires-clause-shapes
-found_points-requires-clause-shapes g c =
-    c.shapes-shapes.ensures.value ∙ ap (λ (p : PlacedBodies). p.shapes) c.in_ok-placed.ensures.placed
+pub slots_of-requires-clause-rising : goal.slots_of-requires-clause-rising
+slots_of-requires-clause-rising g c =
+    kept_rise c.self.inside.broad_phase c.self.inside.placed.bounds c.self.inside.placed.shapes c.self.inside.slots.items c.self.invariant
 
-pub found_points-requires-clause-placed : goal.found_points-requires-clause-placed
-found_points-requires-clause-placed g c =
-    are_placed c.self.inside.placed.shapes c.self.inside.spans.items c.self.inside.touches.items c.self.invariant.0
+pub slots_of-requires-clause-bodies : goal.slots_of-requires-clause-bodies
+slots_of-requires-clause-bodies g c =
+    kept_bodies c.self.inside.broad_phase c.self.inside.placed.bounds c.self.inside.placed.shapes c.self.inside.slots.items c.self.invariant
 
-pub found_points-requires-clause-kept : goal.found_points-requires-clause-kept
-found_points-requires-clause-kept g c =
-    let shapes_are = c.shapes-shapes.ensures.value ∙ ap (λ (p : PlacedBodies). p.shapes) c.in_ok-placed.ensures.placed in
-    let flags_are = c.deref.ensures.value ∙ c.in_ok-placed.ensures.unmoved in
-    rw (shapes_are, flags_are)
-    (are_kept c.self.inside.placed.shapes c.self.inside.spans.items c.self.inside.touches.items c.self.invariant.0
-    (placed_shapes c.args.scene.now.fixtures c.args.bodies.now))
+pub slots_of-requires-clause-same : goal.slots_of-requires-clause-same
+slots_of-requires-clause-same g c = λ h.
+    ap (map (carried_slot c.self.inside.slots.items)) (c.candidates.ensures.value ∙ ap pairs (c.in_ok-same.ensures.same h))
+    ∙ kept_own c.self.inside.broad_phase c.self.inside.placed.bounds c.self.inside.placed.shapes c.self.inside.slots.items c.self.invariant
 
--- where the broad phase found the same pairs, and there are as many spans, they are those of the spans
-pub found_points-requires-clause-same : goal.found_points-requires-clause-same
-found_points-requires-clause-same g c = λ is_same as_many.
+pub update_slots-requires-clause-bounds : goal.update_slots-requires-clause-bounds
+update_slots-requires-clause-bounds g c =
+    sym (ap length c.bounds.ensures.value)
+    ∙ as_many_bounds c.args.scene.now.fixtures c.args.bodies.now c.in_ok-placed.placed c.bounds.result.now c.requires.bodies
+    c.in_ok-placed.ensures.placed c.bounds.ensures.value
+
+pub update_slots-requires-clause-ascending : goal.update_slots-requires-clause-ascending
+update_slots-requires-clause-ascending g c =
+    subst (λ ss. IsAscending (map (λ (s : Slot). s.pair) ss)) (sym (c.deref_mut.ensures.value ∙ c.in_ok-slots.ensures.slots))
+    (subst IsAscending (sym (carried_pairs c.self.inside.slots.items c.candidates.result.now)) c.candidates.ensures.ascending)
+
+pub update_slots-requires-clause-pairs : goal.update_slots-requires-clause-pairs
+update_slots-requires-clause-pairs g c =
+    let n = length c.in_ok-placed.placed.bounds in
+    let candidates = c.candidates.result.now in
+    let long = c.in_ok-same.ensures.enlarged.as_many ∙ ap length c.bounds.ensures.value in
+    subst (All (λ (s : Slot). IsPairOf n s.pair)) (sym (c.deref_mut.ensures.value ∙ c.in_ok-slots.ensures.slots))
+    (All-map (λ (s : Slot). IsPairOf n s.pair) (carried_slot c.self.inside.slots.items) candidates
+    (subst (λ m. All (IsPairOf m) candidates) long c.candidates.ensures.bodies))
+
+pub update_slots-requires-clause-flags : goal.update_slots-requires-clause-flags
+update_slots-requires-clause-flags g c =
     let fixtures = c.args.scene.now.fixtures in
     let bodies = c.args.bodies.now in
-    let old = c.self.inside.placed in
-    let spans = c.self.inside.spans.items in
-    let found = c.pairs-pairs.result.now in
-    let counted = ap length c.shapes-count.ensures.value in
-    let long = as_many_bounds fixtures bodies c.in_ok-placed.placed c.bounds.result.now c.requires.bodies
-    c.in_ok-placed.ensures.placed c.bounds.ensures.value in
-    let found_are : found ≡ c.kept_for-broad_phase.result.pairs = c.pairs-pairs.ensures ∙ c.in_ok-update.ensures.same is_same in
-    ⊎_elim
-    (λ same.
-    let as_long : length old.bounds ≡ length bodies = c.shapes-count.ensures.bounds ∙ sym counted ∙ same in
-    ⊎_elim
-    (λ few.
-    none_spanned spans found
-    (c.pairs-pairs.ensures ∙ ap (λ (b : BroadPhase). b.pairs) (c.in_ok-update.ensures.few_kept (omega (arith, few, long)))) as_many)
-    (λ many.
-    sym (found_are ∙ ap (λ (b : BroadPhase). b.pairs) (c.kept_for-broad_phase.ensures.same same)
-    ∙ (c.self.invariant.1 (omega (arith, many, as_long))).1))
-    (cases_lt (length bodies) 2))
-    (λ differ.
-    none_spanned spans found
-    (found_are ∙ ap (λ (b : BroadPhase). b.pairs) (c.kept_for-broad_phase.ensures.other differ)) as_many)
-    (cases_eq (length c.shapes-count.result.now) (length bodies))
+    let placed = c.in_ok-placed.placed in
+    let long : length placed.bounds ≡ length bodies =
+    sym (ap length c.bounds.ensures.value)
+    ∙ as_many_bounds fixtures bodies placed c.bounds.result.now c.requires.bodies c.in_ok-placed.ensures.placed c.bounds.ensures.value in
+    ap length c.deref.ensures.value ∙ c.in_ok-flags.ensures.count ∙ sym long
 
--- all pairs are listed where another number of bodies is kept; else the bodies of the others are
--- unmoved
-pub found_points-requires-clause-places : goal.found_points-requires-clause-places
-found_points-requires-clause-places g c =
+pub update_slots-requires-clause-others : goal.update_slots-requires-clause-others
+update_slots-requires-clause-others g c =
     let fixtures = c.args.scene.now.fixtures in
     let bodies = c.args.bodies.now in
-    let moved = c.args.moved.now in
+    let placed = c.in_ok-placed.placed in
     let old = c.self.inside.placed in
-    let shapes = placed_shapes fixtures bodies in
-    let counted = ap length c.shapes-count.ensures.value in
-    let stood = subst (λ m. HaveStayed moved (bodies_of m) fixtures bodies) (sym c.self.view_is) c.requires.others in
-    let flags_are : c.deref.result.now ≡ unmoved_flags old.shapes shapes = c.deref.ensures.value ∙ c.in_ok-placed.ensures.unmoved in
-    let listed = c.in_ok-update.ensures.places in
-    let may_have_moved : ℕ → Bool = λ k. listed.0 || has_body moved k in (
-      may_have_moved,
-      listed.2 ∙ ap (moved_places may_have_moved) (sym c.pairs-pairs.ensures),
-      λ k below other.
-          let parts = or_parts listed.0 (has_body moved k) other in
-          ⊎_elim
-          (λ same.
-          let placed_long : length old.shapes ≡ length bodies = sym counted ∙ same in
-          let new_long = length-placed_shapes fixtures bodies c.requires.bodies in
-          let flags_long = ap length flags_are ∙ length-unmoved_flags old.shapes shapes (new_long ∙ sym placed_long) in
-          ap (λ fs. get_or fs k false) flags_are
-          ∙ flag_stays old.shapes shapes k (omega (arith, below, flags_long))
-          (stood placed_long k (omega (arith, below, flags_long, placed_long)) parts.1).0)
-          (λ differ.
-          absurd (true≢false (sym (listed.1 (ap (λ (b : BroadPhase). b.flags) (c.kept_for-broad_phase.ensures.other differ))) ∙ parts.0)))
-          (cases_eq (length c.shapes-count.result.now) (length bodies)),
-    )
+    let kept = c.self.inside.slots.items in
+    let long : length placed.bounds ≡ length bodies =
+    sym (ap length c.bounds.ensures.value)
+    ∙ as_many_bounds fixtures bodies placed c.bounds.result.now c.requires.bodies c.in_ok-placed.ensures.placed c.bounds.ensures.value in
+    let shapes_are : placed.shapes ≡ placed_shapes fixtures bodies = ap (λ (p : PlacedBodies). p.shapes) c.in_ok-placed.ensures.placed in
+    let bounds_are : placed.bounds ≡ all_bounds fixtures bodies = ap (λ (p : PlacedBodies). p.bounds) c.in_ok-placed.ensures.placed in
+    let candidates = c.candidates.result.now in
+    let within : AreEnlarged c.update-2.new.self placed.bounds = subst (AreEnlarged c.update-2.new.self) c.bounds.ensures.value c.in_ok-same.ensures.enlarged in
+    let slots_were = c.deref_mut.ensures.value ∙ c.in_ok-slots.ensures.slots in
+    let in_range : All (IsPairOf MAX_BODIES) candidates =
+    All-weaker (IsPairOf (length c.update-2.new.self)) (IsPairOf MAX_BODIES)
+    (λ p h. let few = c.candidates.ensures.few in (h.0, omega (arith, h.1, few))) candidates c.candidates.ensures.bodies in
+    let flags_are : c.deref-2.result.now ≡ unmoved_flags old.shapes placed.shapes =
+    c.deref-2.ensures.value ∙ c.in_ok-placed.ensures.unmoved ∙ ap (unmoved_flags old.shapes) (sym shapes_are) in
+    let stood = subst (λ m. HaveStayed c.args.moved.now (bodies_of m) fixtures bodies) (sym c.self.view_is) c.requires.others in
+    let Stayed : Slot → Type 0 = HasStayed placed.bounds c.deref-2.result.now c.deref.result.now in
+    subst (All Stayed) (sym slots_were)
+    (All-map Stayed (carried_slot kept) candidates (λ k e below.
+    let p = get_or candidates k e in
+    let enlarged_long = within.as_many in
+    let here : IsPairOf (length c.update-2.new.self) p = c.candidates.ensures.bodies k e below in
+    stayed c.self.inside.broad_phase old.bounds old.shapes kept c.self.invariant p (in_range k e below) placed.bounds placed.shapes c.deref-2.result.now
+    c.deref.result.now (length c.shapes-before.result.now) (length bodies) c.args.moved.now (omega (arith, here.1, enlarged_long, long)) flags_are
+    (ap length c.shapes-before.ensures.value) c.shapes-before.ensures.bounds
+    (λ n small unset. c.in_ok-flags.ensures.others n small (ap (λ fs. get_or fs n false) (sym c.deref.ensures.value) ∙ unset))
+    (λ same n small other.
+    let h = stood same n small other in
+    (h.0 ∙ ap (λ ss. slice_get ss n) (sym shapes_are), h.1 ∙ ap (λ bs. slice_get bs n) (sym bounds_are)))))
+
+pub update_slots-requires-clause-kept : goal.update_slots-requires-clause-kept
+update_slots-requires-clause-kept g c =
+    let fixtures = c.args.scene.now.fixtures in
+    let bodies = c.args.bodies.now in
+    let placed = c.in_ok-placed.placed in
+    let old = c.self.inside.placed in
+    let kept = c.self.inside.slots.items in
+    let shapes_are : placed.shapes ≡ placed_shapes fixtures bodies = ap (λ (p : PlacedBodies). p.shapes) c.in_ok-placed.ensures.placed in
+    let candidates = c.candidates.result.now in
+    let slots_were = c.deref_mut.ensures.value ∙ c.in_ok-slots.ensures.slots in
+    let in_range : All (IsPairOf MAX_BODIES) candidates =
+    All-weaker (IsPairOf (length c.update-2.new.self)) (IsPairOf MAX_BODIES)
+    (λ p h. let few = c.candidates.ensures.few in (h.0, omega (arith, h.1, few))) candidates c.candidates.ensures.bodies in
+    let flags_are : c.deref-2.result.now ≡ unmoved_flags old.shapes placed.shapes =
+    c.deref-2.ensures.value ∙ c.in_ok-placed.ensures.unmoved ∙ ap (unmoved_flags old.shapes) (sym shapes_are) in
+    let Reused : Slot → Type 0 = IsReusedSlot placed.shapes c.deref-2.result.now in
+    subst (All Reused) (sym slots_were)
+    (All-map Reused (carried_slot kept) candidates (λ k e below.
+    reused c.self.inside.broad_phase old.bounds old.shapes kept c.self.invariant (get_or candidates k e) (in_range k e below) placed.shapes
+    c.deref-2.result.now flags_are))
 
 pub invariant_of-manifolds : goal.invariant_of-manifolds
 invariant_of-manifolds g c =
     let fixtures = c.args.scene.now.fixtures in
     let bodies = c.args.bodies.now in
-    let shapes = c.in_ok-placed.placed.shapes in
-    let shapes_are = ap (λ (p : PlacedBodies). p.shapes) c.in_ok-placed.ensures.placed in
-    let found = c.pairs-pairs.result.now in
-    let spans = c.in_ok-found.found.points.spans.items in
-    let long = as_many_bounds fixtures bodies c.in_ok-placed.placed c.bounds.result.now c.requires.bodies
-    c.in_ok-placed.ensures.placed c.bounds.ensures.value in
-    let in_bodies = subst (All (IsPairOf (length c.bounds.result.now))) (sym c.pairs-pairs.ensures) c.in_ok-update.ensures.bodies in
-    let spans_are : spans ≡ spans_from 0 shapes found =
-    c.in_ok-found.ensures.spans ∙ ap (λ ss. spans_from 0 ss found) c.shapes-shapes.ensures.value in (
-      kept_spans fixtures bodies shapes found shapes_are c.requires.bodies c.update.ensures.few
-          (subst (λ n. All (IsPairOf n) found) long in_bodies)
-          (subst IsAscending (sym c.pairs-pairs.ensures) c.in_ok-update.ensures.ascending)
-          spans c.in_ok-found.found.points.touches.items spans_are
-          (c.in_ok-found.ensures.touches ∙ ap (λ ss. flat_map (points_of_pair ss) found) c.shapes-shapes.ensures.value),
-      λ many. (
-        subst (IsKeptOf c.update-2.new.self) c.bounds.ensures.value
-            (c.in_ok-update.ensures.kept (omega (arith, many, ap length c.bounds.ensures.value))),
-        sym (ap (map (λ (s : Span). s.pair)) spans_are ∙ pairs_of_spans shapes 0 found ∙ c.pairs-pairs.ensures),
-      ),
-    )
+    let placed = c.in_ok-placed.placed in
+    let old = c.self.inside.placed in
+    let kept = c.self.inside.slots.items in
+    let long : length placed.bounds ≡ length bodies =
+    sym (ap length c.bounds.ensures.value)
+    ∙ as_many_bounds fixtures bodies placed c.bounds.result.now c.requires.bodies c.in_ok-placed.ensures.placed c.bounds.ensures.value in
+    let shapes_are : placed.shapes ≡ placed_shapes fixtures bodies = ap (λ (p : PlacedBodies). p.shapes) c.in_ok-placed.ensures.placed in
+    let candidates = c.candidates.result.now in
+    let within : AreEnlarged c.update-2.new.self placed.bounds = subst (AreEnlarged c.update-2.new.self) c.bounds.ensures.value c.in_ok-same.ensures.enlarged in
+    let slots_were = c.deref_mut.ensures.value ∙ c.in_ok-slots.ensures.slots in
+    let now = c.update_slots.new.slots in
+    let items_are = with_items_is c.in_ok-slots.slots now (search (rules, places)) in
+    let each : now ≡ map (slot_of placed.bounds placed.shapes) (pairs c.update-2.new.self) =
+    c.in_ok-refreshed.ensures.slots
+    ∙ ap (map (slot_of placed.bounds placed.shapes)) (ap (map (λ (s : Slot). s.pair)) slots_were ∙ carried_pairs kept candidates ∙ c.candidates.ensures.value) in
+    let are = now_kept fixtures bodies c.update-2.new.self placed.bounds placed.shapes now c.requires.bodies shapes_are long c.candidates.ensures.few within each in
+    subst (AreSlots c.update-2.new.self placed.bounds placed.shapes) (sym items_are) are
 
 pub returns-clause-manifolds : goal.returns-clause-manifolds
 returns-clause-manifolds g c =
-    let shapes = placed_shapes c.args.scene.now.fixtures c.args.bodies.now in
-    let shapes_are = ap (λ (p : PlacedBodies). p.shapes) c.in_ok-placed.ensures.placed in
-    let found = c.pairs-pairs.result.now in
-    let found_are : found ≡ pairs (all_bounds c.args.scene.now.fixtures c.args.bodies.now) =
-    c.pairs-pairs.ensures ∙ c.in_ok-update.ensures.pairs
-    ∙ ap pairs (c.bounds.ensures.value ∙ ap (λ (p : PlacedBodies). p.bounds) c.in_ok-placed.ensures.placed) in
-    let spans_are : c.in_ok-found.found.points.spans.items ≡ spans_from 0 shapes found =
-    c.in_ok-found.ensures.spans ∙ ap (λ ss. spans_from 0 ss found) (c.shapes-shapes.ensures.value ∙ shapes_are) in
-    let bounds_are = ap (λ (p : PlacedBodies). p.bounds) c.in_ok-placed.ensures.placed in
-    let pairs_are = (ap (map (λ (s : Span). s.pair)) spans_are ∙ pairs_of_spans shapes 0 found ∙ found_are) in
+    let fixtures = c.args.scene.now.fixtures in
+    let bodies = c.args.bodies.now in
+    let placed = c.in_ok-placed.placed in
+    let old = c.self.inside.placed in
+    let kept = c.self.inside.slots.items in
+    let long : length placed.bounds ≡ length bodies =
+    sym (ap length c.bounds.ensures.value)
+    ∙ as_many_bounds fixtures bodies placed c.bounds.result.now c.requires.bodies c.in_ok-placed.ensures.placed c.bounds.ensures.value in
+    let shapes_are : placed.shapes ≡ placed_shapes fixtures bodies = ap (λ (p : PlacedBodies). p.shapes) c.in_ok-placed.ensures.placed in
+    let bounds_are : placed.bounds ≡ all_bounds fixtures bodies = ap (λ (p : PlacedBodies). p.bounds) c.in_ok-placed.ensures.placed in
+    let candidates = c.candidates.result.now in
+    let within : AreEnlarged c.update-2.new.self placed.bounds = subst (AreEnlarged c.update-2.new.self) c.bounds.ensures.value c.in_ok-same.ensures.enlarged in
+    let slots_were = c.deref_mut.ensures.value ∙ c.in_ok-slots.ensures.slots in
+    let now = c.update_slots.new.slots in
+    let items_are = with_items_is c.in_ok-slots.slots now (search (rules, places)) in
+    let each : now ≡ map (slot_of placed.bounds placed.shapes) (pairs c.update-2.new.self) =
+    c.in_ok-refreshed.ensures.slots
+    ∙ ap (map (slot_of placed.bounds placed.shapes)) (ap (map (λ (s : Slot). s.pair)) slots_were ∙ carried_pairs kept candidates ∙ c.candidates.ensures.value) in
+    let are = now_kept fixtures bodies c.update-2.new.self placed.bounds placed.shapes now c.requires.bodies shapes_are long c.candidates.ensures.few within each in
+    let pairs_are = ap overlapping items_are ∙ kept_pairs c.update-2.new.self placed.bounds placed.shapes now are ∙ ap pairs bounds_are in
     λ i. record { shapes = shapes_are i; bounds = bounds_are i; pairs = pairs_are i }
 
 pub returns-clause-computed : goal.returns-clause-computed
 returns-clause-computed g c =
-    let old = c.self.inside.placed.shapes in
-    let shapes = placed_shapes c.args.scene.now.fixtures c.args.bodies.now in
-    let kept = map (λ (s : Span). s.pair) c.self.inside.spans.items in
-    let found = c.pairs-pairs.result.now in
-    let found_are : found ≡ pairs (all_bounds c.args.scene.now.fixtures c.args.bodies.now) =
-    c.pairs-pairs.ensures ∙ c.in_ok-update.ensures.pairs
-    ∙ ap pairs (c.bounds.ensures.value ∙ ap (λ (p : PlacedBodies). p.bounds) c.in_ok-placed.ensures.placed) in
-    let count : c.in_ok-found.found.points.computed ≡ computed_count_by_flags kept (unmoved_flags old shapes) found =
-    c.in_ok-found.ensures.computed
-    ∙ ap (λ fs. computed_count_by_flags kept fs found) (c.deref.ensures.value ∙ c.in_ok-placed.ensures.unmoved) in
-    count ∙ (λ i. computed_count_by_flags (c.self.view_is i).pairs (unmoved_flags (c.self.view_is i).shapes shapes) found)
-    ∙ counted c.args.self shapes found ∙ ap (computed_count c.args.self shapes) found_are
+    let fixtures = c.args.scene.now.fixtures in
+    let bodies = c.args.bodies.now in
+    let placed = c.in_ok-placed.placed in
+    let old = c.self.inside.placed in
+    let kept = c.self.inside.slots.items in
+    let shapes_are : placed.shapes ≡ placed_shapes fixtures bodies = ap (λ (p : PlacedBodies). p.shapes) c.in_ok-placed.ensures.placed in
+    let bounds_are : placed.bounds ≡ all_bounds fixtures bodies = ap (λ (p : PlacedBodies). p.bounds) c.in_ok-placed.ensures.placed in
+    let candidates = c.candidates.result.now in
+    let within : AreEnlarged c.update-2.new.self placed.bounds = subst (AreEnlarged c.update-2.new.self) c.bounds.ensures.value c.in_ok-same.ensures.enlarged in
+    let slots_were = c.deref_mut.ensures.value ∙ c.in_ok-slots.ensures.slots in
+    let in_range : All (IsPairOf MAX_BODIES) candidates =
+    All-weaker (IsPairOf (length c.update-2.new.self)) (IsPairOf MAX_BODIES)
+    (λ p h. let few = c.candidates.ensures.few in (h.0, omega (arith, h.1, few))) candidates c.candidates.ensures.bodies in
+    let flags_are : c.deref-2.result.now ≡ unmoved_flags old.shapes placed.shapes =
+    c.deref-2.ensures.value ∙ c.in_ok-placed.ensures.unmoved ∙ ap (unmoved_flags old.shapes) (sym shapes_are) in
+    let ps = filter (pair_may_touch placed.bounds) candidates in
+    let ps_are : ps ≡ pairs (all_bounds fixtures bodies) =
+    ap (filter (pair_may_touch placed.bounds)) c.candidates.ensures.value ∙ pairs-of-candidates c.update-2.new.self placed.bounds within
+    ∙ ap pairs bounds_are in
+    c.in_ok-refreshed.ensures.computed
+    ∙ ap (count_by (is_stale placed.bounds c.deref-2.result.now)) slots_were
+    ∙ counted_stale c.self.inside.broad_phase old.bounds old.shapes kept c.self.invariant placed.bounds placed.shapes c.deref-2.result.now candidates
+    in_range flags_are
+    ∙ (λ i. computed_count (c.self.view_is i) (shapes_are i) (ps_are i))
 
-pub returns-clause-same : goal.returns-clause-same
-returns-clause-same g c =
-    let kept = c.self.inside.touches.items in
-    let tick = c.in_ok-found.found in
-    let old = c.self.invariant.0.whole ∙ ap kept_touches c.self.view_is in
-    let shapes = placed_shapes c.args.scene.now.fixtures c.args.bodies.now in
-    let shapes_are = ap (λ (p : PlacedBodies). p.shapes) c.in_ok-placed.ensures.placed in
-    let found = c.pairs-pairs.result.now in
-    let found_are : found ≡ pairs (all_bounds c.args.scene.now.fixtures c.args.bodies.now) =
-    c.pairs-pairs.ensures ∙ c.in_ok-update.ensures.pairs
-    ∙ ap pairs (c.bounds.ensures.value ∙ ap (λ (p : PlacedBodies). p.bounds) c.in_ok-placed.ensures.placed) in
-    let touches_are : tick.points.touches.items ≡ flat_map (points_of_pair shapes) found =
-    c.in_ok-found.ensures.touches
-    ∙ ap (λ ss. flat_map (points_of_pair ss) found) (c.shapes-shapes.ensures.value ∙ shapes_are) in
-    let new = touches_are ∙ ap (flat_map (points_of_pair shapes)) found_are ∙ sym (ap kept_touches (returns-clause-manifolds g c)) in
-    let keys : HaveSameFirst tick.same (map key_of kept) (map key_of tick.points.touches.items) =
-    c.in_ok-found.ensures.same in
-    subst (λ (ts : List Touch × List Touch). HaveSameFirst tick.same (map key_of ts.0) (map key_of ts.1)) (λ i. (old i, new i)) keys
-
-pub returns-clause-places : goal.returns-clause-places
-returns-clause-places g c =
-    let moved = c.args.moved.now in
-    let listed = c.in_ok-update.ensures.places in
-    let found_are : c.update-2.new.self.pairs ≡ pairs (all_bounds c.args.scene.now.fixtures c.args.bodies.now) =
-    c.in_ok-update.ensures.pairs
-    ∙ ap pairs (c.bounds.ensures.value ∙ ap (λ (p : PlacedBodies). p.bounds) c.in_ok-placed.ensures.placed) in (
-      listed.0,
-      listed.2
-          ∙ ap (moved_places (λ k. listed.0 || has_body moved k))
-          (found_are ∙ sym (ap (λ (m : Manifolds). m.pairs) (returns-clause-manifolds g c))),
-    )
+pub returns-clause-same_keys : goal.returns-clause-same_keys
+returns-clause-same_keys g c = λ h.
+    let fixtures = c.args.scene.now.fixtures in
+    let bodies = c.args.bodies.now in
+    let placed = c.in_ok-placed.placed in
+    let old = c.self.inside.placed in
+    let kept = c.self.inside.slots.items in
+    let long : length placed.bounds ≡ length bodies =
+    sym (ap length c.bounds.ensures.value)
+    ∙ as_many_bounds fixtures bodies placed c.bounds.result.now c.requires.bodies c.in_ok-placed.ensures.placed c.bounds.ensures.value in
+    let shapes_are : placed.shapes ≡ placed_shapes fixtures bodies = ap (λ (p : PlacedBodies). p.shapes) c.in_ok-placed.ensures.placed in
+    let candidates = c.candidates.result.now in
+    let within : AreEnlarged c.update-2.new.self placed.bounds = subst (AreEnlarged c.update-2.new.self) c.bounds.ensures.value c.in_ok-same.ensures.enlarged in
+    let slots_were = c.deref_mut.ensures.value ∙ c.in_ok-slots.ensures.slots in
+    let now = c.update_slots.new.slots in
+    let items_are = with_items_is c.in_ok-slots.slots now (search (rules, places)) in
+    let each : now ≡ map (slot_of placed.bounds placed.shapes) (pairs c.update-2.new.self) =
+    c.in_ok-refreshed.ensures.slots
+    ∙ ap (map (slot_of placed.bounds placed.shapes)) (ap (map (λ (s : Slot). s.pair)) slots_were ∙ carried_pairs kept candidates ∙ c.candidates.ensures.value) in
+    let are = now_kept fixtures bodies c.update-2.new.self placed.bounds placed.shapes now c.requires.bodies shapes_are long c.candidates.ensures.few within each in
+    let parts = and_parts c.in_ok-refreshed.refreshed.same_keys c.in_ok-same.same h in
+    let before : map key_of (flat_map slot_touches kept) ≡ map key_of (kept_touches c.args.self) =
+    ap (map key_of) (kept_points c.self.inside.broad_phase old.bounds old.shapes kept c.self.invariant ∙ ap kept_touches c.self.view_is) in
+    sym before
+    ∙ sym (ap (λ ss. map key_of (flat_map slot_touches ss)) (c.deref_mut.ensures.value ∙ c.in_ok-slots.ensures.same parts.1))
+    ∙ sym (c.in_ok-refreshed.ensures.keys parts.0)
+    ∙ ap (map key_of) (kept_points c.update-2.new.self placed.bounds placed.shapes now are)
+    ∙ sym (ap (λ ss. map key_of (flat_map (points_of_pair placed.shapes) (overlapping ss))) items_are)

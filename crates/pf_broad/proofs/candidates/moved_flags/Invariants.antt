@@ -1,9 +1,0 @@
-use Rattle.std.proofs.Common.{◌≡◌, ◌<◌, ℕ, false, get_or, length, take}
-use Rattle.pf_broad.specs.Partners.{has_body}
-use Rattle.pf_broad.proofs.candidates.moved_flags.Given as goal
-
-abbrev pub invariant-loop-number : goal.invariant-loop-number
-invariant-loop-number l = record {
-  count : length l.flags.items ≡ l.count;
-  each : (k : ℕ) → k < l.count → get_or l.flags.items k false ≡ has_body (take l.number-index l.moved) k;
-}

@@ -1,0 +1,124 @@
+-- Slots: the pairs of bodies whose enlarged bounds overlap, each with its contact points, as the
+-- contact list of Box2D 2.x's b2ContactManager.
+use Rattle.std.specs.Prelude.{◌≡◌, ◌≤◌, ℕ, ◌==◌, Bool, true, false, not, ◌&&◌, ◌||◌, Option, None, Some, List, [], filter, length, map, get_or, is_some, unwrap_or, if◌then◌else◌}
+use Rattle.std.specs.List.{flat_map, zip}
+use Rattle.pf_shapes.specs.Bounds.{Bounds}
+use Rattle.pf_shapes.specs.Pair.{Pair}
+use Rattle.pf_shapes.specs.declared.scene.TheConstants.{MAX_BODIES}
+use Rattle.pf_broad.specs.Enlarged.{AreEnlarged}
+use Rattle.pf_broad.specs.Pairs.{pair_may_touch, pairs}
+use Rattle.pf_manifold.specs.Key.{AreTouches, rank}
+use Rattle.pf_manifold.specs.PlacedShape.{PlacedShape}
+use Rattle.pf_manifold.specs.ContactPoint.{ContactPoint}
+use Rattle.pf_manifold.specs.Manifold.{points_of}
+use Rattle.pf_manifold.specs.declared.manifold.Manifold.{Manifold}
+use Rattle.pf_manifold.specs.Touches.{Touch, touch_of}
+use Rattle.pf_cache.specs.Ranked.{element_at}
+use Rattle.pf_cache.specs.Manifolds.{points_of_pair, same_placed_shape}
+
+-- a pair of bodies, and its contact points; none are kept where the bounds are apart
+pub record Slot : Type 0 where
+  pub pair : Pair
+  pub touches : Option (List Touch)
+
+-- the points of a manifold, if there is one
+abbrev pub points_or_none : Option Manifold → List ContactPoint
+points_or_none None = []
+points_or_none (Some m) = points_of m
+
+-- the contact points of a pair by its manifold, if there is one
+abbrev pub manifold_touches : Pair → Option Manifold → Option (List Touch)
+manifold_touches p None = None
+manifold_touches p (Some m) = Some (map (touch_of p) (points_of m))
+
+-- the contact points of a slot
+abbrev pub slot_touches : Slot → List Touch
+slot_touches s = unwrap_or s.touches []
+
+-- the slot of two bodies with these bounds and shapes
+abbrev pub slot_of : List Bounds → List PlacedShape → Pair → Slot
+slot_of bounds shapes p = record {
+  pair = p;
+  touches = if pair_may_touch bounds p then Some (points_of_pair shapes p) else None;
+}
+
+-- the slots of bodies with these bounds and shapes, one for each pair whose enlarged bounds overlap
+pub record AreSlots
+    (enlarged bounds : List Bounds) (shapes : List PlacedShape) (slots : List Slot)
+    : Type 0 where
+  pub few : length enlarged ≤ MAX_BODIES
+  pub within : AreEnlarged enlarged bounds
+  pub each : slots ≡ map (slot_of bounds shapes) (pairs enlarged)
+  pub order : AreTouches (flat_map slot_touches slots)
+
+-- the pairs whose bounds overlap
+abbrev pub overlapping : List Slot → List Pair
+overlapping slots = map (λ s. s.pair) (filter (λ s. is_some s.touches) slots)
+
+-- pairs are in the order of their ranks: by the first body, then the second
+abbrev pub pair_rank : Pair → ℕ
+pair_rank p = rank (record { a = p.a; b = p.b; feature = 0 })
+
+-- the contact points of a slot, if there is one
+abbrev pub touches_if : Option Slot → Option (List Touch)
+touches_if None = None
+touches_if (Some s) = s.touches
+
+-- the slot of a pair with the contact points that it has in these slots, none where it has no slot
+abbrev pub carried_slot : List Slot → Pair → Slot
+carried_slot old p = record {
+  pair = p;
+  touches = touches_if (element_at (λ s. pair_rank s.pair) (pair_rank p) old);
+}
+
+-- for each number in both lists, whether the body is unmoved
+abbrev pub unmoved_flags : List PlacedShape → List PlacedShape → List Bool
+unmoved_flags old shapes = map (λ both. same_placed_shape both.0 both.1) (zip old shapes)
+
+-- whether both bodies of a pair are unmoved
+abbrev pub are_unmoved : List Bool → Pair → Bool
+are_unmoved unmoved p = get_or unmoved p.a false && get_or unmoved p.b false
+
+-- whether one of the bodies of a pair may have moved, by these flags
+abbrev pub may_have_moved : List Bool → Pair → Bool
+may_have_moved listed p = get_or listed p.a false || get_or listed p.b false
+
+-- the contact points of a slot have to be computed: its bounds overlap, and they did not before or
+-- a body moved
+abbrev pub is_stale : List Bounds → List Bool → Slot → Bool
+is_stale bounds unmoved s =
+    pair_may_touch bounds s.pair && not (is_some s.touches && are_unmoved unmoved s.pair)
+
+-- a slot, without contact points where its bounds are apart
+abbrev pub emptied_slot : List Bounds → Slot → Slot
+emptied_slot bounds s =
+    record s { touches = if pair_may_touch bounds s.pair then s.touches else None }
+
+-- a contact point is of this pair
+abbrev pub is_of_pair : Pair → Touch → Bool
+is_of_pair p t = (t.a == p.a) && (t.b == p.b)
+
+-- what is read where there is no slot
+abbrev pub no_slot : Slot
+no_slot = record { pair = record { a = 0; b = 0 }; touches = None }
+
+-- the slot at this place
+abbrev pub slot_at : List Slot → ℕ → Slot
+slot_at slots k = get_or slots k no_slot
+
+-- a slot with the contact points of its pair
+abbrev pub filled_slot : List PlacedShape → Slot → Slot
+filled_slot shapes s = record s { touches = Some (points_of_pair shapes s.pair) }
+
+-- a slot whose bodies have not moved by these flags: it has contact points exactly where the bounds
+-- overlap
+abbrev pub HasStayed : List Bounds → List Bool → List Bool → Slot → Type 0
+HasStayed bounds unmoved moved s =
+    may_have_moved moved s.pair ≡ false
+    → (is_some s.touches ≡ pair_may_touch bounds s.pair) × (are_unmoved unmoved s.pair ≡ true)
+
+-- a slot whose contact points, if it has some and its bodies are unmoved, are those of these shapes
+abbrev pub IsReusedSlot : List PlacedShape → List Bool → Slot → Type 0
+IsReusedSlot shapes unmoved s =
+    are_unmoved unmoved s.pair ≡ true → is_some s.touches ≡ true
+    → s.touches ≡ Some (points_of_pair shapes s.pair)

@@ -1,0 +1,245 @@
+//! A pair of bodies whose enlarged bounds overlap, with its contact points.
+
+ghost use Rattle.std.specs.Prelude.{◌≡◌, ◌≤◌, ◌<◌, ◌+◌, ◌++◌, ◌^◌, IsTrue, OnOk, length, map};
+ghost use Rattle.std.specs.List.{enumerate_from};
+ghost use Rattle.pf_shapes.specs.Pair.{IsPairOf};
+ghost use Rattle.pf_shapes.specs.declared.scene.TheConstants.{MAX_BODIES};
+ghost use Rattle.pf_manifold.specs.Manifold.{points_of};
+ghost use Rattle.pf_manifold.specs.Touches.{touch_of};
+ghost use Rattle.pf_cache.specs.Manifolds.{points_of_pair};
+ghost use Rattle.pf_cache.specs.Slots.{pair_rank, points_or_none};
+
+use crate::kept_shape::{KeptShape, are_unmoved, manifold_of_pair};
+use crate::ranked::Ranked;
+use pf_broad::may_touch;
+use pf_manifold::{ContactPoint, Key, Manifold, Touch, push_points, touch_of};
+use pf_shapes::{Bounds, MAX_BODIES, Pair};
+use std::alloc::AllocError;
+use std::marker::Model;
+
+/// A pair of bodies whose enlarged bounds overlap, with the contact points that it had in the last
+/// tick, as a `b2Contact` of Box2D 2.x.
+#[derive(Debug, Drop)]
+pub(crate) struct Slot {
+    pair: Pair,
+    /// The contact points; none are kept where the bounds were apart.
+    points: Option<Manifold>,
+}
+
+impl Model for Slot {
+    ghost use Rattle.pf_cache.specs.Slots.{Slot, manifold_touches};
+
+    ghost Value = { Slot };
+
+    ghost view = { λ s. record { pair = s.pair; touches = manifold_touches s.pair s.points } };
+}
+
+/// Pairs are in the order of their ranks: by the first body, then the second.
+#[inline]
+pub(crate) fn rank_of(pair: &Pair) -> usize
+    requires { IsPairOf MAX_BODIES pair.now }
+    ensures { result ≡ pair_rank pair.now }
+{
+    let key = Key {
+        a: pair.a as u16,
+        b: pair.b as u16,
+        feature: 0,
+    };
+    key.rank()
+}
+
+impl Ranked for Slot {
+    ghost use Rattle.pf_shapes.specs.Pair.{IsPairOf};
+    ghost use Rattle.pf_shapes.specs.declared.scene.TheConstants.{MAX_BODIES};
+    ghost use Rattle.pf_cache.specs.Slots.{pair_rank};
+
+    ghost is_in_range = { λ s. IsPairOf MAX_BODIES s.pair };
+
+    ghost rank = { λ s. pair_rank s.pair };
+
+    #[inline]
+    fn rank(&self) -> usize {
+        rank_of(&self.pair)
+    }
+}
+
+/// Whether a contact point has this feature.
+#[inline]
+fn has_feature(point: &ContactPoint, touch: &Touch) -> bool
+    ensures { IsTrue result → point.now.feature ≡ touch.now.point.feature }
+{
+    point.feature == touch.point.feature
+}
+
+/// Whether contact points are as many as these, with the same features in the same order.
+#[inline]
+fn have_features(points: &Option<Manifold>, touches: &[Touch]) -> bool
+    ensures { IsTrue result → map (λ p. p.feature) (points_or_none points.now)
+        ≡ map (λ t. t.point.feature) touches.now }
+{
+    match (points, touches) {
+        (None | Some(Manifold::Apart), []) => true,
+        (Some(Manifold::One(first)), [touch]) => has_feature(first, touch),
+        (Some(Manifold::Two(first, second)), [touch, last]) => {
+            has_feature(first, touch) && has_feature(second, last)
+        }
+        _ => false,
+    }
+}
+
+/// Adds the contact points of a pair to a list, each with its place among all: `place` is that of
+/// the first.
+#[inline]
+fn push_placed(
+    list: &mut Vec<(usize, Touch)>,
+    place: usize,
+    pair: &Pair,
+    points: &Option<Manifold>,
+) -> Result<(), AllocError>
+    requires pair { IsPairOf MAX_BODIES pair.now }
+    requires number { place + length (points_or_none points.now) < 2 ^ 64 }
+    ensures { OnOk result (list.new.items ≡ list.old.items
+        ++ enumerate_from place (map (touch_of pair.now) (points_or_none points.now))) }
+{
+    match points {
+        None | Some(Manifold::Apart) => {}
+        Some(Manifold::One(first)) => list.push((place, touch_of(pair, *first)))?,
+        Some(Manifold::Two(first, second)) => {
+            list.push((place, touch_of(pair, *first)))?;
+            list.push((place + 1, touch_of(pair, *second)))?;
+        }
+    }
+    Ok(())
+}
+
+/// The manifold of these contact points of a pair. No clause of a collider says that a pair has at
+/// most two of them, so those of a pair with more would be computed here.
+#[inline]
+fn manifold_of(touches: &[Touch], pair: &Pair, shapes: &[KeptShape]) -> Manifold
+    requires few { length shapes.now ≤ MAX_BODIES }
+    requires pair { IsPairOf (length shapes.now) pair.now }
+    requires touches { touches.now ≡ points_of_pair shapes.now pair.now }
+    ensures { map (touch_of pair.now) (points_of result) ≡ touches.now }
+{
+    match touches {
+        [] => Manifold::Apart,
+        [touch] => Manifold::One(touch.point),
+        [touch, last] => Manifold::Two(touch.point, last.point),
+        _ => manifold_of_pair(shapes, pair),
+    }
+}
+
+impl Slot {
+    ghost use Rattle.std.specs.Prelude.{◌≡◌, ◌≤◌, ◌<◌, ◌++◌, ◌+◌, ◌^◌, All, IfSome, IsOk, IsTrue, OnOk, Option, Some, [], filter, length, map};
+    ghost use Rattle.std.specs.Option.{option_copied};
+    ghost use Rattle.std.specs.List.{enumerate_from};
+    ghost use Rattle.pf_shapes.specs.Pair.{IsPairOf};
+    ghost use Rattle.pf_shapes.specs.declared.scene.TheConstants.{MAX_BODIES};
+    ghost use Rattle.pf_manifold.specs.Key.{key_of};
+    ghost use Rattle.pf_cache.specs.Manifolds.{points_of_pair};
+    ghost use Rattle.pf_manifold.specs.Touches.{IsTouchOf};
+    ghost use Rattle.pf_cache.specs.Points.{is_flagged};
+    ghost use Rattle.pf_cache.specs.Slots.{Slot, emptied_slot, is_stale, slot_touches, touches_if};
+
+    /// The slot of a pair with the contact points of its old slot, if there is one.
+    #[inline]
+    pub(crate) fn carried(pair: Pair, before: Option<&Slot>) -> Slot
+        requires { IfSome (option_copied before) (λ s. s.pair ≡ pair) }
+        ensures { result
+            ≡ record { pair = pair; touches = touches_if (option_copied before.entry) } }
+    {
+        let points = match before {
+            Some(slot) => slot.points,
+            None => None,
+        };
+        Slot { pair, points }
+    }
+
+    /// The pair.
+    #[inline]
+    pub(crate) fn pair(&self) -> &Pair
+        ensures { result.now ≡ self.now.pair }
+    {
+        &self.pair
+    }
+
+    /// How many contact points there are.
+    #[inline]
+    pub(crate) fn count(&self) -> usize
+        ensures { result ≡ length (slot_touches self.now) }
+    {
+        match &self.points {
+            Some(points) => points.count(),
+            None => 0,
+        }
+    }
+
+    /// Drops the contact points where the bounds are apart. Returns whether they have to be
+    /// computed: the bounds overlap, and they did not before or a body moved.
+    #[inline]
+    pub(crate) fn refresh(&mut self, bounds: &[Bounds], unmoved: &[bool]) -> bool
+        requires { IsPairOf (length bounds.now) self.old.pair }
+        ensures slot { self.new ≡ emptied_slot bounds.now self.old }
+        ensures stale { result ≡ is_stale bounds.now unmoved.now self.old }
+    {
+        if may_touch(&bounds[self.pair.a], &bounds[self.pair.b]) {
+            return self.points.is_none() || !are_unmoved(unmoved, &self.pair);
+        }
+        self.points = None;
+        false
+    }
+
+    /// Takes these contact points of the pair. Returns whether they are known to have the keys of
+    /// those before.
+    #[inline]
+    pub(crate) fn take(&mut self, touches: &[Touch], shapes: &[KeptShape]) -> bool
+        requires few { length shapes.now ≤ MAX_BODIES }
+        requires pair { IsPairOf (length shapes.now) self.old.pair }
+        requires touches { touches.now ≡ points_of_pair shapes.now self.old.pair }
+        ensures slot { self.new ≡ record self.old { touches = Some touches.now } }
+        ensures keys { IsTrue result
+            → map key_of (slot_touches self.new) ≡ map key_of (slot_touches self.old) }
+    {
+        let same_keys = have_features(&self.points, touches);
+        self.points = Some(manifold_of(touches, &self.pair, shapes));
+        same_keys
+    }
+
+    /// Adds the contact points to a list. After an error some of them may have been added.
+    #[inline]
+    pub(crate) fn push_touches(&self, touches: &mut Vec<Touch>) -> Result<(), AllocError>
+        requires { IsPairOf MAX_BODIES self.now.pair }
+        ensures added { OnOk result
+            (touches.new.items ≡ touches.old.items ++ slot_touches self.now) }
+        ensures no_memory { slot_touches self.now ≡ [] → IsOk result }
+    {
+        match &self.points {
+            Some(points) => push_points(touches, &self.pair, points),
+            None => Ok(()),
+        }
+    }
+
+    /// Adds the contact points to a list, each with its place among all, if one of the bodies has
+    /// its flag set: `place` is that of the first. After an error some of them may have been added.
+    #[inline]
+    pub(crate) fn push_flagged(
+        &self,
+        points: &mut Vec<(usize, Touch)>,
+        place: usize,
+        flags: &[bool],
+    ) -> Result<(), AllocError>
+        requires pair { IsPairOf MAX_BODIES self.now.pair }
+        requires number { place + length (slot_touches self.now) < 2 ^ 64 }
+        requires flags { All (IsTouchOf (length flags.now)) (slot_touches self.now) }
+        ensures added { OnOk result (points.new.items ≡ points.old.items
+            ++ filter (λ m. is_flagged flags.now m.1)
+            (enumerate_from place (slot_touches self.now))) }
+        ensures no_memory { slot_touches self.now ≡ [] → IsOk result }
+    {
+        let pair = &self.pair;
+        if self.count() == 0 || !(flags[pair.a] | flags[pair.b]) {
+            return Ok(());
+        }
+        push_placed(points, place, pair, &self.points)
+    }
+}
