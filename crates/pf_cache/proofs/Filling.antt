@@ -21,7 +21,7 @@ use Rattle.pf_cache.specs.Slots.{Slot, filled_slot, is_of_pair, no_slot, slot_at
 -- ---- points of one pair, and behind them those of later ones
 
 -- a pair passes its own test
-own : (p : Pair) → ((p.a == p.a) && (p.b == p.b)) ≡ true
+pub own : (p : Pair) → ((p.a == p.a) && (p.b == p.b)) ≡ true
 own p = rw ((Decides-eqb p.a p.a).1 refl, (Decides-eqb p.b p.b).1 refl) refl
 
 -- the points of a later pair are not of this one
@@ -203,7 +203,7 @@ filled_more shapes places old slots i s below inside are s_is k =
         ∙ ap (λ b. if b then filled_slot shapes (slot_at old k) else slot_at old k)
         (sym (ap (λ b. has_body (take i places) k || b) e ∙ none (has_body (take i places) k)))
 
--- a step: the slot at place i of these places, whose pair is p. The lent list is that of the places
+-- a step: the slot at place i of these places, whose pair is p
 module _ (shapes : List PlacedShape) (old slots : List Slot) (places : List ℕ) (pairs : List Pair) (touches : List Touch) (up : IsAscending pairs)
     (whole : touches ≡ flat_map (points_of_pair shapes) pairs) (pairs_are : pairs ≡ map (λ place. (slot_at old place).pair) places)
     (inside : All (λ place. place < length old) places) (as_many : length slots ≡ length old)
@@ -216,37 +216,31 @@ module _ (shapes : List PlacedShape) (old slots : List Slot) (places : List ℕ)
       ∙ length-append (flat_map f (take i pairs)) (flat_map f (drop i pairs)) in
       omega (arith, split, start_is)
 
-  module _ (lent : List ℕ) (lent_is : lent ≡ places) (below : i < length lent) (p : Pair) (p_is : p ≡ get_or pairs i p)
-      (len : ℕ) (len_is : len ≡ prefix_len (is_of_pair p) (drop start touches)) (d : Slot) where
-    within : i < length places
-    within = subst (λ l. i < length l) lent_is below
-
+  module _ (below : i < length places) (p : Pair) (p_is : p ≡ get_or pairs i p) (len : ℕ)
+      (len_is : len ≡ prefix_len (is_of_pair p) (drop start touches)) (d : Slot) where
     within_pairs : i < length pairs
     within_pairs =
         let pair_of : ℕ → Pair = λ place. (slot_at old place).pair in
         let count : length pairs ≡ length places = ap length pairs_are ∙ length-map places pair_of in
-        omega (arith, within, count)
+        omega (arith, below, count)
 
-    place_inside : get_or lent i 0 < length slots
-    place_inside =
-        let h = subst (λ l. get_or l i 0 < length old) (sym lent_is) (inside i 0 within) in
-        omega (arith, h, as_many)
+    place_inside : get_or places i 0 < length slots
+    place_inside = let h = inside i 0 below in omega (arith, h, as_many)
 
     -- the slot there has the pair that it had
-    pair_kept : (get_or slots (get_or lent i 0) d).pair ≡ (slot_at old (get_or places i 0)).pair
+    pair_kept : (get_or slots (get_or places i 0) d).pair ≡ (slot_at old (get_or places i 0)).pair
     pair_kept =
-        ap (λ (s : Slot). s.pair) (get_or_default slots (get_or lent i 0) d no_slot place_inside)
-        ∙ ap (λ l. (slot_at slots (get_or l i 0)).pair) lent_is
+        ap (λ (s : Slot). s.pair) (get_or_default slots (get_or places i 0) d no_slot place_inside)
         ∙ same_pair shapes (take i places) old slots (get_or places i 0) are
 
     -- which is p
-    pair_here : p ≡ (get_or slots (get_or lent i 0) d).pair
+    pair_here : p ≡ (get_or slots (get_or places i 0) d).pair
     pair_here =
         p_is ∙ ap (λ l. get_or l i p) pairs_are
-        ∙ get_or-map (λ place. (slot_at old place).pair) places i 0 p within
+        ∙ get_or-map (λ place. (slot_at old place).pair) places i 0 p below
         ∙ sym pair_kept
 
-    pub points_here : take ((start + len) - start) (drop start touches) ≡ points_of_pair shapes (get_or slots (get_or lent i 0) d).pair
+    pub points_here : take ((start + len) - start) (drop start touches) ≡ points_of_pair shapes (get_or slots (get_or places i 0) d).pair
     points_here =
         taken_points shapes pairs touches up whole i p within_pairs p_is start start_is len len_is
         ∙ ap (points_of_pair shapes) pair_here
@@ -255,15 +249,14 @@ module _ (shapes : List PlacedShape) (old slots : List Slot) (places : List ℕ)
     start_next = start_more shapes pairs touches up whole i p within_pairs p_is start start_is len len_is
 
     pub filled_next : (s : Slot)
-        → s ≡ record { pair = (get_or slots (get_or lent i 0) d).pair; touches = Some (take ((start + len) - start) (drop start touches)) }
-        → AreFilled shapes (take (i + 1) places) old (slice_set slots (get_or lent i 0) s)
+        → s ≡ record { pair = (get_or slots (get_or places i 0) d).pair; touches = Some (take ((start + len) - start) (drop start touches)) }
+        → AreFilled shapes (take (i + 1) places) old (slice_set slots (get_or places i 0) s)
     filled_next s s_is =
-        subst (λ l. AreFilled shapes (take (i + 1) places) old (slice_set slots (get_or l i 0) s)) (sym lent_is)
-        (filled_more shapes places old slots i s within (subst (λ l. get_or l i 0 < length slots) lent_is place_inside) are
-        (s_is ∙ (λ k. record { pair = pair_kept k; touches = Some ((points_here ∙ ap (points_of_pair shapes) pair_kept) k) })))
+        filled_more shapes places old slots i s below place_inside are
+        (s_is ∙ (λ k. record { pair = pair_kept k; touches = Some ((points_here ∙ ap (points_of_pair shapes) pair_kept) k) }))
 
-    pub keys_next : (s : Slot) → map key_of (slot_touches s) ≡ map key_of (slot_touches (get_or slots (get_or lent i 0) d))
-        → map key_of (flat_map slot_touches (slice_set slots (get_or lent i 0) s)) ≡ map key_of (flat_map slot_touches slots)
+    pub keys_next : (s : Slot) → map key_of (slot_touches s) ≡ map key_of (slot_touches (get_or slots (get_or places i 0) d))
+        → map key_of (flat_map slot_touches (slice_set slots (get_or places i 0) s)) ≡ map key_of (flat_map slot_touches slots)
     keys_next s same =
-        same_keys slots (get_or lent i 0) s
-        (same ∙ ap (λ x. map key_of (slot_touches x)) (get_or_default slots (get_or lent i 0) d no_slot place_inside))
+        same_keys slots (get_or places i 0) s
+        (same ∙ ap (λ x. map key_of (slot_touches x)) (get_or_default slots (get_or places i 0) d no_slot place_inside))

@@ -22,3 +22,4 @@ pub mod Filling
 pub mod Updating
 pub mod SlotsKept
 pub mod PlacedPoints
+pub mod Watching

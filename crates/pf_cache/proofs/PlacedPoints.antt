@@ -1,5 +1,5 @@
 -- Contact points of slots with their places among all.
-use Rattle.std.proofs.Common.{◌≡◌, ◌<◌, ◌+◌, ◌∷◌, ◌++◌, [], ℕ, zero, suc, Bool, true, false, Option, Some, None, List, length, map, take, filter, get_or, ap, sym, ◌∙◌, refl, arith, append-nil, true≢false}
+use Rattle.std.proofs.Common.{◌≡◌, ◌<◌, ◌+◌, ◌∷◌, ◌++◌, [], ℕ, zero, suc, Bool, true, Option, Some, None, List, length, map, take, filter, get_or, ap, sym, ◌∙◌, refl, arith, append-nil, true≢false}
 use Rattle.std.proofs.lemmas.List.{length-append, take_more}
 use Rattle.std.proofs.lemmas.List.Concat.{flat_map-append}
 use Rattle.std.proofs.lemmas.List.Elements.{All-cons, All-head, All-nil, All-tail, filter-append}
@@ -15,12 +15,12 @@ use Rattle.pf_cache.specs.Slots.{Slot, manifold_touches, slot_touches}
 
 -- ---- two lists
 
-All-front : (P : Touch → Type 0) (xs ys : List Touch) → All P (xs ++ ys) → All P xs
+pub All-front : {X : Type 0} (P : X → Type 0) (xs ys : List X) → All P (xs ++ ys) → All P xs
 All-front P [] ys all = All-nil P
 All-front P (x ∷ xs) ys all =
     All-cons P x xs (All-head P x (xs ++ ys) all) (All-front P xs ys (All-tail P x (xs ++ ys) all))
 
-All-back : (P : Touch → Type 0) (xs ys : List Touch) → All P (xs ++ ys) → All P ys
+pub All-back : {X : Type 0} (P : X → Type 0) (xs ys : List X) → All P (xs ++ ys) → All P ys
 All-back P [] ys all = all
 All-back P (x ∷ xs) ys all = All-back P xs ys (All-tail P x (xs ++ ys) all)
 
@@ -45,7 +45,7 @@ has_bodies n p (Some m) all some = by (points_of m) all some
     by (x ∷ cs) all some = All-head (IsTouchOf n) (touch_of p x) (map (touch_of p) cs) all
 
 -- places of two lists
-enumerate-append : (place : ℕ) (xs ys : List Touch) → enumerate_from place (xs ++ ys) ≡ enumerate_from place xs ++ enumerate_from (place + length xs) ys
+pub enumerate-append : (place : ℕ) (xs ys : List Touch) → enumerate_from place (xs ++ ys) ≡ enumerate_from place xs ++ enumerate_from (place + length xs) ys
 enumerate-append place [] ys = ap (λ n. enumerate_from n ys) (omega arith)
 enumerate-append place (x ∷ xs) ys =
     let next : (place + 1) + length xs ≡ place + suc (length xs) = omega arith in

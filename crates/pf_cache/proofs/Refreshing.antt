@@ -1,49 +1,18 @@
 -- Slots are brought up to date one after the other.
-use Rattle.std.proofs.Common.{◌≡◌, ◌<◌, ◌+◌, ◌∷◌, ◌++◌, [], ℕ, zero, suc, Bool, true, false, cond, not, ◌&&◌, Option, Some, None, List, length, map, take, drop, filter, get_or, slice_set, ap, sym, ◌∙◌, refl, true≢false, add-one, arith}
-use Rattle.std.proofs.lemmas.List.{map_more, take_more}
+use Rattle.std.proofs.Common.{◌≡◌, ◌∷◌, ◌++◌, [], ℕ, suc, Bool, true, false, cond, not, ◌&&◌, Option, Some, None, List, length, map, filter, get_or, slice_set, ap, sym, ◌∙◌, refl, true≢false, append-nil, arith}
+use Rattle.std.proofs.lemmas.List.{append_assoc, length-append, length-map, map-append}
 use Rattle.std.proofs.lemmas.List.Concat.{flat_map-append}
-use Rattle.std.proofs.lemmas.List.Elements.{filter_more}
+use Rattle.std.proofs.lemmas.List.Elements.{All-head, All-tail, All-weaker}
+use Rattle.std.proofs.Math.Seq.{get_or-append_seam, set-append_seam}
 use Rattle.std.specs.List.{flat_map, range_with_len}
-use Rattle.std.specs.Prelude.{is_some, if◌then◌else◌}
+use Rattle.std.specs.Prelude.{All, is_some, if◌then◌else◌}
 use Rattle.pf_shapes.specs.Bounds.{Bounds}
 use Rattle.pf_shapes.specs.Pair.{Pair}
 use Rattle.pf_broad.specs.Pairs.{pair_may_touch}
 use Rattle.pf_broad.proofs.Ranges.{filter-range_suc}
 use Rattle.pf_manifold.specs.Touches.{Touch}
-use Rattle.pf_cache.specs.Slots.{Slot, are_unmoved, emptied_slot, is_stale, slot_touches}
-
--- ---- any list, whose elements are changed one after the other
-
-module _ {X : Type 0} (f : X → X) where
-  -- the first elements are changed, the others as before
-  abbrev pub changed : List X → ℕ → List X
-  changed xs i = map f (take i xs) ++ drop i xs
-
-  -- the next one is as before
-  pub read_next : (xs : List X) (i : ℕ) (d : X) → i < length xs → get_or (changed xs i) i d ≡ get_or xs i d
-  read_next [] i d below = absurd (omega (arith, below))
-  read_next (x ∷ xs) zero d below = refl
-  read_next (x ∷ xs) (suc i) d below = read_next xs i d (omega (arith, below))
-
-  set : (xs : List X) (i : ℕ) (d : X) → i < length xs → slice_set (changed xs i) i (f (get_or xs i d)) ≡ changed xs (suc i)
-  set [] i d below = absurd (omega (arith, below))
-  set (x ∷ xs) zero d below = refl
-  set (x ∷ xs) (suc i) d below = ap (λ l. f x ∷ l) (set xs i d (omega (arith, below)))
-
-  keep : (xs : List X) (i : ℕ) (d : X) → i < length xs → f (get_or xs i d) ≡ get_or xs i d → changed xs i ≡ changed xs (suc i)
-  keep [] i d below same = absurd (omega (arith, below))
-  keep (x ∷ xs) zero d below same = ap (λ y. y ∷ xs) (sym same)
-  keep (x ∷ xs) (suc i) d below same = ap (λ l. f x ∷ l) (keep xs i d (omega (arith, below)) same)
-
-  -- it is changed
-  pub set_next : (xs : List X) (i : ℕ) (d : X) → i < length xs
-      → slice_set (changed xs i) i (f (get_or xs i d)) ≡ map f (take (i + 1) xs) ++ drop (i + 1) xs
-  set_next xs i d below = rw add-one (set xs i d below)
-
-  -- or it stays, if that is no change
-  pub keep_next : (xs : List X) (i : ℕ) (d : X) → i < length xs → f (get_or xs i d) ≡ get_or xs i d
-      → changed xs i ≡ map f (take (i + 1) xs) ++ drop (i + 1) xs
-  keep_next xs i d below same = rw add-one (keep xs i d below same)
+use Rattle.pf_cache.specs.Live.{is_live}
+use Rattle.pf_cache.specs.Slots.{HasStayed, Slot, are_unmoved, emptied_slot, is_stale, no_slot, slot_at, slot_touches}
 
 -- ---- one slot
 
@@ -89,34 +58,114 @@ same_count bounds s e = by s.touches (pair_may_touch bounds s.pair) e
     by (Some x) false e = none x e
     by None false e = refl
 
--- ---- the lists of slots whose points have to be computed
+-- ---- places of elements that pass a test
 
-pub places_next : (p : ℕ → Bool) (i : ℕ) (places after : List ℕ) (b : Bool) → p i ≡ b → places ≡ filter p (range_with_len 0 i)
-    → after ≡ places ++ cond b (i ∷ []) [] → after ≡ filter p (range_with_len 0 (i + 1))
-places_next p i places after b test done pushed =
-    pushed ∙ (λ k. done k ++ cond (sym test k) (i ∷ []) []) ∙ sym (rw add-one (filter-range_suc p 0 i i (omega arith)))
+module _ (t : Slot → Bool) (whole : List Slot) where
+  abbrev passes : ℕ → Bool
+  passes k = t (slot_at whole k)
 
-module _ (old : List Slot) (i : ℕ) (d : Slot) (below : i < length old) where
-  pub pairs_next : (t : Slot → Bool) (pairs after : List Pair) (p : Pair) (b : Bool) → t (get_or old i d) ≡ b → p ≡ (get_or old i d).pair
-      → pairs ≡ map (λ (s : Slot). s.pair) (filter t (take i old)) → after ≡ pairs ++ cond b (p ∷ []) []
-      → after ≡ map (λ (s : Slot). s.pair) (filter t (take (i + 1) old))
-  pairs_next t pairs after p b test p_is done pushed =
-      pushed ∙ (λ k. done k ++ cond (sym test k) (p_is k ∷ []) [])
-      ∙ by (t (get_or old i d)) (filter t (take i old))
-      ∙ sym (ap (map (λ (s : Slot). s.pair)) (filter_more t old i d below))
-    where
-      by : (b : Bool) (xs : List Slot) → map (λ (s : Slot). s.pair) xs ++ cond b ((get_or old i d).pair ∷ []) []
-          ≡ map (λ (s : Slot). s.pair) (xs ++ cond b (get_or old i d ∷ []) [])
-      by true [] = refl
-      by false [] = refl
-      by b (x ∷ xs) = ap (λ l. x.pair ∷ l) (by b xs)
+  -- one place more
+  pub places_more : (front rest : List Slot) (s : Slot) (b : Bool) → whole ≡ front ++ s ∷ rest → t s ≡ b
+      → filter passes (range_with_len 0 (length (front ++ s ∷ [])))
+      ≡ filter passes (range_with_len 0 (length front)) ++ cond b (length front ∷ []) []
+  places_more front rest s b whole_is test =
+      let long : length (front ++ s ∷ []) ≡ suc (length front) = let sum = length-append front (s ∷ []) in omega (arith, sum) in
+      let here : passes (length front) ≡ b =
+      ap (λ l. t (slot_at l (length front))) whole_is ∙ ap t (get_or-append_seam front s rest no_slot) ∙ test in
+      ap (λ n. filter passes (range_with_len 0 n)) long
+      ∙ filter-range_suc passes 0 (length front) (length front) (omega arith)
+      ∙ ap (λ c. filter passes (range_with_len 0 (length front)) ++ cond c (length front ∷ []) []) here
 
-  pub touches_next : (f : Slot → Slot) → slot_touches (f (get_or old i d)) ≡ slot_touches (get_or old i d)
-      → flat_map slot_touches (map f (take i old)) ≡ flat_map slot_touches (take i old)
-      → flat_map slot_touches (map f (take (i + 1) old)) ≡ flat_map slot_touches (take (i + 1) old)
-  touches_next f same done =
-      ap (flat_map slot_touches) (map_more f old i d below)
-      ∙ flat_map-append slot_touches (map f (take i old)) (f (get_or old i d) ∷ [])
-      ∙ (λ k. done k ++ (same k ++ []))
-      ∙ sym (flat_map-append slot_touches (take i old) (get_or old i d ∷ []))
-      ∙ sym (ap (flat_map slot_touches) (take_more old i d below))
+  -- those of elements that do not pass add none
+  pub same_places : (front others rest : List Slot) → whole ≡ front ++ (others ++ rest) → All (λ s. t s ≡ false) others
+      → filter passes (range_with_len 0 (length (front ++ others))) ≡ filter passes (range_with_len 0 (length front))
+  same_places front [] rest whole_is fail = ap (λ l. filter passes (range_with_len 0 (length l))) (append-nil front)
+  same_places front (s ∷ others) rest whole_is fail =
+      ap (λ l. filter passes (range_with_len 0 (length l))) (sym (append_assoc front (s ∷ []) others))
+      ∙ same_places (front ++ s ∷ []) others rest (whole_is ∙ sym (append_assoc front (s ∷ []) (others ++ rest)))
+      (All-tail (λ x. t x ≡ false) s others fail)
+      ∙ places_more front (others ++ rest) s false whole_is (All-head (λ x. t x ≡ false) s others fail)
+      ∙ append-nil (filter passes (range_with_len 0 (length front)))
+
+-- ---- a walk along live slots
+
+-- a slot that stays as it is, and whose points need not be computed
+abbrev pub IsLeft : (Slot → Slot) → (Slot → Bool) → Slot → Type 0
+IsLeft f t s = (f s ≡ s) × (t s ≡ false)
+
+same_all : (f : Slot → Slot) (t : Slot → Bool) (slots : List Slot) → All (IsLeft f t) slots → map f slots ≡ slots
+same_all f t [] all = refl
+same_all f t (s ∷ slots) all =
+    (λ k. (All-head (IsLeft f t) s slots all).0 k ∷ same_all f t slots (All-tail (IsLeft f t) s slots all) k)
+
+same_front : (f : Slot → Slot) (t : Slot → Bool) (front others : List Slot) → All (IsLeft f t) others
+    → map f (front ++ others) ≡ map f front ++ others
+same_front f t front others all = map-append f front others ∙ ap (λ l. map f front ++ l) (same_all f t others all)
+
+all_fail : (f : Slot → Slot) (t : Slot → Bool) (slots : List Slot) → All (IsLeft f t) slots → All (λ s. t s ≡ false) slots
+all_fail f t slots all = All-weaker (IsLeft f t) (λ s. t s ≡ false) (λ s h. h.1) slots all
+
+module _ (f : Slot → Slot) (t : Slot → Bool) (front others : List Slot) (left : All (IsLeft f t) others) where
+  -- slots that are left have the points that they had
+  pub touches_left : flat_map slot_touches (map f front) ≡ flat_map slot_touches front
+      → flat_map slot_touches (map f (front ++ others)) ≡ flat_map slot_touches (front ++ others)
+  touches_left same =
+      ap (flat_map slot_touches) (same_front f t front others left)
+      ∙ flat_map-append slot_touches (map f front) others
+      ∙ ap (λ l. l ++ flat_map slot_touches others) same
+      ∙ sym (flat_map-append slot_touches front others)
+
+  -- in the end all others are left
+  pub slots_left : (old slots : List Slot) → old ≡ front ++ others → slots ≡ map f front ++ others → slots ≡ map f old
+  slots_left old slots old_is slots_are = slots_are ∙ sym (same_front f t front others left) ∙ ap (map f) (sym old_is)
+
+  pub places_left : (old : List Slot) (places : List ℕ) → old ≡ front ++ others
+      → places ≡ filter (λ k. t (slot_at old k)) (range_with_len 0 (length front))
+      → places ≡ filter (λ k. t (slot_at old k)) (range_with_len 0 (length old))
+  places_left old places old_is places_are =
+      places_are
+      ∙ sym (same_places t old front others [] (old_is ∙ ap (λ l. front ++ l) (sym (append-nil others))) (all_fail f t others left))
+      ∙ ap (λ l. filter (λ k. t (slot_at old k)) (range_with_len 0 (length l))) (sym old_is)
+
+  -- a slot behind them
+  module _ (s : Slot) (behind : List Slot) where
+    pub slots_here : (slots : List Slot) → slots ≡ map f front ++ (others ++ s ∷ behind) → slots ≡ map f (front ++ others) ++ s ∷ behind
+    slots_here slots are =
+        are ∙ sym (append_assoc (map f front) others (s ∷ behind)) ∙ ap (λ l. l ++ s ∷ behind) (sym (same_front f t front others left))
+
+    pub slot_here : (slots : List Slot) (place : ℕ) (e : Slot) → slots ≡ map f front ++ (others ++ s ∷ behind) → place ≡ length (front ++ others)
+        → get_or slots place e ≡ s
+    slot_here slots place e are place_is =
+        let at : place ≡ length (map f (front ++ others)) = place_is ∙ sym (length-map (front ++ others) f) in
+        (λ k. get_or (slots_here slots are k) (at k) e) ∙ get_or-append_seam (map f (front ++ others)) s behind e
+
+    pub slots_more : (slots : List Slot) (place : ℕ) (now : Slot) → slots ≡ map f front ++ (others ++ s ∷ behind) → place ≡ length (front ++ others)
+        → now ≡ f s → slice_set slots place now ≡ map f ((front ++ others) ++ s ∷ []) ++ behind
+    slots_more slots place now are place_is now_is =
+        let at : place ≡ length (map f (front ++ others)) = place_is ∙ sym (length-map (front ++ others) f) in
+        (λ k. slice_set (slots_here slots are k) (at k) (now_is k)) ∙ set-append_seam (map f (front ++ others)) s behind (f s)
+        ∙ sym (append_assoc (map f (front ++ others)) (f s ∷ []) behind)
+        ∙ ap (λ l. l ++ behind) (sym (map-append f (front ++ others) (s ∷ [])))
+
+    pub touches_more : slot_touches (f s) ≡ slot_touches s → flat_map slot_touches (map f front) ≡ flat_map slot_touches front
+        → flat_map slot_touches (map f ((front ++ others) ++ s ∷ [])) ≡ flat_map slot_touches ((front ++ others) ++ s ∷ [])
+    touches_more same before =
+        ap (flat_map slot_touches) (map-append f (front ++ others) (s ∷ []))
+        ∙ flat_map-append slot_touches (map f (front ++ others)) (f s ∷ [])
+        ∙ (λ k. touches_left before k ++ (same k ++ []))
+        ∙ sym (flat_map-append slot_touches (front ++ others) (s ∷ []))
+
+    pub places_behind : (old : List Slot) (places after : List ℕ) (place : ℕ) (b : Bool) → old ≡ (front ++ others) ++ s ∷ behind
+        → place ≡ length (front ++ others) → t s ≡ b
+        → places ≡ filter (λ k. t (slot_at old k)) (range_with_len 0 (length front)) → after ≡ places ++ cond b (place ∷ []) []
+        → after ≡ filter (λ k. t (slot_at old k)) (range_with_len 0 (length ((front ++ others) ++ s ∷ [])))
+    places_behind old places after place b old_is place_is test done pushed =
+        let before = done ∙ sym (same_places t old front others (s ∷ behind) (old_is ∙ append_assoc front others (s ∷ behind)) (all_fail f t others left)) in
+        pushed ∙ (λ k. before k ++ cond b (place_is k ∷ []) []) ∙ sym (places_more t old (front ++ others) behind s b old_is test)
+
+-- slots whose bodies are not watched are left
+pub left_of : (bounds : List Bounds) (unmoved watched : List Bool) (slots : List Slot) → All (HasStayed bounds unmoved watched) slots
+    → All (λ s. is_live watched s ≡ false) slots → All (IsLeft (emptied_slot bounds) (is_stale bounds unmoved)) slots
+left_of bounds unmoved watched slots stayed others = λ k d below.
+    let right = stayed k d below (others k d below) in
+    (stays bounds unmoved (get_or slots k d) right.0, not_stale bounds unmoved (get_or slots k d) right.0 right.1)

@@ -3,10 +3,10 @@ use Rattle.std.proofs.Common.{◌≡◌, ◌≤◌, ◌<◌, ◌==◌, ◌∷◌
 use Rattle.std.proofs.lemmas.Bool.{or_parts}
 use Rattle.std.proofs.lemmas.Bool.Decides.{Decides-eqb}
 use Rattle.std.proofs.lemmas.List.{get_or_default, same_lists}
-use Rattle.std.proofs.lemmas.List.Elements.{All-head, All-map, All-tail, All-weaker}
+use Rattle.std.proofs.lemmas.List.Elements.{All-head, All-map, All-nil, All-tail, All-weaker}
 use Rattle.std.proofs.lemmas.List.Sums.{length-filter}
 use Rattle.std.specs.List.{count_by, flat_map}
-use Rattle.std.specs.Prelude.{All, is_some, slice_get, if◌then◌else◌}
+use Rattle.std.specs.Prelude.{All, is_some, slice_get, unwrap_or, if◌then◌else◌}
 use Rattle.pf_shapes.specs.Body.{BodyState}
 use Rattle.pf_shapes.specs.Bounds.{Bounds}
 use Rattle.pf_shapes.specs.Fixture.{Fixture}
@@ -22,11 +22,14 @@ use Rattle.pf_broad.proofs.Within.{length-all_bounds, pairs-IsPairOf}
 use Rattle.pf_manifold.specs.Key.{AreTouches, IsRising}
 use Rattle.pf_manifold.proofs.KeyOrder.{touches_in_order}
 use Rattle.pf_manifold.specs.PlacedShape.{PlacedShape}
-use Rattle.pf_manifold.specs.Touches.{Touch}
+use Rattle.pf_manifold.specs.Collide.{collide}
+use Rattle.pf_manifold.specs.Touches.{Touch, touch_of, touches_between}
+use Rattle.pf_cache.specs.Live.{HasOwnTouches}
 use Rattle.pf_cache.specs.Ranked.{element_at}
 use Rattle.pf_cache.specs.Manifolds.{Manifolds, computed_count, is_reusable, is_unmoved, lists_pair, manifolds_of, placed_shapes, points_of_pair}
-use Rattle.pf_cache.specs.Slots.{AreSlots, HasStayed, IsReusedSlot, Slot, are_unmoved, carried_slot, is_stale, overlapping, pair_rank, slot_of, slot_touches, touches_if, unmoved_flags}
+use Rattle.pf_cache.specs.Slots.{AreSlots, HasStayed, IsReusedSlot, Slot, are_unmoved, carried_slot, is_of_pair, is_stale, overlapping, pair_rank, slot_of, slot_touches, touches_if, unmoved_flags}
 use Rattle.pf_cache.proofs.Bounded.{length-placed_shapes}
+use Rattle.pf_cache.proofs.Filling.{own}
 use Rattle.pf_cache.proofs.PairRanks.{pairs_rise, same_rank, same_test}
 use Rattle.pf_cache.proofs.Reusable.{Decides-pair, listed}
 use Rattle.pf_cache.proofs.Standing.{same_at}
@@ -149,6 +152,23 @@ module _ (bounds : List Bounds) (shapes : List PlacedShape) where
       let own = carried p ps (all k e below) all ∙ ap (λ (b : Bool). if b then (if pair_may_touch bounds p then Some (points_of_pair shapes p) else None) else None) there in
       λ i. record { pair = p; touches = own i })
 
+  -- ---- whose points they are
+
+  own_points : (p : Pair) → All (λ t. is_of_pair p t ≡ true) (points_of_pair shapes p)
+  own_points p = by (slice_get shapes p.a) (slice_get shapes p.b)
+    where
+      by : (o m : Option PlacedShape) → All (λ t. is_of_pair p t ≡ true) (touches_between p o m)
+      by (Some a) (Some b) = All-map (λ t. is_of_pair p t ≡ true) (touch_of p) (collide a b) (λ k e below. own p)
+      by (Some a) None = All-nil (λ t. is_of_pair p t ≡ true)
+      by None m = All-nil (λ t. is_of_pair p t ≡ true)
+
+  own_touches : (p : Pair) → HasOwnTouches (slot_of bounds shapes p)
+  own_touches p = by (pair_may_touch bounds p)
+    where
+      by : (b : Bool) → All (λ t. is_of_pair p t ≡ true) (unwrap_or (if b then Some (points_of_pair shapes p) else None) [])
+      by true = own_points p
+      by false = All-nil (λ t. is_of_pair p t ≡ true)
+
 -- ---- counts
 
 -- as many elements pass, if each does where it passes both tests
@@ -198,6 +218,10 @@ module _ (enlarged old : List Bounds) (stood : List PlacedShape) (kept : List Sl
   kept_points =
       ap (flat_map slot_touches) are.each ∙ touches_are old stood (pairs enlarged)
       ∙ ap (flat_map (points_of_pair stood)) (sym (ap overlapping are.each ∙ overlapping_are old stood (pairs enlarged)))
+
+  pub kept_touches_are_own : All HasOwnTouches kept
+  kept_touches_are_own =
+      subst (All HasOwnTouches) (sym are.each) (All-map HasOwnTouches (slot_of old stood) (pairs enlarged) (λ k e below. own_touches old stood (get_or (pairs enlarged) k e)))
 
   module _ (p : Pair) (in_range : IsPairOf MAX_BODIES p) where
     carries : is_some (carried_slot kept p).touches ≡ lists_pair (overlapping kept) p

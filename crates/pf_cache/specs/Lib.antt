@@ -10,4 +10,5 @@ pub mod Manifolds
 pub mod PlacedBodies
 pub mod Slots
 pub mod Points
+pub mod Live
 pub mod Laws

@@ -8,6 +8,7 @@ mod contacts;
 mod contacts_change;
 mod kept_shape;
 pub mod laws;
+mod live;
 mod manifolds;
 mod meter;
 mod placed_bodies;

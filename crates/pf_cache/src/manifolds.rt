@@ -1,18 +1,23 @@
 //! Contact points that are kept from tick to tick.
 
-ghost use Rattle.std.specs.Prelude.{◌≡◌, ◌≤◌, All, IfOk, IsTrue, count_by, length, map};
+ghost use Rattle.std.specs.Prelude.{◌≡◌, ◌≤◌, ◌<◌, ℕ, All, IfOk, IsTrue, OnOk, count_by, length, map, if◌then◌else◌};
 ghost use Rattle.std.specs.List.{flat_map};
 ghost use Rattle.pf_shapes.specs.Pair.{IsAscending, IsPairOf};
+ghost use Rattle.pf_broad.specs.Partners.{has_body};
 ghost use Rattle.pf_manifold.specs.Key.{IsRising, key_of};
-ghost use Rattle.pf_manifold.specs.Touches.{touches};
+ghost use Rattle.pf_cache.specs.Live.{AreLive};
 ghost use Rattle.pf_cache.specs.Manifolds.{placed_shapes};
-ghost use Rattle.pf_cache.specs.Slots.{HasStayed, IsReusedSlot, carried_slot, is_stale, pair_rank, slot_of, slot_touches};
+ghost use Rattle.pf_cache.specs.Slots.{HasStayed, IsReusedSlot, carried_slot, filled_slot, is_stale, pair_rank, slot_at, slot_of, slot_touches};
 
+use crate::kept_shape::KeptShape;
+use crate::live::{Live, are_watched, live_of};
 use crate::placed_bodies::PlacedBodies;
 use crate::slot::Slot;
-use crate::slots::{carried_slots, fill, moved_flags, points_of, refresh, touches_of};
+use crate::slots::{
+    carried_slots, compute, fill, pairs_at, points_of, points_of_live, refresh, touches_of,
+};
 use pf_broad::BroadPhase;
-use pf_manifold::{Collider, Touch, collide_list};
+use pf_manifold::{Collider, Touch};
 use pf_shapes::{BodyState, MAX_BODIES, Pair, Scene};
 use std::alloc::{AllocError, Global};
 use std::marker::Model;
@@ -28,10 +33,12 @@ pub struct Manifolds {
     placed: PlacedBodies,
     broad_phase: BroadPhase,
     slots: Vec<Slot>,
+    live: Live,
 }
 
 impl Model for Manifolds {
     ghost use Rattle.pf_cache.specs.Manifolds.{Manifolds};
+    ghost use Rattle.pf_cache.specs.Live.{AreLive};
     ghost use Rattle.pf_cache.specs.Slots.{AreSlots, overlapping};
 
     ghost Value = { Manifolds };
@@ -42,7 +49,8 @@ impl Model for Manifolds {
       pairs = overlapping m.slots.items;
     } };
 
-    ghost invariant = { λ m. AreSlots m.broad_phase m.placed.bounds m.placed.shapes m.slots.items };
+    ghost invariant = { λ m. AreSlots m.broad_phase m.placed.bounds m.placed.shapes m.slots.items
+        × AreLive m.live.watched.items m.live.slots.items m.slots.items };
 }
 
 /// What the narrow phase of a tick found.
@@ -78,35 +86,50 @@ struct Refreshed {
     same_keys: bool,
 }
 
-/// The contact points of these pairs: by the collider where they are many.
-fn collide_by<C: Collider>(
+/// Gives the slots at these places the contact points of their pairs: by the collider where they are
+/// many. Returns whether all points are known to have the keys of those before.
+fn fill_by<C: Collider>(
     collider: &C,
     alloc: Global,
     scene: &Scene,
     bodies: &[BodyState],
-    pairs: &[Pair],
-) -> Result<Vec<Touch>, AllocError>
+    slots: &mut [Slot],
+    places: &[usize],
+    shapes: &[KeptShape],
+) -> Result<bool, AllocError>
     requires can { C.can_collide collider.now }
     requires bodies { length bodies.now ≡ length scene.now.fixtures }
-    requires pairs { All (IsPairOf (length bodies.now)) pairs.now }
-    ensures { IfOk result
-        (λ found. found.items ≡ touches scene.now.fixtures bodies.now pairs.now) }
+    requires shapes { shapes.now ≡ placed_shapes scene.now.fixtures bodies.now }
+    requires few { length shapes.now ≤ MAX_BODIES }
+    requires within { All (λ place. place < length slots.old) places.now }
+    requires pairs { All (λ s. IsPairOf (length shapes.now) s.pair) slots.old }
+    requires ascending { IsAscending (map (λ place. (slot_at slots.old place).pair) places.now) }
+    ensures as_many { OnOk result (length slots.new ≡ length slots.old) }
+    ensures each { OnOk result ((k : ℕ) → slot_at slots.new k
+        ≡ (if has_body places.now k then filled_slot shapes.now (slot_at slots.old k)
+        else slot_at slots.old k)) }
+    ensures keys { IfOk result (λ same_keys. IsTrue same_keys
+        → map key_of (flat_map slot_touches slots.new)
+        ≡ map key_of (flat_map slot_touches slots.old)) }
 {
-    if pairs.len() < C::MANY {
-        return collide_list(alloc, scene, bodies, pairs);
+    if places.len() < C::MANY {
+        return Ok(compute(slots, places, shapes));
     }
-    collider.collide(alloc, scene, bodies, pairs)
+    let pairs = pairs_at(alloc, slots, places)?;
+    let touches = collider.collide(alloc, scene, bodies, &pairs)?;
+    Ok(fill(slots, places, &pairs, &touches, shapes))
 }
 
 /// Brings slots up to date: those whose bounds overlap get the contact points of their pairs.
-/// Points are computed where the bounds did not overlap before or a body moved.
+/// Points are computed where the bounds did not overlap before or a body moved. Only live slots are
+/// looked at, and all stay live.
 fn update_slots<C: Collider>(
     collider: &C,
     alloc: Global,
     scene: &Scene,
     bodies: &[BodyState],
     slots: &mut [Slot],
-    may_have_moved: &[bool],
+    live: &Live,
     unmoved: &[bool],
     placed: &PlacedBodies,
 ) -> Result<Refreshed, AllocError>
@@ -117,22 +140,33 @@ fn update_slots<C: Collider>(
     requires few { length bodies.now ≤ MAX_BODIES }
     requires ascending { IsAscending (map (λ s. s.pair) slots.old) }
     requires pairs { All (λ s. IsPairOf (length placed.now.bounds) s.pair) slots.old }
-    requires flags { length may_have_moved.now ≡ length placed.now.bounds }
-    requires others { All (HasStayed placed.now.bounds unmoved.now may_have_moved.now) slots.old }
+    requires live { AreLive live.now.watched.items live.now.slots.items slots.old }
+    requires others { All (HasStayed placed.now.bounds unmoved.now live.now.watched.items)
+        slots.old }
     requires kept { All (IsReusedSlot placed.now.shapes unmoved.now) slots.old }
     ensures slots { IfOk result (λ _. slots.new
         ≡ map (slot_of placed.now.bounds placed.now.shapes) (map (λ s. s.pair) slots.old)) }
+    ensures live { IfOk result
+        (λ _. AreLive live.now.watched.items live.now.slots.items slots.new) }
     ensures computed { IfOk result (λ refreshed. refreshed.computed
         ≡ count_by (is_stale placed.now.bounds unmoved.now) slots.old) }
     ensures keys { IfOk result (λ refreshed. IsTrue refreshed.same_keys
         → map key_of (flat_map slot_touches slots.new)
         ≡ map key_of (flat_map slot_touches slots.old)) }
 {
-    let stale = refresh(alloc, slots, may_have_moved, unmoved, placed.bounds())?;
-    let touches = collide_by(collider, alloc, scene, bodies, &stale.pairs)?;
-    let same_keys = fill(slots, &stale, &touches, placed.shapes());
+    let stale = refresh(alloc, slots, live, unmoved, placed.bounds())?;
+    let places = stale.places.as_slice();
+    let same_keys = fill_by(
+        collider,
+        alloc,
+        scene,
+        bodies,
+        slots,
+        places,
+        placed.shapes(),
+    )?;
     Ok(Refreshed {
-        computed: stale.places.len(),
+        computed: places.len(),
         same_keys: same_keys & stale.same_touches,
     })
 }
@@ -176,6 +210,7 @@ impl Manifolds {
             placed: PlacedBodies::new(alloc),
             broad_phase: BroadPhase::new(alloc),
             slots: Vec::new(alloc),
+            live: Live::new(alloc),
         }
     }
 
@@ -201,7 +236,11 @@ impl Manifolds {
             (λ points. points.items ≡ flagged_points flags.now (kept_touches self.now)) }
         ensures no_memory { kept_touches self.now ≡ [] → IsOk result }
     {
-        points_of(alloc, &self.slots, flags)
+        let slots = self.slots.as_slice();
+        if are_watched(&self.live.watched, flags) {
+            return points_of_live(alloc, slots, &self.live, flags);
+        }
+        points_of(alloc, slots, flags)
     }
 
     /// What `update` does where there are bodies.
@@ -229,17 +268,18 @@ impl Manifolds {
     {
         let before = self.placed.shapes().len();
         let (placed, unmoved) = self.placed.update(alloc, scene, bodies, moved)?;
-        let flags = moved_flags(alloc, before, bodies.len(), moved)?;
         let mut broad_phase = self.broad_phase;
         let same = broad_phase.update(alloc, placed.bounds(), bodies, moved)?;
         let mut slots = slots_of(alloc, self.slots, same, broad_phase.candidates())?;
+        let live = live_of(alloc, self.live, same, &slots, before, bodies.len(), moved)?;
         let refreshed = update_slots(
-            collider, alloc, scene, bodies, &mut slots, &flags, &unmoved, &placed,
+            collider, alloc, scene, bodies, &mut slots, &live, &unmoved, &placed,
         )?;
         let manifolds = Manifolds {
             placed,
             broad_phase,
             slots,
+            live,
         };
         let collisions = Collisions {
             manifolds,
@@ -256,7 +296,8 @@ impl Manifolds {
     /// and rotation that they had. The other pairs cannot reuse kept points: theirs are computed,
     /// and these pairs are counted. The collider computes them if they are many. Only bodies of
     /// `moved` are compared with how they stood: where as many bodies are kept, all others stand as
-    /// they stood; without any of them all stays as it is. An error drops what is kept. Takes no memory where there are no bodies.
+    /// they stood; without any of them all stays as it is. An error drops what is kept. Takes no
+    /// memory where there are no bodies.
     ///
     /// No clause says that `same_keys` is set wherever all points have the keys of the kept ones.
     pub fn update<C: Collider>(

@@ -63,25 +63,25 @@ impl Ranked for Slot {
     }
 }
 
-/// Whether a contact point has this feature.
+/// Whether two contact points have the same feature.
 #[inline]
-fn has_feature(point: &ContactPoint, touch: &Touch) -> bool
-    ensures { IsTrue result → point.now.feature ≡ touch.now.point.feature }
+fn has_same_feature(point: &ContactPoint, other: &ContactPoint) -> bool
+    ensures { IsTrue result → point.now.feature ≡ other.now.feature }
 {
-    point.feature == touch.point.feature
+    point.feature == other.feature
 }
 
 /// Whether contact points are as many as these, with the same features in the same order.
 #[inline]
-fn have_features(points: &Option<Manifold>, touches: &[Touch]) -> bool
+fn have_same_features(points: &Option<Manifold>, others: &Manifold) -> bool
     ensures { IsTrue result → map (λ p. p.feature) (points_or_none points.now)
-        ≡ map (λ t. t.point.feature) touches.now }
+        ≡ map (λ p. p.feature) (points_of others.now) }
 {
-    match (points, touches) {
-        (None | Some(Manifold::Apart), []) => true,
-        (Some(Manifold::One(first)), [touch]) => has_feature(first, touch),
-        (Some(Manifold::Two(first, second)), [touch, last]) => {
-            has_feature(first, touch) && has_feature(second, last)
+    match (points, others) {
+        (None | Some(Manifold::Apart), Manifold::Apart) => true,
+        (Some(Manifold::One(first)), Manifold::One(point)) => has_same_feature(first, point),
+        (Some(Manifold::Two(first, second)), Manifold::Two(point, last)) => {
+            has_same_feature(first, point) && has_same_feature(second, last)
         }
         _ => false,
     }
@@ -137,9 +137,10 @@ impl Slot {
     ghost use Rattle.pf_shapes.specs.declared.scene.TheConstants.{MAX_BODIES};
     ghost use Rattle.pf_manifold.specs.Key.{key_of};
     ghost use Rattle.pf_cache.specs.Manifolds.{points_of_pair};
-    ghost use Rattle.pf_manifold.specs.Touches.{IsTouchOf};
+    ghost use Rattle.pf_manifold.specs.Manifold.{points_of};
+    ghost use Rattle.pf_manifold.specs.Touches.{IsTouchOf, touch_of};
     ghost use Rattle.pf_cache.specs.Points.{is_flagged};
-    ghost use Rattle.pf_cache.specs.Slots.{Slot, emptied_slot, is_stale, slot_touches, touches_if};
+    ghost use Rattle.pf_cache.specs.Slots.{Slot, emptied_slot, filled_slot, is_stale, slot_touches, touches_if};
 
     /// The slot of a pair with the contact points of its old slot, if there is one.
     #[inline]
@@ -189,6 +190,21 @@ impl Slot {
         false
     }
 
+    /// Gives the slot these contact points. Returns whether they are known to have the keys of those
+    /// before.
+    #[inline]
+    fn set_points(&mut self, points: Manifold) -> bool
+        ensures slot { self.new ≡ record self.old {
+          touches = Some (map (touch_of self.old.pair) (points_of points));
+        } }
+        ensures keys { IsTrue result
+            → map key_of (slot_touches self.new) ≡ map key_of (slot_touches self.old) }
+    {
+        let same_keys = have_same_features(&self.points, &points);
+        self.points = Some(points);
+        same_keys
+    }
+
     /// Takes these contact points of the pair. Returns whether they are known to have the keys of
     /// those before.
     #[inline]
@@ -200,9 +216,22 @@ impl Slot {
         ensures keys { IsTrue result
             → map key_of (slot_touches self.new) ≡ map key_of (slot_touches self.old) }
     {
-        let same_keys = have_features(&self.points, touches);
-        self.points = Some(manifold_of(touches, &self.pair, shapes));
-        same_keys
+        let points = manifold_of(touches, &self.pair, shapes);
+        self.set_points(points)
+    }
+
+    /// Computes the contact points of the pair. Returns whether they are known to have the keys of
+    /// those before.
+    #[inline]
+    pub(crate) fn compute(&mut self, shapes: &[KeptShape]) -> bool
+        requires few { length shapes.now ≤ MAX_BODIES }
+        requires pair { IsPairOf (length shapes.now) self.old.pair }
+        ensures slot { self.new ≡ filled_slot shapes.now self.old }
+        ensures keys { IsTrue result
+            → map key_of (slot_touches self.new) ≡ map key_of (slot_touches self.old) }
+    {
+        let points = manifold_of_pair(shapes, &self.pair);
+        self.set_points(points)
     }
 
     /// Adds the contact points to a list. After an error some of them may have been added.

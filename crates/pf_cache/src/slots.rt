@@ -7,10 +7,12 @@ ghost use Rattle.pf_broad.specs.Partners.{has_body};
 ghost use Rattle.pf_manifold.specs.Key.{IsRising, key_of};
 ghost use Rattle.pf_manifold.specs.Touches.{IsTouchOf};
 ghost use Rattle.pf_cache.specs.Manifolds.{points_of_pair};
+ghost use Rattle.pf_cache.specs.Live.{AreLive, AreWatched, HasOwnTouches};
 ghost use Rattle.pf_cache.specs.Points.{flagged_points};
 ghost use Rattle.pf_cache.specs.Slots.{HasStayed, carried_slot, emptied_slot, filled_slot, is_of_pair, is_stale, pair_rank, slot_at, slot_touches};
 
 use crate::kept_shape::KeptShape;
+use crate::live::Live;
 use crate::ranked::find_from;
 use crate::slot::{Slot, rank_of};
 use pf_manifold::Touch;
@@ -40,80 +42,89 @@ pub(crate) fn carried_slots(
     Ok(slots)
 }
 
-/// For each body whether it may have moved: it is one of these, or there were not as many bodies
-/// before.
-pub(crate) fn moved_flags(
-    alloc: Global,
-    before: usize,
-    count: usize,
-    moved: &[usize],
-) -> Result<Vec<bool>, AllocError>
-    requires { All (λ number. number < count) moved.now }
-    ensures count { IfOk result (λ flags. length flags.items ≡ count) }
-    ensures others { IfOk result (λ flags. (k : ℕ) → k < count → get_or flags.items k false ≡ false
-        → (before ≡ count) × (has_body moved.now k ≡ false)) }
-{
-    let mut flags = Vec::with_capacity(alloc, count)?;
-    flags.resize(count, before != count)?;
-    for number in moved {
-        flags[*number] = true;
-    }
-    Ok(flags)
-}
-
 /// The slots whose contact points have to be computed.
 #[derive(Drop)]
 pub(crate) struct Stale {
     /// Their places among all slots, in ascending order.
     pub places: Vec<usize>,
-    /// Their pairs.
-    pub pairs: Vec<Pair>,
     /// Whether all slots have the contact points that they had, but for these.
     pub same_touches: bool,
 }
 
 /// Drops the contact points of slots whose bounds are apart, and lists the slots whose points have
-/// to be computed. Only slots of bodies that may have moved are looked at.
+/// to be computed. Only live slots are looked at.
 #[inline(never)]
 pub(crate) fn refresh(
     alloc: Global,
     slots: &mut [Slot],
-    may_have_moved: &[bool],
+    live: &Live,
     unmoved: &[bool],
     bounds: &[Bounds],
 ) -> Result<Stale, AllocError>
     requires pairs { All (λ s. IsPairOf (length bounds.now) s.pair) slots.old }
-    requires flags { length may_have_moved.now ≡ length bounds.now }
-    requires others { All (HasStayed bounds.now unmoved.now may_have_moved.now) slots.old }
+    requires live { AreLive live.now.watched.items live.now.slots.items slots.old }
+    requires others { All (HasStayed bounds.now unmoved.now live.now.watched.items) slots.old }
     ensures slots { IfOk result (λ _. slots.new ≡ map (emptied_slot bounds.now) slots.old) }
     ensures places { IfOk result (λ stale. stale.places.items
         ≡ filter (λ k. is_stale bounds.now unmoved.now (slot_at slots.old k))
         (range_with_len 0 (length slots.old))) }
-    ensures pairs { IfOk result (λ stale. stale.pairs.items
-        ≡ map (λ s. s.pair) (filter (is_stale bounds.now unmoved.now) slots.old)) }
     ensures touches { IfOk result (λ stale. IsTrue stale.same_touches
         → flat_map slot_touches slots.new ≡ flat_map slot_touches slots.old) }
 {
     let mut places = Vec::new(alloc);
-    let mut pairs = Vec::new(alloc);
     let mut same_touches = true;
-    for place in 0..slots.len() {
+    for live_slot in &live.slots {
+        let place = live_slot.place;
         let slot = &mut slots[place];
-        let pair = *slot.pair();
-        if may_have_moved[pair.a] | may_have_moved[pair.b] {
-            let before = slot.count();
-            if slot.refresh(bounds, unmoved) {
-                places.push(place)?;
-                pairs.push(pair)?;
-            }
-            same_touches = same_touches & (slot.count() == before);
+        let before = slot.count();
+        if slot.refresh(bounds, unmoved) {
+            places.push(place)?;
         }
+        same_touches = same_touches & (slot.count() == before);
     }
     Ok(Stale {
         places,
-        pairs,
         same_touches,
     })
+}
+
+/// Computes the contact points of the slots at these places. Returns whether all points are known to
+/// have the keys of those before.
+#[inline(never)]
+pub(crate) fn compute(slots: &mut [Slot], places: &[usize], shapes: &[KeptShape]) -> bool
+    requires few { length shapes.now ≤ MAX_BODIES }
+    requires within { All (λ place. place < length slots.old) places.now }
+    requires pairs { All (λ s. IsPairOf (length shapes.now) s.pair) slots.old }
+    ensures as_many { length slots.new ≡ length slots.old }
+    ensures each { (k : ℕ) → slot_at slots.new k
+        ≡ (if has_body places.now k then filled_slot shapes.now (slot_at slots.old k)
+        else slot_at slots.old k) }
+    ensures keys { IsTrue result → map key_of (flat_map slot_touches slots.new)
+        ≡ map key_of (flat_map slot_touches slots.old) }
+{
+    let mut same_keys = true;
+    for place in places {
+        let is_same = slots[*place].compute(shapes);
+        same_keys = same_keys & is_same;
+    }
+    same_keys
+}
+
+/// The pairs of the slots at these places.
+pub(crate) fn pairs_at(
+    alloc: Global,
+    slots: &[Slot],
+    places: &[usize],
+) -> Result<Vec<Pair>, AllocError>
+    requires { All (λ place. place < length slots.now) places.now }
+    ensures { IfOk result (λ pairs. pairs.items
+        ≡ map (λ place. (slot_at slots.now place).pair) places.now) }
+{
+    let mut pairs = Vec::with_capacity(alloc, places.len())?;
+    for place in places {
+        pairs.push_reserved(*slots[*place].pair());
+    }
+    Ok(pairs)
 }
 
 /// Whether a contact point is of this pair.
@@ -140,33 +151,33 @@ fn count_of_pair(touches: &[Touch], start: usize, pair: &Pair) -> usize
     end - start
 }
 
-/// Gives these slots the contact points of their pairs, which stand one after the other in
-/// `touches`. Returns whether all points are known to have the keys of those before.
+/// Gives the slots at these places the contact points of their pairs, which stand one after the
+/// other in `touches`. Returns whether all points are known to have the keys of those before.
 #[inline(never)]
 pub(crate) fn fill(
     slots: &mut [Slot],
-    stale: &Stale,
+    places: &[usize],
+    pairs: &[Pair],
     touches: &[Touch],
     shapes: &[KeptShape],
 ) -> bool
     requires few { length shapes.now ≤ MAX_BODIES }
-    requires bodies { All (IsPairOf (length shapes.now)) stale.now.pairs.items }
-    requires ascending { IsAscending stale.now.pairs.items }
-    requires within { All (λ place. place < length slots.old) stale.now.places.items }
-    requires pairs { stale.now.pairs.items
-        ≡ map (λ place. (slot_at slots.old place).pair) stale.now.places.items }
-    requires touches { touches.now ≡ flat_map (points_of_pair shapes.now) stale.now.pairs.items }
+    requires bodies { All (IsPairOf (length shapes.now)) pairs.now }
+    requires ascending { IsAscending pairs.now }
+    requires within { All (λ place. place < length slots.old) places.now }
+    requires pairs { pairs.now ≡ map (λ place. (slot_at slots.old place).pair) places.now }
+    requires touches { touches.now ≡ flat_map (points_of_pair shapes.now) pairs.now }
     ensures as_many { length slots.new ≡ length slots.old }
     ensures each { (k : ℕ) → slot_at slots.new k
-        ≡ (if has_body stale.now.places.items k then filled_slot shapes.now (slot_at slots.old k)
+        ≡ (if has_body places.now k then filled_slot shapes.now (slot_at slots.old k)
         else slot_at slots.old k) }
     ensures keys { IsTrue result → map key_of (flat_map slot_touches slots.new)
         ≡ map key_of (flat_map slot_touches slots.old) }
 {
     let mut start = 0;
     let mut same_keys = true;
-    for (i, place) in stale.places.iter().enumerate() {
-        let end = start + count_of_pair(touches, start, &stale.pairs[i]);
+    for (i, place) in places.iter().enumerate() {
+        let end = start + count_of_pair(touches, start, &pairs[i]);
         let slot = &mut slots[*place];
         let is_same = slot.take(&touches[start..end], shapes);
         same_keys = same_keys & is_same;
@@ -209,6 +220,34 @@ pub(crate) fn points_of(
         let end = place.checked_add(slot.count()).ok_or(AllocError)?;
         slot.push_flagged(&mut points, place, flags)?;
         place = end;
+    }
+    Ok(points)
+}
+
+/// As [`points_of`], where all bodies whose flags are set are watched: only live slots are looked at.
+#[inline(never)]
+pub(crate) fn points_of_live(
+    alloc: Global,
+    slots: &[Slot],
+    live: &Live,
+    flags: &[bool],
+) -> Result<Vec<(usize, Touch)>, AllocError>
+    requires pairs { All (λ s. IsPairOf MAX_BODIES s.pair) slots.now }
+    requires flags { All (IsTouchOf (length flags.now)) (flat_map slot_touches slots.now) }
+    requires live { AreLive live.now.watched.items live.now.slots.items slots.now }
+    requires watched { AreWatched live.now.watched.items flags.now }
+    requires own { All HasOwnTouches slots.now }
+    ensures value { IfOk result (λ points. points.items
+        ≡ flagged_points flags.now (flat_map slot_touches slots.now)) }
+    ensures no_memory { flat_map slot_touches slots.now ≡ [] → IsOk result }
+{
+    let mut points = Vec::new(alloc);
+    let mut end = 0usize;
+    for live_slot in &live.slots {
+        let slot = &slots[live_slot.place];
+        let place = end.checked_add(live_slot.skipped).ok_or(AllocError)?;
+        end = place.checked_add(slot.count()).ok_or(AllocError)?;
+        slot.push_flagged(&mut points, place, flags)?;
     }
     Ok(points)
 }

@@ -1,64 +1,177 @@
-use Rattle.std.proofs.Common.{◌≡◌, ◌∙◌, ◌<◌, false, refl, append-nil, ap, eqb-true, get_or, length, slice_set, sym, arith}
+use Rattle.std.proofs.Common.{◌≡◌, ◌∙◌, ◌<◌, ◌≤◌, ◌∷◌, ◌++◌, All, ap, append-nil, arith, eqb-true, get_or, length, map, refl, subst, sym}
 use Rattle.std.proofs.lemmas.Bool.{and_parts}
-use Rattle.std.proofs.lemmas.List.{get_or_default, set-get_or}
-use Rattle.std.proofs.lemmas.List.Elements.{All-get_or}
-use Rattle.pf_cache.specs.Slots.{HasStayed, Slot, emptied_slot, is_stale, may_have_moved, no_slot, slot_at, slot_touches}
-use Rattle.pf_cache.proofs.Refreshing.{keep_next, not_stale, pairs_next, places_next, read_next, same_count, set_next, stays, touches_next}
-use Rattle.pf_cache.proofs.slots.refresh.Goals.{then-may_have_moved-pair, then-refresh+in_ok-push+in_ok-push-2, else-refresh, else-may_have_moved-pair}
+use Rattle.std.specs.List.{flat_map}
+use Rattle.pf_shapes.specs.Pair.{IsPairOf}
+use Rattle.pf_cache.specs.declared.live.LiveSlot.{LiveSlot}
+use Rattle.pf_cache.specs.Slots.{HasStayed, Slot, emptied_slot, is_stale, slot_touches}
+use Rattle.pf_cache.proofs.PlacedPoints.{All-back, All-front}
+use Rattle.pf_cache.proofs.Watching.{next_of, others_left, place_next, slot_next, started, walked_next, whole_next, within_next}
+use Rattle.pf_cache.proofs.Refreshing.{IsLeft, left_of, places_behind, places_left, same_count, slot_here, slots_left, slots_more, touches_left, touches_more}
+use Rattle.pf_cache.proofs.slots.refresh.Goals.{then-refresh+in_ok-push, else-refresh}
 use Rattle.pf_cache.proofs.slots.refresh.Goals as goal
 
-pub loop-place-preserved : goal.loop-place-preserved
-loop-place-preserved c =
+-- what is read where there is no live slot
+abbrev none_live : LiveSlot
+none_live = record { place = 0; skipped = 0 }
+
+pub loop-live_slot-init : goal.loop-live_slot-init
+loop-live_slot-init c = (
+  started c.args.live.now.watched.items c.args.live.now.slots.items c.args.slots.now c.requires.live,
+  record { slots = refl; places = c.new-places.ensures.items; touches = λ h. refl },
+)
+
+pub offset_bounds-slots-place : goal.offset_bounds-slots-place
+offset_bounds-slots-place c =
+    let live = c.args.live.now.slots.items in
+    let watched = c.args.live.now.watched.items in
     let old = c.args.slots.now in
-    let bounds = c.args.bounds.now in
-    let unmoved = c.args.unmoved.now in
-    let f = emptied_slot bounds in
-    let t = is_stale bounds unmoved in
-    let i = c.loop-place.place in
+    let slots = c.loop-live_slot.slots in
+    let i = c.loop-live_slot.live_slot-index in
+    let value = c.deref-live_slot-items.ensures.value in
+    let walked = c.loop-live_slot.invariant.0 in
+    let below : i < length live = subst (λ l. i < length l) value c.loop-live_slot-test.true in
+    let place = (get_or c.deref-live_slot-items.result.now i none_live).place in
+    let here : place ≡ (get_or live i none_live).place = ap (λ l. (get_or l i none_live).place) value in
+    let inside : place < length old = subst (λ n. n < length old) (sym here) (within_next watched live old i walked none_live below) in
+    omega (arith, inside)
+
+pub bounds-slots-place : goal.bounds-slots-place
+bounds-slots-place c =
+    let live = c.args.live.now.slots.items in
+    let watched = c.args.live.now.watched.items in
+    let old = c.args.slots.now in
+    let slots = c.loop-live_slot.slots in
+    let i = c.loop-live_slot.live_slot-index in
+    let value = c.deref-live_slot-items.ensures.value in
+    let walked = c.loop-live_slot.invariant.0 in
+    let below : i < length live = subst (λ l. i < length l) value c.loop-live_slot-test.true in
+    let place = (get_or c.deref-live_slot-items.result.now i none_live).place in
+    let here : place ≡ (get_or live i none_live).place = ap (λ l. (get_or l i none_live).place) value in
+    let inside : place < length old = subst (λ n. n < length old) (sym here) (within_next watched live old i walked none_live below) in
+    let long = c.loop-live_slot.auto.slots in
+    omega (arith, inside, long)
+
+pub refresh-requires : goal.refresh-requires
+refresh-requires c =
+    let live = c.args.live.now.slots.items in
+    let watched = c.args.live.now.watched.items in
+    let old = c.args.slots.now in
+    let slots = c.loop-live_slot.slots in
+    let i = c.loop-live_slot.live_slot-index in
+    let value = c.deref-live_slot-items.ensures.value in
+    let walked = c.loop-live_slot.invariant.0 in
+    let below : i < length live = subst (λ l. i < length l) value c.loop-live_slot-test.true in
+    let place = (get_or c.deref-live_slot-items.result.now i none_live).place in
+    let here : place ≡ (get_or live i none_live).place = ap (λ l. (get_or l i none_live).place) value in
+    let inside : place < length old = subst (λ n. n < length old) (sym here) (within_next watched live old i walked none_live below) in
+    let f = emptied_slot c.args.bounds.now in
+    let t = is_stale c.args.bounds.now c.args.unmoved.now in
+    let n = next_of watched live old i walked none_live below in
+    let fore = walked.front ++ n.before in
+    let stayed = All-back (HasStayed c.args.bounds.now c.args.unmoved.now watched) walked.front n.before
+    (All-front (HasStayed c.args.bounds.now c.args.unmoved.now watched) fore (n.slot ∷ n.behind)
+    (subst (All (HasStayed c.args.bounds.now c.args.unmoved.now watched)) (whole_next watched live old i walked none_live below) c.requires.others)) in
+    let left : All (IsLeft f t) n.before = left_of c.args.bounds.now c.args.unmoved.now watched n.before stayed n.others in
+    let now : slots ≡ map f walked.front ++ (n.before ++ n.slot ∷ n.behind) =
+    c.loop-live_slot.invariant.1.slots ∙ ap (λ l. map f walked.front ++ l) n.whole in
+    let place_is : place ≡ length fore = here ∙ place_next watched live old i walked none_live below in
     let d = c.index-slots-place.result in
-    let before = c.loop-place.invariant in
-    let below : i < length old = omega arith in
-    let slot_is : get_or c.loop-place.slots i d ≡ get_or old i d = ap (λ l. get_or l i d) before.slots ∙ read_next f old i d below in
-    let default_is : slot_at old i ≡ get_or old i d = get_or_default old i no_slot d below in
-    let pair_is : c.pair-pair.result.now ≡ (get_or old i d).pair = c.pair-pair.ensures ∙ ap (λ (s : Slot). s.pair) slot_is in
-    elim c.if-may_have_moved-pair.branch [
-      | then-may_have_moved-pair w ↦
-          let new_is : w.refresh.new.self ≡ f (get_or old i d) = w.refresh.ensures.slot ∙ ap f slot_is in
-          let stale_is : t (get_or old i d) ≡ w.refresh.result = sym (w.refresh.ensures.stale ∙ ap t slot_is) in
-          record {
-            slots = w.slots-is ∙ (λ k. slice_set (before.slots k) i (new_is k)) ∙ set_next f old i d below;
-            places = places_next (λ k. t (slot_at old k)) i c.loop-place.places.items _ w.refresh.result (ap t default_is ∙ stale_is) before.places
-                (elim w.if-refresh.branch [
-                  | then-refresh+in_ok-push+in_ok-push-2 v ↦ (λ k. (w.places-is k).items) ∙ (λ k. (v.places-is k).items) ∙ v.in_ok-push.ensures.items ∙ rw v.if-refresh.true refl
-                  | else-refresh v ↦ (λ k. (w.places-is k).items) ∙ (λ k. (v.places-is k).items) ∙ rw v.if-refresh.false (sym (append-nil _))
-                ]);
-            pairs = pairs_next old i d below t c.loop-place.pairs.items _ c.pair-pair.result.now w.refresh.result stale_is pair_is before.pairs
-                (elim w.if-refresh.branch [
-                  | then-refresh+in_ok-push+in_ok-push-2 v ↦ (λ k. (w.pairs-is k).items) ∙ (λ k. (v.pairs-is k).items) ∙ v.in_ok-push-2.ensures.items ∙ rw v.if-refresh.true refl
-                  | else-refresh v ↦ (λ k. (w.pairs-is k).items) ∙ (λ k. (v.pairs-is k).items) ∙ rw v.if-refresh.false (sym (append-nil _))
-                ]);
-            touches = λ h.
-                let parts = and_parts c.loop-place.same_touches _ (sym w.same_touches-is ∙ h) in
-                let counts = eqb-true w.count.result w.count-before.result parts.1 in
-                touches_next old i d below f
-                (same_count bounds (get_or old i d)
-                (ap (λ x. length (slot_touches x)) (sym new_is) ∙ sym w.count.ensures ∙ counts ∙ w.count-before.ensures
-                ∙ ap (λ x. length (slot_touches x)) slot_is))
-                (before.touches parts.0);
-          }
-      | else-may_have_moved-pair w ↦
-          let other : may_have_moved c.args.may_have_moved.now (get_or old i d).pair ≡ false =
-          ap (may_have_moved c.args.may_have_moved.now) (sym (c.pair.view_is ∙ pair_is)) ∙ w.if-may_have_moved-pair.false in
-          let right = All-get_or (HasStayed bounds unmoved c.args.may_have_moved.now) old i d below c.requires.others other in
-          let same = stays bounds unmoved (get_or old i d) right.0 in
-          record {
-            slots = w.slots-is ∙ set-get_or c.loop-place.slots i d ∙ before.slots ∙ keep_next f old i d below same;
-            places = places_next (λ k. t (slot_at old k)) i c.loop-place.places.items _ false
-                (ap t default_is ∙ not_stale bounds unmoved (get_or old i d) right.0 right.1) before.places
-                ((λ k. (w.places-is k).items) ∙ sym (append-nil _));
-            pairs = pairs_next old i d below t c.loop-place.pairs.items _ c.pair-pair.result.now false
-                (not_stale bounds unmoved (get_or old i d) right.0 right.1) pair_is before.pairs
-                ((λ k. (w.pairs-is k).items) ∙ sym (append-nil _));
-            touches = λ h. touches_next old i d below f (ap slot_touches same) (before.touches (sym w.same_touches-is ∙ h));
-          }
-    ]
+    let slot_is : get_or slots place d ≡ n.slot = slot_here f t walked.front n.before left n.slot n.behind slots place d now place_is in
+    subst (λ (s : Slot). IsPairOf (length c.args.bounds.now) s.pair)
+    (ap (λ k. get_or old k d) here ∙ slot_next watched live old i walked none_live below d ∙ sym slot_is)
+    (c.requires.pairs place d inside)
+
+pub loop-live_slot-preserved : goal.loop-live_slot-preserved
+loop-live_slot-preserved c =
+    let live = c.args.live.now.slots.items in
+    let watched = c.args.live.now.watched.items in
+    let old = c.args.slots.now in
+    let slots = c.loop-live_slot.slots in
+    let i = c.loop-live_slot.live_slot-index in
+    let value = c.deref-live_slot-items.ensures.value in
+    let walked = c.loop-live_slot.invariant.0 in
+    let below : i < length live = subst (λ l. i < length l) value c.loop-live_slot-test.true in
+    let place = (get_or c.deref-live_slot-items.result.now i none_live).place in
+    let here : place ≡ (get_or live i none_live).place = ap (λ l. (get_or l i none_live).place) value in
+    let inside : place < length old = subst (λ n. n < length old) (sym here) (within_next watched live old i walked none_live below) in
+    let f = emptied_slot c.args.bounds.now in
+    let t = is_stale c.args.bounds.now c.args.unmoved.now in
+    let n = next_of watched live old i walked none_live below in
+    let fore = walked.front ++ n.before in
+    let stayed = All-back (HasStayed c.args.bounds.now c.args.unmoved.now watched) walked.front n.before
+    (All-front (HasStayed c.args.bounds.now c.args.unmoved.now watched) fore (n.slot ∷ n.behind)
+    (subst (All (HasStayed c.args.bounds.now c.args.unmoved.now watched)) (whole_next watched live old i walked none_live below) c.requires.others)) in
+    let left : All (IsLeft f t) n.before = left_of c.args.bounds.now c.args.unmoved.now watched n.before stayed n.others in
+    let now : slots ≡ map f walked.front ++ (n.before ++ n.slot ∷ n.behind) =
+    c.loop-live_slot.invariant.1.slots ∙ ap (λ l. map f walked.front ++ l) n.whole in
+    let place_is : place ≡ length fore = here ∙ place_next watched live old i walked none_live below in
+    let d = c.index-slots-place.result in
+    let slot_is : get_or slots place d ≡ n.slot = slot_here f t walked.front n.before left n.slot n.behind slots place d now place_is in
+    let new_is : c.refresh.new.self ≡ f n.slot = c.refresh.ensures.slot ∙ ap f slot_is in
+    let stale_is : t n.slot ≡ c.refresh.result = ap t (sym slot_is) ∙ sym c.refresh.ensures.stale in (
+      walked_next watched live old i walked none_live below,
+      record {
+        slots = slots_more f t walked.front n.before left n.slot n.behind slots place c.refresh.new.self now place_is new_is;
+        places = places_behind f t walked.front n.before left n.slot n.behind old c.loop-live_slot.places.items _ place c.refresh.result
+            (whole_next watched live old i walked none_live below) place_is stale_is c.loop-live_slot.invariant.1.places
+            (elim c.if-refresh.branch [
+              | then-refresh+in_ok-push w ↦ (λ k. (w.places-is k).items) ∙ w.in_ok-push.ensures.items ∙ rw w.if-refresh.true refl
+              | else-refresh w ↦ (λ k. (w.places-is k).items) ∙ rw w.if-refresh.false (sym (append-nil _))
+            ]);
+        touches = λ h.
+            let parts = and_parts c.loop-live_slot.same_touches _ h in
+            let counts = eqb-true c.count.result c.count-before.result parts.1 in
+            touches_more f t walked.front n.before left n.slot n.behind
+            (same_count c.args.bounds.now n.slot
+            (ap (λ x. length (slot_touches x)) (sym new_is) ∙ sym c.count.ensures ∙ counts ∙ c.count-before.ensures
+            ∙ ap (λ x. length (slot_touches x)) slot_is))
+            (c.loop-live_slot.invariant.1.touches parts.0);
+      },
+    )
+
+pub returns-clause-slots : goal.returns-clause-slots
+returns-clause-slots c =
+    let live = c.args.live.now.slots.items in
+    let watched = c.args.live.now.watched.items in
+    let old = c.args.slots.now in
+    let i = c.loop-live_slot.live_slot-index in
+    let walked = c.loop-live_slot.invariant.0 in
+    let over : length live ≤ i = subst (λ l. length l ≤ i) c.deref-live_slot-items.ensures.value c.loop-live_slot-test.false in
+    let stayed = All-back (HasStayed c.args.bounds.now c.args.unmoved.now watched) walked.front walked.rest
+    (subst (All (HasStayed c.args.bounds.now c.args.unmoved.now watched)) walked.whole c.requires.others) in
+    let left = left_of c.args.bounds.now c.args.unmoved.now watched walked.rest stayed (others_left watched live old i walked over) in
+    let f = emptied_slot c.args.bounds.now in
+    let t = is_stale c.args.bounds.now c.args.unmoved.now in
+    slots_left f t walked.front walked.rest left old c.loop-live_slot.slots walked.whole c.loop-live_slot.invariant.1.slots
+
+pub returns-clause-places : goal.returns-clause-places
+returns-clause-places c =
+    let live = c.args.live.now.slots.items in
+    let watched = c.args.live.now.watched.items in
+    let old = c.args.slots.now in
+    let i = c.loop-live_slot.live_slot-index in
+    let walked = c.loop-live_slot.invariant.0 in
+    let over : length live ≤ i = subst (λ l. length l ≤ i) c.deref-live_slot-items.ensures.value c.loop-live_slot-test.false in
+    let stayed = All-back (HasStayed c.args.bounds.now c.args.unmoved.now watched) walked.front walked.rest
+    (subst (All (HasStayed c.args.bounds.now c.args.unmoved.now watched)) walked.whole c.requires.others) in
+    let left = left_of c.args.bounds.now c.args.unmoved.now watched walked.rest stayed (others_left watched live old i walked over) in
+    let f = emptied_slot c.args.bounds.now in
+    let t = is_stale c.args.bounds.now c.args.unmoved.now in
+    places_left f t walked.front walked.rest left old c.loop-live_slot.places.items walked.whole c.loop-live_slot.invariant.1.places
+
+pub returns-clause-touches : goal.returns-clause-touches
+returns-clause-touches c = λ h.
+    let live = c.args.live.now.slots.items in
+    let watched = c.args.live.now.watched.items in
+    let old = c.args.slots.now in
+    let i = c.loop-live_slot.live_slot-index in
+    let walked = c.loop-live_slot.invariant.0 in
+    let over : length live ≤ i = subst (λ l. length l ≤ i) c.deref-live_slot-items.ensures.value c.loop-live_slot-test.false in
+    let stayed = All-back (HasStayed c.args.bounds.now c.args.unmoved.now watched) walked.front walked.rest
+    (subst (All (HasStayed c.args.bounds.now c.args.unmoved.now watched)) walked.whole c.requires.others) in
+    let left = left_of c.args.bounds.now c.args.unmoved.now watched walked.rest stayed (others_left watched live old i walked over) in
+    let f = emptied_slot c.args.bounds.now in
+    let t = is_stale c.args.bounds.now c.args.unmoved.now in
+    ap (flat_map slot_touches) (slots_left f t walked.front walked.rest left old c.loop-live_slot.slots walked.whole c.loop-live_slot.invariant.1.slots ∙ ap (map f) walked.whole)
+    ∙ touches_left f t walked.front walked.rest left (c.loop-live_slot.invariant.1.touches h)
+    ∙ ap (flat_map slot_touches) (sym walked.whole)

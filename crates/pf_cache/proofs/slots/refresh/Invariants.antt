@@ -1,14 +1,18 @@
-use Rattle.std.proofs.Common.{◌≡◌, ◌++◌, drop, filter, map, take}
+use Rattle.std.proofs.Common.{◌≡◌, ◌++◌, filter, length, map}
 use Rattle.std.specs.Prelude.{IsTrue}
 use Rattle.std.specs.List.{flat_map, range_with_len}
 use Rattle.pf_cache.specs.Slots.{emptied_slot, is_stale, slot_at, slot_touches}
+use Rattle.pf_cache.proofs.Watching.{Walked}
 use Rattle.pf_cache.proofs.slots.refresh.Given as goal
 
-abbrev pub invariant-loop-place : goal.invariant-loop-place
-invariant-loop-place l = let old = l.initial.slots in record {
-  slots : l.slots ≡ map (emptied_slot l.bounds) (take l.place old) ++ drop l.place old;
-  places : l.places.items ≡ filter (λ k. is_stale l.bounds l.unmoved (slot_at old k)) (range_with_len 0 l.place);
-  pairs : l.pairs.items ≡ map (λ s. s.pair) (filter (is_stale l.bounds l.unmoved) (take l.place old));
-  touches : IsTrue l.same_touches
-      → flat_map slot_touches (map (emptied_slot l.bounds) (take l.place old)) ≡ flat_map slot_touches (take l.place old);
-}
+abbrev pub invariant-loop-live_slot : goal.invariant-loop-live_slot
+invariant-loop-live_slot l =
+    let old = l.initial.slots in
+    (walked : Walked l.live.watched.items l.live.slots.items old l.live_slot-index)
+    × record {
+      slots : l.slots ≡ map (emptied_slot l.bounds) walked.front ++ walked.rest;
+      places : l.places.items
+          ≡ filter (λ k. is_stale l.bounds l.unmoved (slot_at old k)) (range_with_len 0 (length walked.front));
+      touches : IsTrue l.same_touches
+          → flat_map slot_touches (map (emptied_slot l.bounds) walked.front) ≡ flat_map slot_touches walked.front;
+    }

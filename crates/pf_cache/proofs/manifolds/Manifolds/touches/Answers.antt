@@ -11,27 +11,27 @@ use Rattle.pf_cache.proofs.manifolds.Manifolds.touches.Goals as goal
 pub touches_of-requires : goal.touches_of-requires
 touches_of-requires c =
     subst (All (λ (s : Slot). IsPairOf MAX_BODIES s.pair)) (sym c.deref.ensures.value)
-    (kept_bodies c.self.inside.broad_phase c.self.inside.placed.bounds c.self.inside.placed.shapes c.self.inside.slots.items c.self.invariant)
+    (kept_bodies c.self.inside.broad_phase c.self.inside.placed.bounds c.self.inside.placed.shapes c.self.inside.slots.items c.self.invariant.0)
 
 pub returns-clause-value : goal.returns-clause-value
 returns-clause-value c =
     let same : flat_map slot_touches c.deref.result.now ≡ kept_touches c.args.self.now =
     ap (flat_map slot_touches) c.deref.ensures.value
-    ∙ kept_points c.self.inside.broad_phase c.self.inside.placed.bounds c.self.inside.placed.shapes c.self.inside.slots.items c.self.invariant
+    ∙ kept_points c.self.inside.broad_phase c.self.inside.placed.bounds c.self.inside.placed.shapes c.self.inside.slots.items c.self.invariant.0
     ∙ ap kept_touches c.self.view_is in
     rw (sym same) c.touches_of.ensures.value
 
 pub returns-clause-order : goal.returns-clause-order
 returns-clause-order c =
     subst AreTouches
-    (kept_points c.self.inside.broad_phase c.self.inside.placed.bounds c.self.inside.placed.shapes c.self.inside.slots.items c.self.invariant
+    (kept_points c.self.inside.broad_phase c.self.inside.placed.bounds c.self.inside.placed.shapes c.self.inside.slots.items c.self.invariant.0
     ∙ ap kept_touches c.self.view_is)
-    c.self.invariant.order
+    c.self.invariant.0.order
 
 pub returns-clause-no_memory : goal.returns-clause-no_memory
 returns-clause-no_memory c = λ none.
     let same : flat_map slot_touches c.deref.result.now ≡ kept_touches c.args.self.now =
     ap (flat_map slot_touches) c.deref.ensures.value
-    ∙ kept_points c.self.inside.broad_phase c.self.inside.placed.bounds c.self.inside.placed.shapes c.self.inside.slots.items c.self.invariant
+    ∙ kept_points c.self.inside.broad_phase c.self.inside.placed.bounds c.self.inside.placed.shapes c.self.inside.slots.items c.self.invariant.0
     ∙ ap kept_touches c.self.view_is in
     c.touches_of.ensures.no_memory (same ∙ none)

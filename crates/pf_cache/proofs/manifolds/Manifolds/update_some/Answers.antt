@@ -1,4 +1,4 @@
-use Rattle.std.proofs.Common.{◌≡◌, ◌∙◌, ◌<◌, All, ap, arith, false, filter, get_or, length, map, rules, subst, sym, true}
+use Rattle.std.proofs.Common.{◌≡◌, ◌∙◌, ◌<◌, All, ap, arith, filter, get_or, length, map, rules, subst, sym, true}
 use Rattle.std.proofs.lemmas.List.Elements.{All-map, All-weaker}
 use Rattle.std.proofs.lemmas.Bool.{and_parts}
 use Rattle.std.proofs.lemmas.List.{places, with_items_is}
@@ -10,6 +10,7 @@ use Rattle.pf_broad.specs.Enlarged.{AreEnlarged, contains}
 use Rattle.pf_broad.specs.Pairs.{all_bounds, bounds_at, no_bounds, pair_may_touch, pairs}
 use Rattle.pf_broad.proofs.Enlarging.{pairs-of-candidates}
 use Rattle.pf_manifold.specs.Key.{key_of}
+use Rattle.pf_cache.specs.Live.{AreLive}
 use Rattle.pf_cache.specs.Manifolds.{computed_count, kept_touches, placed_shapes, points_of_pair}
 use Rattle.pf_cache.specs.PlacedBodies.{HaveStayed, PlacedBodies, bodies_of}
 use Rattle.pf_cache.specs.Slots.{AreSlots, HasStayed, IsReusedSlot, Slot, carried_slot, is_stale, overlapping, slot_of, slot_touches, unmoved_flags}
@@ -38,13 +39,13 @@ update-requires-2-clause-others g c = λ as_many k below other.
     let long = update-requires-2-clause-bodies g c in
     let now_are : bounds ≡ new = c.bounds.ensures.value ∙ ap (λ (p : PlacedBodies). p.bounds) c.in_ok-placed.ensures.placed in
     let stood = subst (λ m. HaveStayed c.args.moved.now (bodies_of m) fixtures bodies) (sym c.self.view_is) c.requires.others in
-    let enlarged_long = c.self.invariant.within.as_many in
+    let enlarged_long = c.self.invariant.0.within.as_many in
     let old_long = c.shapes-before.ensures.bounds in
     let same : length old.shapes ≡ length bodies = omega (arith, as_many, long, enlarged_long, old_long) in
     subst (λ b. contains (bounds_at enlarged k) b ≡ true)
     (same_at old.bounds new k (stood same k (omega (arith, below, long)) other).1 no_bounds
     ∙ ap (λ bs. bounds_at bs k) (sym now_are))
-    (c.self.invariant.within.each k (omega (arith, below, as_many, enlarged_long)))
+    (c.self.invariant.0.within.each k (omega (arith, below, as_many, enlarged_long)))
 
 pub update-requires-2-clause-few : goal.update-requires-2-clause-few
 update-requires-2-clause-few g c =
@@ -52,16 +53,16 @@ update-requires-2-clause-few g c =
 
 pub slots_of-requires-clause-rising : goal.slots_of-requires-clause-rising
 slots_of-requires-clause-rising g c =
-    kept_rise c.self.inside.broad_phase c.self.inside.placed.bounds c.self.inside.placed.shapes c.self.inside.slots.items c.self.invariant
+    kept_rise c.self.inside.broad_phase c.self.inside.placed.bounds c.self.inside.placed.shapes c.self.inside.slots.items c.self.invariant.0
 
 pub slots_of-requires-clause-bodies : goal.slots_of-requires-clause-bodies
 slots_of-requires-clause-bodies g c =
-    kept_bodies c.self.inside.broad_phase c.self.inside.placed.bounds c.self.inside.placed.shapes c.self.inside.slots.items c.self.invariant
+    kept_bodies c.self.inside.broad_phase c.self.inside.placed.bounds c.self.inside.placed.shapes c.self.inside.slots.items c.self.invariant.0
 
 pub slots_of-requires-clause-same : goal.slots_of-requires-clause-same
 slots_of-requires-clause-same g c = λ h.
     ap (map (carried_slot c.self.inside.slots.items)) (c.candidates.ensures.value ∙ ap pairs (c.in_ok-same.ensures.same h))
-    ∙ kept_own c.self.inside.broad_phase c.self.inside.placed.bounds c.self.inside.placed.shapes c.self.inside.slots.items c.self.invariant
+    ∙ kept_own c.self.inside.broad_phase c.self.inside.placed.bounds c.self.inside.placed.shapes c.self.inside.slots.items c.self.invariant.0
 
 pub update_slots-requires-clause-bounds : goal.update_slots-requires-clause-bounds
 update_slots-requires-clause-bounds g c =
@@ -83,15 +84,18 @@ update_slots-requires-clause-pairs g c =
     (All-map (λ (s : Slot). IsPairOf n s.pair) (carried_slot c.self.inside.slots.items) candidates
     (subst (λ m. All (IsPairOf m) candidates) long c.candidates.ensures.bodies))
 
-pub update_slots-requires-clause-flags : goal.update_slots-requires-clause-flags
-update_slots-requires-clause-flags g c =
+pub live_of-requires-clause-pairs : goal.live_of-requires-clause-pairs
+live_of-requires-clause-pairs g c =
     let fixtures = c.args.scene.now.fixtures in
     let bodies = c.args.bodies.now in
     let placed = c.in_ok-placed.placed in
-    let long : length placed.bounds ≡ length bodies =
-    sym (ap length c.bounds.ensures.value)
+    let candidates = c.candidates.result.now in
+    let long : length c.update-2.new.self ≡ length bodies =
+    c.in_ok-same.ensures.enlarged.as_many
     ∙ as_many_bounds fixtures bodies placed c.bounds.result.now c.requires.bodies c.in_ok-placed.ensures.placed c.bounds.ensures.value in
-    ap length c.deref.ensures.value ∙ c.in_ok-flags.ensures.count ∙ sym long
+    subst (All (λ (s : Slot). IsPairOf (length bodies) s.pair)) (sym (c.deref.ensures.value ∙ c.in_ok-slots.ensures.slots))
+    (All-map (λ (s : Slot). IsPairOf (length bodies) s.pair) (carried_slot c.self.inside.slots.items) candidates
+    (subst (λ m. All (IsPairOf m) candidates) long c.candidates.ensures.bodies))
 
 pub update_slots-requires-clause-others : goal.update_slots-requires-clause-others
 update_slots-requires-clause-others g c =
@@ -114,16 +118,16 @@ update_slots-requires-clause-others g c =
     let flags_are : c.deref-2.result.now ≡ unmoved_flags old.shapes placed.shapes =
     c.deref-2.ensures.value ∙ c.in_ok-placed.ensures.unmoved ∙ ap (unmoved_flags old.shapes) (sym shapes_are) in
     let stood = subst (λ m. HaveStayed c.args.moved.now (bodies_of m) fixtures bodies) (sym c.self.view_is) c.requires.others in
-    let Stayed : Slot → Type 0 = HasStayed placed.bounds c.deref-2.result.now c.deref.result.now in
+    let Stayed : Slot → Type 0 = HasStayed placed.bounds c.deref-2.result.now c.in_ok-live.live.watched.items in
     subst (All Stayed) (sym slots_were)
     (All-map Stayed (carried_slot kept) candidates (λ k e below.
     let p = get_or candidates k e in
     let enlarged_long = within.as_many in
     let here : IsPairOf (length c.update-2.new.self) p = c.candidates.ensures.bodies k e below in
-    stayed c.self.inside.broad_phase old.bounds old.shapes kept c.self.invariant p (in_range k e below) placed.bounds placed.shapes c.deref-2.result.now
-    c.deref.result.now (length c.shapes-before.result.now) (length bodies) c.args.moved.now (omega (arith, here.1, enlarged_long, long)) flags_are
+    stayed c.self.inside.broad_phase old.bounds old.shapes kept c.self.invariant.0 p (in_range k e below) placed.bounds placed.shapes c.deref-2.result.now
+    c.in_ok-live.live.watched.items (length c.shapes-before.result.now) (length bodies) c.args.moved.now (omega (arith, here.1, enlarged_long, long)) flags_are
     (ap length c.shapes-before.ensures.value) c.shapes-before.ensures.bounds
-    (λ n small unset. c.in_ok-flags.ensures.others n small (ap (λ fs. get_or fs n false) (sym c.deref.ensures.value) ∙ unset))
+    c.in_ok-live.ensures.others
     (λ same n small other.
     let h = stood same n small other in
     (h.0 ∙ ap (λ ss. slice_get ss n) (sym shapes_are), h.1 ∙ ap (λ bs. slice_get bs n) (sym bounds_are)))))
@@ -146,7 +150,7 @@ update_slots-requires-clause-kept g c =
     let Reused : Slot → Type 0 = IsReusedSlot placed.shapes c.deref-2.result.now in
     subst (All Reused) (sym slots_were)
     (All-map Reused (carried_slot kept) candidates (λ k e below.
-    reused c.self.inside.broad_phase old.bounds old.shapes kept c.self.invariant (get_or candidates k e) (in_range k e below) placed.shapes
+    reused c.self.inside.broad_phase old.bounds old.shapes kept c.self.invariant.0 (get_or candidates k e) (in_range k e below) placed.shapes
     c.deref-2.result.now flags_are))
 
 pub invariant_of-manifolds : goal.invariant_of-manifolds
@@ -169,7 +173,10 @@ invariant_of-manifolds g c =
     c.in_ok-refreshed.ensures.slots
     ∙ ap (map (slot_of placed.bounds placed.shapes)) (ap (map (λ (s : Slot). s.pair)) slots_were ∙ carried_pairs kept candidates ∙ c.candidates.ensures.value) in
     let are = now_kept fixtures bodies c.update-2.new.self placed.bounds placed.shapes now c.requires.bodies shapes_are long c.candidates.ensures.few within each in
-    subst (AreSlots c.update-2.new.self placed.bounds placed.shapes) (sym items_are) are
+    let live = c.in_ok-live.live in (
+      subst (AreSlots c.update-2.new.self placed.bounds placed.shapes) (sym items_are) are,
+      subst (AreLive live.watched.items live.slots.items) (sym items_are) c.in_ok-refreshed.ensures.live,
+    )
 
 pub returns-clause-manifolds : goal.returns-clause-manifolds
 returns-clause-manifolds g c =
@@ -218,7 +225,7 @@ returns-clause-computed g c =
     ∙ ap pairs bounds_are in
     c.in_ok-refreshed.ensures.computed
     ∙ ap (count_by (is_stale placed.bounds c.deref-2.result.now)) slots_were
-    ∙ counted_stale c.self.inside.broad_phase old.bounds old.shapes kept c.self.invariant placed.bounds placed.shapes c.deref-2.result.now candidates
+    ∙ counted_stale c.self.inside.broad_phase old.bounds old.shapes kept c.self.invariant.0 placed.bounds placed.shapes c.deref-2.result.now candidates
     in_range flags_are
     ∙ (λ i. computed_count (c.self.view_is i) (shapes_are i) (ps_are i))
 
@@ -244,7 +251,7 @@ returns-clause-same_keys g c = λ h.
     let are = now_kept fixtures bodies c.update-2.new.self placed.bounds placed.shapes now c.requires.bodies shapes_are long c.candidates.ensures.few within each in
     let parts = and_parts c.in_ok-refreshed.refreshed.same_keys c.in_ok-same.same h in
     let before : map key_of (flat_map slot_touches kept) ≡ map key_of (kept_touches c.args.self) =
-    ap (map key_of) (kept_points c.self.inside.broad_phase old.bounds old.shapes kept c.self.invariant ∙ ap kept_touches c.self.view_is) in
+    ap (map key_of) (kept_points c.self.inside.broad_phase old.bounds old.shapes kept c.self.invariant.0 ∙ ap kept_touches c.self.view_is) in
     sym before
     ∙ sym (ap (λ ss. map key_of (flat_map slot_touches ss)) (c.deref_mut.ensures.value ∙ c.in_ok-slots.ensures.same parts.1))
     ∙ sym (c.in_ok-refreshed.ensures.keys parts.0)

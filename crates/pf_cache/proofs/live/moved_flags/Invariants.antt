@@ -1,6 +1,6 @@
 use Rattle.std.proofs.Common.{◌≡◌, ℕ, ◌<◌, false, get_or, length, take}
 use Rattle.pf_broad.specs.Partners.{has_body}
-use Rattle.pf_cache.proofs.slots.moved_flags.Given as goal
+use Rattle.pf_cache.proofs.live.moved_flags.Given as goal
 
 abbrev pub invariant-loop-number : goal.invariant-loop-number
 invariant-loop-number l = record {

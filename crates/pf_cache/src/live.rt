@@ -1,0 +1,154 @@
+//! The slots that a tick looks at: those of bodies that may have moved, and of some that moved not
+//! long ago. The others stay as they are.
+
+ghost use Rattle.std.specs.Prelude.{◌≡◌, ◌<◌, ℕ, All, IfOk, IsTrue, false, get_or, length};
+ghost use Rattle.pf_shapes.specs.Pair.{IsPairOf};
+ghost use Rattle.pf_broad.specs.Partners.{has_body};
+ghost use Rattle.pf_cache.specs.Live.{AreLive, AreWatched, live_slots};
+
+use crate::slot::Slot;
+use std::alloc::{AllocError, Global};
+
+/// A slot with a watched body.
+#[derive(Clone, Copy, Debug)]
+pub(crate) struct LiveSlot {
+    /// Its place among all slots.
+    pub place: usize,
+    /// How many contact points stand between those of the live slot before it and its own.
+    pub skipped: usize,
+}
+
+/// The bodies that are watched, and the slots that have one of them.
+#[derive(Debug, Drop)]
+pub(crate) struct Live {
+    /// For each body whether it is watched.
+    pub watched: Vec<bool>,
+    /// The slots with a watched body, in the order of all slots.
+    pub slots: Vec<LiveSlot>,
+    /// How many bodies might have moved when these were chosen.
+    pub chosen: usize,
+}
+
+impl Live {
+    ghost use Rattle.std.specs.Prelude.{◌≡◌, ◌<◌, [], ℕ, All, IsTrue, false, get_or, length};
+    ghost use Rattle.pf_broad.specs.Partners.{has_body};
+
+    /// No body is watched. Takes no memory.
+    pub(crate) fn new(alloc: Global) -> Live
+        ensures watched { result.watched.items ≡ [] }
+        ensures slots { result.slots.items ≡ [] }
+    {
+        Live {
+            watched: Vec::new(alloc),
+            slots: Vec::new(alloc),
+            chosen: 0,
+        }
+    }
+
+    /// Whether all of these bodies are watched, of so many, and not many others: at most as many
+    /// again as were listed when the watched ones were chosen.
+    fn serves(&self, count: usize, moved: &[usize]) -> bool
+        requires { All (λ number. number < count) moved.now }
+        ensures count { IsTrue result → length self.now.watched.items ≡ count }
+        ensures others { IsTrue result → (k : ℕ) → k < count
+            → get_or self.now.watched.items k false ≡ false → has_body moved.now k ≡ false }
+    {
+        if self.watched.len() != count || moved.len() < self.chosen / 2 {
+            return false;
+        }
+        for number in moved {
+            if !self.watched[*number] {
+                return false;
+            }
+        }
+        true
+    }
+}
+
+/// The slots with a watched body.
+#[inline(never)]
+fn live_slots(alloc: Global, watched: &[bool], slots: &[Slot]) -> Result<Vec<LiveSlot>, AllocError>
+    requires { All (λ s. IsPairOf (length watched.now) s.pair) slots.now }
+    ensures { IfOk result (λ live. live.items ≡ live_slots watched.now 0 0 slots.now) }
+{
+    let mut live = Vec::new(alloc);
+    let mut skipped = 0usize;
+    for (place, slot) in slots.iter().enumerate() {
+        let pair = *slot.pair();
+        if watched[pair.a] | watched[pair.b] {
+            live.push(LiveSlot { place, skipped })?;
+            skipped = 0;
+        } else {
+            skipped = skipped.checked_add(slot.count()).ok_or(AllocError)?;
+        }
+    }
+    Ok(live)
+}
+
+/// For each body whether it may have moved: it is one of these, or there were not as many bodies
+/// before.
+fn moved_flags(
+    alloc: Global,
+    before: usize,
+    count: usize,
+    moved: &[usize],
+) -> Result<Vec<bool>, AllocError>
+    requires { All (λ number. number < count) moved.now }
+    ensures count { IfOk result (λ flags. length flags.items ≡ count) }
+    ensures others { IfOk result (λ flags. (k : ℕ) → k < count → get_or flags.items k false ≡ false
+        → (before ≡ count) × (has_body moved.now k ≡ false)) }
+{
+    let mut flags = Vec::with_capacity(alloc, count)?;
+    flags.resize(count, before != count)?;
+    for number in moved {
+        flags[*number] = true;
+    }
+    Ok(flags)
+}
+
+/// The bodies that are watched in a tick, and the slots that have one of them. `before` bodies were
+/// there in the last tick, and `count` are now; those of `moved` may have moved. `kept` is what was
+/// watched then, of these slots if they are the `same`.
+pub(crate) fn live_of(
+    alloc: Global,
+    kept: Live,
+    same: bool,
+    slots: &[Slot],
+    before: usize,
+    count: usize,
+    moved: &[usize],
+) -> Result<Live, AllocError>
+    requires moved { All (λ number. number < count) moved.now }
+    requires pairs { All (λ s. IsPairOf count s.pair) slots.now }
+    requires kept { IsTrue same → AreLive kept.watched.items kept.slots.items slots.now }
+    ensures live { IfOk result (λ live. AreLive live.watched.items live.slots.items slots.now) }
+    ensures others { IfOk result (λ live. (k : ℕ) → k < count
+        → get_or live.watched.items k false ≡ false
+        → (before ≡ count) × (has_body moved.now k ≡ false)) }
+{
+    if same && before == count && kept.serves(count, moved) {
+        return Ok(kept);
+    }
+    let watched = moved_flags(alloc, before, count, moved)?;
+    let slots = live_slots(alloc, &watched, slots)?;
+    Ok(Live {
+        watched,
+        slots,
+        chosen: moved.len(),
+    })
+}
+
+/// Whether each body whose flag is set is watched.
+pub(crate) fn are_watched(watched: &[bool], flags: &[bool]) -> bool
+    ensures { IsTrue result → AreWatched watched.now flags.now }
+{
+    if watched.len() != flags.len() {
+        return false;
+    }
+    for (number, flag) in flags.iter().enumerate() {
+        if *flag && !watched[number] {
+            return false;
+        }
+    }
+    true
+}
