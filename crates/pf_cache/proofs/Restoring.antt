@@ -6,17 +6,16 @@ use Rattle.std.proofs.lemmas.List.Elements.{All-nil, All-cons, All-drop, All-hea
 use Rattle.std.proofs.lemmas.List.Folds.{list_any-append}
 use Rattle.std.proofs.lemmas.Simd.{map-map}
 use Rattle.std.specs.Prelude.{All, get_or, not, if◌then◌else◌}
-use Rattle.pf_manifold.specs.Key.{AreTouches, IsKey, Key, key_of, rank}
-use Rattle.pf_manifold.specs.Touches.{Touch}
+use Rattle.pf_manifold.specs.Key.{IsKey, Key, rank}
 use Rattle.pf_manifold.proofs.Rising.{rising-drop}
 use Rattle.pf_rows.specs.Impulses.{Impulses}
 use Rattle.pf_rows.specs.Row.{Row, impulses_or}
-use Rattle.pf_cache.specs.Contact.{AreContacts, Contact, kept_contact, next_contacts, no_contact}
+use Rattle.pf_cache.specs.Contact.{AreContacts, AreKeys, Contact, contact_of_key, contacts_of_keys, no_contact}
 use Rattle.pf_cache.specs.ContactRows.{IsRowAt, with_rows}
 use Rattle.pf_cache.specs.ContactsChange.{ContactsChange, contact_of_row, contacts_before, has_rank, may_change, noted_or, with_noted}
 use Rattle.pf_cache.proofs.FoundRows.{row_rank}
 use Rattle.pf_cache.proofs.RankedLists as ranked
-use Rattle.pf_cache.proofs.Runs.{HaveSameKeys, run_done}
+use Rattle.pf_cache.proofs.Runs.{HaveKeys, run_done}
 use Rattle.pf_cache.proofs.Stored.{with_impulses_are_contacts}
 use Rattle.pf_cache.proofs.Walk.{SameFrom}
 
@@ -257,41 +256,40 @@ rest_are_contacts k contacts order = record {
   keys = All-drop (λ c. IsKey c.key) k contacts order.keys;
 }
 
-pub rest_are_touches : (k : ℕ) (touches : List Touch) → AreTouches touches → AreTouches (drop k touches)
-rest_are_touches k touches order = record {
-  rising = rising-drop (λ (t : Touch). rank (key_of t)) k touches order.rising;
-  keys = All-drop (λ t. IsKey (key_of t)) k touches order.keys;
+pub rest_are_keys : (k : ℕ) (keys : List Key) → AreKeys keys → AreKeys (drop k keys)
+rest_are_keys k keys order = record {
+  rising = rising-drop rank k keys order.rising;
+  each = All-drop IsKey k keys order.each;
 }
 
 -- contacts from a place on that have what all have
-same_kept : (old : List Contact) (place : ℕ) (touches : List Touch) → All (SameFrom old place) touches
-    → map (kept_contact (drop place old)) touches ≡ map (kept_contact old) touches
+same_kept : (old : List Contact) (place : ℕ) (keys : List Key) → All (SameFrom old place) keys
+    → map (contact_of_key (drop place old)) keys ≡ map (contact_of_key old) keys
 same_kept old place [] same = refl
-same_kept old place (t ∷ touches) same =
-    ap₂ (λ x xs. x ∷ xs) (ap (λ p. record { key = key_of t; impulses = p }) (All-head (SameFrom old place) t touches same))
-    (same_kept old place touches (All-tail (SameFrom old place) t touches same))
+same_kept old place (k ∷ keys) same =
+    ap₂ (λ x xs. x ∷ xs) (ap (λ p. record { key = k; impulses = p }) (All-head (SameFrom old place) k keys same))
+    (same_kept old place keys (All-tail (SameFrom old place) k keys same))
 
--- the first contacts that have the keys of the first points stay, and behind them come the next ones of the others
-pub next_from : (old : List Contact) (touches : List Touch) (r : ℕ) → AreTouches touches → r ≤ length old → r ≤ length touches
-    → HaveSameKeys old touches r → take r old ++ next_contacts (drop r old) (drop r touches) ≡ next_contacts old touches
-unfolding next_contacts
-next_from old touches r order inside within keys =
+-- the first contacts that have the first keys stay, and behind them come the next ones of the others
+pub next_from : (old : List Contact) (keys : List Key) (r : ℕ) → AreKeys keys → r ≤ length old → r ≤ length keys
+    → HaveKeys old keys r → take r old ++ contacts_of_keys (drop r old) (drop r keys) ≡ contacts_of_keys old keys
+unfolding contacts_of_keys
+next_from old keys r order inside within alike =
     let none : 0 + r ≡ r = omega arith in
-    let run = run_done old touches 0 0 r [] (take r old) order.rising (omega (arith, inside)) (omega (arith, within)) keys
-    (λ k d w. refl) refl refl in
-    let kept = subst (λ n. (take r old ≡ map (kept_contact old) (take n touches)) × All (SameFrom old n) (drop n touches)) none run in
-    ap₂ (λ xs ys. xs ++ ys) kept.0 (same_kept old r (drop r touches) kept.1)
-    ∙ sym (map-append (kept_contact old) (take r touches) (drop r touches))
-    ∙ ap (map (kept_contact old)) (take-append-drop r touches)
+    let run = run_done old keys order.rising 0 0 r [] (omega (arith, inside)) (omega (arith, within)) alike (λ k d w. refl) refl in
+    let kept = subst (λ n. (take r old ≡ map (contact_of_key old) (take n keys)) × All (SameFrom old n) (drop n keys)) none run in
+    ap₂ (λ xs ys. xs ++ ys) kept.0 (same_kept old r (drop r keys) kept.1)
+    ∙ sym (map-append (contact_of_key old) (take r keys) (drop r keys))
+    ∙ ap (map (contact_of_key old)) (take-append-drop r keys)
 
--- so contacts that have the keys of all points stay as they are
-none_next : (first others : List Contact) → first ++ next_contacts others [] ≡ first
-unfolding next_contacts
+-- so contacts that have all keys stay as they are
+none_next : (first others : List Contact) → first ++ contacts_of_keys others [] ≡ first
+unfolding contacts_of_keys
 none_next first others = append-nil first
 
-pub next_same : (old : List Contact) (touches : List Touch) (r : ℕ) → AreTouches touches → r ≡ length old → r ≡ length touches
-    → HaveSameKeys old touches r → next_contacts old touches ≡ old
-next_same old touches r order all_old all_points keys =
-    sym (next_from old touches r order (omega (arith, all_old)) (omega (arith, all_points)) keys)
-    ∙ ap (λ ts. take r old ++ next_contacts (drop r old) ts) (drop_all r touches (omega (arith, all_points)))
+pub next_same : (old : List Contact) (keys : List Key) (r : ℕ) → AreKeys keys → r ≡ length old → r ≡ length keys
+    → HaveKeys old keys r → contacts_of_keys old keys ≡ old
+next_same old keys r order all_old all_keys alike =
+    sym (next_from old keys r order (omega (arith, all_old)) (omega (arith, all_keys)) alike)
+    ∙ ap (λ ks. take r old ++ contacts_of_keys (drop r old) ks) (drop_all r keys (omega (arith, all_keys)))
     ∙ none_next (take r old) (drop r old) ∙ take_all r old (omega (arith, all_old))

@@ -1,12 +1,11 @@
--- The walk along contacts and contact points, both in the order of their keys.
+-- The walk along contacts and keys, both in the order of the keys.
 use Rattle.std.proofs.Common.{◌≡◌, ℕ, suc, ◌+◌, ◌≤◌, ◌<◌, List, [], ◌∷◌, ◌++◌, take, length, map, refl, sym, ◌∙◌, ap, ap₂, subst, arith}
 use Rattle.std.proofs.lemmas.List.{drop_more, map_more}
 use Rattle.std.proofs.lemmas.List.Elements.{All-head, All-tail}
 use Rattle.std.specs.Prelude.{All, drop, get_or}
-use Rattle.pf_manifold.specs.Touches.{Touch}
-use Rattle.pf_manifold.specs.Key.{IsRising, Key, key_of, rank}
+use Rattle.pf_manifold.specs.Key.{IsRising, Key, rank}
 use Rattle.pf_rows.specs.Impulses.{Impulses}
-use Rattle.pf_cache.specs.Contact.{Contact, impulses_at, kept_contact}
+use Rattle.pf_cache.specs.Contact.{Contact, contact_of_key, impulses_at}
 use Rattle.pf_manifold.proofs.Rising.{rising-all, rising-drop}
 
 -- what each element of a list reads of another list from a place on. The elements are in the order
@@ -42,42 +41,35 @@ module _ {T V : Type 0} (ranked : T → ℕ) (read : T → ℕ → V) where
       let high = above k e w in
       further (get_or behind k e) (omega (arith, high)) ∙ kept k e w
 
--- what a point's key has from a place of the contacts on
-abbrev of_point : List Contact → Touch → ℕ → Impulses
-of_point contacts t place = impulses_at (rank (key_of t)) (drop place contacts)
+-- what a key has from a place of the contacts on
+abbrev of_key : List Contact → Key → ℕ → Impulses
+of_key contacts k place = impulses_at (rank k) (drop place contacts)
 
--- the contacts from a place on have the impulses of this point's key
-abbrev pub SameFrom : List Contact → ℕ → Touch → Type 0
-SameFrom contacts place t =
-    impulses_at (rank (key_of t)) (drop place contacts) ≡ impulses_at (rank (key_of t)) contacts
+-- the contacts from a place on have the impulses of this key
+abbrev pub SameFrom : List Contact → ℕ → Key → Type 0
+SameFrom contacts place k = impulses_at (rank k) (drop place contacts) ≡ impulses_at (rank k) contacts
 
--- a step of the walk: the point t at i, whose key is k. The lent list is that of the contacts.
-module _ (contacts lent : List Contact) (touches : List Touch) (i place : ℕ) (d t : Touch) (k : Key)
-    (within : i < length touches) (t_is : t ≡ get_or touches i d) (k_is : k ≡ key_of t) (lent_is : lent ≡ contacts)
-    (same : All (SameFrom contacts place) (drop i touches)) where
-  key_is : k ≡ key_of (get_or touches i d)
-  key_is = k_is ∙ ap key_of t_is
-
-  -- the contact of the point
-  pub made_step : (made after : List Contact) (p : Impulses) → p ≡ impulses_at (rank k) (drop place lent)
-      → made ≡ map (kept_contact contacts) (take i touches)
+-- a step of the walk: the key k at i
+module _ (contacts : List Contact) (keys : List Key) (i place : ℕ) (d k : Key) (within : i < length keys)
+    (k_is : k ≡ get_or keys i d) (same : All (SameFrom contacts place) (drop i keys)) where
+  -- the contact of the key
+  pub made_step : (made after : List Contact) (p : Impulses) → p ≡ impulses_at (rank k) (drop place contacts)
+      → made ≡ map (contact_of_key contacts) (take i keys)
       → after ≡ made ++ record { key = k; impulses = p } ∷ []
-      → after ≡ map (kept_contact contacts) (take (i + 1) touches)
+      → after ≡ map (contact_of_key contacts) (take (i + 1) keys)
   made_step made after p found done pushed =
-      let here = get_or touches i d in
-      let own : p ≡ impulses_at (rank (key_of here)) contacts =
-      found ∙ ap₂ (λ x cs. impulses_at (rank x) (drop place cs)) key_is lent_is
-      ∙ reads_here (λ x. rank (key_of x)) (of_point contacts) touches i place place d within (λ x high. refl) same in
-      pushed ∙ ap₂ (λ xs x. xs ++ record { key = x; impulses = p } ∷ []) done key_is
-      ∙ ap (λ q. map (kept_contact contacts) (take i touches) ++ record { key = key_of here; impulses = q } ∷ []) own
-      ∙ sym (map_more (kept_contact contacts) touches i d within)
+      let here = get_or keys i d in
+      let own : p ≡ impulses_at (rank here) contacts =
+      found ∙ ap (λ x. impulses_at (rank x) (drop place contacts)) k_is
+      ∙ reads_here rank (of_key contacts) keys i place place d within (λ x high. refl) same in
+      pushed ∙ ap₂ (λ xs x. xs ++ record { key = x; impulses = p } ∷ []) done k_is
+      ∙ ap (λ q. map (contact_of_key contacts) (take i keys) ++ record { key = here; impulses = q } ∷ []) own
+      ∙ sym (map_more (contact_of_key contacts) keys i d within)
 
   -- and a place from which all higher ranks have what they have from this one
   pub same_step : (last : ℕ)
-      → ((n : ℕ) → rank k < n → impulses_at n (drop last lent) ≡ impulses_at n (drop place lent))
-      → IsRising 0 (map (λ x. rank (key_of x)) touches)
-      → All (SameFrom contacts last) (drop (i + 1) touches)
+      → ((n : ℕ) → rank k < n → impulses_at n (drop last contacts) ≡ impulses_at n (drop place contacts))
+      → IsRising 0 (map rank keys) → All (SameFrom contacts last) (drop (i + 1) keys)
   same_step last later rising =
-      let past = subst (λ cs. (n : ℕ) → rank k < n → impulses_at n (drop last cs) ≡ impulses_at n (drop place cs)) lent_is later in
-      reads_behind (λ x. rank (key_of x)) (of_point contacts) touches i place last d within
-      (λ x high. past (rank (key_of x)) (subst (λ y. rank y < rank (key_of x)) (sym key_is) high)) same rising
+      reads_behind rank (of_key contacts) keys i place last d within
+      (λ x high. later (rank x) (subst (λ y. rank y < rank x) (sym k_is) high)) same rising

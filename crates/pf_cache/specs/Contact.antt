@@ -9,6 +9,11 @@ pub record Contact : Type 0 where
   pub key : Key
   pub impulses : Impulses
 
+-- keys in their order, each once
+pub record AreKeys (keys : List Key) : Type 0 where
+  pub rising : IsRising 0 (map rank keys)
+  pub each : All IsKey keys
+
 -- what is read where there is no contact
 abbrev pub no_contact : Contact
 no_contact = record { key = record { a = 0; b = 0; feature = 0 }; impulses = no_impulses }
@@ -30,3 +35,11 @@ kept_contact old t = record { key = key_of t; impulses = impulses_at (rank (key_
 -- the contacts of these points: a key that is there keeps its impulses, a new one has none
 unfoldable pub next_contacts : List Contact → List Touch → List Contact
 next_contacts old touches = map (kept_contact old) touches
+
+-- the contact of this key, with the accumulated impulses that it had
+abbrev pub contact_of_key : List Contact → Key → Contact
+contact_of_key old k = record { key = k; impulses = impulses_at (rank k) old }
+
+-- the contacts of these keys: one that is there keeps its impulses, a new one has none
+unfoldable pub contacts_of_keys : List Contact → List Key → List Contact
+contacts_of_keys old keys = map (contact_of_key old) keys

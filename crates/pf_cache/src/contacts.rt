@@ -1,8 +1,8 @@
 //! The contacts of a world, in the order of their keys.
 
-ghost use Rattle.std.specs.Prelude.{◌≡◌, ◌↔◌, ◌+◌, ◌≤◌, ◌<◌, ◌++◌, ℕ, [], All, IsOk, IsTrue, OnOk, drop, length, map, take, vec_capacity, vec_len};
-ghost use Rattle.pf_manifold.specs.Key.{AreTouches, IsKey, key_of, rank};
-ghost use Rattle.pf_cache.specs.Contact.{AreContacts, impulses_at, next_contacts};
+ghost use Rattle.std.specs.Prelude.{◌≡◌, ◌↔◌, ◌+◌, ◌≤◌, ◌<◌, ◌++◌, ℕ, [], All, IfOk, IsOk, IsTrue, OnOk, drop, length, map, take, vec_capacity, vec_len};
+ghost use Rattle.pf_manifold.specs.Key.{IsKey, key_of, rank};
+ghost use Rattle.pf_cache.specs.Contact.{AreContacts, AreKeys, contacts_of_keys, impulses_at};
 ghost use Rattle.pf_cache.specs.ContactRows.{AreRowsAt, IsRowAt, with_rows};
 ghost use Rattle.pf_cache.specs.ContactsChange.{contact_of_row};
 
@@ -64,28 +64,38 @@ fn impulses_of(contacts: &[Contact], start: usize, key: &Key) -> (Impulses, usiz
     }
 }
 
-/// Whether a contact has the key of a point.
-#[inline]
-fn has_key_of(contact: &Contact, touch: &Touch) -> bool
-    ensures { IsTrue result ↔ (contact.now.key ≡ key_of touch.now) }
+/// The keys of these points. Takes no memory where there are none.
+fn keys_of_points(alloc: Global, touches: &[Touch]) -> Result<Vec<Key>, AllocError>
+    ensures value { IfOk result (λ keys. keys.items ≡ map key_of touches.now) }
+    ensures no_memory { touches.now ≡ [] → IsOk result }
 {
-    let key = &contact.key;
-    key.a == touch.a && key.b == touch.b && key.feature == touch.point.feature
+    let mut keys = Vec::with_capacity(alloc, touches.len())?;
+    for touch in touches {
+        keys.push_reserved(Key::of(touch));
+    }
+    Ok(keys)
 }
 
-/// How many of the first contacts have the keys of the first points, one after the other. No clause
-/// says that it does not stop earlier.
+/// Whether a contact has this key.
 #[inline]
-fn same_keys(contacts: &[Contact], touches: &[Touch]) -> usize
-    ensures contacts { result ≤ length contacts.now }
-    ensures touches { result ≤ length touches.now }
-    ensures same { map (λ c. c.key) (take result contacts.now)
-        ≡ map key_of (take result touches.now) }
+fn has_key(contact: &Contact, key: &Key) -> bool
+    ensures { IsTrue result ↔ (contact.now.key ≡ key.now) }
 {
-    let end = contacts.len().min(touches.len());
+    contact.key == *key
+}
+
+/// How many of the first contacts have the first keys, one after the other. No clause says that it
+/// does not stop earlier.
+#[inline]
+fn same_keys(contacts: &[Contact], keys: &[Key]) -> usize
+    ensures contacts { result ≤ length contacts.now }
+    ensures keys { result ≤ length keys.now }
+    ensures same { map (λ c. c.key) (take result contacts.now) ≡ take result keys.now }
+{
+    let end = contacts.len().min(keys.len());
     let mut count = 0;
     while count < end {
-        if !has_key_of(&contacts[count], &touches[count]) {
+        if !has_key(&contacts[count], &keys[count]) {
             break;
         }
         count += 1;
@@ -93,13 +103,13 @@ fn same_keys(contacts: &[Contact], touches: &[Touch]) -> usize
     count
 }
 
-/// Whether there are so many contacts and so many points.
+/// Whether there are so many contacts and so many keys.
 #[inline]
-fn is_count_of_both(count: usize, contacts: &[Contact], touches: &[Touch]) -> bool
+fn is_count_of_both(count: usize, contacts: &[Contact], keys: &[Key]) -> bool
     ensures { IsTrue result
-        ↔ ((count ≡ length contacts.now) × (count ≡ length touches.now)) }
+        ↔ ((count ≡ length contacts.now) × (count ≡ length keys.now)) }
 {
-    count == contacts.len() && count == touches.len()
+    count == contacts.len() && count == keys.len()
 }
 
 /// Adds these contacts. There is room for them.
@@ -115,23 +125,23 @@ fn add_all(list: &mut Vec<Contact>, contacts: &[Contact])
     }
 }
 
-/// Adds the next contacts of these points, after these old ones. There is room for them. Contacts
-/// that follow each other as their points do are copied together.
-fn add_next(list: &mut Vec<Contact>, old: &[Contact], touches: &[Touch])
+/// Adds the next contacts of these keys, after these old ones. There is room for them. Contacts
+/// that follow each other as their keys do are copied together.
+fn add_next(list: &mut Vec<Contact>, old: &[Contact], keys: &[Key])
     requires old { AreContacts old.now }
-    requires touches { AreTouches touches.now }
-    requires room { vec_len list.old + length touches.now ≤ vec_capacity list.old }
-    ensures { list.new.items ≡ list.old.items ++ next_contacts old.now touches.now }
+    requires keys { AreKeys keys.now }
+    requires room { vec_len list.old + length keys.now ≤ vec_capacity list.old }
+    ensures { list.new.items ≡ list.old.items ++ contacts_of_keys old.now keys.now }
 {
     let mut place = 0;
     let mut done = 0;
-    while done < touches.len() {
-        let run = same_keys(&old[place..], &touches[done..]);
+    while done < keys.len() {
+        let run = same_keys(&old[place..], &keys[done..]);
         add_all(list, &old[place..place + run]);
         place += run;
         done += run;
-        if done < touches.len() {
-            let key = Key::of(&touches[done]);
+        if done < keys.len() {
+            let key = keys[done];
             let (impulses, behind) = impulses_of(old, place, &key);
             place = behind;
             list.push_reserved(Contact { key, impulses });
@@ -181,7 +191,7 @@ fn store_at(contacts: &mut [Contact], rows: &[Row])
 impl Contacts {
     ghost use Rattle.std.specs.Prelude.{◌≡◌, ℕ, [], All, IfOk, IsOk, IsTrue, OnErr, OnOk, false, true};
     ghost use Rattle.pf_manifold.specs.Key.{AreTouches, key_of, rank};
-    ghost use Rattle.pf_cache.specs.Contact.{next_contacts};
+    ghost use Rattle.pf_cache.specs.Contact.{AreKeys, contacts_of_keys, next_contacts};
     ghost use Rattle.pf_cache.specs.ContactRows.{AreRowsAt, with_rows};
     ghost use Rattle.pf_cache.specs.ContactsChange.{contacts_before, may_change, no_contacts_change};
     ghost use Rattle.pf_cache.specs.Same.{same_contacts};
@@ -210,7 +220,6 @@ impl Contacts {
     /// they do), and impulses that change have to be noted. Otherwise all contacts are made anew,
     /// and `change` has those before. An error leaves the contacts as they are, and no change in
     /// `change`.
-    #[inline(never)]
     pub fn update(
         &mut self,
         touches: &[Touch],
@@ -226,15 +235,41 @@ impl Contacts {
         ensures no_memory { touches.now ≡ [] → IsOk result }
     {
         change.clear();
-        let same = same_keys(&self.list, touches);
-        if may_stay && is_count_of_both(same, &self.list, touches) {
+        let keys = keys_of_points(*self.list.allocator(), touches)?;
+        self.set_keys(&keys, may_stay, change)
+    }
+
+    /// Makes of these contacts those of the keys, as Box2D-Lite's `Arbiter::Update`: a key of the
+    /// old contacts keeps its impulses, a new key has none, and a contact with no key here is gone.
+    /// The keys are in their order, each once. `change` then undoes this. With `may_stay`, and if
+    /// the contacts have just these keys, they may stay in place (no clause says that they do), and
+    /// impulses that change have to be noted. Otherwise all contacts are made anew, and `change`
+    /// has those before. An error leaves the contacts as they are, and no change in `change`.
+    #[inline(never)]
+    pub fn set_keys(
+        &mut self,
+        keys: &[Key],
+        may_stay: bool,
+        change: &mut ContactsChange,
+    ) -> Result<(), AllocError>
+        requires { AreKeys keys.now }
+        ensures value { OnOk result (self.new ≡ contacts_of_keys self.old keys.now) }
+        ensures before { contacts_before change.new self.new ≡ self.old }
+        ensures anew { OnOk result (may_stay ≡ false → change.new.in_place ≡ false) }
+        ensures unchanged { OnErr result (self.new ≡ self.old) }
+        ensures no_change { OnErr result (change.new ≡ no_contacts_change) }
+        ensures no_memory { keys.now ≡ [] → IsOk result }
+    {
+        change.clear();
+        let same = same_keys(&self.list, keys);
+        if may_stay && is_count_of_both(same, &self.list, keys) {
             return Ok(());
         }
-        change.before.reserve(touches.len())?;
+        change.before.reserve(keys.len())?;
         change.in_place = false;
         mem::swap(&mut self.list, &mut change.before);
         add_all(&mut self.list, &change.before[..same]);
-        add_next(&mut self.list, &change.before[same..], &touches[same..]);
+        add_next(&mut self.list, &change.before[same..], &keys[same..]);
         Ok(())
     }
 

@@ -14,10 +14,10 @@ use crate::live::{Live, are_watched, live_of};
 use crate::placed_bodies::PlacedBodies;
 use crate::slot::Slot;
 use crate::slots::{
-    carried_slots, compute, fill, pairs_at, points_of, points_of_live, refresh, touches_of,
+    carried_slots, compute, fill, keys_of, pairs_at, points_of, points_of_live, refresh,
 };
 use pf_broad::BroadPhase;
-use pf_manifold::{Collider, Touch};
+use pf_manifold::{Collider, Key, Touch};
 use pf_shapes::{BodyState, MAX_BODIES, Pair, Scene};
 use std::alloc::{AllocError, Global};
 use std::marker::Model;
@@ -196,8 +196,9 @@ fn slots_of(
 impl Manifolds {
     ghost use Rattle.std.specs.Prelude.{◌≡◌, ◌<◌, [], length, map, All, IfOk, IsOk, IsTrue};
     ghost use Rattle.pf_broad.specs.Pairs.{all_bounds, pairs};
-    ghost use Rattle.pf_manifold.specs.Key.{AreTouches, key_of};
+    ghost use Rattle.pf_manifold.specs.Key.{key_of};
     ghost use Rattle.pf_manifold.specs.Touches.{IsTouchOf};
+    ghost use Rattle.pf_cache.specs.Contact.{AreKeys};
     ghost use Rattle.pf_cache.specs.PlacedBodies.{HaveStayed, bodies_of};
     ghost use Rattle.pf_cache.specs.Manifolds.{computed_count, kept_touches, manifolds_of, no_manifolds, placed_shapes};
     ghost use Rattle.pf_cache.specs.Points.{flagged_points};
@@ -214,14 +215,13 @@ impl Manifolds {
         }
     }
 
-    /// The contact points, pair by pair, and those of one pair in ascending order of their
-    /// features. Takes no memory where there are none.
-    pub fn touches(&self, alloc: Global) -> Result<Vec<Touch>, AllocError>
-        ensures value { IfOk result (λ touches. touches.items ≡ kept_touches self.now) }
-        ensures order { AreTouches (kept_touches self.now) }
+    /// The keys of the contact points, in their order. Takes no memory where there are none.
+    pub fn keys(&self, alloc: Global) -> Result<Vec<Key>, AllocError>
+        ensures value { IfOk result (λ keys. keys.items ≡ map key_of (kept_touches self.now)) }
+        ensures order { AreKeys (map key_of (kept_touches self.now)) }
         ensures no_memory { kept_touches self.now ≡ [] → IsOk result }
     {
-        touches_of(alloc, &self.slots)
+        keys_of(alloc, &self.slots)
     }
 
     /// The contact points with a body whose flag is set, each with its place among all. Takes no

@@ -4,6 +4,7 @@ ghost use Rattle.std.specs.Prelude.{◌≡◌, ◌≤◌, ◌<◌, ◌+◌, ◌+
 ghost use Rattle.std.specs.List.{enumerate_from};
 ghost use Rattle.pf_shapes.specs.Pair.{IsPairOf};
 ghost use Rattle.pf_shapes.specs.declared.scene.TheConstants.{MAX_BODIES};
+ghost use Rattle.pf_manifold.specs.Key.{key_of};
 ghost use Rattle.pf_manifold.specs.Manifold.{points_of};
 ghost use Rattle.pf_manifold.specs.Touches.{touch_of};
 ghost use Rattle.pf_cache.specs.Manifolds.{points_of_pair};
@@ -12,7 +13,7 @@ ghost use Rattle.pf_cache.specs.Slots.{pair_rank, points_or_none};
 use crate::kept_shape::{KeptShape, are_unmoved, manifold_of_pair};
 use crate::ranked::Ranked;
 use pf_broad::may_touch;
-use pf_manifold::{ContactPoint, Key, Manifold, Touch, push_points, touch_of};
+use pf_manifold::{ContactPoint, Key, Manifold, Touch, touch_of};
 use pf_shapes::{Bounds, MAX_BODIES, Pair};
 use std::alloc::AllocError;
 use std::marker::Model;
@@ -110,6 +111,19 @@ fn push_placed(
         }
     }
     Ok(())
+}
+
+/// The key of a contact point of a pair.
+#[inline]
+fn key_of(pair: &Pair, point: &ContactPoint) -> Key
+    requires { IsPairOf MAX_BODIES pair.now }
+    ensures { result ≡ key_of (touch_of pair.now point.now) }
+{
+    Key {
+        a: pair.a as u16,
+        b: pair.b as u16,
+        feature: point.feature,
+    }
 }
 
 /// The manifold of these contact points of a pair. No clause of a collider says that a pair has at
@@ -234,18 +248,24 @@ impl Slot {
         self.set_points(points)
     }
 
-    /// Adds the contact points to a list. After an error some of them may have been added.
+    /// Adds the keys of the contact points to a list. After an error some of them may have been
+    /// added.
     #[inline]
-    pub(crate) fn push_touches(&self, touches: &mut Vec<Touch>) -> Result<(), AllocError>
+    pub(crate) fn push_keys(&self, keys: &mut Vec<Key>) -> Result<(), AllocError>
         requires { IsPairOf MAX_BODIES self.now.pair }
         ensures added { OnOk result
-            (touches.new.items ≡ touches.old.items ++ slot_touches self.now) }
+            (keys.new.items ≡ keys.old.items ++ map key_of (slot_touches self.now)) }
         ensures no_memory { slot_touches self.now ≡ [] → IsOk result }
     {
         match &self.points {
-            Some(points) => push_points(touches, &self.pair, points),
-            None => Ok(()),
+            None | Some(Manifold::Apart) => {}
+            Some(Manifold::One(first)) => keys.push(key_of(&self.pair, first))?,
+            Some(Manifold::Two(first, second)) => {
+                keys.push(key_of(&self.pair, first))?;
+                keys.push(key_of(&self.pair, second))?;
+            }
         }
+        Ok(())
     }
 
     /// Adds the contact points to a list, each with its place among all, if one of the bodies has

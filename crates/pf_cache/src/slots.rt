@@ -15,7 +15,7 @@ use crate::kept_shape::KeptShape;
 use crate::live::Live;
 use crate::ranked::find_from;
 use crate::slot::{Slot, rank_of};
-use pf_manifold::Touch;
+use pf_manifold::{Key, Touch};
 use pf_shapes::{Bounds, MAX_BODIES, Pair};
 use std::alloc::{AllocError, Global};
 
@@ -186,18 +186,19 @@ pub(crate) fn fill(
     same_keys
 }
 
-/// The contact points of all slots. Takes no memory where there are none.
+/// The keys of the contact points of all slots. Takes no memory where there are none.
 #[inline(never)]
-pub(crate) fn touches_of(alloc: Global, slots: &[Slot]) -> Result<Vec<Touch>, AllocError>
+pub(crate) fn keys_of(alloc: Global, slots: &[Slot]) -> Result<Vec<Key>, AllocError>
     requires { All (λ s. IsPairOf MAX_BODIES s.pair) slots.now }
-    ensures value { IfOk result (λ touches. touches.items ≡ flat_map slot_touches slots.now) }
+    ensures value { IfOk result
+        (λ keys. keys.items ≡ map key_of (flat_map slot_touches slots.now)) }
     ensures no_memory { flat_map slot_touches slots.now ≡ [] → IsOk result }
 {
-    let mut touches = Vec::new(alloc);
+    let mut keys = Vec::new(alloc);
     for slot in slots {
-        slot.push_touches(&mut touches)?;
+        slot.push_keys(&mut keys)?;
     }
-    Ok(touches)
+    Ok(keys)
 }
 
 /// The contact points of all slots that have a body whose flag is set, each with its place among

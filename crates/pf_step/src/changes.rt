@@ -248,8 +248,8 @@ impl Changes {
             return contacts.keep(may_stay, &mut self.contacts);
         }
         self.contacts.clear();
-        let touches = manifolds.touches(alloc)?;
-        contacts.update(&touches, may_stay, &mut self.contacts)
+        let keys = manifolds.keys(alloc)?;
+        contacts.set_keys(&keys, may_stay, &mut self.contacts)
     }
 
     /// Notes the impulses of the contacts of islands, so that they may change. After an error some

@@ -1,9 +1,10 @@
-use Rattle.std.proofs.Common.{rules, ◌≡◌, ◌∙◌, ap, arith, length, map, refl, sym, take_all}
+use Rattle.std.proofs.Common.{rules, ◌≡◌, ◌∙◌, ap, arith, length, map, refl, subst, sym, take_all}
 use Rattle.std.proofs.lemmas.List.{length-map, nil_from_length}
 use Rattle.pf_manifold.specs.Key.{key_of}
-use Rattle.pf_cache.specs.Contact.{Contact, next_contacts}
+use Rattle.pf_cache.specs.Contact.{AreKeys, Contact, contacts_of_keys, next_contacts}
 use Rattle.pf_cache.specs.ContactsChange.{ContactsChange, contacts_before}
 use Rattle.pf_cache.specs.Manifolds.{kept_touches}
+use Rattle.pf_cache.proofs.Kept.{keys_in_order, next_by_keys}
 use Rattle.pf_cache.proofs.Restoring.{next_same, none_noted}
 use Rattle.pf_step.proofs.changes.Changes.update_contacts.Goals as goal
 
@@ -11,15 +12,17 @@ pub returns-then-are_known-clause-value : goal.returns-then-are_known-clause-val
 returns-then-are_known-clause-value c =
     let contacts = c.args.contacts.now in
     let touches = kept_touches c.args.manifolds.now in
+    let keys = map key_of touches in
     let count = length contacts in
-    let known : map (λ (x : Contact). x.key) contacts ≡ map key_of touches = c.requires.known c.if-are_known.true in
-    let many : count ≡ length touches = sym (length-map contacts (λ (x : Contact). x.key)) ∙ ap length known ∙ length-map touches key_of in
+    let known : map (λ (x : Contact). x.key) contacts ≡ keys = c.requires.known c.if-are_known.true in
+    let many : count ≡ length keys = sym (length-map contacts (λ (x : Contact). x.key)) ∙ ap length known in
     let same : c.keep.new.self ≡ next_contacts contacts touches =
     c.keep.ensures.same
     ∙ sym
-    (next_same contacts touches count c.requires.order refl many
+    (next_by_keys contacts touches
+    ∙ next_same contacts keys count (keys_in_order touches c.requires.order) refl many
     (ap (map (λ (x : Contact). x.key)) (take_all count contacts (omega arith)) ∙ known
-    ∙ sym (ap (map key_of) (take_all count touches (omega (arith, many)))))) in
+    ∙ sym (take_all count keys (omega (arith, many))))) in
     search (rules, same)
 
 pub returns-then-are_known-clause-no_memory : goal.returns-then-are_known-clause-no_memory
@@ -29,7 +32,22 @@ returns-then-are_known-clause-no_memory c none =
     (nil_from_length contacts
     (sym (length-map contacts (λ (x : Contact). x.key)) ∙ ap length (c.requires.known c.if-are_known.true ∙ ap (map key_of) none)))
 
-pub returns-in_err-touches-clause-before : goal.returns-in_err-touches-clause-before
-returns-in_err-touches-clause-before c =
+pub returns-in_err-keys-clause-before : goal.returns-in_err-keys-clause-before
+returns-in_err-keys-clause-before c =
     let now = c.args.contacts.now in
     ap (λ (change : ContactsChange). contacts_before change now) c.clear.ensures ∙ none_noted now
+
+pub set_keys-requires : goal.set_keys-requires
+set_keys-requires c =
+    let touches = kept_touches c.args.manifolds.now in
+    let keys : c.deref.result.now ≡ map key_of touches = c.deref.ensures.value ∙ c.in_ok-keys.ensures.value in
+    subst AreKeys (sym keys) (keys_in_order touches c.requires.order)
+
+pub returns-clause-value : goal.returns-clause-value
+returns-clause-value c =
+    let contacts = c.args.contacts.now in
+    let touches = kept_touches c.args.manifolds.now in
+    let keys : c.deref.result.now ≡ map key_of touches = c.deref.ensures.value ∙ c.in_ok-keys.ensures.value in
+    let same : contacts_of_keys contacts c.deref.result.now ≡ next_contacts contacts touches =
+    ap (contacts_of_keys contacts) keys ∙ sym (next_by_keys contacts touches) in
+    rw (sym same) c.set_keys.ensures.value

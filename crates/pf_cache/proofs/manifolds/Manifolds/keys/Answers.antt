@@ -5,11 +5,12 @@ use Rattle.pf_shapes.specs.declared.scene.TheConstants.{MAX_BODIES}
 use Rattle.pf_manifold.specs.Key.{AreTouches}
 use Rattle.pf_cache.specs.Manifolds.{kept_touches}
 use Rattle.pf_cache.specs.Slots.{Slot, slot_touches}
+use Rattle.pf_cache.proofs.Kept.{keys_in_order}
 use Rattle.pf_cache.proofs.SlotsKept.{kept_bodies, kept_points}
-use Rattle.pf_cache.proofs.manifolds.Manifolds.touches.Goals as goal
+use Rattle.pf_cache.proofs.manifolds.Manifolds.keys.Goals as goal
 
-pub touches_of-requires : goal.touches_of-requires
-touches_of-requires c =
+pub keys_of-requires : goal.keys_of-requires
+keys_of-requires c =
     subst (All (λ (s : Slot). IsPairOf MAX_BODIES s.pair)) (sym c.deref.ensures.value)
     (kept_bodies c.self.inside.broad_phase c.self.inside.placed.bounds c.self.inside.placed.shapes c.self.inside.slots.items c.self.invariant.0)
 
@@ -19,14 +20,15 @@ returns-clause-value c =
     ap (flat_map slot_touches) c.deref.ensures.value
     ∙ kept_points c.self.inside.broad_phase c.self.inside.placed.bounds c.self.inside.placed.shapes c.self.inside.slots.items c.self.invariant.0
     ∙ ap kept_touches c.self.view_is in
-    rw (sym same) c.touches_of.ensures.value
+    rw (sym same) c.keys_of.ensures.value
 
 pub returns-clause-order : goal.returns-clause-order
 returns-clause-order c =
-    subst AreTouches
+    keys_in_order (kept_touches c.args.self.now)
+    (subst AreTouches
     (kept_points c.self.inside.broad_phase c.self.inside.placed.bounds c.self.inside.placed.shapes c.self.inside.slots.items c.self.invariant.0
     ∙ ap kept_touches c.self.view_is)
-    c.self.invariant.0.order
+    c.self.invariant.0.order)
 
 pub returns-clause-no_memory : goal.returns-clause-no_memory
 returns-clause-no_memory c = λ none.
@@ -34,4 +36,4 @@ returns-clause-no_memory c = λ none.
     ap (flat_map slot_touches) c.deref.ensures.value
     ∙ kept_points c.self.inside.broad_phase c.self.inside.placed.bounds c.self.inside.placed.shapes c.self.inside.slots.items c.self.invariant.0
     ∙ ap kept_touches c.self.view_is in
-    c.touches_of.ensures.no_memory (same ∙ none)
+    c.keys_of.ensures.no_memory (same ∙ none)
