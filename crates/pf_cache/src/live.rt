@@ -25,7 +25,7 @@ pub(crate) struct Live {
     pub watched: Vec<bool>,
     /// The slots with a watched body, in the order of all slots.
     pub slots: Vec<LiveSlot>,
-    /// How many bodies might have moved when these were chosen.
+    /// How many bodies may have moved in the tick in which these were chosen.
     pub chosen: usize,
 }
 
@@ -45,8 +45,8 @@ impl Live {
         }
     }
 
-    /// Whether all of these bodies are watched, of so many, and not many others: at most as many
-    /// again as were listed when the watched ones were chosen.
+    /// Whether these serve a tick in which the bodies of `moved`, of so many, may have moved: all of
+    /// them are watched, and they are at least half as many as when the watched ones were chosen.
     fn serves(&self, count: usize, moved: &[usize]) -> bool
         requires { All (λ number. number < count) moved.now }
         ensures count { IsTrue result → length self.now.watched.items ≡ count }
@@ -106,9 +106,9 @@ fn moved_flags(
     Ok(flags)
 }
 
-/// The bodies that are watched in a tick, and the slots that have one of them. `before` bodies were
-/// there in the last tick, and `count` are now; those of `moved` may have moved. `kept` is what was
-/// watched then, of these slots if they are the `same`.
+/// The bodies that are watched in a tick, and the slots that have one of them. There were `before`
+/// bodies in the last tick, and there are `count` now; those of `moved` may have moved. `kept` is of
+/// the last tick: it serves again where the slots are the `same`.
 pub(crate) fn live_of(
     alloc: Global,
     kept: Live,
