@@ -329,7 +329,8 @@ pf_code pf_peer_world(pf_context *context, pf_peer peer, uint32_t tick, pf_body 
 pf_code pf_peer_base(pf_context *context, pf_peer peer, pf_body *bodies, size_t bodies_length,
                      pf_contact *contacts, size_t contacts_length, pf_sizes *sizes);
 
-/* Older names of these calls, for one release: for C sources. The library has the new ones alone. */
+/* Older names of these calls, for one release: for C sources. The library has the new ones
+ * alone. */
 #ifndef PF_NO_OLD_NAMES
 #define pf_circle pf_scene_add_circle
 #define pf_box pf_scene_add_box
