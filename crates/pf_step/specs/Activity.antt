@@ -30,7 +30,7 @@ batch_with s contacts bodies =
     let awake = woken_bodies (groups s points) bodies in
     record { bodies = awake; rows = active_rows s awake points contacts }
 
--- the same as islands
+-- the islands that are solved, with these contacts of the tick
 abbrev pub islands_with : Scene → List Contact → List BodyState → List Island
 islands_with s contacts bodies = woken_islands s bodies (touches_of_scene s bodies) contacts
 
@@ -39,7 +39,7 @@ abbrev pub batch_of_bodies : Scene → List Contact → List BodyState → Batch
 batch_of_bodies s contacts bodies =
     batch_with s (contacts_of_bodies s contacts bodies) bodies
 
--- the same as islands
+-- the islands that are solved, where these are the contacts of the last tick
 abbrev pub islands_of_bodies : Scene → List Contact → List BodyState → List Island
 islands_of_bodies s contacts bodies =
     islands_with s (contacts_of_bodies s contacts bodies) bodies
@@ -48,12 +48,12 @@ islands_of_bodies s contacts bodies =
 abbrev pub labels_of_tick : Scene → World → List Payload → List ℕ
 labels_of_tick s w payloads = labels_of_bodies s (after_commands s.fixtures w.bodies payloads)
 
--- the bodies and contacts that are solved
+-- the bodies and contacts that are solved in a tick
 abbrev pub batch_of_tick : Scene → World → List Payload → Batch
 batch_of_tick s w payloads =
     batch_of_bodies s w.contacts (after_commands s.fixtures w.bodies payloads)
 
--- and as islands
+-- the islands that are solved in a tick
 abbrev pub islands_of_tick : Scene → World → List Payload → List Island
 islands_of_tick s w payloads =
     islands_of_bodies s w.contacts (after_commands s.fixtures w.bodies payloads)

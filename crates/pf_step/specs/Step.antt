@@ -31,7 +31,7 @@ collisions_of_bodies fixtures bodies kept =
       computed = computed_count kept (placed_shapes fixtures bodies) found;
     }
 
--- and what it finds in a tick
+-- the result of the narrow phase in a tick, with these points kept
 abbrev pub collisions_of_tick : Scene → World → List Payload → Manifolds → Collisions
 collisions_of_tick s w payloads kept =
     collisions_of_bodies s.fixtures (after_commands s.fixtures w.bodies payloads) kept
@@ -50,6 +50,6 @@ world_after s before bodies =
       contacts = with_rows contacts after.rows;
     }
 
--- Commands, and then the others
+-- the world one tick later, with the payloads of the tick's commands in order of player, then number
 unfoldable pub step : Scene → World → List Payload → World
 step s w payloads = world_after s w.contacts (after_commands s.fixtures w.bodies payloads)

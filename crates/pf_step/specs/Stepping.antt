@@ -40,10 +40,10 @@ pub record IsStepOfCopy {E : Type 0} (s : Scene) (w : World) (payloads : List Pa
       (new ≡ record old { manifolds = no_manifolds; moved = new.moved; is_known = false })
   pub follows : IfOk result (λ next. KnowsWorld s next new)
 
--- What the phases after Points do to a world, of which some changes of bodies are noted already.
+-- What the phases after Commands do to a world, of which some changes of bodies are noted already.
 -- They make the next world of it and note more changes of its bodies, or return an error. In both
 -- cases undoing all that is noted restores the world before the first noted change.
-pub record IsEnding {A E : Type 0} (s : Scene) (w : World) (noted : List BodyChange)
+pub record FinishesTick {A E : Type 0} (s : Scene) (w : World) (noted : List BodyChange)
     (after : World) (changes : Changes) (result : Result A E) : Type 0 where
   pub value : OnOk result (after ≡ world_after s w.contacts w.bodies)
   pub before :

@@ -223,19 +223,19 @@ impl Changes {
     }
 
     /// Makes of the contacts of the last tick those of the points of `manifolds`, and keeps what
-    /// that changes. With `are_known` they have the keys of all these points, in the same order.
+    /// that changes. With `have_keys` they have the keys of all these points, in the same order.
     /// With `may_stay`, contacts that have the keys of all points may stay in place (no clause says
-    /// that they do). An error leaves the contacts as they are, with no change.
+    /// that they do). After an error the contacts are as they were, and undoing leaves them so.
     pub(crate) fn update_contacts(
         &mut self,
         alloc: Global,
         contacts: &mut Contacts,
         manifolds: &Manifolds,
-        are_known: bool,
+        have_keys: bool,
         may_stay: bool,
     ) -> Result<(), AllocError>
         requires order { AreTouches (kept_touches manifolds.now) }
-        requires known { IsTrue are_known → map (λ c. c.key) contacts.old
+        requires known { IsTrue have_keys → map (λ c. c.key) contacts.old
             ≡ map key_of (kept_touches manifolds.now) }
         ensures value { OnOk result
             (contacts.new ≡ next_contacts contacts.old (kept_touches manifolds.now)) }
@@ -244,7 +244,7 @@ impl Changes {
         ensures bodies { self.new.bodies ≡ self.old.bodies }
         ensures no_memory { kept_touches manifolds.now ≡ [] → IsOk result }
     {
-        if are_known {
+        if have_keys {
             return contacts.keep(may_stay, &mut self.contacts);
         }
         self.contacts.clear();
@@ -293,6 +293,6 @@ impl Changes {
     pub fn lend(self, work: &mut Work)
         ensures { work.new ≡ work.old }
     {
-        work.keep_changes(self);
+        work.spare_changes = self;
     }
 }

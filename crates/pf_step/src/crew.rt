@@ -1,8 +1,11 @@
 //! Who solves the islands of a tick.
 
-ghost use Rattle.std.specs.Prelude.{◌≡◌, All, map};
-ghost use Rattle.pf_islands.specs.Split.{IsIslandOf};
+ghost use Rattle.std.specs.Prelude.{◌≡◌, All, IfErr, IfOk, List, OnOk, map};
+ghost use Rattle.pf_islands.specs.declared.splitting.LoneBodies.TheVariants.{AreListed};
+ghost use Rattle.pf_islands.specs.Lone.{made_islands};
+ghost use Rattle.pf_islands.specs.Split.{IsIslandOf, Island};
 ghost use Rattle.pf_solver.specs.Alone.{island_after_tick};
+ghost use Rattle.pf_step.specs.Crew.{IgnoresIslands};
 
 use pf_batches::solve_islands;
 use pf_islands::{Island, LoneBodies};
@@ -97,6 +100,29 @@ impl Crew for OneThread {
     fn lone_bodies(&self) -> LoneBodies {
         LoneBodies::AreListed
     }
+}
+
+/// Has the islands of a tick solved by a call of the crew, or without one where there are none and
+/// the crew allows that. `lone` says whether islands of lone bodies were left out.
+pub(crate) fn solve_by<C: Crew>(
+    crew: &mut C,
+    scene: &Scene,
+    islands: Vec<Island>,
+    lone: LoneBodies,
+) -> Result<Vec<Island>, CrewError>
+    requires fit { All (IsIslandOf scene.now) islands.items }
+    requires ignores { lone ≡ AreListed → IgnoresIslands C.is_called C.may_fail crew.old }
+    ensures solved { IfOk result
+        (λ solved. solved.items ≡ map (island_after_tick scene.now) islands.items) }
+    ensures called { (all : List Island) → islands.items ≡ made_islands lone all
+        → OnOk result (C.is_called crew.old all crew.new) }
+    ensures failed { (all : List Island) → islands.items ≡ made_islands lone all
+        → IfErr result (λ error. C.may_fail crew.old all error crew.new) }
+{
+    if islands.is_empty() && lone == LoneBodies::AreListed {
+        return Ok(islands);
+    }
+    crew.solve(scene, islands)
 }
 
 impl From<AllocError> for StepError {

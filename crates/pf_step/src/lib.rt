@@ -4,18 +4,21 @@
 //! those of Box2D 2.x.
 #![tactic(auto)]
 
+mod activity;
 mod changes;
-mod command;
+mod commands;
 mod crew;
-mod ending;
 pub mod laws;
+mod other_steps;
+mod points;
 mod step;
 mod work;
 mod world;
 
 pub use changes::Changes;
-pub use command::apply;
+pub use commands::apply;
 pub use crew::{Crew, CrewError, StepError, solve_all};
-pub use step::{step_alone, step_by, step_next, step_on_one_thread, step_with};
+pub use other_steps::{step_alone, step_by, step_on_one_thread, step_with};
+pub use step::step_next;
 pub use work::Work;
 pub use world::World;

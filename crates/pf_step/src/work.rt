@@ -27,7 +27,7 @@ pub struct Work {
     /// keys of the kept points.
     is_known: bool,
     /// The memory for what the next step changes.
-    spare_changes: Changes,
+    pub(crate) spare_changes: Changes,
     /// The memory for the islands of the next tick.
     spare_islands: Vec<Island>,
 }
@@ -115,7 +115,8 @@ impl Work {
 
     /// Takes the contact points of the last tick, so that the next tick can reuse them and their
     /// memory. None are kept from then on, and nothing is known of moved bodies. Also returns
-    /// whether it was known which may have moved. Takes no memory.
+    /// whether it was known which may have moved, and that the contacts have the keys of the points.
+    /// Takes no memory.
     pub(crate) fn take_manifolds(&mut self, alloc: Global) -> (Manifolds, bool)
         ensures taken { (result.0 ≡ self.old.manifolds) × (result.1 ≡ self.old.is_known) }
         ensures rest { self.new ≡ record self.old { manifolds = no_manifolds; is_known = false } }
@@ -162,13 +163,6 @@ impl Work {
     {
         self.moved.clear();
         add_numbers(&mut self.moved, changes)
-    }
-
-    /// Keeps the memory of these changes for those of the next step.
-    pub(crate) fn keep_changes(&mut self, changes: Changes)
-        ensures { self.new ≡ self.old }
-    {
-        self.spare_changes = changes;
     }
 
     /// Keeps the memory of these islands for those of the next tick.

@@ -6,14 +6,12 @@ use Rattle.std.specs.Vec.{with_items}
 use Rattle.pf_shapes.specs.Body.{BodyState}
 use Rattle.pf_manifold.specs.Key.{key_of}
 use Rattle.pf_cache.specs.Contact.{Contact}
-use Rattle.pf_broad.specs.Pairs.{all_bounds}
 use Rattle.pf_commands.specs.Payload.{body_of}
-use Rattle.pf_cache.specs.Manifolds.{Collisions, Manifolds, kept_touches, no_manifolds, placed_shapes}
+use Rattle.pf_cache.specs.Manifolds.{Collisions, Manifolds, kept_touches, no_manifolds}
 use Rattle.pf_cache.specs.PlacedBodies.{HaveStayed, bodies_of}
 use Rattle.pf_islands.specs.Flags.{ListsAwake}
 use Rattle.pf_islands.specs.Split.{Island}
 use Rattle.pf_step.specs.Activity.{islands_of_bodies}
-use Rattle.pf_cache.specs.ContactsChange.{ContactsChange, contacts_before}
 use Rattle.pf_step.specs.Changes.{AreAdded, BodyChange, Changes, changes_by_commands, numbers_of, world_before}
 use Rattle.pf_step.specs.Commands.{after_commands}
 use Rattle.pf_step.specs.Step.{collisions_of_bodies, step, touches_of_scene, world_after}
@@ -21,12 +19,11 @@ use Rattle.pf_step.specs.Stepping.{FailsBy}
 use Rattle.pf_step.specs.Work.{Work, moved_bodies, work_after_tick}
 use Rattle.pf_step.specs.World.{World}
 use Rattle.pf_step.proofs.Commanding.{commands_length, commands_undone}
-use Rattle.pf_cache.proofs.Restoring.{none_noted as no_contact_noted}
 use Rattle.pf_step.proofs.Awake.{listed_after_commands}
 use Rattle.pf_step.proofs.Contacts.{step_keys}
-use Rattle.pf_step.proofs.Following.{all_within, keys_after_commands, none_noted, none_there, other_error, stayed_after_commands, stayed_after_step}
+use Rattle.pf_step.proofs.Following.{all_within, none_noted, none_there, other_error, stayed_after_commands, stayed_after_step}
 use Rattle.pf_step.proofs.Lengths.{step_length}
-use Rattle.pf_step.proofs.step.step_next.Goals.{After-apply_all, After-moved, In_ok-list_moved, In_ok-note_commanded, then-is_known, else-is_known}
+use Rattle.pf_step.proofs.step.step_next.Goals.{After-apply_all, In_ok-list_moved, In_ok-note_commanded}
 use Rattle.pf_step.proofs.step.step_next.Goals as goal
 
 -- the bodies once commands are applied
@@ -67,112 +64,82 @@ moved_are g c =
     c.in_ok-list_moved.ensures.listed
     ∙ (λ i. moved_bodies (c.take_manifolds-kept.ensures.taken.1 i) (listed i) (count i) (numbers_of c.bodies.result.now))
 
-pub returns-in-Ok-finish-clause-step : goal.returns-in-Ok-finish-clause-step
+pub returns-in-Ok-clause-step : goal.returns-in-Ok-clause-step
 unfolding step world_before
-returns-in-Ok-finish-clause-step g c =
+returns-in-Ok-clause-step g c =
     let s = c.args.scene.now in
     let w = c.args.world.now in
     let payloads = c.args.payloads.now in
-    let commanded = commanded_are g (goal.at.returns-in-Ok-finish-clause-step g c).After-apply_all in
+    let commanded = commanded_are g (goal.at.returns-in-Ok-clause-step g c).After-apply_all in
     let contacts = ap (λ (x : World). x.contacts) c.world.view_is in
-    let notes = commands_noted g (goal.at.returns-in-Ok-finish-clause-step g c).In_ok-note_commanded in
-    let value : c.finish.new.world ≡ step s w payloads =
-    c.in-Ok-finish.ensures.ending.value ∙ ap₂ (λ (cs : List Contact) (bs : List BodyState). world_after s cs bs) contacts commanded in
-    let found = ap₂ (λ (bs : List BodyState) (kept : Manifolds). collisions_of_bodies s.fixtures bs kept)
-    (c.deref-2.ensures.value ∙ commanded) c.take_manifolds-kept.ensures.taken.0 in
+    let notes = commands_noted g (goal.at.returns-in-Ok-clause-step g c).In_ok-note_commanded in
+    let value : c.finish_tick-finished.new.world ≡ step s w payloads =
+    c.in-Ok.ensures.tick.value ∙ ap₂ (λ (cs : List Contact) (bs : List BodyState). world_after s cs bs) contacts commanded in
+    let found = c.in-Ok.ensures.found
+    ∙ ap₂ (λ (bs : List BodyState) (kept : Manifolds). collisions_of_bodies s.fixtures bs kept)
+    commanded c.take_manifolds-kept.ensures.taken.0 in
     let b = (with_items c.world.inside.bodies c.apply_all.new.bodies).items in
-    let moved_is = ap (λ (x : Work). x.moved) c.end_tick.ensures ∙ c.in-Ok-finish.ensures.moved in
+    let moved_is = ap (λ (x : Work). x.moved) c.end_tick.ensures ∙ c.in-Ok.ensures.moved in
     let manifolds_is = ap (λ (x : Work). x.manifolds) c.end_tick.ensures in
-    let work_before = work_listed g (goal.at.returns-in-Ok-finish-clause-step g c).In_ok-list_moved in
+    let work_before = work_listed g (goal.at.returns-in-Ok-clause-step g c).In_ok-list_moved in
     let stand =
-    subst (λ (x : List ℕ × Manifolds). All (λ number. number < length c.finish.new.world.bodies) x.0
-    × HaveStayed x.0 (bodies_of x.1) s.fixtures c.finish.new.world.bodies)
+    subst (λ (x : List ℕ × Manifolds). All (λ number. number < length c.finish_tick-finished.new.world.bodies) x.0
+    × HaveStayed x.0 (bodies_of x.1) s.fixtures c.finish_tick-finished.new.world.bodies)
     (λ i. (sym moved_is i, sym manifolds_is i))
-    (stayed_after_step s w.bodies b c.finish.new.world.bodies c.in-Ok.found.collisions.manifolds c.note_commanded.new.self.bodies
-    c.finish.new.changes.bodies (ap (λ (x : World). length x.bodies) value ∙ step_length s w payloads c.requires.world ∙ sym c.requires.world)
-    (ap (λ (x : Collisions). x.manifolds.shapes) c.in-Ok.ensures.value ∙ ap (placed_shapes s.fixtures) c.deref-2.ensures.value)
-    (ap (λ (x : Collisions). x.manifolds.bounds) c.in-Ok.ensures.value ∙ ap (all_bounds s.fixtures) c.deref-2.ensures.value)
+    (stayed_after_step s w.bodies b c.finish_tick-finished.new.world.bodies c.in-Ok.collisions.manifolds c.note_commanded.new.self.bodies
+    c.finish_tick-finished.new.changes.bodies (ap (λ (x : World). length x.bodies) value ∙ step_length s w payloads c.requires.world ∙ sym c.requires.world)
+    (ap (λ (x : Collisions). x.manifolds.shapes) c.in-Ok.ensures.found) (ap (λ (x : Collisions). x.manifolds.bounds) c.in-Ok.ensures.found)
     (subst (All (λ (x : BodyChange). x.number < length w.bodies)) (sym notes) (all_within w.bodies body_of payloads))
-    (subst (λ n. AreAdded n c.note_commanded.new.self.bodies c.finish.new.changes.bodies)
-    (ap length commanded ∙ commands_length s.fixtures w.bodies payloads) c.in-Ok-finish.ensures.ending.added)
+    (subst (λ n. AreAdded n c.note_commanded.new.self.bodies c.finish_tick-finished.new.changes.bodies)
+    (ap length commanded ∙ commands_length s.fixtures w.bodies payloads) c.in-Ok.ensures.tick.added)
     (commands_undone s.fixtures w.bodies _ payloads _ notes commanded)
-    (ap (λ (x : World). x.bodies) c.in-Ok-finish.ensures.ending.before
+    (ap (λ (x : World). x.bodies) c.in-Ok.ensures.tick.before
     ∙ commands_undone s.fixtures w.bodies _ payloads _ notes commanded)) in
-    let keys : map (λ c. c.key) c.finish.new.world.contacts ≡ map key_of (kept_touches c.end_tick.new.self.manifolds) =
+    let keys : map (λ c. c.key) c.finish_tick-finished.new.world.contacts ≡ map key_of (kept_touches c.end_tick.new.self.manifolds) =
     ap (λ (x : World). map (λ (y : Contact). y.key) x.contacts) value ∙ step_keys s w payloads
-    ∙ ap (λ bs. map key_of (touches_of_scene s bs)) (sym (c.deref-2.ensures.value ∙ commanded))
+    ∙ ap (λ bs. map key_of (touches_of_scene s bs)) (sym commanded)
     ∙ ap (map key_of) (sym c.in-Ok.ensures.touches) ∙ ap (λ m. map key_of (kept_touches m)) (sym manifolds_is) in
-    let awake = subst (λ ns. ListsAwake ns c.finish.new.world.bodies) (sym moved_is) c.in-Ok-finish.ensures.awake in
+    let awake = subst (λ ns. ListsAwake ns c.finish_tick-finished.new.world.bodies) (sym moved_is) c.in-Ok.ensures.awake in
     record {
       value = value;
-      before = c.in-Ok-finish.ensures.ending.before
+      before = c.in-Ok.ensures.tick.before
           ∙ ap₂ (λ bs cs. record { bodies = bs; contacts = cs })
           (commands_undone s.fixtures w.bodies _ payloads _ notes commanded) contacts;
       unchanged = tt;
       bodies = ap (λ (x : World). length x.bodies) value ∙ step_length s w payloads c.requires.world;
       counted = c.end_tick.ensures
-          ∙ (λ i. work_after_tick ((c.in-Ok.ensures.value ∙ found) i) (sym (ap (λ (x : Work). x.moved) c.end_tick.ensures) i)
-          ((c.finish.ensures.work ∙ (λ j. record (work_before j) { moved = c.finish.new.work.moved })) i));
+          ∙ (λ i. work_after_tick (found i) (sym (ap (λ (x : Work). x.moved) c.end_tick.ensures) i)
+          ((c.finish_tick-finished.ensures.work ∙ (λ j. record (work_before j) { moved = c.finish_tick-finished.new.work.moved })) i));
       not_counted = tt;
       follows = λ known. (stand.0, stand.1, keys, awake);
     }
 
-pub returns-in-Ok-finish-clause-crew : goal.returns-in-Ok-finish-clause-crew
-returns-in-Ok-finish-clause-crew g c =
+pub returns-in-Ok-clause-crew : goal.returns-in-Ok-clause-crew
+returns-in-Ok-clause-crew g c =
     let s = c.args.scene.now in
     let w = c.args.world.now in
-    let commanded = commanded_are g (goal.at.returns-in-Ok-finish-clause-crew g c).After-apply_all in
+    let commanded = commanded_are g (goal.at.returns-in-Ok-clause-crew g c).After-apply_all in
     let contacts = ap (λ (x : World). x.contacts) c.world.view_is in
-    subst (λ (is : List Island). g.C.Crew.is_called c.args.crew.now is c.finish.new.crew)
+    subst (λ (is : List Island). g.C.Crew.is_called c.args.crew.now is c.finish_tick-finished.new.crew)
     (ap₂ (λ (cs : List Contact) (bs : List BodyState). islands_of_bodies s cs bs) contacts commanded)
-    c.in-Ok-finish.ensures.crew
+    c.in-Ok.ensures.crew
 
--- only listed bodies may have moved since the kept points were computed
-stayed : (g : _) (c : After-moved g)
-    → All (λ number. number < length c.deref-2.result.now) c.moved.result.now
-    × HaveStayed c.moved.result.now (bodies_of c.take_manifolds-kept.result.0) c.args.scene.now.fixtures c.deref-2.result.now
-stayed g c =
+pub finish_tick-finished-requires-clause-moved : goal.finish_tick-finished-requires-clause-moved
+finish_tick-finished-requires-clause-moved g c =
     let s = c.args.scene.now in
     let w = c.args.world.now in
     let payloads = c.args.payloads.now in
-    let commanded = commanded_are g (goal.at.After-moved g c).After-apply_all in
-    let notes = commands_noted g (goal.at.After-moved g c).In_ok-note_commanded in
     let work = c.args.work.now in
-    stayed_after_commands s w payloads work c.take_manifolds-kept.result.0 c.moved.result.now c.bodies.result.now c.deref-2.result.now
-    c.requires.follows c.take_manifolds-kept.ensures.taken.0 (c.bodies.ensures ∙ notes) (c.deref-2.ensures.value ∙ commanded)
-    (c.moved.ensures ∙ moved_are g (goal.at.After-moved g c).In_ok-list_moved)
-
-pub find_collisions-requires-clause-moved : goal.find_collisions-requires-clause-moved
-find_collisions-requires-clause-moved g c = (stayed g c).0
-
-pub find_collisions-requires-clause-others : goal.find_collisions-requires-clause-others
-find_collisions-requires-clause-others g c = (stayed g c).1
-
-pub finish-requires-clause-awake : goal.finish-requires-clause-awake
-finish-requires-clause-awake g c =
-    let s = c.args.scene.now in
-    let w = c.args.world.now in
-    let payloads = c.args.payloads.now in
-    let commanded = commanded_are g (goal.at.finish-requires-clause-awake g c).After-apply_all in
-    let notes = commands_noted g (goal.at.finish-requires-clause-awake g c).In_ok-note_commanded in
-    listed_after_commands s w payloads c.args.work.now c.list_moved.new.self.moved c.bodies.result.now
-    (with_items c.world.inside.bodies c.apply_all.new.bodies).items c.requires.follows (c.bodies.ensures ∙ notes) commanded
-    (moved_are g (goal.at.finish-requires-clause-awake g c).In_ok-list_moved)
-
--- the contacts have the keys of the points
-pub finish-requires-clause-known : goal.finish-requires-clause-known
-finish-requires-clause-known g c = λ are_known.
-    let w = c.args.world.now in
-    let found = c.in-Ok.found in
-    let contacts = ap (λ (x : World). x.contacts) c.world.view_is in
-    ap (λ (cs : List Contact). map (λ (x : Contact). x.key) cs) contacts
-    ∙ (elim c.if-is_known.branch [
-      | then-is_known x ↦
-          keys_after_commands c.args.scene.now w c.args.work.now c.take_manifolds-kept.result.0 found.collisions.manifolds
-          c.requires.follows (sym c.take_manifolds-kept.ensures.taken.1 ∙ x.if-is_known.true) c.take_manifolds-kept.ensures.taken.0
-          (c.in-Ok.ensures.same_keys (sym x.are_known-is ∙ are_known))
-      | else-is_known x ↦ absurd (true≢false (sym are_known ∙ x.are_known-is ∙ x.if-is_known.false))
-    ])
+    let at = goal.at.finish_tick-finished-requires-clause-moved g c in
+    let commanded = commanded_are g at.After-apply_all in
+    let notes = c.bodies.ensures ∙ commands_noted g at.In_ok-note_commanded in
+    let moved = moved_are g at.In_ok-list_moved in
+    let b = (with_items c.world.inside.bodies c.apply_all.new.bodies).items in
+    let stayed = stayed_after_commands s w payloads work c.take_manifolds-kept.result.0 c.list_moved.new.self.moved c.bodies.result.now b
+    c.requires.follows c.take_manifolds-kept.ensures.taken.0 notes commanded moved in
+    let awake = listed_after_commands s w payloads work c.list_moved.new.self.moved c.bodies.result.now b
+    c.requires.follows notes commanded moved in
+    (stayed.0, stayed.1, awake.1)
 
 pub returns-in_err-list_moved-clause-no_memory : goal.returns-in_err-list_moved-clause-no_memory
 returns-in_err-list_moved-clause-no_memory g c none _ =
@@ -182,59 +149,35 @@ returns-in_err-list_moved-clause-no_memory g c none _ =
     absurd (true≢false (sym (c.in_err-list_moved.ensures.no_memory (ap length (c.as_slice-count.ensures.value ∙ of_world ∙ none))
     (c.bodies.ensures ∙ notes ∙ none_noted c.args.world.now.bodies body_of payloads none))))
 
-pub returns-in-Err-finish-clause-no_memory : goal.returns-in-Err-finish-clause-no_memory
-returns-in-Err-finish-clause-no_memory g c none =
+pub returns-in-Err-clause-no_memory : goal.returns-in-Err-clause-no_memory
+returns-in-Err-clause-no_memory g c none =
     let s = c.args.scene.now in
     let w = c.args.world.now in
     let payloads = c.args.payloads.now in
-    let commanded = commanded_are g (goal.at.returns-in-Err-finish-clause-no_memory g c).After-apply_all in
-    let notes = commands_noted g (goal.at.returns-in-Err-finish-clause-no_memory g c).In_ok-note_commanded in
+    let commanded = commanded_are g (goal.at.returns-in-Err-clause-no_memory g c).After-apply_all in
+    let notes = commands_noted g (goal.at.returns-in-Err-clause-no_memory g c).In_ok-note_commanded in
     other_error _ _
-    (c.in-Err-finish.ensures.no_memory
+    (c.in-Err.ensures.no_memory
     (commanded ∙ none_there (after_commands s.fixtures w.bodies payloads) (commands_length s.fixtures w.bodies payloads ∙ ap length none))
     (notes ∙ none_noted w.bodies body_of payloads none))
 
 pub returns-in-Err-clause-step : goal.returns-in-Err-clause-step
-unfolding world_before
 returns-in-Err-clause-step g c =
     let s = c.args.scene.now in
     let w = c.args.world.now in
     let payloads = c.args.payloads.now in
     let commanded = commanded_are g (goal.at.returns-in-Err-clause-step g c).After-apply_all in
-    let notes = commands_noted g (goal.at.returns-in-Err-clause-step g c).In_ok-note_commanded in
-    let not_counted = work_listed g (goal.at.returns-in-Err-clause-step g c).In_ok-list_moved in
-    let unchanged = c.undo.ensures
-    ∙ ap₂ (λ bs cs. record { bodies = bs; contacts = cs }) (commands_undone s.fixtures w.bodies _ payloads _ notes commanded)
-    (ap (λ (change : ContactsChange). contacts_before change c.world.inside.contacts)
-    (c.note_commanded.ensures.contacts ∙ ap (λ (x : Changes). x.contacts) c.take_changes-changes.ensures.changes)
-    ∙ no_contact_noted c.world.inside.contacts ∙ ap (λ (x : World). x.contacts) c.world.view_is) in
-    record {
-      value = tt;
-      before = tt;
-      unchanged = unchanged;
-      bodies = ap (λ (x : World). length x.bodies) unchanged ∙ c.requires.world;
-      counted = tt;
-      not_counted = not_counted;
-      follows = λ known. absurd (true≢false (sym known ∙ ap (λ (x : Work). x.is_known) not_counted));
-    }
-
-pub returns-in-Err-finish-clause-step : goal.returns-in-Err-finish-clause-step
-returns-in-Err-finish-clause-step g c =
-    let s = c.args.scene.now in
-    let w = c.args.world.now in
-    let payloads = c.args.payloads.now in
-    let commanded = commanded_are g (goal.at.returns-in-Err-finish-clause-step g c).After-apply_all in
     let contacts = ap (λ (x : World). x.contacts) c.world.view_is in
-    let notes = commands_noted g (goal.at.returns-in-Err-finish-clause-step g c).In_ok-note_commanded in
-    let work_before = work_listed g (goal.at.returns-in-Err-finish-clause-step g c).In_ok-list_moved in
-    let unchanged = c.undo-in-Err-finish.ensures ∙ c.in-Err-finish.ensures.ending.before
+    let notes = commands_noted g (goal.at.returns-in-Err-clause-step g c).In_ok-note_commanded in
+    let work_before = work_listed g (goal.at.returns-in-Err-clause-step g c).In_ok-list_moved in
+    let unchanged = c.undo.ensures ∙ c.in-Err.ensures.tick.before
     ∙ ap₂ (λ bs cs. record { bodies = bs; contacts = cs }) (commands_undone s.fixtures w.bodies _ payloads _ notes commanded) contacts in
-    let not_counted : c.finish.new.work ≡ record c.args.work.now {
+    let not_counted : c.finish_tick-finished.new.work ≡ record c.args.work.now {
       manifolds = no_manifolds;
-      moved = c.finish.new.work.moved;
+      moved = c.finish_tick-finished.new.work.moved;
       is_known = false;
     } =
-    c.finish.ensures.work ∙ (λ i. record (work_before i) { moved = c.finish.new.work.moved }) in
+    c.finish_tick-finished.ensures.work ∙ (λ i. record (work_before i) { moved = c.finish_tick-finished.new.work.moved }) in
     record {
       value = tt;
       before = tt;
@@ -245,12 +188,12 @@ returns-in-Err-finish-clause-step g c =
       follows = λ known. absurd (true≢false (sym known ∙ ap (λ (x : Work). x.is_known) not_counted));
     }
 
-pub returns-in-Err-finish-clause-crew : goal.returns-in-Err-finish-clause-crew
-returns-in-Err-finish-clause-crew g c =
+pub returns-in-Err-clause-crew : goal.returns-in-Err-clause-crew
+returns-in-Err-clause-crew g c =
     let s = c.args.scene.now in
     let w = c.args.world.now in
-    let commanded = commanded_are g (goal.at.returns-in-Err-finish-clause-crew g c).After-apply_all in
+    let commanded = commanded_are g (goal.at.returns-in-Err-clause-crew g c).After-apply_all in
     let contacts = ap (λ (x : World). x.contacts) c.world.view_is in
-    subst (λ (is : List Island). FailsBy g.C.Crew.may_fail c.args.crew.now is c.in-Err-finish.error c.finish.new.crew)
+    subst (λ (is : List Island). FailsBy g.C.Crew.may_fail c.args.crew.now is c.in-Err.error c.finish_tick-finished.new.crew)
     (ap₂ (λ (cs : List Contact) (bs : List BodyState). islands_of_bodies s cs bs) contacts commanded)
-    c.in-Err-finish.ensures.crew
+    c.in-Err.ensures.crew

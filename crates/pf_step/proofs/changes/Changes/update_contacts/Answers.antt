@@ -8,13 +8,13 @@ use Rattle.pf_cache.proofs.Kept.{keys_in_order, next_by_keys}
 use Rattle.pf_cache.proofs.Restoring.{next_same, none_noted}
 use Rattle.pf_step.proofs.changes.Changes.update_contacts.Goals as goal
 
-pub returns-then-are_known-clause-value : goal.returns-then-are_known-clause-value
-returns-then-are_known-clause-value c =
+pub returns-then-have_keys-clause-value : goal.returns-then-have_keys-clause-value
+returns-then-have_keys-clause-value c =
     let contacts = c.args.contacts.now in
     let touches = kept_touches c.args.manifolds.now in
     let keys = map key_of touches in
     let count = length contacts in
-    let known : map (λ (x : Contact). x.key) contacts ≡ keys = c.requires.known c.if-are_known.true in
+    let known : map (λ (x : Contact). x.key) contacts ≡ keys = c.requires.known c.if-have_keys.true in
     let many : count ≡ length keys = sym (length-map contacts (λ (x : Contact). x.key)) ∙ ap length known in
     let same : c.keep.new.self ≡ next_contacts contacts touches =
     c.keep.ensures.same
@@ -25,12 +25,12 @@ returns-then-are_known-clause-value c =
     ∙ sym (take_all count keys (omega (arith, many))))) in
     search (rules, same)
 
-pub returns-then-are_known-clause-no_memory : goal.returns-then-are_known-clause-no_memory
-returns-then-are_known-clause-no_memory c none =
+pub returns-then-have_keys-clause-no_memory : goal.returns-then-have_keys-clause-no_memory
+returns-then-have_keys-clause-no_memory c none =
     let contacts = c.args.contacts.now in
     c.keep.ensures.no_memory
     (nil_from_length contacts
-    (sym (length-map contacts (λ (x : Contact). x.key)) ∙ ap length (c.requires.known c.if-are_known.true ∙ ap (map key_of) none)))
+    (sym (length-map contacts (λ (x : Contact). x.key)) ∙ ap length (c.requires.known c.if-have_keys.true ∙ ap (map key_of) none)))
 
 pub returns-in_err-keys-clause-before : goal.returns-in_err-keys-clause-before
 returns-in_err-keys-clause-before c =

@@ -5,7 +5,7 @@ use Rattle.pf_cache.proofs.Unmoved.{kept_points}
 use Rattle.pf_cache.specs.Manifolds.{kept_touches}
 use Rattle.pf_manifold.specs.Touches.{IsTouchOf}
 use Rattle.pf_step.proofs.Touching.{points_of_bodies}
-use Rattle.pf_step.proofs.step.find_collisions.Goals as goal
+use Rattle.pf_step.proofs.points.find_collisions.Goals as goal
 
 pub returns-clause-bodies : goal.returns-clause-bodies
 returns-clause-bodies g c =

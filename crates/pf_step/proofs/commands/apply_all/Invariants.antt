@@ -1,6 +1,6 @@
 use Rattle.std.proofs.Common.{◌≡◌, take}
 use Rattle.pf_step.specs.Commands.{after_commands}
-use Rattle.pf_step.proofs.command.apply_all.Given as goal
+use Rattle.pf_step.proofs.commands.apply_all.Given as goal
 
 abbrev pub invariant-loop-payload : goal.invariant-loop-payload
 invariant-loop-payload l =

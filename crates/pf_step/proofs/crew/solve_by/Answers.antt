@@ -1,6 +1,6 @@
 use Rattle.std.proofs.lemmas.Result.{IfErr-weaker, IfOk-weaker}
 use Rattle.pf_step.proofs.Calling.{called_with_all, failed_with_all}
-use Rattle.pf_step.proofs.ending.solve_by.Goals as goal
+use Rattle.pf_step.proofs.crew.solve_by.Goals as goal
 
 pub returns-clause-called : goal.returns-clause-called
 returns-clause-called g c all are =

@@ -3,7 +3,7 @@ use Rattle.std.proofs.lemmas.List.Elements.{All-filter}
 use Rattle.pf_shapes.specs.Body.{BodyState}
 use Rattle.pf_cache.specs.ContactRows.{AreRowsAt}
 use Rattle.pf_cache.specs.ContactsChange.{contacts_before}
-use Rattle.pf_cache.specs.Manifolds.{Collisions, kept_touches}
+use Rattle.pf_cache.specs.Manifolds.{kept_touches}
 use Rattle.pf_islands.specs.Lone.{is_made, lone_numbers, made_islands}
 use Rattle.pf_islands.specs.Split.{Island}
 use Rattle.pf_islands.specs.Splitting.{AreParts, woken_islands}
@@ -11,16 +11,15 @@ use Rattle.pf_step.specs.Activity.{islands_with}
 use Rattle.pf_step.specs.Changes.{BodyChange, MayChange, changes_of, changes_of_islands}
 use Rattle.pf_step.specs.World.{World}
 use Rattle.pf_step.proofs.Restored.{islands_are, islands_beside}
-use Rattle.pf_step.proofs.ending.prepare.Goals.{In_ok-parts}
-use Rattle.pf_step.proofs.ending.prepare.Goals as goal
+use Rattle.pf_step.proofs.activity.split_and_note.Goals.{In_ok-parts}
+use Rattle.pf_step.proofs.activity.split_and_note.Goals as goal
 
 -- the islands are made of the points, the bodies and the contacts of the tick
-made_of : (c : In_ok-parts) → woken_islands c.args.scene.now c.deref.result.now (kept_touches c.collisions.inside.manifolds) c.as_slice.result.now
+made_of : (c : In_ok-parts) → woken_islands c.args.scene.now c.deref.result.now (kept_touches c.args.manifolds.now) c.as_slice.result.now
     ≡ islands_with c.args.scene.now c.args.world.now.contacts c.args.world.now.bodies
 made_of c =
     let w = c.args.world.now in
-    islands_are c.args.scene.now w.contacts w.bodies (kept_touches c.collisions.inside.manifolds) c.deref.result.now c.as_slice.result.now
-    (ap (λ (x : Collisions). kept_touches x.manifolds) c.collisions.view_is ∙ c.requires.points)
+    islands_are c.args.scene.now w.contacts w.bodies (kept_touches c.args.manifolds.now) c.deref.result.now c.as_slice.result.now c.requires.points
     (c.deref.ensures.value ∙ ap (λ (v : World). v.bodies) c.world.view_is)
     (c.as_slice.ensures.value ∙ ap (λ (v : World). v.contacts) c.world.view_is)
 
@@ -76,12 +75,6 @@ returns-clause-noted c =
 
 pub returns-in_err-note_impulses-clause-same_contacts : goal.returns-in_err-note_impulses-clause-same_contacts
 returns-in_err-note_impulses-clause-same_contacts c =
-    let own = ap (λ (w : World). w.contacts) c.world.view_is in
-    ap (contacts_before c.note_impulses.new.self.contacts) (sym own) ∙ c.note_impulses.ensures.same
-    ∙ ap₂ contacts_before (c.in_ok-note_bodies.ensures.contacts ∙ c.in_ok-note_islands.ensures.contacts) own
-
-pub returns-in_err-set_moved-clause-same_contacts : goal.returns-in_err-set_moved-clause-same_contacts
-returns-in_err-set_moved-clause-same_contacts c =
     let own = ap (λ (w : World). w.contacts) c.world.view_is in
     ap (contacts_before c.note_impulses.new.self.contacts) (sym own) ∙ c.note_impulses.ensures.same
     ∙ ap₂ contacts_before (c.in_ok-note_bodies.ensures.contacts ∙ c.in_ok-note_islands.ensures.contacts) own
