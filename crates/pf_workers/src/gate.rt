@@ -9,9 +9,6 @@ pub trait Gate {
     ghost use Rattle.std.specs.Prelude.{◌≡◌, Bool, true, IsTrue};
 
     /// Whether the gate lets everybody through, so that a crew never fails by it.
-    const ALWAYS: bool;
-
-    /// The same, for contracts.
     ghost ALWAYS: { Bool };
 
     /// Whether the worker of this number may go on in this turn. Workers and turns count from 0;
@@ -35,8 +32,6 @@ pub struct OpenGate;
 impl Gate for OpenGate {
     ghost use Rattle.std.specs.Prelude.{true};
 
-    const ALWAYS: bool = true;
-
     ghost ALWAYS = { true };
 
     fn pass(&self, _worker: usize, _turn: usize) -> bool {
@@ -45,5 +40,20 @@ impl Gate for OpenGate {
 
     fn is_watched(&self) -> bool {
         false
+    }
+}
+
+/// Any gate, by reference. It may be shut.
+impl<'g> Gate for &'g (dyn Gate + Sync) {
+    ghost use Rattle.std.specs.Prelude.{false};
+
+    ghost ALWAYS = { false };
+
+    fn pass(&self, worker: usize, turn: usize) -> bool {
+        (**self).pass(worker, turn)
+    }
+
+    fn is_watched(&self) -> bool {
+        (**self).is_watched()
     }
 }

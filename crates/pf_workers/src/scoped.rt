@@ -185,3 +185,19 @@ impl<'r, R: Threads + Wait> Crew for ScopedCrew<'r, R, OpenGate> {
         ScopedCrew::solve(self, scene, islands)
     }
 }
+
+/// A crew with any gate, which it borrows: it solves as with the gate itself.
+impl<'r, R: Threads + Wait> Crew for ScopedCrew<'r, R, &'r (dyn Gate + Sync)> {
+    ghost use Rattle.std.specs.Prelude.{◌≡◌, false};
+    ghost use Rattle.pf_workers.specs.Crew.{IsScopedError, next_turn};
+
+    ghost is_called = { λ before islands after.
+        after ≡ record before { turn = next_turn before.turn } };
+
+    ghost may_fail = { λ before islands error after.
+        (after ≡ record before { turn = next_turn before.turn }) × IsScopedError false error };
+
+    fn solve(&mut self, scene: &Scene, islands: Vec<Island>) -> Result<Vec<Island>, CrewError> {
+        ScopedCrew::solve(self, scene, islands)
+    }
+}

@@ -21,8 +21,8 @@ pub trait Handle: Threads + Wait + Sync + Copy + Send + 'static {}
 
 impl<R: Threads + Wait + Sync + Copy + Send + 'static> Handle for R {}
 
-/// A crew that starts its workers in each solve, with a gate that keeps a book. It is a crew by
-/// itself, since [`ScopedCrew`] is one only with the open gate.
+/// A crew that starts its workers in each solve, with a gate of its own that keeps a book:
+/// [`ScopedCrew`] is a crew only with the open gate, or with one that it borrows.
 #[derive(Debug, Drop)]
 pub struct Scoped<'r, R, const IS_OPEN: bool> {
     crew: ScopedCrew<'r, R, TrialGate<IS_OPEN>>,

@@ -142,8 +142,6 @@ impl<const IS_OPEN: bool> TrialGate<IS_OPEN> {
 }
 
 impl<const IS_OPEN: bool> Gate for TrialGate<IS_OPEN> {
-    const ALWAYS: bool = IS_OPEN;
-
     ghost ALWAYS = { IS_OPEN };
 
     fn pass(&self, worker: usize, turn: usize) -> bool {

@@ -14,6 +14,8 @@ mod laws_called;
 #[cfg(test)]
 mod links;
 #[cfg(test)]
+mod scoped;
+#[cfg(test)]
 mod sessions;
 #[cfg(test)]
 mod table;
