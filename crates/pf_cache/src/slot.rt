@@ -270,7 +270,7 @@ impl Slot {
 
     /// Adds the contact points to a list, each with its place among all, if one of the bodies has
     /// its flag set: `place` is that of the first. After an error some of them may have been added.
-    #[inline]
+    #[inline(always)]
     pub(crate) fn push_flagged(
         &self,
         points: &mut Vec<(usize, Touch)>,
