@@ -1,6 +1,6 @@
-//! Contacts from tick to tick: the accumulated impulses that a world keeps of each, by its key; the
-//! rows that the solver makes of them; the bodies as they stood, and the contact points of their
-//! pairs, which are kept for reuse; and the meter of the work done.
+//! What is kept from tick to tick: the accumulated impulses of each contact, by its key; the bodies
+//! as they stood; a slot for each candidate pair of the broad phase, with the pair's contact points;
+//! and the meter of the work done.
 #![tactic(auto)]
 
 mod contact;
