@@ -1,14 +1,15 @@
--- Live slots: those with a watched body. A tick looks at no others, since they stay as they are.
+-- Live slots: those with a watched body. The others keep their contact points, so that a tick has to
+-- bring only the points of live ones up to date.
 use Rattle.std.specs.Prelude.{◌≡◌, ℕ, ◌+◌, Bool, true, false, List, [], ◌∷◌, All, length, get_or, if◌then◌else◌}
 use Rattle.pf_cache.specs.declared.live.LiveSlot.{LiveSlot}
-use Rattle.pf_cache.specs.Slots.{Slot, is_of_pair, may_have_moved, slot_touches}
+use Rattle.pf_cache.specs.Slots.{Slot, has_flagged_body, is_of_pair, slot_touches}
 
 -- one of the bodies of the slot is watched
 abbrev pub is_live : List Bool → Slot → Bool
-is_live watched s = may_have_moved watched s.pair
+is_live watched s = has_flagged_body watched s.pair
 
--- the live ones of these slots, of which the first stands at a place, behind so many contact points
--- of slots that are not live
+-- the live ones of these slots; the first slot is at `place`, and `skipped` points lie between it
+-- and the live slot before
 abbrev pub live_slots : List Bool → ℕ → ℕ → List Slot → List LiveSlot
 live_slots watched place skipped [] = []
 live_slots watched place skipped (s ∷ slots) =

@@ -79,9 +79,9 @@ unmoved_flags old shapes = map (λ both. same_placed_shape both.0 both.1) (zip o
 abbrev pub are_unmoved : List Bool → Pair → Bool
 are_unmoved unmoved p = get_or unmoved p.a false && get_or unmoved p.b false
 
--- whether one of the bodies of a pair may have moved, by these flags
-abbrev pub may_have_moved : List Bool → Pair → Bool
-may_have_moved listed p = get_or listed p.a false || get_or listed p.b false
+-- whether one of the bodies of a pair has its flag set
+abbrev pub has_flagged_body : List Bool → Pair → Bool
+has_flagged_body flags p = get_or flags p.a false || get_or flags p.b false
 
 -- the contact points of a slot have to be computed: its bounds overlap, and they did not before or
 -- a body moved
@@ -110,11 +110,11 @@ slot_at slots k = get_or slots k no_slot
 abbrev pub filled_slot : List PlacedShape → Slot → Slot
 filled_slot shapes s = record s { touches = Some (points_of_pair shapes s.pair) }
 
--- a slot whose bodies have not moved by these flags: it has contact points exactly where the bounds
--- overlap
+-- a slot with no watched body: it has contact points exactly where the bounds overlap, and both
+-- bodies are unmoved
 abbrev pub HasStayed : List Bounds → List Bool → List Bool → Slot → Type 0
-HasStayed bounds unmoved moved s =
-    may_have_moved moved s.pair ≡ false
+HasStayed bounds unmoved watched s =
+    has_flagged_body watched s.pair ≡ false
     → (is_some s.touches ≡ pair_may_touch bounds s.pair) × (are_unmoved unmoved s.pair ≡ true)
 
 -- a slot whose contact points, if it has some and its bodies are unmoved, are those of these shapes

@@ -1,5 +1,5 @@
-//! The slots that a tick looks at: those of bodies that may have moved, and of some that moved not
-//! long ago. The others stay as they are.
+//! The slots whose contact points a tick brings up to date: those of bodies that may have moved, and
+//! of some that moved not long ago. The others keep their points.
 
 ghost use Rattle.std.specs.Prelude.{◌≡◌, ◌<◌, ℕ, All, IfOk, IsTrue, false, get_or, length};
 ghost use Rattle.pf_shapes.specs.Pair.{IsPairOf};
