@@ -79,6 +79,23 @@ pub struct FoundCollisions {
     pub same_keys: bool,
 }
 
+/// These contact points, with how many pairs could not reuse kept points, and whether all points
+/// are known to have the keys of the kept ones.
+#[inline]
+fn found(manifolds: Manifolds, computed: usize, same_keys: bool) -> FoundCollisions
+    ensures manifolds { result.collisions.manifolds ≡ manifolds }
+    ensures computed { result.collisions.computed ≡ computed }
+    ensures same_keys { result.same_keys ≡ same_keys }
+{
+    FoundCollisions {
+        collisions: Collisions {
+            manifolds,
+            computed,
+        },
+        same_keys,
+    }
+}
+
 /// How many slots were filled, and whether all keys are known to be the same.
 #[derive(Drop)]
 struct Refreshed {
@@ -281,23 +298,17 @@ impl Manifolds {
             slots,
             live,
         };
-        let collisions = Collisions {
-            manifolds,
-            computed: refreshed.computed,
-        };
-        Ok(FoundCollisions {
-            collisions,
-            same_keys: refreshed.same_keys & same,
-        })
+        let same_keys = refreshed.same_keys & same;
+        Ok(found(manifolds, refreshed.computed, same_keys))
     }
 
     /// The contact points of all pairs of bodies, at most one of them static, whose bounds overlap.
     /// The points of a pair that is kept are reused if both bodies still have the shape, position
     /// and rotation that they had. The other pairs cannot reuse kept points: theirs are computed,
     /// and these pairs are counted. The collider computes them if they are many. Only bodies of
-    /// `moved` are compared with how they stood: where as many bodies are kept, all others stand as
-    /// they stood; without any of them all stays as it is. An error drops what is kept. Takes no
-    /// memory where there are no bodies.
+    /// `moved` are compared with how they stood; where as many bodies are kept, all others must
+    /// stand as they did. If `moved` is empty, what is kept is returned as it is. An error drops
+    /// what is kept. Takes no memory where there are no bodies.
     ///
     /// No clause says that `same_keys` is set wherever all points have the keys of the kept ones.
     pub fn update<C: Collider>(
@@ -324,24 +335,10 @@ impl Manifolds {
         ensures no_memory { bodies.now ≡ [] → IsOk result }
     {
         if bodies.is_empty() {
-            let collisions = Collisions {
-                manifolds: Manifolds::new(alloc),
-                computed: 0,
-            };
-            return Ok(FoundCollisions {
-                collisions,
-                same_keys: false,
-            });
+            return Ok(found(Manifolds::new(alloc), 0, false));
         }
         if moved.is_empty() && self.placed.shapes().len() == bodies.len() {
-            let collisions = Collisions {
-                manifolds: self,
-                computed: 0,
-            };
-            return Ok(FoundCollisions {
-                collisions,
-                same_keys: true,
-            });
+            return Ok(found(self, 0, true));
         }
         self.update_some(collider, alloc, scene, bodies, moved)
     }

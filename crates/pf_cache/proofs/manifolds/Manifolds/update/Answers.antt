@@ -14,7 +14,7 @@ returns-then-shapes-bodies-clause-manifolds g c =
     let none = eqb-true (length moved) 0 (sym c.if-is_empty-2.ensures) in
     let same = sym (ap length c.shapes.ensures.value) ∙ c.if-shapes-bodies.true in
     let stood = subst (λ m. HaveStayed moved (bodies_of m) fixtures bodies) (sym c.self.view_is) c.requires.others in
-    sym c.self.view_is
+    c.found-then-shapes-bodies.ensures.manifolds ∙ sym c.self.view_is
     ∙ all_stay fixtures bodies c.self.inside.broad_phase old.bounds old.shapes c.self.inside.slots.items c.self.invariant.0 c.requires.bodies
     c.shapes.ensures.bounds same (λ k below. stood same k below (none_listed moved k none))
 
@@ -27,6 +27,6 @@ returns-then-shapes-bodies-clause-computed g c =
     let none = eqb-true (length moved) 0 (sym c.if-is_empty-2.ensures) in
     let same = sym (ap length c.shapes.ensures.value) ∙ c.if-shapes-bodies.true in
     let stood = subst (λ m. HaveStayed moved (bodies_of m) fixtures bodies) (sym c.self.view_is) c.requires.others in
-    none_stale fixtures bodies c.self.inside.broad_phase old.bounds old.shapes c.self.inside.slots.items c.self.invariant.0 c.requires.bodies
+    c.found-then-shapes-bodies.ensures.computed ∙ none_stale fixtures bodies c.self.inside.broad_phase old.bounds old.shapes c.self.inside.slots.items c.self.invariant.0 c.requires.bodies
     c.shapes.ensures.bounds same (λ k below. stood same k below (none_listed moved k none))
     ∙ ap (λ m. computed_count m (placed_shapes fixtures bodies) (pairs (all_bounds fixtures bodies))) c.self.view_is

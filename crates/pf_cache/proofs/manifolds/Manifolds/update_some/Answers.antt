@@ -200,7 +200,7 @@ returns-clause-manifolds g c =
     ∙ ap (map (slot_of placed.bounds placed.shapes)) (ap (map (λ (s : Slot). s.pair)) slots_were ∙ carried_pairs kept candidates ∙ c.candidates.ensures.value) in
     let are = now_kept fixtures bodies c.update-2.new.self placed.bounds placed.shapes now c.requires.bodies shapes_are long c.candidates.ensures.few within each in
     let pairs_are = ap overlapping items_are ∙ kept_pairs c.update-2.new.self placed.bounds placed.shapes now are ∙ ap pairs bounds_are in
-    λ i. record { shapes = shapes_are i; bounds = bounds_are i; pairs = pairs_are i }
+    c.found.ensures.manifolds ∙ (λ i. record { shapes = shapes_are i; bounds = bounds_are i; pairs = pairs_are i })
 
 pub returns-clause-computed : goal.returns-clause-computed
 returns-clause-computed g c =
@@ -223,7 +223,7 @@ returns-clause-computed g c =
     let ps_are : ps ≡ pairs (all_bounds fixtures bodies) =
     ap (filter (pair_may_touch placed.bounds)) c.candidates.ensures.value ∙ pairs-of-candidates c.update-2.new.self placed.bounds within
     ∙ ap pairs bounds_are in
-    c.in_ok-refreshed.ensures.computed
+    c.found.ensures.computed ∙ c.in_ok-refreshed.ensures.computed
     ∙ ap (count_by (is_stale placed.bounds c.deref-2.result.now)) slots_were
     ∙ counted_stale c.self.inside.broad_phase old.bounds old.shapes kept c.self.invariant.0 placed.bounds placed.shapes c.deref-2.result.now candidates
     in_range flags_are
@@ -249,7 +249,7 @@ returns-clause-same_keys g c = λ h.
     c.in_ok-refreshed.ensures.slots
     ∙ ap (map (slot_of placed.bounds placed.shapes)) (ap (map (λ (s : Slot). s.pair)) slots_were ∙ carried_pairs kept candidates ∙ c.candidates.ensures.value) in
     let are = now_kept fixtures bodies c.update-2.new.self placed.bounds placed.shapes now c.requires.bodies shapes_are long c.candidates.ensures.few within each in
-    let parts = and_parts c.in_ok-refreshed.refreshed.same_keys c.in_ok-same.same h in
+    let parts = and_parts c.in_ok-refreshed.refreshed.same_keys c.in_ok-same.same (sym c.found.ensures.same_keys ∙ h) in
     let before : map key_of (flat_map slot_touches kept) ≡ map key_of (kept_touches c.args.self) =
     ap (map key_of) (kept_points c.self.inside.broad_phase old.bounds old.shapes kept c.self.invariant.0 ∙ ap kept_touches c.self.view_is) in
     sym before
@@ -257,3 +257,4 @@ returns-clause-same_keys g c = λ h.
     ∙ sym (c.in_ok-refreshed.ensures.keys parts.0)
     ∙ ap (map key_of) (kept_points c.update-2.new.self placed.bounds placed.shapes now are)
     ∙ sym (ap (λ ss. map key_of (flat_map (points_of_pair placed.shapes) (overlapping ss))) items_are)
+    ∙ sym (ap (λ m. map key_of (kept_touches m)) c.found.ensures.manifolds)
