@@ -14,7 +14,8 @@ use crate::live::{Live, are_watched, live_of};
 use crate::placed_bodies::PlacedBodies;
 use crate::slot::Slot;
 use crate::slots::{
-    carried_slots, compute, fill, keys_of, pairs_at, points_of, points_of_live, refresh,
+    carried_slots, compute_at, fill_at, flagged_points_of, flagged_points_of_live, keys_of, pairs_at,
+    refresh_live,
 };
 use pf_broad::BroadPhase;
 use pf_manifold::{Collider, Key, Touch};
@@ -130,11 +131,11 @@ fn fill_by<C: Collider>(
         ≡ map key_of (flat_map slot_touches slots.old)) }
 {
     if places.len() < C::MANY {
-        return Ok(compute(slots, places, shapes));
+        return Ok(compute_at(slots, places, shapes));
     }
     let pairs = pairs_at(alloc, slots, places)?;
     let touches = collider.collide(alloc, scene, bodies, &pairs)?;
-    Ok(fill(slots, places, &pairs, &touches, shapes))
+    Ok(fill_at(slots, places, &pairs, &touches, shapes))
 }
 
 /// Brings slots up to date: those whose bounds overlap get the contact points of their pairs.
@@ -171,7 +172,7 @@ fn update_slots<C: Collider>(
         → map key_of (flat_map slot_touches slots.new)
         ≡ map key_of (flat_map slot_touches slots.old)) }
 {
-    let stale = refresh(alloc, slots, live, unmoved, placed.bounds())?;
+    let stale = refresh_live(alloc, slots, live, unmoved, placed.bounds())?;
     let places = stale.places.as_slice();
     let same_keys = fill_by(
         collider,
@@ -255,9 +256,9 @@ impl Manifolds {
     {
         let slots = self.slots.as_slice();
         if are_watched(&self.live.watched, flags) {
-            return points_of_live(alloc, slots, &self.live, flags);
+            return flagged_points_of_live(alloc, slots, &self.live, flags);
         }
-        points_of(alloc, slots, flags)
+        flagged_points_of(alloc, slots, flags)
     }
 
     /// What `update` does where there are bodies.

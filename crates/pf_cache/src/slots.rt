@@ -54,7 +54,7 @@ pub(crate) struct Stale {
 /// Drops the contact points of slots whose bounds are apart, and lists the slots whose points have
 /// to be computed. Only live slots are looked at.
 #[inline(never)]
-pub(crate) fn refresh(
+pub(crate) fn refresh_live(
     alloc: Global,
     slots: &mut [Slot],
     live: &Live,
@@ -91,7 +91,7 @@ pub(crate) fn refresh(
 /// Computes the contact points of the slots at these places. Returns whether all points are known to
 /// have the keys of those before.
 #[inline(never)]
-pub(crate) fn compute(slots: &mut [Slot], places: &[usize], shapes: &[KeptShape]) -> bool
+pub(crate) fn compute_at(slots: &mut [Slot], places: &[usize], shapes: &[KeptShape]) -> bool
     requires few { length shapes.now ≤ MAX_BODIES }
     requires within { All (λ place. place < length slots.old) places.now }
     requires pairs { All (λ s. IsPairOf (length shapes.now) s.pair) slots.old }
@@ -154,7 +154,7 @@ fn count_of_pair(touches: &[Touch], start: usize, pair: &Pair) -> usize
 /// Gives the slots at these places the contact points of their pairs, which stand one after the
 /// other in `touches`. Returns whether all points are known to have the keys of those before.
 #[inline(never)]
-pub(crate) fn fill(
+pub(crate) fn fill_at(
     slots: &mut [Slot],
     places: &[usize],
     pairs: &[Pair],
@@ -204,7 +204,7 @@ pub(crate) fn keys_of(alloc: Global, slots: &[Slot]) -> Result<Vec<Key>, AllocEr
 /// The contact points of all slots that have a body whose flag is set, each with its place among
 /// all. Takes no memory where there are no contact points.
 #[inline(never)]
-pub(crate) fn points_of(
+pub(crate) fn flagged_points_of(
     alloc: Global,
     slots: &[Slot],
     flags: &[bool],
@@ -225,9 +225,9 @@ pub(crate) fn points_of(
     Ok(points)
 }
 
-/// As [`points_of`], where all bodies whose flags are set are watched: only live slots are looked at.
+/// As [`flagged_points_of`], where all bodies whose flags are set are watched: only live slots are looked at.
 #[inline(never)]
-pub(crate) fn points_of_live(
+pub(crate) fn flagged_points_of_live(
     alloc: Global,
     slots: &[Slot],
     live: &Live,

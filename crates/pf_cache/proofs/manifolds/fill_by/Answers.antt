@@ -9,8 +9,8 @@ use Rattle.pf_cache.proofs.Bounded.{length-placed_shapes}
 use Rattle.pf_cache.proofs.Unmoved.{kept_points}
 use Rattle.pf_cache.proofs.manifolds.fill_by.Goals as goal
 
-pub fill-requires-clause-bodies : goal.fill-requires-clause-bodies
-fill-requires-clause-bodies g c =
+pub fill_at-requires-clause-bodies : goal.fill_at-requires-clause-bodies
+fill_at-requires-clause-bodies g c =
     let n = length c.args.shapes.now in
     let places = c.args.places.now in
     let pair_at : ℕ → _ = λ place. (slot_at c.args.slots.now place).pair in
@@ -29,8 +29,8 @@ collide-requires-clause-pairs g c =
     (All-map (IsPairOf (length c.args.shapes.now)) pair_at places
     (λ k e below. c.requires.pairs (get_or places k e) no_slot (c.requires.within k e below))))
 
-pub fill-requires-clause-touches : goal.fill-requires-clause-touches
-fill-requires-clause-touches g c =
+pub fill_at-requires-clause-touches : goal.fill_at-requires-clause-touches
+fill_at-requires-clause-touches g c =
     let fixtures = c.args.scene.now.fixtures in
     let bodies = c.args.bodies.now in
     let ps = c.deref-2.result.now in

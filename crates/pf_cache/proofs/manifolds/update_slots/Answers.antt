@@ -15,9 +15,9 @@ pub fill_by-requires-clause-within : goal.fill_by-requires-clause-within
 fill_by-requires-clause-within g c =
     let old = c.args.slots.now in
     let t = is_stale c.bounds.result.now c.args.unmoved.now in
-    let long : length c.refresh.new.slots ≡ length old =
+    let long : length c.refresh_live.new.slots ≡ length old =
     ap length c.in_ok-stale.ensures.slots ∙ length-map old (emptied_slot c.bounds.result.now) in
-    subst (All (λ place. place < length c.refresh.new.slots)) (sym (c.as_slice-places.ensures.value ∙ c.in_ok-stale.ensures.places))
+    subst (All (λ place. place < length c.refresh_live.new.slots)) (sym (c.as_slice-places.ensures.value ∙ c.in_ok-stale.ensures.places))
     (subst (λ m. All (λ place. place < m) (filter (λ k. t (slot_at old k)) (range_with_len 0 (length old)))) (sym long) (places_within t old))
 
 pub fill_by-requires-clause-pairs : goal.fill_by-requires-clause-pairs

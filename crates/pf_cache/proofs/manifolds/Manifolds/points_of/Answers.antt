@@ -9,43 +9,43 @@ use Rattle.pf_cache.specs.Slots.{Slot, slot_touches}
 use Rattle.pf_cache.proofs.SlotsKept.{kept_bodies, kept_points, kept_touches_are_own}
 use Rattle.pf_cache.proofs.manifolds.Manifolds.points_of.Goals as goal
 
-pub points_of_live-requires-clause-pairs : goal.points_of_live-requires-clause-pairs
-points_of_live-requires-clause-pairs c =
+pub flagged_points_of_live-requires-clause-pairs : goal.flagged_points_of_live-requires-clause-pairs
+flagged_points_of_live-requires-clause-pairs c =
     subst (All (λ (s : Slot). IsPairOf MAX_BODIES s.pair)) (sym c.as_slice-slots.ensures.value)
     (kept_bodies c.self.inside.broad_phase c.self.inside.placed.bounds c.self.inside.placed.shapes c.self.inside.slots.items c.self.invariant.0)
 
-pub points_of-requires-clause-pairs : goal.points_of-requires-clause-pairs
-points_of-requires-clause-pairs c =
+pub flagged_points_of-requires-clause-pairs : goal.flagged_points_of-requires-clause-pairs
+flagged_points_of-requires-clause-pairs c =
     subst (All (λ (s : Slot). IsPairOf MAX_BODIES s.pair)) (sym c.as_slice-slots.ensures.value)
     (kept_bodies c.self.inside.broad_phase c.self.inside.placed.bounds c.self.inside.placed.shapes c.self.inside.slots.items c.self.invariant.0)
 
-pub points_of_live-requires-clause-flags : goal.points_of_live-requires-clause-flags
-points_of_live-requires-clause-flags c =
+pub flagged_points_of_live-requires-clause-flags : goal.flagged_points_of_live-requires-clause-flags
+flagged_points_of_live-requires-clause-flags c =
     let same : flat_map slot_touches c.as_slice-slots.result.now ≡ kept_touches c.args.self.now =
     ap (flat_map slot_touches) c.as_slice-slots.ensures.value
     ∙ kept_points c.self.inside.broad_phase c.self.inside.placed.bounds c.self.inside.placed.shapes c.self.inside.slots.items c.self.invariant.0
     ∙ ap kept_touches c.self.view_is in
     subst (All (IsTouchOf (length c.args.flags.now))) (sym same) c.requires
 
-pub points_of-requires-clause-flags : goal.points_of-requires-clause-flags
-points_of-requires-clause-flags c =
+pub flagged_points_of-requires-clause-flags : goal.flagged_points_of-requires-clause-flags
+flagged_points_of-requires-clause-flags c =
     let same : flat_map slot_touches c.as_slice-slots.result.now ≡ kept_touches c.args.self.now =
     ap (flat_map slot_touches) c.as_slice-slots.ensures.value
     ∙ kept_points c.self.inside.broad_phase c.self.inside.placed.bounds c.self.inside.placed.shapes c.self.inside.slots.items c.self.invariant.0
     ∙ ap kept_touches c.self.view_is in
     subst (All (IsTouchOf (length c.args.flags.now))) (sym same) c.requires
 
-pub points_of_live-requires-clause-live : goal.points_of_live-requires-clause-live
-points_of_live-requires-clause-live c =
+pub flagged_points_of_live-requires-clause-live : goal.flagged_points_of_live-requires-clause-live
+flagged_points_of_live-requires-clause-live c =
     let live = c.self.inside.live in
     subst (AreLive live.watched.items live.slots.items) (sym c.as_slice-slots.ensures.value) c.self.invariant.1
 
-pub points_of_live-requires-clause-watched : goal.points_of_live-requires-clause-watched
-points_of_live-requires-clause-watched c =
+pub flagged_points_of_live-requires-clause-watched : goal.flagged_points_of_live-requires-clause-watched
+flagged_points_of_live-requires-clause-watched c =
     subst (λ watched. AreWatched watched c.args.flags.now) c.deref.ensures.value (c.are_watched.ensures c.if-are_watched.true)
 
-pub points_of_live-requires-clause-own : goal.points_of_live-requires-clause-own
-points_of_live-requires-clause-own c =
+pub flagged_points_of_live-requires-clause-own : goal.flagged_points_of_live-requires-clause-own
+flagged_points_of_live-requires-clause-own c =
     subst (All HasOwnTouches) (sym c.as_slice-slots.ensures.value)
     (kept_touches_are_own c.self.inside.broad_phase c.self.inside.placed.bounds c.self.inside.placed.shapes c.self.inside.slots.items c.self.invariant.0)
 
@@ -55,7 +55,7 @@ returns-then-are_watched-clause-points c =
     ap (flat_map slot_touches) c.as_slice-slots.ensures.value
     ∙ kept_points c.self.inside.broad_phase c.self.inside.placed.bounds c.self.inside.placed.shapes c.self.inside.slots.items c.self.invariant.0
     ∙ ap kept_touches c.self.view_is in
-    rw (sym same) c.points_of_live.ensures.value
+    rw (sym same) c.flagged_points_of_live.ensures.value
 
 pub returns-then-are_watched-clause-no_memory : goal.returns-then-are_watched-clause-no_memory
 returns-then-are_watched-clause-no_memory c = λ none.
@@ -63,7 +63,7 @@ returns-then-are_watched-clause-no_memory c = λ none.
     ap (flat_map slot_touches) c.as_slice-slots.ensures.value
     ∙ kept_points c.self.inside.broad_phase c.self.inside.placed.bounds c.self.inside.placed.shapes c.self.inside.slots.items c.self.invariant.0
     ∙ ap kept_touches c.self.view_is in
-    c.points_of_live.ensures.no_memory (same ∙ none)
+    c.flagged_points_of_live.ensures.no_memory (same ∙ none)
 
 pub returns-clause-points : goal.returns-clause-points
 returns-clause-points c =
@@ -71,7 +71,7 @@ returns-clause-points c =
     ap (flat_map slot_touches) c.as_slice-slots.ensures.value
     ∙ kept_points c.self.inside.broad_phase c.self.inside.placed.bounds c.self.inside.placed.shapes c.self.inside.slots.items c.self.invariant.0
     ∙ ap kept_touches c.self.view_is in
-    rw (sym same) c.points_of.ensures.value
+    rw (sym same) c.flagged_points_of.ensures.value
 
 pub returns-clause-no_memory : goal.returns-clause-no_memory
 returns-clause-no_memory c = λ none.
@@ -79,4 +79,4 @@ returns-clause-no_memory c = λ none.
     ap (flat_map slot_touches) c.as_slice-slots.ensures.value
     ∙ kept_points c.self.inside.broad_phase c.self.inside.placed.bounds c.self.inside.placed.shapes c.self.inside.slots.items c.self.invariant.0
     ∙ ap kept_touches c.self.view_is in
-    c.points_of.ensures.no_memory (same ∙ none)
+    c.flagged_points_of.ensures.no_memory (same ∙ none)

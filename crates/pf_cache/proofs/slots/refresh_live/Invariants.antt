@@ -3,7 +3,7 @@ use Rattle.std.specs.Prelude.{IsTrue}
 use Rattle.std.specs.List.{flat_map, range_with_len}
 use Rattle.pf_cache.specs.Slots.{emptied_slot, is_stale, slot_at, slot_touches}
 use Rattle.pf_cache.proofs.Watching.{Walked}
-use Rattle.pf_cache.proofs.slots.refresh.Given as goal
+use Rattle.pf_cache.proofs.slots.refresh_live.Given as goal
 
 abbrev pub invariant-loop-live_slot : goal.invariant-loop-live_slot
 invariant-loop-live_slot l =

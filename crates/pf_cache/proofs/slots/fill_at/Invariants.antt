@@ -5,7 +5,7 @@ use Rattle.pf_broad.specs.Partners.{has_body}
 use Rattle.pf_manifold.specs.Key.{key_of}
 use Rattle.pf_cache.specs.Manifolds.{points_of_pair}
 use Rattle.pf_cache.specs.Slots.{filled_slot, slot_at, slot_touches}
-use Rattle.pf_cache.proofs.slots.fill.Given as goal
+use Rattle.pf_cache.proofs.slots.fill_at.Given as goal
 
 abbrev pub invariant-loop-i : goal.invariant-loop-i
 invariant-loop-i l = let old = l.initial.slots in record {

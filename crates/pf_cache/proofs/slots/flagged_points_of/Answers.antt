@@ -2,7 +2,7 @@ use Rattle.std.proofs.Common.{◌≡◌, ◌∙◌, ◌<◌, ◌+◌, ◌^◌, A
 use Rattle.pf_manifold.specs.Touches.{IsTouchOf}
 use Rattle.pf_cache.specs.Slots.{slot_touches}
 use Rattle.pf_cache.proofs.PlacedPoints.{none_before, none_of_all, of_all, place_next, points_next, some_is, some_where}
-use Rattle.pf_cache.proofs.slots.points_of.Goals as goal
+use Rattle.pf_cache.proofs.slots.flagged_points_of.Goals as goal
 
 pub returns-in_err-end-clause-no_memory : goal.returns-in_err-end-clause-no_memory
 returns-in_err-end-clause-no_memory c = λ none.

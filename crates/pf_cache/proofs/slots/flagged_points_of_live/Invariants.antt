@@ -3,7 +3,7 @@ use Rattle.std.specs.List.{flat_map}
 use Rattle.pf_cache.specs.Points.{flagged_points}
 use Rattle.pf_cache.specs.Slots.{slot_touches}
 use Rattle.pf_cache.proofs.Watching.{Walked}
-use Rattle.pf_cache.proofs.slots.points_of_live.Given as goal
+use Rattle.pf_cache.proofs.slots.flagged_points_of_live.Given as goal
 
 abbrev pub invariant-loop-live_slot : goal.invariant-loop-live_slot
 invariant-loop-live_slot l =

@@ -4,7 +4,7 @@ use Rattle.std.specs.List.{flat_map}
 use Rattle.pf_manifold.specs.Key.{key_of}
 use Rattle.pf_cache.specs.Slots.{slot_touches}
 use Rattle.pf_cache.proofs.Filling.{AreFilled}
-use Rattle.pf_cache.proofs.slots.compute.Given as goal
+use Rattle.pf_cache.proofs.slots.compute_at.Given as goal
 
 abbrev pub invariant-loop-place : goal.invariant-loop-place
 invariant-loop-place l = let old = l.initial.slots in record {

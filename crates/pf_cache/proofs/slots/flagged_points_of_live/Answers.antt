@@ -9,7 +9,7 @@ use Rattle.pf_cache.specs.Points.{flagged_points}
 use Rattle.pf_cache.specs.Slots.{slot_touches}
 use Rattle.pf_cache.proofs.PlacedPoints.{All-back, All-front, none_of_all, of_all, some_is, some_where}
 use Rattle.pf_cache.proofs.Watching.{before_next, count_more, count_one, is_taken, more_points, next_of, none_before, others_left, same_points, slot_next, started, walked_next, whole_next, within_next}
-use Rattle.pf_cache.proofs.slots.points_of_live.Goals as goal
+use Rattle.pf_cache.proofs.slots.flagged_points_of_live.Goals as goal
 
 -- what is read where there is no live slot
 abbrev none_live : LiveSlot

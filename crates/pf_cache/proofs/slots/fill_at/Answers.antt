@@ -1,7 +1,7 @@
 use Rattle.std.proofs.Common.{◌∙◌, rules}
 use Rattle.std.proofs.lemmas.Bool.{and_parts}
 use Rattle.pf_cache.proofs.Filling.{filled_next, keys_next, points_here, start_next, start_within}
-use Rattle.pf_cache.proofs.slots.fill.Goals as goal
+use Rattle.pf_cache.proofs.slots.fill_at.Goals as goal
 
 pub count_of_pair-requires : goal.count_of_pair-requires
 count_of_pair-requires c =

@@ -7,8 +7,8 @@ use Rattle.pf_cache.specs.Slots.{HasStayed, Slot, emptied_slot, is_stale, slot_t
 use Rattle.pf_cache.proofs.PlacedPoints.{All-back, All-front}
 use Rattle.pf_cache.proofs.Watching.{next_of, others_left, place_next, slot_next, started, walked_next, whole_next, within_next}
 use Rattle.pf_cache.proofs.Refreshing.{IsLeft, left_of, places_behind, places_left, same_count, slot_here, slots_left, slots_more, touches_left, touches_more}
-use Rattle.pf_cache.proofs.slots.refresh.Goals.{then-refresh+in_ok-push, else-refresh}
-use Rattle.pf_cache.proofs.slots.refresh.Goals as goal
+use Rattle.pf_cache.proofs.slots.refresh_live.Goals.{then-refresh+in_ok-push, else-refresh}
+use Rattle.pf_cache.proofs.slots.refresh_live.Goals as goal
 
 -- what is read where there is no live slot
 abbrev none_live : LiveSlot

@@ -5,7 +5,7 @@ use Rattle.pf_manifold.specs.Key.{key_of}
 use Rattle.pf_cache.specs.Manifolds.{points_of_pair}
 use Rattle.pf_cache.specs.Slots.{Slot, filled_slot, no_slot, slot_at, slot_touches}
 use Rattle.pf_cache.proofs.Filling.{filled_more, same_keys, same_pair}
-use Rattle.pf_cache.proofs.slots.compute.Goals as goal
+use Rattle.pf_cache.proofs.slots.compute_at.Goals as goal
 
 pub loop-place-preserved : goal.loop-place-preserved
 loop-place-preserved c =
